@@ -1,0 +1,3 @@
+pub mod AlarmLemmas
+pub mod HeaderLemmas
+pub mod KindLemmas

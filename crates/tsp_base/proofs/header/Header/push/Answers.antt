@@ -1,0 +1,8 @@
+use Rattle.std.proofs.Common.{ℕ, rules, arith, ◌≤◌, ◌<◌, length, nat_abs}
+use Rattle.tsp_base.proofs.HeaderLemmas.{IsHeader-maybe}
+use Rattle.tsp_base.proofs.header.Header.push.Goals as goal
+
+pub invariant_of-self : goal.invariant_of-self
+invariant_of-self c =
+    rw c.push.ensures.items
+    (IsHeader-maybe _ c.self.inside.drift c.self.inside.nodes.items c.args.line c.self.invariant (search rules) (search rules) (search rules))

@@ -1,0 +1,7 @@
+use Rattle.std.proofs.Common.{rules, ◌≡◌, ℕ, ◌-◌, ◌∙◌, sym, ap, arith}
+use Rattle.tsp_base.specs.Kinds.{kind_word, kind_number, kinds}
+use Rattle.tsp_base.proofs.KindLemmas.{at_place, place_in_range}
+use Rattle.tsp_base.proofs.kind.Kind.of_word.Goals as goal
+
+pub returns-clause-none : goal.returns-clause-none
+returns-clause-none c = λ k h. c.loop-kind.invariant (kind_number k - 1) k (let b = place_in_range k in omega arith) (h ∙ ap kind_word (sym (at_place k k)))

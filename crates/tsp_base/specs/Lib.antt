@@ -1,0 +1,10 @@
+pub mod Alarms
+pub mod Headers
+pub mod Hold
+pub mod Kinds
+pub mod Messages
+pub mod Names
+pub mod Pad
+pub mod Stamps
+pub mod Ticks
+pub mod Times

@@ -1,0 +1,87 @@
+//! The acts of a node: what it took, what it posted, and each change of what it is.
+
+use crate::alarm::Alarm;
+use crate::datagram::{Datagram, Taken};
+use crate::place::{PeerId, Place, Port};
+use crate::role::Role;
+
+/// One act. A history is a list of acts; nothing else happens to a node.
+#[derive(Drop)]
+pub enum Act {
+    /// The node boots.
+    Boot,
+    /// Octets from somebody reached the node.
+    Took(Place, Taken),
+    /// A datagram is sent.
+    Post(Place, Datagram),
+    /// The role changes.
+    Become(Role),
+    /// A candidate is backed.
+    Back(PeerId),
+    /// A peer backs this candidate.
+    Backer(PeerId),
+    /// A peer asked this node to stop leading.
+    Quit(PeerId),
+    /// An alarm is armed for a tick.
+    Arm(Alarm, u64),
+    /// An alarm is met in time.
+    Ring(Alarm),
+    /// An alarm is met too late.
+    Late(Alarm),
+    /// A slave joins the table.
+    Join(PeerId),
+    /// A slave leaves the table.
+    Leave(PeerId),
+    /// Another master was found.
+    Rival(PeerId),
+    /// A send was answered.
+    Acked(PeerId),
+    /// A send is given up.
+    Gave(PeerId),
+    /// A clock was measured; diff and err are microseconds.
+    Sample {
+        /// Whose clock.
+        peer: PeerId,
+        /// The request's counter.
+        counter: u64,
+        /// How far it stands ahead of this one.
+        diff: i64,
+        /// By how much diff may be wrong.
+        err: i64,
+        /// The number of its next correction.
+        ticket: u16,
+    },
+    /// A round closes with the group of clocks that agree; lo, width and mean are microseconds.
+    Close {
+        /// How many agree.
+        count: u32,
+        /// The least of their differences.
+        lo: i64,
+        /// How far they lie apart.
+        width: i64,
+        /// Their mean, rounded down.
+        mean: i64,
+    },
+    /// The clock is corrected; amount and shown are microseconds.
+    Correct {
+        /// By how much the target moves.
+        amount: i64,
+        /// Whether the shown clock steps.
+        stepped: bool,
+        /// The shown clock right after.
+        shown: i64,
+    },
+    /// A round is given up.
+    Abandon,
+    /// Tracing is turned on or off.
+    Trace(bool),
+}
+
+/// An act on a port.
+#[derive(Drop)]
+pub struct Placed {
+    /// Where.
+    pub port: Port,
+    /// What.
+    pub act: Act,
+}

@@ -1,0 +1,22 @@
+//! The kinds of alarm.
+
+/// What a deadline is for, in the order in which due alarms are treated.
+#[derive(Clone, Copy, PartialEq, Eq, Debug)]
+pub enum Alarm {
+    /// The quiet time after a boot ends.
+    Quiet,
+    /// The search for a master ends.
+    Search,
+    /// No master was heard for long.
+    Elect,
+    /// A candidature ends.
+    Window,
+    /// The next exchange of a round.
+    Probe,
+    /// A round ends.
+    Close,
+    /// A resolution of rivals ends.
+    Resolve,
+    /// The next round begins.
+    Round,
+}

@@ -1,0 +1,183 @@
+//! The kinds of message: numbers 1 to 13 are the protocol's, 14 to 24 a profile of this project.
+ghost use Rattle.std.specs.Prelude.{◌≡◌, ◌≤◌, length, ℕ, IfSome, IfNone};
+ghost use Rattle.tsp_base.specs.Kinds.{kind_number, kind_of, carries_time, carries_hops, kind_word};
+ghost use Rattle.tsp_base.specs.declared.kind.Kind.{Kind};
+
+/// The type of a message. (TSP specification, message types.)
+#[derive(Clone, Copy, PartialEq, Eq, Debug)]
+pub enum Kind {
+    /// The receiver adjusts its clock by the time carried.
+    AdjTime = 1,
+    /// Answers a message by its number.
+    Ack,
+    /// Asks whether there is a master.
+    MasterReq,
+    /// A master answers that it is one.
+    MasterAck,
+    /// The receiver sets its clock to the time carried.
+    SetTime,
+    /// A master says that it is up.
+    MasterUp,
+    /// A slave says that it is up, with its ticket.
+    SlaveUp,
+    /// A candidate asks for backing.
+    Election,
+    /// Backs a candidate.
+    Accept,
+    /// Backs no candidate.
+    Refuse,
+    /// A slave tells its master of another one.
+    Conflict,
+    /// A master asks for its rivals.
+    Resolve,
+    /// A master asks a rival to stop.
+    Quit,
+    /// A client sets the date.
+    Date,
+    /// A slave passes a date on.
+    DateReq,
+    /// A master has set the date.
+    DateAck,
+    /// Turns tracing on.
+    TraceOn,
+    /// Turns tracing off.
+    TraceOff,
+    /// Asks for the master's name.
+    Msite,
+    /// Asks whether the receiver is the master.
+    MsiteReq,
+    /// Makes the receiver stand for master.
+    Test,
+    /// A client sets the date.
+    SetDate,
+    /// A slave passes a date on.
+    SetDateReq,
+    /// Finds networks that are joined twice.
+    Loop,
+}
+
+/// All kinds, by their numbers.
+pub static KINDS: [Kind; 24] = [
+    Kind::AdjTime,
+    Kind::Ack,
+    Kind::MasterReq,
+    Kind::MasterAck,
+    Kind::SetTime,
+    Kind::MasterUp,
+    Kind::SlaveUp,
+    Kind::Election,
+    Kind::Accept,
+    Kind::Refuse,
+    Kind::Conflict,
+    Kind::Resolve,
+    Kind::Quit,
+    Kind::Date,
+    Kind::DateReq,
+    Kind::DateAck,
+    Kind::TraceOn,
+    Kind::TraceOff,
+    Kind::Msite,
+    Kind::MsiteReq,
+    Kind::Test,
+    Kind::SetDate,
+    Kind::SetDateReq,
+    Kind::Loop,
+];
+
+impl Kind {
+    /// The number on the wire, 1 to 24.
+    pub fn number(&self) -> u8
+        ensures { result ≡ kind_number self.now }
+    {
+        *self as u8
+    }
+
+    /// The kind with this number; None exactly where it isn't 1 to 24.
+    #[tactic(auto, unfolding(crate::specs::Kinds::kind_of))]
+    pub fn of(number: u8) -> Option<Kind>
+        ensures { result ≡ kind_of number }
+    {
+        if 1 <= number && number <= 24 {
+            Some(KINDS[number as usize - 1])
+        } else {
+            None
+        }
+    }
+
+    /// The kind's word in texts, at most 10 octets.
+    #[tactic(auto, unfolding(crate::specs::Kinds::kind_word))]
+    pub fn word(&self) -> &'static [u8]
+        ensures word { result.now ≡ kind_word self.now }
+        ensures short { length result.now ≤ 10 }
+    {
+        match self {
+            Kind::AdjTime => b"adjtime",
+            Kind::Ack => b"ack",
+            Kind::MasterReq => b"masterreq",
+            Kind::MasterAck => b"masterack",
+            Kind::SetTime => b"settime",
+            Kind::MasterUp => b"masterup",
+            Kind::SlaveUp => b"slaveup",
+            Kind::Election => b"election",
+            Kind::Accept => b"accept",
+            Kind::Refuse => b"refuse",
+            Kind::Conflict => b"conflict",
+            Kind::Resolve => b"resolve",
+            Kind::Quit => b"quit",
+            Kind::Date => b"date",
+            Kind::DateReq => b"datereq",
+            Kind::DateAck => b"dateack",
+            Kind::TraceOn => b"traceon",
+            Kind::TraceOff => b"traceoff",
+            Kind::Msite => b"msite",
+            Kind::MsiteReq => b"msitereq",
+            Kind::Test => b"test",
+            Kind::SetDate => b"setdate",
+            Kind::SetDateReq => b"setdatereq",
+            Kind::Loop => b"loop",
+        }
+    }
+
+    /// The kind with this word; None exactly where no kind has it.
+    pub fn of_word(word: &[u8]) -> Option<Kind>
+        ensures found { IfSome result (λ k. word.now ≡ kind_word k) }
+        ensures none { IfNone result ((k : Kind) → word.now ≡ kind_word k → ⊥) }
+    {
+        for kind in &KINDS {
+            if kind.word() == word {
+                return Some(*kind);
+            }
+        }
+        None
+    }
+
+    /// Whether its messages carry a hop count.
+    #[tactic(auto, unfolding(crate::specs::Kinds::carries_hops))]
+    pub fn carries_hops(&self) -> bool
+        ensures { result ≡ carries_hops self.now }
+    {
+        matches!(self, Kind::Loop)
+    }
+
+    /// Whether its messages carry a time.
+    #[tactic(auto, unfolding(crate::specs::Kinds::carries_time))]
+    pub fn carries_time(&self) -> bool
+        ensures { result ≡ carries_time self.now }
+    {
+        matches!(
+            self,
+            Kind::AdjTime
+                | Kind::SetTime
+                | Kind::Date
+                | Kind::DateReq
+                | Kind::SetDate
+                | Kind::SetDateReq
+        )
+    }
+}
+
+/// A number names one kind, and each kind has a number.
+pub fn numbers_name_kinds()
+    ensures back { (k : Kind) → kind_of (kind_number k) ≡ Some k }
+    ensures only { (n : ℕ) (k : Kind) → kind_of n ≡ Some k → kind_number k ≡ n }
+{}
