@@ -1,3 +1,4 @@
 pub mod AlarmLemmas
 pub mod HeaderLemmas
 pub mod KindLemmas
+pub mod Views

@@ -1,10 +1,15 @@
 pub mod Alarms
 pub mod Headers
+pub mod History
 pub mod Hold
 pub mod Kinds
 pub mod Messages
 pub mod Names
+pub mod NodeFacts
 pub mod Pad
+pub mod PortFacts
+pub mod RoundFacts
+pub mod SendFacts
 pub mod Stamps
 pub mod Ticks
 pub mod Times

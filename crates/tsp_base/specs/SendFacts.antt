@@ -1,0 +1,151 @@
+-- Facts of a port's numbered sends, each of which is a first post and its repeats.
+use Rattle.std.specs.Prelude.{ℕ, ◌+◌, ◌==◌, Bool, true, false, ◌&&◌, if◌then◌else◌, List, [], ◌∷◌, Option, None, Some}
+use Rattle.tsp_base.specs.declared.act.Act.TheVariants.{Boot, Post, Become, Acked, Gave, Correct}
+use Rattle.tsp_base.specs.declared.datagram.Datagram.TheVariants.{Message}
+use Rattle.tsp_base.specs.declared.kind.Kind.{Kind}
+use Rattle.tsp_base.specs.declared.kind.Kind.TheVariants.{AdjTime, SetTime, Election, Conflict, Quit}
+use Rattle.tsp_base.specs.declared.place.PeerId.{PeerId}
+use Rattle.tsp_base.specs.declared.place.Place.TheVariants.{Peer}
+use Rattle.tsp_base.specs.History.{Deed, Acts, Seen, Here, Elsewhere, did_of}
+use Rattle.tsp_base.specs.Messages.{MessageValue}
+use Rattle.tsp_base.specs.PortFacts.{Received, Said, said, taken, acting}
+
+-- whether messages of this kind correct a clock: the number of such a send is a ticket
+abbrev pub is_correction : Kind → Bool
+is_correction AdjTime = true
+is_correction SetTime = true
+is_correction _ = false
+
+-- whether a send of this kind takes the port's own next number
+abbrev pub has_own_number : Kind → Bool
+has_own_number Election = true
+has_own_number Conflict = true
+has_own_number Quit = true
+has_own_number _ = false
+
+-- whether messages of this kind are numbered sends, which are repeated until they are acknowledged
+abbrev pub is_numbered : Kind → Bool
+is_numbered AdjTime = true
+is_numbered SetTime = true
+is_numbered Election = true
+is_numbered Conflict = true
+is_numbered Quit = true
+is_numbered _ = false
+
+abbrev pub open_to_after : PeerId → Deed → Bool → List Seen → List Seen → List Seen
+open_to_after p (Acts Boot) begins here keep = []
+open_to_after p (Acts (Become r)) begins here keep = []
+open_to_after p (Acts (Post (Peer q) (Message m))) begins here keep = if (q.0 == p.0) && (is_numbered m.kind && begins) then here else keep
+open_to_after p (Acts (Acked q)) begins here keep = if q.0 == p.0 then [] else keep
+open_to_after p (Acts (Gave q)) begins here keep = if q.0 == p.0 then [] else keep
+open_to_after p _ begins here keep = keep
+
+-- the open send to p: the place of its first post; empty where none is open
+abbrev pub open_to : PeerId → List Seen → List Seen
+open_to p [] = []
+open_to p (Here d ∷ before) = open_to_after p d.deed (acting before) (Here d ∷ before) (open_to p before)
+open_to p (Elsewhere d ∷ before) = open_to p before
+
+-- the send to p of the numbered post that stands at the head: it begins there, or it is the open one
+abbrev pub send_of : PeerId → List Seen → List Seen
+send_of p [] = []
+send_of p (s ∷ before) = if acting before then s ∷ before else open_to p before
+
+abbrev pub posts_of_after : PeerId → Deed → Bool → ℕ → ℕ
+posts_of_after p (Acts Boot) begins n = 0
+posts_of_after p (Acts (Become r)) begins n = 0
+posts_of_after p (Acts (Post (Peer q) (Message m))) begins n = if (q.0 == p.0) && is_numbered m.kind then (if begins then 1 else n + 1) else n
+posts_of_after p (Acts (Acked q)) begins n = if q.0 == p.0 then 0 else n
+posts_of_after p (Acts (Gave q)) begins n = if q.0 == p.0 then 0 else n
+posts_of_after p _ begins n = n
+
+-- how often the open send to p was posted
+abbrev pub posts_of : PeerId → List Seen → ℕ
+posts_of p [] = 0
+posts_of p (Here d ∷ before) = posts_of_after p d.deed (acting before) (posts_of p before)
+posts_of p (Elsewhere d ∷ before) = posts_of p before
+
+-- the message that a deed posts
+abbrev pub message_of : Deed → Option MessageValue
+message_of (Acts (Post to (Message m))) = Some m
+message_of _ = None
+
+-- the message that is posted at a place
+abbrev pub message_at : List Seen → Option MessageValue
+message_at [] = None
+message_at (s ∷ before) = message_of (did_of s).deed
+
+abbrev pub begun_after : Deed → Bool → ℕ → ℕ
+begun_after (Acts Boot) begins n = 0
+begun_after (Acts (Post to (Message m))) begins n = if has_own_number m.kind && begins then n + 1 else n
+begun_after _ begins n = n
+
+-- how many sends with the port's own numbers began since the boot
+abbrev pub begun : List Seen → ℕ
+begun [] = 0
+begun (Here d ∷ before) = begun_after d.deed (acting before) (begun before)
+begun (Elsewhere d ∷ before) = begun before
+
+abbrev pub last_to_after : PeerId → Deed → Bool → List Seen → List Seen → List Seen
+last_to_after p (Acts Boot) begins here keep = []
+last_to_after p (Acts (Post (Peer q) (Message m))) begins here keep = if (q.0 == p.0) && (is_correction m.kind && begins) then here else keep
+last_to_after p _ begins here keep = keep
+
+-- the last correction that began to p since the boot: the place of its first post; empty where there was none
+abbrev pub last_to : PeerId → List Seen → List Seen
+last_to p [] = []
+last_to p (Here d ∷ before) = last_to_after p d.deed (acting before) (Here d ∷ before) (last_to p before)
+last_to p (Elsewhere d ∷ before) = last_to p before
+
+abbrev pub last_post_after : PeerId → Deed → ℕ → Option ℕ → Option ℕ
+last_post_after p (Acts Boot) x keep = None
+last_post_after p (Acts (Post (Peer q) (Message m))) x keep = if (q.0 == p.0) && is_correction m.kind then Some x else keep
+last_post_after p _ x keep = keep
+
+-- the tick at which a correction was last posted to p since the boot, repeats included
+abbrev pub last_post : PeerId → List Seen → Option ℕ
+last_post p [] = None
+last_post p (Here d ∷ before) = last_post_after p d.deed d.tick (last_post p before)
+last_post p (Elsewhere d ∷ before) = last_post p before
+
+-- whether this is a message that corrects
+abbrev pub corrects_by : Option MessageValue → Bool
+corrects_by None = false
+corrects_by (Some m) = is_correction m.kind
+
+abbrev pub is_acknowledged_after : PeerId → Deed → Bool → Bool → Bool → Bool
+is_acknowledged_after p (Acts Boot) begins corrects keep = false
+is_acknowledged_after p (Acts (Post (Peer q) (Message m))) begins corrects keep = if (q.0 == p.0) && (is_correction m.kind && begins) then false else keep
+is_acknowledged_after p (Acts (Acked q)) begins corrects keep = if (q.0 == p.0) && corrects then true else keep
+is_acknowledged_after p _ begins corrects keep = keep
+
+-- whether the last correction that began to p was acknowledged: an Acked(p) stands after its beginning while it was the open send
+abbrev pub is_acknowledged : PeerId → List Seen → Bool
+is_acknowledged p [] = false
+is_acknowledged p (Here d ∷ before) = is_acknowledged_after p d.deed (acting before) (corrects_by (message_at (open_to p before))) (is_acknowledged p before)
+is_acknowledged p (Elsewhere d ∷ before) = is_acknowledged p before
+
+-- a correction that a port took: its sender and its number
+pub record Correcting : Type 0 where
+  pub from : PeerId
+  pub number : ℕ
+
+-- the sender and the number of what a step took
+abbrev pub correcting_of : Option Said → Option Correcting
+correcting_of None = None
+correcting_of (Some s) = Some (record { from = s.from; number = s.message.number })
+
+abbrev pub last_taken_after : Deed → Option Received → Option Correcting → Option Correcting
+last_taken_after (Acts Boot) took keep = None
+last_taken_after (Acts (Correct amount stepped shown)) took keep = correcting_of (said took)
+last_taken_after _ took keep = keep
+
+abbrev pub last_taken_elsewhere : Deed → Option Correcting → Option Correcting
+last_taken_elsewhere (Acts (Correct amount stepped shown)) keep = None
+last_taken_elsewhere _ keep = keep
+
+-- the correction that the node's last Correct took, where that stands on this port and after what its step took: a round's own doesn't
+abbrev pub last_taken : List Seen → Option Correcting
+last_taken [] = None
+last_taken (Here d ∷ before) = last_taken_after d.deed (taken before) (last_taken before)
+last_taken (Elsewhere d ∷ before) = last_taken_elsewhere d.deed (last_taken before)
