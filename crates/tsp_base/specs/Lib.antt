@@ -3,12 +3,15 @@ pub mod Headers
 pub mod History
 pub mod Hold
 pub mod Kinds
+pub mod Leads
 pub mod Messages
 pub mod Names
 pub mod NodeFacts
 pub mod Pad
+pub mod Performs
 pub mod PortFacts
 pub mod RoundFacts
+pub mod Rows
 pub mod SendFacts
 pub mod Stamps
 pub mod Ticks

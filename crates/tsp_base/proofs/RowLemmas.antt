@@ -1,0 +1,44 @@
+-- Laws of rows.
+use Rattle.std.specs.Prelude.{◌≡◌, ◌≢◌, ◌==◌, ℕ, Bool, true, false, not, if◌then◌else◌, List, [], ◌∷◌, ◌++◌, refl}
+use Rattle.std.proofs.Common.{sym, ◌∙◌, ap, append_assoc, append-nil, eq-eqb}
+use Rattle.std.proofs.lemmas.Bool.{ne_eqb}
+use Rattle.tsp_base.specs.declared.act.Act.{Act}
+use Rattle.tsp_base.specs.declared.place.PeerId.{PeerId}
+use Rattle.tsp_base.specs.History.{Step, Seen, Here, Acts, Past}
+use Rattle.tsp_base.specs.Rows.{Row, added, grown, nothing, ◌followed_by◌, for_each, others}
+
+-- the past grows by one list of acts after another
+pub added_append : (step : Step) (x : ℕ) (xs ys : List Act) (seen : List Seen) → added step x (xs ++ ys) seen ≡ added step x ys (added step x xs seen)
+added_append step x [] ys seen = refl
+added_append step x (a ∷ xs) ys seen = added_append step x xs ys (Here (record { step = step; tick = x; deed = Acts a }) ∷ seen)
+
+pub grown_append : (x : ℕ) (past : Past) (xs ys : List Act) → grown x past (xs ++ ys) ≡ grown x (grown x past xs) ys
+grown_append x past xs ys = ap (λ s. record past { seen = s }) (added_append past.step x xs ys past.seen)
+
+-- a row for each of some peers, and then for one more
+pub for_each-more : (r : PeerId → Row) (ps : List PeerId) (p : PeerId) (x : ℕ) (past : Past) →
+    for_each r (ps ++ p ∷ []) x past ≡ (for_each r ps followed_by r p) x past
+unfolding for_each ◌followed_by◌ nothing
+for_each-more r [] p x past = append-nil (r p x past)
+for_each-more r (q ∷ ps) p x past =
+    let here = r q x past in
+    let rest = for_each r ps x (grown x past here) in
+    ap (λ zs. here ++ zs) (for_each-more r ps p x (grown x past here))
+    ∙ sym (append_assoc here rest (r p x (grown x (grown x past here) rest)))
+    ∙ ap (λ s. (here ++ rest) ++ r p x (record past { seen = s })) (sym (added_append past.step x here rest past.seen))
+
+cons-more : (b : Bool) (q : PeerId) (more rest tail : List PeerId) → more ≡ rest ++ tail → (if not b then q ∷ more else more) ≡ (if not b then q ∷ rest else rest) ++ tail
+cons-more true q more rest tail e = e
+cons-more false q more rest tail e = ap (λ zs. q ∷ zs) e
+
+-- one more peer, which isn't the own one, is one of the others
+pub others-more : (own p : PeerId) (ps : List PeerId) → p.0 ≢ own.0 → others own (ps ++ p ∷ []) ≡ others own ps ++ p ∷ []
+others-more own p [] n = let other : (p.0 == own.0) ≡ false = ne_eqb p.0 own.0 n in rw other refl
+others-more own p (q ∷ ps) n = cons-more (q.0 == own.0) q (others own (ps ++ p ∷ [])) (others own ps) (p ∷ []) (others-more own p ps n)
+
+-- the own peer isn't one of the others
+pub others-own : (own p : PeerId) (ps : List PeerId) → p.0 ≡ own.0 → others own (ps ++ p ∷ []) ≡ others own ps
+others-own own p [] e = let same : (p.0 == own.0) ≡ true = eq-eqb p.0 own.0 e in rw same refl
+others-own own p (q ∷ ps) e =
+    cons-more (q.0 == own.0) q (others own (ps ++ p ∷ [])) (others own ps) [] (others-own own p ps e ∙ sym (append-nil (others own ps)))
+    ∙ append-nil (others own (q ∷ ps))
