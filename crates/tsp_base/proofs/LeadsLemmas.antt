@@ -37,7 +37,7 @@ pub Leads_puts : {P Q : ℕ → Past → Type 0} (a : Act) → ((x : ℕ) (past 
 unfolding puts
 Leads_puts a k = record { run = k }
 
-pub Leads_each : {P : ℕ → Past → Type 0} (r : PeerId → Row) (ps : List PeerId) → ((p : PeerId) → Leads P (r p) P) → Leads P (for_each r ps) P
+pub Leads_each : {A : Type 0} {P : ℕ → Past → Type 0} (r : A → Row) (ps : List A) → ((p : A) → Leads P (r p) P) → Leads P (for_each r ps) P
 unfolding for_each
 Leads_each r [] k = Leads_nothing
 Leads_each r (p ∷ ps) k = Leads_then (r p) (for_each r ps) (k p) (Leads_each r ps k)

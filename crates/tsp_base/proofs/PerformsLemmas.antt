@@ -3,7 +3,6 @@ use Rattle.std.specs.Prelude.{◌≡◌, ℕ, Bool, true, false, if◌then◌els
 use Rattle.std.proofs.Common.{sym, ◌∙◌, ap, append_assoc, append-nil}
 use Rattle.std.proofs.lemmas.List.{map-append}
 use Rattle.tsp_base.specs.declared.act.Placed.{Placed}
-use Rattle.tsp_base.specs.declared.place.PeerId.{PeerId}
 use Rattle.tsp_base.specs.declared.place.Port.{Port}
 use Rattle.tsp_base.specs.History.{Past}
 use Rattle.tsp_base.specs.Performs.{Performs, Beside, Keeps}
@@ -45,12 +44,12 @@ pub Performs_else_part : {S T : Type 0} {p : Past → S → Type 0} {q : Past �
 unfolding either_by
 Performs_else_part test r t d = record { acts = λ past h. rw (t past h) (d.acts past h); stands = λ past h. rw (t past h) (d.stands past h) }
 
--- calls for some peers, and then for one more
-pub Performs_each_more : {S T U : Type 0} {p : Past → S → Type 0} {q : Past → T → Type 0} {w : Past → U → Type 0} (r : PeerId → Row) (ps : List PeerId) (peer : PeerId) {x : ℕ} {port : Port} {first : S} {middle : T} {last : U} {old mid new : List Placed} →
-    Performs p q (for_each r ps) x port first middle old mid → Performs q w (r peer) x port middle last mid new → Performs p w (for_each r (ps ++ peer ∷ [])) x port first last old new
-Performs_each_more r ps peer {x = x} a b = record {
-  acts = λ past h. rw (for_each-more r ps peer x past) ((Performs_then a b).acts past h);
-  stands = λ past h. rw (for_each-more r ps peer x past) ((Performs_then a b).stands past h);
+-- calls for some, and then for one more
+pub Performs_each_more : {A S T U : Type 0} {p : Past → S → Type 0} {q : Past → T → Type 0} {w : Past → U → Type 0} (r : A → Row) (done : List A) (next : A) {x : ℕ} {port : Port} {first : S} {middle : T} {last : U} {old mid new : List Placed} →
+    Performs p q (for_each r done) x port first middle old mid → Performs q w (r next) x port middle last mid new → Performs p w (for_each r (done ++ next ∷ [])) x port first last old new
+Performs_each_more r done next {x = x} a b = record {
+  acts = λ past h. rw (for_each-more r done next x past) ((Performs_then a b).acts past h);
+  stands = λ past h. rw (for_each-more r done next x past) ((Performs_then a b).stands past h);
 }
 
 -- the same acts, by another row
@@ -76,7 +75,7 @@ Performs_beside {x = x} state k d = record {
   stands = λ past h. record { first = d.stands past h.first; second = k x past state h.second };
 }
 
--- rows that keep a state, one after the other, on one of two ways, for what a fact is, and for each of some peers
+-- rows that keep a state, one after the other, on one of two ways, for what a fact is, and for each of some
 pub Keeps_nothing : {T : Type 0} (also : Past → T → Type 0) → Keeps also nothing
 unfolding nothing
 Keeps_nothing also x past state h = h
@@ -94,7 +93,7 @@ unfolding either_by
 Keeps_either also test r s p q x past state h =
     elim (test x past) as (λ b. also (grown x past (if b then r x past else s x past)) state) [ true ↦ p x past state h | false ↦ q x past state h ]
 
-pub Keeps_each : {T : Type 0} (also : Past → T → Type 0) (r : PeerId → Row) (ps : List PeerId) → ((p : PeerId) → Keeps also (r p)) → Keeps also (for_each r ps)
+pub Keeps_each : {A T : Type 0} (also : Past → T → Type 0) (r : A → Row) (ps : List A) → ((p : A) → Keeps also (r p)) → Keeps also (for_each r ps)
 unfolding for_each
 Keeps_each also r [] k = Keeps_nothing also
 Keeps_each also r (p ∷ ps) k = Keeps_then also (r p) (for_each r ps) (k p) (Keeps_each also r ps k)

@@ -15,8 +15,8 @@ added_append step x (a ∷ xs) ys seen = added_append step x xs ys (Here (record
 pub grown_append : (x : ℕ) (past : Past) (xs ys : List Act) → grown x past (xs ++ ys) ≡ grown x (grown x past xs) ys
 grown_append x past xs ys = ap (λ s. record past { seen = s }) (added_append past.step x xs ys past.seen)
 
--- a row for each of some peers, and then for one more
-pub for_each-more : (r : PeerId → Row) (ps : List PeerId) (p : PeerId) (x : ℕ) (past : Past) →
+-- a row for each of some, and then for one more
+pub for_each-more : {A : Type 0} (r : A → Row) (ps : List A) (p : A) (x : ℕ) (past : Past) →
     for_each r (ps ++ p ∷ []) x past ≡ (for_each r ps followed_by r p) x past
 unfolding for_each ◌followed_by◌ nothing
 for_each-more r [] p x past = append-nil (r p x past)

@@ -1,5 +1,5 @@
 -- Facts of a node: what its deeds on all its ports come to. A deed changes a fact by the fact's own function, which is by cases of the deed.
-use Rattle.std.specs.Prelude.{ℕ, ◌+◌, ◌-◌, ◌/◌, ◌%◌, ℤ, pos, negsuc, ◌+ℤ◌, ◌-ℤ◌, neg_ℤ, Bool, true, false, if◌then◌else◌, List, [], ◌∷◌}
+use Rattle.std.specs.Prelude.{ℕ, ◌+◌, ◌-◌, ◌/◌, ◌%◌, ℤ, pos, negsuc, ◌+ℤ◌, ◌-ℤ◌, neg_ℤ, Bool, true, false, if◌then◌else◌, List, [], ◌∷◌, Option, None, Some}
 use Rattle.tsp_base.specs.declared.act.Act.TheVariants.{Boot, Correct, Trace}
 use Rattle.tsp_base.specs.declared.constants.TheConstants.{SLEW}
 use Rattle.tsp_base.specs.History.{Cause, Booted, Deed, Acts, Did}
@@ -125,6 +125,14 @@ correct_place_after _ here keep = keep
 abbrev pub correct_place : List Did → List Did
 correct_place [] = []
 correct_place (d ∷ before) = correct_place_after d.deed (d ∷ before) (correct_place before)
+
+abbrev pub tick_in : List Did → Option ℕ
+tick_in [] = None
+tick_in (d ∷ before) = Some d.tick
+
+-- the tick of the last correction since the boot, if there was one
+abbrev pub correct_tick : List Did → Option ℕ
+correct_tick ds = tick_in (correct_place ds)
 
 -- an amount, moved towards zero by n and not past it
 abbrev pub eased : ℤ → ℕ → ℤ

@@ -1,7 +1,7 @@
 -- Facts of a port's rounds: who is measured, what was asked, and what came of it.
 use Rattle.std.specs.Prelude.{ℕ, ◌+◌, ◌==◌, ℤ, ◌-ℤ◌, pos, int_lt, Bool, true, false, ◌&&◌, if◌then◌else◌, List, [], ◌∷◌, Option, None, Some, is_some}
 use Rattle.tsp_base.specs.declared.act.Act.TheVariants.{Boot, Post, Become, Arm, Ring, Late, Leave, Sample, Abandon}
-use Rattle.tsp_base.specs.declared.alarm.Alarm.TheVariants.{Close}
+use Rattle.tsp_base.specs.declared.alarm.Alarm.TheVariants.{Probe, Close}
 use Rattle.tsp_base.specs.declared.datagram.Datagram.TheVariants.{Stamp}
 use Rattle.tsp_base.specs.declared.place.PeerId.{PeerId}
 use Rattle.tsp_base.specs.declared.place.Place.TheVariants.{Peer}
@@ -77,6 +77,28 @@ abbrev pub exchange : PeerId → ℕ → List Seen → List Seen
 exchange p c [] = []
 exchange p c (Here d ∷ before) = exchange_after p c d.deed (Here d ∷ before) (exchange p c before)
 exchange p c (Elsewhere d ∷ before) = exchange p c before
+
+abbrev pub word_asked_by : Deed → ℕ
+word_asked_by (Acts (Post to (Stamp (Request word counter)))) = word
+word_asked_by _ = 0
+
+-- the word of the request that is posted at a place
+abbrev pub word_asked : List Seen → ℕ
+word_asked [] = 0
+word_asked (s ∷ before) = word_asked_by (did_of s).deed
+
+abbrev pub probes_after : Deed → ℕ → ℕ
+probes_after (Acts Boot) n = 0
+probes_after (Acts (Become r)) n = 0
+probes_after (Acts (Arm Close at)) n = 0
+probes_after (Acts (Ring Probe)) n = n + 1
+probes_after _ n = n
+
+-- how often Probe rang since the last round began
+abbrev pub probes : List Seen → ℕ
+probes [] = 0
+probes (Here d ∷ before) = probes_after d.deed (probes before)
+probes (Elsewhere d ∷ before) = probes before
 
 -- the clock's target when the deed at a place was done
 abbrev pub target_there : List Seen → ℤ

@@ -52,10 +52,10 @@ either_by test r s x past = if test x past then r x past else s x past
 unfoldable pub reading : {A : Type 0} → (ℕ → Past → A) → (A → Row) → Row
 reading fact rows x past = rows (fact x past) x past
 
--- a row for each of these peers, one after the other
-unfoldable pub for_each : (PeerId → Row) → List PeerId → Row
+-- a row for each of these, one after the other
+unfoldable pub for_each : {A : Type 0} → (A → Row) → List A → Row
 for_each r [] = nothing
-for_each r (p ∷ ps) = r p followed_by for_each r ps
+for_each r (a ∷ rest) = r a followed_by for_each r rest
 
 -- an alarm is armed for so many ticks from now
 unfoldable pub arms : Alarm → ℕ → Row

@@ -75,6 +75,24 @@ abbrev pub message_at : List Seen → Option MessageValue
 message_at [] = None
 message_at (s ∷ before) = message_of (did_of s).deed
 
+-- an open send: the tick of its first post, how often it was posted, and its message
+pub record Sending : Type 0 where
+  pub began : ℕ
+  pub posts : ℕ
+  pub message : MessageValue
+
+abbrev pub sending_of : Option MessageValue → ℕ → ℕ → Option Sending
+sending_of None began posts = None
+sending_of (Some m) began posts = Some (record { began = began; posts = posts; message = m })
+
+abbrev pub sending_at : List Seen → ℕ → Option Sending
+sending_at [] posts = None
+sending_at (s ∷ before) posts = sending_of (message_of (did_of s).deed) (did_of s).tick posts
+
+-- the open send to p, if there is one
+abbrev pub open_send : PeerId → List Seen → Option Sending
+open_send p seen = sending_at (open_to p seen) (posts_of p seen)
+
 abbrev pub begun_after : Deed → Bool → ℕ → ℕ
 begun_after (Acts Boot) begins n = 0
 begun_after (Acts (Post to (Message m))) begins n = if has_own_number m.kind && begins then n + 1 else n
@@ -96,6 +114,14 @@ abbrev pub last_to : PeerId → List Seen → List Seen
 last_to p [] = []
 last_to p (Here d ∷ before) = last_to_after p d.deed (acting before) (Here d ∷ before) (last_to p before)
 last_to p (Elsewhere d ∷ before) = last_to p before
+
+abbrev pub number_of : Option MessageValue → ℕ
+number_of None = 0
+number_of (Some m) = m.number
+
+-- the number of the last correction that began to p
+abbrev pub last_number : PeerId → List Seen → ℕ
+last_number p seen = number_of (message_at (last_to p seen))
 
 abbrev pub last_post_after : PeerId → Deed → ℕ → Option ℕ → Option ℕ
 last_post_after p (Acts Boot) x keep = None
