@@ -1,0 +1,79 @@
+-- What spells a datagram has no fault.
+use Rattle.std.proofs.Common.{◌≡◌, ℕ, ◌<◌, ◌≤◌, List, ◌++◌, length, take, drop, ap, sym, ◌∙◌, arith, Some, None, true, false, inl, inr, ◌⊎◌}
+use Rattle.std.specs.Prelude.{Contains, IsSome}
+use Rattle.tsp_base.specs.Kinds.{kind_of, carries_time}
+use Rattle.tsp_base.specs.Messages.{MessageValue}
+use Rattle.tsp_base.specs.declared.kind.Kind.{Kind}
+use Rattle.tsp_base.specs.declared.message.Body.{Body}
+use Rattle.tsp_base.specs.declared.message.Body.TheVariants.{Nothing, Time as TimeBody, Hops}
+use Rattle.tsp_base.specs.declared.stamp.Stamp.{Stamp}
+use Rattle.tsp_base.specs.declared.stamp.Stamp.TheVariants.{Request, Reply}
+use Rattle.tsp_base.specs.declared.datagram.Datagram.{Datagram}
+use Rattle.tsp_base.specs.declared.datagram.Datagram.TheVariants.{Message, Stamp as StampOf}
+use Rattle.tsp_base.specs.declared.datagram.DecodeFault.{DecodeFault}
+use Rattle.tsp_base.specs.declared.datagram.DecodeFault.TheVariants.{Short, Long, Version, Kind as BadKind, StampLength, NoEnd, NameTooLong, Reserved, Time}
+use Rattle.tsp_base.specs.declared.datagram.Taken.{Taken}
+use Rattle.tsp_base.specs.declared.datagram.Taken.TheVariants.{Good, Bad}
+use Rattle.tsp_codec.specs.Spelling.{IsTime, Spells, SpellsBody, SpellsMessage, SpellsStamp}
+use Rattle.tsp_codec.specs.Faults.{name_room, HasStampType, HasKind, HasTimedKind, Applies, IsFault, Reads}
+use Rattle.tsp_codec.proofs.Lists.{Contains-take}
+use Rattle.tsp_codec.proofs.OneDatagram.{true-false, HasStampType-kind, kind_of-stamp, kind_of-one, type-one, Spells-one}
+
+-- a message's name ends within its room
+Contains-name_room : (o : List ℕ) (m : MessageValue) → SpellsMessage o m → Contains (name_room o) 0
+Contains-name_room o m p = rw p.name.1.1 (let s = p.name.0.short in Contains-take 64 m.name p.name.1.0 (omega arith))
+
+-- a message whose kind has a time spells one
+IsTime-body : (o : List ℕ) (k : Kind) (b : Body) → SpellsBody o k b → carries_time k ≡ true → IsTime o
+IsTime-body o k Nothing p t = absurd (true-false _ t p.0)
+IsTime-body o k (TimeBody v) p t = p.1
+IsTime-body o k (Hops h) p t = absurd (true-false _ t p.0)
+
+Applies-message : (o : List ℕ) (m : MessageValue) (f : DecodeFault) → SpellsMessage o m → Applies o f → ⊥
+Applies-message o m Short p q = let l = p.head.low in absurd (omega arith)
+Applies-message o m Long p q = let l = p.head.high in absurd (omega arith)
+Applies-message o m Version p q = q p.head.version
+Applies-message o m BadKind p q = let e : Some m.kind ≡ None = sym p.kind ∙ q.0 in cc
+Applies-message o m StampLength p q = HasStampType-kind o m.kind p.kind q.0
+Applies-message o m NoEnd p q = q.2 (Contains-name_room o m p)
+Applies-message o m NameTooLong p q = q.2 (Contains-name_room o m p)
+Applies-message o m Reserved p q = HasStampType-kind o m.kind p.kind (elim q [ inl r ↦ inl r.0 | inr r ↦ inr r.0 ])
+Applies-message o m Time p q = elim q [
+  | inl r ↦ let k : r.0.0 ≡ m.kind = kind_of-one _ _ _ r.0.1 p.kind in r.1 (IsTime-body o m.kind m.body p.body (ap carries_time (sym k) ∙ r.0.2))
+  | inr r ↦ HasStampType-kind o m.kind p.kind (inr r.0)
+]
+
+-- a stamp's type is no message's
+pub HasKind-stamp : (o : List ℕ) → HasStampType o → HasKind o → ⊥
+HasKind-stamp o s k = let h : false ≡ true = rw (kind_of-stamp o s) at k in cc
+
+-- nor that of a message with a time
+pub HasTimedKind-stamp : (o : List ℕ) → HasStampType o → HasTimedKind o → ⊥
+HasTimedKind-stamp o s k = HasStampType-kind o k.0 k.1 s
+
+Applies-stamp : (o : List ℕ) (s : Stamp) (f : DecodeFault) → SpellsStamp o s → Applies o f → ⊥
+Applies-stamp o (Request w k) Short p q = let l = p.head.size in absurd (omega arith)
+Applies-stamp o (Request w k) Long p q = let l = p.head.size in absurd (omega arith)
+Applies-stamp o (Request w k) Version p q = q p.head.version
+Applies-stamp o (Request w k) BadKind p q = q.1 p.head.first
+Applies-stamp o (Request w k) StampLength p q = q.1 p.head.size
+Applies-stamp o (Request w k) NoEnd p q = HasKind-stamp o (inl p.head.first) q.0
+Applies-stamp o (Request w k) NameTooLong p q = HasKind-stamp o (inl p.head.first) q.0
+Applies-stamp o (Request w k) Reserved p q = elim q [ inl r ↦ elim r.1 [ inl t ↦ t p.ticket | inr t ↦ t p.reading ] | inr r ↦ type-one _ p.head.first r.0 ]
+Applies-stamp o (Request w k) Time p q = elim q [ inl r ↦ HasTimedKind-stamp o (inl p.head.first) r.0 | inr r ↦ type-one _ p.head.first r.0 ]
+Applies-stamp o (Reply r) Short p q = let l = p.head.size in absurd (omega arith)
+Applies-stamp o (Reply r) Long p q = let l = p.head.size in absurd (omega arith)
+Applies-stamp o (Reply r) Version p q = q p.head.version
+Applies-stamp o (Reply r) BadKind p q = q.2 p.head.first
+Applies-stamp o (Reply r) StampLength p q = q.1 p.head.size
+Applies-stamp o (Reply r) NoEnd p q = HasKind-stamp o (inr p.head.first) q.0
+Applies-stamp o (Reply r) NameTooLong p q = HasKind-stamp o (inr p.head.first) q.0
+Applies-stamp o (Reply r) Reserved p q = elim q [ inl t ↦ type-one _ t.0 p.head.first | inr t ↦ (let e = p.ticket in let b = p.valid.small in absurd (omega arith)) ]
+Applies-stamp o (Reply r) Time p q = elim q [
+  | inl t ↦ HasTimedKind-stamp o (inr p.head.first) t.0
+  | inr t ↦ t.1 (rw (← p.reading) (record { low = p.valid.low; high = p.valid.high }))
+]
+
+pub Spells-no_fault : (o : List ℕ) (d : Datagram) (f : DecodeFault) → Spells o d → IsFault o f → ⊥
+Spells-no_fault o (Message m) f p q = Applies-message o m f p q.applies
+Spells-no_fault o (StampOf s) f p q = Applies-stamp o s f p q.applies

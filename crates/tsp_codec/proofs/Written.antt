@@ -1,0 +1,188 @@
+-- The written spelling spells its datagram.
+use Rattle.std.proofs.Common.{◌≡◌, ℕ, ◌+◌, ◌-◌, ◌^◌, ◌<◌, ◌≤◌, List, [], ◌∷◌, ◌++◌, zero, suc, length, take, drop, slice_index_or, refl, ap, sym, ◌∙◌, arith, Some, None, true, false, subst, length-append, Bool, not, ◌&&◌}
+use Rattle.std.specs.Prelude.{replicate}
+use Rattle.std.specs.Int.{w16, w32, w64, from_be_bytes, to_be_bytes}
+use Rattle.std.proofs.lemmas.Nat.{from_be_bytes-to_be_bytes_2, from_be_bytes-to_be_bytes_4, from_be_bytes-to_be_bytes_8}
+use Rattle.std.proofs.lemmas.Grind.{common_steps}
+use Rattle.std.proofs.lemmas.Int.{ints, to_z-of_z}
+use Rattle.std.proofs.Math.Facts.{Fits-of_z}
+use Rattle.std.specs.Prelude.{ℤ, pos, negsuc, ◌+ℤ◌, ◌*ℤ◌, ◌≤ℤ◌}
+use Rattle.std.specs.Int.{cast_signed, cast_unsigned, int_div_euclid, int_rem_euclid}
+use Rattle.tsp_base.specs.Times.{IsMicros}
+use mir.Val.{SFits, Fits}
+use Rattle.tsp_base.specs.Kinds.{kind_of, kind_number, carries_time, carries_hops}
+use Rattle.tsp_base.specs.Names.{IsName}
+use Rattle.tsp_base.specs.Messages.{MessageValue, body_fits}
+use Rattle.tsp_base.proofs.KindLemmas.{kind_of-kind_number}
+use Rattle.tsp_base.specs.declared.kind.Kind.{Kind}
+use Rattle.tsp_base.specs.declared.kind.Kind.TheVariants.{AdjTime, Ack, MasterReq, MasterAck, SetTime, MasterUp, SlaveUp, Election, Accept, Refuse, Conflict, Resolve, Quit, Date, DateReq, DateAck, TraceOn, TraceOff, Msite, MsiteReq, Test, SetDate, SetDateReq, Loop}
+use Rattle.tsp_base.specs.declared.message.Body.{Body}
+use Rattle.tsp_base.specs.declared.message.Body.TheVariants.{Nothing, Time as TimeBody, Hops}
+use Rattle.tsp_base.specs.declared.stamp.Stamp.{Stamp}
+use Rattle.tsp_base.specs.declared.datagram.Datagram.{Datagram}
+use Rattle.tsp_base.specs.declared.datagram.Datagram.TheVariants.{Message, Stamp as StampOf}
+use Rattle.tsp_base.specs.Stamps.{ReplyValue, IsReply}
+use Rattle.tsp_base.specs.declared.stamp.Stamp.TheVariants.{Request, Reply}
+use Rattle.tsp_codec.specs.Spelling.{Spells, SpellsMessage, SpellsName, SpellsRequest, SpellsReply}
+use Rattle.tsp_codec.specs.Canon.{IsWritable, IsWritableBody, message_octets, stamp_octets, name_octets, canon}
+
+-- a kind with hops has no time
+carries_time-hops : (k : Kind) → carries_hops k ≡ true → carries_time k ≡ false
+unfolding carries_hops carries_time
+carries_time-hops AdjTime e = cc
+carries_time-hops Ack e = cc
+carries_time-hops MasterReq e = cc
+carries_time-hops MasterAck e = cc
+carries_time-hops SetTime e = cc
+carries_time-hops MasterUp e = cc
+carries_time-hops SlaveUp e = cc
+carries_time-hops Election e = cc
+carries_time-hops Accept e = cc
+carries_time-hops Refuse e = cc
+carries_time-hops Conflict e = cc
+carries_time-hops Resolve e = cc
+carries_time-hops Quit e = cc
+carries_time-hops Date e = cc
+carries_time-hops DateReq e = cc
+carries_time-hops DateAck e = cc
+carries_time-hops TraceOn e = cc
+carries_time-hops TraceOff e = cc
+carries_time-hops Msite e = cc
+carries_time-hops MsiteReq e = cc
+carries_time-hops Test e = cc
+carries_time-hops SetDate e = cc
+carries_time-hops SetDateReq e = cc
+carries_time-hops Loop e = refl
+
+first_false : (a b : Bool) → (not a && not b) ≡ true → a ≡ false
+first_false true b e = cc
+first_false false b e = refl
+
+second_false : (a b : Bool) → (not a && not b) ≡ true → b ≡ false
+second_false true b e = cc
+second_false false true e = cc
+second_false false false e = refl
+
+body_fits-hops : (k : Kind) (h : ℕ) → body_fits k (Hops h) ≡ true → carries_hops k ≡ true
+unfolding body_fits
+body_fits-hops k h e = e
+
+body_fits-time : (k : Kind) (t : ℤ) → body_fits k (TimeBody t) ≡ true → carries_time k ≡ true
+unfolding body_fits
+body_fits-time k t e = e
+
+body_fits-nothing : (k : Kind) → body_fits k Nothing ≡ true → (carries_time k ≡ false) × (carries_hops k ≡ false)
+unfolding body_fits
+body_fits-nothing k e = (first_false (carries_time k) (carries_hops k) e, second_false (carries_time k) (carries_hops k) e)
+
+replicate-suc : (n m : ℕ) → n ≡ suc m → replicate {A = ℕ} n 0 ≡ 0 ∷ replicate m 0
+replicate-suc n m e = rw e refl
+
+length-name_octets : (name : List ℕ) → IsName name → length (name_octets name) ≡ 64
+length-name_octets name p = let s = p.short in grind (arith, common_steps)
+
+-- a name's 64 octets are the name, a NUL and a rest
+name_octets-split : (name : List ℕ) → IsName name → name_octets name ≡ name ++ 0 ∷ replicate (63 - length name) 0
+name_octets-split name p = let s = p.short in ap (λ z. name ++ z) (replicate-suc (64 - length name) (63 - length name) (omega arith))
+
+-- seconds and microseconds give the time back
+int_div_euclid-int_rem_euclid : (t : ℤ) → (int_div_euclid t (pos 1000000) *ℤ pos 1000000) +ℤ int_rem_euclid t (pos 1000000) ≡ t
+int_div_euclid-int_rem_euclid (pos a) = omega (arith, ints)
+int_div_euclid-int_rem_euclid (negsuc a) = omega (arith, ints)
+
+SFits-int_div_euclid : (t : ℤ) → IsMicros t → SFits w32 (int_div_euclid t (pos 1000000))
+SFits-int_div_euclid (pos a) m = omega (arith, ints, m.low, m.high)
+SFits-int_div_euclid (negsuc a) m = omega (arith, ints, m.low, m.high)
+
+SFits-int_rem_euclid : (t : ℤ) → SFits w32 (int_rem_euclid t (pos 1000000))
+SFits-int_rem_euclid (pos a) = omega (arith, ints)
+SFits-int_rem_euclid (negsuc a) = omega (arith, ints)
+
+int_rem_euclid-low : (t : ℤ) → negsuc 999998 ≤ℤ int_rem_euclid t (pos 1000000)
+int_rem_euclid-low (pos a) = omega (arith, ints)
+int_rem_euclid-low (negsuc a) = omega (arith, ints)
+
+int_rem_euclid-high : (t : ℤ) → int_rem_euclid t (pos 1000000) ≤ℤ pos 999999
+int_rem_euclid-high (pos a) = omega (arith, ints)
+int_rem_euclid-high (negsuc a) = omega (arith, ints)
+
+-- numbers in two's complement are read back from their octets
+cast_signed-octets_4 : (z : ℤ) → SFits w32 z → cast_signed w32 (from_be_bytes w32 (to_be_bytes w32 (cast_unsigned w32 z))) ≡ z
+cast_signed-octets_4 z f = ap (cast_signed w32) (from_be_bytes-to_be_bytes_4 (cast_unsigned w32 z) (let u : Fits w32 (cast_unsigned w32 z) = Fits-of_z f in omega (arith, u))) ∙ to_z-of_z w32 z f
+
+cast_signed-octets_8 : (z : ℤ) → SFits w64 z → cast_signed w64 (from_be_bytes w64 (to_be_bytes w64 (cast_unsigned w64 z))) ≡ z
+cast_signed-octets_8 z f = ap (cast_signed w64) (from_be_bytes-to_be_bytes_8 (cast_unsigned w64 z) (let u : Fits w64 (cast_unsigned w64 z) = Fits-of_z f in omega (arith, u))) ∙ to_z-of_z w64 z f
+
+abbrev message : Kind → ℕ → Body → List ℕ → MessageValue
+message k n b name = record { kind = k; number = n; body = b; name = name }
+
+SpellsName-octets : (k : Kind) (n : ℕ) (b : Body) (name : List ℕ) → IsName name → drop 12 (message_octets (message k n b name)) ≡ name_octets name → SpellsName (message_octets (message k n b name)) name
+SpellsName-octets k n b name p e = (p, (replicate (63 - length name) 0, e ∙ name_octets-split name p))
+
+SpellsMessage-hops : (k : Kind) (n h : ℕ) (name : List ℕ) → n < 2 ^ 16 → body_fits k (Hops h) ≡ true → IsName name
+    → SpellsMessage (message_octets (message k n (Hops h) name)) (message k n (Hops h) name)
+SpellsMessage-hops k n h name small fits p = record {
+  head = let z = length-name_octets name p in record { low = omega arith; high = omega arith; version = refl };
+  kind = kind_of-kind_number k;
+  number = sym (from_be_bytes-to_be_bytes_2 n small);
+  body = let f = body_fits-hops k h fits in (carries_time-hops k f, f, refl);
+  name = SpellsName-octets k n (Hops h) name p refl;
+}
+
+SpellsMessage-nothing : (k : Kind) (n : ℕ) (name : List ℕ) → n < 2 ^ 16 → body_fits k Nothing ≡ true → IsName name
+    → SpellsMessage (message_octets (message k n Nothing name)) (message k n Nothing name)
+SpellsMessage-nothing k n name small fits p = record {
+  head = let z = length-name_octets name p in record { low = omega arith; high = omega arith; version = refl };
+  kind = kind_of-kind_number k;
+  number = sym (from_be_bytes-to_be_bytes_2 n small);
+  body = body_fits-nothing k fits;
+  name = SpellsName-octets k n Nothing name p refl;
+}
+
+SpellsMessage-time : (k : Kind) (n : ℕ) (t : ℤ) (name : List ℕ) → n < 2 ^ 16 → body_fits k (TimeBody t) ≡ true → IsMicros t → IsName name
+    → SpellsMessage (message_octets (message k n (TimeBody t) name)) (message k n (TimeBody t) name)
+SpellsMessage-time k n t name small fits m p =
+    let s = cast_signed-octets_4 (int_div_euclid t (pos 1000000)) (SFits-int_div_euclid t m) in
+    let u = cast_signed-octets_4 (int_rem_euclid t (pos 1000000)) (SFits-int_rem_euclid t) in record {
+      head = let z = length-name_octets name p in record { low = omega arith; high = omega arith; version = refl };
+      kind = kind_of-kind_number k;
+      number = sym (from_be_bytes-to_be_bytes_2 n small);
+      body = (
+        body_fits-time k t fits,
+        record { low = rw u (int_rem_euclid-low t); high = rw u (int_rem_euclid-high t); value = rw (s, u, int_div_euclid-int_rem_euclid t) m },
+        rw (s, u) (sym (int_div_euclid-int_rem_euclid t)),
+      );
+      name = SpellsName-octets k n (TimeBody t) name p refl;
+    }
+
+SpellsMessage-octets : (k : Kind) (n : ℕ) (b : Body) (name : List ℕ) → n < 2 ^ 16 → body_fits k b ≡ true → IsName name → IsWritableBody b
+    → SpellsMessage (message_octets (message k n b name)) (message k n b name)
+SpellsMessage-octets k n Nothing name small fits p w = SpellsMessage-nothing k n name small fits p
+SpellsMessage-octets k n (Hops h) name small fits p w = SpellsMessage-hops k n h name small fits p
+SpellsMessage-octets k n (TimeBody t) name small fits p w = SpellsMessage-time k n t name small fits w p
+
+SpellsRequest-octets : (w c : ℕ) → w < 2 ^ 64 → c < 2 ^ 64 → SpellsRequest (stamp_octets (Request w c)) w c
+SpellsRequest-octets w c p q = record {
+  head = record { size = refl; first = refl; version = refl };
+  ticket = refl;
+  word_read = sym (from_be_bytes-to_be_bytes_8 w p);
+  counter_read = sym (from_be_bytes-to_be_bytes_8 c q);
+  reading = refl;
+}
+
+SpellsReply-octets : (r : ReplyValue) → r.word < 2 ^ 64 → r.counter < 2 ^ 64 → IsReply r.ticket r.reading → SpellsReply (stamp_octets (Reply r)) r
+SpellsReply-octets r w c p =
+    let f : SFits w64 r.reading = omega (arith, ints, p.low, p.high) in
+    let t : r.ticket < 2 ^ 16 = omega (arith, p.small) in record {
+      head = record { size = refl; first = refl; version = refl };
+      ticket = sym (from_be_bytes-to_be_bytes_2 r.ticket t);
+      word = sym (from_be_bytes-to_be_bytes_8 r.word w);
+      counter = sym (from_be_bytes-to_be_bytes_8 r.counter c);
+      reading = sym (cast_signed-octets_8 r.reading f);
+      valid = p;
+    }
+
+pub Spells-canon : (d : Datagram) → IsWritable d → Spells (canon d) d
+Spells-canon (Message m) w = SpellsMessage-octets m.kind m.number m.body m.name w.0 w.1 w.2 w.3
+Spells-canon (StampOf (Request a b)) w = SpellsRequest-octets a b w.0 w.1
+Spells-canon (StampOf (Reply r)) w = SpellsReply-octets r w.0 w.1 w.2

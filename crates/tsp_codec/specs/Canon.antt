@@ -1,0 +1,58 @@
+-- The written spelling of a datagram.
+use Rattle.std.specs.Prelude.{◌≡◌, ℕ, ◌-◌, ◌^◌, ◌<◌, ℤ, pos, List, [], ◌∷◌, ◌++◌, length, replicate, true}
+use Rattle.std.specs.Int.{w16, w32, w64, to_be_bytes, cast_unsigned, int_div_euclid, int_rem_euclid}
+use Rattle.tsp_base.specs.Kinds.{kind_number}
+use Rattle.tsp_base.specs.Messages.{MessageValue, body_fits}
+use Rattle.tsp_base.specs.Names.{IsName}
+use Rattle.tsp_base.specs.Times.{IsMicros}
+use Rattle.tsp_base.specs.Stamps.{IsReply}
+use Rattle.tsp_base.specs.declared.message.Body.{Body}
+use Rattle.tsp_base.specs.declared.message.Body.TheVariants.{Nothing, Time as TimeBody, Hops}
+use Rattle.tsp_base.specs.declared.stamp.Stamp.{Stamp}
+use Rattle.tsp_base.specs.declared.stamp.Stamp.TheVariants.{Request, Reply}
+use Rattle.tsp_base.specs.declared.datagram.Datagram.{Datagram}
+use Rattle.tsp_base.specs.declared.datagram.Datagram.TheVariants.{Message, Stamp as StampOf}
+
+-- four octets in two's complement
+abbrev pub int_octets : ℤ → List ℕ
+int_octets value = to_be_bytes w32 (cast_unsigned w32 value)
+
+-- seconds, and microseconds from 0 to 999,999
+abbrev pub time_octets : ℤ → List ℕ
+time_octets t = int_octets (int_div_euclid t (pos 1000000)) ++ int_octets (int_rem_euclid t (pos 1000000))
+
+-- the eight octets of a body: zeros where it has nothing
+abbrev pub body_octets : Body → List ℕ
+body_octets Nothing = replicate 8 0
+body_octets (Hops h) = h ∷ replicate 7 0
+body_octets (TimeBody t) = time_octets t
+
+-- a name, and zeros up to 64 octets
+abbrev pub name_octets : List ℕ → List ℕ
+name_octets name = name ++ replicate (64 - length name) 0
+
+-- the 76 octets of a message
+abbrev pub message_octets : MessageValue → List ℕ
+message_octets m = (((kind_number m.kind ∷ 1 ∷ []) ++ to_be_bytes w16 m.number) ++ body_octets m.body) ++ name_octets m.name
+
+-- the 28 octets of a stamp
+abbrev pub stamp_octets : Stamp → List ℕ
+stamp_octets (Request word counter) = (((128 ∷ 1 ∷ 0 ∷ 0 ∷ []) ++ to_be_bytes w64 word) ++ to_be_bytes w64 counter) ++ replicate 8 0
+stamp_octets (Reply r) = ((((129 ∷ 1 ∷ []) ++ to_be_bytes w16 r.ticket) ++ to_be_bytes w64 r.word) ++ to_be_bytes w64 r.counter) ++ to_be_bytes w64 (cast_unsigned w64 r.reading)
+
+-- the written spelling
+abbrev pub canon : Datagram → List ℕ
+canon (Message message) = message_octets message
+canon (StampOf stamp) = stamp_octets stamp
+
+-- a body's number is in its range
+abbrev pub IsWritableBody : Body → Type 0
+IsWritableBody Nothing = Unit {0}
+IsWritableBody (Hops h) = h < 2 ^ 8
+IsWritableBody (TimeBody t) = IsMicros t
+
+-- the parts of a datagram are in their ranges, as they are in each one of the program
+abbrev pub IsWritable : Datagram → Type 0
+IsWritable (Message m) = (m.number < 2 ^ 16) × (body_fits m.kind m.body ≡ true) × IsName m.name × IsWritableBody m.body
+IsWritable (StampOf (Request word counter)) = (word < 2 ^ 64) × (counter < 2 ^ 64)
+IsWritable (StampOf (Reply r)) = (r.word < 2 ^ 64) × (r.counter < 2 ^ 64) × IsReply r.ticket r.reading

@@ -1,0 +1,126 @@
+//! Octets to datagrams.
+ghost use Rattle.std.specs.Prelude.{◌≡◌, ◌≤◌, MatchResult, Ok, Err, Some};
+ghost use Rattle.tsp_base.specs.Kinds.{kind_of};
+ghost use Rattle.tsp_base.specs.declared.datagram.Datagram.{Datagram};
+ghost use Rattle.tsp_base.specs.declared.datagram.DecodeFault.{DecodeFault};
+ghost use Rattle.tsp_codec.specs.Numbers.{octet_at};
+ghost use Rattle.tsp_codec.specs.Spelling.{HasHead, IsStamp, SpellsMessage, SpellsStamp, Spells};
+ghost use Rattle.tsp_codec.specs.Faults.{IsFault};
+
+use crate::fields::{body_at, i64_at, name_at, u16_at, u64_at};
+use tsp_base::datagram::{Datagram, DecodeFault};
+use tsp_base::kind::Kind;
+use tsp_base::message::Message;
+use tsp_base::stamp::Stamp;
+
+/// The type octet of a stamp request.
+const REQUEST: u8 = 0x80;
+
+/// The type octet of a stamp reply.
+const REPLY: u8 = 0x81;
+
+/// Refuses what is shorter or longer than any datagram, or of another version.
+fn check_head(octets: &[u8]) -> Result<(), DecodeFault>
+    ensures { MatchResult result (λ done. HasHead octets.now) (λ fault. IsFault octets.now fault) }
+{
+    if octets.len() < 13 {
+        return Err(DecodeFault::Short);
+    }
+    if octets.len() > 268 {
+        return Err(DecodeFault::Long);
+    }
+    if octets[1] != 1 {
+        return Err(DecodeFault::Version);
+    }
+    Ok(())
+}
+
+/// A message of this kind.
+fn message_of(octets: &[u8], kind: Kind) -> Result<Message, DecodeFault>
+    requires head { HasHead octets.now }
+    requires kind { kind_of (octet_at octets.now 0) ≡ Some kind }
+    ensures { MatchResult result (λ message. SpellsMessage octets.now message) (λ fault. IsFault octets.now fault) }
+{
+    let Some(name) = name_at(octets) else {
+        return Err(if octets.len() < 76 {
+            DecodeFault::NoEnd
+        } else {
+            DecodeFault::NameTooLong
+        });
+    };
+    match body_at(octets, kind) {
+        Some(body) => Ok(Message::new(kind, u16_at(octets, 2), body, name)),
+        None => Err(DecodeFault::Time),
+    }
+}
+
+/// A stamp request.
+fn request_of(octets: &[u8]) -> Result<Stamp, DecodeFault>
+    requires { IsStamp octets.now 128 }
+    ensures { MatchResult result (λ stamp. SpellsStamp octets.now stamp) (λ fault. IsFault octets.now fault) }
+{
+    if u16_at(octets, 2) != 0 || u64_at(octets, 20) != 0 {
+        return Err(DecodeFault::Reserved);
+    }
+    Ok(Stamp::Request {
+        word: u64_at(octets, 4),
+        counter: u64_at(octets, 12),
+    })
+}
+
+/// A stamp reply.
+fn reply_of(octets: &[u8]) -> Result<Stamp, DecodeFault>
+    requires { IsStamp octets.now 129 }
+    ensures { MatchResult result (λ stamp. SpellsStamp octets.now stamp) (λ fault. IsFault octets.now fault) }
+{
+    let ticket = u16_at(octets, 2);
+    if ticket > 32_767 {
+        return Err(DecodeFault::Reserved);
+    }
+    match Stamp::reply(
+        ticket,
+        u64_at(octets, 4),
+        u64_at(octets, 12),
+        i64_at(octets, 20),
+    ) {
+        Some(stamp) => Ok(stamp),
+        None => Err(DecodeFault::Time),
+    }
+}
+
+/// The datagram of octets with a head.
+fn datagram_of(octets: &[u8]) -> Result<Datagram, DecodeFault>
+    requires { HasHead octets.now }
+    ensures { MatchResult result (λ datagram. Spells octets.now datagram) (λ fault. IsFault octets.now fault) }
+{
+    match (octets[0], Kind::of(octets[0])) {
+        (_, Some(kind)) => Ok(Datagram::Message(message_of(octets, kind)?)),
+        (REQUEST | REPLY, None) if octets.len() != 28 => Err(DecodeFault::StampLength),
+        (REQUEST, None) => Ok(Datagram::Stamp(request_of(octets)?)),
+        (REPLY, None) => Ok(Datagram::Stamp(reply_of(octets)?)),
+        (_, None) => Err(DecodeFault::Kind),
+    }
+}
+
+/// The datagram, or the first fault, with the clause on the answer alone.
+fn read(octets: &[u8]) -> Result<Datagram, DecodeFault>
+    ensures { MatchResult result (λ datagram. Spells octets.now datagram) (λ fault. IsFault octets.now fault) }
+{
+    check_head(octets)?;
+    match datagram_of(octets) {
+        Ok(datagram) => Ok(datagram),
+        Err(fault) => Err(fault),
+    }
+}
+
+/// The datagram that the octets spell; where they spell none, the first fault of theirs.
+pub fn decode(octets: &[u8]) -> Result<Datagram, DecodeFault>
+    ensures reads { MatchResult result (λ datagram. Spells octets.now datagram) (λ fault. IsFault octets.now fault) }
+    ensures spelled { (datagram : Datagram) → Spells octets.now datagram → result ≡ Ok datagram }
+    ensures faulty { (fault : DecodeFault) → IsFault octets.now fault → result ≡ Err fault }
+{
+    match read(octets) {
+        Ok(datagram) => Ok(datagram),
+        Err(fault) => Err(fault),
+    }
+}

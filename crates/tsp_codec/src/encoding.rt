@@ -1,0 +1,133 @@
+//! Datagrams to octets.
+ghost use Rattle.std.specs.Prelude.{◌≡◌, ℕ, List, ◌∷◌, [], ◌++◌, ◌+◌, ◌-◌, ◌≤◌, ◌<◌, length, replicate, ℤ, pos};
+ghost use Rattle.std.specs.Int.{w32, to_be_bytes, cast_unsigned, int_div_euclid, int_rem_euclid};
+ghost use Rattle.arrayvec.specs.ArrayVec.{array_vec_len};
+ghost use Rattle.tsp_base.specs.Names.{IsName};
+ghost use Rattle.tsp_base.specs.Times.{IsMicros};
+ghost use Rattle.tsp_codec.specs.Spelling.{Spells};
+ghost use Rattle.tsp_codec.specs.Canon.{int_octets, time_octets, body_octets, name_octets, message_octets, stamp_octets, canon, IsWritableBody, IsWritable};
+ghost use Rattle.tsp_base.specs.declared.datagram.Datagram.{Datagram};
+
+use arrayvec::ArrayVec;
+use tsp_base::datagram::Datagram;
+use tsp_base::message::{Body, Message};
+use tsp_base::micros::Micros;
+use tsp_base::name::Name;
+use tsp_base::stamp::Stamp;
+
+fn append(out: &mut ArrayVec<u8, 268>, piece: &[u8])
+    requires { array_vec_len out.old + length piece.now ≤ 268 }
+    ensures { out.new.items ≡ out.old.items ++ piece.now }
+{
+    let _ = out.try_extend_from_slice(piece);
+}
+
+fn append_zeros(out: &mut ArrayVec<u8, 268>, count: usize)
+    requires { array_vec_len out.old + count ≤ 268 }
+    ensures { out.new.items ≡ out.old.items ++ replicate count 0 }
+{
+    for _ in 0..count {
+        out.push(0);
+    }
+}
+
+fn append_i32(out: &mut ArrayVec<u8, 268>, value: i32)
+    requires { array_vec_len out.old + 4 ≤ 268 }
+    ensures { out.new.items ≡ out.old.items ++ int_octets value }
+{
+    append(out, &value.cast_unsigned().to_be_bytes());
+}
+
+fn append_pair(out: &mut ArrayVec<u8, 268>, seconds: i32, micros: i32)
+    requires { array_vec_len out.old + 8 ≤ 268 }
+    ensures { out.new.items ≡ out.old.items ++ (int_octets seconds ++ int_octets micros) }
+{
+    append_i32(out, seconds);
+    append_i32(out, micros);
+}
+
+/// Appends the seconds and the microseconds of a time, the latter from 0 to 999,999.
+fn append_time(out: &mut ArrayVec<u8, 268>, time: &Micros)
+    requires { array_vec_len out.old + 8 ≤ 268 }
+    ensures octets { out.new.items ≡ out.old.items ++ time_octets time.now }
+    ensures range { IsMicros time.now }
+{
+    let value = time.get();
+    append_pair(
+        out,
+        value.div_euclid(1_000_000) as i32,
+        value.rem_euclid(1_000_000) as i32,
+    );
+}
+
+fn append_body(out: &mut ArrayVec<u8, 268>, body: &Body)
+    requires { array_vec_len out.old + 8 ≤ 268 }
+    ensures octets { out.new.items ≡ out.old.items ++ body_octets body.now }
+    ensures range { IsWritableBody body.now }
+{
+    match body {
+        Body::Nothing => append_zeros(out, 8),
+        Body::Hops(hops) => {
+            append(out, &[*hops]);
+            append_zeros(out, 7);
+        }
+        Body::Time(time) => append_time(out, time),
+    }
+}
+
+fn append_name(out: &mut ArrayVec<u8, 268>, name: &Name)
+    requires { array_vec_len out.old + 64 ≤ 268 }
+    ensures octets { out.new.items ≡ out.old.items ++ name_octets name.now }
+    ensures valid { IsName name.now }
+{
+    let octets = name.octets();
+    append(out, octets);
+    append_zeros(out, 64 - octets.len());
+}
+
+fn message_spelling(message: &Message) -> ArrayVec<u8, 268>
+    ensures octets { result.items ≡ message_octets message.now }
+    ensures ranges { IsWritable (Datagram.Message message.now) }
+{
+    let mut out = ArrayVec::new();
+    append(&mut out, &[message.kind().number(), 1]);
+    append(&mut out, &message.number().to_be_bytes());
+    append_body(&mut out, &message.body());
+    append_name(&mut out, message.name());
+    out
+}
+
+fn stamp_spelling(stamp: &Stamp) -> ArrayVec<u8, 268>
+    ensures octets { result.items ≡ stamp_octets stamp.now }
+    ensures ranges { IsWritable (Datagram.Stamp stamp.now) }
+{
+    let mut out = ArrayVec::new();
+    match stamp {
+        Stamp::Request { word, counter } => {
+            append(&mut out, &[0x80, 1, 0, 0]);
+            append(&mut out, &word.to_be_bytes());
+            append(&mut out, &counter.to_be_bytes());
+            append_zeros(&mut out, 8);
+        }
+        Stamp::Reply(reply) => {
+            append(&mut out, &[0x81, 1]);
+            append(&mut out, &reply.ticket().to_be_bytes());
+            append(&mut out, &reply.word().to_be_bytes());
+            append(&mut out, &reply.counter().to_be_bytes());
+            append(&mut out, &reply.reading().cast_unsigned().to_be_bytes());
+        }
+    }
+    out
+}
+
+/// The written spelling.
+pub fn encode(datagram: &Datagram) -> ArrayVec<u8, 268>
+    ensures octets { result.items ≡ canon datagram.now }
+    ensures ranges { IsWritable datagram.now }
+    ensures spelled { Spells result.items datagram.now }
+{
+    match datagram {
+        Datagram::Message(message) => message_spelling(message),
+        Datagram::Stamp(stamp) => stamp_spelling(stamp),
+    }
+}

@@ -1,0 +1,33 @@
+//! Laws of the spelling.
+ghost use Rattle.std.specs.Prelude.{◌≡◌, ℕ, List};
+ghost use Rattle.tsp_codec.specs.Spelling.{Spells};
+ghost use Rattle.tsp_codec.specs.Faults.{IsFault, Reads};
+ghost use Rattle.tsp_codec.specs.Canon.{canon, IsWritable};
+ghost use Rattle.tsp_base.specs.declared.datagram.Datagram.{Datagram};
+ghost use Rattle.tsp_base.specs.declared.datagram.DecodeFault.{DecodeFault};
+ghost use Rattle.tsp_base.specs.declared.datagram.Taken.{Taken};
+
+/// Octets spell at most one datagram.
+pub fn one_datagram()
+    ensures { (octets : List ℕ) (d e : Datagram) → Spells octets d → Spells octets e → d ≡ e }
+{}
+
+/// Octets have at most one first fault.
+pub fn one_fault()
+    ensures { (octets : List ℕ) (f g : DecodeFault) → IsFault octets f → IsFault octets g → f ≡ g }
+{}
+
+/// What spells a datagram has no fault.
+pub fn spelled_without_fault()
+    ensures { (octets : List ℕ) (d : Datagram) (f : DecodeFault) → Spells octets d → IsFault octets f → ⊥ }
+{}
+
+/// A reader takes one thing from the same octets.
+pub fn one_reading()
+    ensures { (octets : List ℕ) (t u : Taken) → Reads octets t → Reads octets u → t ≡ u }
+{}
+
+/// The written spelling spells its datagram.
+pub fn written_spells()
+    ensures { (d : Datagram) → IsWritable d → Spells (canon d) d }
+{}

@@ -1,0 +1,12 @@
+//! The octets of the protocol's datagrams: an exact reader and a writer of one spelling.
+//!
+//! Neither call takes memory.
+#![tactic(auto)]
+
+mod decoding;
+mod encoding;
+mod fields;
+pub mod laws;
+
+pub use decoding::decode;
+pub use encoding::encode;
