@@ -1,0 +1,37 @@
+-- The ranges of the parts of a datagram, which each datagram of the program keeps.
+use Rattle.std.specs.Prelude.{◌≡◌, ℕ, ◌^◌, ◌<◌, true}
+use Rattle.std.specs.List.{All}
+use Rattle.tsp_base.specs.Messages.{MessageValue, body_fits}
+use Rattle.tsp_base.specs.Names.{IsName}
+use Rattle.tsp_base.specs.Stamps.{IsReply}
+use Rattle.tsp_base.specs.Times.{IsMicros}
+use Rattle.tsp_base.specs.declared.message.Body.{Body}
+use Rattle.tsp_base.specs.declared.message.Body.TheVariants.{Nothing, Time as TimeBody, Hops}
+use Rattle.tsp_base.specs.declared.stamp.Stamp.{Stamp}
+use Rattle.tsp_base.specs.declared.stamp.Stamp.TheVariants.{Request, Reply}
+use Rattle.tsp_base.specs.declared.datagram.Datagram.{Datagram}
+use Rattle.tsp_base.specs.declared.datagram.Datagram.TheVariants.{Message, Stamp as StampOf}
+
+-- a time or a hop count in its range
+abbrev pub IsBody : Body → Type 0
+IsBody Nothing = Unit {0}
+IsBody (TimeBody t) = IsMicros t
+IsBody (Hops h) = h < 2 ^ 8
+
+-- a message whose parts are in their ranges, with the body that its kind carries
+pub record IsMessage (m : MessageValue) : Type 0 where
+  pub number : m.number < 2 ^ 16
+  pub fits : body_fits m.kind m.body ≡ true
+  pub body : IsBody m.body
+  pub name : IsName m.name
+  pub octets : All (λ c. c < 2 ^ 8) m.name
+
+-- a stamp whose parts are in their ranges
+abbrev pub IsStamp : Stamp → Type 0
+IsStamp (Request word counter) = (word < 2 ^ 64) × (counter < 2 ^ 64)
+IsStamp (Reply r) = (r.word < 2 ^ 64) × (r.counter < 2 ^ 64) × IsReply r.ticket r.reading
+
+-- a datagram whose parts are in their ranges
+abbrev pub IsDatagram : Datagram → Type 0
+IsDatagram (Message m) = IsMessage m
+IsDatagram (StampOf s) = IsStamp s

@@ -1,0 +1,7 @@
+//! The texts: schedule lines, message lines and trace lines.
+#![tactic(auto)]
+
+pub mod messages;
+pub mod names;
+pub mod numbers;
+pub mod words;

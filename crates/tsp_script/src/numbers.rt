@@ -1,0 +1,122 @@
+//! Numbers and octets as text.
+ghost use Rattle.std.specs.Prelude.{◌≡◌, ℕ, ◌+◌, ◌*◌, ◌^◌, ◌≤◌, ◌<◌, ◌++◌, length, decimal, IfSome, IfNone, Ok, MatchBool, IsErr, ℤ};
+ghost use Rattle.std.specs.Int.{w64};
+ghost use Rattle.std.specs.Int.RustNames.{FitsSigned};
+ghost use Rattle.std.specs.Fmt.{signed_decimal};
+ghost use Rattle.arrayvec.specs.ArrayVec.{array_vec_len};
+ghost use Rattle.hex.specs.Hex.{decode_of, encode_lower};
+
+use arrayvec::ArrayVec;
+use itoa::Buffer;
+use std::str;
+
+/// Writes octets as they stand.
+pub fn append(out: &mut ArrayVec<u8, 1024>, piece: &[u8])
+    requires { array_vec_len out.old + length piece.now ≤ 1024 }
+    ensures { out.new.items ≡ out.old.items ++ piece.now }
+{
+    let _ = out.try_extend_from_slice(piece);
+}
+
+/// Writes a number in decimal, in at most 20 octets.
+pub fn append_number(out: &mut ArrayVec<u8, 1024>, number: u64)
+    requires { array_vec_len out.old + 20 ≤ 1024 }
+    ensures text { out.new.items ≡ out.old.items ++ decimal number }
+    ensures short { array_vec_len out.new ≤ array_vec_len out.old + 20 }
+{
+    let mut buffer = Buffer::new();
+    append(out, buffer.format(number).as_bytes());
+}
+
+/// Writes a number with a sign where it is negative, in at most 20 octets.
+pub fn append_signed(out: &mut ArrayVec<u8, 1024>, number: i64)
+    requires { array_vec_len out.old + 20 ≤ 1024 }
+    ensures text { out.new.items ≡ out.old.items ++ signed_decimal number }
+    ensures short { array_vec_len out.new ≤ array_vec_len out.old + 20 }
+{
+    let mut buffer = Buffer::new();
+    append(out, buffer.format(number).as_bytes());
+}
+
+/// Writes octets in hexadecimal, in lower case.
+pub fn append_hex(out: &mut ArrayVec<u8, 1024>, octets: &[u8])
+    requires { array_vec_len out.old + 2 * length octets.now ≤ 1024 }
+    ensures text { out.new.items ≡ out.old.items ++ encode_lower octets.now }
+    ensures count { array_vec_len out.new ≡ array_vec_len out.old + 2 * length octets.now }
+{
+    let mut digits = [0u8; 1024];
+    let count = 2 * octets.len();
+    let _ = hex::encode_to_slice(octets, &mut digits[..count]);
+    append(out, &digits[..count]);
+}
+
+/// The number that the word is the decimal text of.
+pub fn number_of(word: &[u8]) -> Option<u64>
+    ensures found { IfSome result (λ n. word.now ≡ decimal n) }
+    ensures none { IfNone result ((n : ℕ) → n < 2 ^ 64 → word.now ≡ decimal n → ⊥) }
+{
+    let Ok(text) = str::from_utf8(word) else {
+        return None;
+    };
+    let Ok(number) = text.parse::<u64>() else {
+        return None;
+    };
+    if is_text_of(word, number) {
+        Some(number)
+    } else {
+        None
+    }
+}
+
+/// Whether the word is the number's text.
+fn is_text_of(word: &[u8], number: u64) -> bool
+    ensures { MatchBool result (word.now ≡ decimal number) (word.now ≡ decimal number → ⊥) }
+{
+    let mut buffer = Buffer::new();
+    let text = buffer.format(number).as_bytes();
+    if text == word { true } else { false }
+}
+
+/// The number with a sign that the word is the decimal text of.
+pub fn signed_of(word: &[u8]) -> Option<i64>
+    ensures found { IfSome result (λ n. word.now ≡ signed_decimal n) }
+    ensures none { IfNone result ((n : ℤ) → FitsSigned w64 n → word.now ≡ signed_decimal n → ⊥) }
+{
+    let Ok(text) = str::from_utf8(word) else {
+        return None;
+    };
+    let Ok(number) = text.parse::<i64>() else {
+        return None;
+    };
+    if is_signed_text_of(word, number) {
+        Some(number)
+    } else {
+        None
+    }
+}
+
+/// Whether the word is the text of the number with a sign.
+fn is_signed_text_of(word: &[u8], number: i64) -> bool
+    ensures { MatchBool result (word.now ≡ signed_decimal number) (word.now ≡ signed_decimal number → ⊥) }
+{
+    let mut buffer = Buffer::new();
+    let text = buffer.format(number).as_bytes();
+    if text == word { true } else { false }
+}
+
+/// The octets that a line of hexadecimal spells, in either case of the letters;
+/// None exactly where the line isn't pairs of hexadecimal digits.
+pub fn octets_of(line: &[u8]) -> Option<ArrayVec<u8, 512>>
+    requires { length line.now ≤ 1024 }
+    ensures found { IfSome result (λ octets. decode_of line.now ≡ Ok octets.items) }
+    ensures none { IfNone result (IsErr (decode_of line.now)) }
+{
+    let mut buffer = [0u8; 512];
+    let count = line.len() / 2;
+    if hex::decode_to_slice(line, &mut buffer[..count]).is_err() {
+        return None;
+    }
+    let mut octets = ArrayVec::new();
+    let _ = octets.try_extend_from_slice(&buffer[..count]);
+    Some(octets)
+}
