@@ -1,7 +1,9 @@
 //! The texts: schedule lines, message lines and trace lines.
 #![tactic(auto)]
 
+pub mod acts;
 pub mod messages;
 pub mod names;
 pub mod numbers;
+pub mod trace;
 pub mod words;

@@ -4,7 +4,9 @@ ghost use Rattle.arrayvec.specs.ArrayVec.{array_vec_len};
 ghost use Rattle.tsp_script.specs.Texts.{body_text, message_line, reply_text, stamp_text, message_text};
 
 use crate::names::append_name;
-use crate::numbers::{append, append_number, append_signed};
+use crate::numbers::{
+    append, append_next_number, append_next_signed, append_number, append_signed,
+};
 use arrayvec::ArrayVec;
 use tsp_base::datagram::Datagram;
 use tsp_base::message::{Body, Message};
@@ -36,8 +38,7 @@ fn append_message(out: &mut ArrayVec<u8, 1024>, message: &Message)
     ensures short { array_vec_len out.new ≤ array_vec_len out.old + 242 }
 {
     append(out, message.kind().word());
-    append(out, b" ");
-    append_number(out, message.number() as u64);
+    append_next_number(out, message.number() as u64);
     append(out, b" ");
     append_body(out, &message.body());
     append_name(out, message.name());
@@ -53,8 +54,7 @@ fn append_stamp(out: &mut ArrayVec<u8, 1024>, stamp: &Stamp)
         Stamp::Request { word, counter } => {
             append(out, b"request ");
             append_number(out, *word);
-            append(out, b" ");
-            append_number(out, *counter);
+            append_next_number(out, *counter);
         }
         Stamp::Reply(reply) => append_reply(out, reply),
     }
@@ -68,12 +68,9 @@ fn append_reply(out: &mut ArrayVec<u8, 1024>, reply: &StampReply)
 {
     append(out, b"reply ");
     append_number(out, reply.ticket() as u64);
-    append(out, b" ");
-    append_number(out, reply.word());
-    append(out, b" ");
-    append_number(out, reply.counter());
-    append(out, b" ");
-    append_signed(out, reply.reading());
+    append_next_number(out, reply.word());
+    append_next_number(out, reply.counter());
+    append_next_signed(out, reply.reading());
 }
 
 /// Writes a datagram's line.

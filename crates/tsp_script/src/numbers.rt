@@ -4,6 +4,7 @@ ghost use Rattle.std.specs.Int.{w64};
 ghost use Rattle.std.specs.Int.RustNames.{FitsSigned};
 ghost use Rattle.std.specs.Fmt.{signed_decimal};
 ghost use Rattle.arrayvec.specs.ArrayVec.{array_vec_len};
+ghost use Rattle.tsp_script.specs.Texts.{space};
 ghost use Rattle.hex.specs.Hex.{decode_of, encode_lower};
 
 use arrayvec::ArrayVec;
@@ -36,6 +37,26 @@ pub fn append_signed(out: &mut ArrayVec<u8, 1024>, number: i64)
 {
     let mut buffer = Buffer::new();
     append(out, buffer.format(number).as_bytes());
+}
+
+/// Writes a space and a number.
+pub fn append_next_number(out: &mut ArrayVec<u8, 1024>, number: u64)
+    requires { array_vec_len out.old + 21 ≤ 1024 }
+    ensures text { out.new.items ≡ out.old.items ++ space ++ decimal number }
+    ensures short { array_vec_len out.new ≤ array_vec_len out.old + 21 }
+{
+    append(out, b" ");
+    append_number(out, number);
+}
+
+/// Writes a space and a number with its sign.
+pub fn append_next_signed(out: &mut ArrayVec<u8, 1024>, number: i64)
+    requires { array_vec_len out.old + 21 ≤ 1024 }
+    ensures text { out.new.items ≡ out.old.items ++ space ++ signed_decimal number }
+    ensures short { array_vec_len out.new ≤ array_vec_len out.old + 21 }
+{
+    append(out, b" ");
+    append_signed(out, number);
 }
 
 /// Writes octets in hexadecimal, in lower case.

@@ -1,6 +1,4 @@
-use Rattle.std.proofs.Common.{◌≡◌, ℕ, ◌<◌, ◌++◌, ◌∷◌, length, take, sym, ◌∙◌, add-one, arith, suc}
-use Rattle.std.proofs.lemmas.Grind.{common_steps}
-use Rattle.tsp_script.specs.Words.{first_word, after_word}
+use Rattle.std.proofs.Common.{sym, ◌∙◌, add-one}
 use Rattle.tsp_script.proofs.Cuts.{first_word-at, after_word-at, first_word-alone, after_word-alone}
 use Rattle.tsp_script.proofs.words.cut.Goals as goal
 

@@ -1,0 +1,37 @@
+//! Lines of a trace.
+ghost use Rattle.std.specs.Prelude.{◌≡◌};
+ghost use Rattle.tsp_script.specs.Traces.{trace_text};
+
+use crate::acts::append_act;
+use crate::numbers::{append, append_next_number, append_number};
+use arrayvec::ArrayVec;
+use tsp_base::act::Placed;
+
+/// What a line of the trace tells.
+#[derive(Drop)]
+pub struct Line2 {
+    /// The event's number, from 1.
+    pub event: u64,
+    /// The node that acts.
+    pub node: u32,
+    /// Its tick counter, in microseconds.
+    pub tick: u64,
+    /// The posted datagram's number, from 0; read for a post alone.
+    pub number: u64,
+    /// The act and its port.
+    pub placed: Placed,
+}
+
+/// The trace's line of an act, without a line end, in at most 1,024 octets.
+pub fn act_text(line: &Line2) -> ArrayVec<u8, 1024>
+    ensures { result.items ≡ trace_text line.now.event line.now.node line.now.tick line.now.number line.now.placed }
+{
+    let mut out = ArrayVec::new();
+    append_number(&mut out, line.event);
+    append_next_number(&mut out, line.node as u64);
+    append_next_number(&mut out, line.placed.port.0 as u64);
+    append_next_number(&mut out, line.tick);
+    append(&mut out, b" ");
+    append_act(&mut out, line.number, &line.placed.act);
+    out
+}
