@@ -1,7 +1,10 @@
 pub mod AlarmLemmas
+pub mod EverywhereLemmas
 pub mod HeaderLemmas
 pub mod KindLemmas
 pub mod LeadsLemmas
 pub mod PerformsLemmas
+pub mod PlaceLemmas
 pub mod RowLemmas
+pub mod TickLemmas
 pub mod Views

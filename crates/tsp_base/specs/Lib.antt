@@ -16,3 +16,5 @@ pub mod SendFacts
 pub mod Stamps
 pub mod Ticks
 pub mod Times
+pub mod Places
+pub mod Everywhere

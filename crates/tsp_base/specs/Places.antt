@@ -1,0 +1,7 @@
+-- Places of a list whose newest entry stands first.
+use Rattle.std.specs.Prelude.{◌≡◌, ◌⊎◌, List, [], ◌∷◌}
+
+-- a place of the list t is one of its tails; the entry that stands at the place is the tail's first, and what stands before it is the rest
+abbrev pub Within : {A : Type 0} → List A → List A → Type 0
+Within s [] = s ≡ []
+Within s (l ∷ t) = (s ≡ (l ∷ t)) ⊎ Within s t
