@@ -7,4 +7,5 @@ pub mod PerformsLemmas
 pub mod PlaceLemmas
 pub mod RowLemmas
 pub mod TickLemmas
+pub mod ViewPlaces
 pub mod Views

@@ -1,0 +1,39 @@
+-- What the acts of a measurement owe to their port's past: requests, replies and samples.
+use Rattle.std.specs.Prelude.{◌≡◌, ℕ, ◌%◌, ◌^◌, ℤ, List, ◌∷◌}
+use Rattle.tsp_base.specs.declared.datagram.Datagram.TheVariants.{Stamp}
+use Rattle.tsp_base.specs.declared.place.PeerId.{PeerId}
+use Rattle.tsp_base.specs.declared.stamp.Stamp.TheVariants.{Request, Reply}
+use Rattle.tsp_base.specs.History.{Did, Seen, Here, plain}
+use Rattle.tsp_base.specs.NodeFacts.{word, ticket, target}
+use Rattle.tsp_base.specs.RoundFacts.{started, asked, exchange}
+use Rattle.tsp_base.specs.Samples.{sample_diff, sample_err}
+use Rattle.tsp_base.specs.Stamps.{ReplyValue}
+use Rattle.tsp_base.specs.Takings.{Receives, Undisturbed}
+
+-- a request has the boot's word, and the number of requests before it as its counter
+pub record RequestFits (before : List Seen) (request_word counter : ℕ) : Type 0 where
+  pub word_is : request_word ≡ word (plain before)
+  pub counter_is : counter ≡ asked before % 2 ^ 64
+
+-- a reply answers the request that the step took from its addressee, with the ticket and the target
+pub record ReplyFits (here : Did) (before : List Seen) (p : PeerId) (reply : ReplyValue) : Type 0 where
+  pub took : Receives before p (Stamp (Request reply.word reply.counter))
+  pub ticket_is : reply.ticket ≡ ticket (plain before)
+  pub reading_is : reply.reading ≡ target (plain before) here.tick
+
+-- a Sample ends an open exchange of the last round by the reply that its step took, and its node was left alone since the round began
+pub record SampleFits (here : Did) (before : List Seen) (p : PeerId) (counter : ℕ) (diff err : ℤ) (number : ℕ) : Type 0 where
+  pub start : Did
+  pub idle : List Seen
+  pub start_is : started before ≡ Here start ∷ idle
+  pub undisturbed : Undisturbed (plain idle) (plain before)
+  pub post : Did
+  pub older : List Seen
+  pub exchange_is : exchange p counter before ≡ Here post ∷ older
+  pub reply : ReplyValue
+  pub took : Receives before p (Stamp (Reply reply))
+  pub word_is : reply.word ≡ word (plain before)
+  pub counter_is : reply.counter ≡ counter
+  pub number_is : number ≡ reply.ticket
+  pub diff_is : diff ≡ sample_diff (target (plain older) post.tick) reply.reading (target (plain before) here.tick)
+  pub err_is : err ≡ sample_err (target (plain older) post.tick) (target (plain before) here.tick)
