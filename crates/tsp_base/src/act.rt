@@ -1,4 +1,5 @@
 //! The acts of a node: what it took, what it posted, and each change of what it is.
+ghost use Rattle.std.specs.Prelude.{◌≡◌};
 
 use crate::alarm::Alarm;
 use crate::datagram::{Datagram, Taken};
@@ -77,6 +78,66 @@ pub enum Act {
     Trace(bool),
 }
 
+impl Act {
+    /// The same act again.
+    pub fn copy(&self) -> Act
+        ensures { result ≡ self.now }
+    {
+        match self {
+            Act::Boot => Act::Boot,
+            Act::Took(from, taken) => Act::Took(*from, taken.copy()),
+            Act::Post(to, datagram) => Act::Post(*to, datagram.copy()),
+            Act::Become(role) => Act::Become(*role),
+            Act::Back(p) => Act::Back(*p),
+            Act::Backer(p) => Act::Backer(*p),
+            Act::Quit(p) => Act::Quit(*p),
+            Act::Arm(alarm, at) => Act::Arm(*alarm, *at),
+            Act::Ring(alarm) => Act::Ring(*alarm),
+            Act::Late(alarm) => Act::Late(*alarm),
+            Act::Join(p) => Act::Join(*p),
+            Act::Leave(p) => Act::Leave(*p),
+            Act::Rival(p) => Act::Rival(*p),
+            Act::Acked(p) => Act::Acked(*p),
+            Act::Gave(p) => Act::Gave(*p),
+            Act::Sample {
+                peer,
+                counter,
+                diff,
+                err,
+                ticket,
+            } => Act::Sample {
+                peer: *peer,
+                counter: *counter,
+                diff: *diff,
+                err: *err,
+                ticket: *ticket,
+            },
+            Act::Close {
+                count,
+                lo,
+                width,
+                mean,
+            } => Act::Close {
+                count: *count,
+                lo: *lo,
+                width: *width,
+                mean: *mean,
+            },
+            Act::Correct {
+                amount,
+                stepped,
+                shown,
+            } => Act::Correct {
+                amount: *amount,
+                stepped: *stepped,
+                shown: *shown,
+            },
+            Act::Abandon => Act::Abandon,
+            Act::Trace(on) => Act::Trace(*on),
+        }
+    }
+}
+
 /// An act on a port.
 #[derive(Drop)]
 pub struct Placed {
@@ -84,4 +145,16 @@ pub struct Placed {
     pub port: Port,
     /// What.
     pub act: Act,
+}
+
+impl Placed {
+    /// The same act on the same port again.
+    pub fn copy(&self) -> Placed
+        ensures { result ≡ self.now }
+    {
+        Placed {
+            port: self.port,
+            act: self.act.copy(),
+        }
+    }
 }

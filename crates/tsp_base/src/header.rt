@@ -1,6 +1,6 @@
 //! The header of a schedule: the nodes and their clocks.
 ghost use Rattle.std.specs.Prelude.{◌≡◌, ◌≤◌, length, [], ◌∷◌, ◌++◌};
-ghost use Rattle.tsp_base.specs.Headers.{Pushes};
+ghost use Rattle.tsp_base.specs.Headers.{IsHeader, Pushes};
 
 use crate::constants::SCHEDULE_END;
 use crate::name::Name;
@@ -99,7 +99,7 @@ impl Header {
     /// The nodes in the order of their lines.
     pub fn nodes(&self) -> &[NodeLine]
         ensures nodes { result.now ≡ self.now.nodes }
-        ensures few { length result.now ≤ 64 }
+        ensures valid { IsHeader self.now }
     {
         self.nodes.as_slice()
     }

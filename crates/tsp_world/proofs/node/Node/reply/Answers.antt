@@ -1,0 +1,24 @@
+-- A reply where the target is a clock's value, else nothing.
+use Rattle.std.proofs.Common.{◌≡◌, refl, ◌∙◌}
+use Rattle.tsp_base.specs.declared.stamp.Stamp.TheVariants.{Reply}
+use Rattle.tsp_base.specs.History.{plain}
+use Rattle.tsp_base.specs.NodeFacts.{ticket, target}
+use Rattle.tsp_base.proofs.PerformsLemmas.{Performs_nothing, Performs_then_part, Performs_else_part}
+use Rattle.tsp_world.specs.Answers.{takes_request, replies, is_clock}
+use Rattle.tsp_world.proofs.node.Node.reply.Goals as goal
+
+pub returns-in-Some-clause-row : goal.returns-in-Some-clause-row
+unfolding takes_request replies
+returns-in-Some-clause-row g c =
+    Performs_then_part (λ x past. is_clock (target (plain past.seen) x)) _ (λ past s. let a = s.offset_is in let b = c.in-Some.ensures.there.0 in rw a at b)
+    (record {
+      acts = λ past h.
+          let e : c.in-Some.stamp ≡ Reply (record { ticket = ticket (plain past.seen); word = c.args.word; counter = c.args.counter; reading = target (plain past.seen) c.args.tick }) = c.in-Some.ensures.there.1 ∙ (rw (h.ticket_is, h.offset_is) refl) in
+          rw e at c.put.ensures.acts;
+      stands = λ past h. record { ticket_is = h.ticket_is; offset_is = h.offset_is };
+    })
+
+pub returns-in-None-clause-row : goal.returns-in-None-clause-row
+unfolding takes_request
+returns-in-None-clause-row g c =
+    Performs_else_part (λ x past. is_clock (target (plain past.seen) x)) _ (λ past s. let a = s.offset_is in let b = c.in-None.ensures.none in rw a at b) Performs_nothing
