@@ -4,3 +4,4 @@ pub mod FirstFault
 pub mod NoFault
 pub mod Written
 pub mod OneReading
+pub mod TakenOf

@@ -1,5 +1,5 @@
 -- What spells a datagram has no fault.
-use Rattle.std.proofs.Common.{◌≡◌, ℕ, ◌<◌, ◌≤◌, List, ◌++◌, length, take, drop, ap, sym, ◌∙◌, arith, Some, None, true, false, inl, inr, ◌⊎◌}
+use Rattle.std.proofs.Common.{rules, ◌≡◌, ℕ, ◌<◌, ◌≤◌, List, ◌++◌, length, take, drop, ap, sym, ◌∙◌, arith, Some, None, true, false, inl, inr, ◌⊎◌}
 use Rattle.std.specs.Prelude.{Contains, IsSome}
 use Rattle.tsp_base.specs.Kinds.{kind_of, carries_time}
 use Rattle.tsp_base.specs.Messages.{MessageValue}
@@ -14,7 +14,9 @@ use Rattle.tsp_base.specs.declared.datagram.DecodeFault.{DecodeFault}
 use Rattle.tsp_base.specs.declared.datagram.DecodeFault.TheVariants.{Short, Long, Version, Kind as BadKind, StampLength, NoEnd, NameTooLong, Reserved, Time}
 use Rattle.tsp_base.specs.declared.datagram.Taken.{Taken}
 use Rattle.tsp_base.specs.declared.datagram.Taken.TheVariants.{Good, Bad}
-use Rattle.tsp_codec.specs.Spelling.{IsTime, Spells, SpellsBody, SpellsMessage, SpellsStamp}
+use Rattle.tsp_codec.specs.Spelling.{IsTime, Spells, SpellsBody, SpellsMessage, SpellsRequest, SpellsReply}
+use Rattle.tsp_codec.specs.Numbers.{octet_at}
+use Rattle.tsp_base.specs.Stamps.{ReplyValue}
 use Rattle.tsp_codec.specs.Faults.{name_room, HasStampType, HasKind, HasTimedKind, Applies, IsFault, Reads}
 use Rattle.tsp_codec.proofs.Lists.{Contains-take}
 use Rattle.tsp_codec.proofs.OneDatagram.{true-false, HasStampType-kind, kind_of-stamp, kind_of-one, type-one, Spells-one}
@@ -51,29 +53,13 @@ HasKind-stamp o s k = let h : false ≡ true = rw (kind_of-stamp o s) at k in cc
 pub HasTimedKind-stamp : (o : List ℕ) → HasStampType o → HasTimedKind o → ⊥
 HasTimedKind-stamp o s k = HasStampType-kind o k.0 k.1 s
 
-Applies-stamp : (o : List ℕ) (s : Stamp) (f : DecodeFault) → SpellsStamp o s → Applies o f → ⊥
-Applies-stamp o (Request w k) Short p q = let l = p.head.size in absurd (omega arith)
-Applies-stamp o (Request w k) Long p q = let l = p.head.size in absurd (omega arith)
-Applies-stamp o (Request w k) Version p q = q p.head.version
-Applies-stamp o (Request w k) BadKind p q = q.1 p.head.first
-Applies-stamp o (Request w k) StampLength p q = q.1 p.head.size
-Applies-stamp o (Request w k) NoEnd p q = HasKind-stamp o (inl p.head.first) q.0
-Applies-stamp o (Request w k) NameTooLong p q = HasKind-stamp o (inl p.head.first) q.0
-Applies-stamp o (Request w k) Reserved p q = elim q [ inl r ↦ elim r.1 [ inl t ↦ t p.ticket | inr t ↦ t p.reading ] | inr r ↦ type-one _ p.head.first r.0 ]
-Applies-stamp o (Request w k) Time p q = elim q [ inl r ↦ HasTimedKind-stamp o (inl p.head.first) r.0 | inr r ↦ type-one _ p.head.first r.0 ]
-Applies-stamp o (Reply r) Short p q = let l = p.head.size in absurd (omega arith)
-Applies-stamp o (Reply r) Long p q = let l = p.head.size in absurd (omega arith)
-Applies-stamp o (Reply r) Version p q = q p.head.version
-Applies-stamp o (Reply r) BadKind p q = q.2 p.head.first
-Applies-stamp o (Reply r) StampLength p q = q.1 p.head.size
-Applies-stamp o (Reply r) NoEnd p q = HasKind-stamp o (inr p.head.first) q.0
-Applies-stamp o (Reply r) NameTooLong p q = HasKind-stamp o (inr p.head.first) q.0
-Applies-stamp o (Reply r) Reserved p q = elim q [ inl t ↦ type-one _ t.0 p.head.first | inr t ↦ (let e = p.ticket in let b = p.valid.small in absurd (omega arith)) ]
-Applies-stamp o (Reply r) Time p q = elim q [
-  | inl t ↦ HasTimedKind-stamp o (inr p.head.first) t.0
-  | inr t ↦ t.1 (rw (← p.reading) (record { low = p.valid.low; high = p.valid.high }))
-]
+Applies-request : (o : List ℕ) (w c : ℕ) (f : DecodeFault) → SpellsRequest o w c → Applies o f → ⊥
+Applies-request o w c = search (HasKind-stamp, HasTimedKind-stamp, type-one, rules)
+
+Applies-reply : (o : List ℕ) (r : ReplyValue) (f : DecodeFault) → SpellsReply o r → Applies o f → ⊥
+Applies-reply o r = search (HasKind-stamp, HasTimedKind-stamp, type-one, rules)
 
 pub Spells-no_fault : (o : List ℕ) (d : Datagram) (f : DecodeFault) → Spells o d → IsFault o f → ⊥
 Spells-no_fault o (Message m) f p q = Applies-message o m f p q.applies
-Spells-no_fault o (StampOf s) f p q = Applies-stamp o s f p q.applies
+Spells-no_fault o (StampOf (Request w c)) f p q = Applies-request o w c f p q.applies
+Spells-no_fault o (StampOf (Reply r)) f p q = Applies-reply o r f p q.applies

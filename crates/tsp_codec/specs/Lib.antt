@@ -2,3 +2,4 @@ pub mod Numbers
 pub mod Spelling
 pub mod Faults
 pub mod Canon
+pub mod Taken

@@ -5,10 +5,12 @@ ghost use Rattle.tsp_base.specs.declared.datagram.Datagram.{Datagram};
 ghost use Rattle.tsp_base.specs.declared.datagram.DecodeFault.{DecodeFault};
 ghost use Rattle.tsp_codec.specs.Numbers.{octet_at};
 ghost use Rattle.tsp_codec.specs.Spelling.{HasHead, IsStamp, SpellsMessage, SpellsStamp, Spells};
-ghost use Rattle.tsp_codec.specs.Faults.{IsFault};
+ghost use Rattle.tsp_codec.specs.Faults.{IsFault, Reads};
+ghost use Rattle.tsp_codec.specs.Taken.{taken_of};
 
+use crate::encoding::encode;
 use crate::fields::{body_at, i64_at, name_at, u16_at, u64_at};
-use tsp_base::datagram::{Datagram, DecodeFault};
+use tsp_base::datagram::{Datagram, DecodeFault, Taken};
 use tsp_base::kind::Kind;
 use tsp_base::message::Message;
 use tsp_base::stamp::Stamp;
@@ -102,8 +104,8 @@ fn datagram_of(octets: &[u8]) -> Result<Datagram, DecodeFault>
     }
 }
 
-/// The datagram, or the first fault, with the clause on the answer alone.
-fn read(octets: &[u8]) -> Result<Datagram, DecodeFault>
+/// The datagram, or the first fault; the clauses of `decode` but for its being the only answer.
+fn first_reading(octets: &[u8]) -> Result<Datagram, DecodeFault>
     ensures { MatchResult result (λ datagram. Spells octets.now datagram) (λ fault. IsFault octets.now fault) }
 {
     check_head(octets)?;
@@ -113,14 +115,33 @@ fn read(octets: &[u8]) -> Result<Datagram, DecodeFault>
     }
 }
 
-/// The datagram that the octets spell; where they spell none, the first fault of theirs.
+/// The datagram that the octets spell. Where they spell none, the first of their faults, in the order
+/// in which `DecodeFault` lists them.
 pub fn decode(octets: &[u8]) -> Result<Datagram, DecodeFault>
     ensures reads { MatchResult result (λ datagram. Spells octets.now datagram) (λ fault. IsFault octets.now fault) }
     ensures spelled { (datagram : Datagram) → Spells octets.now datagram → result ≡ Ok datagram }
     ensures faulty { (fault : DecodeFault) → IsFault octets.now fault → result ≡ Err fault }
 {
-    match read(octets) {
+    match first_reading(octets) {
         Ok(datagram) => Ok(datagram),
         Err(fault) => Err(fault),
     }
+}
+
+/// The same as `decode`, as what a node takes.
+pub fn read(octets: &[u8]) -> Taken
+    ensures reads { Reads octets.now result }
+    ensures value { result ≡ taken_of octets.now }
+{
+    match decode(octets) {
+        Ok(datagram) => Taken::Good(datagram),
+        Err(fault) => Taken::Bad(fault),
+    }
+}
+
+/// What is read back of the datagram's written octets: the same datagram.
+pub fn read_back(datagram: &Datagram) -> Result<Datagram, DecodeFault>
+    ensures { result ≡ Ok datagram.now }
+{
+    decode(encode(datagram).as_slice())
 }

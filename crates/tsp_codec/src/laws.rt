@@ -1,5 +1,6 @@
 //! Laws of the spelling.
-ghost use Rattle.std.specs.Prelude.{◌≡◌, ℕ, List};
+ghost use Rattle.std.specs.Prelude.{◌≡◌, ◌↔◌, ℕ, List};
+ghost use Rattle.tsp_codec.specs.Taken.{taken_of};
 ghost use Rattle.tsp_codec.specs.Spelling.{Spells};
 ghost use Rattle.tsp_codec.specs.Faults.{IsFault, Reads};
 ghost use Rattle.tsp_codec.specs.Canon.{canon, IsWritable};
@@ -30,4 +31,14 @@ pub fn one_reading()
 /// The written spelling spells its datagram.
 pub fn written_spells()
     ensures { (d : Datagram) → IsWritable d → Spells (canon d) d }
+{}
+
+/// What a reader takes from octets is computed: each list of octets is spelled or has a fault.
+pub fn reading_is_computed()
+    ensures { (octets : List ℕ) (t : Taken) → (taken_of octets ≡ t) ↔ Reads octets t }
+{}
+
+/// What was written is taken as it was.
+pub fn written_is_taken()
+    ensures { (d : Datagram) → IsWritable d → taken_of (canon d) ≡ Taken.Good d }
 {}

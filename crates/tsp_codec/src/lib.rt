@@ -8,5 +8,5 @@ mod encoding;
 mod fields;
 pub mod laws;
 
-pub use decoding::decode;
+pub use decoding::{decode, read, read_back};
 pub use encoding::encode;
