@@ -1,0 +1,30 @@
+-- Laws of a buffer that is read into.
+use Rattle.std.proofs.Common.{◌≡◌, ℕ, ◌<◌, ◌≤◌, ◌+◌, ◌-◌, List, [], ◌∷◌, ◌++◌, refl, sym, ap, ◌∙◌, take, drop, length, take-append-drop, arith, length-take-le, length-drop}
+use Rattle.std.specs.Prelude.{slice_range}
+use Rattle.std.specs.declared.option.Option.{Option}
+use Rattle.std.proofs.lemmas.List.{take_at}
+use Rattle.std.proofs.Math.Seq.{take-add}
+use Rattle.std.proofs.lemmas.Grind.{common_steps}
+use Rattle.tsp_io.specs.Streams.{Gives}
+
+-- octets behind those that are held
+pub take-held : (buf : List ℕ) (held n : ℕ) → take (held + n) buf ≡ take held buf ++ slice_range buf held (held + n)
+take-held buf held n = let e : held + n - held ≡ n = omega arith in take-add held n buf ∙ ap (λ k. take held buf ++ take k (drop held buf)) (sym e)
+
+pub length-slice : (buf : List ℕ) (held n : ℕ) → held + n ≤ length buf → length (slice_range buf held (held + n)) ≡ n
+length-slice buf held n h = grind (arith, common_steps)
+
+-- what was read stands behind what is held
+pub read_behind_held : (left rest : Option (List ℕ)) (new old front : List ℕ) (held count : ℕ)
+    → Gives left rest (slice_range new held (held + count)) → held + count ≤ length new → take held new ≡ take held old → take held old ≡ front
+    → (octets : List ℕ) × Gives left rest octets × (length octets ≡ count) × (take (held + count) new ≡ front ++ octets)
+read_behind_held left rest new old front held count g h e f = (
+  slice_range new held (held + count),
+  g,
+  length-slice new held count h,
+  take-held new held count ∙ ap (λ l. l ++ slice_range new held (held + count)) (e ∙ f),
+)
+
+-- a buffer that was written back whole
+pub written_back : (len n : ℕ) (new old : List ℕ) → length new ≡ len → slice_range (take len (new ++ drop (length new) old)) 0 n ≡ take n new
+written_back len n new old h = let e : n - 0 ≡ n = omega arith in rw (take_at new (drop (length new) old) len h, e) refl

@@ -1,0 +1,66 @@
+-- Laws of the first line feed.
+use Rattle.std.proofs.Common.{◌≡◌, ℕ, ◌<◌, ◌≤◌, ◌+◌, ◌-◌, List, [], ◌∷◌, ◌++◌, None, Some, refl, sym, ap, ◌∙◌, take, drop, length, get_or, append_assoc, take-append-drop, arith, eq-eqb, eqb-true, length-take-le, add_assoc}
+use Rattle.std.specs.Prelude.{MatchOption, Contains, slice_range}
+use Rattle.std.specs.declared.option.Option.{Option}
+use Rattle.std.proofs.lemmas.List.{drop_more, drop-take, drop-drop}
+use Rattle.std.proofs.Math.Seq.{take-length}
+use Rattle.std.proofs.lemmas.List.Elements.{Contains-append_left}
+use Rattle.std.proofs.lemmas.Grind.{common_steps, get_or_default_zero}
+use Rattle.memchr.specs.Find.{IsFirstByte, is_byte, Nowhere, Passes}
+use Rattle.tsp_lines.specs.Lines.{NoFeed, close}
+
+NoFeed-take : (hay : List ℕ) (n : ℕ) → n ≤ length hay → Nowhere (Passes (is_byte 10) hay) 0 n → NoFeed (take n hay)
+NoFeed-take hay n h p = λ c.
+    let l : length (take n hay) ≡ n = length-take-le n hay h in
+    let lt : c.0 < n = omega (arith, l, c.1) in
+    let e : get_or hay c.0 0 ≡ 10 = grind (arith, common_steps, c.2, get_or_default_zero (take n hay) c.0 10 c.1, lt) in
+    p c.0 (omega arith) lt (eq-eqb _ 10 e)
+
+split_feed : (hay : List ℕ) (k : ℕ) → k < length hay → get_or hay k 0 ≡ 10 → hay ≡ close (take k hay) ++ drop (k + 1) hay
+split_feed hay k h e =
+    sym (take-append-drop k hay)
+    ∙ ap (λ l. take k hay ++ l) (drop_more hay k 0 h ∙ ap (λ x. x ∷ drop (k + 1) hay) e)
+    ∙ sym (append_assoc (take k hay) (10 ∷ []) (drop (k + 1) hay))
+
+-- the first line feed ends a line
+pub first_feed : (hay : List ℕ) (r : Option ℕ) → IsFirstByte (is_byte 10) hay r → MatchOption r (NoFeed hay) (λ k. NoFeed (take k hay) × (hay ≡ close (take k hay) ++ drop (k + 1) hay))
+first_feed hay None p = rw (take-length hay) at (NoFeed-take hay (length hay) (omega arith) p)
+first_feed hay (Some k) p = (NoFeed-take hay k (omega (arith, p.0.high)) p.0.before, split_feed hay k p.0.high (eqb-true _ _ p.1))
+
+-- the part of a buffer up to a place of what is held, and the part behind that place
+pub held_line : (buf : List ℕ) (at end place : ℕ) → place < length (slice_range buf at end) → slice_range buf at (at + place) ≡ take place (slice_range buf at end)
+held_line buf at end place h = grind (arith, common_steps)
+
+pub held_rest : (buf : List ℕ) (at end place : ℕ) → place < length (slice_range buf at end) → slice_range buf (at + place + 1) end ≡ drop (place + 1) (slice_range buf at end)
+held_rest buf at end place h =
+    let m = end - at - (place + 1) in
+    let below : place < end - at = grind (arith, common_steps, h) in
+    let e : place + 1 + m ≡ end - at = omega (arith, below) in
+    let f : end - (at + place + 1) ≡ m = omega (arith, below) in
+    let g : drop (at + place + 1) buf ≡ drop (place + 1) (drop at buf) = ap (λ n. drop n buf) (add_assoc at place 1) ∙ sym (drop-drop (place + 1) at buf) in
+    rw (f, g) (sym (drop-take (place + 1) m (drop at buf)) ∙ ap (λ n. drop (place + 1) (take n (drop at buf))) e)
+
+-- a line that is given, and one that is too long
+pub given_line : (buf held : List ℕ) (at end place : ℕ) → slice_range buf at end ≡ held → place < length held → NoFeed (take place held) → held ≡ close (take place held) ++ drop (place + 1) held → place ≤ 1024
+    → NoFeed (slice_range buf at (at + place)) × (length (slice_range buf at (at + place)) ≤ 1024) × (held ≡ close (slice_range buf at (at + place)) ++ slice_range buf (at + place + 1) end)
+given_line buf held at end place e h n s short =
+    let within : place < length (slice_range buf at end) = rw e h in
+    rw (held_line buf at end place within, held_rest buf at end place within, e) (n, omega (arith, length-take-le place held (omega (arith, h)), short), s)
+
+pub given_long : (buf held : List ℕ) (at end place : ℕ) → slice_range buf at end ≡ held → place < length held → NoFeed (take place held) → held ≡ close (take place held) ++ drop (place + 1) held → 1024 < place
+    → (line : List ℕ) × NoFeed line × (1024 < length line) × (held ≡ close line ++ slice_range buf (at + place + 1) end)
+given_long buf held at end place e h n s long =
+    let within : place < length (slice_range buf at end) = rw e h in
+    rw (held_rest buf at end place within, e) (take place held, n, omega (arith, length-take-le place held (omega (arith, h)), long), s)
+
+split_end : (xs : List ℕ) → 0 < length xs → (part : List ℕ) × (x : ℕ) × (xs ≡ part ++ x ∷ [])
+split_end [] h = absurd (omega arith)
+split_end (x ∷ []) h = ([], x, refl)
+split_end (x ∷ y ∷ ys) h = let r = split_end (y ∷ ys) (omega arith) in (x ∷ r.0, r.1, ap (λ l. x ∷ l) r.2)
+
+-- octets without a line feed, but for the last
+pub NoFeed-end : (xs : List ℕ) → 0 < length xs → NoFeed xs → (part : List ℕ) × (x : ℕ) × NoFeed part × (xs ≡ part ++ x ∷ [])
+NoFeed-end xs h n = let r = split_end xs h in (r.0, r.1, λ c. n (rw r.2 (Contains-append_left r.0 (r.1 ∷ []) 10 c)), r.2)
+
+pub some_held : (buf : List ℕ) (at end : ℕ) → at < end → end ≤ length buf → 0 < length (slice_range buf at end)
+some_held buf at end h k = grind (arith, common_steps)

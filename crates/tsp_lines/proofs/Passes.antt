@@ -1,0 +1,69 @@
+-- Laws of a long line that is passed over.
+use Rattle.std.proofs.Common.{◌≡◌, ◌≢◌, ℕ, ◌<◌, ◌≤◌, ◌+◌, List, [], ◌∷◌, ◌++◌, Bool, true, false, refl, sym, ap, ◌∙◌, append_assoc, append-nil, length, arith, length-append, inl, inr, ◌⊎◌, subst}
+use Rattle.std.proofs.lemmas.List.Elements.{Contains-append_cases}
+use Rattle.std.specs.declared.option.Option.{Option}
+use Rattle.tsp_io.specs.Streams.{Gives}
+use Rattle.tsp_lines.specs.Lines.{NoFeed, close}
+use Rattle.tsp_lines.specs.Readings.{ReaderValue, IsNext, IsPassed, is_over, long_of}
+use Rattle.tsp_lines.specs.declared.reader.Next.{Next}
+use Rattle.tsp_lines.specs.declared.reader.Next.TheVariants.{Line, Last, Long, LongLast, End, Limit, Failed}
+use Rattle.tsp_lines.proofs.Streams.{Gives-trans}
+
+-- no line feed in two lists, none in both
+pub NoFeed-append : (xs ys : List ℕ) → NoFeed xs → NoFeed ys → NoFeed (xs ++ ys)
+NoFeed-append xs ys p q = λ c. elim (Contains-append_cases xs ys 10 c) [ inl a ↦ p a | inr b ↦ q b ]
+
+-- the next line's end ends the long line
+pub IsPassed-long_of : (r : ReaderValue) (octets : List ℕ) (n : Next) → IsNext r octets n → is_over n ≡ false → n ≢ Failed → IsPassed r octets (long_of n)
+IsPassed-long_of r octets Line p o f = (r.line, p.0, p.2)
+IsPassed-long_of r octets Last p o f = cc
+IsPassed-long_of r octets Long p o f = (p.0, p.1, p.3)
+IsPassed-long_of r octets LongLast p o f = cc
+IsPassed-long_of r octets End p o f = cc
+IsPassed-long_of r octets Limit p o f = p
+IsPassed-long_of r octets Failed p o f = absurd (f refl)
+
+-- what is given behind a part of a long line is given of the whole
+pub IsNext-passed : (r : ReaderValue) (front octets : List ℕ) (n : Next) → NoFeed front → 1024 < length front → IsPassed r octets n → IsNext r (front ++ octets) n
+IsNext-passed r front octets Line f l p = absurd p
+IsNext-passed r front octets Last f l p = absurd p
+IsNext-passed r front octets Long f l p = (front ++ p.0, NoFeed-append front p.0 f p.1, omega (arith, length-append front p.0, l), ap (λ o. front ++ o) p.2 ∙ rw (append_assoc front p.0 (10 ∷ [])) (sym (append_assoc front (close p.0) r.held)))
+IsNext-passed r front octets LongLast f l p = rw (p.0, append-nil front) (f, l, p.1)
+IsNext-passed r front octets End f l p = absurd p
+IsNext-passed r front octets Limit f l p = (p.0, (front ++ p.1.0, p.1.1, NoFeed-append front p.1.0 f p.1.2, ap (λ o. front ++ o) p.1.3 ∙ sym (append_assoc front p.1.0 (p.1.1 ∷ []))))
+IsNext-passed r front octets Failed f l p = rw (p, append-nil front) f
+
+-- more of a long line was read
+pub passed : (a b c : Option (List ℕ)) (r : ReaderValue) (held octets more : List ℕ) (got : ℕ) (n : Next) → 1024 < length held
+    → Gives a b octets → NoFeed (held ++ octets) → Gives b c more → r.got ≡ got + length octets + length more → IsPassed r more n
+    → (all : List ℕ) × Gives a c all × (r.got ≡ got + length all) × IsNext r (held ++ all) n
+passed a b c r held octets more got n l g f h e p = (
+  octets ++ more,
+  Gives-trans a b c octets more g h,
+  omega (arith, e, length-append octets more),
+  subst (λ o. IsNext r o n) (append_assoc held octets more) (IsNext-passed r (held ++ octets) more n f (omega (arith, l, length-append held octets)) p),
+)
+
+pub passed_more : (a b c : Option (List ℕ)) (held octets more : List ℕ) (got now : ℕ)
+    → Gives a b octets → NoFeed (held ++ octets) → Gives b c more → now ≡ got + length octets + length more → NoFeed more
+    → (all : List ℕ) × Gives a c all × (now ≡ got + length all) × NoFeed (held ++ all)
+passed_more a b c held octets more got now g f h e p = (
+  octets ++ more,
+  Gives-trans a b c octets more g h,
+  omega (arith, e, length-append octets more),
+  subst NoFeed (append_assoc held octets more) (NoFeed-append (held ++ octets) more f p),
+)
+
+-- more was read behind what is held
+pub next_more : (a b c : Option (List ℕ)) (r : ReaderValue) (held octets now more : List ℕ) (got : ℕ) (n : Next)
+    → Gives a b octets → now ≡ held ++ octets → Gives b c more → r.got ≡ got + length octets + length more → IsNext r (now ++ more) n
+    → (all : List ℕ) × Gives a c all × (r.got ≡ got + length all) × IsNext r (held ++ all) n
+next_more a b c r held octets now more got n g f h e p = (
+  octets ++ more,
+  Gives-trans a b c octets more g h,
+  omega (arith, e, length-append octets more),
+  subst (λ o. IsNext r o n) (ap (λ l. l ++ more) f ∙ append_assoc held octets more) p,
+)
+
+pub Limit-Failed : Limit ≢ Failed
+Limit-Failed = λ e. cc

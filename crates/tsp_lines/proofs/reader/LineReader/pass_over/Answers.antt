@@ -1,0 +1,21 @@
+use Rattle.std.proofs.Common.{arith}
+use Rattle.tsp_lines.proofs.Passes.{passed, passed_more}
+use Rattle.tsp_lines.proofs.reader.LineReader.pass_over.Goals as goal
+
+pub returns-in-Some-clause-next : goal.returns-in-Some-clause-next
+returns-in-Some-clause-next g c =
+    let i = c.loop-next.invariant in
+    let p = c.in-Some.ensures.passes in
+    passed _ _ _ _ _ _ _ _ _ c.requires.long i.0.1 i.0.3 p.1 (omega (arith, i.0.2, p.2)) p.3
+
+pub loop-next-preserved : goal.loop-next-preserved
+loop-next-preserved g c =
+    let i = c.loop-next.invariant in
+    let e = c.in_default.ensures in
+    let p = e.passes in (
+      passed_more _ _ _ _ _ _ _ _ i.0.1 i.0.3 p.1 (omega (arith, i.0.2, p.2)) p.3.0,
+      omega (arith, i.1, e.limit.0),
+      p.3.2,
+      e.ended,
+      omega (arith, i.4, e.later),
+    )

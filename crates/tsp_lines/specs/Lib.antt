@@ -1,0 +1,5 @@
+pub mod Lines
+pub mod Outputs
+pub mod Meanings
+pub mod Readings
+pub mod Outcomes

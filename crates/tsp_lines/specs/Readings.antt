@@ -1,0 +1,78 @@
+-- What a reader of lines holds and gives.
+use Rattle.std.specs.Prelude.{◌≡◌, ℕ, ◌<◌, ◌≤◌, ◌+◌, List, [], ◌∷◌, ◌++◌, length, Bool, true, false, ◌==◌}
+use Rattle.tsp_io.specs.declared.source.Got.{Got}
+use Rattle.tsp_io.specs.declared.source.Got.TheVariants.{Got as Gave, Failed as NotGot}
+use Rattle.tsp_lines.specs.Lines.{NoFeed, close}
+use Rattle.tsp_lines.specs.declared.reader.Next.{Next}
+use Rattle.tsp_lines.specs.declared.reader.Next.TheVariants.{Line, Last, Long, LongLast, End, Limit, Failed}
+use Rattle.tsp_lines.specs.declared.reader.Fill.{Fill}
+use Rattle.tsp_lines.specs.declared.reader.Fill.TheVariants.{More, Over, NotRead}
+
+-- a reader: the line last given, the octets read and not used yet, how many were got in all, and how many may be
+pub record ReaderValue : Type 0 where
+  pub line : List ℕ
+  pub held : List ℕ
+  pub got : ℕ
+  pub limit : ℕ
+
+-- what a reader gives of the octets ahead, which it held or read
+abbrev pub IsNext : ReaderValue → List ℕ → Next → Type 0
+IsNext r ahead Line = NoFeed r.line × (length r.line ≤ 1024) × (ahead ≡ close r.line ++ r.held)
+IsNext r ahead Last = NoFeed r.line × (0 < length r.line) × (length r.line ≤ 1024) × (ahead ≡ r.line) × (r.held ≡ [])
+IsNext r ahead Long = (line : List ℕ) × NoFeed line × (1024 < length line) × (ahead ≡ close line ++ r.held)
+IsNext r ahead LongLast = NoFeed ahead × (1024 < length ahead) × (r.held ≡ [])
+IsNext r ahead End = (ahead ≡ []) × (r.held ≡ [])
+IsNext r ahead Limit = (r.got ≡ r.limit + 1) × ((part : List ℕ) × (x : ℕ) × NoFeed part × (ahead ≡ part ++ x ∷ []))
+IsNext r ahead Failed = NoFeed ahead
+
+-- what is given where these octets were read behind a part of a long line
+abbrev pub IsPassed : ReaderValue → List ℕ → Next → Type 0
+IsPassed r octets Line = ⊥
+IsPassed r octets Last = ⊥
+IsPassed r octets Long = (line : List ℕ) × NoFeed line × (octets ≡ close line ++ r.held)
+IsPassed r octets LongLast = (octets ≡ []) × (r.held ≡ [])
+IsPassed r octets End = ⊥
+IsPassed r octets Limit = (r.got ≡ r.limit + 1) × ((part : List ℕ) × (x : ℕ) × NoFeed part × (octets ≡ part ++ x ∷ []))
+IsPassed r octets Failed = octets ≡ []
+
+-- what is given where a long line goes on to this
+abbrev pub long_of : Next → Next
+long_of Limit = Limit
+long_of Line = Long
+long_of Last = Long
+long_of Long = Long
+long_of LongLast = Long
+long_of End = Long
+long_of Failed = Long
+
+-- the input's end was read
+abbrev pub is_over : Next → Bool
+is_over Last = true
+is_over LongLast = true
+is_over End = true
+is_over Line = false
+is_over Long = false
+is_over Limit = false
+is_over Failed = false
+
+-- a read gave octets, or none
+abbrev pub IsFill : Fill → List ℕ → Type 0
+IsFill More octets = 0 < length octets
+IsFill Over octets = octets ≡ []
+IsFill NotRead octets = octets ≡ []
+
+-- the input's end was met
+abbrev pub meets_end : Fill → Bool
+meets_end More = false
+meets_end Over = true
+meets_end NotRead = false
+
+-- how many octets a read gave
+abbrev pub count_of : Got → ℕ
+count_of (Gave count) = count
+count_of NotGot = 0
+
+-- the read gave the input's end
+abbrev pub is_end : Got → Bool
+is_end (Gave count) = count == 0
+is_end NotGot = false

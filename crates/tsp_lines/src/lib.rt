@@ -1,0 +1,8 @@
+//! Lines as a stream: each line is treated as soon as its line feed was got, and its output is written
+//! before more of the input is read.
+#![tactic(auto)]
+
+pub mod cause;
+pub mod output;
+pub mod reader;
+pub mod treatment;

@@ -1,0 +1,127 @@
+//! Output that is gathered before it is written.
+ghost use Rattle.std.specs.Prelude.{◌≡◌, ℕ, ◌≤◌, ◌<◌, [], length, take, drop, vec_len, IfOk, IfErr, OnOk, OnErr};
+ghost use Rattle.tsp_io.specs.Counts.{Rose};
+ghost use Rattle.tsp_io.specs.Streams.{Grows};
+ghost use Rattle.tsp_lines.specs.Outputs.{handed};
+
+use std::alloc::{AllocError, Global};
+use std::marker::Model;
+use tsp_io::sink::{Sink, Wrote};
+
+/// The room of the buffer, in octets.
+const ROOM: usize = 65536;
+
+/// Why octets weren't written.
+#[derive(Clone, Copy, PartialEq, Eq, Debug)]
+pub enum Unwritten {
+    /// A write failed.
+    WriteFault,
+    /// There was no memory.
+    OutOfMemory,
+}
+
+/// Where a write was cut off, and why.
+#[derive(Clone, Copy)]
+struct Cut {
+    at: usize,
+    fault: Unwritten,
+}
+
+/// Writes the octets whole, or up to the place of a fault.
+fn write_all<K: Sink>(sink: &mut K, octets: &[u8]) -> Result<(), Cut>
+    ensures ok { OnOk result (Grows (K.written sink.old) (K.written sink.new) octets.now) }
+    ensures cut { IfErr result (λ cut. (cut.at < length octets.now) × Grows (K.written sink.old) (K.written sink.new) (take cut.at octets.now)) }
+    ensures later { K.faults sink.old ≤ K.faults sink.new }
+    ensures cause { IfErr result (λ cut. cut.fault ≡ Unwritten.WriteFault → Rose (K.faults sink.old) (K.faults sink.new)) }
+{
+    let mut at = 0;
+    while at < octets.len() {
+        let fault = match sink.write(&octets[at..]) {
+            Wrote::Took(count) => {
+                at += count;
+                continue;
+            }
+            Wrote::Failed => Unwritten::WriteFault,
+            Wrote::OutOfMemory => Unwritten::OutOfMemory,
+        };
+        return Err(Cut { at, fault });
+    }
+    Ok(())
+}
+
+/// Drops so many octets at the front.
+fn drop_front(octets: &mut Vec<u8>, count: usize)
+    requires { count ≤ vec_len octets.old }
+    ensures { octets.new.items ≡ drop count octets.old.items }
+{
+    let left = octets.len() - count;
+    octets.copy_within(count.., 0);
+    octets.truncate(left);
+}
+
+/// Octets on their way to a sink. They are held until the buffer of 64 KiB is full or is flushed.
+#[derive(Drop)]
+pub struct Output {
+    octets: Vec<u8>,
+}
+
+impl Model for Output {
+    ghost use Rattle.std.specs.Prelude.{List, ℕ, ◌≤◌, vec_len};
+
+    ghost Value = { List ℕ };
+
+    ghost view = { λ o. o.octets.items };
+
+    ghost invariant = { λ o. vec_len o.octets ≤ 65536 };
+}
+
+impl Output {
+    /// An output that holds nothing.
+    pub fn new(alloc: Global) -> Result<Output, AllocError>
+        ensures { IfOk result (λ o. o ≡ []) }
+    {
+        Ok(Output {
+            octets: Vec::with_capacity(alloc, ROOM)?,
+        })
+    }
+
+    /// Hands a piece over, and writes what was held before where the buffer has no room for the piece.
+    ///
+    /// Where it fails nothing of the piece is handed over.
+    pub fn put<K: Sink>(&mut self, sink: &mut K, piece: &[u8]) -> Result<(), Unwritten>
+        requires { length piece.now ≤ 65536 }
+        ensures ok { OnOk result (Grows (handed (K.written sink.old) self.old) (handed (K.written sink.new) self.new) piece.now) }
+        ensures err { OnErr result (handed (K.written sink.new) self.new ≡ handed (K.written sink.old) self.old) }
+        ensures later { K.faults sink.old ≤ K.faults sink.new }
+        ensures cause { result ≡ Err Unwritten.WriteFault → Rose (K.faults sink.old) (K.faults sink.new) × (0 < length self.new) }
+    {
+        if self.octets.len() + piece.len() > ROOM {
+            self.flush(sink)?;
+        }
+        match self.octets.extend_from_slice(piece) {
+            Ok(()) => Ok(()),
+            Err(_) => Err(Unwritten::OutOfMemory),
+        }
+    }
+
+    /// Writes all that is held.
+    ///
+    /// Where it fails, what wasn't written is still held.
+    pub fn flush<K: Sink>(&mut self, sink: &mut K) -> Result<(), Unwritten>
+        ensures ok { OnOk result (self.new ≡ []) }
+        ensures same { handed (K.written sink.new) self.new ≡ handed (K.written sink.old) self.old }
+        ensures later { K.faults sink.old ≤ K.faults sink.new }
+        ensures cause { result ≡ Err Unwritten.WriteFault → Rose (K.faults sink.old) (K.faults sink.new) × (0 < length self.new) }
+    {
+        match write_all(sink, &self.octets) {
+            Ok(()) => {
+                self.octets.clear();
+                Ok(())
+            }
+            Err(cut) => {
+                drop_front(&mut self.octets, cut.at);
+                Err(cut.fault)
+            }
+        }
+    }
+}

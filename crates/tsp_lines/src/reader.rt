@@ -1,0 +1,318 @@
+//! A reader of lines.
+ghost use Rattle.std.specs.Prelude.{◌≡◌, ◌≢◌, ℕ, List, ◌≤◌, ◌<◌, ◌+◌, ◌-◌, ◌^◌, [], ◌++◌, length, take, drop, slice_range, true, false, if◌then◌else◌, IfOk, IfSome, MatchOption};
+ghost use Rattle.tsp_io.specs.Counts.{Rose};
+ghost use Rattle.tsp_io.specs.Streams.{Gives};
+ghost use Rattle.tsp_lines.specs.Lines.{NoFeed, close, IsOver};
+ghost use Rattle.tsp_lines.specs.Readings.{IsNext, IsPassed, long_of, is_over, IsFill, meets_end, count_of, is_end};
+
+use memchr::memchr;
+use std::alloc::{AllocError, Global};
+use std::marker::Model;
+use tsp_io::source::{Got, Source};
+
+/// The room of the buffer, in octets.
+const ROOM: usize = 65536;
+
+/// The most octets of a line, without its line feed.
+const LONGEST: usize = 1024;
+
+/// What a reader of lines gives.
+#[derive(Clone, Copy, PartialEq, Eq, Debug)]
+pub enum Next {
+    /// A line that a line feed ended.
+    Line,
+    /// A line that the end of the input ended.
+    Last,
+    /// A line of more than 1,024 octets, which was passed over to its line feed.
+    Long,
+    /// A line of more than 1,024 octets, which was passed over to the end of the input.
+    LongLast,
+    /// The end of the input.
+    End,
+    /// The line in which the first octet past the limit stands.
+    Limit,
+    /// A read failed.
+    Failed,
+}
+
+/// What one read gave.
+#[derive(Clone, Copy, PartialEq, Eq, Debug)]
+enum Fill {
+    More,
+    Over,
+    NotRead,
+}
+
+/// Moves the octets from one place up to another to the front.
+fn move_front(buf: &mut [u8], from: usize, to: usize)
+    requires ordered { from ≤ to }
+    requires within { to ≤ length buf.old }
+    ensures { take (to - from) buf.new ≡ slice_range buf.old from to }
+{
+    buf.copy_within(from..to, 0);
+}
+
+/// Reads octets, at most so many, behind those that are held at the front.
+fn read_behind<S: Source>(source: &mut S, buf: &mut [u8], held: usize, most: usize) -> Got
+    requires some { 0 < most }
+    requires room { held + most ≤ length buf.old }
+    ensures read { Gives (S.left source.old) (S.left source.new) (slice_range buf.new held (held + count_of result)) }
+    ensures held { take held buf.new ≡ take held buf.old }
+    ensures most { count_of result ≤ most }
+    ensures later { S.faults source.old ≤ S.faults source.new }
+    ensures cause { result ≡ Got.Failed → Rose (S.faults source.old) (S.faults source.new) }
+    ensures over { result ≡ Got.Got 0 → IsOver (S.left source.new) }
+    ensures ended { S.ended source.new ≡ (if is_end result then true else S.ended source.old) }
+{
+    source.read(&mut buf[held..held + most])
+}
+
+/// Moves the octets from one place up to another to the front, and reads more behind them, at most so many.
+fn refill<S: Source>(source: &mut S, buf: &mut [u8], from: usize, to: usize, most: usize) -> Got
+    requires ordered { from ≤ to }
+    requires within { to ≤ length buf.old }
+    requires some { 0 < most }
+    requires room { to - from + most ≤ length buf.old }
+    ensures read { (octets : List ℕ) × Gives (S.left source.old) (S.left source.new) octets × (length octets ≡ count_of result) × (take (to - from + count_of result) buf.new ≡ slice_range buf.old from to ++ octets) }
+    ensures most { count_of result ≤ most }
+    ensures later { S.faults source.old ≤ S.faults source.new }
+    ensures cause { result ≡ Got.Failed → Rose (S.faults source.old) (S.faults source.new) }
+    ensures over { result ≡ Got.Got 0 → IsOver (S.left source.new) }
+    ensures ended { S.ended source.new ≡ (if is_end result then true else S.ended source.old) }
+{
+    move_front(buf, from, to);
+    read_behind(source, buf, to - from, most)
+}
+
+/// What is given where a long line goes on to this.
+fn long_of(next: Next) -> Next
+    ensures { result ≡ long_of next }
+{
+    match next {
+        Next::Limit => Next::Limit,
+        _ => Next::Long,
+    }
+}
+
+/// Octets that were read from a source and not used yet, and the line last given.
+#[derive(Drop)]
+pub struct LineReader {
+    buf: Vec<u8>,
+    from: usize,
+    to: usize,
+    at: usize,
+    end: usize,
+    got: u64,
+    limit: u64,
+}
+
+impl Model for LineReader {
+    ghost use Rattle.std.specs.Prelude.{◌≡◌, ◌≤◌, ◌<◌, ◌+◌, ◌^◌, slice_range, vec_len};
+    ghost use Rattle.tsp_lines.specs.Readings.{ReaderValue};
+
+    ghost Value = { ReaderValue };
+
+    ghost view = { λ r. record { line = slice_range r.buf.items r.from r.to; held = slice_range r.buf.items r.at r.end; got = r.got; limit = r.limit } };
+
+    ghost invariant = { λ r. (vec_len r.buf ≡ 65536) × (r.from ≤ r.to) × (r.to ≤ 65536) × (r.at ≤ r.end) × (r.end ≤ 65536) × (r.got ≤ r.limit + 1) × (r.limit < r.got → r.at < r.end) × (r.limit < 2 ^ 63) };
+}
+
+impl LineReader {
+    /// A reader that has read nothing, and reads no octet behind the first one past the limit.
+    pub fn new(alloc: Global, limit: u64) -> Result<LineReader, AllocError>
+        requires { limit < 2 ^ 63 }
+        ensures { IfOk result (λ r. r ≡ record { line = []; held = []; got = 0; limit = limit }) }
+    {
+        Ok(LineReader {
+            buf: vec![in alloc; 0; ROOM]?,
+            from: 0,
+            to: 0,
+            at: 0,
+            end: 0,
+            got: 0,
+            limit,
+        })
+    }
+
+    /// The line last given, without its line feed.
+    pub fn line(&self) -> &[u8]
+        ensures { result.now ≡ self.now.line }
+    {
+        &self.buf[self.from..self.to]
+    }
+
+    /// The place of the first line feed that is held.
+    fn feed(&self) -> Option<usize>
+        ensures first { MatchOption result (NoFeed self.now.held) (λ place. NoFeed (take place self.now.held) × (self.now.held ≡ close (take place self.now.held) ++ drop (place + 1) self.now.held)) }
+        ensures within { IfSome result (λ place. place < length self.now.held) }
+    {
+        memchr(b'\n', &self.buf[self.at..self.end])
+    }
+
+    /// Gives the line that ends at this place of what is held.
+    fn give(&mut self, place: usize) -> Next
+        requires within { place < length self.old.held }
+        requires line { NoFeed (take place self.old.held) }
+        requires feed { self.old.held ≡ close (take place self.old.held) ++ drop (place + 1) self.old.held }
+        requires before { self.old.limit < self.old.got → place + 1 < length self.old.held }
+        ensures next { IsNext self.new self.old.held result }
+        ensures same { (self.new.got ≡ self.old.got) × (self.new.limit ≡ self.old.limit) × (is_over result ≡ false) × (result ≢ Next.Failed) }
+    {
+        self.from = self.at;
+        self.to = self.at + place;
+        self.at = self.to + 1;
+        if place > LONGEST {
+            Next::Long
+        } else {
+            Next::Line
+        }
+    }
+
+    /// The next line, or the limit's, where its end is held; none where more has to be read first.
+    pub fn next_held(&mut self) -> Option<Next>
+        ensures next { MatchOption result (NoFeed self.old.held × (self.new.held ≡ self.old.held) × (self.new.got ≤ self.new.limit)) (λ next. IsNext self.new self.old.held next × (is_over next ≡ false) × (next ≢ Next.Failed)) }
+        ensures same { (self.new.got ≡ self.old.got) × (self.new.limit ≡ self.old.limit) × (self.new.got ≤ self.new.limit + 1) }
+    {
+        let Some(place) = self.feed() else {
+            return if self.got > self.limit {
+                Some(Next::Limit)
+            } else {
+                None
+            };
+        };
+        if self.got > self.limit && self.at + place + 1 == self.end {
+            return Some(Next::Limit);
+        }
+        Some(self.give(place))
+    }
+
+    /// Reads more behind what is held.
+    fn fill<S: Source>(&mut self, source: &mut S) -> Fill
+        requires room { length self.old.held ≤ 1024 }
+        requires within { self.old.got ≤ self.old.limit }
+        ensures fills { (octets : List ℕ) × Gives (S.left source.old) (S.left source.new) octets × (self.new.held ≡ self.old.held ++ octets) × (self.new.got ≡ self.old.got + length octets) × IsFill result octets }
+        ensures limit { (self.new.limit ≡ self.old.limit) × (self.new.got ≤ self.new.limit + 1) }
+        ensures later { S.faults source.old ≤ S.faults source.new }
+        ensures cause { result ≡ Fill.NotRead → Rose (S.faults source.old) (S.faults source.new) }
+        ensures over { result ≡ Fill.Over → IsOver (S.left source.new) }
+        ensures ended { S.ended source.new ≡ (if meets_end result then true else S.ended source.old) }
+    {
+        let (from, to) = (self.at, self.end);
+        let room = (ROOM - (to - from)) as u64;
+        let most = (self.limit + 1 - self.got).min(room) as usize;
+        self.from = 0;
+        self.to = 0;
+        self.at = 0;
+        self.end = to - from;
+        match refill(source, &mut self.buf, from, to, most) {
+            Got::Got(0) => Fill::Over,
+            Got::Got(count) => {
+                self.end += count;
+                self.got += count as u64;
+                Fill::More
+            }
+            Got::Failed => Fill::NotRead,
+        }
+    }
+
+    /// The last line, where the input's end was read.
+    fn last(&mut self) -> Next
+        requires last { NoFeed self.old.held }
+        requires short { length self.old.held ≤ 1024 }
+        requires within { self.old.got ≤ self.old.limit }
+        ensures next { IsNext self.new self.old.held result }
+        ensures same { (self.new.got ≡ self.old.got) × (self.new.limit ≡ self.old.limit) × (is_over result ≡ true) }
+    {
+        self.from = self.at;
+        self.to = self.end;
+        self.at = self.end;
+        if self.from == self.to {
+            Next::End
+        } else {
+            Next::Last
+        }
+    }
+
+    /// Drops what is held.
+    fn forget(&mut self)
+        requires within { self.old.got ≤ self.old.limit }
+        ensures { self.new ≡ record self.old { held = [] } }
+    {
+        self.at = self.end;
+    }
+
+    /// How many octets are held.
+    fn held(&self) -> usize
+        ensures { result ≡ length self.now.held }
+    {
+        self.end - self.at
+    }
+
+    /// Passes over what is held of a long line, and reads on; none where the line goes on still.
+    fn pass<S: Source>(&mut self, source: &mut S) -> Option<Next>
+        requires within { self.old.got ≤ self.old.limit }
+        requires open { S.ended source.old ≡ false }
+        ensures passes { (octets : List ℕ) × Gives (S.left source.old) (S.left source.new) octets × (self.new.got ≡ self.old.got + length octets) × MatchOption result (NoFeed octets × (0 < length octets) × (self.new.got ≤ self.new.limit)) (λ next. IsPassed self.new octets next) }
+        ensures limit { (self.new.limit ≡ self.old.limit) × (self.new.got ≤ self.new.limit + 1) }
+        ensures later { S.faults source.old ≤ S.faults source.new }
+        ensures cause { result ≡ Some Next.Failed → Rose (S.faults source.old) (S.faults source.new) }
+        ensures over { IfSome result (λ next. is_over next ≡ true → IsOver (S.left source.new)) }
+        ensures ended { MatchOption result (S.ended source.new ≡ false) (λ next. S.ended source.new ≡ is_over next) }
+    {
+        self.forget();
+        match self.fill(source) {
+            Fill::More => {}
+            Fill::Over => return Some(Next::LongLast),
+            Fill::NotRead => return Some(Next::Failed),
+        }
+        match self.next_held() {
+            Some(next) => Some(long_of(next)),
+            None => None,
+        }
+    }
+
+    /// Passes over a long line, of which what is held is the beginning.
+    fn pass_over<S: Source>(&mut self, source: &mut S) -> Next
+        requires line { NoFeed self.old.held }
+        requires long { 1024 < length self.old.held }
+        requires within { self.old.got ≤ self.old.limit }
+        requires open { S.ended source.old ≡ false }
+        ensures next { (octets : List ℕ) × Gives (S.left source.old) (S.left source.new) octets × (self.new.got ≡ self.old.got + length octets) × IsNext self.new (self.old.held ++ octets) result }
+        ensures limit { (self.new.limit ≡ self.old.limit) × (self.new.got ≤ self.new.limit + 1) }
+        ensures later { S.faults source.old ≤ S.faults source.new }
+        ensures cause { result ≡ Next.Failed → Rose (S.faults source.old) (S.faults source.new) }
+        ensures over { is_over result ≡ true → IsOver (S.left source.new) }
+        ensures ended { S.ended source.new ≡ is_over result }
+    {
+        loop {
+            if let Some(next) = self.pass(source) {
+                return next;
+            }
+        }
+    }
+
+    /// The next line, which may need reads.
+    pub fn next<S: Source>(&mut self, source: &mut S) -> Next
+        requires open { S.ended source.old ≡ false }
+        ensures next { (octets : List ℕ) × Gives (S.left source.old) (S.left source.new) octets × (self.new.got ≡ self.old.got + length octets) × IsNext self.new (self.old.held ++ octets) result }
+        ensures limit { (self.new.limit ≡ self.old.limit) × (self.new.got ≤ self.new.limit + 1) }
+        ensures later { S.faults source.old ≤ S.faults source.new }
+        ensures cause { result ≡ Next.Failed → Rose (S.faults source.old) (S.faults source.new) }
+        ensures over { is_over result ≡ true → IsOver (S.left source.new) }
+        ensures ended { S.ended source.new ≡ is_over result }
+    {
+        loop {
+            if let Some(next) = self.next_held() {
+                return next;
+            }
+            if self.held() > LONGEST {
+                return self.pass_over(source);
+            }
+            match self.fill(source) {
+                Fill::More => {}
+                Fill::Over => return self.last(),
+                Fill::NotRead => return Next::Failed,
+            }
+        }
+    }
+}

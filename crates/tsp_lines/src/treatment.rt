@@ -1,0 +1,68 @@
+//! What is done with lines.
+ghost use Rattle.std.specs.Prelude.{◌≡◌, ℕ, ◌≤◌, ◌<◌, length, List, MatchResult};
+ghost use Rattle.tsp_io.specs.Counts.{Rose};
+ghost use Rattle.tsp_lines.specs.Lines.{NoFeed};
+ghost use Rattle.tsp_lines.specs.Meanings.{Meaning, Goes, StopsAt, Closes, StopsAtEnd, stop_of};
+ghost use Rattle.tsp_lines.specs.Outputs.{handed};
+
+use crate::cause::Cause;
+use crate::output::{Output, Unwritten};
+use tsp_io::sink::Sink;
+
+/// Why no more lines are treated.
+#[derive(Drop)]
+pub enum Stop {
+    /// The line, or the end of the input, is refused.
+    Bad(Cause),
+    /// The line is past a limit of the treatment's own.
+    Limit,
+    /// A write failed.
+    WriteFault,
+    /// There was no memory.
+    OutOfMemory,
+}
+
+impl From<Unwritten> for Stop {
+    fn from(fault: Unwritten) -> Stop
+        ensures { result ≡ stop_of fault }
+    {
+        match fault {
+            Unwritten::WriteFault => Stop::WriteFault,
+            Unwritten::OutOfMemory => Stop::OutOfMemory,
+        }
+    }
+}
+
+/// Something that takes lines one after the other and hands over their output.
+pub trait Treatment {
+    /// Which lines are accepted after which, and their output.
+    ghost meaning: { Meaning };
+
+    /// The treatment is where these lines, all accepted, have brought it.
+    ghost stands: { Self → List (List ℕ) → Type 0 };
+
+    /// Treats a line, which is given without its line feed: hands its output over, or says why not.
+    ///
+    /// `Bad` and `Limit` come before anything is handed over, `WriteFault` and `OutOfMemory` at any
+    /// place of the output; after any of them no call is made.
+    fn treat<K: Sink>(&mut self, line: &[u8], output: &mut Output, sink: &mut K) -> Result<(), Stop>
+        requires short { length line.now ≤ 1024 }
+        requires feedless { NoFeed line.now }
+        ensures treats { (lines : List (List ℕ)) → (text : List ℕ) → stands self.old lines → meaning.accepts lines text → MatchResult result
+            (λ _. Goes meaning (stands self.new) lines text line.now (handed (K.written sink.old) output.old) (handed (K.written sink.new) output.new))
+            (λ stop. StopsAt meaning lines text line.now (handed (K.written sink.old) output.old) (handed (K.written sink.new) output.new) stop) }
+        ensures later { K.faults sink.old ≤ K.faults sink.new }
+        ensures cause { result ≡ Err Stop.WriteFault → Rose (K.faults sink.old) (K.faults sink.new) × (0 < length output.new) };
+
+    /// The cause for which a line of more than 1,024 octets is refused.
+    fn refuse_long(&mut self) -> Cause
+        ensures { (lines : List (List ℕ)) → (text : List ℕ) → (line : List ℕ) → stands self.old lines → meaning.accepts lines text → NoFeed line → 1024 < length line → meaning.refuses lines line result };
+
+    /// Says whether the input may end here, and hands over the output of its end.
+    fn end<K: Sink>(&mut self, output: &mut Output, sink: &mut K) -> Result<(), Stop>
+        ensures ends { (lines : List (List ℕ)) → (text : List ℕ) → stands self.old lines → meaning.accepts lines text → MatchResult result
+            (λ _. Closes meaning lines (handed (K.written sink.old) output.old) (handed (K.written sink.new) output.new))
+            (λ stop. StopsAtEnd meaning lines (handed (K.written sink.old) output.old) (handed (K.written sink.new) output.new) stop) }
+        ensures later { K.faults sink.old ≤ K.faults sink.new }
+        ensures cause { result ≡ Err Stop.WriteFault → Rose (K.faults sink.old) (K.faults sink.new) × (0 < length output.new) };
+}
