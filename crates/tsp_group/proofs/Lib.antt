@@ -1,0 +1,12 @@
+pub mod LargestGroup
+pub mod Majority
+pub mod Means
+pub mod Members
+pub mod Orders
+pub mod Permutations
+pub mod Precedence
+pub mod Repeats
+pub mod Stretches
+pub mod Sums
+pub mod Sweeps
+pub mod Trials

@@ -1,0 +1,10 @@
+//! The averaging: a largest set of clocks that agree, and its mean.
+#![tactic(auto)]
+
+mod group;
+mod sweep;
+mod values;
+
+pub use group::{Group, correction, mean};
+pub use sweep::largest;
+pub use values::{FAR, Values};
