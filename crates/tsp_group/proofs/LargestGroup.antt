@@ -1,5 +1,5 @@
 -- Lemmas on the largest group.
-use Rattle.std.proofs.Common.{◌≡◌, ◌∙◌, refl, ap, sym, subst, ℕ, ◌+◌, ◌-◌, ◌<◌, ◌≤◌, ◌==◌, nat_lt, Bool, true, false, cond, ℤ, pos, ◌+ℤ◌, ◌-ℤ◌, ◌≤ℤ◌, ◌<ℤ◌, List, length, take, get_or, arith, inl, inr, ◌⊎◌, length-take}
+use Rattle.std.proofs.Common.{◌≡◌, ◌∙◌, refl, ap, sym, subst, ℕ, ◌+◌, ◌-◌, ◌<◌, ◌==◌, nat_lt, Bool, true, false, cond, ℤ, pos, List, length, take, get_or, arith, inl, inr, ◌⊎◌, length-take}
 use Rattle.std.proofs.lemmas.Int.{ints}
 use Rattle.std.proofs.lemmas.Bool.Decides.{nat_tests}
 use Rattle.std.proofs.lemmas.List.{get_or-take}
@@ -8,11 +8,11 @@ use Rattle.std.proofs.lemmas.List.Sums.{fold_more}
 use Rattle.std.proofs.lemmas.List.Sorted.{IsPermutation-sym, Contains-permutation}
 use Rattle.std.specs.List.{All, Contains, fold, filter}
 use Rattle.std.specs.List.Sorted.{IsPermutation}
-use Rattle.tsp_group.specs.Groups.{is_member, members, group_from, goes_before, better, no_group, try_lo, group_of, IsLargest}
+use Rattle.tsp_group.specs.Groups.{is_member, group_from, goes_before, better, no_group, try_lo, group_of, IsLargest}
 use Rattle.tsp_group.specs.declared.group.Group.{Group}
 use Rattle.tsp_group.proofs.Members.{is_member-inside}
 use Rattle.tsp_group.proofs.Permutations.{Passing, passing_from_filter, group_from-permutation}
-use Rattle.tsp_group.proofs.Precedence.{goes_before-tie, better-stays, better-takes}
+use Rattle.tsp_group.proofs.Precedence.{goes_before-tie, better-stays}
 use Rattle.tsp_group.proofs.Trials.{best_of-first, best_of-cases}
 
 some_pass : (p : ℤ → Bool) (xs : List ℤ) (x : ℤ) → Contains xs x → p x ≡ true → 0 < length (filter p xs)

@@ -1,5 +1,5 @@
 -- Lemmas on the mean of the largest group, and on the values of a majority.
-use Rattle.std.proofs.Common.{◌≡◌, ◌∙◌, refl, ap, sym, subst, ℕ, ◌+◌, ◌-◌, ◌*◌, ◌<◌, ◌≤◌, ◌==◌, nat_lt, Bool, true, false, cond, ℤ, pos, negsuc, ◌+ℤ◌, ◌-ℤ◌, ◌*ℤ◌, ◌≤ℤ◌, ◌<ℤ◌, List, [], ◌∷◌, length, get_or, arith, inl, inr, ◌⊎◌}
+use Rattle.std.proofs.Common.{◌≡◌, ◌∙◌, refl, ap, sym, subst, ℕ, ◌+◌, ◌*◌, ◌<◌, ◌≤◌, ◌==◌, nat_lt, Bool, true, false, cond, ℤ, pos, negsuc, ◌+ℤ◌, ◌*ℤ◌, ◌≤ℤ◌, List, [], ◌∷◌, length, get_or, arith, inl, inr}
 use Rattle.std.proofs.lemmas.Int.{ints, fold-int_min_bounds, fold-int_min_reached}
 use Rattle.std.proofs.lemmas.Bool.Decides.{nat_tests}
 use Rattle.std.proofs.lemmas.List.Elements.{All-head, All-tail, All-contains, All-filter, All-weaker, All-contains_itself, filter_passes, Contains-get_or, Contains-append_right}
@@ -8,7 +8,7 @@ use Rattle.std.specs.Prelude.{unsigned_abs}
 use Rattle.std.specs.List.{All, Contains, fold, filter, count_by}
 use Rattle.std.specs.Int.{int_min}
 use Rattle.tsp_group.specs.Values.{IsNear}
-use Rattle.tsp_group.specs.Groups.{is_member, members, total, group_from, goes_before, IsLargest, HasMean, mean_of, floor_div, IsWithin, Agree, FollowsMajority}
+use Rattle.tsp_group.specs.Groups.{is_member, members, total, group_from, goes_before, IsLargest, HasMean, mean_of, IsWithin, Agree, FollowsMajority}
 use Rattle.tsp_group.specs.declared.group.Group.{Group}
 use Rattle.tsp_group.proofs.LargestGroup.{group_from-count}
 use Rattle.tsp_group.proofs.Means.{le-floor_div, floor_div-le}
@@ -42,12 +42,13 @@ near_group span xs lo near c =
     let all = All-filter (is_member span lo) IsNear xs near in
     let some : 0 < length (members span xs lo) = group_from-count span xs lo c in
     let low = near_total-low (members span xs lo) all in
-    let high = near_total-high (members span xs lo) all in
-    (record { some = some; near = near_sum (total (members span xs lo)) (length (members span xs lo)) some low high },
-        record {
-            low = le-floor_div (total (members span xs lo)) (negsuc 1073741823999998) (length (members span xs lo)) some low;
-            high = floor_div-le (total (members span xs lo)) (pos 1073741823999999) (length (members span xs lo)) some high;
-        })
+    let high = near_total-high (members span xs lo) all in (
+      record { some = some; near = near_sum (total (members span xs lo)) (length (members span xs lo)) some low high },
+      record {
+        low = le-floor_div (total (members span xs lo)) (negsuc 1073741823999998) (length (members span xs lo)) some low;
+        high = floor_div-le (total (members span xs lo)) (pos 1073741823999999) (length (members span xs lo)) some high;
+      },
+    )
 
 -- the largest group of near values has a mean, which is near
 pub IsLargest-near : (span : ℕ) (xs : List ℤ) (g : Group) → All IsNear xs → IsLargest span xs g → HasMean g × IsNear (mean_of g)
@@ -94,14 +95,15 @@ least p xs h =
     let lo : ℤ = fold int_min (get_or (filter p xs) 0 (pos 0)) (filter p xs) in
     let bounds = fold-int_min_bounds (get_or (filter p xs) 0 (pos 0)) (filter p xs) (fold int_min (get_or (filter p xs) 0 (pos 0)) (filter p xs)) refl in
     let here : Contains (filter p xs) (fold int_min (get_or (filter p xs) 0 (pos 0)) (filter p xs)) =
-        elim (fold-int_min_reached (get_or (filter p xs) 0 (pos 0)) (filter p xs) (fold int_min (get_or (filter p xs) 0 (pos 0)) (filter p xs)) refl) [
-            inl e ↦ rw e (Contains-get_or (filter p xs) 0 (pos 0) some)
-            | inr k ↦ k
-        ] in
-    (fold int_min (get_or (filter p xs) 0 (pos 0)) (filter p xs),
-        All-contains (Contains xs) (filter p xs) _ (All-filter p (Contains xs) xs (All-contains_itself xs)) here,
-        All-contains (λ x. p x ≡ true) (filter p xs) _ (filter_passes p xs) here,
-        passing_from_filter p (λ x. fold int_min (get_or (filter p xs) 0 (pos 0)) (filter p xs) ≤ℤ x) xs bounds.1)
+    elim (fold-int_min_reached (get_or (filter p xs) 0 (pos 0)) (filter p xs) (fold int_min (get_or (filter p xs) 0 (pos 0)) (filter p xs)) refl) [
+      | inl e ↦ rw e (Contains-get_or (filter p xs) 0 (pos 0) some)
+      | inr k ↦ k
+    ] in (
+      fold int_min (get_or (filter p xs) 0 (pos 0)) (filter p xs),
+      All-contains (Contains xs) (filter p xs) _ (All-filter p (Contains xs) xs (All-contains_itself xs)) here,
+      All-contains (λ x. p x ≡ true) (filter p xs) _ (filter_passes p xs) here,
+      passing_from_filter p (λ x. fold int_min (get_or (filter p xs) 0 (pos 0)) (filter p xs) ≤ℤ x) xs bounds.1,
+    )
 
 -- the values that agree are members of the group of the least of them
 agreeing_members : (span : ℕ) (xs : List ℤ) (test : ℤ → Bool) (lo : ℤ) → Agree span xs test → Contains xs lo → test lo ≡ true → All (Passing test (λ x. lo ≤ℤ x)) xs → All (Passing test (λ x. is_member span lo x ≡ true)) xs

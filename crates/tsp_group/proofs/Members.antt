@@ -1,5 +1,5 @@
 -- Lemmas on the members of a value's group.
-use Rattle.std.proofs.Common.{◌≡◌, ◌∙◌, refl, ap, sym, subst, ℕ, ◌+◌, ◌-◌, ◌<◌, ◌≤◌, Bool, true, false, ◌&&◌, cond, ℤ, pos, ◌+ℤ◌, ◌-ℤ◌, ◌≤ℤ◌, ◌<ℤ◌, List, [], ◌∷◌, ◌++◌, length, take, drop, get_or, arith, inl, inr, ◌⊎◌, min, length-take, length-drop, append-nil}
+use Rattle.std.proofs.Common.{◌≡◌, ◌∙◌, refl, ap, sym, subst, ℕ, ◌+◌, ◌-◌, ◌<◌, ◌≤◌, Bool, true, false, ℤ, pos, ◌+ℤ◌, ◌-ℤ◌, ◌≤ℤ◌, ◌<ℤ◌, List, [], ◌∷◌, ◌++◌, length, take, drop, get_or, arith, inl, inr, length-take, length-drop, append-nil}
 use Rattle.std.proofs.lemmas.Int.{ints, fold-int_max_bounds, fold-int_max_reached}
 use Rattle.std.proofs.lemmas.List.{take-append-drop, take-append-le, get_or-take, get_or-drop}
 use Rattle.std.proofs.lemmas.List.Elements.{All-head, All-tail, All-from_get_or, All-contains, filter-append, Contains-get_or}
@@ -7,7 +7,6 @@ use Rattle.std.specs.List.{All, Contains, fold, filter}
 use Rattle.std.specs.Int.{int_max}
 use Rattle.tsp_group.specs.Groups.{is_member, members, total, group_from}
 use Rattle.tsp_group.specs.Values.{IsAscending}
-use Rattle.tsp_group.specs.declared.group.Group.{Group}
 use Rattle.tsp_group.proofs.Sums.{total-append}
 
 pub is_member-below : (span : ℕ) (lo x : ℤ) → x <ℤ lo → is_member span lo x ≡ false
@@ -46,17 +45,17 @@ filter-stretch : (p : ℤ → Bool) (xs : List ℤ) (i j : ℕ) → i ≤ j → 
     → filter p xs ≡ drop i (take j xs)
 filter-stretch p xs i j o n before inside after =
     let a : All (λ x. p x ≡ false) (take i (take j xs)) = All-from_get_or (λ x. p x ≡ false) (take i (take j xs)) (pos 0) (λ k h.
-        let u : k < i = omega (arith, h, length-take i (take j xs)) in
-        let v : k < j = omega arith in
-        rw (get_or-take i (take j xs) k (pos 0) u, get_or-take j xs k (pos 0) v) (before k u)) in
+    let u : k < i = omega (arith, h, length-take i (take j xs)) in
+    let v : k < j = omega arith in
+    rw (get_or-take i (take j xs) k (pos 0) u, get_or-take j xs k (pos 0) v) (before k u)) in
     let b : All (λ x. p x ≡ true) (drop i (take j xs)) = All-from_get_or (λ x. p x ≡ true) (drop i (take j xs)) (pos 0) (λ k h.
-        let v : i + k < j = omega (arith, h, length-drop i (take j xs), length-take j xs) in
-        let u : i ≤ i + k = omega arith in
-        rw (get_or-drop i (take j xs) k (pos 0), get_or-take j xs (i + k) (pos 0) v) (inside (i + k) u v)) in
+    let v : i + k < j = omega (arith, h, length-drop i (take j xs), length-take j xs) in
+    let u : i ≤ i + k = omega arith in
+    rw (get_or-drop i (take j xs) k (pos 0), get_or-take j xs (i + k) (pos 0) v) (inside (i + k) u v)) in
     let c : All (λ x. p x ≡ false) (drop j xs) = All-from_get_or (λ x. p x ≡ false) (drop j xs) (pos 0) (λ k h.
-        let v : j + k < length xs = omega (arith, h, length-drop j xs) in
-        let u : j ≤ j + k = omega arith in
-        rw (get_or-drop j xs k (pos 0)) (after (j + k) u v)) in
+    let v : j + k < length xs = omega (arith, h, length-drop j xs) in
+    let u : j ≤ j + k = omega arith in
+    rw (get_or-drop j xs k (pos 0)) (after (j + k) u v)) in
     ap (filter p) (sym (take-append-drop j xs)) ∙ filter-append p (take j xs) (drop j xs)
     ∙ ap (λ ys. ys ++ filter p (drop j xs)) (ap (filter p) (sym (take-append-drop i (take j xs))) ∙ filter-append p (take i (take j xs)) (drop i (take j xs)) ∙ ap (λ ys. ys ++ filter p (drop i (take j xs))) (filter-none p (take i (take j xs)) a) ∙ filter-all p (drop i (take j xs)) b)
     ∙ ap (λ ys. drop i (take j xs) ++ ys) (filter-none p (drop j xs) c) ∙ append-nil (drop i (take j xs))
@@ -86,24 +85,24 @@ members_stretch span xs i j up o n high beyond first =
     let lo : ℤ = get_or xs i (pos 0) in
     filter-stretch (is_member span (get_or xs i (pos 0))) xs i j (omega arith) n
     (λ k h.
-        let a : get_or xs k (pos 0) ≤ℤ get_or xs (i - 1) (pos 0) = up k (i - 1) (omega arith) (omega arith) in
-        let b = first (omega arith) in
-        is_member-below span (get_or xs i (pos 0)) (get_or xs k (pos 0)) (omega (arith, ints, a, b)))
+    let a : get_or xs k (pos 0) ≤ℤ get_or xs (i - 1) (pos 0) = up k (i - 1) (omega arith) (omega arith) in
+    let b = first (omega arith) in
+    is_member-below span (get_or xs i (pos 0)) (get_or xs k (pos 0)) (omega (arith, ints, a, b)))
     (λ k u v.
-        let a : get_or xs k (pos 0) ≤ℤ get_or xs (j - 1) (pos 0) = up k (j - 1) (omega arith) (omega arith) in
-        is_member-inside span (get_or xs i (pos 0)) (get_or xs k (pos 0)) (up i k u (omega arith)) (omega (arith, ints, a, high)))
+    let a : get_or xs k (pos 0) ≤ℤ get_or xs (j - 1) (pos 0) = up k (j - 1) (omega arith) (omega arith) in
+    is_member-inside span (get_or xs i (pos 0)) (get_or xs k (pos 0)) (up i k u (omega arith)) (omega (arith, ints, a, high)))
     (λ k u v.
-        let a : get_or xs j (pos 0) ≤ℤ get_or xs k (pos 0) = up j k u v in
-        let b = beyond (omega arith) in
-        is_member-above span (get_or xs i (pos 0)) (get_or xs k (pos 0)) (omega (arith, ints, a, b)))
+    let a : get_or xs j (pos 0) ≤ℤ get_or xs k (pos 0) = up j k u v in
+    let b = beyond (omega arith) in
+    is_member-above span (get_or xs i (pos 0)) (get_or xs k (pos 0)) (omega (arith, ints, a, b)))
 
 greatest_stretch : (xs : List ℤ) (i j : ℕ) → IsAscending xs → i < j → j ≤ length xs
     → fold int_max (get_or xs i (pos 0)) (drop i (take j xs)) ≡ get_or xs (j - 1) (pos 0)
 greatest_stretch xs i j up o n =
     let m : ℤ = get_or xs (j - 1) (pos 0) in
     let all : All (λ x. x ≤ℤ get_or xs (j - 1) (pos 0)) (drop i (take j xs)) = All-from_get_or (λ x. x ≤ℤ get_or xs (j - 1) (pos 0)) (drop i (take j xs)) (pos 0) (λ k h.
-        let v : i + k < j = omega (arith, h, length-drop i (take j xs), length-take j xs) in
-        rw (get_or-drop i (take j xs) k (pos 0), get_or-take j xs (i + k) (pos 0) v) (up (i + k) (j - 1) (omega arith) (omega arith))) in
+    let v : i + k < j = omega (arith, h, length-drop i (take j xs), length-take j xs) in
+    rw (get_or-drop i (take j xs) k (pos 0), get_or-take j xs (i + k) (pos 0) v) (up (i + k) (j - 1) (omega arith) (omega arith))) in
     let at : i + (j - 1 - i) ≡ j - 1 = omega arith in
     let w : j - 1 < j = omega arith in
     let last : get_or (drop i (take j xs)) (j - 1 - i) (pos 0) ≡ get_or xs (j - 1) (pos 0) = get_or-drop i (take j xs) (j - 1 - i) (pos 0) ∙ ap (λ k. get_or (take j xs) k (pos 0)) at ∙ get_or-take j xs (j - 1) (pos 0) w in

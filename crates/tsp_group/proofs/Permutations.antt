@@ -1,15 +1,14 @@
 -- Lemmas on lists that hold the same values, each as often.
-use Rattle.std.proofs.Common.{◌≡◌, ◌∙◌, refl, ap, sym, subst, ℕ, ◌+◌, ◌-◌, ◌<◌, ◌≤◌, Bool, true, false, cond, ℤ, pos, negsuc, ◌+ℤ◌, ◌-ℤ◌, ◌≤ℤ◌, ◌<ℤ◌, List, [], ◌∷◌, ◌++◌, length, arith, inl, inr, ◌⊎◌}
+use Rattle.std.proofs.Common.{◌≡◌, ◌∙◌, refl, ap, sym, ℕ, ◌+◌, Bool, true, false, cond, ℤ, pos, negsuc, ◌-ℤ◌, ◌≤ℤ◌, List, [], ◌∷◌, length, arith, inl, inr}
 use Rattle.std.proofs.lemmas.Int.{ints, fold-int_max_bounds, fold-int_max_reached}
 use Rattle.std.proofs.lemmas.List.Elements.{All-nil, All-cons, All-head, All-tail, All-contains}
 use Rattle.std.proofs.lemmas.List.Sums.{sum_by-cons, length-filter}
-use Rattle.std.proofs.lemmas.List.Sorted.{IsPermutation-sym, sum_by-IsPermutation, All-permutation, Contains-permutation}
-use Rattle.std.specs.List.{All, Contains, fold, filter, sum_by, count_by}
+use Rattle.std.proofs.lemmas.List.Sorted.{IsPermutation-sym, sum_by-IsPermutation, All-permutation}
+use Rattle.std.specs.List.{All, fold, filter, sum_by, count_by}
 use Rattle.std.specs.List.Sorted.{IsPermutation}
 use Rattle.std.specs.Int.{int_max}
 use Rattle.tsp_group.specs.Groups.{is_member, members, total, group_from}
 use Rattle.tsp_group.proofs.Sums.{total-cons}
-use Rattle.tsp_group.specs.declared.group.Group.{Group}
 
 -- how far a value is above 0, and how far below
 abbrev above : ℤ → ℕ
@@ -77,8 +76,8 @@ greatest_le p a xs ys h =
     let bounds = fold-int_max_bounds a (filter p xs) (fold int_max a (filter p xs)) refl in
     let all = all_filter-permutation p (λ x. x ≤ℤ fold int_max a (filter p xs)) xs ys h bounds.1 in
     elim (fold-int_max_reached a (filter p ys) (fold int_max a (filter p ys)) refl) [
-        inl e ↦ rw e bounds.0
-        | inr k ↦ All-contains (λ x. x ≤ℤ fold int_max a (filter p xs)) (filter p ys) (fold int_max a (filter p ys)) all k
+      | inl e ↦ rw e bounds.0
+      | inr k ↦ All-contains (λ x. x ≤ℤ fold int_max a (filter p xs)) (filter p ys) (fold int_max a (filter p ys)) all k
     ]
 
 same_from_le : (x y : ℤ) → x ≤ℤ y → y ≤ℤ x → x ≡ y

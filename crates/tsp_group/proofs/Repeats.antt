@@ -1,5 +1,5 @@
 -- Lemmas on a value that equals the one before it.
-use Rattle.std.proofs.Common.{◌≡◌, ◌∙◌, refl, sym, ℕ, ◌<◌, ℤ, ◌≤ℤ◌, ◌<ℤ◌, Bool, true, false, not, Option, None, Some, arith}
+use Rattle.std.proofs.Common.{◌≡◌, refl, ℤ, ◌≤ℤ◌, ◌<ℤ◌, true, false, not, Option, None, Some, arith}
 use Rattle.std.proofs.lemmas.Int.{ints}
 use Rattle.std.specs.Option.{option_eq}
 use Rattle.std.specs.Ordering.{int_eq}

@@ -1,9 +1,9 @@
 -- Lemmas on the stretches of an ascending list.
-use Rattle.std.proofs.Common.{◌≡◌, ◌∙◌, refl, ap, sym, subst, ℕ, ◌+◌, ◌-◌, ◌<◌, ◌≤◌, ◌^◌, ℤ, pos, ◌+ℤ◌, ◌-ℤ◌, ◌≤ℤ◌, List, length, take, get_or, arith, ◌⊎◌, inl, inr, ◌<ℤ◌}
+use Rattle.std.proofs.Common.{◌≡◌, ap, ℕ, ◌+◌, ◌-◌, ◌<◌, ◌≤◌, ◌^◌, ℤ, pos, ◌+ℤ◌, ◌-ℤ◌, ◌≤ℤ◌, List, length, get_or, arith, ◌⊎◌, inl, inr, ◌<ℤ◌}
 use Rattle.std.proofs.lemmas.Int.{ints}
 use Rattle.std.proofs.lemmas.Bool.{cases_lt}
 use Rattle.std.specs.List.{All}
-use Rattle.tsp_group.specs.Groups.{total, group_from}
+use Rattle.tsp_group.specs.Groups.{group_from}
 use Rattle.tsp_group.specs.Values.{IsNear, IsAscending}
 use Rattle.tsp_group.specs.Stretches.{IsStretch, IsSmallSum, IsWhole}
 use Rattle.tsp_group.specs.declared.sweep.Stretch.{Stretch}
@@ -43,10 +43,10 @@ pub whole_stretch : (span : ℕ) (xs : List ℤ) (s : Stretch) → IsStretch xs 
 whole_stretch span xs s h place below beyond =
     let some : s.first < s.end = ends_after span xs s h place beyond (cases_lt s.first s.end) in
     record {
-        stretch = h;
-        some = some;
-        high = let e = h.greatest (omega arith) in let k = below some in omega (arith, ints, e, k);
-        beyond = beyond;
+      stretch = h;
+      some = some;
+      high = let e = h.greatest (omega arith) in let k = below some in omega (arith, ints, e, k);
+      beyond = beyond;
     }
 
 pub whole_bounds : (span : ℕ) (xs : List ℤ) (s : Stretch) (lo : ℤ) → IsAscending xs → IsWhole span xs s → lo ≡ get_or xs s.first (pos 0) → span ≤ 2 ^ 31 → (lo ≤ℤ s.greatest) × (s.greatest ≤ℤ (lo +ℤ pos (2 ^ 31)))
@@ -75,11 +75,11 @@ stretch_less span xs s lo h e =
     let more = total_more xs s.first (omega arith) in
     let sum = h.stretch.sum in
     record {
-        order = omega arith;
-        inside = h.stretch.inside;
-        beyond = h.stretch.beyond;
-        greatest = h.stretch.greatest;
-        sum = omega (arith, ints, more, sum, e);
+      order = omega arith;
+      inside = h.stretch.inside;
+      beyond = h.stretch.beyond;
+      greatest = h.stretch.greatest;
+      sum = omega (arith, ints, more, sum, e);
     }
 
 pub below_next : (span : ℕ) (xs : List ℤ) (s : Stretch) → IsAscending xs → IsWhole span xs s → s.first + 1 < length xs → s.greatest ≤ℤ (get_or xs (s.first + 1) (pos 0) +ℤ pos span)

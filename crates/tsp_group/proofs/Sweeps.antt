@@ -1,5 +1,5 @@
 -- Lemmas on one turn of the sweep.
-use Rattle.std.proofs.Common.{◌≡◌, ◌∙◌, refl, sym, ap, subst, ℕ, ◌+◌, ◌-◌, ◌<◌, ◌≤◌, ℤ, pos, ◌-ℤ◌, ◌≤ℤ◌, ◌<ℤ◌, Bool, true, false, not, Option, None, Some, List, length, take, get_or, arith, ◌⊎◌, inl, inr}
+use Rattle.std.proofs.Common.{◌≡◌, ◌∙◌, sym, ap, ℕ, ◌+◌, ◌-◌, ◌<◌, ◌≤◌, ℤ, pos, ◌-ℤ◌, ◌<ℤ◌, true, false, not, Option, None, Some, List, length, take, get_or, arith, ◌⊎◌, inl, inr}
 use Rattle.std.proofs.lemmas.Bool.{cases_lt}
 use Rattle.std.specs.List.{fold}
 use Rattle.std.specs.Option.{option_eq}
@@ -25,7 +25,7 @@ pub try_fresh : (span : ℕ) (xs : List ℤ) (s : Stretch) (lo : ℤ) (best : Gr
 try_fresh span xs s lo best last up h e b before fresh =
     let n = inside span xs s h in
     let first : 0 < s.first → get_or xs (s.first - 1) (pos 0) <ℤ get_or xs s.first (pos 0) = λ k.
-        rw e at (fresh_above last (get_or xs (s.first - 1) (pos 0)) lo (before k) fresh (rw e (up (s.first - 1) s.first (omega arith) n))) in
+    rw e at (fresh_above last (get_or xs (s.first - 1) (pos 0)) lo (before k) fresh (rw e (up (s.first - 1) s.first (omega arith) n))) in
     sym (tried_more span xs s.first best n b ∙ ap (better best) (ap (group_from span xs) (sym e) ∙ group_from-whole span xs s lo up h e first))
 
 repeated_by : (span : ℕ) (xs : List ℤ) (i : ℕ) (lo : ℤ) (best : Group) (last : Option ℤ) → i < length xs → lo ≡ get_or xs i (pos 0)

@@ -1,5 +1,5 @@
 -- Lemmas on the best of the groups that were tried.
-use Rattle.std.proofs.Common.{◌≡◌, ◌∙◌, refl, ap, sym, ℕ, ◌+◌, ◌<◌, ◌≤◌, Bool, true, false, cond, ℤ, pos, List, [], ◌∷◌, ◌++◌, length, arith, inl, inr, ◌⊎◌}
+use Rattle.std.proofs.Common.{◌≡◌, ◌∙◌, refl, Bool, true, false, ℤ, List, [], ◌∷◌, arith, inl, inr, ◌⊎◌}
 use Rattle.std.specs.List.{All, Contains, fold}
 use Rattle.std.proofs.lemmas.List.Elements.{All-nil, All-cons, Contains-append_right}
 use Rattle.tsp_group.specs.Groups.{goes_before, better}
@@ -31,6 +31,6 @@ pub best_of-cases : (f : ℤ → Group) (los : List ℤ) (start r : Group) → r
 best_of-cases f [] start r e = inl e
 best_of-cases f (x ∷ los) start r e =
     elim (best_of-cases f los (better start (f x)) r e) [
-        inl h ↦ elim (better_cases start (f x) (goes_before (f x) start) refl) [ inl k ↦ inl (h ∙ k) | inr k ↦ inr (x, (0, omega arith, refl), h ∙ k) ]
-        | inr w ↦ inr (w.0, Contains-append_right (x ∷ []) los w.0 w.1, w.2)
+      | inl h ↦ elim (better_cases start (f x) (goes_before (f x) start) refl) [ inl k ↦ inl (h ∙ k) | inr k ↦ inr (x, (0, omega arith, refl), h ∙ k) ]
+      | inr w ↦ inr (w.0, Contains-append_right (x ∷ []) los w.0 w.1, w.2)
     ]

@@ -1,5 +1,5 @@
 -- The largest group of values that lie within a span, and its mean (the averaging of the TEMPO method).
-use Rattle.std.specs.Prelude.{◌≡◌, ℕ, ◌+◌, ◌*◌, ◌/◌, ◌<◌, ◌≤◌, ◌==◌, nat_lt, Bool, true, false, ◌&&◌, if◌then◌else◌, IsTrue, ℤ, pos, negsuc, ◌+ℤ◌, ◌-ℤ◌, ◌*ℤ◌, ◌≤ℤ◌, ◌<ℤ◌, int_lt, int_le, unsigned_abs, List, [], ◌∷◌, length, map}
+use Rattle.std.specs.Prelude.{◌≡◌, ℕ, ◌*◌, ◌/◌, ◌<◌, ◌==◌, nat_lt, Bool, true, false, ◌&&◌, if◌then◌else◌, ℤ, pos, negsuc, ◌+ℤ◌, ◌-ℤ◌, ◌≤ℤ◌, int_lt, int_le, unsigned_abs, List, length}
 use Rattle.std.specs.List.{filter, fold, count_by, Contains}
 use Rattle.std.specs.Int.{int_max}
 use Rattle.tsp_group.specs.declared.group.Group.{Group}
@@ -25,8 +25,8 @@ unfoldable pub goes_before : Group → Group → Bool
 goes_before g h =
     if g.count == h.count
     then (if unsigned_abs g.width == unsigned_abs h.width
-        then (if unsigned_abs g.lo == unsigned_abs h.lo then int_lt g.lo h.lo else nat_lt (unsigned_abs g.lo) (unsigned_abs h.lo))
-        else nat_lt (unsigned_abs g.width) (unsigned_abs h.width))
+    then (if unsigned_abs g.lo == unsigned_abs h.lo then int_lt g.lo h.lo else nat_lt (unsigned_abs g.lo) (unsigned_abs h.lo))
+    else nat_lt (unsigned_abs g.width) (unsigned_abs h.width))
     else nat_lt h.count g.count
 
 -- the one of two groups that goes before the other

@@ -1,5 +1,5 @@
 -- The list of differences that a group is taken from.
-use Rattle.std.specs.Prelude.{◌≡◌, ℕ, ◌≤◌, ◌<◌, ◌^◌, ℤ, pos, negsuc, ◌≤ℤ◌, ◌<ℤ◌, List, length, slice_index_or}
+use Rattle.std.specs.Prelude.{ℕ, ◌≤◌, ◌<◌, ◌^◌, ℤ, pos, negsuc, ◌≤ℤ◌, List, length, slice_index_or}
 use Rattle.std.specs.List.{All}
 
 -- the list, how many values it may hold, and how often one was looked at

@@ -50,7 +50,11 @@ impl Group {
     pub(crate) fn better(self, other: Group) -> Group
         ensures { result ≡ better self other }
     {
-        if other.goes_before(&self) { other } else { self }
+        if other.goes_before(&self) {
+            other
+        } else {
+            self
+        }
     }
 }
 

@@ -132,7 +132,7 @@ fn largest_sorted(values: &mut Values, span: u64) -> Group
     let mut best = Group::NONE;
     let mut last = None;
     let mut stretch = Stretch::begin(values);
-    for _place in 0..values.len() {
+    while stretch.first < values.len() {
         let lo = stretch.reach(values, span);
         // The group of an equal value was tried at the first of them.
         if last != Some(lo) {

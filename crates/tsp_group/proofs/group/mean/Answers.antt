@@ -1,5 +1,4 @@
-use Rattle.std.proofs.Common.{◌≡◌, arith, rules, FitsSigned}
-use Rattle.std.specs.Int.{w128}
+use Rattle.std.proofs.Common.{◌≡◌, arith, rules}
 use Rattle.std.proofs.lemmas.Int.{ints}
 use Rattle.tsp_group.specs.Groups.{floor_div}
 use Rattle.tsp_group.proofs.Means.{floor_div_fits, div_euclid_is}
