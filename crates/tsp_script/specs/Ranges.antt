@@ -1,6 +1,6 @@
 -- The ranges of the parts of a datagram, which each datagram of the program keeps.
 use Rattle.std.specs.Prelude.{◌≡◌, ℕ, ◌^◌, ◌<◌, true}
-use Rattle.std.specs.List.{All}
+use Rattle.hex.specs.Hex.{IsBytes}
 use Rattle.tsp_base.specs.Messages.{MessageValue, body_fits}
 use Rattle.tsp_base.specs.Names.{IsName}
 use Rattle.tsp_base.specs.Stamps.{IsReply}
@@ -24,7 +24,7 @@ pub record IsMessage (m : MessageValue) : Type 0 where
   pub fits : body_fits m.kind m.body ≡ true
   pub body : IsBody m.body
   pub name : IsName m.name
-  pub octets : All (λ c. c < 2 ^ 8) m.name
+  pub octets : IsBytes m.name
 
 -- a stamp whose parts are in their ranges
 abbrev pub IsStamp : Stamp → Type 0

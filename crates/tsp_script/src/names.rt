@@ -1,9 +1,12 @@
 //! Name texts.
-ghost use Rattle.std.specs.Prelude.{◌≡◌, ℕ, ◌+◌, ◌*◌, ◌≤◌, ◌<◌, ◌++◌, [], ◌∷◌, length, flat_map};
+ghost use Rattle.std.specs.Prelude.{◌≡◌, ℕ, ◌+◌, ◌*◌, ◌^◌, ◌≤◌, ◌<◌, ◌++◌, [], ◌∷◌, List, length, flat_map, IfSome, IsSomeAnd};
 ghost use Rattle.arrayvec.specs.ArrayVec.{array_vec_len};
+ghost use Rattle.hex.specs.Hex.{encode_lower, IsBytes};
+ghost use Rattle.tsp_base.specs.Names.{IsName};
 ghost use Rattle.tsp_script.specs.Texts.{is_plain, escaped, name_text};
 
 use crate::numbers::{append, append_hex};
+use crate::words::is_same;
 use arrayvec::ArrayVec;
 use tsp_base::name::Name;
 
@@ -47,4 +50,54 @@ pub fn append_name(out: &mut ArrayVec<u8, 1024>, name: &Name)
         [] => append(out, b"%"),
         octets => append_octets(out, octets),
     }
+}
+
+/// The octet that two hexadecimal digits stand for.
+fn octet_of(pair: &[u8]) -> Option<u8>
+    ensures { (c : ℕ) → c < 2 ^ 8 → pair.now ≡ encode_lower (c ∷ []) → result ≡ Some c }
+{
+    let mut octet = [0u8; 1];
+    match hex::decode_to_slice(pair, &mut octet) {
+        Ok(()) => Some(octet[0]),
+        Err(_) => None,
+    }
+}
+
+/// The octet whose text stands first, and what follows that text.
+fn first_octet(text: &[u8]) -> Option<(u8, &[u8])>
+    ensures reads { (c : ℕ) (rest : List ℕ) → c < 2 ^ 8 → text.now ≡ escaped c ++ rest → IsSomeAnd result (λ r. (r.0 ≡ c) × (r.1.now ≡ rest)) }
+    ensures shorter { IfSome result (λ r. length r.1.now < length text.now) }
+{
+    let (first, rest) = text.split_first()?;
+    if *first != b'%' {
+        return Some((*first, rest));
+    }
+    if rest.len() < 2 {
+        return None;
+    }
+    let (pair, rest) = rest.split_at(2);
+    match octet_of(pair) {
+        Some(octet) => Some((octet, rest)),
+        None => None,
+    }
+}
+
+/// The name that has this text. A text of no name may be read too: whoever must know writes the name
+/// again and compares.
+pub fn name_of(text: &[u8]) -> Option<Name>
+    ensures { (name : List ℕ) → IsName name → IsBytes name → text.now ≡ name_text name → result ≡ Some name }
+{
+    if is_same(text, b"%") {
+        return Name::of(&[]).ok();
+    }
+    let mut octets = ArrayVec::<u8, 63>::new();
+    let mut rest = text;
+    while !rest.is_empty() {
+        let (octet, after) = first_octet(rest)?;
+        let Ok(()) = octets.try_push(octet) else {
+            return None;
+        };
+        rest = after;
+    }
+    Name::of(octets.as_slice()).ok()
 }

@@ -1,5 +1,5 @@
 //! Words of a line.
-ghost use Rattle.std.specs.Prelude.{◌≡◌, ℕ, ◌<◌, ◌++◌, ◌∷◌, length, take, Contains, MatchOption, slice_index_or};
+ghost use Rattle.std.specs.Prelude.{◌≡◌, ℕ, ◌<◌, ◌++◌, ◌∷◌, length, take, Contains, MatchBool, MatchOption, slice_index_or};
 ghost use Rattle.tsp_script.specs.Words.{first_word, after_word};
 
 /// The place of the first space.
@@ -19,4 +19,11 @@ pub fn cut(line: &[u8]) -> (&[u8], &[u8])
         Some(i) => (line.split_at(i).0, line.split_at(i + 1).1),
         None => (line, &[]),
     }
+}
+
+/// Whether two texts are the same.
+pub fn is_same(text: &[u8], other: &[u8]) -> bool
+    ensures { MatchBool result (text.now ≡ other.now) (text.now ≡ other.now → ⊥) }
+{
+    if text == other { true } else { false }
 }

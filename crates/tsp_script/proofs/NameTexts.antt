@@ -1,0 +1,111 @@
+-- Laws of name texts.
+use Rattle.std.proofs.Common.{◌≡◌, ◌≢◌, ℕ, ◌<◌, ◌≤◌, ◌+◌, ◌*◌, List, [], ◌∷◌, ◌++◌, zero, suc, length, take, drop, refl, ap, sym, ◌∙◌, subst, arith, true, false, Bool, Result, Ok, Err, Some, ◌^◌, append_assoc, length-append}
+use Rattle.std.specs.Result.{result_ok}
+use Rattle.std.specs.Prelude.{MatchResult, flat_map, if◌then◌else◌, slice_index}
+use Rattle.std.proofs.lemmas.Grind.{common_steps}
+use Rattle.hex.specs.Hex.{encode_lower, encode_with, decode_sized, IsBytes}
+use Rattle.hex.specs.declared.error.FromHexError.{FromHexError}
+use Rattle.hex.proofs.HexLemmas.{decode_sized-encode_lower, length-encode_with}
+use Rattle.tsp_base.specs.Names.{IsName, NameGives}
+use Rattle.tsp_base.specs.declared.name.NameFault.{NameFault}
+use Rattle.tsp_base.specs.declared.name.NameFault.TheVariants.{TooLong, HasNul}
+use Rattle.tsp_script.specs.Texts.{is_plain, escaped, name_text}
+
+-- one octet
+pub IsBytes-one : (c : ℕ) → c < 256 → IsBytes (c ∷ [])
+IsBytes-one c h zero = h
+IsBytes-one c h (suc i) = omega arith
+
+-- two digits decoded into room for one octet
+pub decoded_pair : (s out : List ℕ) (c : ℕ) (r : Result Unit FromHexError) → c < 256 → s ≡ encode_lower (c ∷ [])
+    → MatchResult (decode_sized s 1) (λ bytes. (r ≡ Ok tt) × (out ≡ bytes)) (λ e. r ≡ Err e) → (r ≡ Ok tt) × (out ≡ c ∷ [])
+decoded_pair s out c r h e m =
+    let d : decode_sized s 1 ≡ Ok (c ∷ []) = rw e (decode_sized-encode_lower (c ∷ []) 1 refl (IsBytes-one c h)) in
+    rw d at m
+
+true_false : (b : Bool) → b ≡ true → b ≡ false → ⊥
+true_false b p q = cc
+
+-- a text that begins with a per cent sign begins with an octet that is written by digits
+percent_case : (b : Bool) (c x : ℕ) (xs rest : List ℕ) → is_plain c ≡ b → x ≡ 37
+    → x ∷ xs ≡ (if b then c ∷ [] else 37 ∷ encode_lower (c ∷ [])) ++ rest → xs ≡ encode_lower (c ∷ []) ++ rest
+percent_case true c x xs rest p h e =
+    let q : c ≡ 37 = cc in
+    absurd (true_false (is_plain c) p (rw q refl))
+percent_case false c x xs rest p h e = cc
+
+pub percent_front : (c x : ℕ) (xs rest : List ℕ) → x ≡ 37 → x ∷ xs ≡ escaped c ++ rest → xs ≡ encode_lower (c ∷ []) ++ rest
+percent_front c x xs rest h e = percent_case (is_plain c) c x xs rest refl h e
+
+pub pair_front : (c : ℕ) (xs rest : List ℕ) → xs ≡ encode_lower (c ∷ []) ++ rest → (take 2 xs ≡ encode_lower (c ∷ [])) × (drop 2 xs ≡ rest) × (2 ≤ length xs)
+unfolding encode_with
+pair_front c xs rest e = rw e (refl, refl, omega arith)
+
+-- the text of an octet isn't empty
+escaped_case : (b : Bool) (c : ℕ) (rest : List ℕ) → [] ≡ (if b then c ∷ [] else 37 ∷ encode_lower (c ∷ [])) ++ rest → ⊥
+escaped_case true c rest e = cc
+escaped_case false c rest e = cc
+
+pub escaped_some : (c : ℕ) (rest : List ℕ) → [] ≡ escaped c ++ rest → ⊥
+escaped_some c rest e = escaped_case (is_plain c) c rest e
+
+-- a name whose text isn't a lone per cent sign is written octet by octet
+pub name_begins : (text name : List ℕ) → (text ≡ 37 ∷ [] → ⊥) → text ≡ name_text name → text ≡ flat_map escaped name
+name_begins text [] n e = absurd (n e)
+name_begins text (c ∷ cs) n e = e
+
+-- a lone per cent sign is the text of the empty name alone
+lone_case : (b : Bool) (c : ℕ) (rest : List ℕ) → is_plain c ≡ b → 37 ∷ [] ≡ (if b then c ∷ [] else 37 ∷ encode_lower (c ∷ [])) ++ rest → ⊥
+unfolding encode_with
+lone_case true c rest p e =
+    let q : c ≡ 37 = cc in
+    true_false (is_plain c) p (rw q refl)
+lone_case false c rest p e = cc
+
+pub name_empty : (name : List ℕ) → 37 ∷ [] ≡ name_text name → name ≡ []
+name_empty [] e = refl
+name_empty (c ∷ cs) e = absurd (lone_case (is_plain c) c (flat_map escaped cs) refl e)
+
+-- the octet behind those that were read
+pub IsBytes-next : (name items : List ℕ) (c : ℕ) (left : List ℕ) → IsBytes name → name ≡ items ++ c ∷ left → c < 256
+IsBytes-next name [] c left h e = let k = h 0 in rw e at k
+IsBytes-next name (x ∷ xs) c left h e = IsBytes-next (xs ++ c ∷ left) xs c left (λ i. let k = h (suc i) in rw e at k) refl
+
+-- what is left of a name when its text is read as far as rest
+abbrev pub Left : List ℕ → List ℕ → List ℕ → Type 0
+Left name items rest = (left : List ℕ) × (name ≡ items ++ left) × (rest ≡ flat_map escaped left)
+
+-- what reading one octet does
+abbrev pub Reads : List ℕ → ℕ → List ℕ → Type 0
+Reads rest octet after = (c : ℕ) (r : List ℕ) → c < 2 ^ 8 → rest ≡ escaped c ++ r → (octet ≡ c) × (after ≡ r)
+
+pub one_more : (name items more rest after : List ℕ) (octet : ℕ) → IsBytes name → 0 < length rest → Reads rest octet after → more ≡ items ++ octet ∷ [] → Left name items rest → Left name more after
+one_more name items more rest after octet b n reads m ([], p, q) = absurd (let z : length rest ≡ 0 = ap length q in omega arith)
+one_more name items more rest after octet b n reads m (c ∷ cs, p, q) =
+    let r = reads c (flat_map escaped cs) (IsBytes-next name items c cs b p) q in
+    (cs, p ∙ sym (rw (m, append_assoc) (ap (λ x. items ++ x ∷ cs) r.0)), r.1)
+
+-- something is left where text is left
+pub more_left : (name items rest : List ℕ) → 0 < length rest → Left name items rest → length items < length name
+more_left name items rest n ([], p, q) = absurd (let z : length rest ≡ 0 = ap length q in omega arith)
+more_left name items rest n (c ∷ cs, p, q) = omega (arith, ap length p, length-append items (c ∷ cs))
+
+-- an octet can be read where text is left
+pub can_read : (name items rest : List ℕ) → IsBytes name → 0 < length rest → Left name items rest → (c : ℕ) × (r : List ℕ) × (c < 256) × (rest ≡ escaped c ++ r)
+can_read name items rest b n ([], p, q) = absurd (let z : length rest ≡ 0 = ap length q in omega arith)
+can_read name items rest b n (c ∷ cs, p, q) = (c, flat_map escaped cs, IsBytes-next name items c cs b p, q)
+
+empty : (xs : List ℕ) → length xs ≡ 0 → [] ≡ xs
+empty [] h = refl
+empty (x ∷ xs) h = absurd (omega arith)
+
+-- nothing is left where no text is left
+pub all_read : (name items rest : List ℕ) → length rest ≡ 0 → Left name items rest → name ≡ items
+all_read name items rest n ([], p, q) = p ∙ grind (arith, common_steps)
+all_read name items rest n (c ∷ cs, p, q) = absurd (escaped_some c (flat_map escaped cs) (empty rest n ∙ q))
+
+-- what making a name gives where the octets are a name's
+pub name_made : (r : Result (List ℕ) NameFault) (octets name : List ℕ) → IsName name → name ≡ octets → NameGives r octets → result_ok r ≡ Some name
+name_made (Ok x) octets name n e g = ap Some (g.1 ∙ sym e)
+name_made (Err TooLong) octets name n e g = absurd (omega (arith, n.short, ap length e))
+name_made (Err HasNul) octets name n e g = absurd (n.no_nul (rw e g.1))
