@@ -1,6 +1,11 @@
 -- Laws of the words of a line.
 use Rattle.std.proofs.Common.{◌≡◌, ◌≢◌, ℕ, ◌<◌, ◌+◌, List, [], ◌∷◌, ◌++◌, zero, suc, length, take, drop, slice_index_or, refl, ap, sym, ◌∙◌, arith, true, false, Bool, ◌==◌, cond}
-use Rattle.std.specs.Prelude.{Contains}
+use Rattle.std.specs.Prelude.{Contains, decimal, ◌^◌, ℤ, pos, negsuc}
+use Rattle.std.specs.Fmt.{signed_decimal}
+use Rattle.std.specs.Str.Parse.{AllDigits}
+use Rattle.std.proofs.lemmas.Fmt.{decimal_is_IsNumeral}
+use Rattle.std.specs.Int.{w64}
+use Rattle.std.specs.Int.RustNames.{FitsSigned}
 use Rattle.std.proofs.lemmas.Grind.{common_steps}
 use Rattle.tsp_script.specs.Words.{first_word, after_word}
 
@@ -62,3 +67,24 @@ after_word-front [] rest n = after_word-space 32 rest refl
 after_word-front (c ∷ cs) rest n =
     let ne : c ≢ 32 = λ q. n (contains_first cs c q) in
     after_word-other c (cs ++ 32 ∷ rest) ne ∙ after_word-front cs rest (λ k. n (contains_later cs c k))
+
+-- a line of a word, a space and more
+pub cut_front : (line word rest : List ℕ) → ¬ Contains word 32 → line ≡ word ++ 32 ∷ rest → (first_word line ≡ word) × (after_word line ≡ rest)
+cut_front line word rest n e = rw e (first_word-front word rest n, after_word-front word rest n)
+
+-- digits have no space
+no_space-digits : (ds : List ℕ) → AllDigits 10 ds → ¬ Contains ds 32
+no_space-digits [] a (k, h, e) = omega arith
+no_space-digits (c ∷ cs) a (zero, h, e) = let q = a.0 in let z = rw e at q in omega arith
+no_space-digits (c ∷ cs) a (suc k, h, e) = no_space-digits cs a.1 (k, omega arith, e)
+
+pub no_space-decimal : (n : ℕ) → n < 2 ^ 64 → ¬ Contains (decimal n) 32
+no_space-decimal n h = no_space-digits (decimal n) (decimal_is_IsNumeral n h).0.1
+
+no_space-later : (c : ℕ) (cs : List ℕ) → c ≢ 32 → ¬ Contains cs 32 → ¬ Contains (c ∷ cs) 32
+no_space-later c cs n m (zero, h, e) = n e
+no_space-later c cs n m (suc k, h, e) = m (k, omega arith, e)
+
+pub no_space-signed : (z : ℤ) → FitsSigned w64 z → ¬ Contains (signed_decimal z) 32
+no_space-signed (pos n) h = no_space-decimal n (omega (arith, h.sfits))
+no_space-signed (negsuc n) h = no_space-later 45 (decimal (suc n)) (omega arith) (no_space-decimal (suc n) (omega (arith, h.sfits)))

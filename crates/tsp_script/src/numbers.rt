@@ -1,5 +1,5 @@
 //! Numbers and octets as text.
-ghost use Rattle.std.specs.Prelude.{◌≡◌, ℕ, ◌+◌, ◌*◌, ◌^◌, ◌≤◌, ◌<◌, ◌++◌, length, decimal, IfSome, IfNone, Ok, MatchBool, IsErr, ℤ};
+ghost use Rattle.std.specs.Prelude.{◌≡◌, ℕ, ◌+◌, ◌*◌, ◌^◌, ◌≤◌, ◌<◌, ◌++◌, length, decimal, IfSome, IfNone, Ok, MatchBool, IsErr, ℤ, List, IsSomeAnd, ◌∷◌};
 ghost use Rattle.std.specs.Int.{w64};
 ghost use Rattle.std.specs.Int.RustNames.{FitsSigned};
 ghost use Rattle.std.specs.Fmt.{signed_decimal};
@@ -7,6 +7,7 @@ ghost use Rattle.arrayvec.specs.ArrayVec.{array_vec_len};
 ghost use Rattle.tsp_script.specs.Texts.{space};
 ghost use Rattle.hex.specs.Hex.{decode_of, encode_lower};
 
+use crate::words::cut;
 use arrayvec::ArrayVec;
 use itoa::Buffer;
 use std::str;
@@ -75,6 +76,7 @@ pub fn append_hex(out: &mut ArrayVec<u8, 1024>, octets: &[u8])
 pub fn number_of(word: &[u8]) -> Option<u64>
     ensures found { IfSome result (λ n. word.now ≡ decimal n) }
     ensures none { IfNone result ((n : ℕ) → n < 2 ^ 64 → word.now ≡ decimal n → ⊥) }
+    ensures reads { (n : ℕ) → n < 2 ^ 64 → word.now ≡ decimal n → result ≡ Some n }
 {
     let Ok(text) = str::from_utf8(word) else {
         return None;
@@ -102,6 +104,7 @@ fn is_text_of(word: &[u8], number: u64) -> bool
 pub fn signed_of(word: &[u8]) -> Option<i64>
     ensures found { IfSome result (λ n. word.now ≡ signed_decimal n) }
     ensures none { IfNone result ((n : ℤ) → FitsSigned w64 n → word.now ≡ signed_decimal n → ⊥) }
+    ensures reads { (n : ℤ) → FitsSigned w64 n → word.now ≡ signed_decimal n → result ≡ Some n }
 {
     let Ok(text) = str::from_utf8(word) else {
         return None;
@@ -140,4 +143,28 @@ pub fn octets_of(line: &[u8]) -> Option<ArrayVec<u8, 512>>
     let mut octets = ArrayVec::new();
     let _ = octets.try_extend_from_slice(&buffer[..count]);
     Some(octets)
+}
+
+/// The number that stands before the first space, and what follows the space. A line without a space
+/// may be read too.
+pub fn next_number(line: &[u8]) -> Option<(u64, &[u8])>
+    ensures { (n : ℕ) (rest : List ℕ) → n < 2 ^ 64 → line.now ≡ decimal n ++ 32 ∷ rest → IsSomeAnd result (λ r. (r.0 ≡ n) × (r.1.now ≡ rest)) }
+{
+    let (word, rest) = cut(line);
+    match number_of(word) {
+        Some(number) => Some((number, rest)),
+        None => None,
+    }
+}
+
+/// The number with its sign that stands before the first space, and what follows the space. A line
+/// without a space may be read too.
+pub fn next_signed(line: &[u8]) -> Option<(i64, &[u8])>
+    ensures { (n : ℤ) (rest : List ℕ) → FitsSigned w64 n → line.now ≡ signed_decimal n ++ 32 ∷ rest → IsSomeAnd result (λ r. (r.0 ≡ n) × (r.1.now ≡ rest)) }
+{
+    let (word, rest) = cut(line);
+    match signed_of(word) {
+        Some(number) => Some((number, rest)),
+        None => None,
+    }
 }

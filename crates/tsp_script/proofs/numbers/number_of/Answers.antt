@@ -1,4 +1,4 @@
-use Rattle.std.proofs.Common.{◌≡◌, ℕ, ◌∙◌, ap, Result, Ok, Err}
+use Rattle.std.proofs.Common.{◌≡◌, ℕ, ◌∙◌, ap, Result, Ok, Err, Some, sym}
 use Rattle.std.specs.Fmt.{decimal}
 use Rattle.std.proofs.lemmas.Fmt.{parse-decimal, IsAscii-decimal}
 use Rattle.std.proofs.lemmas.Str.{IsUtf8-from_ascii}
@@ -20,3 +20,16 @@ pub returns-else-is_text_of-clause-none : goal.returns-else-is_text_of-clause-no
 returns-else-is_text_of-clause-none c = λ n h e.
     let m = same _ n c.parse.result c.in-Ok-parse.is (parse-decimal 64 n c.in-Ok.text.now c.parse.result h h (c.in-Ok.ensures.cases.0 ∙ e) c.parse.ensures.value.0) in
     c.if-is_text_of.ensures (e ∙ ap decimal m)
+
+pub returns-in_default-clause-reads : goal.returns-in_default-clause-reads
+returns-in_default-clause-reads c = λ n h e. absurd (returns-in_default-clause-none c n h e)
+
+pub returns-in_default-parse-clause-reads : goal.returns-in_default-parse-clause-reads
+returns-in_default-parse-clause-reads c = λ n h e. absurd (returns-in_default-parse-clause-none c n h e)
+
+pub returns-else-is_text_of-clause-reads : goal.returns-else-is_text_of-clause-reads
+returns-else-is_text_of-clause-reads c = λ n h e. absurd (returns-else-is_text_of-clause-none c n h e)
+
+pub returns-then-is_text_of-clause-reads : goal.returns-then-is_text_of-clause-reads
+returns-then-is_text_of-clause-reads c = λ n h e.
+    ap Some (sym (same _ n c.parse.result c.in-Ok-parse.is (parse-decimal 64 n c.in-Ok.text.now c.parse.result h h (c.in-Ok.ensures.cases.0 ∙ e) c.parse.ensures.value.0)))

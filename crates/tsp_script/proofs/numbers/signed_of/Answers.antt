@@ -1,4 +1,4 @@
-use Rattle.std.proofs.Common.{◌≡◌, sym, ◌∙◌, ap, Result, Ok, Err, ℤ}
+use Rattle.std.proofs.Common.{◌≡◌, sym, ◌∙◌, ap, Result, Ok, Err, ℤ, Some}
 use Rattle.std.specs.Fmt.{signed_decimal}
 use Rattle.std.specs.Int.{w64}
 use mir.Val.{to_z, of_z}
@@ -23,3 +23,17 @@ pub returns-else-is_signed_text_of-clause-none : goal.returns-else-is_signed_tex
 returns-else-is_signed_text_of-clause-none c = λ n h e.
     let m = same _ n c.parse.result c.in-Ok-parse.is (parse-signed_decimal w64 n c.in-Ok.text.now c.parse.result h h.sfits (c.in-Ok.ensures.cases.0 ∙ e) c.parse.ensures.value.0) in
     c.if-is_signed_text_of.ensures (e ∙ ap signed_decimal (sym (to_z-of_z w64 n h)) ∙ ap (λ (z : ℤ). signed_decimal (to_z w64 (of_z w64 z))) m)
+
+pub returns-in_default-clause-reads : goal.returns-in_default-clause-reads
+returns-in_default-clause-reads c = λ n h e. absurd (returns-in_default-clause-none c n h e)
+
+pub returns-in_default-parse-clause-reads : goal.returns-in_default-parse-clause-reads
+returns-in_default-parse-clause-reads c = λ n h e. absurd (returns-in_default-parse-clause-none c n h e)
+
+pub returns-else-is_signed_text_of-clause-reads : goal.returns-else-is_signed_text_of-clause-reads
+returns-else-is_signed_text_of-clause-reads c = λ n h e. absurd (returns-else-is_signed_text_of-clause-none c n h e)
+
+pub returns-then-is_signed_text_of-clause-reads : goal.returns-then-is_signed_text_of-clause-reads
+returns-then-is_signed_text_of-clause-reads c = λ n h e.
+    let m = same _ n c.parse.result c.in-Ok-parse.is (parse-signed_decimal w64 n c.in-Ok.text.now c.parse.result h h.sfits (c.in-Ok.ensures.cases.0 ∙ e) c.parse.ensures.value.0) in
+    ap (λ (z : ℤ). Some (to_z w64 (of_z w64 z))) (sym m) ∙ ap Some (to_z-of_z w64 n h)
