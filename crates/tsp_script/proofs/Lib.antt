@@ -1,2 +1,5 @@
+pub mod Bodies
 pub mod Cuts
+pub mod KindWords
+pub mod MessageLines
 pub mod NameTexts

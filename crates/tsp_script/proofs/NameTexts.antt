@@ -1,11 +1,11 @@
 -- Laws of name texts.
-use Rattle.std.proofs.Common.{◌≡◌, ◌≢◌, ℕ, ◌<◌, ◌≤◌, ◌+◌, ◌*◌, List, [], ◌∷◌, ◌++◌, zero, suc, length, take, drop, refl, ap, sym, ◌∙◌, subst, arith, true, false, Bool, Result, Ok, Err, Some, ◌^◌, append_assoc, length-append}
+use Rattle.std.proofs.Common.{◌≡◌, ℕ, ◌<◌, ◌≤◌, List, [], ◌∷◌, ◌++◌, zero, suc, length, take, drop, refl, ap, sym, ◌∙◌, arith, true, false, Bool, Result, Ok, Err, Some, ◌^◌, append_assoc, length-append}
 use Rattle.std.specs.Result.{result_ok}
-use Rattle.std.specs.Prelude.{MatchResult, flat_map, if◌then◌else◌, slice_index}
+use Rattle.std.specs.Prelude.{MatchResult, flat_map, if◌then◌else◌}
 use Rattle.std.proofs.lemmas.Grind.{common_steps}
 use Rattle.hex.specs.Hex.{encode_lower, encode_with, decode_sized, IsBytes}
 use Rattle.hex.specs.declared.error.FromHexError.{FromHexError}
-use Rattle.hex.proofs.HexLemmas.{decode_sized-encode_lower, length-encode_with}
+use Rattle.hex.proofs.HexLemmas.{decode_sized-encode_lower}
 use Rattle.tsp_base.specs.Names.{IsName, NameGives}
 use Rattle.tsp_base.specs.declared.name.NameFault.{NameFault}
 use Rattle.tsp_base.specs.declared.name.NameFault.TheVariants.{TooLong, HasNul}

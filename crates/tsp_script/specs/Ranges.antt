@@ -1,5 +1,5 @@
 -- The ranges of the parts of a datagram, which each datagram of the program keeps.
-use Rattle.std.specs.Prelude.{◌≡◌, ℕ, ◌^◌, ◌<◌, true}
+use Rattle.std.specs.Prelude.{◌≡◌, ◌^◌, ◌<◌, true}
 use Rattle.hex.specs.Hex.{IsBytes}
 use Rattle.tsp_base.specs.Messages.{MessageValue, body_fits}
 use Rattle.tsp_base.specs.Names.{IsName}

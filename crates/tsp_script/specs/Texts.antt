@@ -1,6 +1,8 @@
 -- The texts of values: names, messages and trace lines.
-use Rattle.std.specs.Prelude.{ℕ, ◌<◌, List, [], ◌∷◌, ◌++◌, Bool, true, false, not, ◌&&◌, ◌==◌, nat_lt, if◌then◌else◌, flat_map, decimal, codes}
+use Rattle.std.specs.Prelude.{◌≡◌, ℕ, List, [], ◌∷◌, ◌++◌, Bool, not, ◌&&◌, ◌==◌, nat_lt, if◌then◌else◌, flat_map, decimal, codes}
 use Rattle.std.specs.Fmt.{signed_decimal}
+use Rattle.std.specs.declared.result.Result.{Result}
+use Rattle.std.specs.declared.result.Result.TheVariants.{Ok, Err}
 use Rattle.hex.specs.Hex.{encode_lower}
 use Rattle.tsp_base.specs.Kinds.{kind_word}
 use Rattle.tsp_base.specs.Messages.{MessageValue}
@@ -11,6 +13,9 @@ use Rattle.tsp_base.specs.declared.stamp.Stamp.{Stamp}
 use Rattle.tsp_base.specs.declared.stamp.Stamp.TheVariants.{Request, Reply}
 use Rattle.tsp_base.specs.declared.datagram.Datagram.{Datagram}
 use Rattle.tsp_base.specs.declared.datagram.Datagram.TheVariants.{Message, Stamp as StampOf}
+use Rattle.tsp_script.specs.Ranges.{IsDatagram}
+use Rattle.tsp_script.specs.declared.line_fault.LineFault.{LineFault}
+use Rattle.tsp_script.specs.declared.line_fault.LineFault.TheVariants.{Bad}
 
 -- one space
 abbrev pub space : List ℕ
@@ -52,3 +57,18 @@ stamp_text (Reply r) = reply_text r
 abbrev pub message_text : Datagram → List ℕ
 message_text (Message m) = message_line m
 message_text (StampOf s) = stamp_text s
+
+-- what reading a line gives: the datagram in its range that is written so, or that none is
+abbrev pub ReadsMessage : List ℕ → Result Datagram LineFault → Type 0
+ReadsMessage line (Ok d) = IsDatagram d × (line ≡ message_text d)
+ReadsMessage line (Err Bad) = (d : Datagram) → IsDatagram d → line ≡ message_text d → ⊥
+
+-- a time
+abbrev pub IsTimeBody : Body → Type 0
+IsTimeBody (TimeBody t) = Unit {0}
+IsTimeBody _ = ⊥
+
+-- a hop count
+abbrev pub IsHopsBody : Body → Type 0
+IsHopsBody (Hops h) = Unit {0}
+IsHopsBody _ = ⊥

@@ -2,6 +2,8 @@
 #![tactic(auto)]
 
 pub mod acts;
+pub mod line_fault;
+pub mod message_reader;
 pub mod messages;
 pub mod names;
 pub mod numbers;

@@ -1,6 +1,7 @@
 //! Message lines.
 ghost use Rattle.std.specs.Prelude.{◌≡◌, ℕ, ◌+◌, ◌≤◌, ◌++◌, length};
 ghost use Rattle.arrayvec.specs.ArrayVec.{array_vec_len};
+ghost use Rattle.tsp_script.specs.Ranges.{IsBody, IsMessage, IsStamp, IsDatagram};
 ghost use Rattle.tsp_script.specs.Texts.{body_text, message_line, reply_text, stamp_text, message_text};
 
 use crate::names::append_name;
@@ -17,6 +18,7 @@ fn append_body(out: &mut ArrayVec<u8, 1024>, body: &Body)
     requires { array_vec_len out.old + 21 ≤ 1024 }
     ensures text { out.new.items ≡ out.old.items ++ body_text body.now }
     ensures short { array_vec_len out.new ≤ array_vec_len out.old + 21 }
+    ensures range { IsBody body.now }
 {
     match body {
         Body::Nothing => {}
@@ -36,6 +38,7 @@ fn append_message(out: &mut ArrayVec<u8, 1024>, message: &Message)
     requires { array_vec_len out.old + 242 ≤ 1024 }
     ensures text { out.new.items ≡ out.old.items ++ message_line message.now }
     ensures short { array_vec_len out.new ≤ array_vec_len out.old + 242 }
+    ensures range { IsMessage message.now }
 {
     append(out, message.kind().word());
     append_next_number(out, message.number() as u64);
@@ -49,6 +52,7 @@ fn append_stamp(out: &mut ArrayVec<u8, 1024>, stamp: &Stamp)
     requires { array_vec_len out.old + 242 ≤ 1024 }
     ensures text { out.new.items ≡ out.old.items ++ stamp_text stamp.now }
     ensures short { array_vec_len out.new ≤ array_vec_len out.old + 242 }
+    ensures range { IsStamp stamp.now }
 {
     match stamp {
         Stamp::Request { word, counter } => {
@@ -65,6 +69,7 @@ fn append_reply(out: &mut ArrayVec<u8, 1024>, reply: &StampReply)
     requires { array_vec_len out.old + 242 ≤ 1024 }
     ensures text { out.new.items ≡ out.old.items ++ reply_text reply.now }
     ensures short { array_vec_len out.new ≤ array_vec_len out.old + 242 }
+    ensures range { IsStamp (Stamp.Reply reply.now) }
 {
     append(out, b"reply ");
     append_number(out, reply.ticket() as u64);
@@ -78,6 +83,7 @@ pub fn append_datagram(out: &mut ArrayVec<u8, 1024>, datagram: &Datagram)
     requires { array_vec_len out.old + 242 ≤ 1024 }
     ensures text { out.new.items ≡ out.old.items ++ message_text datagram.now }
     ensures short { array_vec_len out.new ≤ array_vec_len out.old + 242 }
+    ensures range { IsDatagram datagram.now }
 {
     match datagram {
         Datagram::Message(message) => append_message(out, message),
@@ -89,6 +95,7 @@ pub fn append_datagram(out: &mut ArrayVec<u8, 1024>, datagram: &Datagram)
 pub fn message_text(datagram: &Datagram) -> ArrayVec<u8, 1024>
     ensures text { result.items ≡ message_text datagram.now }
     ensures short { array_vec_len result ≤ 242 }
+    ensures range { IsDatagram datagram.now }
 {
     let mut out = ArrayVec::new();
     append_datagram(&mut out, datagram);

@@ -34,6 +34,7 @@ fn append_octets(out: &mut ArrayVec<u8, 1024>, octets: &[u8])
     requires { array_vec_len out.old + 3 * length octets.now ≤ 1024 }
     ensures text { out.new.items ≡ out.old.items ++ flat_map escaped octets.now }
     ensures short { array_vec_len out.new ≤ array_vec_len out.old + 3 * length octets.now }
+    ensures range { IsBytes octets.now }
 {
     for octet in octets {
         append_octet(out, *octet);
@@ -45,6 +46,7 @@ pub fn append_name(out: &mut ArrayVec<u8, 1024>, name: &Name)
     requires { array_vec_len out.old + 189 ≤ 1024 }
     ensures text { out.new.items ≡ out.old.items ++ name_text name.now }
     ensures short { array_vec_len out.new ≤ array_vec_len out.old + 189 }
+    ensures range { IsName name.now × IsBytes name.now }
 {
     match name.octets() {
         [] => append(out, b"%"),

@@ -168,3 +168,10 @@ pub fn next_signed(line: &[u8]) -> Option<(i64, &[u8])>
         None => None,
     }
 }
+
+/// The number as 16 bits, where it fits.
+pub(crate) fn short_of(number: u64) -> Option<u16>
+    ensures { number < 2 ^ 16 → result ≡ Some number }
+{
+    u16::try_from(number).ok()
+}

@@ -1,5 +1,5 @@
-use Rattle.std.proofs.Common.{◌≡◌, ◌∙◌, sym, refl, arith, Option, Some, None, rules, List, ℕ, length}
-use Rattle.tsp_script.proofs.NameTexts.{name_begins, name_empty, one_more, more_left, can_read, all_read, name_made}
+use Rattle.std.proofs.Common.{◌∙◌, sym, refl, rules}
+use Rattle.tsp_script.proofs.NameTexts.{name_begins, name_empty, one_more, can_read, all_read, name_made}
 use Rattle.tsp_script.proofs.names.name_of.Goals as goal
 
 pub returns-then-is_same : goal.returns-then-is_same

@@ -1,4 +1,4 @@
-use Rattle.std.proofs.Common.{◌≡◌, refl, ◌∙◌, sym, ap, Some, None, Result, Ok, Err, slice_index_or}
+use Rattle.std.proofs.Common.{◌≡◌, Result, Ok, Err}
 use Rattle.tsp_script.proofs.NameTexts.{decoded_pair}
 use Rattle.tsp_script.proofs.names.octet_of.Goals as goal
 

@@ -1,4 +1,4 @@
-use Rattle.std.proofs.Common.{◌≡◌, ◌∙◌, sym, Option, Some, None}
+use Rattle.std.proofs.Common.{◌≡◌, ◌∙◌, Option, Some, None}
 use Rattle.tsp_script.proofs.Cuts.{cut_front, no_space-decimal}
 use Rattle.tsp_script.proofs.numbers.next_number.Goals as goal
 

@@ -1,0 +1,46 @@
+-- Laws of the bodies of messages.
+use Rattle.std.proofs.Common.{◌≡◌, ℕ, List, ◌++◌, true, false, Bool, refl}
+use Rattle.std.specs.Prelude.{not, ◌&&◌}
+use Rattle.tsp_base.specs.Kinds.{carries_time, carries_hops}
+use Rattle.tsp_base.specs.Messages.{body_fits}
+use Rattle.tsp_base.specs.declared.kind.Kind.{Kind}
+use Rattle.tsp_base.specs.declared.kind.Kind.TheVariants.{Loop}
+use Rattle.tsp_base.specs.declared.message.Body.{Body}
+use Rattle.tsp_base.specs.declared.message.Body.TheVariants.{Nothing, Time, Hops}
+use Rattle.tsp_script.specs.Texts.{IsTimeBody, IsHopsBody, body_text}
+
+-- no kind carries both a time and hops
+not_both : (k : Kind) → carries_time k ≡ true → carries_hops k ≡ true → ⊥
+unfolding carries_time carries_hops
+not_both Loop p q = cc
+not_both _ p q = cc
+
+neither_time : (a b : Bool) → not a && not b ≡ true → a ≡ true → ⊥
+neither_time true b p q = cc
+neither_time false b p q = cc
+
+neither_hops : (a b : Bool) → not a && not b ≡ true → b ≡ true → ⊥
+neither_hops true b p q = cc
+neither_hops false true p q = cc
+neither_hops false false p q = cc
+
+true_false : (b : Bool) → b ≡ true → b ≡ false → ⊥
+true_false b p q = cc
+
+pub time_body : (k : Kind) (b : Body) → carries_time k ≡ true → body_fits k b ≡ true → IsTimeBody b
+unfolding body_fits
+time_body k Nothing h f = absurd (neither_time (carries_time k) (carries_hops k) f h)
+time_body k (Time t) h f = tt
+time_body k (Hops n) h f = absurd (not_both k h f)
+
+pub hops_body : (k : Kind) (b : Body) → carries_hops k ≡ true → body_fits k b ≡ true → IsHopsBody b
+unfolding body_fits
+hops_body k Nothing h f = absurd (neither_hops (carries_time k) (carries_hops k) f h)
+hops_body k (Time t) h f = absurd (not_both k f h)
+hops_body k (Hops n) h f = tt
+
+pub no_body : (k : Kind) (b : Body) (line rest : List ℕ) → carries_time k ≡ false → carries_hops k ≡ false → body_fits k b ≡ true → line ≡ body_text b ++ rest → (Nothing ≡ b) × (line ≡ rest)
+unfolding body_fits
+no_body k Nothing line rest g h f e = (refl, e)
+no_body k (Time t) line rest g h f e = absurd (true_false (carries_time k) f g)
+no_body k (Hops n) line rest g h f e = absurd (true_false (carries_hops k) f h)
