@@ -1,0 +1,49 @@
+-- What a port does that stands for election.
+use Rattle.std.specs.Prelude.{ℕ}
+use Rattle.tsp_base.specs.declared.act.Act.TheVariants.{Become, Backer, Ring, Late, Acked}
+use Rattle.tsp_base.specs.declared.alarm.Alarm.TheVariants.{Window, Round}
+use Rattle.tsp_base.specs.declared.constants.TheConstants.{ROUND}
+use Rattle.tsp_base.specs.declared.kind.Kind.{Kind}
+use Rattle.tsp_base.specs.declared.kind.Kind.TheVariants.{Ack, MasterAck, MasterUp, Election, Accept, Refuse, Quit}
+use Rattle.tsp_base.specs.declared.place.PeerId.{PeerId}
+use Rattle.tsp_base.specs.declared.role.Role.TheVariants.{Loose, Master}
+use Rattle.tsp_base.specs.Messages.{MessageValue}
+use Rattle.tsp_base.specs.Rows.{Row, nothing, puts, ◌followed_by◌, either_by, arms, posts, posts_to_others}
+use Rattle.tsp_rules.specs.CommonRows.{arms_elect, follow_row, quits}
+use Rattle.tsp_rules.specs.SendRows.{has_election, acknowledges}
+use Rattle.tsp_rules.specs.Tests.{is_in_time}
+
+-- the port becomes a master and says so
+unfoldable pub lead_row : Row
+lead_row = puts (Become Master) followed_by (arms Round ROUND followed_by posts_to_others MasterUp 0)
+
+-- the candidature ends
+unfoldable pub yields : Row
+yields = puts (Become Loose) followed_by arms_elect
+
+-- nobody refused in time, or nobody looked in time
+unfoldable pub window_rings : Row
+window_rings = either_by (is_in_time Window) (puts (Ring Window) followed_by lead_row) (puts (Late Window) followed_by yields)
+
+-- p backs this candidature
+unfoldable pub accepted_by : PeerId → ℕ → Row
+accepted_by p number = either_by (has_election p number) (puts (Acked p) followed_by puts (Backer p)) nothing
+
+-- p backs another one
+unfoldable pub refused_by : PeerId → ℕ → Row
+refused_by p number = either_by (has_election p number) (puts (Acked p) followed_by yields) nothing
+
+-- what a candidate does with this kind of message of a peer: it always holds itself, and so refuses any other
+unfoldable pub candidate_takes_kind : PeerId → MessageValue → Kind → Row
+candidate_takes_kind p m MasterUp = follow_row p
+candidate_takes_kind p m MasterAck = follow_row p
+candidate_takes_kind p m Election = posts p Refuse m.number
+candidate_takes_kind p m Accept = accepted_by p m.number
+candidate_takes_kind p m Refuse = refused_by p m.number
+candidate_takes_kind p m Quit = quits p m.number
+candidate_takes_kind p m Ack = acknowledges p m.number
+candidate_takes_kind p m _ = nothing
+
+-- what it does with a message of a peer
+unfoldable pub candidate_takes : PeerId → MessageValue → Row
+candidate_takes p m = candidate_takes_kind p m m.kind

@@ -1,0 +1,17 @@
+pub mod Answers
+pub mod CandidateRows
+pub mod ClockRows
+pub mod CommonRows
+pub mod Corrections
+pub mod Groups
+pub mod HoldScript
+pub mod LateClose
+pub mod MasterRows
+pub mod OrdinaryUse
+pub mod ResolveRows
+pub mod RivalsScript
+pub mod RoundRows
+pub mod Scripts
+pub mod SendRows
+pub mod SlaveRows
+pub mod Tests
