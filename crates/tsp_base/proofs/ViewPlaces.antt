@@ -38,15 +38,15 @@ pub record On (q : Port) (t : List Line) (d : Did) (vs : List Seen) : Type 0 whe
   pub place : Within (record { port = q; did = d } ∷ rest) t
   pub before : view q rest ≡ vs
 
-here-is : (b : Bool) (c d : Did) → seen_as b c ≡ Here d → (b ≡ true) × (c ≡ d)
+pub here-is : (b : Bool) (c d : Did) → seen_as b c ≡ Here d → (b ≡ true) × (c ≡ d)
 here-is true c d e = (refl, cc)
 here-is false c d e = let bad : ⊥ = cc in absurd bad
 
-or-false : (b c : Bool) → (b || c) ≡ true → c ≡ false → b ≡ true
+pub or-false : (b c : Bool) → (b || c) ≡ true → c ≡ false → b ≡ true
 or-false true c e f = refl
 or-false false c e f = let bad : ⊥ = cc in absurd bad
 
-port-same : (p q : Port) → (p.0 == q.0) ≡ true → p ≡ q
+pub port-same : (p q : Port) → (p.0 == q.0) ≡ true → p ≡ q
 port-same p q e = ap (λ n. let r : Port = record { 0 = n } in r) (eqb-true p.0 q.0 e)
 
 pub on_port : (q : Port) (t : List Line) (d : Did) (vs : List Seen) → is_shared d.deed ≡ false → Within (Here d ∷ vs) (view q t) → On q t d vs

@@ -52,12 +52,13 @@ MessageFits Test here before p m = ⊥
 MessageFits SetDate here before p m = ⊥
 MessageFits _ here before p m = Unit {0}
 
--- what a post owes
+-- what a post owes; strangers get acknowledgments and stamps alone
 abbrev pub PostFits : Place → Datagram → Did → List Seen → Type 0
 PostFits (Peer p) (Message m) here before = MessageFits m.kind here before p m
 PostFits (Peer p) (Stamp (Request word counter)) here before = RequestFits before word counter
 PostFits (Peer p) (Stamp (Reply reply)) here before = ReplyFits here before p reply
-PostFits Stranger datagram here before = Unit {0}
+PostFits Stranger (Message m) here before = m.kind ≡ Ack
+PostFits Stranger (Stamp stamp) here before = Unit {0}
 
 -- what an act owes
 abbrev pub ActFits : Act → Did → List Seen → Type 0

@@ -25,9 +25,9 @@ node_of l = l.did.step.node
 abbrev pub Sees : Port → Line → Type 0
 Sees q l = ((l.port.0 == q.0) || is_shared l.did.deed) ≡ true
 
--- each line but a mark is of the step of its node's last line
+-- each line but a mark is of the step of the line before it
 abbrev pub SameStep : Deed → Step → List Did → Type 0
-SameStep Begins step own = Unit {0}
+SameStep Begins step world = Unit {0}
 SameStep (Acts a) step [] = ⊥
 SameStep (Acts a) step (last ∷ before) = last.step ≡ step
 
@@ -61,7 +61,7 @@ pub record LineFits (setting : Setting) (l : Line) (world : List Line) : Type 0 
   pub order : time_of (dids world) ≤ l.did.step.at
   pub tick : l.did.tick ≡ tick_at (setting.rate (node_of l)) l.did.step.at
   pub few : posted (dids world) < 2 ^ 64
-  pub step : SameStep l.did.deed l.did.step (dids (of (node_of l) world))
+  pub step : SameStep l.did.deed l.did.step (dids world)
   pub alive : Alive setting l.did.deed l.did (up (dids (of (node_of l) world)))
   pub took : (from : Place) (taken : Taken) → l.did.deed ≡ Acts (Took from taken) → TookFits l.did.step.cause setting l world from taken
   pub deeds : (q : Port) → Sees q l → DeedFits l.did.deed l.did (view q (of (node_of l) world))

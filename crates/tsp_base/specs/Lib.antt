@@ -1,5 +1,6 @@
 pub mod AckFits
 pub mod Alarms
+pub mod ClockAt
 pub mod CorrectFits
 pub mod CorrectionFits
 pub mod DeedFits
@@ -12,14 +13,19 @@ pub mod HoldFits
 pub mod Kinds
 pub mod Leads
 pub mod MeasureFits
+pub mod Measured
 pub mod Messages
 pub mod Names
 pub mod NodeFacts
+pub mod Once
+pub mod OneBack
+pub mod OnlyMaster
 pub mod Pad
 pub mod Performs
 pub mod Places
 pub mod PortFacts
 pub mod Premises
+pub mod Resolved
 pub mod RoundFacts
 pub mod Rows
 pub mod Samples

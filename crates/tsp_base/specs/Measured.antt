@@ -1,0 +1,23 @@
+-- The promise that a measurement errs by at most half its round trip.
+use Rattle.std.specs.Prelude.{◌≡◌, ℕ, ℤ, pos, ◌-ℤ◌, ◌≤ℤ◌, nat_abs, List, ◌∷◌}
+use Rattle.tsp_base.specs.declared.act.Act.TheVariants.{Post, Sample}
+use Rattle.tsp_base.specs.declared.datagram.Datagram.{Datagram}
+use Rattle.tsp_base.specs.declared.place.PeerId.{PeerId}
+use Rattle.tsp_base.specs.declared.place.Place.{Place}
+use Rattle.tsp_base.specs.ClockAt.{clock}
+use Rattle.tsp_base.specs.Everywhere.{Everywhere}
+use Rattle.tsp_base.specs.Fits.{node_of}
+use Rattle.tsp_base.specs.History.{Came, Acts, Line, dids}
+use Rattle.tsp_base.specs.Places.{Within}
+use Rattle.tsp_base.specs.Setting.{Setting}
+use Rattle.tsp_base.specs.Takings.{posted}
+
+-- a Sample of k: its diff is that of the two clocks at the reading, give or take its err; the reading is the post that the Sample's step took
+abbrev pub MeasuredAt : Setting → Line → List Line → Type 0
+MeasuredAt setting l world = (p : PeerId) (counter : ℕ) (diff err : ℤ) (number : ℕ) (post : Line) (older : List Line) (to : Place) (datagram : Datagram) →
+    l.did.deed ≡ Acts (Sample p counter diff err number) → Within (post ∷ older) world → post.did.deed ≡ Acts (Post to datagram) → l.did.step.cause ≡ Came (posted (dids older)) →
+    pos (nat_abs (diff -ℤ (clock setting p.0 (post ∷ older) -ℤ clock setting (node_of l) (post ∷ older)))) ≤ℤ err
+
+-- each measurement errs by at most its err
+abbrev pub Measured : Setting → List Line → Type 0
+Measured setting = Everywhere (MeasuredAt setting)

@@ -1,0 +1,10 @@
+pub mod Clocks
+pub mod HeldProof
+pub mod HistoryPlaces
+pub mod OnceSpacedProof
+pub mod OneBackProof
+pub mod OnlyMasterProof
+pub mod OwnFitsProof
+pub mod PortFits
+pub mod ResolvedProof
+pub mod SinceProof

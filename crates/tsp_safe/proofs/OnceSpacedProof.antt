@@ -1,0 +1,30 @@
+-- Corrects of a node stand apart.
+use Rattle.std.specs.Prelude.{◌≡◌, ◌≤◌, ℕ, ◌+◌, List, [], ◌∷◌, refl}
+use Rattle.std.proofs.Common.{arith, subst}
+use Rattle.tsp_base.specs.declared.act.Act.TheVariants.{Correct}
+use Rattle.tsp_base.specs.declared.constants.TheConstants.{GAP}
+use Rattle.tsp_base.specs.Fits.{Fits, LineFits, node_of}
+use Rattle.tsp_base.specs.History.{Acts, Line, of, dids, view}
+use Rattle.tsp_base.specs.NodeFacts.{last_correct}
+use Rattle.tsp_base.specs.Once.{SpacedAt, OnceSpaced}
+use Rattle.tsp_base.specs.Places.{Within}
+use Rattle.tsp_base.specs.Setting.{Setting}
+use Rattle.tsp_base.proofs.EverywhereLemmas.{Everywhere-from}
+use Rattle.tsp_base.proofs.Views.{plain_view}
+use Rattle.tsp_safe.proofs.HistoryPlaces.{own_in}
+use Rattle.tsp_safe.proofs.OwnFitsProof.{own_fits, fits_at}
+use Rattle.tsp_safe.proofs.PortFits.{deed_fits}
+use Rattle.tsp_safe.proofs.SinceProof.{since}
+
+spaced_at : (setting : Setting) (l : Line) (world : List Line) → Fits setting (l ∷ world) → SpacedAt l world
+spaced_at setting l world f other older a b s t x y is w node other_is =
+    let n = node_of l in
+    let i = since setting (other ∷ of n older) (of n world) (own_fits setting n world f.1) (own_in n other older world node w) in
+    let fits = deed_fits setting l world (Acts (Correct a s x)) is f.0 in
+    let gap : last_correct (dids (of n world)) + GAP ≤ l.did.tick = subst (λ k. last_correct k + GAP ≤ l.did.tick) (plain_view l.port (of n world)) fits.gap in
+    let here : last_correct (dids (other ∷ of n older)) ≡ other.did.tick = rw other_is refl in
+    omega (arith, i.lasts)
+
+-- every two Corrects of a node
+pub once_spaced : (setting : Setting) (world : List Line) → Fits setting world → OnceSpaced world
+once_spaced setting world f = Everywhere-from SpacedAt world (λ l s w. spaced_at setting l s (fits_at setting (l ∷ s) world f w))

@@ -1,0 +1,2 @@
+pub mod OwnFits
+pub mod Since

@@ -1,0 +1,38 @@
+//! The promises of the protocol, each proved of every history that fits: of any number of nodes, and of any
+//! number of ports of a node. Nothing here runs. Each function's contract is a theorem about the definitions of
+//! `tsp_base`; whoever keeps what each deed owes to its past keeps the promises.
+#![tactic(auto)]
+
+ghost use Rattle.std.specs.Prelude.{List};
+ghost use Rattle.tsp_base.specs.Fits.{Fits, Finished};
+ghost use Rattle.tsp_base.specs.History.{Line};
+ghost use Rattle.tsp_base.specs.Once.{OnceSpaced};
+ghost use Rattle.tsp_base.specs.OneBack.{OneBack};
+ghost use Rattle.tsp_base.specs.OnlyMaster.{OnlyMaster};
+ghost use Rattle.tsp_base.specs.Resolved.{StaysQuiet, Yields};
+ghost use Rattle.tsp_base.specs.Setting.{Setting};
+
+/// No node backs two candidates within the hold, forged datagrams or not.
+pub fn one_back()
+    ensures { (setting : Setting) (world : List Line) → Fits setting world → Finished world → OneBack world }
+{}
+
+/// Only masters post corrections and close rounds.
+pub fn only_master()
+    ensures { (setting : Setting) (world : List Line) → Fits setting world → OnlyMaster world }
+{}
+
+/// Two corrections of one clock stand apart.
+pub fn once_spaced()
+    ensures { (setting : Setting) (world : List Line) → Fits setting world → OnceSpaced world }
+{}
+
+/// A master that takes a QUIT follows its sender at the end of that step.
+pub fn resolved_yields()
+    ensures { (setting : Setting) (world : List Line) → Fits setting world → Finished world → Yields world }
+{}
+
+/// After a QUIT a port isn't a master again for the least election delay.
+pub fn resolved_stays_quiet()
+    ensures { (setting : Setting) (world : List Line) → Fits setting world → StaysQuiet world }
+{}
