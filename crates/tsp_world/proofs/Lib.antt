@@ -1,1 +1,5 @@
 pub mod NodeLemmas
+pub mod RefusalLemmas
+pub mod RunLemmas
+pub mod SetCases
+pub mod WorldLemmas

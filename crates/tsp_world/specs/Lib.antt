@@ -1,3 +1,6 @@
 pub mod Answers
 pub mod NodeStands
+pub mod Refusals
+pub mod Run
 pub mod Setup
+pub mod WorldStands

@@ -1,5 +1,5 @@
 -- What a node stands for.
-use Rattle.std.specs.Prelude.{◌≡◌, ℕ, ◌+◌, ℤ, pos, ◌+ℤ◌}
+use Rattle.std.specs.Prelude.{◌≡◌, ℕ, ℤ, ◌+ℤ◌}
 use Rattle.tsp_base.specs.declared.place.PeerId.{PeerId}
 use Rattle.tsp_base.specs.History.{Booted, Past, plain}
 use Rattle.tsp_base.specs.NodeFacts.{ticket, base, moved}

@@ -1,7 +1,11 @@
 //! All nodes of a schedule and all datagrams that they posted: events in, acts out.
 #![tactic(auto)]
 
+mod arrival;
 pub mod line;
 mod node;
 pub mod posted;
- 
+mod refusals;
+mod step;
+mod tell;
+pub mod world;

@@ -2,7 +2,7 @@
 use Rattle.std.proofs.Common.{◌≡◌, ℤ, pos, ◌+ℤ◌, ◌-ℤ◌, arith, ◌∙◌, ap, SFits, w64, to_z, of_z, to_z-of_z, rules}
 use Rattle.std.proofs.lemmas.Int.{ints}
 use Rattle.tsp_base.specs.Rows.{puts, arms, ◌followed_by◌}
-use Rattle.tsp_world.specs.Answers.{boots}
+use Rattle.tsp_rules.specs.CommonRows.{boots}
 use Rattle.tsp_world.proofs.NodeLemmas.{three_puts}
 use Rattle.tsp_world.proofs.node.Node.boot.Goals as goal
 

@@ -4,13 +4,14 @@ use Rattle.tsp_base.specs.declared.stamp.Stamp.TheVariants.{Reply}
 use Rattle.tsp_base.specs.History.{plain}
 use Rattle.tsp_base.specs.NodeFacts.{ticket, target}
 use Rattle.tsp_base.proofs.PerformsLemmas.{Performs_nothing, Performs_then_part, Performs_else_part}
-use Rattle.tsp_world.specs.Answers.{takes_request, replies, is_clock}
+use Rattle.tsp_rules.specs.CommonRows.{replies, posts_reply}
+use Rattle.tsp_rules.specs.Tests.{is_in_range}
 use Rattle.tsp_world.proofs.node.Node.reply.Goals as goal
 
 pub returns-in-Some-clause-row : goal.returns-in-Some-clause-row
-unfolding takes_request replies
+unfolding replies posts_reply
 returns-in-Some-clause-row g c =
-    Performs_then_part (λ x past. is_clock (target (plain past.seen) x)) _ (λ past s. let a = s.offset_is in let b = c.in-Some.ensures.there.0 in rw a at b)
+    Performs_then_part is_in_range _ (λ past s. let a = s.offset_is in let b = c.in-Some.ensures.there.0 in rw a at b)
     (record {
       acts = λ past h.
           let e : c.in-Some.stamp ≡ Reply (record { ticket = ticket (plain past.seen); word = c.args.word; counter = c.args.counter; reading = target (plain past.seen) c.args.tick }) = c.in-Some.ensures.there.1 ∙ (rw (h.ticket_is, h.offset_is) refl) in
@@ -19,6 +20,6 @@ returns-in-Some-clause-row g c =
     })
 
 pub returns-in-None-clause-row : goal.returns-in-None-clause-row
-unfolding takes_request
+unfolding replies
 returns-in-None-clause-row g c =
-    Performs_else_part (λ x past. is_clock (target (plain past.seen) x)) _ (λ past s. let a = s.offset_is in let b = c.in-None.ensures.none in rw a at b) Performs_nothing
+    Performs_else_part is_in_range _ (λ past s. let a = s.offset_is in let b = c.in-None.ensures.none in rw a at b) Performs_nothing

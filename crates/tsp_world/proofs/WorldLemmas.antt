@@ -1,0 +1,170 @@
+-- How a world stands for one event more.
+use Rattle.std.specs.Prelude.{◌≡◌, ◌≢◌, ◌⊎◌, ℕ, ◌+◌, ◌<◌, ◌≤◌, ◌==◌, Bool, true, false, List, [], ◌∷◌, ◌++◌, length, replicate, Option, None, Some, slice_get, vec_len}
+use Rattle.std.proofs.Common.{refl, sym, ap, ◌∙◌, arith, subst, inl, inr, eq-eqb, eqb-true, true≢false, ◌+ℤ◌}
+use Rattle.std.proofs.lemmas.Bool.{ne_eqb, cases_lt}
+use Rattle.std.proofs.lemmas.Option.{slice_get-get_or}
+use Rattle.tsp_base.specs.declared.act.Act.{Act}
+use Rattle.tsp_base.specs.declared.act.Placed.{Placed}
+use Rattle.tsp_base.specs.declared.event.Event.{Event}
+use Rattle.tsp_base.specs.declared.place.PeerId.{PeerId}
+use Rattle.tsp_base.specs.Headers.{HeaderValue}
+use Rattle.tsp_base.specs.History.{Step, Past, Line, Begins, Here, of, view, dids, plain}
+use Rattle.tsp_base.specs.NodeFacts.{up, ticket, base, moved}
+use Rattle.tsp_base.specs.Performs.{Performs}
+use Rattle.tsp_base.specs.Rows.{Row, placed, grown, in_step, added}
+use Rattle.tsp_world.specs.declared.node.Node.{Node}
+use Rattle.tsp_world.specs.declared.world.World.{World}
+use Rattle.tsp_world.specs.NodeStands.{NodeStands, OwnStands}
+use Rattle.tsp_world.specs.Refusals.{Scene, scene, refusal}
+use Rattle.tsp_world.specs.Run.{run, joins, happening, steps, step_tick, event_at, line_of}
+use Rattle.tsp_world.specs.Setup.{past_of, first_port}
+use Rattle.tsp_world.specs.WorldStands.{WorldStands, PlaceStands, Notes, Passes, rests, up_at, is_node, scene_of}
+use Rattle.tsp_world.proofs.RefusalLemmas.{Alike, some_same}
+use Rattle.tsp_world.proofs.RunLemmas.{joins-own, joins-other, posts-joins, up-added, up-seen}
+
+-- what a node stands for rests on what its port has seen
+pub NodeStands-seen : (past now : Past) (node : Node) → past.seen ≡ now.seen → NodeStands past node → NodeStands now node
+NodeStands-seen past now node e h = record {
+  ticket_is = h.ticket_is ∙ ap (λ s. ticket (plain s)) e;
+  offset_is = h.offset_is ∙ ap (λ s. base (plain s) +ℤ moved (plain s)) e;
+}
+
+-- a step begins
+pub OwnStands-begun : (header : HeaderValue) (history : List Line) (step : Step) (x : ℕ) (node : Node) → NodeStands (past_of header (rests step.node) history) node →
+    OwnStands (record { 0 = step.node }) (in_step step x (past_of header step history)) node
+OwnStands-begun header history step x node h = record { own_is = refl; stands = record { ticket_is = h.ticket_is; offset_is = h.offset_is } }
+
+-- what the place of a node stands for after a step by this row
+pub PlaceStands-acted : (header : HeaderValue) (history : List Line) (row : Row) (step : Step) (node : Node) →
+    let x = step_tick header step in
+    let past = in_step step x (past_of header step history) in
+    NodeStands (grown x past (row x past)) node → up (plain (grown x past (row x past)).seen) ≡ true → PlaceStands header (joins (Some (steps header history row step)) history) step.node (Some node)
+unfolding steps
+PlaceStands-acted header history row step node h u =
+    let x = step_tick header step in
+    let past = in_step step x (past_of header step history) in
+    let seen = joins-own step.node step x (row x past) history (eq-eqb step.node step.node refl) in
+    let now = joins (Some (steps header history row step)) history in (
+      up-seen step.node now ∙ ap (λ s. up (plain s)) seen ∙ u,
+      NodeStands-seen (grown x past (row x past)) (past_of header (rests step.node) now) node (sym seen) h,
+    )
+
+-- and what that of another node does
+pub PlaceStands-other : (header : HeaderValue) (history : List Line) (row : Row) (step : Step) (n : ℕ) (place : Option Node) → n ≢ step.node →
+    PlaceStands header history n place → PlaceStands header (joins (Some (steps header history row step)) history) n place
+unfolding steps
+PlaceStands-other header history row step n place other h =
+    let x = step_tick header step in
+    let acts = row x (in_step step x (past_of header step history)) in
+    let same : of n (joins (Some (steps header history row step)) history) ≡ of n history = joins-other n step x acts history (ne_eqb step.node n (λ e. other (sym e))) in
+    by_place place h same where
+      by_place : (place : Option Node) → PlaceStands header history n place → of n (joins (Some (steps header history row step)) history) ≡ of n history → PlaceStands header (joins (Some (steps header history row step)) history) n place
+      by_place (Some node) h same = (rw same h.0, NodeStands-seen _ _ node (ap (λ l. view first_port l) (sym same)) h.1)
+      by_place None h same = rw same h
+
+by_node : (header : HeaderValue) (history : List Line) (row : Row) (step : Step) (nodes : List (Option Node)) (n : ℕ) (place : Option Node) → slice_get nodes n ≡ Some place →
+    ((place : Option Node) → slice_get nodes step.node ≡ Some place → PlaceStands header (joins (Some (steps header history row step)) history) step.node place) →
+    (n ≢ step.node → PlaceStands header history n place) → (b : Bool) → (n == step.node) ≡ b → PlaceStands header (joins (Some (steps header history row step)) history) n place
+by_node header history row step nodes n place is own other true e =
+    let same : n ≡ step.node = eqb-true n step.node e in
+    subst (λ k. PlaceStands header (joins (Some (steps header history row step)) history) k place) (sym same) (own place (subst (λ k. slice_get nodes k ≡ Some place) same is))
+by_node header history row step nodes n place is own other false e =
+    let not_own : n ≢ step.node = λ q. true≢false (sym (eq-eqb n step.node q) ∙ e) in
+    PlaceStands-other header history row step n place not_own (other not_own)
+
+-- a world whose node has acted and that has noted it stands for the event too
+pub WorldStands-acted : (header : HeaderValue) (events : List Event) (e : Event) (row : Row) (step : Step) (old new : World) (nodes : List (Option Node)) (acts : List Placed) →
+    WorldStands header events old → refusal (scene header events) e ≡ None → happening header (run header events) e ≡ Some (steps header (run header events) row step) →
+    event_at e ≡ step.at → step.node < length header.nodes → length nodes ≡ length old.nodes.items →
+    acts ≡ placed first_port (row (step_tick header step) (in_step step (step_tick header step) (past_of header step (run header events)))) →
+    Notes step.at step.node (step_tick header step) old.header nodes old.events old.sent.items acts new →
+    ((place : Option Node) → slice_get nodes step.node ≡ Some place → PlaceStands header (joins (Some (steps header (run header events) row step)) (run header events)) step.node place) →
+    ((n : ℕ) (place : Option Node) → n ≢ step.node → slice_get nodes n ≡ Some place → slice_get old.nodes.items n ≡ Some place) →
+    WorldStands header (e ∷ events) new
+unfolding steps
+WorldStands-acted header events e row step old new nodes acts w none happens at inside same_length acts_are noted own others =
+    let x : ℕ = step_tick header step in
+    let done : List Act = row x (in_step step x (past_of header step (run header events))) in
+    record {
+      header_is = noted.header_is ∙ w.header_is;
+      valid = (none, w.valid);
+      count = (let a = noted.events_are in let b = w.count in omega (arith, a, b));
+      last = noted.last_is ∙ sym at;
+      sent = rw happens (noted.sent_is ∙ (rw (acts_are, w.sent) (sym (posts-joins step x done (run header events)))));
+      lines = rw happens (noted.lines_are ∙ (rw (acts_are, w.sent, w.count) refl));
+      places = ap (λ v. length v) noted.nodes_are ∙ same_length ∙ w.places;
+      nodes = λ n place is.
+          let is_mid : slice_get nodes n ≡ Some place = ap (λ v. slice_get v n) (sym noted.nodes_are) ∙ is in
+          rw happens (by_node header (run header events) row step nodes n place is_mid own (λ q. w.nodes n place (others n place q is_mid)) (n == step.node) refl);
+      nobody = λ n past.
+          let other : (step.node == n) ≡ false = ne_eqb step.node n (λ q. absurd (omega (arith, q, past, inside))) in
+          rw happens (ap (λ l. up (dids l)) (joins-other n step x done (run header events) other) ∙ w.nobody n past);
+    }
+
+-- where a place has a node that is up, there it is
+up_place : (places : List (Option Node)) (n : ℕ) (o : Option (Option Node)) → slice_get places n ≡ o → is_node o ≡ true → (node : Node) × (slice_get places n ≡ Some (Some node))
+up_place places n None e up = absurd (true≢false (sym up))
+up_place places n (Some None) e up = absurd (true≢false (sym up))
+up_place places n (Some (Some node)) e up = (node, e)
+
+-- a world whose node, which is up, has acted by a row that leaves it as it is
+pub WorldStands-handed : (header : HeaderValue) (events : List Event) (e : Event) (row : Row) (step : Step) (old new : World) (acts : List Placed) →
+    WorldStands header events old → refusal (scene header events) e ≡ None → happening header (run header events) e ≡ Some (steps header (run header events) row step) →
+    event_at e ≡ step.at → step.node < length header.nodes → old.desk.placed.items ≡ [] → up_at old.nodes.items step.node ≡ true →
+    ((node : Node) → slice_get old.nodes.items step.node ≡ Some (Some node) →
+    Performs (OwnStands (record { 0 = step.node })) (OwnStands (record { 0 = step.node })) row (step_tick header step) first_port node node old.desk.placed.items acts) →
+    Notes step.at step.node (step_tick header step) old.header old.nodes.items old.events old.sent.items acts new → WorldStands header (e ∷ events) new
+WorldStands-handed header events e row step old new acts w none happens at inside idle is_up performs noted =
+    let x : ℕ = step_tick header step in
+    let past : Past = in_step step x (past_of header step (run header events)) in
+    let there = up_place old.nodes.items step.node (slice_get old.nodes.items step.node) refl is_up in
+    let node : Node = there.0 in
+    let stood : PlaceStands header (run header events) step.node (Some node) = w.nodes step.node (Some node) there.1 in
+    let begun : OwnStands (record { 0 = step.node }) past node = OwnStands-begun header (run header events) step x node stood.1 in
+    let did = performs node there.1 in
+    let now : OwnStands (record { 0 = step.node }) (grown x past (row x past)) node = did.stands past begun in
+    let acts_are : acts ≡ placed first_port (row x past) = did.acts past begun ∙ ap (λ ps. ps ++ placed first_port (row x past)) idle in
+    let is_up_now : up (plain (grown x past (row x past)).seen) ≡ true = up-added step x (row x past) past.seen (sym (up-seen step.node (run header events)) ∙ stood.0) in
+    WorldStands-acted header events e row step old new old.nodes.items acts w none happens at inside refl acts_are noted
+    (λ place is.
+    let same : Some node ≡ place = some_same (sym there.1 ∙ is) in
+    subst (λ p. PlaceStands header (joins (Some (steps header (run header events) row step)) (run header events)) step.node p) same (PlaceStands-acted header (run header events) row step node now.stands is_up_now))
+    (λ n place q is. is)
+
+-- and so does one that has noted an event at which nobody acts
+pub WorldStands-passed : (header : HeaderValue) (events : List Event) (e : Event) (old new : World) → WorldStands header events old → refusal (scene header events) e ≡ None → happening header (run header events) e ≡ None → Passes (event_at e) old new → WorldStands header (e ∷ events) new
+WorldStands-passed header events e old new w none happens passed = record {
+  header_is = passed.header ∙ w.header_is;
+  valid = (none, w.valid);
+  count = (let a = passed.events in let b = w.count in omega (arith, a, b));
+  last = passed.last;
+  sent = rw happens (ap (λ v. v.items) passed.sent ∙ w.sent);
+  lines = rw happens passed.lines;
+  places = ap (λ v. length v.items) passed.nodes ∙ w.places;
+  nodes = λ n place is. rw happens (w.nodes n place (ap (λ v. slice_get v.items n) (sym passed.nodes) ∙ is));
+  nobody = λ n past. rw happens (w.nobody n past);
+}
+
+up_at-stands : (header : HeaderValue) (history : List Line) (n : ℕ) (o : Option (Option Node)) → ((place : Option Node) → o ≡ Some place → PlaceStands header history n place) → (o ≡ None → up (dids (of n history)) ≡ false) → is_node o ≡ up (dids (of n history))
+up_at-stands header history n None there none = sym (none refl)
+up_at-stands header history n (Some None) there none = sym (there None refl)
+up_at-stands header history n (Some (Some node)) there none = sym (there (Some node) refl).0
+
+-- a world refuses what its schedule refuses
+pub Alike-stands : (header : HeaderValue) (events : List Event) (world : World) → vec_len world.nodes ≡ length world.nodes.items → WorldStands header events world → Alike (scene_of world) (scene header events)
+Alike-stands header events world len w = record {
+  nodes = len ∙ w.places;
+  last = w.last;
+  events = w.count;
+  posts = w.sent;
+  up = λ n. up_at-stands header (run header events) n (slice_get world.nodes.items n) (λ place is. w.nodes n place is) (λ is. w.nobody n (past_end n is));
+} where
+  past_end : (n : ℕ) → slice_get world.nodes.items n ≡ None → length header.nodes ≤ n
+  past_end n is = elim (cases_lt n (length header.nodes)) [
+    | inl lt ↦ (let inside : n < length world.nodes.items = (let e = w.places in omega (arith, lt, e)) in let some = slice_get-get_or world.nodes.items n None inside in let bad : ⊥ = cc in absurd bad)
+    | inr ge ↦ ge
+  ]
+
+-- the world's places are the header's nodes
+pub in_header : (header : HeaderValue) (events : List Event) (world : World) → vec_len world.nodes ≡ length world.nodes.items → WorldStands header events world → (n : ℕ) → n < vec_len world.nodes → n < length header.nodes
+in_header header events world len w n inside = subst (λ k. n < k) (len ∙ w.places) inside

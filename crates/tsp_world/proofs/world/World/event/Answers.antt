@@ -1,0 +1,28 @@
+-- A refusal is the schedule's; what isn't refused happens.
+use Rattle.std.proofs.Common.{◌≡◌, ◌∙◌, ap, refl, subst, sym, inl, inr, Some, None, rules, vec_len, length}
+use Rattle.tsp_base.specs.declared.event.Event.{Event}
+use Rattle.tsp_base.specs.Headers.{HeaderValue}
+use Rattle.tsp_world.specs.declared.world.World.{World}
+use Rattle.tsp_world.specs.Refusals.{scene, refusal}
+use Rattle.tsp_world.specs.WorldStands.{scene_of, WorldStands}
+use Rattle.tsp_world.proofs.RefusalLemmas.{refusal-alike}
+use Rattle.tsp_world.proofs.WorldLemmas.{Alike-stands}
+use Rattle.tsp_world.proofs.world.World.event.Goals as goal
+use Rattle.std.specs.Prelude.{List}
+
+-- what the world refuses, its schedule refuses
+refuses : (header : HeaderValue) (events : List Event) (world : World) (e : Event) → WorldStands header events world → refusal (scene_of world) e ≡ refusal (scene header events) e
+refuses header events world e w = refusal-alike (scene_of world) (scene header events) (Alike-stands header events world (search rules) w) e
+
+pub returns-in-Some-clause-fault : goal.returns-in-Some-clause-fault
+returns-in-Some-clause-fault c = λ header events w. inl (sym (refuses header events c.args.self.now c.args.e.now w) ∙ sym c.refusal.ensures ∙ c.in-Some.is)
+
+pub returns-then-is_err-clause-fault : goal.returns-then-is_err-clause-fault
+returns-then-is_err-clause-fault c = λ header events w. inr (sym (refuses header events c.args.self.now c.args.e.now w) ∙ sym c.refusal.ensures ∙ c.in_default.is, refl)
+
+pub returns-clause-stands : goal.returns-clause-stands
+returns-clause-stands c = λ header events w.
+    c.happen.ensures header events (c.make_room.ensures.stands header events w) (sym (refuses header events c.args.self.now c.args.e.now w) ∙ sym c.refusal.ensures ∙ c.in_default.is)
+
+pub returns-clause-fault : goal.returns-clause-fault
+returns-clause-fault c = λ header events w. sym (refuses header events c.args.self.now c.args.e.now w) ∙ sym c.refusal.ensures ∙ c.in_default.is

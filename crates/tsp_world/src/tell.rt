@@ -1,0 +1,122 @@
+//! An event's acts, as lines and as posted datagrams.
+ghost use Rattle.std.specs.Prelude.{◌≡◌, ◌≤◌, ◌<◌, ◌^◌, ◌+◌, ◌++◌, [], ◌∷◌, ℕ, length, vec_len, vec_capacity};
+ghost use Rattle.tsp_world.specs.Run.{told_from, told_line, posts_by, number_of, posts_from, posted_by};
+
+use crate::line::Line;
+use crate::posted::Posted;
+use tsp_base::act::{Act, Placed};
+
+/// Puts a value behind the others, where there is room.
+fn push<T: Drop>(held: &mut Vec<T>, value: T)
+    requires room { vec_len held.old < vec_capacity held.old }
+    ensures items { held.new.items ≡ held.old.items ++ value ∷ [] }
+    ensures len { vec_len held.new ≡ vec_len held.old + 1 }
+    ensures capacity { vec_capacity held.old ≤ vec_capacity held.new }
+{
+    match held.push(value) {
+        Ok(()) => {}
+        Err(_) => unreachable!(),
+    }
+}
+
+/// Tells acts of an event as lines; the first post among them gets the number `first`.
+pub(crate) fn tell(
+    lines: &mut Vec<Line>,
+    acts: &[Placed],
+    event: u64,
+    node: u32,
+    tick: u64,
+    first: u64,
+)
+    requires room { vec_len lines.old + length acts.now ≤ vec_capacity lines.old }
+    requires numbers { first + length acts.now < 2 ^ 64 }
+    ensures lines { lines.new.items ≡ lines.old.items ++ told_from event node tick first acts.now }
+    ensures capacity { vec_capacity lines.old ≤ vec_capacity lines.new }
+{
+    let mut next = first;
+    for placed in acts {
+        next = tell_one(lines, placed, event, node, tick, next);
+    }
+}
+
+/// Tells one act, and gives the number of the next post.
+fn tell_one(
+    lines: &mut Vec<Line>,
+    placed: &Placed,
+    event: u64,
+    node: u32,
+    tick: u64,
+    next: u64,
+) -> u64
+    requires room { vec_len lines.old < vec_capacity lines.old }
+    requires number { next + 1 < 2 ^ 64 }
+    ensures line { lines.new.items ≡ lines.old.items ++ told_line event node tick next placed.now ∷ [] }
+    ensures len { vec_len lines.new ≡ vec_len lines.old + 1 }
+    ensures capacity { vec_capacity lines.old ≤ vec_capacity lines.new }
+    ensures next { result ≡ next + posts_by placed.now.act }
+{
+    let number = number_of(&placed.act, next);
+    let line = Line {
+        event,
+        node,
+        tick,
+        number,
+        placed: placed.copy(),
+    };
+    push(lines, line);
+    next + posts_by(&placed.act)
+}
+
+/// The number of a post.
+fn number_of(act: &Act, next: u64) -> Option<u64>
+    ensures { result ≡ number_of act.now next }
+{
+    match act {
+        Act::Post(_, _) => Some(next),
+        _ => None,
+    }
+}
+
+/// How many datagrams an act posts.
+fn posts_by(act: &Act) -> u64
+    ensures many { result ≡ posts_by act.now }
+    ensures few { result ≤ 1 }
+{
+    match act {
+        Act::Post(_, _) => 1,
+        _ => 0,
+    }
+}
+
+/// Notes the datagrams that acts post.
+pub(crate) fn send(sent: &mut Vec<Posted>, acts: &[Placed], at: u64, node: u32)
+    requires room { vec_len sent.old + length acts.now ≤ vec_capacity sent.old }
+    ensures sent { sent.new.items ≡ sent.old.items ++ posts_from at node acts.now }
+    ensures len { vec_len sent.new ≤ vec_len sent.old + length acts.now }
+    ensures capacity { vec_capacity sent.old ≤ vec_capacity sent.new }
+{
+    for placed in acts {
+        send_one(sent, &placed.act, at, node);
+    }
+}
+
+/// Notes the datagram that an act posts, if it posts one.
+fn send_one(sent: &mut Vec<Posted>, act: &Act, at: u64, node: u32)
+    requires room { vec_len sent.old < vec_capacity sent.old }
+    ensures sent { sent.new.items ≡ sent.old.items ++ posted_by at node act.now }
+    ensures len { vec_len sent.new ≤ vec_len sent.old + 1 }
+    ensures capacity { vec_capacity sent.old ≤ vec_capacity sent.new }
+{
+    match act {
+        Act::Post(to, datagram) => {
+            let posted = Posted {
+                at,
+                from: node,
+                to: *to,
+                datagram: datagram.copy(),
+            };
+            push(sent, posted)
+        }
+        _ => {}
+    }
+}
