@@ -1,11 +1,11 @@
 -- Laws of what a sink took and of what was handed to an output.
-use Rattle.std.proofs.Common.{◌≡◌, ℕ, ◌+◌, List, [], ◌++◌, None, Some, refl, sym, ap, ◌∙◌, subst, take, drop, append_assoc, append-nil, take-append-drop, length, length-drop, arith}
+use Rattle.std.proofs.Common.{◌≡◌, ℕ, ◌+◌, List, [], ◌++◌, None, Some, refl, sym, ap, ◌∙◌, take, drop, append_assoc, append-nil, length, length-drop, arith}
 use Rattle.std.proofs.Math.Seq.{take-add}
 use Rattle.std.proofs.lemmas.List.{take_all}
 use Rattle.std.specs.Prelude.{slice_range}
 use Rattle.std.specs.declared.option.Option.{Option}
 use Rattle.tsp_io.specs.Streams.{Grows}
-use Rattle.tsp_lines.specs.Outputs.{handed}
+use Rattle.tsp_lines.specs.Outputs.{Hands}
 
 pub Grows-nil : (a : Option (List ℕ)) → Grows a a []
 Grows-nil None = refl
@@ -20,3 +20,19 @@ pub Grows-take : (a b c : Option (List ℕ)) (xs : List ℕ) (at n : ℕ) → Gr
 Grows-take a b c xs at n p q =
     let rest : slice_range xs at (length xs) ≡ drop at xs = take_all _ (drop at xs) (omega (arith, length-drop at xs)) in
     rw (take-add at n xs) (Grows-trans a b c _ _ p (rw rest at q))
+
+-- nothing is handed over
+pub Hands-nil : (written : Option (List ℕ)) (held : List ℕ) → Hands written held written held []
+Hands-nil written held = ([], Grows-nil written, append-nil held)
+
+-- octets are held
+pub Hands-held : (written : Option (List ℕ)) (held octets : List ℕ) → Hands written held written (held ++ octets) octets
+Hands-held written held octets = ([], Grows-nil written, refl)
+
+-- octets and then others are handed over
+pub Hands-trans : (a b c : Option (List ℕ)) (held keeps left xs ys : List ℕ) → Hands a held b keeps xs → Hands b keeps c left ys → Hands a held c left (xs ++ ys)
+Hands-trans a b c held keeps left xs ys p q = (
+  p.0 ++ q.0,
+  Grows-trans a b c p.0 q.0 p.1 q.1,
+  sym (append_assoc held xs ys) ∙ ap (λ l. l ++ ys) p.2 ∙ append_assoc p.0 keeps ys ∙ ap (λ l. p.0 ++ l) q.2 ∙ sym (append_assoc p.0 q.0 left),
+)

@@ -1,7 +1,7 @@
 -- What a treatment of lines means, and what its calls come to.
 use Rattle.std.specs.Prelude.{◌≡◌, ℕ, ◌⊎◌, List, [], ◌∷◌, ◌++◌}
 use Rattle.std.specs.declared.option.Option.{Option}
-use Rattle.tsp_io.specs.Streams.{Grows}
+use Rattle.tsp_lines.specs.Outputs.{Hands}
 use Rattle.tsp_lines.specs.declared.output.Unwritten.{Unwritten}
 use Rattle.tsp_lines.specs.declared.output.Unwritten.TheVariants.{WriteFault as NotWritten, OutOfMemory as NoMemory}
 use Rattle.tsp_lines.specs.declared.treatment.Stop.{Stop}
@@ -26,27 +26,27 @@ pub record Meaning : Type 1 where
   pub lacks : List (List ℕ) → List ℕ → Type 0
 
 -- the line is accepted and its output handed over; the treatment has come to one line more
-abbrev pub Goes : Meaning → (List (List ℕ) → Type 0) → List (List ℕ) → List ℕ → List ℕ → Option (List ℕ) → Option (List ℕ) → Type 0
-Goes m Stands lines text line out now = (more : List ℕ) × Grows out now more × m.accepts (lines ++ line ∷ []) (text ++ more) × Stands (lines ++ line ∷ [])
+abbrev pub Goes : Meaning → (List (List ℕ) → Type 0) → List (List ℕ) → List ℕ → List ℕ → Option (List ℕ) → List ℕ → Option (List ℕ) → List ℕ → Type 0
+Goes m Stands lines text line written held now keeps = (more : List ℕ) × Hands written held now keeps more × m.accepts (lines ++ line ∷ []) (text ++ more) × Stands (lines ++ line ∷ [])
 
--- nothing was handed over, or a part of the output, which is then told whole
-abbrev pub Breaks : (List ℕ → Type 0) → Option (List ℕ) → Option (List ℕ) → Type 0
-Breaks IsWhole out now = (now ≡ out) ⊎ ((part : List ℕ) × (rest : List ℕ) × Grows out now part × IsWhole (part ++ rest))
+-- nothing was handed over, or a part of an output that is then told whole
+abbrev pub Breaks : (List ℕ → Type 0) → Option (List ℕ) → List ℕ → Option (List ℕ) → List ℕ → Type 0
+Breaks IsWhole written held now keeps = (part : List ℕ) × Hands written held now keeps part × ((part ≡ []) ⊎ ((rest : List ℕ) × IsWhole (part ++ rest)))
 
 -- why a line isn't accepted, or its output not handed over
-abbrev pub StopsAt : Meaning → List (List ℕ) → List ℕ → List ℕ → Option (List ℕ) → Option (List ℕ) → Stop → Type 0
-StopsAt m lines text line out now (Bad cause) = (now ≡ out) × m.refuses lines line cause
-StopsAt m lines text line out now Limit = (now ≡ out) × m.limits lines line
-StopsAt m lines text line out now WriteFault = Breaks (λ more. m.accepts (lines ++ line ∷ []) (text ++ more)) out now
-StopsAt m lines text line out now OutOfMemory = Breaks (λ more. m.accepts (lines ++ line ∷ []) (text ++ more)) out now
+abbrev pub StopsAt : Meaning → List (List ℕ) → List ℕ → List ℕ → Option (List ℕ) → List ℕ → Option (List ℕ) → List ℕ → Stop → Type 0
+StopsAt m lines text line written held now keeps (Bad cause) = Hands written held now keeps [] × m.refuses lines line cause
+StopsAt m lines text line written held now keeps Limit = Hands written held now keeps [] × m.limits lines line
+StopsAt m lines text line written held now keeps WriteFault = Breaks (λ more. m.accepts (lines ++ line ∷ []) (text ++ more)) written held now keeps
+StopsAt m lines text line written held now keeps OutOfMemory = Breaks (λ more. m.accepts (lines ++ line ∷ []) (text ++ more)) written held now keeps
 
 -- the input may end, and the output of its end is handed over
-abbrev pub Closes : Meaning → List (List ℕ) → Option (List ℕ) → Option (List ℕ) → Type 0
-Closes m lines out now = (more : List ℕ) × Grows out now more × m.ends lines more
+abbrev pub Closes : Meaning → List (List ℕ) → Option (List ℕ) → List ℕ → Option (List ℕ) → List ℕ → Type 0
+Closes m lines written held now keeps = (more : List ℕ) × Hands written held now keeps more × m.ends lines more
 
 -- why the input may not end, or the output of its end isn't handed over; no limit is met there
-abbrev pub StopsAtEnd : Meaning → List (List ℕ) → Option (List ℕ) → Option (List ℕ) → Stop → Type 0
-StopsAtEnd m lines out now (Bad cause) = (now ≡ out) × m.lacks lines cause
-StopsAtEnd m lines out now Limit = ⊥
-StopsAtEnd m lines out now WriteFault = Breaks (m.ends lines) out now
-StopsAtEnd m lines out now OutOfMemory = Breaks (m.ends lines) out now
+abbrev pub StopsAtEnd : Meaning → List (List ℕ) → Option (List ℕ) → List ℕ → Option (List ℕ) → List ℕ → Stop → Type 0
+StopsAtEnd m lines written held now keeps (Bad cause) = Hands written held now keeps [] × m.lacks lines cause
+StopsAtEnd m lines written held now keeps Limit = ⊥
+StopsAtEnd m lines written held now keeps WriteFault = Breaks (m.ends lines) written held now keeps
+StopsAtEnd m lines written held now keeps OutOfMemory = Breaks (m.ends lines) written held now keeps

@@ -1,8 +1,8 @@
--- What was handed to an output.
-use Rattle.std.specs.Prelude.{ℕ, List, ◌++◌}
-use Rattle.std.specs.Option.{option_map}
+-- What is handed to an output.
+use Rattle.std.specs.Prelude.{◌≡◌, ℕ, List, ◌++◌}
 use Rattle.std.specs.declared.option.Option.{Option}
+use Rattle.tsp_io.specs.Streams.{Grows}
 
--- what the sink took and then what is held, where the first is told
-abbrev pub handed : Option (List ℕ) → List ℕ → Option (List ℕ)
-handed written held = option_map (λ xs. xs ++ held) written
+-- these octets were handed over: with what was held before they are what was written since and what is held now
+abbrev pub Hands : Option (List ℕ) → List ℕ → Option (List ℕ) → List ℕ → List ℕ → Type 0
+Hands written held now keeps octets = (passed : List ℕ) × Grows written now passed × (held ++ octets ≡ passed ++ keeps)

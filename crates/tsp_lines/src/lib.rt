@@ -5,4 +5,6 @@
 pub mod cause;
 pub mod output;
 pub mod reader;
+pub mod refusal;
+pub mod treat;
 pub mod treatment;

@@ -2,7 +2,7 @@
 ghost use Rattle.std.specs.Prelude.{◌≡◌, ℕ, ◌≤◌, ◌<◌, [], length, take, drop, vec_len, IfOk, IfErr, OnOk, OnErr};
 ghost use Rattle.tsp_io.specs.Counts.{Rose};
 ghost use Rattle.tsp_io.specs.Streams.{Grows};
-ghost use Rattle.tsp_lines.specs.Outputs.{handed};
+ghost use Rattle.tsp_lines.specs.Outputs.{Hands};
 
 use std::alloc::{AllocError, Global};
 use std::marker::Model;
@@ -90,8 +90,8 @@ impl Output {
     /// Where it fails nothing of the piece is handed over.
     pub fn put<K: Sink>(&mut self, sink: &mut K, piece: &[u8]) -> Result<(), Unwritten>
         requires { length piece.now ≤ 65536 }
-        ensures ok { OnOk result (Grows (handed (K.written sink.old) self.old) (handed (K.written sink.new) self.new) piece.now) }
-        ensures err { OnErr result (handed (K.written sink.new) self.new ≡ handed (K.written sink.old) self.old) }
+        ensures ok { OnOk result (Hands (K.written sink.old) self.old (K.written sink.new) self.new piece.now) }
+        ensures err { OnErr result (Hands (K.written sink.old) self.old (K.written sink.new) self.new []) }
         ensures later { K.faults sink.old ≤ K.faults sink.new }
         ensures cause { result ≡ Err Unwritten.WriteFault → Rose (K.faults sink.old) (K.faults sink.new) × (0 < length self.new) }
     {
@@ -109,7 +109,7 @@ impl Output {
     /// Where it fails, what wasn't written is still held.
     pub fn flush<K: Sink>(&mut self, sink: &mut K) -> Result<(), Unwritten>
         ensures ok { OnOk result (self.new ≡ []) }
-        ensures same { handed (K.written sink.new) self.new ≡ handed (K.written sink.old) self.old }
+        ensures hands { Hands (K.written sink.old) self.old (K.written sink.new) self.new [] }
         ensures later { K.faults sink.old ≤ K.faults sink.new }
         ensures cause { result ≡ Err Unwritten.WriteFault → Rose (K.faults sink.old) (K.faults sink.new) × (0 < length self.new) }
     {

@@ -3,7 +3,6 @@ ghost use Rattle.std.specs.Prelude.{◌≡◌, ℕ, ◌≤◌, ◌<◌, length, 
 ghost use Rattle.tsp_io.specs.Counts.{Rose};
 ghost use Rattle.tsp_lines.specs.Lines.{NoFeed};
 ghost use Rattle.tsp_lines.specs.Meanings.{Meaning, Goes, StopsAt, Closes, StopsAtEnd, stop_of};
-ghost use Rattle.tsp_lines.specs.Outputs.{handed};
 
 use crate::cause::Cause;
 use crate::output::{Output, Unwritten};
@@ -49,8 +48,8 @@ pub trait Treatment {
         requires short { length line.now ≤ 1024 }
         requires feedless { NoFeed line.now }
         ensures treats { (lines : List (List ℕ)) → (text : List ℕ) → stands self.old lines → meaning.accepts lines text → MatchResult result
-            (λ _. Goes meaning (stands self.new) lines text line.now (handed (K.written sink.old) output.old) (handed (K.written sink.new) output.new))
-            (λ stop. StopsAt meaning lines text line.now (handed (K.written sink.old) output.old) (handed (K.written sink.new) output.new) stop) }
+            (λ _. Goes meaning (stands self.new) lines text line.now (K.written sink.old) output.old (K.written sink.new) output.new)
+            (λ stop. StopsAt meaning lines text line.now (K.written sink.old) output.old (K.written sink.new) output.new stop) }
         ensures later { K.faults sink.old ≤ K.faults sink.new }
         ensures cause { result ≡ Err Stop.WriteFault → Rose (K.faults sink.old) (K.faults sink.new) × (0 < length output.new) };
 
@@ -61,8 +60,8 @@ pub trait Treatment {
     /// Says whether the input may end here, and hands over the output of its end.
     fn end<K: Sink>(&mut self, output: &mut Output, sink: &mut K) -> Result<(), Stop>
         ensures ends { (lines : List (List ℕ)) → (text : List ℕ) → stands self.old lines → meaning.accepts lines text → MatchResult result
-            (λ _. Closes meaning lines (handed (K.written sink.old) output.old) (handed (K.written sink.new) output.new))
-            (λ stop. StopsAtEnd meaning lines (handed (K.written sink.old) output.old) (handed (K.written sink.new) output.new) stop) }
+            (λ _. Closes meaning lines (K.written sink.old) output.old (K.written sink.new) output.new)
+            (λ stop. StopsAtEnd meaning lines (K.written sink.old) output.old (K.written sink.new) output.new stop) }
         ensures later { K.faults sink.old ≤ K.faults sink.new }
         ensures cause { result ≡ Err Stop.WriteFault → Rose (K.faults sink.old) (K.faults sink.new) × (0 < length output.new) };
 }
