@@ -6,7 +6,7 @@ use Rattle.std.specs.List.{All}
 use Rattle.tsp_group.specs.Groups.{group_from}
 use Rattle.tsp_group.specs.Values.{IsNear, IsAscending}
 use Rattle.tsp_group.specs.Stretches.{IsStretch, IsSmallSum, IsWhole}
-use Rattle.tsp_group.specs.declared.sweep.Stretch.{Stretch}
+use Rattle.tsp_group.specs.declared.stretch.Stretch.{Stretch}
 use Rattle.tsp_group.proofs.Members.{group_from-stretch}
 use Rattle.tsp_group.proofs.Sums.{total_more, small_total}
 

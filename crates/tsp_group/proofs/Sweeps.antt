@@ -8,7 +8,7 @@ use Rattle.tsp_group.specs.Groups.{group_from, better, try_lo, no_group}
 use Rattle.tsp_group.specs.Stretches.{IsWhole}
 use Rattle.tsp_group.specs.Values.{IsAscending}
 use Rattle.tsp_group.specs.declared.group.Group.{Group}
-use Rattle.tsp_group.specs.declared.sweep.Stretch.{Stretch}
+use Rattle.tsp_group.specs.declared.stretch.Stretch.{Stretch}
 use Rattle.tsp_group.proofs.LargestGroup.{tried_more, tried_again}
 use Rattle.tsp_group.proofs.Repeats.{fresh_above, repeated_same, none_is_fresh}
 use Rattle.tsp_group.proofs.Stretches.{group_from-whole}

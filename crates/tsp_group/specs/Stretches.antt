@@ -1,7 +1,7 @@
 -- A stretch of an ascending list: the members of one value's group.
 use Rattle.std.specs.Prelude.{◌≡◌, ℕ, ◌-◌, ◌<◌, ◌≤◌, ℤ, pos, negsuc, ◌+ℤ◌, ◌-ℤ◌, ◌≤ℤ◌, ◌<ℤ◌, List, length, take, slice_index_or}
 use Rattle.tsp_group.specs.Groups.{total}
-use Rattle.tsp_group.specs.declared.sweep.Stretch.{Stretch}
+use Rattle.tsp_group.specs.declared.stretch.Stretch.{Stretch}
 
 -- the values from place first to before place end, with their sum, the last of them and the one after it
 pub record IsStretch (values : List ℤ) (s : Stretch) : Type 0 where

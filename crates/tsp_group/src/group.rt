@@ -66,7 +66,8 @@ pub fn mean(g: &Group) -> i64
     g.sum.div_euclid(i128::from(g.count)) as i64
 }
 
-/// What brings a clock that differs by `diff` to the mean, in microseconds.
+/// What brings a clock that differs by `diff` to the mean, in microseconds, both of less than 2^30
+/// seconds.
 pub fn correction(mean: i64, diff: i64) -> i64
     requires mean { IsNear mean }
     requires diff { IsNear diff }

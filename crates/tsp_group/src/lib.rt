@@ -2,9 +2,12 @@
 #![tactic(auto)]
 
 mod group;
+mod stretch;
 mod sweep;
+#[cfg(test)]
+mod tests;
 mod values;
 
 pub use group::{Group, correction, mean};
 pub use sweep::largest;
-pub use values::{FAR, Values};
+pub use values::Values;

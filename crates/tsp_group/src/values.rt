@@ -7,9 +7,6 @@ ghost use Rattle.tsp_group.specs.Values.{IsNear, IsAscending};
 use std::alloc::{AllocError, Global};
 use std::marker::Model;
 
-/// The bound of a difference that is averaged, in microseconds: 2^30 seconds.
-pub const FAR: i64 = 1_073_741_824_000_000;
-
 /// Differences in microseconds, at most as many as its room, with a count of the looks at them.
 ///
 /// Nothing but [`Values::look`] tells a value, so the looks say what a computation over them cost.
@@ -47,7 +44,7 @@ impl Values {
         })
     }
 
-    /// Adds a difference in microseconds at the end.
+    /// Adds a difference of less than 2^30 seconds, in microseconds, at the end.
     pub fn add(&mut self, diff: i64)
         requires room { length self.old.items < self.old.room }
         requires near { IsNear diff }

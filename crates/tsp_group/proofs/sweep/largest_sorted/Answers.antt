@@ -4,7 +4,7 @@ use Rattle.std.specs.Int.{w64}
 use Rattle.std.specs.List.{All, fold}
 use Rattle.tsp_group.specs.Groups.{try_lo, no_group, better}
 use Rattle.tsp_group.specs.Values.{IsNear, IsAscending}
-use Rattle.tsp_group.specs.declared.sweep.Stretch.{Stretch}
+use Rattle.tsp_group.specs.declared.stretch.Stretch.{Stretch}
 use Rattle.tsp_group.proofs.Sweeps.{try_fresh, skip_repeated}
 use Rattle.std.specs.Option.{option_eq}
 use Rattle.std.specs.Ordering.{int_eq}

@@ -1,9 +1,9 @@
 use Rattle.std.proofs.Common.{rules, arith, ◌≡◌, ◌+◌, ◌<◌, pos, length, get_or, FitsSigned, ap, ◌∙◌}
 use Rattle.std.proofs.lemmas.Int.{ints, to_z-of_z}
 use Rattle.std.specs.Int.{w64}
-use Rattle.tsp_group.specs.declared.sweep.Stretch.{Stretch}
+use Rattle.tsp_group.specs.declared.stretch.Stretch.{Stretch}
 use Rattle.tsp_group.proofs.Stretches.{small_stretch, stretch_more}
-use Rattle.tsp_group.proofs.sweep.Stretch.extend.Goals as goal
+use Rattle.tsp_group.proofs.stretch.Stretch.extend.Goals as goal
 
 pub admit-requires-clause-fits : goal.admit-requires-clause-fits
 admit-requires-clause-fits c = small_stretch _ _ c.len.ensures.near (omega (arith, c.len.ensures.room)) c.loop-self.invariant.0

@@ -3,7 +3,7 @@ use Rattle.std.proofs.lemmas.Int.{ints}
 use Rattle.std.specs.Int.{w64}
 use Rattle.tsp_group.specs.Values.{IsNear}
 use Rattle.tsp_group.proofs.Stretches.{whole_stretch}
-use Rattle.tsp_group.proofs.sweep.Stretch.reach.Goals as goal
+use Rattle.tsp_group.proofs.stretch.Stretch.reach.Goals as goal
 
 limit_is : (lo : ℤ) (span : ℕ) → IsNear lo → span ≤ 2 ^ 31 → to_z w64 (of_z w64 (to_z w64 (of_z w64 lo) +ℤ to_z w64 span)) ≡ lo +ℤ pos span
 limit_is lo span near small = let a = near.low in let b = near.high in omega (arith, ints)
