@@ -1,5 +1,5 @@
 -- Laws of lists of octets.
-use Rattle.std.proofs.Common.{◌≡◌, ℕ, ◌<◌, ◌≤◌, ◌-◌, List, [], ◌∷◌, ◌++◌, zero, suc, length, take, drop, slice_index_or, refl, ap, sym, arith}
+use Rattle.std.proofs.Common.{◌≡◌, ℕ, ◌<◌, ◌≤◌, ◌-◌, List, [], ◌∷◌, ◌++◌, zero, suc, length, take, slice_index_or, refl, ap, arith}
 use Rattle.std.proofs.lemmas.Grind.{common_steps}
 use Rattle.std.specs.Prelude.{Contains}
 use Rattle.tsp_base.specs.Names.{IsName}

@@ -1,25 +1,21 @@
 -- What spells a datagram has no fault.
-use Rattle.std.proofs.Common.{rules, ◌≡◌, ℕ, ◌<◌, ◌≤◌, List, ◌++◌, length, take, drop, ap, sym, ◌∙◌, arith, Some, None, true, false, inl, inr, ◌⊎◌}
-use Rattle.std.specs.Prelude.{Contains, IsSome}
-use Rattle.tsp_base.specs.Kinds.{kind_of, carries_time}
+use Rattle.std.proofs.Common.{rules, ◌≡◌, ℕ, List, ap, sym, ◌∙◌, arith, Some, None, true, false, inl, inr}
+use Rattle.std.specs.Prelude.{Contains}
+use Rattle.tsp_base.specs.Kinds.{carries_time}
 use Rattle.tsp_base.specs.Messages.{MessageValue}
 use Rattle.tsp_base.specs.declared.kind.Kind.{Kind}
 use Rattle.tsp_base.specs.declared.message.Body.{Body}
 use Rattle.tsp_base.specs.declared.message.Body.TheVariants.{Nothing, Time as TimeBody, Hops}
-use Rattle.tsp_base.specs.declared.stamp.Stamp.{Stamp}
 use Rattle.tsp_base.specs.declared.stamp.Stamp.TheVariants.{Request, Reply}
 use Rattle.tsp_base.specs.declared.datagram.Datagram.{Datagram}
 use Rattle.tsp_base.specs.declared.datagram.Datagram.TheVariants.{Message, Stamp as StampOf}
 use Rattle.tsp_base.specs.declared.datagram.DecodeFault.{DecodeFault}
 use Rattle.tsp_base.specs.declared.datagram.DecodeFault.TheVariants.{Short, Long, Version, Kind as BadKind, StampLength, NoEnd, NameTooLong, Reserved, Time}
-use Rattle.tsp_base.specs.declared.datagram.Taken.{Taken}
-use Rattle.tsp_base.specs.declared.datagram.Taken.TheVariants.{Good, Bad}
 use Rattle.tsp_codec.specs.Spelling.{IsTime, Spells, SpellsBody, SpellsMessage, SpellsRequest, SpellsReply}
-use Rattle.tsp_codec.specs.Numbers.{octet_at}
 use Rattle.tsp_base.specs.Stamps.{ReplyValue}
-use Rattle.tsp_codec.specs.Faults.{name_room, HasStampType, HasKind, HasTimedKind, Applies, IsFault, Reads}
+use Rattle.tsp_codec.specs.Faults.{name_room, HasStampType, HasKind, HasTimedKind, Applies, IsFault}
 use Rattle.tsp_codec.proofs.Lists.{Contains-take}
-use Rattle.tsp_codec.proofs.OneDatagram.{true-false, HasStampType-kind, kind_of-stamp, kind_of-one, type-one, Spells-one}
+use Rattle.tsp_codec.proofs.OneDatagram.{true-false, HasStampType-kind, kind_of-stamp, kind_of-one, type-one}
 
 -- a message's name ends within its room
 Contains-name_room : (o : List ℕ) (m : MessageValue) → SpellsMessage o m → Contains (name_room o) 0

@@ -1,8 +1,7 @@
 -- Octets spell at most one datagram.
-use Rattle.std.proofs.Common.{◌≡◌, ◌≢◌, ℕ, ◌<◌, ◌≤◌, List, [], ◌∷◌, ◌++◌, length, take, drop, refl, ap, sym, ◌∙◌, arith, Some, None, true, false, subst, Bool, inl, inr, ◌⊎◌}
-use Rattle.std.specs.Prelude.{Contains, IsSome, ℤ}
-use Rattle.tsp_base.specs.Names.{IsName}
-use Rattle.tsp_base.specs.Kinds.{kind_of, carries_time, carries_hops}
+use Rattle.std.proofs.Common.{◌≡◌, ℕ, List, refl, ap, sym, ◌∙◌, arith, Some, None, true, false, subst, Bool, inl, inr}
+use Rattle.std.specs.Prelude.{ℤ}
+use Rattle.tsp_base.specs.Kinds.{kind_of}
 use Rattle.tsp_base.specs.Messages.{MessageValue}
 use Rattle.tsp_base.specs.Stamps.{ReplyValue}
 use Rattle.std.specs.declared.option.Option.{Option}
@@ -13,7 +12,7 @@ use Rattle.tsp_base.specs.declared.stamp.Stamp.TheVariants.{Request, Reply}
 use Rattle.tsp_base.specs.declared.datagram.Datagram.{Datagram}
 use Rattle.tsp_base.specs.declared.datagram.Datagram.TheVariants.{Message, Stamp as StampOf}
 use Rattle.tsp_codec.specs.Numbers.{octet_at}
-use Rattle.tsp_codec.specs.Spelling.{Spells, SpellsBody, SpellsMessage, SpellsRequest, SpellsReply}
+use Rattle.tsp_codec.specs.Spelling.{Spells, SpellsBody, SpellsMessage}
 use Rattle.tsp_codec.specs.Faults.{HasStampType}
 use Rattle.tsp_codec.proofs.Lists.{append-one_split}
 

@@ -1,24 +1,23 @@
 -- What is computed from octets is what a reader takes.
-use Rattle.std.proofs.Common.{◌≡◌, ◌≢◌, ℕ, ◌+◌, ◌<◌, ◌≤◌, List, [], ◌∷◌, ◌++◌, zero, suc, length, take, drop, slice_index_or, length-append, refl, ap, sym, ◌∙◌, arith, Some, None, true, false, Bool, ◌&&◌, inl, inr, ◌⊎◌, ◌↔◌}
+use Rattle.std.proofs.Common.{◌≡◌, ◌≢◌, ℕ, ◌+◌, ◌<◌, ◌≤◌, List, [], ◌∷◌, ◌++◌, zero, suc, length, take, drop, slice_index_or, length-append, refl, ap, sym, ◌∙◌, arith, Some, None, true, false, Bool, ◌&&◌, inl, inr, ◌↔◌}
 use Rattle.std.proofs.lemmas.Bool.{ltb-true, ltb-false, eqb-true, eqb-false, and_parts}
 use Rattle.std.proofs.lemmas.Grind.{common_steps}
 use Rattle.std.proofs.lemmas.List.{take-append-drop}
-use Rattle.std.specs.Prelude.{Contains, ℤ, pos, negsuc, ◌≤ℤ◌, ◌<ℤ◌, int_le, int_lt, T, if◌then◌else◌, option_map, ◌==◌, nat_lt, Option}
+use Rattle.std.specs.Prelude.{Contains, ℤ, T, if◌then◌else◌, option_map, ◌==◌, nat_lt, Option}
 use Rattle.tsp_base.specs.Kinds.{kind_of, carries_time, carries_hops}
-use Rattle.tsp_base.specs.Names.{IsName}
 use Rattle.tsp_base.specs.declared.kind.Kind.{Kind}
 use Rattle.tsp_base.specs.declared.message.Body.{Body}
 use Rattle.tsp_base.specs.declared.message.Body.TheVariants.{Nothing, Time as TimeBody, Hops}
 use Rattle.tsp_base.specs.declared.stamp.Stamp.TheVariants.{Request, Reply}
 use Rattle.tsp_base.specs.declared.datagram.Datagram.{Datagram}
-use Rattle.tsp_base.specs.declared.datagram.Datagram.TheVariants.{Message, Stamp}
+use Rattle.tsp_base.specs.declared.datagram.Datagram.TheVariants.{Stamp}
 use Rattle.tsp_base.specs.declared.datagram.DecodeFault.TheVariants.{Short, Long, Version, Kind as BadKind, StampLength, NoEnd, NameTooLong, Reserved, Time}
 use Rattle.tsp_base.specs.declared.datagram.Taken.{Taken}
 use Rattle.tsp_base.specs.declared.datagram.Taken.TheVariants.{Good, Bad}
 use Rattle.tsp_codec.specs.Numbers.{octet_at, be16_at, be64_at}
-use Rattle.tsp_codec.specs.Spelling.{HasHead, IsStamp, IsTime, SpellsBody, SpellsName, micros_field, time_field, reading_field}
-use Rattle.tsp_codec.specs.Faults.{name_room, HasStampType, IsFault, IsReading, Reads}
-use Rattle.tsp_codec.specs.Taken.{before_nul, is_time, is_reading, body_of, message_taken, request_taken, reply_taken, stamp_taken, kind_taken, taken_of}
+use Rattle.tsp_codec.specs.Spelling.{HasHead, IsStamp, IsTime, SpellsBody, SpellsName, time_field, reading_field}
+use Rattle.tsp_codec.specs.Faults.{name_room, IsReading, Reads}
+use Rattle.tsp_codec.specs.Taken.{before_nul, is_time, is_reading, body_of, message_taken, request_taken, reply_taken, kind_taken, taken_of}
 use Rattle.tsp_codec.proofs.Lists.{Contains-∷}
 use Rattle.tsp_codec.specs.Canon.{canon, IsWritable}
 use Rattle.tsp_codec.proofs.OneReading.{Reads-one}

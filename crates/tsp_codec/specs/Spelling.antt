@@ -1,5 +1,5 @@
 -- What octets spell: the layout of the datagrams (TSP specification, message format).
-use Rattle.std.specs.Prelude.{◌≡◌, ℕ, ◌≤◌, ℤ, pos, negsuc, ◌+ℤ◌, ◌*ℤ◌, ◌≤ℤ◌, List, ◌∷◌, ◌++◌, length, take, drop, true, false, Some}
+use Rattle.std.specs.Prelude.{◌≡◌, ℕ, ◌≤◌, ℤ, pos, negsuc, ◌+ℤ◌, ◌*ℤ◌, ◌≤ℤ◌, List, ◌∷◌, ◌++◌, length, drop, true, false, Some}
 use Rattle.std.specs.Int.{w32, w64, cast_signed}
 use Rattle.tsp_base.specs.Kinds.{kind_of, carries_time, carries_hops}
 use Rattle.tsp_base.specs.Messages.{MessageValue}

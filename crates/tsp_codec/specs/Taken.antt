@@ -1,7 +1,6 @@
 -- What a reader takes from octets, computed.
-use Rattle.std.specs.Prelude.{ℕ, ℤ, pos, negsuc, List, [], ◌∷◌, length, Bool, ◌&&◌, ◌||◌, ◌==◌, nat_lt, int_le, int_lt, if◌then◌else◌, Option, None, Some, option_map}
+use Rattle.std.specs.Prelude.{ℕ, ℤ, pos, negsuc, List, [], ◌∷◌, length, Bool, ◌&&◌, ◌==◌, nat_lt, int_le, int_lt, if◌then◌else◌, Option, None, Some, option_map}
 use Rattle.tsp_base.specs.Kinds.{kind_of, carries_time, carries_hops}
-use Rattle.tsp_base.specs.Messages.{MessageValue}
 use Rattle.tsp_base.specs.declared.kind.Kind.{Kind}
 use Rattle.tsp_base.specs.declared.message.Body.{Body}
 use Rattle.tsp_base.specs.declared.message.Body.TheVariants.{Nothing, Time as TimeBody, Hops}

@@ -10,28 +10,25 @@ ghost use Rattle.tsp_codec.specs.Taken.{taken_of};
 
 use crate::encoding::encode;
 use crate::fields::{body_at, i64_at, name_at, u16_at, u64_at};
+use crate::layout::{
+    LAST_TICKET, LONGEST, NAME_AT, NAME_ROOM, REPLY, REQUEST, SHORTEST, STAMP, VERSION,
+};
 use tsp_base::datagram::{Datagram, DecodeFault, Taken};
 use tsp_base::kind::Kind;
 use tsp_base::message::Message;
 use tsp_base::stamp::Stamp;
 
-/// The type octet of a stamp request.
-const REQUEST: u8 = 0x80;
-
-/// The type octet of a stamp reply.
-const REPLY: u8 = 0x81;
-
 /// Refuses what is shorter or longer than any datagram, or of another version.
 fn check_head(octets: &[u8]) -> Result<(), DecodeFault>
     ensures { MatchResult result (λ done. HasHead octets.now) (λ fault. IsFault octets.now fault) }
 {
-    if octets.len() < 13 {
+    if octets.len() < SHORTEST {
         return Err(DecodeFault::Short);
     }
-    if octets.len() > 268 {
+    if octets.len() > LONGEST {
         return Err(DecodeFault::Long);
     }
-    if octets[1] != 1 {
+    if octets[1] != VERSION {
         return Err(DecodeFault::Version);
     }
     Ok(())
@@ -44,7 +41,7 @@ fn message_of(octets: &[u8], kind: Kind) -> Result<Message, DecodeFault>
     ensures { MatchResult result (λ message. SpellsMessage octets.now message) (λ fault. IsFault octets.now fault) }
 {
     let Some(name) = name_at(octets) else {
-        return Err(if octets.len() < 76 {
+        return Err(if octets.len() < NAME_AT + NAME_ROOM {
             DecodeFault::NoEnd
         } else {
             DecodeFault::NameTooLong
@@ -76,7 +73,7 @@ fn reply_of(octets: &[u8]) -> Result<Stamp, DecodeFault>
     ensures { MatchResult result (λ stamp. SpellsStamp octets.now stamp) (λ fault. IsFault octets.now fault) }
 {
     let ticket = u16_at(octets, 2);
-    if ticket > 32_767 {
+    if ticket > LAST_TICKET {
         return Err(DecodeFault::Reserved);
     }
     match Stamp::reply(
@@ -97,7 +94,7 @@ fn datagram_of(octets: &[u8]) -> Result<Datagram, DecodeFault>
 {
     match (octets[0], Kind::of(octets[0])) {
         (_, Some(kind)) => Ok(Datagram::Message(message_of(octets, kind)?)),
-        (REQUEST | REPLY, None) if octets.len() != 28 => Err(DecodeFault::StampLength),
+        (REQUEST | REPLY, None) if octets.len() != STAMP => Err(DecodeFault::StampLength),
         (REQUEST, None) => Ok(Datagram::Stamp(request_of(octets)?)),
         (REPLY, None) => Ok(Datagram::Stamp(reply_of(octets)?)),
         (_, None) => Err(DecodeFault::Kind),

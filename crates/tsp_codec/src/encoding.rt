@@ -8,6 +8,7 @@ ghost use Rattle.tsp_codec.specs.Spelling.{Spells};
 ghost use Rattle.tsp_codec.specs.Canon.{int_octets, time_octets, body_octets, name_octets, message_octets, stamp_octets, canon, IsWritableBody, IsWritable};
 ghost use Rattle.tsp_base.specs.declared.datagram.Datagram.{Datagram};
 
+use crate::layout::{NAME_ROOM, REPLY, REQUEST, SECOND, VERSION};
 use arrayvec::ArrayVec;
 use tsp_base::datagram::Datagram;
 use tsp_base::message::{Body, Message};
@@ -15,6 +16,7 @@ use tsp_base::micros::Micros;
 use tsp_base::name::Name;
 use tsp_base::stamp::Stamp;
 
+/// Appends octets for which there is room.
 fn append(out: &mut ArrayVec<u8, 268>, piece: &[u8])
     requires { array_vec_len out.old + length piece.now ≤ 268 }
     ensures { out.new.items ≡ out.old.items ++ piece.now }
@@ -22,6 +24,7 @@ fn append(out: &mut ArrayVec<u8, 268>, piece: &[u8])
     let _ = out.try_extend_from_slice(piece);
 }
 
+/// Appends this many zeros.
 fn append_zeros(out: &mut ArrayVec<u8, 268>, count: usize)
     requires { array_vec_len out.old + count ≤ 268 }
     ensures { out.new.items ≡ out.old.items ++ replicate count 0 }
@@ -31,6 +34,7 @@ fn append_zeros(out: &mut ArrayVec<u8, 268>, count: usize)
     }
 }
 
+/// Appends four octets in two's complement.
 fn append_i32(out: &mut ArrayVec<u8, 268>, value: i32)
     requires { array_vec_len out.old + 4 ≤ 268 }
     ensures { out.new.items ≡ out.old.items ++ int_octets value }
@@ -38,6 +42,7 @@ fn append_i32(out: &mut ArrayVec<u8, 268>, value: i32)
     append(out, &value.cast_unsigned().to_be_bytes());
 }
 
+/// Appends seconds and microseconds.
 fn append_pair(out: &mut ArrayVec<u8, 268>, seconds: i32, micros: i32)
     requires { array_vec_len out.old + 8 ≤ 268 }
     ensures { out.new.items ≡ out.old.items ++ (int_octets seconds ++ int_octets micros) }
@@ -55,11 +60,12 @@ fn append_time(out: &mut ArrayVec<u8, 268>, time: &Micros)
     let value = time.get();
     append_pair(
         out,
-        value.div_euclid(1_000_000) as i32,
-        value.rem_euclid(1_000_000) as i32,
+        value.div_euclid(SECOND) as i32,
+        value.rem_euclid(SECOND) as i32,
     );
 }
 
+/// Appends the eight octets of a body, with zeros where it has nothing.
 fn append_body(out: &mut ArrayVec<u8, 268>, body: &Body)
     requires { array_vec_len out.old + 8 ≤ 268 }
     ensures octets { out.new.items ≡ out.old.items ++ body_octets body.now }
@@ -75,6 +81,7 @@ fn append_body(out: &mut ArrayVec<u8, 268>, body: &Body)
     }
 }
 
+/// Appends a name, and zeros up to 64 octets.
 fn append_name(out: &mut ArrayVec<u8, 268>, name: &Name)
     requires { array_vec_len out.old + 64 ≤ 268 }
     ensures octets { out.new.items ≡ out.old.items ++ name_octets name.now }
@@ -82,21 +89,23 @@ fn append_name(out: &mut ArrayVec<u8, 268>, name: &Name)
 {
     let octets = name.octets();
     append(out, octets);
-    append_zeros(out, 64 - octets.len());
+    append_zeros(out, NAME_ROOM - octets.len());
 }
 
+/// The 76 octets of a message.
 fn message_spelling(message: &Message) -> ArrayVec<u8, 268>
     ensures octets { result.items ≡ message_octets message.now }
     ensures ranges { IsWritable (Datagram.Message message.now) }
 {
     let mut out = ArrayVec::new();
-    append(&mut out, &[message.kind().number(), 1]);
+    append(&mut out, &[message.kind().number(), VERSION]);
     append(&mut out, &message.number().to_be_bytes());
     append_body(&mut out, &message.body());
     append_name(&mut out, message.name());
     out
 }
 
+/// The 28 octets of a stamp.
 fn stamp_spelling(stamp: &Stamp) -> ArrayVec<u8, 268>
     ensures octets { result.items ≡ stamp_octets stamp.now }
     ensures ranges { IsWritable (Datagram.Stamp stamp.now) }
@@ -104,13 +113,13 @@ fn stamp_spelling(stamp: &Stamp) -> ArrayVec<u8, 268>
     let mut out = ArrayVec::new();
     match stamp {
         Stamp::Request { word, counter } => {
-            append(&mut out, &[0x80, 1, 0, 0]);
+            append(&mut out, &[REQUEST, VERSION, 0, 0]);
             append(&mut out, &word.to_be_bytes());
             append(&mut out, &counter.to_be_bytes());
             append_zeros(&mut out, 8);
         }
         Stamp::Reply(reply) => {
-            append(&mut out, &[0x81, 1]);
+            append(&mut out, &[REPLY, VERSION]);
             append(&mut out, &reply.ticket().to_be_bytes());
             append(&mut out, &reply.word().to_be_bytes());
             append(&mut out, &reply.counter().to_be_bytes());
@@ -120,7 +129,8 @@ fn stamp_spelling(stamp: &Stamp) -> ArrayVec<u8, 268>
     out
 }
 
-/// The written spelling.
+/// The one written spelling: 76 octets for a message, zeros where it has nothing and after its name,
+/// and 28 octets for a stamp. A reader takes it as the same datagram.
 pub fn encode(datagram: &Datagram) -> ArrayVec<u8, 268>
     ensures octets { result.items ≡ canon datagram.now }
     ensures ranges { IsWritable datagram.now }

@@ -8,6 +8,7 @@ ghost use Rattle.tsp_codec.specs.Numbers.{be16_at, be32_at, be64_at};
 ghost use Rattle.tsp_codec.specs.Spelling.{time_field, IsTime, SpellsBody, SpellsName};
 ghost use Rattle.tsp_codec.specs.Faults.{name_room};
 
+use crate::layout::{LAST_MICRO, NAME_AT, NAME_ROOM, SECOND};
 use tsp_base::kind::Kind;
 use tsp_base::message::Body;
 use tsp_base::micros::Micros;
@@ -60,7 +61,7 @@ fn time_value(octets: &[u8]) -> i64
     requires { 12 ≤ length octets.now }
     ensures { result ≡ time_field octets.now }
 {
-    i32_at(octets, 4) as i64 * 1_000_000 + i32_at(octets, 8) as i64
+    i32_at(octets, 4) as i64 * SECOND + i32_at(octets, 8) as i64
 }
 
 /// The time of octets 4 to 11; None where the microseconds or the value are out of their range.
@@ -69,7 +70,7 @@ fn time_at(octets: &[u8]) -> Option<Micros>
     ensures { MatchOption result (¬ IsTime octets.now) (λ time. IsTime octets.now × (time ≡ time_field octets.now)) }
 {
     let micros = i32_at(octets, 8);
-    if micros < -999_999 || 999_999 < micros {
+    if micros < -LAST_MICRO || LAST_MICRO < micros {
         return None;
     }
     match Micros::of(time_value(octets)) {
@@ -111,8 +112,8 @@ fn room_of(octets: &[u8]) -> &[u8]
     requires { 12 ≤ length octets.now }
     ensures { result.now ≡ name_room octets.now }
 {
-    let (_, place) = octets.split_at(12);
-    front_of(place, 64)
+    let (_, place) = octets.split_at(NAME_AT);
+    front_of(place, NAME_ROOM)
 }
 
 /// The place of the first NUL.

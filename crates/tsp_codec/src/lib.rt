@@ -7,6 +7,10 @@ mod decoding;
 mod encoding;
 mod fields;
 pub mod laws;
+mod layout;
 
 pub use decoding::{decode, read, read_back};
 pub use encoding::encode;
+
+#[cfg(test)]
+mod tests;

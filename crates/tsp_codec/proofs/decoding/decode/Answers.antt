@@ -1,4 +1,4 @@
-use Rattle.std.proofs.Common.{ap, Ok, Err}
+use Rattle.std.proofs.Common.{ap, Ok}
 use Rattle.tsp_codec.proofs.OneDatagram.{Spells-one}
 use Rattle.tsp_codec.proofs.NoFault.{Spells-no_fault}
 use Rattle.tsp_codec.proofs.decoding.decode.Goals as goal

@@ -1,12 +1,12 @@
 use Rattle.std.proofs.Common.{arith}
 use Rattle.tsp_codec.proofs.FirstFault.{IsFault-NoEnd, IsFault-NameTooLong, IsFault-Time}
-use Rattle.tsp_codec.proofs.decoding.message_of.Goals.{then-octets-lt76, else-octets-lt76}
+use Rattle.tsp_codec.proofs.decoding.message_of.Goals.{then-octets, else-octets}
 use Rattle.tsp_codec.proofs.decoding.message_of.Goals as goal
 
 pub returns-in_default : goal.returns-in_default
-returns-in_default c = elim c.if-octets-lt76.branch [
-  | then-octets-lt76 w ↦ rw w.result-is (IsFault-NoEnd c.args.octets.now c.args.kind c.requires.head c.requires.kind c.in_default.ensures (omega (arith, w.if-octets-lt76)))
-  | else-octets-lt76 w ↦ rw w.result-is (IsFault-NameTooLong c.args.octets.now c.args.kind c.requires.head c.requires.kind c.in_default.ensures (omega (arith, w.if-octets-lt76)))
+returns-in_default c = elim c.if-octets.branch [
+  | then-octets w ↦ rw w.result-is (IsFault-NoEnd c.args.octets.now c.args.kind c.requires.head c.requires.kind c.in_default.ensures (omega (arith, w.if-octets)))
+  | else-octets w ↦ rw w.result-is (IsFault-NameTooLong c.args.octets.now c.args.kind c.requires.head c.requires.kind c.in_default.ensures (omega (arith, w.if-octets)))
 ]
 
 pub returns-in-None : goal.returns-in-None

@@ -1,0 +1,34 @@
+//! The numbers of the layout.
+
+/// The version octet of each datagram.
+pub const VERSION: u8 = 1;
+
+/// The type octet of a stamp request.
+pub const REQUEST: u8 = 0x80;
+
+/// The type octet of a stamp reply.
+pub const REPLY: u8 = 0x81;
+
+/// The length of the shortest datagram: a message with an empty name, up to the NUL.
+pub const SHORTEST: usize = 13;
+
+/// The length of the longest datagram.
+pub const LONGEST: usize = 268;
+
+/// The length of each stamp.
+pub const STAMP: usize = 28;
+
+/// Where the name stands in a message.
+pub const NAME_AT: usize = 12;
+
+/// The octets that a written name takes, its NUL and the fill included. A longer name is refused.
+pub const NAME_ROOM: usize = 64;
+
+/// The greatest ticket of a reply.
+pub const LAST_TICKET: u16 = 32_767;
+
+/// The microseconds of a time are read from minus this to this, and written from 0 to this.
+pub const LAST_MICRO: i32 = 999_999;
+
+/// The microseconds of a second.
+pub const SECOND: i64 = 1_000_000;
