@@ -1,6 +1,7 @@
 -- What spells a datagram has no fault.
 use Rattle.std.proofs.Common.{rules, ◌≡◌, ℕ, List, ap, sym, ◌∙◌, arith, Some, None, true, false, inl, inr}
 use Rattle.std.specs.Prelude.{Contains}
+use Rattle.std.proofs.lemmas.Bool.{both_ways}
 use Rattle.tsp_base.specs.Kinds.{carries_time}
 use Rattle.tsp_base.specs.Messages.{MessageValue}
 use Rattle.tsp_base.specs.declared.kind.Kind.{Kind}
@@ -15,7 +16,7 @@ use Rattle.tsp_codec.specs.Spelling.{IsTime, Spells, SpellsBody, SpellsMessage, 
 use Rattle.tsp_base.specs.Stamps.{ReplyValue}
 use Rattle.tsp_codec.specs.Faults.{name_room, HasStampType, HasKind, HasTimedKind, Applies, IsFault}
 use Rattle.tsp_codec.proofs.Lists.{Contains-take}
-use Rattle.tsp_codec.proofs.OneDatagram.{true-false, HasStampType-kind, kind_of-stamp, kind_of-one, type-one}
+use Rattle.tsp_codec.proofs.OneDatagram.{HasStampType-kind, kind_of-stamp, kind_of-one, type-one}
 
 -- a message's name ends within its room
 Contains-name_room : (o : List ℕ) (m : MessageValue) → SpellsMessage o m → Contains (name_room o) 0
@@ -23,9 +24,9 @@ Contains-name_room o m p = rw p.name.1.1 (let s = p.name.0.short in Contains-tak
 
 -- a message whose kind has a time spells one
 IsTime-body : (o : List ℕ) (k : Kind) (b : Body) → SpellsBody o k b → carries_time k ≡ true → IsTime o
-IsTime-body o k Nothing p t = absurd (true-false _ t p.0)
+IsTime-body o k Nothing p t = absurd (both_ways _ p.0 t)
 IsTime-body o k (TimeBody v) p t = p.1
-IsTime-body o k (Hops h) p t = absurd (true-false _ t p.0)
+IsTime-body o k (Hops h) p t = absurd (both_ways _ p.0 t)
 
 Applies-message : (o : List ℕ) (m : MessageValue) (f : DecodeFault) → SpellsMessage o m → Applies o f → ⊥
 Applies-message o m Short p q = let l = p.head.low in absurd (omega arith)

@@ -1,6 +1,7 @@
 -- Octets spell at most one datagram.
-use Rattle.std.proofs.Common.{◌≡◌, ℕ, List, refl, ap, sym, ◌∙◌, arith, Some, None, true, false, subst, Bool, inl, inr}
+use Rattle.std.proofs.Common.{◌≡◌, ℕ, List, refl, ap, sym, ◌∙◌, arith, Some, None, subst, inl, inr}
 use Rattle.std.specs.Prelude.{ℤ}
+use Rattle.std.proofs.lemmas.Bool.{both_ways}
 use Rattle.tsp_base.specs.Kinds.{kind_of}
 use Rattle.tsp_base.specs.Messages.{MessageValue}
 use Rattle.tsp_base.specs.Stamps.{ReplyValue}
@@ -16,19 +17,15 @@ use Rattle.tsp_codec.specs.Spelling.{Spells, SpellsBody, SpellsMessage}
 use Rattle.tsp_codec.specs.Faults.{HasStampType}
 use Rattle.tsp_codec.proofs.Lists.{append-one_split}
 
--- a truth value isn't both
-pub true-false : (b : Bool) → b ≡ true → b ≡ false → ⊥
-true-false b p q = cc
-
 SpellsBody-one : (o : List ℕ) (k : Kind) (a b : Body) → SpellsBody o k a → SpellsBody o k b → a ≡ b
 SpellsBody-one o k Nothing Nothing p q = refl
-SpellsBody-one o k Nothing (TimeBody t) p q = absurd (true-false _ q.0 p.0)
-SpellsBody-one o k Nothing (Hops h) p q = absurd (true-false _ q.1 p.1)
-SpellsBody-one o k (TimeBody t) Nothing p q = absurd (true-false _ p.0 q.0)
+SpellsBody-one o k Nothing (TimeBody t) p q = absurd (both_ways _ p.0 q.0)
+SpellsBody-one o k Nothing (Hops h) p q = absurd (both_ways _ p.1 q.1)
+SpellsBody-one o k (TimeBody t) Nothing p q = absurd (both_ways _ q.0 p.0)
 SpellsBody-one o k (TimeBody t) (TimeBody u) p q = ap TimeBody (p.2 ∙ sym q.2)
-SpellsBody-one o k (TimeBody t) (Hops h) p q = absurd (true-false _ p.0 q.0)
-SpellsBody-one o k (Hops h) Nothing p q = absurd (true-false _ p.1 q.1)
-SpellsBody-one o k (Hops h) (TimeBody t) p q = absurd (true-false _ q.0 p.0)
+SpellsBody-one o k (TimeBody t) (Hops h) p q = absurd (both_ways _ q.0 p.0)
+SpellsBody-one o k (Hops h) Nothing p q = absurd (both_ways _ q.1 p.1)
+SpellsBody-one o k (Hops h) (TimeBody t) p q = absurd (both_ways _ p.0 q.0)
 SpellsBody-one o k (Hops h) (Hops i) p q = ap Hops (p.2 ∙ sym q.2)
 
 -- an octet is the number of one kind

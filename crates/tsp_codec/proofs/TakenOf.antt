@@ -1,8 +1,9 @@
 -- What is computed from octets is what a reader takes.
 use Rattle.std.proofs.Common.{◌≡◌, ◌≢◌, ℕ, ◌+◌, ◌<◌, ◌≤◌, List, [], ◌∷◌, ◌++◌, zero, suc, length, take, drop, slice_index_or, length-append, refl, ap, sym, ◌∙◌, arith, Some, None, true, false, Bool, ◌&&◌, inl, inr, ◌↔◌}
-use Rattle.std.proofs.lemmas.Bool.{ltb-true, ltb-false, eqb-true, eqb-false, and_parts}
+use Rattle.std.proofs.lemmas.Bool.{ltb-true, ltb-false, eqb-true, eqb-false, and_parts, and_from, both_ways}
+use Rattle.std.proofs.lemmas.Float.{T_from_true}
 use Rattle.std.proofs.lemmas.Grind.{common_steps}
-use Rattle.std.proofs.lemmas.List.{take-append-drop}
+use Rattle.std.proofs.lemmas.List.{append_assoc, take-append-drop}
 use Rattle.std.specs.Prelude.{Contains, ℤ, T, if◌then◌else◌, option_map, ◌==◌, nat_lt, Option}
 use Rattle.tsp_base.specs.Kinds.{kind_of, carries_time, carries_hops}
 use Rattle.tsp_base.specs.declared.kind.Kind.{Kind}
@@ -53,44 +54,31 @@ length-take-low n xs = grind (arith, common_steps)
 length-before : (xs name rest : List ℕ) → length xs ≤ 64 → xs ≡ name ++ 0 ∷ rest → length name ≤ 63
 length-before xs name rest l e = let m : length xs ≡ length name + length (0 ∷ rest) = ap length e ∙ length-append name (0 ∷ rest) in omega (arith, l, m)
 
-append_assoc_nul : (a x y : List ℕ) → (a ++ 0 ∷ x) ++ y ≡ a ++ 0 ∷ (x ++ y)
-append_assoc_nul [] x y = refl
-append_assoc_nul (c ∷ a) x y = ap (λ z. c ∷ z) (append_assoc_nul a x y)
-
 SpellsName-room : (o name : List ℕ) → EndsAtNul (name_room o) (Some name) → SpellsName o name
 SpellsName-room o name p = (
   record { short = length-before (name_room o) name p.1.0 (length-take-low 64 (drop 12 o)) p.1.1; no_nul = p.0 },
-  (p.1.0 ++ drop 64 (drop 12 o), sym (take-append-drop 64 (drop 12 o)) ∙ ap (λ z. z ++ drop 64 (drop 12 o)) p.1.1 ∙ append_assoc_nul name p.1.0 (drop 64 (drop 12 o))),
+  (p.1.0 ++ drop 64 (drop 12 o), sym (take-append-drop 64 (drop 12 o)) ∙ ap (λ z. z ++ drop 64 (drop 12 o)) p.1.1 ∙ append_assoc name (0 ∷ p.1.0) (drop 64 (drop 12 o))),
 )
 
-T-true : (b : Bool) → b ≡ true → T b
-T-true b e = rw e tt
-
-true-T : (b : Bool) → T b → b ≡ true
-true-T true t = refl
-true-T false t = absurd t
-
-and-true : (a b : Bool) → a ≡ true → b ≡ true → (a && b) ≡ true
-and-true a b p q = cc
-
-true_or_false : (b : Bool) → b ≡ false → b ≡ true → ⊥
-true_or_false b p q = cc
+true_from_T : (b : Bool) → T b → b ≡ true
+true_from_T true t = refl
+true_from_T false t = absurd t
 
 IsTime-is_time : (o : List ℕ) → is_time o ≡ true → IsTime o
 IsTime-is_time o e =
     let p = and_parts _ _ e in
     let a = and_parts _ _ p.0 in
     let b = and_parts _ _ p.1 in
-    record { low = record { le = T-true _ a.0 }; high = record { le = T-true _ a.1 }; value = record { low = record { le = T-true _ b.0 }; high = record { lt = T-true _ b.1 } } }
+    record { low = record { le = T_from_true _ a.0 }; high = record { le = T_from_true _ a.1 }; value = record { low = record { le = T_from_true _ b.0 }; high = record { lt = T_from_true _ b.1 } } }
 
 is_time-IsTime : (o : List ℕ) → IsTime o → is_time o ≡ true
-is_time-IsTime o p = and-true _ _ (and-true _ _ (true-T _ p.low.le) (true-T _ p.high.le)) (and-true _ _ (true-T _ p.value.low.le) (true-T _ p.value.high.lt))
+is_time-IsTime o p = and_from _ _ (and_from _ _ (true_from_T _ p.low.le) (true_from_T _ p.high.le)) (and_from _ _ (true_from_T _ p.value.low.le) (true_from_T _ p.value.high.lt))
 
 IsReading-is_reading : (r : ℤ) → is_reading r ≡ true → IsReading r
-IsReading-is_reading r e = let p = and_parts _ _ e in record { low = record { lt = T-true _ p.0 }; high = record { lt = T-true _ p.1 } }
+IsReading-is_reading r e = let p = and_parts _ _ e in record { low = record { lt = T_from_true _ p.0 }; high = record { lt = T_from_true _ p.1 } }
 
 is_reading-IsReading : (r : ℤ) → IsReading r → is_reading r ≡ true
-is_reading-IsReading r p = and-true _ _ (true-T _ p.low.lt) (true-T _ p.high.lt)
+is_reading-IsReading r p = and_from _ _ (true_from_T _ p.low.lt) (true_from_T _ p.high.lt)
 
 -- what a body is read as
 abbrev ReadsBody : List ℕ → Kind → Option Body → Type 0
@@ -100,7 +88,7 @@ ReadsBody o k (Some body) = SpellsBody o k body
 ReadsBody-if : (o : List ℕ) (k : Kind) (a b c : Bool) → carries_time k ≡ a → is_time o ≡ b → carries_hops k ≡ c
     → ReadsBody o k (if a then (if b then Some (TimeBody (time_field o)) else None) else (if c then Some (Hops (octet_at o 4)) else Some Nothing))
 ReadsBody-if o k true true c d e f = (d, IsTime-is_time o e, refl)
-ReadsBody-if o k true false c d e f = (d, λ t. true_or_false _ e (is_time-IsTime o t))
+ReadsBody-if o k true false c d e f = (d, λ t. both_ways _ e (is_time-IsTime o t))
 ReadsBody-if o k false b true d e f = (d, f, refl)
 ReadsBody-if o k false b false d e f = (d, f)
 
@@ -134,7 +122,7 @@ Reads-reply_taken o false true d e h =
     }
 Reads-reply_taken o false false d e h =
     IsFault-Time-reply o (be16_at o 2) (reading_field o) h refl refl (ltb-false 32767 (be16_at o 2) d)
-    (λ r. true_or_false _ e (is_reading-IsReading (reading_field o) (record { low = r.low; high = r.high })))
+    (λ r. both_ways _ e (is_reading-IsReading (reading_field o) (record { low = r.low; high = r.high })))
 
 Reads-stamp_taken : (o : List ℕ) (a b c : Bool) → (octet_at o 0 == 128) ≡ a → (octet_at o 0 == 129) ≡ b → (length o == 28) ≡ c → HasHead o → kind_of (octet_at o 0) ≡ None
     → Reads o (if a then (if c then request_taken o else Bad StampLength) else (if b then (if c then reply_taken o else Bad StampLength) else Bad BadKind))

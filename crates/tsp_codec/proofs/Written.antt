@@ -1,7 +1,8 @@
 -- The written spelling spells its datagram.
-use Rattle.std.proofs.Common.{◌≡◌, ℕ, ◌-◌, ◌^◌, ◌<◌, List, ◌∷◌, ◌++◌, suc, length, drop, refl, ap, sym, ◌∙◌, arith, true, false, Bool, not, ◌&&◌}
+use Rattle.std.proofs.Common.{◌≡◌, ℕ, ◌-◌, ◌^◌, ◌<◌, List, ◌∷◌, ◌++◌, suc, length, drop, refl, ap, sym, ◌∙◌, arith, true, false}
 use Rattle.std.specs.Prelude.{replicate}
 use Rattle.std.specs.Int.{w32, w64, from_be_bytes, to_be_bytes}
+use Rattle.std.proofs.lemmas.Bool.{and_parts, not-true}
 use Rattle.std.proofs.lemmas.Nat.{from_be_bytes-to_be_bytes_2, from_be_bytes-to_be_bytes_4, from_be_bytes-to_be_bytes_8}
 use Rattle.std.proofs.lemmas.Grind.{common_steps}
 use Rattle.std.proofs.lemmas.Int.{ints, to_z-of_z}
@@ -23,7 +24,7 @@ use Rattle.tsp_base.specs.declared.datagram.Datagram.TheVariants.{Message, Stamp
 use Rattle.tsp_base.specs.Stamps.{ReplyValue, IsReply}
 use Rattle.tsp_base.specs.declared.stamp.Stamp.TheVariants.{Request, Reply}
 use Rattle.tsp_codec.specs.Spelling.{Spells, SpellsMessage, SpellsName, SpellsRequest, SpellsReply}
-use Rattle.tsp_codec.specs.Canon.{IsWritable, IsWritableBody, message_octets, stamp_octets, name_octets, canon}
+use Rattle.tsp_codec.specs.Canon.{IsWritable, IsWritableBody, message_octets, stamp_octets, name_octets, canon, written_size}
 
 -- a kind with hops has no time
 carries_time-hops : (k : Kind) → carries_hops k ≡ true → carries_time k ≡ false
@@ -53,15 +54,6 @@ carries_time-hops SetDate e = cc
 carries_time-hops SetDateReq e = cc
 carries_time-hops Loop e = refl
 
-first_false : (a b : Bool) → (not a && not b) ≡ true → a ≡ false
-first_false true b e = cc
-first_false false b e = refl
-
-second_false : (a b : Bool) → (not a && not b) ≡ true → b ≡ false
-second_false true b e = cc
-second_false false true e = cc
-second_false false false e = refl
-
 body_fits-hops : (k : Kind) (h : ℕ) → body_fits k (Hops h) ≡ true → carries_hops k ≡ true
 unfolding body_fits
 body_fits-hops k h e = e
@@ -72,7 +64,7 @@ body_fits-time k t e = e
 
 body_fits-nothing : (k : Kind) → body_fits k Nothing ≡ true → (carries_time k ≡ false) × (carries_hops k ≡ false)
 unfolding body_fits
-body_fits-nothing k e = (first_false (carries_time k) (carries_hops k) e, second_false (carries_time k) (carries_hops k) e)
+body_fits-nothing k e = let p = and_parts _ _ e in (not-true _ p.0, not-true _ p.1)
 
 replicate-suc : (n m : ℕ) → n ≡ suc m → replicate {A = ℕ} n 0 ≡ 0 ∷ replicate m 0
 replicate-suc n m e = rw e refl
@@ -185,3 +177,13 @@ pub Spells-canon : (d : Datagram) → IsWritable d → Spells (canon d) d
 Spells-canon (Message m) w = SpellsMessage-octets m.kind m.number m.body m.name w.0 w.1 w.2 w.3
 Spells-canon (StampOf (Request a b)) w = SpellsRequest-octets a b w.0 w.1
 Spells-canon (StampOf (Reply r)) w = SpellsReply-octets r w.0 w.1 w.2
+
+length-message_octets : (k : Kind) (n : ℕ) (b : Body) (name : List ℕ) → IsName name → length (message_octets (message k n b name)) ≡ 76
+length-message_octets k n Nothing name p = let z = length-name_octets name p in omega arith
+length-message_octets k n (Hops h) name p = let z = length-name_octets name p in omega arith
+length-message_octets k n (TimeBody t) name p = let z = length-name_octets name p in omega arith
+
+pub length-canon : (d : Datagram) → IsWritable d → length (canon d) ≡ written_size d
+length-canon (Message m) w = length-message_octets m.kind m.number m.body m.name w.2
+length-canon (StampOf (Request a b)) w = refl
+length-canon (StampOf (Reply r)) w = refl

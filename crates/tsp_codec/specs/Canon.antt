@@ -45,6 +45,11 @@ abbrev pub canon : Datagram → List ℕ
 canon (Message message) = message_octets message
 canon (StampOf stamp) = stamp_octets stamp
 
+-- how many octets are written
+abbrev pub written_size : Datagram → ℕ
+written_size (Message message) = 76
+written_size (StampOf stamp) = 28
+
 -- a body's number is in its range
 abbrev pub IsWritableBody : Body → Type 0
 IsWritableBody Nothing = Unit {0}

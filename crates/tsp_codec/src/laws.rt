@@ -1,9 +1,9 @@
 //! Laws of the spelling.
-ghost use Rattle.std.specs.Prelude.{◌≡◌, ◌↔◌, ℕ, List};
+ghost use Rattle.std.specs.Prelude.{◌≡◌, ◌↔◌, ℕ, List, length};
 ghost use Rattle.tsp_codec.specs.Taken.{taken_of};
 ghost use Rattle.tsp_codec.specs.Spelling.{Spells};
 ghost use Rattle.tsp_codec.specs.Faults.{IsFault, Reads};
-ghost use Rattle.tsp_codec.specs.Canon.{canon, IsWritable};
+ghost use Rattle.tsp_codec.specs.Canon.{canon, written_size, IsWritable};
 ghost use Rattle.tsp_base.specs.declared.datagram.Datagram.{Datagram};
 ghost use Rattle.tsp_base.specs.declared.datagram.DecodeFault.{DecodeFault};
 ghost use Rattle.tsp_base.specs.declared.datagram.Taken.{Taken};
@@ -31,6 +31,11 @@ pub fn one_reading()
 /// The written spelling spells its datagram.
 pub fn written_spells()
     ensures { (d : Datagram) → IsWritable d → Spells (canon d) d }
+{}
+
+/// A message is written in 76 octets, a stamp in 28.
+pub fn written_has_its_size()
+    ensures { (d : Datagram) → IsWritable d → length (canon d) ≡ written_size d }
 {}
 
 /// What a reader takes from octets is computed: each list of octets is spelled or has a fault.
