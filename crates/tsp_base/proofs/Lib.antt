@@ -6,6 +6,7 @@ pub mod LeadsLemmas
 pub mod PerformsLemmas
 pub mod PlaceLemmas
 pub mod RowLemmas
+pub mod SendLemmas
 pub mod TickLemmas
 pub mod ViewPlaces
 pub mod Views

@@ -93,6 +93,16 @@ sending_at (s ∷ before) posts = sending_of (message_of (did_of s).deed) (did_o
 abbrev pub open_send : PeerId → List Seen → Option Sending
 open_send p seen = sending_at (open_to p seen) (posts_of p seen)
 
+-- a send with one post more
+abbrev pub again : Option Sending → Option Sending
+again None = None
+again (Some s) = Some (record s { posts = s.posts + 1 })
+
+-- whether an open send corrects
+abbrev pub corrects_in : Option Sending → Bool
+corrects_in None = false
+corrects_in (Some s) = is_correction s.message.kind
+
 abbrev pub begun_after : Deed → Bool → ℕ → ℕ
 begun_after (Acts Boot) begins n = 0
 begun_after (Acts (Post to (Message m))) begins n = if has_own_number m.kind && begins then n + 1 else n

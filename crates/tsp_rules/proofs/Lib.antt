@@ -1,1 +1,2 @@
+pub mod RowsOther
 pub mod ScriptsAnswered

@@ -1,0 +1,101 @@
+-- What rows that are written by cases do in the cases that are left.
+use Rattle.std.specs.Prelude.{◌≡◌, ◌≢◌, false, refl}
+use Rattle.tsp_base.specs.declared.kind.Kind.{Kind}
+use Rattle.tsp_base.specs.declared.kind.Kind.TheVariants.{AdjTime, Ack, MasterReq, MasterAck, SetTime, MasterUp, SlaveUp, Election, Accept, Refuse, Conflict, Resolve, Quit, TraceOn, TraceOff, Msite, MsiteReq, Test}
+use Rattle.tsp_base.specs.declared.place.PeerId.{PeerId}
+use Rattle.tsp_base.specs.declared.place.Place.{Place}
+use Rattle.tsp_base.specs.declared.role.Role.{Role}
+use Rattle.tsp_base.specs.declared.role.Role.TheVariants.{Loose, Follow, Master}
+use Rattle.tsp_base.specs.Messages.{MessageValue}
+use Rattle.tsp_base.specs.Rows.{Row, nothing}
+use Rattle.tsp_base.specs.Stamps.{ReplyValue}
+use Rattle.tsp_rules.specs.Answers.{from_peer, peer_says, replies_in, treats_kind}
+use Rattle.tsp_rules.specs.CandidateRows.{candidate_takes_kind}
+use Rattle.tsp_rules.specs.CommonRows.{follow_row, follows_unless}
+use Rattle.tsp_rules.specs.MasterRows.{master_takes_kind}
+use Rattle.tsp_rules.specs.SlaveRows.{masterup_in, masterack_in, from_master, slave_takes_kind}
+use Rattle.tsp_rules.specs.Tests.{is_follow, is_master}
+
+pub is_follow-other : (r : Role) → ((q : PeerId) → r ≡ Follow q → ⊥) → is_follow r ≡ false
+is_follow-other (Follow q) n = absurd (n q refl)
+is_follow-other _ n = refl
+
+pub is_master-other : (r : Role) → r ≢ Master → is_master r ≡ false
+is_master-other Master n = absurd (n refl)
+is_master-other _ n = refl
+
+pub masterup_in-other : (p : PeerId) (r : Role) → r ≢ Loose → ((q : PeerId) → r ≡ Follow q → ⊥) → masterup_in p r ≡ nothing
+unfolding masterup_in
+masterup_in-other p Loose l f = absurd (l refl)
+masterup_in-other p (Follow q) l f = absurd (f q refl)
+masterup_in-other p _ l f = refl
+
+pub masterack_in-other : (p : PeerId) (r : Role) → r ≢ Loose → ((q : PeerId) → r ≡ Follow q → ⊥) → masterack_in p r ≡ nothing
+unfolding masterack_in
+masterack_in-other p Loose l f = absurd (l refl)
+masterack_in-other p (Follow q) l f = absurd (f q refl)
+masterack_in-other p _ l f = refl
+
+pub from_master-other : (p : PeerId) (row : Row) (r : Role) → ((q : PeerId) → r ≡ Follow q → ⊥) → from_master p row r ≡ nothing
+unfolding from_master
+from_master-other p row (Follow q) f = absurd (f q refl)
+from_master-other p row _ f = refl
+
+pub follows_unless-other : (p : PeerId) (r : Role) → ((q : PeerId) → r ≡ Follow q → ⊥) → follows_unless p r ≡ follow_row p
+unfolding follows_unless
+follows_unless-other p (Follow q) f = absurd (f q refl)
+follows_unless-other p _ f = refl
+
+pub slave_takes_kind-other : (p : PeerId) (m : MessageValue) (k : Kind) →
+    k ≢ MasterUp → k ≢ MasterAck → k ≢ Election → k ≢ AdjTime → k ≢ SetTime → k ≢ Quit → k ≢ Ack → slave_takes_kind p m k ≡ nothing
+unfolding slave_takes_kind
+slave_takes_kind-other p m MasterUp a b c d e f g = absurd (a refl)
+slave_takes_kind-other p m MasterAck a b c d e f g = absurd (b refl)
+slave_takes_kind-other p m Election a b c d e f g = absurd (c refl)
+slave_takes_kind-other p m AdjTime a b c d e f g = absurd (d refl)
+slave_takes_kind-other p m SetTime a b c d e f g = absurd (e refl)
+slave_takes_kind-other p m Quit a b c d e f g = absurd (f refl)
+slave_takes_kind-other p m Ack a b c d e f g = absurd (g refl)
+slave_takes_kind-other p m _ a b c d e f g = refl
+
+pub candidate_takes_kind-other : (p : PeerId) (m : MessageValue) (k : Kind) →
+    k ≢ MasterUp → k ≢ MasterAck → k ≢ Election → k ≢ Accept → k ≢ Refuse → k ≢ Quit → k ≢ Ack → candidate_takes_kind p m k ≡ nothing
+unfolding candidate_takes_kind
+candidate_takes_kind-other p m MasterUp a b c d e f g = absurd (a refl)
+candidate_takes_kind-other p m MasterAck a b c d e f g = absurd (b refl)
+candidate_takes_kind-other p m Election a b c d e f g = absurd (c refl)
+candidate_takes_kind-other p m Accept a b c d e f g = absurd (d refl)
+candidate_takes_kind-other p m Refuse a b c d e f g = absurd (e refl)
+candidate_takes_kind-other p m Quit a b c d e f g = absurd (f refl)
+candidate_takes_kind-other p m Ack a b c d e f g = absurd (g refl)
+candidate_takes_kind-other p m _ a b c d e f g = refl
+
+pub master_takes_kind-other : (p : PeerId) (m : MessageValue) (k : Kind) →
+    k ≢ MasterReq → k ≢ Resolve → k ≢ SlaveUp → k ≢ Election → k ≢ MasterUp → k ≢ Conflict → k ≢ MasterAck → k ≢ Quit → k ≢ Ack →
+    master_takes_kind p m k ≡ nothing
+unfolding master_takes_kind
+master_takes_kind-other p m MasterReq a b c d e f g h i = absurd (a refl)
+master_takes_kind-other p m Resolve a b c d e f g h i = absurd (b refl)
+master_takes_kind-other p m SlaveUp a b c d e f g h i = absurd (c refl)
+master_takes_kind-other p m Election a b c d e f g h i = absurd (d refl)
+master_takes_kind-other p m MasterUp a b c d e f g h i = absurd (e refl)
+master_takes_kind-other p m Conflict a b c d e f g h i = absurd (f refl)
+master_takes_kind-other p m MasterAck a b c d e f g h i = absurd (g refl)
+master_takes_kind-other p m Quit a b c d e f g h i = absurd (h refl)
+master_takes_kind-other p m Ack a b c d e f g h i = absurd (i refl)
+master_takes_kind-other p m _ a b c d e f g h i = refl
+
+pub replies_in-other : (p : PeerId) (r : ReplyValue) (role : Role) → role ≢ Master → replies_in p r role ≡ nothing
+unfolding replies_in
+replies_in-other p r Master n = absurd (n refl)
+replies_in-other p r _ n = refl
+
+pub treats_kind-other : (from : Place) (m : MessageValue) (k : Kind) →
+    k ≢ Msite → k ≢ MsiteReq → k ≢ TraceOn → k ≢ TraceOff → k ≢ Test → treats_kind from m k ≡ from_peer from (peer_says m)
+unfolding treats_kind
+treats_kind-other from m Msite a b c d e = absurd (a refl)
+treats_kind-other from m MsiteReq a b c d e = absurd (b refl)
+treats_kind-other from m TraceOn a b c d e = absurd (c refl)
+treats_kind-other from m TraceOff a b c d e = absurd (d refl)
+treats_kind-other from m Test a b c d e = absurd (e refl)
+treats_kind-other from m _ a b c d e = refl
