@@ -5,7 +5,7 @@ use Rattle.tsp_rules.specs.Answers.{alarm_rings, rings, due_alarms, says_in, pee
 use Rattle.tsp_rules.specs.CandidateRows.{lead_row, yields, window_rings, accepted_by, refused_by, candidate_takes_kind, candidate_takes}
 use Rattle.tsp_rules.specs.ClockRows.{adjusts, sets}
 use Rattle.tsp_rules.specs.CommonRows.{boots, arms_elect, searches, tells_ticket, follow_row, backs_own, stand_row, follows_unless, quits, posts_reply, replies, names_master, says_master, traces, tests}
-use Rattle.tsp_rules.specs.Groups.{group_from, goes_before, better}
+use Rattle.tsp_group.specs.Groups.{group_from, goes_before, better}
 use Rattle.tsp_rules.specs.MasterRows.{joins, sends_away, master_takes_kind, master_takes}
 use Rattle.tsp_rules.specs.ResolveRows.{resolves, finds_rival, quits_rivals, resolve_rings}
 use Rattle.tsp_rules.specs.RoundRows.{asks, asks_slaves, round_begins, round_rings, asks_measured, arms_next, abandons, probe_rings, samples_exchange, samples, corrects_by, corrects_peer, closes_with, closes, close_rings}

@@ -3,7 +3,6 @@ pub mod CandidateRows
 pub mod ClockRows
 pub mod CommonRows
 pub mod Corrections
-pub mod Groups
 pub mod HoldScript
 pub mod LateClose
 pub mod MasterRows

@@ -15,7 +15,8 @@ use Rattle.tsp_base.specs.RoundFacts.{is_measured, asked, exchange, word_asked, 
 use Rattle.tsp_base.specs.Rows.{Row, nothing, puts, ◌followed_by◌, either_by, reading, for_each, arms, posts_to_others}
 use Rattle.tsp_base.specs.Stamps.{ReplyValue}
 use Rattle.tsp_rules.specs.ClockRows.{can_adjust, adjusts}
-use Rattle.tsp_rules.specs.Groups.{Group, group_of, mean_of}
+use Rattle.tsp_group.specs.Groups.{group_of, mean_of}
+use Rattle.tsp_group.specs.declared.group.Group.{Group}
 use Rattle.tsp_base.specs.Samples.{sample_diff, sample_err}
 use Rattle.tsp_rules.specs.SendRows.{begins_adjtime, begins_settime}
 use Rattle.tsp_rules.specs.Tests.{is_in_time, target_at, table_at}
