@@ -9,9 +9,10 @@ use Rattle.tsp_base.specs.declared.place.Place.TheVariants.{Peer}
 use Rattle.tsp_base.specs.declared.role.Role.TheVariants.{Starting, Loose, Follow}
 use Rattle.tsp_base.specs.History.{Booted, Turned, Handed, Past}
 use Rattle.tsp_base.specs.Rows.{bare, timed}
+use Rattle.tsp_base.specs.Takings.{peer_of as peer}
 use Rattle.tsp_rules.specs.Answers.{Turn, Got, answers}
 use Rattle.tsp_rules.specs.CommonRows.{boots}
-use Rattle.tsp_rules.specs.Scripts.{Event, peer, step, a_name, b_name, fresh, after, Answered, Is}
+use Rattle.tsp_rules.specs.Scripts.{Event, step, a_name, b_name, fresh, after, Answered, Is}
 
 -- node a, which follows b: a correction, its repeat, one that comes too soon, and the same again
 abbrev pub corrected_a : List Event

@@ -4,9 +4,10 @@ use Rattle.tsp_base.specs.declared.act.Act.TheVariants.{Boot, Become, Back, Arm,
 use Rattle.tsp_base.specs.declared.alarm.Alarm.TheVariants.{Quiet, Search, Elect, Window, Probe, Round, Close as CloseAlarm}
 use Rattle.tsp_base.specs.declared.role.Role.TheVariants.{Starting, Loose, Candidate, Master}
 use Rattle.tsp_base.specs.History.{Booted, Turned, Past}
+use Rattle.tsp_base.specs.Takings.{peer_of as peer}
 use Rattle.tsp_rules.specs.Answers.{Turn, answers}
 use Rattle.tsp_rules.specs.CommonRows.{boots}
-use Rattle.tsp_rules.specs.Scripts.{Event, peer, step, a_name, fresh, after, Answered, Is}
+use Rattle.tsp_rules.specs.Scripts.{Event, step, a_name, fresh, after, Answered, Is}
 
 -- a node alone, whose close is met one second after its deadline
 abbrev pub late_close_in_time : List Event

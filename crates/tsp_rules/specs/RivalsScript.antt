@@ -11,9 +11,10 @@ use Rattle.tsp_base.specs.History.{Booted, Turned, Handed, Past}
 use Rattle.tsp_base.specs.PortFacts.{is_rival}
 use Rattle.tsp_base.specs.Rows.{bare}
 use Rattle.tsp_base.specs.SendFacts.{open_send}
+use Rattle.tsp_base.specs.Takings.{peer_of as peer}
 use Rattle.tsp_rules.specs.Answers.{Turn, Got, answers}
 use Rattle.tsp_rules.specs.CommonRows.{boots}
-use Rattle.tsp_rules.specs.Scripts.{Event, peer, step, a_name, b_name, fresh, after, Answered, Is}
+use Rattle.tsp_rules.specs.Scripts.{Event, step, a_name, b_name, fresh, after, Answered, Is}
 
 -- node a: it is elected, finds a rival, sends it away, and is sent away itself
 abbrev pub rivals_a : List Event

@@ -7,10 +7,7 @@ use Rattle.tsp_base.specs.History.{Cause, Turned, Step, Past, plain}
 use Rattle.tsp_base.specs.NodeFacts.{ticket, target, shown}
 use Rattle.tsp_base.specs.PortFacts.{role}
 use Rattle.tsp_base.specs.Rows.{Row, grown, in_step}
-
--- the peer with this number
-abbrev pub peer : ℕ → PeerId
-peer n = record { 0 = n }
+use Rattle.tsp_base.specs.Takings.{peer_of}
 
 -- a step of node n at this true time
 abbrev pub step : ℕ → ℕ → Cause → Step
@@ -49,7 +46,7 @@ Answered (e ∷ later) past = (e.row e.tick (begun e past) ≡ e.acts) × Answer
 
 -- a node that has done nothing yet: its number, its name, whether it may be master, its peers
 abbrev pub fresh : ℕ → List ℕ → Bool → List PeerId → Past
-fresh n name may peers = record { own = peer n; name = name; may = may; peers = peers; step = step 0 n Turned; seen = [] }
+fresh n name may peers = record { own = peer_of n; name = name; may = may; peers = peers; step = step 0 n Turned; seen = [] }
 
 -- a past with this role, ticket, target and shown value at a tick
 pub record Is (past : Past) (r : Role) (number tick : ℕ) (aim display : ℤ) : Type 0 where

@@ -1,13 +1,11 @@
 -- What a port does that is Loose or follows a master, and what ends the quiet time.
-use Rattle.std.specs.Prelude.{ℕ, ◌==◌, ℤ, pos, Bool, false, ◌&&◌, if◌then◌else◌, Option, None, Some}
+use Rattle.std.specs.Prelude.{ℕ, ◌==◌, ℤ, Bool, false, ◌&&◌, if◌then◌else◌, Option, None, Some}
 use Rattle.tsp_base.specs.declared.act.Act.TheVariants.{Become, Back, Ring, Late}
 use Rattle.tsp_base.specs.declared.alarm.Alarm.{Alarm}
 use Rattle.tsp_base.specs.declared.alarm.Alarm.TheVariants.{Quiet, Search, Elect}
 use Rattle.tsp_base.specs.declared.constants.TheConstants.{GAP}
 use Rattle.tsp_base.specs.declared.kind.Kind.{Kind}
 use Rattle.tsp_base.specs.declared.kind.Kind.TheVariants.{AdjTime, Ack, MasterAck, SetTime, MasterUp, Election, Accept, Refuse, Conflict, Quit}
-use Rattle.tsp_base.specs.declared.message.Body.{Body}
-use Rattle.tsp_base.specs.declared.message.Body.TheVariants.{Time}
 use Rattle.tsp_base.specs.declared.place.PeerId.{PeerId}
 use Rattle.tsp_base.specs.declared.role.Role.{Role}
 use Rattle.tsp_base.specs.declared.role.Role.TheVariants.{Loose, Follow}
@@ -17,6 +15,7 @@ use Rattle.tsp_base.specs.Messages.{MessageValue}
 use Rattle.tsp_base.specs.NodeFacts.{ticket, correct_tick}
 use Rattle.tsp_base.specs.Rows.{Row, nothing, puts, ◌followed_by◌, either_by, reading, posts}
 use Rattle.tsp_base.specs.SendFacts.{Correcting, last_taken}
+use Rattle.tsp_base.specs.Takings.{time_in}
 use Rattle.tsp_rules.specs.ClockRows.{can_adjust, adjusts, sets}
 use Rattle.tsp_rules.specs.CommonRows.{arms_elect, searches, tells_ticket, follow_row, stand_row, quits}
 use Rattle.tsp_rules.specs.SendRows.{begins, is_free, acknowledges}
@@ -62,11 +61,6 @@ masterack_in p _ = nothing
 unfoldable pub election_of : PeerId → ℕ → Row
 election_of p number =
     either_by (may_back_at p) (puts (Back p) followed_by (arms_elect followed_by posts p Accept number)) (posts p Refuse number)
-
--- the time in a body
-abbrev pub time_in : Body → ℤ
-time_in (Time t) = t
-time_in _ = pos 0
 
 -- whether a correction with this number is the next one, and the last one isn't too near
 abbrev pub is_next : ℕ → ℕ → Past → Bool
