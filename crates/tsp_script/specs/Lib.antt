@@ -1,4 +1,5 @@
 pub mod Ranges
+pub mod Schedules
 pub mod Texts
 pub mod Traces
 pub mod Words

@@ -2,6 +2,7 @@
 #![tactic(auto)]
 
 pub mod acts;
+pub mod event_line;
 pub mod line_fault;
 pub mod message_reader;
 pub mod messages;

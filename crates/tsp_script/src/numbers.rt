@@ -175,3 +175,11 @@ pub(crate) fn short_of(number: u64) -> Option<u16>
 {
     u16::try_from(number).ok()
 }
+
+/// The number as 32 bits, where it fits.
+pub(crate) fn long_of(number: u64) -> Option<u32>
+    ensures fits { number < 2 ^ 32 → result ≡ Some number }
+    ensures same { IfSome result (λ n. (n ≡ number) × (n < 2 ^ 32)) }
+{
+    u32::try_from(number).ok()
+}

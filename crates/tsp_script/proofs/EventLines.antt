@@ -1,0 +1,102 @@
+-- Laws of the lines of events.
+use Rattle.std.proofs.Common.{◌≡◌, ℕ, ◌<◌, ◌≤◌, ◌^◌, List, [], ◌∷◌, ◌++◌, length, refl, sym, ◌∙◌, arith, Some, append_assoc, Ok}
+use Rattle.std.specs.Prelude.{decimal, codes, Contains}
+use Rattle.std.specs.Str.Parse.{AllDigits}
+use Rattle.std.proofs.lemmas.Fmt.{decimal_is_IsNumeral}
+use Rattle.hex.specs.Hex.{decode_of}
+use Rattle.hex.proofs.HexLemmas.{decode_of-ok}
+use Rattle.tsp_base.specs.declared.event.Event.{Event}
+use Rattle.tsp_base.specs.declared.event.Event.TheVariants.{Boot, Turn, Take, Bytes}
+use Rattle.tsp_base.specs.declared.place.Place.{Place}
+use Rattle.tsp_base.specs.declared.place.Place.TheVariants.{Peer, Stranger}
+use Rattle.tsp_script.specs.Schedules.{event_text, IsHexOf, IsPlace, IsTrueTime, IsEvent, SpellsRest}
+use Rattle.tsp_script.specs.Traces.{place_text}
+use Rattle.tsp_script.specs.Words.{after_word}
+use Rattle.tsp_script.proofs.Cuts.{cut_front, no_space-decimal}
+use Rattle.tsp_script.proofs.KindWords.{no_space-spaceless}
+
+-- a dash is no number
+dash_no_number : (ds : List ℕ) → AllDigits 10 ds → codes "-" ≡ ds → ⊥
+dash_no_number ds a e = let q = rw (sym e) at a in omega (arith, q.0)
+
+pub dash_is_stranger : (word : List ℕ) (p : Place) → IsPlace p → word ≡ codes "-" → word ≡ place_text p → Some Stranger ≡ Some p
+dash_is_stranger word Stranger h d e = refl
+dash_is_stranger word (Peer p) h d e = absurd (dash_no_number (decimal p.0) (decimal_is_IsNumeral p.0 (omega arith)).0.1 (sym d ∙ e))
+
+pub no_space-place : (p : Place) → IsPlace p → ¬ Contains (place_text p) 32
+no_space-place Stranger h = no_space-spaceless (codes "-") refl
+no_space-place (Peer p) h = no_space-decimal p.0 (omega arith)
+
+-- the hexadecimal of few octets is short
+pub short_hex : (hex octets : List ℕ) → decode_of hex ≡ Ok octets → length octets ≤ 300 → length hex ≤ 600
+short_hex hex octets e h = omega (arith, (decode_of-ok hex octets e).2)
+
+-- octets handed by equal parts
+pub bytes_of_parts : (at node other : ℕ) (from place : Place) (octets handed : List ℕ) → node ≡ other → from ≡ place → octets ≡ handed
+    → Bytes at node (record { 0 = 0 }) from octets ≡ Bytes at other (record { 0 = 0 }) place handed
+bytes_of_parts at node other from place octets handed n p o = rw (n, p, o) refl
+
+-- the time, the word and what follows it in an event's line
+abbrev pub at_of : Event → ℕ
+at_of (Boot at node word) = at
+at_of (Turn at node) = at
+at_of (Take at datagram) = at
+at_of (Bytes at node port from octets) = at
+
+abbrev pub verb_of : Event → List ℕ
+verb_of (Boot at node word) = codes "boot"
+verb_of (Turn at node) = codes "turn"
+verb_of (Take at datagram) = codes "take"
+verb_of (Bytes at node port from octets) = codes "bytes"
+
+abbrev pub rest_of : Event → List ℕ → List ℕ
+rest_of (Boot at node word) hex = decimal node ++ 32 ∷ decimal word
+rest_of (Turn at node) hex = decimal node
+rest_of (Take at datagram) hex = decimal datagram
+rest_of (Bytes at node port from octets) hex = decimal node ++ 32 ∷ (place_text from ++ 32 ∷ hex)
+
+event_parts : (e : Event) (hex : List ℕ) → event_text e hex ≡ codes "at" ++ 32 ∷ (decimal (at_of e) ++ 32 ∷ (verb_of e ++ 32 ∷ rest_of e hex))
+event_parts (Boot at node word) hex = simp append_assoc
+event_parts (Turn at node) hex = simp append_assoc
+event_parts (Take at datagram) hex = simp append_assoc
+event_parts (Bytes at node port from octets) hex = simp append_assoc
+
+pub after_at : (e : Event) (line hex : List ℕ) → line ≡ event_text e hex → after_word line ≡ decimal (at_of e) ++ 32 ∷ (verb_of e ++ 32 ∷ rest_of e hex)
+after_at e line hex l =
+    (cut_front line (codes "at") (decimal (at_of e) ++ 32 ∷ (verb_of e ++ 32 ∷ rest_of e hex)) (no_space-spaceless (codes "at") refl) (l ∙ event_parts e hex)).1
+
+pub IsTrueTime-at_of : (e : Event) → IsEvent e → IsTrueTime (at_of e)
+IsTrueTime-at_of (Boot at node word) h = h.0
+IsTrueTime-at_of (Turn at node) h = h.0
+IsTrueTime-at_of (Take at datagram) h = h.0
+IsTrueTime-at_of (Bytes at node port from octets) h = h.0
+
+pub no_space-verb_of : (e : Event) → ¬ Contains (verb_of e) 32
+no_space-verb_of (Boot at node word) = no_space-spaceless (codes "boot") refl
+no_space-verb_of (Turn at node) = no_space-spaceless (codes "turn") refl
+no_space-verb_of (Take at datagram) = no_space-spaceless (codes "take") refl
+no_space-verb_of (Bytes at node port from octets) = no_space-spaceless (codes "bytes") refl
+
+-- a line with `bytes` hands octets
+pub bytes_reads : (Holds : Event → List ℕ → Type 0) (at : ℕ) (line hex : List ℕ) (e : Event) → IsEvent e → IsHexOf hex e → at ≡ at_of e
+    → codes "bytes" ≡ verb_of e → line ≡ rest_of e hex
+    → ((node : ℕ) (from : Place) (octets : List ℕ) → node < 2 ^ 32 → IsPlace from → 1 ≤ length octets → length octets ≤ 300 → decode_of hex ≡ Ok octets
+    → line ≡ decimal node ++ 32 ∷ (place_text from ++ 32 ∷ hex) → Holds (Bytes at node (record { 0 = 0 }) from octets) hex)
+    → Holds e hex
+bytes_reads Holds at line hex (Boot t node word) h x a v l reads = absurd (cc)
+bytes_reads Holds at line hex (Turn t node) h x a v l reads = absurd (cc)
+bytes_reads Holds at line hex (Take t datagram) h x a v l reads = absurd (cc)
+bytes_reads Holds at line hex (Bytes t node port from octets) h x a v l reads =
+    let made = reads node from octets h.1 h.3 h.4 h.5 x l in
+    let here : at ≡ t = a in
+    let first : 0 ≡ port.0 = sym h.2 in
+    let P : ℕ → ℕ → Type 0 = λ (y : ℕ) (p : ℕ). Holds (Bytes y node (record { 0 = p }) from octets) hex in
+    rw (here, first) at made
+
+-- every other line has numbers alone
+pub numbers_read : (at : ℕ) (verb line hex : List ℕ) (e : Event) → IsHexOf hex e → at ≡ at_of e → verb ≡ verb_of e → line ≡ rest_of e hex → (verb ≡ codes "bytes" → ⊥)
+    → SpellsRest at verb line e × ([] ≡ hex)
+numbers_read at verb line hex (Boot t node word) x a v l n = ((sym a, v, l), sym x)
+numbers_read at verb line hex (Turn t node) x a v l n = ((sym a, v, l), sym x)
+numbers_read at verb line hex (Take t datagram) x a v l n = ((sym a, v, l), sym x)
+numbers_read at verb line hex (Bytes t node port from octets) x a v l n = absurd (n v)

@@ -1,0 +1,60 @@
+-- The lines of a schedule.
+use Rattle.std.specs.Prelude.{◌≡◌, ℕ, ◌^◌, ◌<◌, ◌≤◌, List, [], ◌∷◌, ◌++◌, length, decimal, codes}
+use Rattle.std.specs.declared.result.Result.{Result}
+use Rattle.std.specs.declared.result.Result.TheVariants.{Ok, Err}
+use Rattle.hex.specs.Hex.{decode_of}
+use Rattle.tsp_base.specs.declared.event.Event.{Event}
+use Rattle.tsp_base.specs.declared.event.Event.TheVariants.{Boot, Turn, Take, Bytes}
+use Rattle.tsp_base.specs.declared.place.Place.{Place}
+use Rattle.tsp_base.specs.declared.place.Place.TheVariants.{Peer, Stranger}
+use Rattle.tsp_script.specs.Texts.{space}
+use Rattle.tsp_script.specs.Traces.{place_text}
+use Rattle.tsp_script.specs.declared.event_line.EventItem.{EventItem}
+use Rattle.tsp_script.specs.declared.event_line.EventItem.TheVariants.{Event as EventOf, End}
+use Rattle.tsp_script.specs.declared.line_fault.LineFault.{LineFault}
+use Rattle.tsp_script.specs.declared.line_fault.LineFault.TheVariants.{Bad}
+
+-- the line of an event, in which `hex` is the hexadecimal of the octets that a node is handed
+abbrev pub event_text : Event → List ℕ → List ℕ
+event_text (Boot at node word) hex = codes "at " ++ decimal at ++ codes " boot " ++ decimal node ++ space ++ decimal word
+event_text (Turn at node) hex = codes "at " ++ decimal at ++ codes " turn " ++ decimal node
+event_text (Take at datagram) hex = codes "at " ++ decimal at ++ codes " take " ++ decimal datagram
+event_text (Bytes at node port from octets) hex = codes "at " ++ decimal at ++ codes " bytes " ++ decimal node ++ space ++ place_text from ++ space ++ hex
+
+-- the octets that a node is handed are what the hexadecimal spells, in either case; other events have none
+abbrev pub IsHexOf : List ℕ → Event → Type 0
+IsHexOf hex (Bytes at node port from octets) = decode_of hex ≡ Ok octets
+IsHexOf hex _ = hex ≡ []
+
+-- a peer's number in its range, or nobody's
+abbrev pub IsPlace : Place → Type 0
+IsPlace (Peer p) = p.0 < 2 ^ 32
+IsPlace Stranger = Unit {0}
+
+-- a time of a schedule, in microseconds
+abbrev pub IsTrueTime : ℕ → Type 0
+IsTrueTime at = at ≤ 1000000000000000
+
+-- an event whose numbers are in their ranges, and which hands 1 to 300 octets, on port 0
+abbrev pub IsEvent : Event → Type 0
+IsEvent (Boot at node word) = IsTrueTime at × (node < 2 ^ 32) × (word < 2 ^ 64)
+IsEvent (Turn at node) = IsTrueTime at × (node < 2 ^ 32)
+IsEvent (Take at datagram) = IsTrueTime at × (datagram < 2 ^ 64)
+IsEvent (Bytes at node port from octets) = IsTrueTime at × (node < 2 ^ 32) × (port.0 ≡ 0) × IsPlace from × (1 ≤ length octets) × (length octets ≤ 300)
+
+-- a line behind the header is an event's, or the last
+abbrev pub SpellsEvent : List ℕ → EventItem → Type 0
+SpellsEvent line (EventOf e) = IsEvent e × ((hex : List ℕ) × IsHexOf hex e × (line ≡ event_text e hex))
+SpellsEvent line End = line ≡ codes "end"
+
+-- what reading a line behind the header gives: what it spells, or that it spells nothing
+abbrev pub ReadsEvent : List ℕ → Result EventItem LineFault → Type 0
+ReadsEvent line (Ok item) = SpellsEvent line item
+ReadsEvent line (Err Bad) = (item : EventItem) → SpellsEvent line item → ⊥
+
+-- a word and what follows it are those of this event without octets
+abbrev pub SpellsRest : ℕ → List ℕ → List ℕ → Event → Type 0
+SpellsRest at verb line (Boot t node word) = (t ≡ at) × (verb ≡ codes "boot") × (line ≡ decimal node ++ 32 ∷ decimal word)
+SpellsRest at verb line (Turn t node) = (t ≡ at) × (verb ≡ codes "turn") × (line ≡ decimal node)
+SpellsRest at verb line (Take t datagram) = (t ≡ at) × (verb ≡ codes "take") × (line ≡ decimal datagram)
+SpellsRest at verb line (Bytes t node port from octets) = ⊥

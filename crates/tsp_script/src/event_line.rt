@@ -1,0 +1,209 @@
+//! The lines of a schedule behind its header.
+ghost use Rattle.std.specs.Prelude.{◌≡◌, ℕ, ◌^◌, ◌<◌, ◌≤◌, ◌+◌, ◌++◌, ◌∷◌, List, [], length, decimal, codes, IfSome, IsSomeAnd};
+ghost use Rattle.arrayvec.specs.ArrayVec.{array_vec_len};
+ghost use Rattle.hex.specs.Hex.{decode_of};
+ghost use Rattle.tsp_base.specs.declared.event.Event.{Event};
+ghost use Rattle.tsp_base.specs.declared.place.Place.{Place};
+ghost use Rattle.tsp_script.specs.declared.event_line.EventItem.{EventItem};
+ghost use Rattle.tsp_script.specs.Schedules.{event_text, IsHexOf, IsPlace, IsEvent, SpellsEvent, SpellsRest, ReadsEvent};
+ghost use Rattle.tsp_script.specs.Traces.{place_text};
+
+use crate::acts::append_place;
+use crate::line_fault::LineFault;
+use crate::numbers::{
+    append, append_next_number, append_number, long_of, next_number, number_of, octets_of,
+};
+use crate::words::{cut, is_same};
+use arrayvec::ArrayVec;
+use tsp_base::constants::SCHEDULE_END;
+use tsp_base::event::Event;
+use tsp_base::octets::Octets;
+use tsp_base::place::{PeerId, Place, Port};
+
+/// What a line behind the header is.
+#[derive(Drop)]
+pub enum EventItem {
+    /// An event.
+    Event(Event),
+    /// The schedule's last line.
+    End,
+}
+
+/// The line of an event; `hex` is the hexadecimal of the octets that a node is handed.
+fn event_text(event: &Event, hex: &[u8]) -> ArrayVec<u8, 1024>
+    requires { length hex.now ≤ 600 }
+    ensures { result.items ≡ event_text event.now hex.now }
+{
+    let mut out = ArrayVec::new();
+    match event {
+        Event::Boot { at, node, word } => {
+            append_at(&mut out, *at, b" boot ", *node as u64);
+            append_next_number(&mut out, *word);
+        }
+        Event::Turn { at, node } => append_at(&mut out, *at, b" turn ", *node as u64),
+        Event::Take { at, datagram } => append_at(&mut out, *at, b" take ", *datagram),
+        Event::Bytes { at, node, from, .. } => {
+            append_at(&mut out, *at, b" bytes ", *node as u64);
+            append(&mut out, b" ");
+            append_place(&mut out, *from);
+            append(&mut out, b" ");
+            append(&mut out, hex);
+        }
+    }
+    out
+}
+
+/// Writes an event's time, a word between spaces and a number.
+fn append_at(out: &mut ArrayVec<u8, 1024>, at: u64, verb: &[u8], number: u64)
+    requires { array_vec_len out.old + length verb.now + 43 ≤ 1024 }
+    ensures text { out.new.items ≡ out.old.items ++ (codes "at " ++ decimal at ++ verb.now ++ decimal number) }
+    ensures short { array_vec_len out.new ≤ array_vec_len out.old + length verb.now + 43 }
+{
+    append(out, b"at ");
+    append_number(out, at);
+    append(out, verb);
+    append_number(out, number);
+}
+
+/// The place that a word names: a peer's number, or a dash for somebody else.
+fn place_of(word: &[u8]) -> Option<Place>
+    ensures reads { (p : Place) → IsPlace p → word.now ≡ place_text p → result ≡ Some p }
+    ensures range { IfSome result IsPlace }
+{
+    if is_same(word, b"-") {
+        return Some(Place::Stranger);
+    }
+    let number = number_of(word)?;
+    let number = long_of(number)?;
+    Some(Place::Peer(PeerId(number)))
+}
+
+/// Reads what follows `boot`.
+fn read_boot(at: u64, line: &[u8]) -> Option<Event>
+    requires { at ≤ 1000000000000000 }
+    ensures reads { (node word : ℕ) → node < 2 ^ 32 → word < 2 ^ 64 → line.now ≡ decimal node ++ 32 ∷ decimal word
+        → result ≡ Some (Event.Boot at node word) }
+    ensures range { IfSome result (λ e. IsEvent e × IsHexOf [] e) }
+{
+    let (node, line) = next_number(line)?;
+    let node = long_of(node)?;
+    let word = number_of(line)?;
+    Some(Event::Boot { at, node, word })
+}
+
+/// Reads what follows `turn`.
+fn read_turn(at: u64, line: &[u8]) -> Option<Event>
+    requires { at ≤ 1000000000000000 }
+    ensures reads { (node : ℕ) → node < 2 ^ 32 → line.now ≡ decimal node → result ≡ Some (Event.Turn at node) }
+    ensures range { IfSome result (λ e. IsEvent e × IsHexOf [] e) }
+{
+    let node = number_of(line)?;
+    let node = long_of(node)?;
+    Some(Event::Turn { at, node })
+}
+
+/// Reads what follows `take`.
+fn read_take(at: u64, line: &[u8]) -> Option<Event>
+    requires { at ≤ 1000000000000000 }
+    ensures reads { (datagram : ℕ) → datagram < 2 ^ 64 → line.now ≡ decimal datagram → result ≡ Some (Event.Take at datagram) }
+    ensures range { IfSome result (λ e. IsEvent e × IsHexOf [] e) }
+{
+    let datagram = number_of(line)?;
+    Some(Event::Take { at, datagram })
+}
+
+/// Reads what follows `bytes`, and gives the hexadecimal too.
+fn read_bytes(at: u64, line: &[u8]) -> Option<(Event, &[u8])>
+    requires { at ≤ 1000000000000000 }
+    ensures reads { (node : ℕ) (from : Place) (octets hex : List ℕ) → node < 2 ^ 32 → IsPlace from → 1 ≤ length octets → length octets ≤ 300
+        → decode_of hex ≡ Ok octets → line.now ≡ decimal node ++ 32 ∷ (place_text from ++ 32 ∷ hex)
+        → IsSomeAnd result (λ r. (r.0 ≡ Event.Bytes at node (record { 0 = 0 }) from octets) × (r.1.now ≡ hex)) }
+    ensures range { IfSome result (λ r. IsEvent r.0 × IsHexOf r.1.now r.0 × (length r.1.now ≤ 600)) }
+{
+    let (node, line) = next_number(line)?;
+    let node = long_of(node)?;
+    let (from, hex) = cut(line);
+    let from = place_of(from)?;
+    let Some(octets) = handed_of(hex) else {
+        return None;
+    };
+    let port = Port(0);
+    Some((
+        Event::Bytes {
+            at,
+            node,
+            port,
+            from,
+            octets,
+        },
+        hex,
+    ))
+}
+
+/// The 1 to 300 octets that hexadecimal spells, in either case; None where it spells no so many.
+fn handed_of(hex: &[u8]) -> Option<Octets>
+    ensures found { IfSome result (λ octets. (decode_of hex.now ≡ Ok octets) × (1 ≤ length octets) × (length octets ≤ 300) × (length hex.now ≤ 600)) }
+    ensures reads { (octets : List ℕ) → 1 ≤ length octets → length octets ≤ 300 → decode_of hex.now ≡ Ok octets → result ≡ Some octets }
+{
+    if hex.len() > 600 {
+        return None;
+    }
+    let octets = octets_of(hex)?;
+    if octets.is_empty() {
+        return None;
+    }
+    Octets::of(octets.as_slice())
+}
+
+/// Reads an event's line, and gives its hexadecimal too: none but for `bytes`.
+fn read_event(line: &[u8]) -> Option<(Event, &[u8])>
+    ensures reads { (e : Event) (hex : List ℕ) → IsEvent e → IsHexOf hex e → line.now ≡ event_text e hex
+        → IsSomeAnd result (λ r. (r.0 ≡ e) × (r.1.now ≡ hex)) }
+    ensures range { IfSome result (λ r. IsEvent r.0 × IsHexOf r.1.now r.0 × (length r.1.now ≤ 600)) }
+{
+    let (_, line) = cut(line);
+    let (at, line) = next_number(line)?;
+    if at > SCHEDULE_END {
+        return None;
+    }
+    let (verb, line) = cut(line);
+    if is_same(verb, b"bytes") {
+        return read_bytes(at, line);
+    }
+    match read_numbers(at, verb, line) {
+        Some(event) => Some((event, &[])),
+        None => None,
+    }
+}
+
+/// Reads what follows the word of an event without octets.
+fn read_numbers(at: u64, verb: &[u8], line: &[u8]) -> Option<Event>
+    requires { at ≤ 1000000000000000 }
+    ensures reads { (e : Event) → IsEvent e → SpellsRest at verb.now line.now e → result ≡ Some e }
+    ensures range { IfSome result (λ e. IsEvent e × IsHexOf [] e) }
+{
+    match verb {
+        b"boot" => read_boot(at, line),
+        b"turn" => read_turn(at, line),
+        b"take" => read_take(at, line),
+        _ => None,
+    }
+}
+
+/// What a line behind the header is; `Bad` exactly where it is no event's and not the last.
+pub fn event_line(line: &[u8]) -> Result<EventItem, LineFault>
+    ensures reads { ReadsEvent line.now result }
+    ensures one { (item : EventItem) → SpellsEvent line.now item → result ≡ Ok item }
+{
+    if is_same(line, b"end") {
+        return Ok(EventItem::End);
+    }
+    let Some((event, hex)) = read_event(line) else {
+        return Err(LineFault::Bad);
+    };
+    if is_same(event_text(&event, hex).as_slice(), line) {
+        Ok(EventItem::Event(event))
+    } else {
+        Err(LineFault::Bad)
+    }
+}
