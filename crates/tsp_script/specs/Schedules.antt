@@ -1,16 +1,22 @@
 -- The lines of a schedule.
-use Rattle.std.specs.Prelude.{◌≡◌, ℕ, ◌^◌, ◌<◌, ◌≤◌, List, [], ◌∷◌, ◌++◌, length, decimal, codes}
+use Rattle.std.specs.Prelude.{◌≡◌, ℕ, ◌^◌, ◌<◌, ◌≤◌, List, [], ◌∷◌, ◌++◌, Bool, true, false, ◌&&◌, ◌||◌, ◌==◌, nat_le, length, decimal, codes, nat_abs}
+use Rattle.std.specs.List.{AllPass}
+use Rattle.std.specs.Fmt.{signed_decimal}
 use Rattle.std.specs.declared.result.Result.{Result}
 use Rattle.std.specs.declared.result.Result.TheVariants.{Ok, Err}
 use Rattle.hex.specs.Hex.{decode_of}
+use Rattle.tsp_base.specs.Names.{IsName}
 use Rattle.tsp_base.specs.declared.event.Event.{Event}
 use Rattle.tsp_base.specs.declared.event.Event.TheVariants.{Boot, Turn, Take, Bytes}
+use Rattle.tsp_base.specs.declared.header.NodeLine.{NodeLine}
 use Rattle.tsp_base.specs.declared.place.Place.{Place}
 use Rattle.tsp_base.specs.declared.place.Place.TheVariants.{Peer, Stranger}
 use Rattle.tsp_script.specs.Texts.{space}
 use Rattle.tsp_script.specs.Traces.{place_text}
 use Rattle.tsp_script.specs.declared.event_line.EventItem.{EventItem}
 use Rattle.tsp_script.specs.declared.event_line.EventItem.TheVariants.{Event as EventOf, End}
+use Rattle.tsp_script.specs.declared.head_line.HeadItem.{HeadItem}
+use Rattle.tsp_script.specs.declared.head_line.HeadItem.TheVariants.{Title, Drift, Node, NotHead}
 use Rattle.tsp_script.specs.declared.line_fault.LineFault.{LineFault}
 use Rattle.tsp_script.specs.declared.line_fault.LineFault.TheVariants.{Bad}
 
@@ -58,3 +64,40 @@ SpellsRest at verb line (Boot t node word) = (t ≡ at) × (verb ≡ codes "boot
 SpellsRest at verb line (Turn t node) = (t ≡ at) × (verb ≡ codes "turn") × (line ≡ decimal node)
 SpellsRest at verb line (Take t datagram) = (t ≡ at) × (verb ≡ codes "take") × (line ≡ decimal datagram)
 SpellsRest at verb line (Bytes t node port from octets) = ⊥
+
+-- an octet that may stand in a schedule's name: a letter, a digit, a dot, a dash or a low line
+abbrev pub is_host : ℕ → Bool
+is_host c = ((nat_le 97 c && nat_le c 122) || (nat_le 65 c && nat_le c 90)) || ((nat_le 48 c && nat_le c 57) || ((c == 46) || ((c == 45) || (c == 95))))
+
+-- whether a node may be master
+abbrev pub flag_text : Bool → List ℕ
+flag_text true = codes "m"
+flag_text false = codes "s"
+
+-- the line of a node
+abbrev pub node_text : NodeLine → List ℕ
+node_text n = codes "node " ++ n.name ++ space ++ signed_decimal n.rate ++ space ++ signed_decimal n.wall ++ space ++ flag_text n.may
+
+-- 1 to 63 octets that may stand in a schedule's name
+pub record IsHost (octets : List ℕ) : Type 0 where
+  pub some : 1 ≤ length octets
+  pub name : IsName octets
+  pub all : AllPass is_host octets
+
+-- a node's line, whatever the drift is
+pub record IsNodeLine (n : NodeLine) : Type 0 where
+  pub host : IsHost n.name
+  pub rate : nat_abs n.rate ≤ 1000
+  pub wall : nat_abs n.wall ≤ 1000000000000000
+
+-- the line at a place of the header is this item's, places counted from 1: the title, the drift, and then nodes up to the first other line
+abbrev pub SpellsHead : ℕ → List ℕ → HeadItem → Type 0
+SpellsHead place line Title = (place ≡ 1) × (line ≡ codes "tsp-schedule 1")
+SpellsHead place line (Drift p) = (place ≡ 2) × (p ≤ 1000) × (line ≡ codes "drift " ++ decimal p)
+SpellsHead place line (Node n) = (3 ≤ place) × IsNodeLine n × (line ≡ node_text n)
+SpellsHead place line NotHead = (3 ≤ place) × ((rest : List ℕ) → line ≡ codes "node " ++ rest → ⊥)
+
+-- what reading a line of the header gives: what it spells, or that it spells nothing
+abbrev pub ReadsHead : ℕ → List ℕ → Result HeadItem LineFault → Type 0
+ReadsHead place line (Ok item) = SpellsHead place line item
+ReadsHead place line (Err Bad) = (item : HeadItem) → SpellsHead place line item → ⊥

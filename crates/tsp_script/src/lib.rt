@@ -3,6 +3,7 @@
 
 pub mod acts;
 pub mod event_line;
+pub mod head_line;
 pub mod line_fault;
 pub mod message_reader;
 pub mod messages;

@@ -1,0 +1,201 @@
+//! The lines of a schedule's header.
+ghost use Rattle.std.specs.Prelude.{Bool, ◌≡◌, ℕ, ℤ, ◌^◌, ◌<◌, ◌≤◌, ◌+◌, ◌++◌, ◌∷◌, List, length, decimal, codes, nat_abs, IfSome, MatchOption, IsTrue, ◌↔◌};
+ghost use Rattle.std.specs.Fmt.{signed_decimal};
+ghost use Rattle.std.specs.List.{AllPass};
+ghost use Rattle.arrayvec.specs.ArrayVec.{array_vec_len};
+ghost use Rattle.tsp_base.specs.Names.{IsName};
+ghost use Rattle.tsp_base.specs.declared.header.NodeLine.{NodeLine};
+ghost use Rattle.tsp_script.specs.declared.head_line.HeadItem.{HeadItem};
+ghost use Rattle.tsp_script.specs.Schedules.{is_host, flag_text, node_text, IsHost, IsNodeLine, SpellsHead, ReadsHead};
+
+use crate::line_fault::LineFault;
+use crate::numbers::{append, append_next_signed, append_number, next_signed, number_of};
+use crate::words::{cut, is_same};
+use arrayvec::ArrayVec;
+use tsp_base::constants::SCHEDULE_END;
+use tsp_base::header::NodeLine;
+use tsp_base::name::Name;
+
+/// What a line of the header is.
+#[derive(Drop)]
+pub enum HeadItem {
+    /// The first line.
+    Title,
+    /// The second line, with the drift in parts in a million, at most 1,000.
+    Drift(u32),
+    /// A node's line.
+    Node(NodeLine),
+    /// The line is no longer the header's.
+    NotHead,
+}
+
+/// Whether an octet may stand in a schedule's name.
+fn is_host(octet: u8) -> bool
+    ensures { result ≡ is_host octet }
+{
+    matches!(octet, b'a'..=b'z' | b'A'..=b'Z' | b'0'..=b'9' | b'.' | b'-' | b'_')
+}
+
+/// The name that a word of 1 to 63 letters, digits, dots, dashes and low lines is.
+fn host_of(word: &[u8]) -> Option<Name>
+    ensures reads { IsHost word.now → result ≡ Some word.now }
+    ensures range { IfSome result IsHost }
+{
+    if word.is_empty() || !word.iter().all(|octet| is_host(*octet)) {
+        return None;
+    }
+    Name::of(word).ok()
+}
+
+/// The rate, where its magnitude is at most 1,000.
+fn rate_of(rate: i64) -> Option<i32>
+    ensures reads { nat_abs rate ≤ 1000 → result ≡ Some rate }
+    ensures range { IfSome result (λ r. nat_abs r ≤ 1000) }
+{
+    if rate.unsigned_abs() > 1000 {
+        return None;
+    }
+    i32::try_from(rate).ok()
+}
+
+/// Whether a node may be master.
+fn flag_of(word: &[u8]) -> Option<bool>
+    ensures { (may : Bool) → word.now ≡ flag_text may → result ≡ Some may }
+{
+    match word {
+        b"m" => Some(true),
+        b"s" => Some(false),
+        _ => None,
+    }
+}
+
+/// Reads what follows `node`.
+fn read_node(line: &[u8]) -> Option<NodeLine>
+    ensures reads { (n : NodeLine) → IsNodeLine n
+        → line.now ≡ n.name ++ 32 ∷ (signed_decimal n.rate ++ 32 ∷ (signed_decimal n.wall ++ 32 ∷ flag_text n.may))
+        → result ≡ Some n }
+    ensures range { IfSome result IsNodeLine }
+{
+    let (name, line) = cut(line);
+    let name = host_of(name)?;
+    let (rate, line) = next_signed(line)?;
+    let rate = rate_of(rate)?;
+    let (wall, line) = next_signed(line)?;
+    if wall.unsigned_abs() > SCHEDULE_END {
+        return None;
+    }
+    let may = flag_of(line)?;
+    Some(NodeLine {
+        name,
+        rate,
+        wall,
+        may,
+    })
+}
+
+/// The word that says whether a node may be master.
+fn flag_word(may: bool) -> &'static [u8]
+    ensures word { result.now ≡ flag_text may }
+    ensures short { length result.now ≤ 1 }
+{
+    if may { b"m" } else { b"s" }
+}
+
+/// The line of a node.
+fn node_text(node: &NodeLine) -> ArrayVec<u8, 1024>
+    ensures { result.items ≡ node_text node.now }
+{
+    let mut out = ArrayVec::new();
+    append(&mut out, b"node ");
+    append(&mut out, node.name.octets());
+    append_next_signed(&mut out, node.rate as i64);
+    append_next_signed(&mut out, node.wall);
+    append(&mut out, b" ");
+    append(&mut out, flag_word(node.may));
+    out
+}
+
+/// What follows `node ` in a line that begins with it.
+fn after_node(line: &[u8]) -> Option<&[u8]>
+    ensures { MatchOption result ((rest : List ℕ) → line.now ≡ codes "node " ++ rest → ⊥) (λ r. line.now ≡ codes "node " ++ r.now) }
+{
+    if line.len() < 5 {
+        return None;
+    }
+    let (front, rest) = line.split_at(5);
+    if is_same(front, b"node ") {
+        Some(rest)
+    } else {
+        None
+    }
+}
+
+/// The drift of the second line.
+fn drift_of(line: &[u8]) -> Option<u32>
+    ensures found { IfSome result (λ p. (p ≤ 1000) × (line.now ≡ codes "drift " ++ decimal p)) }
+    ensures reads { (p : ℕ) → p ≤ 1000 → line.now ≡ codes "drift " ++ decimal p → result ≡ Some p }
+{
+    let (_, rest) = cut(line);
+    let drift = number_of(rest)?;
+    if drift > 1000 || !is_drift(line, drift) {
+        return None;
+    }
+    Some(drift as u32)
+}
+
+/// Whether the line is the second line with this drift.
+fn is_drift(line: &[u8], drift: u64) -> bool
+    ensures { IsTrue result ↔ (line.now ≡ codes "drift " ++ decimal drift) }
+{
+    let mut out = ArrayVec::new();
+    append(&mut out, b"drift ");
+    append_number(&mut out, drift);
+    is_same(line, out.as_slice())
+}
+
+/// What a line from the third on is.
+fn node_line(line: &[u8]) -> Result<HeadItem, LineFault>
+    ensures reads { ReadsHead 3 line.now result }
+    ensures one { (item : HeadItem) → SpellsHead 3 line.now item → result ≡ Ok item }
+{
+    let Some(rest) = after_node(line) else {
+        return Ok(HeadItem::NotHead);
+    };
+    let Some(node) = read_node(rest) else {
+        return Err(LineFault::Bad);
+    };
+    if is_same(node_text(&node).as_slice(), line) {
+        Ok(HeadItem::Node(node))
+    } else {
+        Err(LineFault::Bad)
+    }
+}
+
+/// What a line of the header is; `place` is its number, from 1. `Bad` exactly where the line isn't in
+/// the grammar of its place; a line from the third on that doesn't begin with `node ` is `NotHead`.
+pub fn head_line(line: &[u8], place: u32) -> Result<HeadItem, LineFault>
+    ensures reads { ReadsHead place line.now result }
+    ensures one { (item : HeadItem) → SpellsHead place line.now item → result ≡ Ok item }
+{
+    match place {
+        0 => Err(LineFault::Bad),
+        1 => title(line),
+        2 => match drift_of(line) {
+            Some(drift) => Ok(HeadItem::Drift(drift)),
+            None => Err(LineFault::Bad),
+        },
+        _ => node_line(line),
+    }
+}
+
+/// Reads the first line.
+fn title(line: &[u8]) -> Result<HeadItem, LineFault>
+    ensures reads { ReadsHead 1 line.now result }
+    ensures one { (item : HeadItem) → SpellsHead 1 line.now item → result ≡ Ok item }
+{
+    if is_same(line, b"tsp-schedule 1") {
+        Ok(HeadItem::Title)
+    } else {
+        Err(LineFault::Bad)
+    }
+}
