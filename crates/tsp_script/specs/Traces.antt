@@ -62,6 +62,13 @@ abbrev pub way_word : Bool → List ℕ
 way_word true = codes " step "
 way_word false = codes " slew "
 
+-- an act that tells microseconds
+abbrev pub is_measured : Act → Bool
+is_measured (Sample p counter diff err ticket) = true
+is_measured (CloseAct count lo width mean) = true
+is_measured (Correct amount stepped shown) = true
+is_measured _ = false
+
 -- an act; the number is the posted datagram's
 abbrev pub act_text : ℕ → Act → List ℕ
 act_text number Boot = codes "boot"

@@ -1,9 +1,9 @@
 //! The text of an act.
-ghost use Rattle.std.specs.Prelude.{◌≡◌, ℕ, ◌+◌, ◌≤◌, ◌++◌, length, decimal, codes};
+ghost use Rattle.std.specs.Prelude.{◌≡◌, ℕ, ◌+◌, ◌≤◌, ◌++◌, length, decimal, codes, true};
 ghost use Rattle.std.specs.Fmt.{signed_decimal};
 ghost use Rattle.arrayvec.specs.ArrayVec.{array_vec_len};
 ghost use Rattle.tsp_script.specs.Texts.{space, message_text};
-ghost use Rattle.tsp_script.specs.Traces.{alarm_word, fault_word, role_text, place_text, taken_text, way_word, act_text};
+ghost use Rattle.tsp_script.specs.Traces.{alarm_word, fault_word, role_text, place_text, taken_text, way_word, act_text, is_measured};
 
 use crate::messages::append_datagram;
 use crate::numbers::{
@@ -193,6 +193,20 @@ pub fn append_act(out: &mut ArrayVec<u8, 1024>, number: u64, act: &Act)
         Act::Rival(peer) => append_peer(out, b"rival ", *peer),
         Act::Acked(peer) => append_peer(out, b"acked ", *peer),
         Act::Gave(peer) => append_peer(out, b"gave ", *peer),
+        Act::Sample { .. } | Act::Close { .. } | Act::Correct { .. } => append_measured(out, act),
+        Act::Abandon => append(out, b"abandon"),
+        Act::Trace(true) => append(out, b"trace on"),
+        Act::Trace(false) => append(out, b"trace off"),
+    }
+}
+
+/// Writes an act that tells microseconds: a sample, a close or a correction.
+fn append_measured(out: &mut ArrayVec<u8, 1024>, act: &Act)
+    requires measured { is_measured act.now ≡ true }
+    requires room { array_vec_len out.old + 111 ≤ 1024 }
+    ensures { (number : ℕ) → out.new.items ≡ out.old.items ++ act_text number act.now }
+{
+    match act {
         Act::Sample {
             peer,
             counter,
@@ -211,9 +225,7 @@ pub fn append_act(out: &mut ArrayVec<u8, 1024>, number: u64, act: &Act)
             stepped,
             shown,
         } => append_correct(out, *amount, *stepped, *shown),
-        Act::Abandon => append(out, b"abandon"),
-        Act::Trace(true) => append(out, b"trace on"),
-        Act::Trace(false) => append(out, b"trace off"),
+        _ => {}
     }
 }
 
