@@ -9,5 +9,7 @@ pub mod message_reader;
 pub mod messages;
 pub mod names;
 pub mod numbers;
+#[cfg(test)]
+mod tests;
 pub mod trace;
 pub mod words;
