@@ -1,5 +1,5 @@
 -- What a Correct owes to its port's past.
-use Rattle.std.specs.Prelude.{◌≡◌, ◌≤◌, ◌⊎◌, ℕ, ◌+◌, ℤ, ◌-ℤ◌, true, List, ◌∷◌}
+use Rattle.std.specs.Prelude.{◌≡◌, ◌≤◌, ◌⊎◌, ℕ, ◌+◌, ℤ, ◌-ℤ◌, true, List, ◌∷◌, None}
 use Rattle.tsp_base.specs.declared.act.Act.TheVariants.{Took, Close}
 use Rattle.tsp_base.specs.declared.constants.TheConstants.{GAP, QUIET}
 use Rattle.tsp_base.specs.declared.datagram.Datagram.TheVariants.{Message}
@@ -12,7 +12,7 @@ use Rattle.tsp_base.specs.declared.role.Role.TheVariants.{Follow}
 use Rattle.tsp_base.specs.History.{Did, Acts, Seen, Here, plain}
 use Rattle.tsp_base.specs.Messages.{MessageValue}
 use Rattle.tsp_base.specs.NodeFacts.{last_correct, boot_tick, ticket, target}
-use Rattle.tsp_base.specs.PortFacts.{role}
+use Rattle.tsp_base.specs.PortFacts.{role, taken}
 use Rattle.tsp_base.specs.SendFacts.{is_correction}
 use Rattle.tsp_base.specs.Takings.{time_in}
 
@@ -21,7 +21,7 @@ abbrev pub amount_of : Kind → ℤ → ℤ → ℤ
 amount_of SetTime time target = time -ℤ target
 amount_of _ time target = time
 
--- a Correct that ends a round: it stands right after the Close and moves the clock by the mean
+-- a Correct that ends a round: it stands right after the Close, in a step that has taken nothing, and moves the clock by the mean
 pub record EndsRound (before : List Seen) (amount : ℤ) : Type 0 where
   pub close : Did
   pub past : List Seen
@@ -30,6 +30,7 @@ pub record EndsRound (before : List Seen) (amount : ℤ) : Type 0 where
   pub lo : ℤ
   pub size : ℤ
   pub deed : close.deed ≡ Acts (Close count lo size amount)
+  pub untaken : taken before ≡ None
 
 -- a Correct that takes a correction: it stands right after the Took, the correction is the followed master's and has the ticket as its number
 pub record TakesCorrection (here : Did) (before : List Seen) (amount : ℤ) : Type 0 where
