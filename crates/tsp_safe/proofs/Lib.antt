@@ -6,6 +6,7 @@ pub mod HeldProof
 pub mod HistoryPlaces
 pub mod KnownProof
 pub mod Locating
+pub mod MeasuredProof
 pub mod OnceObeyedProof
 pub mod OnceSpacedProof
 pub mod OnceTakenProof

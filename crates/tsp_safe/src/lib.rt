@@ -6,9 +6,11 @@
 ghost use Rattle.std.specs.Prelude.{List};
 ghost use Rattle.tsp_base.specs.Fits.{Fits, Finished};
 ghost use Rattle.tsp_base.specs.History.{Line};
-ghost use Rattle.tsp_base.specs.Once.{OnceSpaced};
+ghost use Rattle.tsp_base.specs.Measured.{Measured};
+ghost use Rattle.tsp_base.specs.Once.{OnceObeyed, OnceSpaced, OnceTaken};
 ghost use Rattle.tsp_base.specs.OneBack.{OneBack};
 ghost use Rattle.tsp_base.specs.OnlyMaster.{OnlyMaster};
+ghost use Rattle.tsp_base.specs.Premises.{Honest, Life, Words};
 ghost use Rattle.tsp_base.specs.Resolved.{StaysQuiet, Yields};
 ghost use Rattle.tsp_base.specs.Setting.{Setting};
 
@@ -25,6 +27,21 @@ pub fn only_master()
 /// Two corrections of one clock stand apart.
 pub fn once_spaced()
     ensures { (setting : Setting) (world : List Line) → Fits setting world → OnceSpaced world }
+{}
+
+/// A follower's clock is moved only as its master says, if no peer's datagram is forged.
+pub fn once_obeyed()
+    ensures { (setting : Setting) (world : List Line) → Fits setting world → Honest world → OnceObeyed setting world }
+{}
+
+/// No two corrections of clocks take posts of one send, if no datagram outlives `LIFE`; forged datagrams don't matter.
+pub fn once_taken()
+    ensures { (setting : Setting) (world : List Line) → Fits setting world → Life world → OnceTaken world }
+{}
+
+/// A measurement errs by at most half its round trip, if no peer's datagram is forged and no two boots have one word.
+pub fn measured()
+    ensures { (setting : Setting) (world : List Line) → Fits setting world → Honest world → Words world → Measured setting world }
 {}
 
 /// A master that takes a QUIT follows its sender at the end of that step.
