@@ -1,4 +1,5 @@
 pub mod AckFits
+pub mod Agreed
 pub mod Alarms
 pub mod ClockAt
 pub mod CorrectFits

@@ -1,4 +1,7 @@
+pub mod AgreedProof
+pub mod AgreedSums
 pub mod AskedProof
+pub mod BestProof
 pub mod ClockProof
 pub mod Clocks
 pub mod Correcting
@@ -6,6 +9,8 @@ pub mod HeldProof
 pub mod HistoryPlaces
 pub mod KnownProof
 pub mod Locating
+pub mod MasterMoved
+pub mod Matching
 pub mod MeasuredProof
 pub mod OnceObeyedProof
 pub mod OnceSpacedProof
@@ -14,6 +19,7 @@ pub mod OneBackProof
 pub mod OnlyMasterProof
 pub mod OwnFitsProof
 pub mod PortFits
+pub mod ReadingProof
 pub mod ResolvedProof
 pub mod RoundPlaces
 pub mod SendPlaces

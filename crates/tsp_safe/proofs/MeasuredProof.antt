@@ -213,7 +213,7 @@ reading-t setting l r t world older tw p k counter number diff err w f s l_up r_
 number-same : (m n : ℕ) → peer_of m ≡ peer_of n → m ≡ n
 number-same m n e = ap (λ (p : PeerId). p.0) e
 
-first-now : (q : Port) (now first : List Line) (idle : List Seen) → view q first ≡ idle → Undisturbed (plain idle) (plain (view q now)) → Undisturbed (dids first) (dids now)
+pub first-now : (q : Port) (now first : List Line) (idle : List Seen) → view q first ≡ idle → Undisturbed (plain idle) (plain (view q now)) → Undisturbed (dids first) (dids now)
 first-now q now first idle before u = subst₂ (λ x y. Undisturbed x y) (ap plain (sym before) ∙ plain_view q first) (plain_view q now) u
 
 -- the request has the word that its node still has

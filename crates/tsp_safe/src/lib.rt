@@ -4,6 +4,7 @@
 #![tactic(auto)]
 
 ghost use Rattle.std.specs.Prelude.{List};
+ghost use Rattle.tsp_base.specs.Agreed.{Agreed};
 ghost use Rattle.tsp_base.specs.Fits.{Fits, Finished};
 ghost use Rattle.tsp_base.specs.History.{Line};
 ghost use Rattle.tsp_base.specs.Measured.{Measured};
@@ -42,6 +43,11 @@ pub fn once_taken()
 /// A measurement errs by at most half its round trip, if no peer's datagram is forged and no two boots have one word.
 pub fn measured()
     ensures { (setting : Setting) (world : List Line) → Fits setting world → Honest world → Words world → Measured setting world }
+{}
+
+/// Clocks that one Close corrected agree with one another, and with the master's.
+pub fn agreed()
+    ensures { (setting : Setting) (world : List Line) → Fits setting world → Honest world → Life world → Words world → Agreed setting world }
 {}
 
 /// A master that takes a QUIT follows its sender at the end of that step.
