@@ -1,0 +1,11 @@
+-- The delay is that of the past's word.
+use Rattle.tsp_base.specs.declared.alarm.Alarm.TheVariants.{Elect}
+use Rattle.tsp_base.specs.Rows.{arms}
+use Rattle.tsp_base.proofs.PerformsLemmas.{Performs_reading}
+use Rattle.tsp_rules.specs.CommonRows.{arms_elect}
+use Rattle.tsp_rules.specs.Tests.{delay_at}
+use Rattle.tsp_acks.proofs.station.Station.arm_elect.Goals as goal
+
+pub returns-clause-row : goal.returns-clause-row
+unfolding arms_elect
+returns-clause-row g c = Performs_reading delay_at (arms Elect) _ (λ past s. let w = s.word in cc) c.arm.ensures.row

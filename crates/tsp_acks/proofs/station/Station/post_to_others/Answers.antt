@@ -1,0 +1,20 @@
+-- All peers were gone through, and posts change nothing of the station.
+use Rattle.std.proofs.Common.{◌≡◌, ap, length, take, map, arith}
+use Rattle.std.proofs.lemmas.List.{take_all}
+use Rattle.tsp_base.specs.Rows.{posts_to_others, post_of, others}
+use Rattle.tsp_acks.proofs.StandsLemmas.{Stands-posts}
+use Rattle.tsp_acks.proofs.station.Station.post_to_others.Goals as goal
+
+pub returns-clause-row : goal.returns-clause-row
+unfolding posts_to_others
+returns-clause-row g c x =
+    let st = c.args.self.now in
+    let all : take c.loop-p.p-index st.peers ≡ st.peers = take_all _ _ (omega (arith, ap length c.as_slice-p-items.ensures.value)) in
+    record {
+      acts = λ past s.
+          let e : posts_to_others c.args.kind c.args.number x past ≡ map (post_of c.args.kind c.args.number st.me.name) (others st.me.own st.peers) = cc in
+          rw e (rw all at c.loop-p.invariant.acts);
+      stands = λ past s.
+          let e : posts_to_others c.args.kind c.args.number x past ≡ map (post_of c.args.kind c.args.number st.me.name) (others st.me.own st.peers) = cc in
+          rw e (Stands-posts c.args.kind c.args.number st.me.name (others st.me.own st.peers) x past st c.requires.once s);
+    }

@@ -1,0 +1,130 @@
+//! The acts that change a station: each puts its act and makes the change, in one place.
+ghost use Rattle.std.specs.Prelude.{◌≡◌, ℕ, ◌+◌, ◌≤◌, ◌<◌, ◌^◌, length, Some, None};
+ghost use Rattle.tsp_base.specs.declared.act.Act.TheVariants.{Become, Ring, Late, Back, Quit, Abandon};
+ghost use Rattle.tsp_base.specs.declared.alarm.Alarm.TheVariants.{Probe, Close, Elect};
+ghost use Rattle.tsp_base.specs.Alarms.{with_deadline, none_armed};
+ghost use Rattle.tsp_base.specs.Performs.{Performs};
+ghost use Rattle.tsp_base.specs.Rows.{puts, arms};
+ghost use Rattle.tsp_rules.specs.CommonRows.{arms_elect};
+ghost use Rattle.tsp_rules.specs.Tests.{delay};
+
+use crate::station::Station;
+use tsp_base::act::Act;
+use tsp_base::alarm::Alarm;
+use tsp_base::constants::{ELECT_MIN, ELECT_SPREAD};
+use tsp_base::desk::Desk;
+use tsp_base::place::{PeerId, Port};
+use tsp_base::role::Role;
+
+#[tactic(auto, unfolding(tsp_base::specs::Rows::puts, tsp_base::specs::Rows::arms))]
+impl Station {
+    ghost use Rattle.tsp_acks.specs.Stands.{Stands};
+
+    /// Arms an alarm for so many ticks from now.
+    pub fn arm<D: Desk>(&mut self, alarm: Alarm, tick: u64, long: u64, port: Port, desk: &mut D)
+        requires room { 1 ≤ D.spare desk.old }
+        requires end { tick + long < 2 ^ 64 }
+        ensures row { Performs Stands Stands (arms alarm long) tick port self.old self.new (D.acts desk.old) (D.acts desk.new) }
+        ensures station { self.new ≡ record self.old { alarms = with_deadline self.old.alarms alarm (Some (tick + long)) } }
+        ensures spare { D.spare desk.new + 1 ≡ D.spare desk.old }
+        ensures few { length (D.acts desk.new) ≡ length (D.acts desk.old) + 1 }
+    {
+        let at = tick + long;
+        desk.put(port, Act::Arm(alarm, at));
+        self.alarms.arm(alarm, at);
+    }
+
+    /// Rings an alarm that is in time, which turns it off.
+    pub fn ring<D: Desk>(&mut self, alarm: Alarm, port: Port, desk: &mut D)
+        requires room { 1 ≤ D.spare desk.old }
+        ensures row { (x : ℕ) → Performs Stands Stands (puts (Ring alarm)) x port self.old self.new (D.acts desk.old) (D.acts desk.new) }
+        ensures station { self.new ≡ record self.old { alarms = with_deadline self.old.alarms alarm None } }
+        ensures spare { D.spare desk.new + 1 ≡ D.spare desk.old }
+        ensures few { length (D.acts desk.new) ≡ length (D.acts desk.old) + 1 }
+    {
+        desk.put(port, Act::Ring(alarm));
+        self.alarms.off(alarm);
+    }
+
+    /// Finds that an alarm is met too late, which turns it off.
+    pub fn late<D: Desk>(&mut self, alarm: Alarm, port: Port, desk: &mut D)
+        requires room { 1 ≤ D.spare desk.old }
+        ensures row { (x : ℕ) → Performs Stands Stands (puts (Late alarm)) x port self.old self.new (D.acts desk.old) (D.acts desk.new) }
+        ensures station { self.new ≡ record self.old { alarms = with_deadline self.old.alarms alarm None } }
+        ensures spare { D.spare desk.new + 1 ≡ D.spare desk.old }
+        ensures few { length (D.acts desk.new) ≡ length (D.acts desk.old) + 1 }
+    {
+        desk.put(port, Act::Late(alarm));
+        self.alarms.off(alarm);
+    }
+
+    /// Gives up a round: no more probes, and no close.
+    pub fn abandon<D: Desk>(&mut self, port: Port, desk: &mut D)
+        requires room { 1 ≤ D.spare desk.old }
+        ensures row { (x : ℕ) → Performs Stands Stands (puts Abandon) x port self.old self.new (D.acts desk.old) (D.acts desk.new) }
+        ensures station { self.new ≡ record self.old { alarms = with_deadline (with_deadline self.old.alarms Probe None) Close None } }
+        ensures spare { D.spare desk.new + 1 ≡ D.spare desk.old }
+        ensures few { length (D.acts desk.new) ≡ length (D.acts desk.old) + 1 }
+    {
+        desk.put(port, Act::Abandon);
+        self.alarms.off(Alarm::Probe);
+        self.alarms.off(Alarm::Close);
+    }
+
+    /// Takes a role, which turns all alarms off.
+    pub fn become_role<D: Desk>(&mut self, role: Role, port: Port, desk: &mut D)
+        requires room { 1 ≤ D.spare desk.old }
+        ensures row { (x : ℕ) → Performs Stands Stands (puts (Become role)) x port self.old self.new (D.acts desk.old) (D.acts desk.new) }
+        ensures station { self.new ≡ record self.old { role = role; alarms = none_armed } }
+        ensures spare { D.spare desk.new + 1 ≡ D.spare desk.old }
+        ensures few { length (D.acts desk.new) ≡ length (D.acts desk.old) + 1 }
+    {
+        desk.put(port, Act::Become(role));
+        self.role = role;
+        self.alarms.clear();
+    }
+
+    /// Backs a candidate.
+    pub fn back<D: Desk>(&mut self, p: PeerId, tick: u64, port: Port, desk: &mut D)
+        requires room { 1 ≤ D.spare desk.old }
+        ensures row { Performs Stands Stands (puts (Back p)) tick port self.old self.new (D.acts desk.old) (D.acts desk.new) }
+        ensures station { self.new ≡ record self.old { hold = record self.old.hold { back = Some (tick, p) } } }
+        ensures spare { D.spare desk.new + 1 ≡ D.spare desk.old }
+        ensures few { length (D.acts desk.new) ≡ length (D.acts desk.old) + 1 }
+    {
+        desk.put(port, Act::Back(p));
+        self.hold.back(tick, p);
+    }
+
+    /// Notes that a peer asked this node to stop leading.
+    pub fn quit<D: Desk>(&mut self, p: PeerId, tick: u64, port: Port, desk: &mut D)
+        requires room { 1 ≤ D.spare desk.old }
+        ensures row { Performs Stands Stands (puts (Quit p)) tick port self.old self.new (D.acts desk.old) (D.acts desk.new) }
+        ensures station { self.new ≡ record self.old { hold = record self.old.hold { quit = Some tick } } }
+        ensures spare { D.spare desk.new + 1 ≡ D.spare desk.old }
+        ensures few { length (D.acts desk.new) ≡ length (D.acts desk.old) + 1 }
+    {
+        desk.put(port, Act::Quit(p));
+        self.hold.quit(tick);
+    }
+
+    /// How long this node waits for a master until it looks for one or stands itself, in ticks.
+    pub fn delay(&self) -> u64
+        ensures { result ≡ delay self.now.me.word }
+    {
+        ELECT_MIN + self.me.word % ELECT_SPREAD
+    }
+
+    /// Arms the election alarm anew.
+    pub fn arm_elect<D: Desk>(&mut self, tick: u64, port: Port, desk: &mut D)
+        requires room { 1 ≤ D.spare desk.old }
+        requires tick { tick ≤ 2 ^ 61 }
+        ensures row { Performs Stands Stands arms_elect tick port self.old self.new (D.acts desk.old) (D.acts desk.new) }
+        ensures station { self.new ≡ record self.old { alarms = with_deadline self.old.alarms Elect (Some (tick + delay self.old.me.word)) } }
+        ensures spare { D.spare desk.new + 1 ≡ D.spare desk.old }
+        ensures few { length (D.acts desk.new) ≡ length (D.acts desk.old) + 1 }
+    {
+        let delay = self.delay();
+        self.arm(Alarm::Elect, tick, delay, port, desk);
+    }
+}

@@ -1,0 +1,8 @@
+//! A port's station: what all its roles share, and the acts that change it.
+#![tactic(auto)]
+
+pub mod changes;
+pub mod me;
+pub mod peers;
+pub mod posts;
+pub mod station;

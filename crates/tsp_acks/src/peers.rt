@@ -1,0 +1,52 @@
+//! The peers of a port.
+ghost use Rattle.std.specs.Prelude.{◌≡◌, ◌≤◌, length, IfOk};
+ghost use Rattle.tsp_rules.specs.Tests.{is_among};
+ghost use Rattle.tsp_acks.specs.Peers.{IsPeers};
+
+use std::alloc::{AllocError, Global};
+use std::marker::Model;
+use tsp_base::place::PeerId;
+
+/// The peers of a port, its own number among them: at most 1,000, strictly ascending.
+#[derive(Drop)]
+pub struct Peers {
+    items: Vec<PeerId>,
+}
+
+impl Model for Peers {
+    ghost use Rattle.std.specs.Prelude.{List};
+    ghost use Rattle.tsp_base.specs.declared.place.PeerId.{PeerId};
+    ghost use Rattle.tsp_acks.specs.Peers.{IsPeers};
+
+    ghost Value = { List PeerId };
+
+    ghost view = { λ p. p.items.items };
+
+    ghost invariant = { λ p. IsPeers p.items.items };
+}
+
+impl Peers {
+    /// These peers. The answer is an error only where memory is wanting.
+    pub fn new(alloc: Global, peers: &[PeerId]) -> Result<Peers, AllocError>
+        requires { IsPeers peers.now }
+        ensures { IfOk result (λ p. p ≡ peers.now) }
+    {
+        let items = Vec::from_slice(alloc, peers)?;
+        Ok(Peers { items })
+    }
+
+    /// The peers, ascending.
+    pub fn as_slice(&self) -> &[PeerId]
+        ensures value { result.now ≡ self.now }
+        ensures valid { IsPeers self.now }
+    {
+        self.items.as_slice()
+    }
+
+    /// Whether this is one of the peers.
+    pub fn has(&self, p: PeerId) -> bool
+        ensures { result ≡ is_among p self.now }
+    {
+        self.items.as_slice().contains(&p)
+    }
+}

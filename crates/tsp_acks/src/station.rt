@@ -1,0 +1,90 @@
+//! A port's station: what all its roles share.
+ghost use Rattle.std.specs.Prelude.{◌≡◌, ◌&&◌, not, [], None, IfOk};
+ghost use Rattle.tsp_base.specs.declared.role.Role.TheVariants.{Starting};
+ghost use Rattle.tsp_base.specs.Alarms.{deadline, none_armed};
+ghost use Rattle.tsp_rules.specs.Tests.{is_over, is_met, is_among, is_starting_role};
+ghost use Rattle.tsp_acks.specs.Peers.{IsPeers};
+
+use crate::me::Me;
+use crate::peers::Peers;
+use std::alloc::{AllocError, Global};
+use tsp_base::alarm::Alarm;
+use tsp_base::alarms::Alarms;
+use tsp_base::constants::SLACK;
+use tsp_base::hold::Hold;
+use tsp_base::place::PeerId;
+use tsp_base::role::Role;
+
+/// What all roles of a port share.
+#[derive(Drop)]
+pub struct Station {
+    /// Who the node is here.
+    pub me: Me,
+    /// What it is here.
+    pub role: Role,
+    /// Whom it holds, and when it may stand.
+    pub hold: Hold,
+    /// What its alarms are armed for.
+    pub alarms: Alarms,
+    /// All peers, itself among them.
+    pub peers: Peers,
+}
+
+impl Station {
+    ghost use Rattle.tsp_base.specs.History.{Past};
+    ghost use Rattle.tsp_acks.specs.Stands.{Stands, HasBooted};
+
+    /// A station of a node that boots at this tick. The answer is an error only where memory is wanting.
+    pub fn new(alloc: Global, me: Me, peers: &[PeerId], tick: u64) -> Result<Station, AllocError>
+        requires { IsPeers peers.now }
+        ensures station { IfOk result (λ s. s ≡ record { me = me; role = Starting; hold = record { boot = tick; back = None; quit = None }; alarms = none_armed; peers = peers.now }) }
+        ensures stands { IfOk result (λ s. (past : Past) → HasBooted me peers.now tick past → Stands past s) }
+    {
+        let peers = Peers::new(alloc, peers)?;
+        Ok(Station {
+            me,
+            role: Role::Starting,
+            hold: Hold::new(tick),
+            alarms: Alarms::new(),
+            peers,
+        })
+    }
+
+    /// All peers of the port, itself among them, ascending.
+    pub fn peers(&self) -> &[PeerId]
+        ensures value { result.now ≡ self.now.peers }
+        ensures valid { IsPeers self.now.peers }
+    {
+        self.peers.as_slice()
+    }
+
+    /// Whether an alarm is armed for this tick or an earlier one.
+    pub fn is_due(&self, alarm: Alarm, tick: u64) -> bool
+        ensures { result ≡ is_over (deadline self.now.alarms alarm) tick }
+    {
+        match self.alarms.at(alarm) {
+            None => false,
+            Some(at) => at <= tick,
+        }
+    }
+
+    /// Whether an alarm is armed, and for no earlier tick than `SLACK` before this one.
+    pub fn is_in_time(&self, alarm: Alarm, tick: u64) -> bool
+        ensures { result ≡ is_met (deadline self.now.alarms alarm) tick }
+    {
+        match self.alarms.at(alarm) {
+            None => false,
+            Some(at) => tick.saturating_sub(SLACK) <= at,
+        }
+    }
+
+    /// Whether what this sender says is heard: it is one of the peers, and the quiet time is over.
+    pub fn hears(&self, p: PeerId) -> bool
+        ensures { result ≡ (is_among p self.now.peers && not (is_starting_role self.now.role)) }
+    {
+        match self.role {
+            Role::Starting => false,
+            _ => self.peers.has(p),
+        }
+    }
+}
