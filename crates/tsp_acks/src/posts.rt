@@ -1,10 +1,8 @@
 //! The posts of a station: messages in its node's own name that carry nothing but a number.
-ghost use Rattle.std.specs.Prelude.{◌≡◌, ℕ, ◌+◌, ◌≤◌, true, false, length, [], ◌∷◌, ◌++◌};
-ghost use Rattle.tsp_base.specs.declared.message.Body.TheVariants.{Nothing};
-ghost use Rattle.tsp_base.specs.Messages.{body_fits};
+ghost use Rattle.std.specs.Prelude.{◌≡◌, ℕ, ◌+◌, ◌≤◌, true, length, [], ◌∷◌, ◌++◌};
 ghost use Rattle.tsp_base.specs.Performs.{Performs};
 ghost use Rattle.tsp_base.specs.Rows.{posts, posts_back, posts_to_others, post_of, placed};
-ghost use Rattle.tsp_base.specs.SendFacts.{is_numbered};
+ghost use Rattle.tsp_acks.specs.Posts.{is_plain};
 
 use crate::station::Station;
 use tsp_base::act::Act;
@@ -14,7 +12,7 @@ use tsp_base::kind::Kind;
 use tsp_base::message::{Body, Message};
 use tsp_base::place::{PeerId, Place, Port};
 
-#[tactic(auto, unfolding(tsp_base::specs::Rows::posts, tsp_base::specs::Rows::posts_back))]
+#[tactic(auto, using(crate::proofs::PostLemmas::is_plain_fits), unfolding(tsp_base::specs::Rows::posts, tsp_base::specs::Rows::posts_back))]
 impl Station {
     ghost use Rattle.tsp_acks.specs.Stands.{Stands};
 
@@ -22,8 +20,7 @@ impl Station {
     /// don't go this way.
     pub fn post_back<D: Desk>(&self, to: Place, kind: Kind, number: u16, port: Port, desk: &mut D)
         requires room { 1 ≤ D.spare desk.old }
-        requires bare { body_fits kind Nothing ≡ true }
-        requires once { is_numbered kind ≡ false }
+        requires plain { is_plain kind ≡ true }
         ensures row { (x : ℕ) → Performs Stands Stands (posts_back to kind number) x port self.now self.now (D.acts desk.old) (D.acts desk.new) }
         ensures spare { D.spare desk.new + 1 ≡ D.spare desk.old }
         ensures few { length (D.acts desk.new) ≡ length (D.acts desk.old) + 1 }
@@ -35,8 +32,7 @@ impl Station {
     /// Posts a message that carries nothing but a number to a peer. Numbered sends don't go this way.
     pub fn post<D: Desk>(&self, p: PeerId, kind: Kind, number: u16, port: Port, desk: &mut D)
         requires room { 1 ≤ D.spare desk.old }
-        requires bare { body_fits kind Nothing ≡ true }
-        requires once { is_numbered kind ≡ false }
+        requires plain { is_plain kind ≡ true }
         ensures acts { D.acts desk.new ≡ D.acts desk.old ++ placed port (post_of kind number self.now.me.name p ∷ []) }
         ensures row { (x : ℕ) → Performs Stands Stands (posts p kind number) x port self.now self.now (D.acts desk.old) (D.acts desk.new) }
         ensures spare { D.spare desk.new + 1 ≡ D.spare desk.old }
@@ -49,8 +45,7 @@ impl Station {
     /// Posts the same to each other peer, ascending.
     pub fn post_to_others<D: Desk>(&self, kind: Kind, number: u16, port: Port, desk: &mut D)
         requires room { length self.now.peers ≤ D.spare desk.old }
-        requires bare { body_fits kind Nothing ≡ true }
-        requires once { is_numbered kind ≡ false }
+        requires plain { is_plain kind ≡ true }
         ensures row { (x : ℕ) → Performs Stands Stands (posts_to_others kind number) x port self.now self.now (D.acts desk.old) (D.acts desk.new) }
         ensures spare { D.spare desk.old ≤ D.spare desk.new + length self.now.peers }
         ensures few { length (D.acts desk.new) ≤ length (D.acts desk.old) + length self.now.peers }

@@ -2,6 +2,7 @@
 use Rattle.std.proofs.Common.{◌≡◌, ap, length, take, map, arith}
 use Rattle.std.proofs.lemmas.List.{take_all}
 use Rattle.tsp_base.specs.Rows.{posts_to_others, post_of, others}
+use Rattle.tsp_acks.proofs.PostLemmas.{is_plain_once}
 use Rattle.tsp_acks.proofs.StandsLemmas.{Stands-posts}
 use Rattle.tsp_acks.proofs.station.Station.post_to_others.Goals as goal
 
@@ -16,5 +17,5 @@ returns-clause-row g c x =
           rw e (rw all at c.loop-p.invariant.acts);
       stands = λ past s.
           let e : posts_to_others c.args.kind c.args.number x past ≡ map (post_of c.args.kind c.args.number st.me.name) (others st.me.own st.peers) = cc in
-          rw e (Stands-posts c.args.kind c.args.number st.me.name (others st.me.own st.peers) x past st c.requires.once s);
+          rw e (Stands-posts c.args.kind c.args.number st.me.name (others st.me.own st.peers) x past st (is_plain_once _ c.requires.plain) s);
     }

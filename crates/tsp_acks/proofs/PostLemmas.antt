@@ -1,0 +1,35 @@
+-- Plain messages.
+use Rattle.std.specs.Prelude.{◌≡◌, true, false, refl}
+use Rattle.std.proofs.lemmas.Bool.{false≢true}
+use Rattle.tsp_base.specs.declared.kind.Kind.{Kind}
+use Rattle.tsp_base.specs.declared.kind.Kind.TheVariants.{Ack, MasterReq, MasterAck, MasterUp, SlaveUp, Accept, Refuse, Resolve}
+use Rattle.tsp_base.specs.declared.message.Body.TheVariants.{Nothing}
+use Rattle.tsp_base.specs.Kinds.{carries_time, carries_hops}
+use Rattle.tsp_base.specs.Messages.{body_fits}
+use Rattle.tsp_base.specs.SendFacts.{is_numbered}
+use Rattle.tsp_acks.specs.Posts.{is_plain}
+
+-- a plain message carries nothing
+pub is_plain_fits : (k : Kind) → is_plain k ≡ true → body_fits k Nothing ≡ true
+unfolding body_fits carries_time carries_hops
+is_plain_fits Ack p = refl
+is_plain_fits MasterReq p = refl
+is_plain_fits MasterAck p = refl
+is_plain_fits MasterUp p = refl
+is_plain_fits SlaveUp p = refl
+is_plain_fits Accept p = refl
+is_plain_fits Refuse p = refl
+is_plain_fits Resolve p = refl
+is_plain_fits _ p = absurd (false≢true p)
+
+-- a plain message is no numbered send
+pub is_plain_once : (k : Kind) → is_plain k ≡ true → is_numbered k ≡ false
+is_plain_once Ack p = refl
+is_plain_once MasterReq p = refl
+is_plain_once MasterAck p = refl
+is_plain_once MasterUp p = refl
+is_plain_once SlaveUp p = refl
+is_plain_once Accept p = refl
+is_plain_once Refuse p = refl
+is_plain_once Resolve p = refl
+is_plain_once _ p = absurd (false≢true p)
