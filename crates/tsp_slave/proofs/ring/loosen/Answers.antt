@@ -1,0 +1,21 @@
+-- A follower becomes Loose, any other role stays.
+use Rattle.std.proofs.Common.{refl}
+use Rattle.tsp_base.specs.declared.role.Role.TheVariants.{Loose}
+use Rattle.tsp_base.specs.declared.act.Act.TheVariants.{Become}
+use Rattle.tsp_base.specs.Rows.{puts, nothing}
+use Rattle.tsp_base.proofs.PerformsLemmas.{Performs_then_part, Performs_else_part, Performs_nothing}
+use Rattle.tsp_rules.specs.SlaveRows.{loosens}
+use Rattle.tsp_rules.specs.Tests.{follows_at}
+use Rattle.tsp_slave.proofs.RowCases.{is_follow-other}
+use Rattle.tsp_slave.proofs.ring.loosen.Goals as goal
+
+pub returns-in-Follow-clause-row : goal.returns-in-Follow-clause-row
+unfolding loosens
+returns-in-Follow-clause-row g c x =
+    Performs_then_part follows_at nothing (λ past s. rw (← s.role, c.in-Follow.is) refl) (c.become_role.ensures.row x)
+
+pub returns-in_default-clause-row : goal.returns-in_default-clause-row
+unfolding loosens
+returns-in_default-clause-row g c x =
+    let h = is_follow-other _ c.in_default.not-Follow in
+    Performs_else_part follows_at (puts (Become Loose)) (λ past s. rw (← s.role) h) Performs_nothing

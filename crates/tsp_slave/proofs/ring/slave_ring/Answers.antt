@@ -1,0 +1,20 @@
+-- Each alarm has its row.
+use Rattle.tsp_base.proofs.PerformsLemmas.{Performs_nothing}
+use Rattle.tsp_slave.specs.SlaveAlarms.{slave_rings}
+use Rattle.tsp_slave.proofs.RowCases.{slave_rings-other}
+use Rattle.tsp_slave.proofs.ring.slave_ring.Goals as goal
+
+pub returns-in-Quiet-clause-row : goal.returns-in-Quiet-clause-row
+unfolding slave_rings
+returns-in-Quiet-clause-row g c = rw c.in-Quiet.is c.end_quiet.ensures.row
+
+pub returns-in-Search-clause-row : goal.returns-in-Search-clause-row
+unfolding slave_rings
+returns-in-Search-clause-row g c = rw c.in-Search.is c.end_search.ensures.row
+
+pub returns-in-Elect-clause-row : goal.returns-in-Elect-clause-row
+unfolding slave_rings
+returns-in-Elect-clause-row g c = rw c.in-Elect.is c.miss_master.ensures.row
+
+pub returns-in_default-clause-row : goal.returns-in_default-clause-row
+returns-in_default-clause-row g c = rw (slave_rings-other _ c.in_default.not-Quiet c.in_default.not-Search c.in_default.not-Elect) Performs_nothing

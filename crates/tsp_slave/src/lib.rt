@@ -1,0 +1,4 @@
+//! What a port does at Loose and at Follow, and how its quiet time ends.
+#![tactic(auto)]
+
+pub mod ring;
