@@ -26,12 +26,25 @@ pub struct Line2 {
 pub fn act_text(line: &Line2) -> ArrayVec<u8, 1024>
     ensures { result.items ≡ trace_text line.now.event line.now.node line.now.tick line.now.number line.now.placed }
 {
+    placed_text(line.event, line.node, line.tick, line.number, &line.placed)
+}
+
+/// The same of an act that stands elsewhere: the number is read for a post alone.
+pub fn placed_text(
+    event: u64,
+    node: u32,
+    tick: u64,
+    number: u64,
+    placed: &Placed,
+) -> ArrayVec<u8, 1024>
+    ensures { result.items ≡ trace_text event node tick number placed.now }
+{
     let mut out = ArrayVec::new();
-    append_number(&mut out, line.event);
-    append_next_number(&mut out, line.node as u64);
-    append_next_number(&mut out, line.placed.port.0 as u64);
-    append_next_number(&mut out, line.tick);
+    append_number(&mut out, event);
+    append_next_number(&mut out, node as u64);
+    append_next_number(&mut out, placed.port.0 as u64);
+    append_next_number(&mut out, tick);
     append(&mut out, b" ");
-    append_act(&mut out, line.number, &line.placed.act);
+    append_act(&mut out, number, &placed.act);
     out
 }
