@@ -1,5 +1,10 @@
 pub mod Outputs
 pub mod Feeds
+pub mod Turns
+pub mod Aheads
+pub mod Comes
+pub mod Endings
+pub mod Says
 pub mod Passes
 pub mod Streams
 pub mod Buffers

@@ -3,3 +3,4 @@ pub mod Outputs
 pub mod Meanings
 pub mod Readings
 pub mod Outcomes
+pub mod Turns

@@ -1,0 +1,86 @@
+-- The turns of a treatment: how far it has come, and how it ends.
+use Rattle.std.specs.Prelude.{◌≡◌, ℕ, ◌<◌, ◌+◌, ◌⊎◌, List, [], ◌∷◌, ◌++◌, length, All}
+use Rattle.std.specs.declared.option.Option.{Option}
+use Rattle.tsp_io.specs.Streams.{Gives}
+use Rattle.tsp_lines.specs.Lines.{NoFeed, closed}
+use Rattle.tsp_lines.specs.Meanings.{Meaning, Breaks}
+use Rattle.tsp_lines.specs.Outputs.{Hands}
+use Rattle.tsp_lines.specs.Outcomes.{bad_line, limit_line}
+use Rattle.tsp_lines.specs.Readings.{ReaderValue}
+use Rattle.tsp_lines.specs.declared.output.Unwritten.{Unwritten}
+use Rattle.tsp_lines.specs.declared.output.Unwritten.TheVariants.{WriteFault as NotWritten, OutOfMemory as NoMemory}
+use Rattle.tsp_lines.specs.declared.treatment.Stop.{Stop}
+use Rattle.tsp_lines.specs.declared.treatment.Stop.TheVariants.{Bad as Refused, Limit as Limited, WriteFault as Unwrote, OutOfMemory as Unheld}
+use Rattle.tsp_lines.specs.declared.treat.Outcome.{Outcome}
+use Rattle.tsp_lines.specs.declared.treat.Outcome.TheVariants.{Ok as Done, Bad, ReadFault, WriteFault, Limit, OutOfMemory}
+
+-- what may be written at a place of the input
+pub record Sayings : Type 1 where
+  -- where its end is accepted
+  pub done : List ℕ → Type 0
+  -- where it is refused
+  pub bad : List ℕ → Type 0
+  -- where a limit is passed
+  pub limited : List ℕ → Type 0
+  -- where it goes on
+  pub more : List ℕ → Type 0
+
+-- one of them
+abbrev pub IsSaying : Sayings → List ℕ → Type 0
+IsSaying s words = s.done words ⊎ (s.bad words ⊎ (s.limited words ⊎ s.more words))
+
+-- these words alone, of a refusal
+abbrev pub only_bad : List ℕ → Sayings
+only_bad words = record { done = λ w. ⊥; bad = λ w. w ≡ words; limited = λ w. ⊥; more = λ w. ⊥ }
+
+-- these words alone, of a limit
+abbrev pub only_limited : List ℕ → Sayings
+only_limited words = record { done = λ w. ⊥; bad = λ w. ⊥; limited = λ w. w ≡ words; more = λ w. ⊥ }
+
+-- what may be written at a line
+abbrev pub line_sayings : Meaning → List (List ℕ) → List ℕ → ℕ → List ℕ → Sayings
+line_sayings m lines text number line = record {
+  done = λ w. ⊥;
+  bad = λ w. (cause : List ℕ) × m.refuses lines line cause × (w ≡ bad_line number cause);
+  limited = λ w. m.limits lines line × (w ≡ limit_line number);
+  more = λ w. m.accepts (lines ++ line ∷ []) (text ++ w);
+}
+
+-- what may be written at the input's end
+abbrev pub end_sayings : Meaning → List (List ℕ) → ℕ → Sayings
+end_sayings m lines number = record {
+  done = m.ends lines;
+  bad = λ w. (cause : List ℕ) × m.lacks lines cause × (w ≡ bad_line number cause);
+  limited = λ w. ⊥;
+  more = λ w. ⊥;
+}
+
+-- how it ends: a saying was written whole, or a part of one, and the rest is held
+abbrev pub Ends : Sayings → Option (List ℕ) → List ℕ → Option (List ℕ) → Outcome → Type 0
+Ends s written held now Done = (said : List ℕ) × s.done said × Hands written held now [] said
+Ends s written held now Bad = (said : List ℕ) × s.bad said × Hands written held now [] said
+Ends s written held now ReadFault = ⊥
+Ends s written held now WriteFault = (keeps : List ℕ) × (0 < length keeps) × Breaks (IsSaying s) written held now keeps
+Ends s written held now Limit = (said : List ℕ) × s.limited said × Hands written held now [] said
+Ends s written held now OutOfMemory = (keeps : List ℕ) × Breaks (IsSaying s) written held now keeps
+
+-- the outcome where octets weren't written
+abbrev pub outcome_of : Unwritten → Outcome
+outcome_of NotWritten = WriteFault
+outcome_of NoMemory = OutOfMemory
+
+-- how it ends where the treatment stops
+abbrev pub Stopped : ℕ → Option (List ℕ) → List ℕ → Option (List ℕ) → List ℕ → Stop → Outcome → Type 0
+Stopped number written held now keeps (Refused cause) outcome = Ends (only_bad (bad_line number cause)) written held now outcome
+Stopped number written held now keeps Limited outcome = Ends (only_limited (limit_line number)) written held now outcome
+Stopped number written held now keeps Unwrote outcome = (outcome ≡ WriteFault) × (now ≡ written) × (keeps ≡ held)
+Stopped number written held now keeps Unheld outcome = (outcome ≡ OutOfMemory) × (now ≡ written) × (keeps ≡ held)
+
+-- the treatment has come so far: these lines were got and accepted, and this is their output
+pub record IsAt (m : Meaning) (Stands : List (List ℕ) → Type 0) (input left written now : Option (List ℕ)) (reader : ReaderValue) (held : List ℕ) (number : ℕ) (lines : List (List ℕ)) (text : List ℕ) : Type 0 where
+  pub feedless : All NoFeed lines
+  pub accepted : m.accepts lines text
+  pub stands : Stands lines
+  pub got : (octets : List ℕ) × Gives input left octets × (octets ≡ closed lines ++ reader.held) × (reader.got ≡ length octets)
+  pub handed : Hands written [] now held text
+  pub counted : number ≡ length lines + 1
