@@ -1,23 +1,13 @@
 -- Laws of what a reader gives of an input of which some lines were accepted.
-use Rattle.std.proofs.Common.{◌≡◌, ℕ, ◌<◌, ◌≤◌, ◌+◌, ◌-◌, ◌⊎◌, inl, inr, List, [], ◌∷◌, ◌++◌, None, Some, refl, sym, ap, ◌∙◌, append-nil, append_assoc, subst, length, length-append, arith}
+use Rattle.std.proofs.Common.{◌≡◌, ℕ, ◌<◌, ◌+◌, inl, inr, List, [], ◌∷◌, ◌++◌, None, Some, refl, sym, ap, ◌∙◌, append-nil, append_assoc, subst, length, length-append, arith}
 use Rattle.std.proofs.lemmas.Grind.{common_steps}
 use Rattle.std.specs.declared.option.Option.{Option}
-use Rattle.tsp_io.specs.Streams.{Gives, Grows}
-use Rattle.tsp_lines.specs.Lines.{NoFeed, close, closed, Begins, IsInput, IsOver, AreLines, HasNext, IsPast}
-use Rattle.tsp_lines.specs.Meanings.{Meaning, Goes}
-use Rattle.tsp_lines.specs.Outputs.{Hands}
-use Rattle.tsp_lines.specs.Outcomes.{GoesOn, WritesPart, WritesGot, Comes}
+use Rattle.tsp_io.specs.Streams.{Gives}
+use Rattle.tsp_lines.specs.Lines.{NoFeed, close, closed, Begins, IsInput, IsOver, HasNext, IsPast}
+use Rattle.tsp_lines.specs.Outcomes.{GoesOn}
 use Rattle.tsp_lines.specs.Readings.{ReaderValue, IsNext}
-use Rattle.tsp_lines.specs.Turns.{IsAt, Ends, line_sayings, end_sayings, only_limited}
-use Rattle.tsp_lines.specs.Outcomes.{limit_line}
-use Rattle.tsp_lines.specs.declared.reader.Next.{Next}
-use Rattle.tsp_lines.specs.declared.reader.Next.TheVariants.{Line, Last, Long, LongLast, End, Limit, Failed}
-use Rattle.tsp_lines.specs.declared.treat.Outcome.{Outcome}
-use Rattle.tsp_lines.specs.declared.treat.Outcome.TheVariants.{Ok as Done, Bad as Refused, ReadFault, WriteFault, Limit as Limited, OutOfMemory}
-use Rattle.tsp_lines.proofs.Outputs.{Hands-trans}
+use Rattle.tsp_lines.specs.declared.reader.Next.TheVariants.{Limit}
 use Rattle.tsp_lines.proofs.Streams.{Gives-trans}
-use Rattle.tsp_lines.proofs.Says.{said}
-use Rattle.tsp_lines.proofs.Comes.{Comes-Ends, Grows-handed, Place-line, Place-end, Place-past, GoesOn-HasNext, closed-push}
 
 -- an input that gave octets begins with the first of them
 pub Begins-Gives : (a b : Option (List ℕ)) (octets front rest : List ℕ) → Gives a b octets → octets ≡ front ++ rest → Begins a front

@@ -1,5 +1,5 @@
 -- Laws of how a treatment ends.
-use Rattle.std.proofs.Common.{◌≡◌, ℕ, ◌<◌, ◌⊎◌, inl, inr, List, [], ◌∷◌, ◌++◌, refl, sym, ap, ◌∙◌, append-nil, subst, length}
+use Rattle.std.proofs.Common.{◌≡◌, ℕ, ◌<◌, inl, inr, List, [], ◌∷◌, ◌++◌, refl, sym, append-nil, subst, length}
 use Rattle.std.specs.declared.option.Option.{Option}
 use Rattle.tsp_lines.specs.Meanings.{Meaning, Breaks, StopsAt, StopsAtEnd, Closes}
 use Rattle.tsp_lines.specs.Outputs.{Hands}

@@ -1,6 +1,6 @@
 -- Laws of the first line feed.
 use Rattle.std.proofs.Common.{◌≡◌, ℕ, ◌<◌, ◌≤◌, ◌+◌, ◌-◌, List, [], ◌∷◌, ◌++◌, None, Some, refl, sym, ap, ◌∙◌, take, drop, length, get_or, append_assoc, take-append-drop, arith, eq-eqb, eqb-true, length-take-le, add_assoc}
-use Rattle.std.specs.Prelude.{MatchOption, Contains, slice_range}
+use Rattle.std.specs.Prelude.{MatchOption, slice_range}
 use Rattle.std.specs.declared.option.Option.{Option}
 use Rattle.std.proofs.lemmas.List.{drop_more, drop-take, drop-drop}
 use Rattle.std.proofs.Math.Seq.{take-length}

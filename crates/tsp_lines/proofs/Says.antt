@@ -1,11 +1,11 @@
 -- Laws of words that are handed over and written.
-use Rattle.std.proofs.Common.{◌≡◌, ℕ, ◌<◌, ◌⊎◌, inl, inr, List, [], ◌++◌, Ok, Err, refl, sym, ap, ◌∙◌, append-nil, subst, length}
+use Rattle.std.proofs.Common.{◌≡◌, ℕ, inl, inr, List, [], ◌++◌, Ok, Err, append-nil, subst}
 use Rattle.std.specs.Prelude.{OnOk, OnErr}
 use Rattle.std.specs.declared.option.Option.{Option}
 use Rattle.std.specs.declared.result.Result.{Result}
 use Rattle.tsp_lines.specs.Meanings.{Breaks}
 use Rattle.tsp_lines.specs.Outputs.{Hands}
-use Rattle.tsp_lines.specs.Turns.{Sayings, IsSaying, only_bad, only_limited, Ends}
+use Rattle.tsp_lines.specs.Turns.{IsSaying, only_bad, only_limited}
 use Rattle.tsp_lines.specs.declared.output.Unwritten.{Unwritten}
 use Rattle.tsp_lines.proofs.Outputs.{Hands-trans}
 

@@ -1,5 +1,5 @@
 -- Laws of a turn of a treatment.
-use Rattle.std.proofs.Common.{◌≡◌, ℕ, ◌<◌, ◌≤◌, ◌+◌, ◌-◌, ◌⊎◌, inl, inr, List, [], ◌∷◌, ◌++◌, None, Some, refl, sym, ap, ◌∙◌, append-nil, append_assoc, subst, length, length-append, arith}
+use Rattle.std.proofs.Common.{◌≡◌, ℕ, ◌<◌, ◌+◌, inl, inr, List, [], ◌∷◌, ◌++◌, None, Some, refl, sym, ap, ◌∙◌, append-nil, append_assoc, subst, length, length-append, arith}
 use Rattle.std.specs.Prelude.{All, MatchOption}
 use Rattle.std.specs.declared.option.Option.{Option}
 use Rattle.std.proofs.lemmas.List.Elements.{All-push}
@@ -7,13 +7,12 @@ use Rattle.tsp_io.specs.Streams.{Gives}
 use Rattle.tsp_lines.specs.Lines.{NoFeed, close, closed, Begins, IsInput, IsOver, AreLines, HasNext}
 use Rattle.tsp_lines.specs.Meanings.{Meaning, Goes}
 use Rattle.tsp_lines.specs.Outputs.{Hands}
-use Rattle.tsp_lines.specs.Outcomes.{GoesOn, Comes, limit_line}
+use Rattle.tsp_lines.specs.Outcomes.{Comes, limit_line}
 use Rattle.tsp_lines.specs.Readings.{ReaderValue, IsNext}
 use Rattle.tsp_lines.specs.Turns.{IsAt, Ends, line_sayings, end_sayings, only_limited}
-use Rattle.tsp_lines.specs.declared.reader.Next.{Next}
-use Rattle.tsp_lines.specs.declared.reader.Next.TheVariants.{Line, Last, Long, LongLast, End, Limit, Failed}
+use Rattle.tsp_lines.specs.declared.reader.Next.TheVariants.{Line, Last, Long, End, Limit, Failed}
 use Rattle.tsp_lines.specs.declared.treat.Outcome.{Outcome}
-use Rattle.tsp_lines.specs.declared.treat.Outcome.TheVariants.{ReadFault, WriteFault, OutOfMemory}
+use Rattle.tsp_lines.specs.declared.treat.Outcome.TheVariants.{ReadFault, OutOfMemory}
 use Rattle.tsp_lines.proofs.Outputs.{Hands-trans, Grows-nil}
 use Rattle.tsp_lines.proofs.Streams.{Gives-nil}
 use Rattle.tsp_lines.proofs.Says.{said}

@@ -1,5 +1,5 @@
 -- Lines of octets, and an input that is told or not.
-use Rattle.std.specs.Prelude.{◌≡◌, ℕ, ◌<◌, ◌≤◌, ◌⊎◌, List, [], ◌∷◌, ◌++◌, length, Contains, flat_map, IfSome}
+use Rattle.std.specs.Prelude.{◌≡◌, ℕ, ◌<◌, ◌⊎◌, List, [], ◌∷◌, ◌++◌, length, Contains, flat_map, IfSome}
 use Rattle.std.specs.declared.option.Option.{Option}
 
 -- no octet is a line feed

@@ -7,8 +7,6 @@ use Rattle.tsp_lines.specs.Meanings.{Meaning, Breaks}
 use Rattle.tsp_lines.specs.Outputs.{Hands}
 use Rattle.tsp_lines.specs.Outcomes.{bad_line, limit_line}
 use Rattle.tsp_lines.specs.Readings.{ReaderValue}
-use Rattle.tsp_lines.specs.declared.output.Unwritten.{Unwritten}
-use Rattle.tsp_lines.specs.declared.output.Unwritten.TheVariants.{WriteFault as NotWritten, OutOfMemory as NoMemory}
 use Rattle.tsp_lines.specs.declared.treatment.Stop.{Stop}
 use Rattle.tsp_lines.specs.declared.treatment.Stop.TheVariants.{Bad as Refused, Limit as Limited, WriteFault as Unwrote, OutOfMemory as Unheld}
 use Rattle.tsp_lines.specs.declared.treat.Outcome.{Outcome}
@@ -63,11 +61,6 @@ Ends s written held now ReadFault = ⊥
 Ends s written held now WriteFault = (keeps : List ℕ) × (0 < length keeps) × Breaks (IsSaying s) written held now keeps
 Ends s written held now Limit = (said : List ℕ) × s.limited said × Hands written held now [] said
 Ends s written held now OutOfMemory = (keeps : List ℕ) × Breaks (IsSaying s) written held now keeps
-
--- the outcome where octets weren't written
-abbrev pub outcome_of : Unwritten → Outcome
-outcome_of NotWritten = WriteFault
-outcome_of NoMemory = OutOfMemory
 
 -- how it ends where the treatment stops
 abbrev pub Stopped : ℕ → Option (List ℕ) → List ℕ → Option (List ℕ) → List ℕ → Stop → Outcome → Type 0

@@ -6,5 +6,7 @@ pub mod cause;
 pub mod output;
 pub mod reader;
 pub mod refusal;
+#[cfg(test)]
+mod tests;
 pub mod treat;
 pub mod treatment;

@@ -8,7 +8,7 @@ ghost use Rattle.tsp_lines.specs.Meanings.{Breaks, Goes};
 ghost use Rattle.tsp_lines.specs.Outputs.{Hands};
 ghost use Rattle.tsp_lines.specs.Outcomes.{bad_line, limit_line, Comes};
 ghost use Rattle.tsp_lines.specs.Readings.{IsNext, is_over};
-ghost use Rattle.tsp_lines.specs.Turns.{only_bad, only_limited, line_sayings, end_sayings, Ends, outcome_of, Stopped, IsAt};
+ghost use Rattle.tsp_lines.specs.Turns.{only_bad, only_limited, line_sayings, end_sayings, Ends, Stopped, IsAt};
 
 use crate::output::{Output, Unwritten};
 use crate::reader::{LineReader, Next};
@@ -33,17 +33,6 @@ pub enum Outcome {
     Limit,
     /// There was no memory.
     OutOfMemory,
-}
-
-impl From<Unwritten> for Outcome {
-    fn from(fault: Unwritten) -> Outcome
-        ensures { result ≡ outcome_of fault }
-    {
-        match fault {
-            Unwritten::WriteFault => Outcome::WriteFault,
-            Unwritten::OutOfMemory => Outcome::OutOfMemory,
-        }
-    }
 }
 
 /// Hands words over and writes all that is held.

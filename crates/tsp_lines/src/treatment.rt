@@ -22,9 +22,9 @@ pub enum Stop {
 }
 
 impl From<Unwritten> for Stop {
-    fn from(fault: Unwritten) -> Stop
-        ensures { result ≡ stop_of fault }
-    {
+    ghost from_gives = { λ fault stop. stop ≡ stop_of fault };
+
+    fn from(fault: Unwritten) -> Stop {
         match fault {
             Unwritten::WriteFault => Stop::WriteFault,
             Unwritten::OutOfMemory => Stop::OutOfMemory,

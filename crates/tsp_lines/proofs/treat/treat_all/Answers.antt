@@ -1,5 +1,5 @@
-use Rattle.std.proofs.Common.{◌≡◌, refl, sym, ap, ◌∙◌, arith}
-use Rattle.tsp_lines.proofs.Turns.{Comes-nothing, IsAt-nothing}
+use Rattle.std.proofs.Common.{sym, ◌∙◌, arith}
+use Rattle.tsp_lines.proofs.Turns.{Comes-nothing}
 use Rattle.tsp_lines.proofs.treat.treat_all.Goals as goal
 
 pub returns-in_default-clause-comes : goal.returns-in_default-clause-comes

@@ -1,5 +1,5 @@
-use Rattle.std.proofs.Common.{◌≡◌, ◌<◌, ◌≤◌, ◌+◌, ap, sym, arith, length, refl, None, subst}
-use Rattle.std.specs.Prelude.{slice_range, MatchOption}
+use Rattle.std.proofs.Common.{◌≡◌, ◌<◌, ap, sym, arith, length, refl}
+use Rattle.std.specs.Prelude.{slice_range}
 use Rattle.std.proofs.lemmas.Grind.{common_steps}
 use Rattle.tsp_lines.specs.Lines.{NoFeed}
 use Rattle.tsp_lines.proofs.Feeds.{NoFeed-end, some_held}

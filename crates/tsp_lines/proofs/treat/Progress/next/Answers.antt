@@ -1,4 +1,4 @@
-use Rattle.std.proofs.Common.{arith, sym, append-nil, subst, List, ℕ, []}
+use Rattle.std.proofs.Common.{arith, sym, append-nil, subst, []}
 use Rattle.tsp_lines.specs.Readings.{IsNext}
 use Rattle.tsp_lines.proofs.Streams.{Gives-nil}
 use Rattle.tsp_lines.proofs.treat.Progress.next.Goals as goal

@@ -1,5 +1,5 @@
-use Rattle.std.proofs.Common.{◌≡◌, ◌<◌, ◌≤◌, ◌+◌, refl, sym, ap, ◌∙◌, [], inl, inr, arith, length, Ok, Err, ℕ, subst}
-use Rattle.tsp_lines.specs.Readings.{ReaderValue, IsNext, is_over}
+use Rattle.std.proofs.Common.{refl, sym, ap, ◌∙◌, [], inl, inr, arith, Ok, Err}
+use Rattle.tsp_lines.specs.Readings.{is_over}
 use Rattle.tsp_lines.specs.declared.treat.Outcome.TheVariants.{WriteFault, OutOfMemory}
 use Rattle.tsp_lines.proofs.Aheads.{HasNext-last}
 use Rattle.tsp_lines.proofs.Turns.{After-next, Comes-unflushed, Turn-line, Turn-last, Turn-last_end, HasNext-long, Comes-line, Turn-end, Turn-limit, Turn-failed, length-line}

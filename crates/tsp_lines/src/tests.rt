@@ -1,0 +1,201 @@
+//! What no clause says: that the outcomes come.
+use crate::cause::Cause;
+use crate::output::Output;
+use crate::treat::{Outcome, treat_all};
+use crate::treatment::{Stop, Treatment};
+use arrayvec::ArrayVec;
+use std::alloc::{AllocError, Global};
+use tsp_io::memory::{MemorySink, MemorySource};
+use tsp_io::sink::Sink;
+
+/// Gives each line back; refuses the line `!`, a long line and an empty input, and passes a limit at `#`.
+#[derive(Drop)]
+struct Echo {
+    seen: bool,
+}
+
+impl Treatment for Echo {
+    ghost meaning = { record {
+      accepts = λ lines text. Unit {0};
+      refuses = λ lines line cause. Unit {0};
+      limits = λ lines line. Unit {0};
+      ends = λ lines more. Unit {0};
+      lacks = λ lines cause. Unit {0};
+    } };
+
+    ghost stands = { λ _ _. Unit {0} };
+
+    fn treat<K: Sink>(
+        &mut self,
+        line: &[u8],
+        output: &mut Output,
+        sink: &mut K,
+    ) -> Result<(), Stop> {
+        match line {
+            [b'!'] => Err(Stop::Bad(Cause::of(b"mark"))),
+            [b'#'] => Err(Stop::Limit),
+            _ => {
+                self.seen = true;
+                let mut text = ArrayVec::<u8, 1025>::new();
+                let _ = text.try_extend_from_slice(line);
+                let _ = text.try_push(b'\n');
+                output.put(sink, text.as_slice())?;
+                Ok(())
+            }
+        }
+    }
+
+    fn refuse_long(&mut self) -> Cause {
+        Cause::of(b"long")
+    }
+
+    fn end<K: Sink>(&mut self, _output: &mut Output, _sink: &mut K) -> Result<(), Stop> {
+        if self.seen {
+            Ok(())
+        } else {
+            let mut words = ArrayVec::new();
+            let _ = words.try_extend_from_slice(b"empty");
+            Err(Stop::Bad(Cause::new(words)))
+        }
+    }
+}
+
+/// An input, how it is read and written, and what comes of it.
+#[derive(Drop)]
+struct Row {
+    limit: u32,
+    input: &'static [u8],
+    reads: &'static [u32],
+    writes: &'static [u32],
+    outcome: Outcome,
+    written: &'static [u8],
+}
+
+/// Whether an input that is read by two octets comes to what the row says.
+fn comes(alloc: Global, row: &Row) -> Result<bool, AllocError> {
+    let source = MemorySource::new(alloc, row.input, row.reads)?;
+    let mut source = source.in_pieces(2);
+    let mut sink = MemorySink::new(alloc, row.writes)?;
+    let mut echo = Echo { seen: false };
+    let outcome = treat_all(
+        alloc,
+        u64::from(row.limit),
+        &mut source,
+        &mut sink,
+        &mut echo,
+    );
+    Ok(outcome == row.outcome && sink.written() == row.written)
+}
+
+/// Each outcome comes where it is to come, with what is written till then.
+#[test]
+fn outcomes_come(rt: HostRuntime) {
+    let rows = [
+        Row {
+            limit: 100,
+            input: b"a\nbb\n",
+            reads: &[],
+            writes: &[],
+            outcome: Outcome::Ok,
+            written: b"a\nbb\n",
+        },
+        Row {
+            limit: 100,
+            input: b"a\nbb",
+            reads: &[],
+            writes: &[],
+            outcome: Outcome::Ok,
+            written: b"a\nbb\n",
+        },
+        Row {
+            limit: 100,
+            input: b"",
+            reads: &[],
+            writes: &[],
+            outcome: Outcome::Bad,
+            written: b"bad 1 empty\n",
+        },
+        Row {
+            limit: 100,
+            input: b"a\n!\nb\n",
+            reads: &[],
+            writes: &[],
+            outcome: Outcome::Bad,
+            written: b"a\nbad 2 mark\n",
+        },
+        Row {
+            limit: 100,
+            input: b"a\n#",
+            reads: &[],
+            writes: &[],
+            outcome: Outcome::Limit,
+            written: b"a\nlimit 2\n",
+        },
+        Row {
+            limit: 4,
+            input: b"a\nb\nc",
+            reads: &[],
+            writes: &[],
+            outcome: Outcome::Limit,
+            written: b"a\nb\nlimit 3\n",
+        },
+        Row {
+            limit: 3,
+            input: b"a\nb\n",
+            reads: &[],
+            writes: &[],
+            outcome: Outcome::Limit,
+            written: b"a\nlimit 2\n",
+        },
+        Row {
+            limit: 4,
+            input: b"a\nb\n",
+            reads: &[],
+            writes: &[],
+            outcome: Outcome::Ok,
+            written: b"a\nb\n",
+        },
+        Row {
+            limit: 100,
+            input: b"a\nb\n",
+            reads: &[1],
+            writes: &[],
+            outcome: Outcome::ReadFault,
+            written: b"a\n",
+        },
+        Row {
+            limit: 100,
+            input: b"a\nb\n",
+            reads: &[],
+            writes: &[0],
+            outcome: Outcome::WriteFault,
+            written: b"",
+        },
+        Row {
+            limit: 100,
+            input: b"a\nb\n",
+            reads: &[],
+            writes: &[1],
+            outcome: Outcome::WriteFault,
+            written: b"a\n",
+        },
+    ];
+    for row in &rows {
+        assert!(rt; comes(rt.alloc(), row) == Ok(true));
+    }
+}
+
+/// A line of 1,024 octets is accepted, and one of 1,025 is refused where it ends.
+#[test]
+fn long_lines_are_refused(rt: HostRuntime) -> Result<(), AllocError> {
+    let alloc = rt.alloc();
+    for (count, outcome) in [(1024, Outcome::Ok), (1025, Outcome::Bad)] {
+        let mut input = vec![in alloc; b'x'; count]?;
+        input.push(b'\n')?;
+        let mut source = MemorySource::new(alloc, input.as_slice(), &[])?;
+        let mut sink = MemorySink::new(alloc, &[])?;
+        let mut echo = Echo { seen: false };
+        assert!(rt; treat_all(alloc, 2048, &mut source, &mut sink, &mut echo) == outcome);
+    }
+    Ok(())
+}
