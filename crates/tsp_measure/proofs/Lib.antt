@@ -1,0 +1,5 @@
+pub mod Halves
+pub mod Samples
+pub mod Removals
+pub mod Peers
+pub mod BestSamples

@@ -1,0 +1,86 @@
+-- Lemmas on what is measured with a peer.
+use Rattle.std.proofs.Common.{◌≡◌, ◌∙◌, refl, ap, sym, subst, ℕ, zero, suc, ◌<◌, ◌≤◌, ◌==◌, cond, Bool, true, false, List, [], ◌∷◌, length, get_or, set, take, arith, MatchResult, MatchOption, Result, Ok, Err, inl, inr, ◌⊎◌}
+use Rattle.std.proofs.lemmas.Bool.Decides.{nat_tests}
+use Rattle.std.proofs.lemmas.List.Elements.{All-head, All-tail, All-from_get_or, All-contains}
+use Rattle.std.proofs.lemmas.Bool.{cases_lt}
+use Rattle.std.proofs.lemmas.List.{get_or-set_same, get_or-take, length-take}
+use Rattle.std.proofs.Math.ListN.{length-set}
+use Rattle.std.specs.List.{All, Contains}
+use Rattle.std.specs.Result.{result_ok}
+use Rattle.tsp_measure.specs.Measures.{Measured, nothing_measured}
+use Rattle.tsp_measure.specs.Peers.{at_peer, IsAscending}
+
+pub ascending_tail : (q : ℕ) (peers : List ℕ) → IsAscending (q ∷ peers) → IsAscending peers
+ascending_tail q peers up i j h k = up (suc i) (suc j) (omega arith) (omega arith)
+
+same_test : (q p : ℕ) → q ≡ p → (q == p) ≡ true
+same_test q p e = grind (arith, nat_tests)
+
+other_test : (q p : ℕ) → (q ≡ p → ⊥) → (q == p) ≡ false
+other_test q p e = grind (arith, nat_tests)
+
+-- the peer at a place
+pub at_peer-found : (peers : List ℕ) (measured : List Measured) (p i : ℕ) (d : Measured) → IsAscending peers → length measured ≡ length peers → i < length peers → get_or peers i 0 ≡ p → at_peer peers measured p ≡ get_or measured i d
+at_peer-found [] measured p i d up e h k = absurd (omega arith)
+at_peer-found (q ∷ peers) [] p i d up e h k = absurd (omega arith)
+at_peer-found (q ∷ peers) (m ∷ measured) p zero d up e h k = rw (same_test q p k) refl
+at_peer-found (q ∷ peers) (m ∷ measured) p (suc i) d up e h k =
+    let lt : q < get_or peers i 0 = up 0 (suc i) (omega arith) h in
+    rw (other_test q p (λ w. omega (arith, lt, k, w))) (at_peer-found peers measured p i d (ascending_tail q peers up) (omega arith) (omega arith) k)
+
+-- what is put at one peer's place leaves the others
+pub at_peer-others : (peers : List ℕ) (measured : List Measured) (p q i : ℕ) (m : Measured) → i < length peers → get_or peers i 0 ≡ p → (q ≡ p → ⊥) → at_peer peers (set measured i m) q ≡ at_peer peers measured q
+at_peer-others [] measured p q i m h k ne = absurd (omega arith)
+at_peer-others (r ∷ peers) [] p q i m h k ne = refl
+at_peer-others (r ∷ peers) (x ∷ measured) p q zero m h k ne = rw (other_test r q (λ w. ne (sym w ∙ k))) refl
+at_peer-others (r ∷ peers) (x ∷ measured) p q (suc i) m h k ne = ap (λ (y : Measured). cond (r == q) x y) (at_peer-others peers measured p q i m (omega arith) k ne)
+
+-- a number that isn't among the peers
+pub at_peer-missing : (peers : List ℕ) (measured : List Measured) (p : ℕ) → (Contains peers p → ⊥) → at_peer peers measured p ≡ nothing_measured
+at_peer-missing [] measured p none = refl
+at_peer-missing (q ∷ peers) [] p none = refl
+at_peer-missing (q ∷ peers) (m ∷ measured) p none =
+    rw (other_test q p (λ e. none (0, omega arith, e))) (at_peer-missing peers measured p (λ c. none (suc c.0, omega (arith, c.1), c.2)))
+
+either_way : (t : Bool) (x y z : Measured) → x ≡ z → y ≡ z → cond t x y ≡ z
+either_way true x y z e f = e
+either_way false x y z e f = f
+
+-- nothing is measured with any peer
+pub at_peer-nothing : (peers : List ℕ) (measured : List Measured) (p : ℕ) → All (λ (m : Measured). m ≡ nothing_measured) measured → at_peer peers measured p ≡ nothing_measured
+at_peer-nothing [] measured p all = refl
+at_peer-nothing (q ∷ peers) [] p all = refl
+at_peer-nothing (q ∷ peers) (m ∷ measured) p all = either_way (q == p) m (at_peer peers measured p) nothing_measured (All-head (λ (m : Measured). m ≡ nothing_measured) m measured all) (at_peer-nothing peers measured p (All-tail (λ (m : Measured). m ≡ nothing_measured) m measured all))
+
+misses_by : (xs : List ℕ) (x i k : ℕ) → ((k : ℕ) → k < i → get_or xs k 0 < x) → ((k : ℕ) → i ≤ k → k < length xs → x < get_or xs k 0) → k < length xs → (k < i) ⊎ (i ≤ k) → get_or xs k 0 ≡ x → ⊥
+misses_by xs x i k low high h (inl lt) e = let a = low k lt in omega arith
+misses_by xs x i k low high h (inr le) e = let a = high k le h in omega arith
+
+-- what a binary search says of a number
+pub found_or_missing : (xs : List ℕ) (x : ℕ) (r : Result ℕ ℕ)
+    → MatchResult r (λ i. (i < length xs) × (get_or xs i 0 ≡ x)) (λ i. (i ≤ length xs) × ((k : ℕ) → k < i → get_or xs k 0 < x) × ((k : ℕ) → i ≤ k → k < length xs → x < get_or xs k 0))
+    → MatchOption (result_ok r) (Contains xs x → ⊥) (λ i. (i < length xs) × (get_or xs i 0 ≡ x))
+found_or_missing xs x (Ok i) h = h
+found_or_missing xs x (Err i) h = λ c.
+    let none : All (λ y. y ≡ x → ⊥) xs = All-from_get_or (λ y. y ≡ x → ⊥) xs 0 (λ k lt. misses_by xs x i k h.1 h.2 lt (cases_lt k i)) in
+    All-contains (λ y. y ≡ x → ⊥) xs x none c refl
+
+rising_by : (xs : List ℕ) → IsAscending xs → (i j : ℕ) → i ≤ j → j < length xs → (i < j) ⊎ (j ≤ i) → get_or xs i 0 ≤ get_or xs j 0
+rising_by xs up i j le h (inl lt) = let a : get_or xs i 0 < get_or xs j 0 = up i j lt h in omega arith
+rising_by xs up i j le h (inr ge) = let e : i ≡ j = omega arith in rw e (omega arith)
+
+pub rising : (xs : List ℕ) → IsAscending xs → (i j : ℕ) → i ≤ j → j < length xs → get_or xs i 0 ≤ get_or xs j 0
+rising xs up i j le h = rising_by xs up i j le h (cases_lt i j)
+
+-- what is put at a peer's place is what is measured with it
+pub at_peer-put : (peers : List ℕ) (measured : List Measured) (p i : ℕ) (m : Measured) → IsAscending peers → length measured ≡ length peers → i < length peers → get_or peers i 0 ≡ p → at_peer peers (set measured i m) p ≡ m
+at_peer-put peers measured p i m up e h k =
+    let long : length (set measured i m) ≡ length peers = length-set measured i m ∙ e in
+    at_peer-found peers (set measured i m) p i m up long h k ∙ get_or-set_same measured i m m (omega arith)
+
+-- what holds of all that was taken holds of the list, where all of it was
+pub all_taken : (P : Measured → Type 0) (n : ℕ) (measured : List Measured) → length measured ≤ n → All P (take n measured) → All P measured
+all_taken P n measured h all k d lt =
+    let m : k < n = omega arith in
+    let e : get_or (take n measured) k d ≡ get_or measured k d = get_or-take n measured k d m in
+    subst P e (all k d (omega (arith, length-take n measured)))
