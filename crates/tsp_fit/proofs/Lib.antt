@@ -1,0 +1,14 @@
+pub mod AlarmLeads
+pub mod AnswerLeads
+pub mod Changes
+pub mod CloseLeads
+pub mod CommonLeads
+pub mod CorrectionLeads
+pub mod Known
+pub mod LeadsLeaves
+pub mod Leaves
+pub mod RoleLeads
+pub mod SendFits
+pub mod SlaveLeads
+pub mod TakenLeads
+pub mod TestFacts

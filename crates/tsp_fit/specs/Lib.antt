@@ -1,0 +1,2 @@
+pub mod PortFits
+pub mod Runs
