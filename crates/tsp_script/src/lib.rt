@@ -4,6 +4,7 @@
 pub mod acts;
 pub mod event_line;
 pub mod head_line;
+pub mod laws;
 pub mod line_fault;
 pub mod message_reader;
 pub mod messages;

@@ -2,6 +2,7 @@
 
 use crate::event_line::{EventItem, event_line};
 use crate::head_line::{HeadItem, head_line};
+use crate::laws::{comes_back, one_line_one_datagram};
 use crate::message_reader::message_of;
 use crate::messages::message_text;
 use crate::numbers::{append, append_hex, octets_of};
