@@ -8,6 +8,7 @@ use Rattle.tsp_base.specs.declared.kind.Kind.TheVariants.{Loop}
 use Rattle.tsp_base.specs.declared.message.Body.{Body}
 use Rattle.tsp_base.specs.declared.message.Body.TheVariants.{Nothing, Time, Hops}
 use Rattle.tsp_script.specs.Texts.{IsTimeBody, IsHopsBody, body_text}
+use Rattle.tsp_script.proofs.Outcomes.{true_or_false}
 
 -- no kind carries both a time and hops
 not_both : (k : Kind) → carries_time k ≡ true → carries_hops k ≡ true → ⊥
@@ -24,9 +25,6 @@ neither_hops true b p q = cc
 neither_hops false true p q = cc
 neither_hops false false p q = cc
 
-true_false : (b : Bool) → b ≡ true → b ≡ false → ⊥
-true_false b p q = cc
-
 pub time_body : (k : Kind) (b : Body) → carries_time k ≡ true → body_fits k b ≡ true → IsTimeBody b
 unfolding body_fits
 time_body k Nothing h f = absurd (neither_time (carries_time k) (carries_hops k) f h)
@@ -42,5 +40,5 @@ hops_body k (Hops n) h f = tt
 pub no_body : (k : Kind) (b : Body) (line rest : List ℕ) → carries_time k ≡ false → carries_hops k ≡ false → body_fits k b ≡ true → line ≡ body_text b ++ rest → (Nothing ≡ b) × (line ≡ rest)
 unfolding body_fits
 no_body k Nothing line rest g h f e = (refl, e)
-no_body k (Time t) line rest g h f e = absurd (true_false (carries_time k) f g)
-no_body k (Hops n) line rest g h f e = absurd (true_false (carries_hops k) f h)
+no_body k (Time t) line rest g h f e = absurd (true_or_false (carries_time k) f g)
+no_body k (Hops n) line rest g h f e = absurd (true_or_false (carries_hops k) f h)

@@ -4,6 +4,7 @@ use Rattle.std.specs.Prelude.{Contains, codes, ◌==◌, ◌&&◌, not, if◌the
 use Rattle.tsp_base.specs.Kinds.{kinds, kind_word}
 use Rattle.tsp_base.specs.declared.kind.Kind.{Kind}
 use Rattle.tsp_base.specs.declared.kind.Kind.TheVariants.{AdjTime}
+use Rattle.tsp_script.proofs.Outcomes.{some_injective}
 
 -- whether two words are the same
 abbrev same_word : List ℕ → List ℕ → Bool
@@ -22,13 +23,10 @@ unfolding kind_word
 first_kind-kind_word AdjTime = refl
 first_kind-kind_word _ = refl
 
-same_some : {A : Type 0} (a b : A) → Some a ≡ Some b → a ≡ b
-same_some a b p = cc
-
 -- a word is one kind's
 pub kind_word-injective : (k l : Kind) → kind_word k ≡ kind_word l → k ≡ l
 kind_word-injective k l e =
-    same_some k l (sym (first_kind-kind_word k) ∙ ap (λ w. first_kind kinds w) e ∙ first_kind-kind_word l)
+    some_injective k l (sym (first_kind-kind_word k) ∙ ap (λ w. first_kind kinds w) e ∙ first_kind-kind_word l)
 
 -- whether a word has no space
 abbrev spaceless : List ℕ → Bool

@@ -5,3 +5,4 @@ pub mod HeadLines
 pub mod KindWords
 pub mod MessageLines
 pub mod NameTexts
+pub mod Outcomes

@@ -10,6 +10,7 @@ use Rattle.tsp_base.specs.Names.{IsName, NameGives}
 use Rattle.tsp_base.specs.declared.name.NameFault.{NameFault}
 use Rattle.tsp_base.specs.declared.name.NameFault.TheVariants.{TooLong, HasNul}
 use Rattle.tsp_script.specs.Texts.{is_plain, escaped, name_text}
+use Rattle.tsp_script.proofs.Outcomes.{true_or_false}
 
 -- one octet
 pub IsBytes-one : (c : ℕ) → c < 256 → IsBytes (c ∷ [])
@@ -23,15 +24,12 @@ decoded_pair s out c r h e m =
     let d : decode_sized s 1 ≡ Ok (c ∷ []) = rw e (decode_sized-encode_lower (c ∷ []) 1 refl (IsBytes-one c h)) in
     rw d at m
 
-true_false : (b : Bool) → b ≡ true → b ≡ false → ⊥
-true_false b p q = cc
-
 -- a text that begins with a per cent sign begins with an octet that is written by digits
 percent_case : (b : Bool) (c x : ℕ) (xs rest : List ℕ) → is_plain c ≡ b → x ≡ 37
     → x ∷ xs ≡ (if b then c ∷ [] else 37 ∷ encode_lower (c ∷ [])) ++ rest → xs ≡ encode_lower (c ∷ []) ++ rest
 percent_case true c x xs rest p h e =
     let q : c ≡ 37 = cc in
-    absurd (true_false (is_plain c) p (rw q refl))
+    absurd (true_or_false (is_plain c) p (rw q refl))
 percent_case false c x xs rest p h e = cc
 
 pub percent_front : (c x : ℕ) (xs rest : List ℕ) → x ≡ 37 → x ∷ xs ≡ escaped c ++ rest → xs ≡ encode_lower (c ∷ []) ++ rest
@@ -59,7 +57,7 @@ lone_case : (b : Bool) (c : ℕ) (rest : List ℕ) → is_plain c ≡ b → 37 �
 unfolding encode_with
 lone_case true c rest p e =
     let q : c ≡ 37 = cc in
-    true_false (is_plain c) p (rw q refl)
+    true_or_false (is_plain c) p (rw q refl)
 lone_case false c rest p e = cc
 
 pub name_empty : (name : List ℕ) → 37 ∷ [] ≡ name_text name → name ≡ []

@@ -86,7 +86,7 @@ fn first_octet(text: &[u8]) -> Option<(u8, &[u8])>
 
 /// The name that has this text. A text of no name may be read too: whoever must know writes the name
 /// again and compares.
-pub fn name_of(text: &[u8]) -> Option<Name>
+pub(crate) fn name_of(text: &[u8]) -> Option<Name>
     ensures { (name : List ℕ) → IsName name → IsBytes name → text.now ≡ name_text name → result ≡ Some name }
 {
     if is_same(text, b"%") {

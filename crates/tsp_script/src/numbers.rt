@@ -72,10 +72,10 @@ pub fn append_hex(out: &mut ArrayVec<u8, 1024>, octets: &[u8])
     append(out, &digits[..count]);
 }
 
-/// The number that the word is the decimal text of.
+/// The number that the word is the decimal text of; None exactly where it is no such text of 64 bits, as
+/// with a sign or a leading zero.
 pub fn number_of(word: &[u8]) -> Option<u64>
     ensures found { IfSome result (λ n. word.now ≡ decimal n) }
-    ensures none { IfNone result ((n : ℕ) → n < 2 ^ 64 → word.now ≡ decimal n → ⊥) }
     ensures reads { (n : ℕ) → n < 2 ^ 64 → word.now ≡ decimal n → result ≡ Some n }
 {
     let Ok(text) = str::from_utf8(word) else {
@@ -100,10 +100,10 @@ fn is_text_of(word: &[u8], number: u64) -> bool
     if text == word { true } else { false }
 }
 
-/// The number with a sign that the word is the decimal text of.
+/// The number that the word is the decimal text of, with a dash where it is negative; None exactly where
+/// it is no such text of 64 bits, as with a plus, a leading zero or a negative zero.
 pub fn signed_of(word: &[u8]) -> Option<i64>
     ensures found { IfSome result (λ n. word.now ≡ signed_decimal n) }
-    ensures none { IfNone result ((n : ℤ) → FitsSigned w64 n → word.now ≡ signed_decimal n → ⊥) }
     ensures reads { (n : ℤ) → FitsSigned w64 n → word.now ≡ signed_decimal n → result ≡ Some n }
 {
     let Ok(text) = str::from_utf8(word) else {
@@ -147,7 +147,7 @@ pub fn octets_of(line: &[u8]) -> Option<ArrayVec<u8, 512>>
 
 /// The number that stands before the first space, and what follows the space. A line without a space
 /// may be read too.
-pub fn next_number(line: &[u8]) -> Option<(u64, &[u8])>
+pub(crate) fn next_number(line: &[u8]) -> Option<(u64, &[u8])>
     ensures { (n : ℕ) (rest : List ℕ) → n < 2 ^ 64 → line.now ≡ decimal n ++ 32 ∷ rest → IsSomeAnd result (λ r. (r.0 ≡ n) × (r.1.now ≡ rest)) }
 {
     let (word, rest) = cut(line);
@@ -159,7 +159,7 @@ pub fn next_number(line: &[u8]) -> Option<(u64, &[u8])>
 
 /// The number with its sign that stands before the first space, and what follows the space. A line
 /// without a space may be read too.
-pub fn next_signed(line: &[u8]) -> Option<(i64, &[u8])>
+pub(crate) fn next_signed(line: &[u8]) -> Option<(i64, &[u8])>
     ensures { (n : ℤ) (rest : List ℕ) → FitsSigned w64 n → line.now ≡ signed_decimal n ++ 32 ∷ rest → IsSomeAnd result (λ r. (r.0 ≡ n) × (r.1.now ≡ rest)) }
 {
     let (word, rest) = cut(line);

@@ -2,10 +2,8 @@ use Rattle.std.proofs.Common.{◌≡◌, ◌∙◌, ◌++◌, ◌∷◌, sym, ar
 use Rattle.std.specs.Prelude.{IsSomeAnd}
 use Rattle.tsp_script.proofs.Cuts.{cut_front}
 use Rattle.tsp_script.proofs.EventLines.{at_of, verb_of, rest_of, after_at, IsTrueTime-at_of, no_space-verb_of, bytes_reads, numbers_read}
+use Rattle.tsp_script.proofs.Outcomes.{some_injective}
 use Rattle.tsp_script.proofs.event_line.read_event.Goals as goal
-
-same_some : {A : Type 0} (a b : A) → Some a ≡ Some b → a ≡ b
-same_some a b p = cc
 
 pub returns-then-is_same-clause-reads : goal.returns-then-is_same-clause-reads
 returns-then-is_same-clause-reads c = λ e hex h x l.
@@ -20,7 +18,7 @@ returns-in-Some-clause-reads c = λ e hex h x l.
     let a = c.in_ok-at.ensures (at_of e) (verb_of e ++ 32 ∷ rest_of e hex) (omega (arith, IsTrueTime-at_of e h)) (c.cut.ensures.rest ∙ after_at e c.args.line.now hex l) in
     let v = cut_front c.in_ok-at.line.now (verb_of e) (rest_of e hex) (no_space-verb_of e) a.1 in
     let n = numbers_read c.in_ok-at.at c.cut-2.result.0.now c.cut-2.result.1.now hex e x a.0 (c.cut-2.ensures.word ∙ v.0) (c.cut-2.ensures.rest ∙ v.1) c.if-is_same.ensures in
-    (same_some _ _ (c.in-Some.ensures.reads e h n.0), n.1)
+    (some_injective _ _ (c.in-Some.ensures.reads e h n.0), n.1)
 
 pub returns-in-None-clause-reads : goal.returns-in-None-clause-reads
 returns-in-None-clause-reads c = λ e hex h x l.

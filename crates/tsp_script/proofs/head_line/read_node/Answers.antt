@@ -1,4 +1,4 @@
-use Rattle.std.proofs.Common.{◌≡◌, ◌∙◌, ◌++◌, ◌∷◌, ◌≤◌, ap, arith, Some, None, ℤ}
+use Rattle.std.proofs.Common.{◌≡◌, ◌∙◌, ◌++◌, ◌∷◌, ◌≤◌, ap, arith, Some, ℤ}
 use Rattle.std.specs.Prelude.{nat_abs}
 use Rattle.std.specs.Fmt.{signed_decimal}
 use Rattle.std.specs.Int.{w32, w64}
@@ -7,20 +7,15 @@ use Rattle.std.proofs.lemmas.Int.{to_z-of_z}
 use Rattle.tsp_script.specs.Schedules.{flag_text, IsHost}
 use Rattle.tsp_script.proofs.Cuts.{cut_front}
 use Rattle.tsp_script.proofs.HeadLines.{no_space-host, fits_wall, fits_rate, node_of_parts}
+use Rattle.tsp_script.proofs.Outcomes.{none_not_some, some_injective}
 use Rattle.tsp_script.proofs.head_line.read_node.Goals as goal
-
-same_some : {A : Type 0} (a b : A) → Some a ≡ Some b → a ≡ b
-same_some a b p = cc
-
-no_some : {A : Type 0} (a : A) → None ≡ Some a → ⊥
-no_some a p = cc
 
 pub returns-in_err-name-clause-reads : goal.returns-in_err-name-clause-reads
 returns-in_err-name-clause-reads c = λ n h e.
     let f = cut_front c.args.line.now n.name (signed_decimal n.rate ++ 32 ∷ (signed_decimal n.wall ++ 32 ∷ flag_text n.may)) (no_space-host n.name h.host) e in
     let word : c.cut.result.0.now ≡ n.name = c.cut.ensures.word ∙ f.0 in
     let host : IsHost c.cut.result.0.now = rw word h.host in
-    absurd (no_some _ (c.in_err-name.ensures.reads host))
+    absurd (none_not_some _ (c.in_err-name.ensures.reads host))
 
 pub returns-in_err-rate-clause-reads : goal.returns-in_err-rate-clause-reads
 returns-in_err-rate-clause-reads c = λ n h e.
@@ -37,7 +32,7 @@ returns-in_err-rate-2-clause-reads c = λ n h e.
     let r = c.in_ok-rate.ensures n.rate (signed_decimal n.wall ++ 32 ∷ flag_text n.may) (fits_wall n.rate (omega (arith, h.rate))) (c.cut.ensures.rest ∙ f.1) in
     let back : to_z w64 (of_z w64 c.in_ok-rate.rate) ≡ n.rate = ap (λ (z : ℤ). to_z w64 (of_z w64 z)) r.0 ∙ to_z-of_z w64 n.rate (fits_wall n.rate (omega (arith, h.rate))) in
     let small : nat_abs (to_z w64 (of_z w64 c.in_ok-rate.rate)) ≤ 1000 = rw back h.rate in
-    absurd (no_some _ (c.in_err-rate-2.ensures.reads small))
+    absurd (none_not_some _ (c.in_err-rate-2.ensures.reads small))
 
 pub returns-in_err-wall-clause-reads : goal.returns-in_err-wall-clause-reads
 returns-in_err-wall-clause-reads c = λ n h e.
@@ -70,7 +65,7 @@ returns-in_err-may-clause-reads c = λ n h e.
     let back : to_z w64 (of_z w64 c.in_ok-rate.rate) ≡ n.rate = ap (λ (z : ℤ). to_z w64 (of_z w64 z)) r.0 ∙ to_z-of_z w64 n.rate (fits_wall n.rate (omega (arith, h.rate))) in
     let small : nat_abs (to_z w64 (of_z w64 c.in_ok-rate.rate)) ≤ 1000 = rw back h.rate in
     let w = c.in_ok-wall.ensures n.wall (flag_text n.may) (fits_wall n.wall h.wall) r.1 in
-    absurd (no_some _ (c.in_err-may.ensures n.may w.1))
+    absurd (none_not_some _ (c.in_err-may.ensures n.may w.1))
 
 pub returns-clause-reads : goal.returns-clause-reads
 returns-clause-reads c = λ n h e.
@@ -81,9 +76,9 @@ returns-clause-reads c = λ n h e.
     let back : to_z w64 (of_z w64 c.in_ok-rate.rate) ≡ n.rate = ap (λ (z : ℤ). to_z w64 (of_z w64 z)) r.0 ∙ to_z-of_z w64 n.rate (fits_wall n.rate (omega (arith, h.rate))) in
     let small : nat_abs (to_z w64 (of_z w64 c.in_ok-rate.rate)) ≤ 1000 = rw back h.rate in
     let w = c.in_ok-wall.ensures n.wall (flag_text n.may) (fits_wall n.wall h.wall) r.1 in
-    let a = same_some _ _ (c.in_ok-name.ensures.reads host) ∙ word in
-    let b = same_some _ _ (c.in_ok-rate-2.ensures.reads small) in
-    let y = same_some _ _ (c.in_ok-may.ensures n.may w.1) in
+    let a = some_injective _ _ (c.in_ok-name.ensures.reads host) ∙ word in
+    let b = some_injective _ _ (c.in_ok-rate-2.ensures.reads small) in
+    let y = some_injective _ _ (c.in_ok-may.ensures n.may w.1) in
     let rate = ap (λ (z : ℤ). to_z w32 (of_z w32 z)) (b ∙ back) ∙ to_z-of_z w32 n.rate (fits_rate n.rate h.rate) in
     let wall = ap (λ (z : ℤ). to_z w64 (of_z w64 z)) w.0 ∙ to_z-of_z w64 n.wall (fits_wall n.wall h.wall) in
     ap Some (node_of_parts _ _ _ _ n a rate wall y)

@@ -4,10 +4,8 @@ use Rattle.tsp_base.specs.declared.datagram.Datagram.TheVariants.{Message}
 use Rattle.tsp_script.specs.Texts.{body_text, name_text}
 use Rattle.tsp_script.proofs.KindWords.{kind_word-injective}
 use Rattle.tsp_script.proofs.MessageLines.{message_of_parts}
+use Rattle.tsp_script.proofs.Outcomes.{some_injective}
 use Rattle.tsp_script.proofs.message_reader.read_plain.Goals as goal
-
-same_some : {A : Type 0} (a b : A) → Some a ≡ Some b → a ≡ b
-same_some a b p = cc
 
 pub returns-in_default : goal.returns-in_default
 returns-in_default c = λ m h w e.
@@ -30,8 +28,8 @@ returns-in-Some-of c = λ m h w e.
     let n = c.in_ok-number.ensures m.number (body_text m.body ++ name_text m.name) (omega (arith, h.number)) e in
     let fits : body_fits c.in_ok-kind.kind m.body ≡ true = rw k h.fits in
     let b = c.in-Some.ensures m.body (name_text m.name) h.body fits n.1 in
-    let s = same_some _ _ (c.in_ok-name.ensures m.name h.name h.octets b.1) in
-    let z = same_some _ _ (c.in_ok-number-2.ensures (rw n.0 h.number)) in
+    let s = some_injective _ _ (c.in_ok-name.ensures m.name h.name h.octets b.1) in
+    let z = some_injective _ _ (c.in_ok-number-2.ensures (rw n.0 h.number)) in
     let made = message_of_parts _ _ _ _ m c.in-Some-of.message k (z ∙ n.0) b.0 s c.in-Some-of.ensures.value in
     ap (λ (x : MessageValue). Some (Message x)) made
 
