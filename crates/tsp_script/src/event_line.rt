@@ -124,9 +124,7 @@ fn read_bytes(at: u64, line: &[u8]) -> Option<(Event, &[u8])>
     let node = long_of(node)?;
     let (from, hex) = cut(line);
     let from = place_of(from)?;
-    let Some(octets) = handed_of(hex) else {
-        return None;
-    };
+    let octets = handed_of(hex)?;
     let port = Port(0);
     Some((
         Event::Bytes {
@@ -170,10 +168,8 @@ fn read_event(line: &[u8]) -> Option<(Event, &[u8])>
     if is_same(verb, b"bytes") {
         return read_bytes(at, line);
     }
-    match read_numbers(at, verb, line) {
-        Some(event) => Some((event, &[])),
-        None => None,
-    }
+    let event = read_numbers(at, verb, line)?;
+    Some((event, &[]))
 }
 
 /// Reads what follows the word of an event without octets.

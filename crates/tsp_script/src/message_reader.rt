@@ -51,10 +51,8 @@ fn reply_of(ticket: u64, word: u64, counter: u64, reading: i64) -> Option<Datagr
     ensures { IsReply ticket reading → result ≡ Some (Datagram.Stamp (Stamp.Reply (record { ticket = ticket; word = word; counter = counter; reading = reading }))) }
 {
     let ticket = short_of(ticket)?;
-    match Stamp::reply(ticket, word, counter, reading) {
-        Some(stamp) => Some(Datagram::Stamp(stamp)),
-        None => None,
-    }
+    let stamp = Stamp::reply(ticket, word, counter, reading)?;
+    Some(Datagram::Stamp(stamp))
 }
 
 /// Reads what stands between a message's number and its name, and gives what follows.
@@ -77,10 +75,8 @@ fn next_time(line: &[u8]) -> Option<(Body, &[u8])>
         → IsSomeAnd result (λ r. (r.0 ≡ body) × (r.1.now ≡ rest)) }
 {
     let (time, rest) = next_signed(line)?;
-    match Micros::of(time) {
-        Some(time) => Some((Body::Time(time), rest)),
-        None => None,
-    }
+    let time = Micros::of(time)?;
+    Some((Body::Time(time), rest))
 }
 
 /// Reads a hop count, and gives what follows.
@@ -89,10 +85,8 @@ fn next_hops(line: &[u8]) -> Option<(Body, &[u8])>
         → IsSomeAnd result (λ r. (r.0 ≡ body) × (r.1.now ≡ rest)) }
 {
     let (hops, rest) = next_number(line)?;
-    match u8::try_from(hops) {
-        Ok(hops) => Some((Body::Hops(hops), rest)),
-        Err(_) => None,
-    }
+    let hops = u8::try_from(hops).ok()?;
+    Some((Body::Hops(hops), rest))
 }
 
 /// Reads what follows a message's word.
@@ -108,10 +102,8 @@ fn read_plain(word: &[u8], line: &[u8]) -> Option<Datagram>
         return None;
     };
     let name = name_of(line)?;
-    match Message::of(kind, number, body, name) {
-        Some(message) => Some(Datagram::Message(message)),
-        None => None,
-    }
+    let message = Message::of(kind, number, body, name)?;
+    Some(Datagram::Message(message))
 }
 
 /// Reads a message's line.

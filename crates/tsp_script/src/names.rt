@@ -78,10 +78,8 @@ fn first_octet(text: &[u8]) -> Option<(u8, &[u8])>
         return None;
     }
     let (pair, rest) = rest.split_at(2);
-    match octet_of(pair) {
-        Some(octet) => Some((octet, rest)),
-        None => None,
-    }
+    let octet = octet_of(pair)?;
+    Some((octet, rest))
 }
 
 /// The name that has this text. A text of no name may be read too: whoever must know writes the name

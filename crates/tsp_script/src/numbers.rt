@@ -151,10 +151,8 @@ pub(crate) fn next_number(line: &[u8]) -> Option<(u64, &[u8])>
     ensures { (n : ℕ) (rest : List ℕ) → n < 2 ^ 64 → line.now ≡ decimal n ++ 32 ∷ rest → IsSomeAnd result (λ r. (r.0 ≡ n) × (r.1.now ≡ rest)) }
 {
     let (word, rest) = cut(line);
-    match number_of(word) {
-        Some(number) => Some((number, rest)),
-        None => None,
-    }
+    let number = number_of(word)?;
+    Some((number, rest))
 }
 
 /// The number with its sign that stands before the first space, and what follows the space. A line
@@ -163,10 +161,8 @@ pub(crate) fn next_signed(line: &[u8]) -> Option<(i64, &[u8])>
     ensures { (n : ℤ) (rest : List ℕ) → FitsSigned w64 n → line.now ≡ signed_decimal n ++ 32 ∷ rest → IsSomeAnd result (λ r. (r.0 ≡ n) × (r.1.now ≡ rest)) }
 {
     let (word, rest) = cut(line);
-    match signed_of(word) {
-        Some(number) => Some((number, rest)),
-        None => None,
-    }
+    let number = signed_of(word)?;
+    Some((number, rest))
 }
 
 /// The number as 16 bits, where it fits.

@@ -8,14 +8,14 @@ returns-then-rest-lt2-clause-reads c = λ x r h e.
     let q = percent_front x _ _ r c.if-first-ne37.false (sym c.in_ok-first.ensures.cases.0 ∙ e) in
     let f = pair_front x _ r q in omega (arith, f.2)
 
-pub returns-in-Some-clause-reads : goal.returns-in-Some-clause-reads
-returns-in-Some-clause-reads c = λ x r h e.
+pub returns-clause-reads : goal.returns-clause-reads
+returns-clause-reads c = λ x r h e.
     let q = percent_front x _ _ r c.if-first-ne37.false (sym c.in_ok-first.ensures.cases.0 ∙ e) in
     let f = pair_front x _ r q in
-    (some_once _ _ _ c.in-Some.is (c.octet_of.ensures x h (c.split_at.ensures.front ∙ f.0)), c.split_at.ensures.back ∙ f.1)
+    (some_once _ _ _ c.in_ok-octet.was (c.octet_of.ensures x h (c.split_at.ensures.front ∙ f.0)), c.split_at.ensures.back ∙ f.1)
 
-pub returns-in-None-clause-reads : goal.returns-in-None-clause-reads
-returns-in-None-clause-reads c = λ x r h e.
+pub returns-in_err-octet-clause-reads : goal.returns-in_err-octet-clause-reads
+returns-in_err-octet-clause-reads c = λ x r h e.
     let q = percent_front x _ _ r c.if-first-ne37.false (sym c.in_ok-first.ensures.cases.0 ∙ e) in
     let f = pair_front x _ r q in
-    none_or_some _ _ c.in-None.is (c.octet_of.ensures x h (c.split_at.ensures.front ∙ f.0))
+    absurd (none_or_some _ _ c.in_err-octet.was (c.octet_of.ensures x h (c.split_at.ensures.front ∙ f.0)))

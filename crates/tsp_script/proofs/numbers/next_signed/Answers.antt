@@ -6,13 +6,13 @@ use Rattle.tsp_script.proofs.Cuts.{cut_front, no_space-signed}
 use Rattle.tsp_script.proofs.Outcomes.{none_or_some, some_once}
 use Rattle.tsp_script.proofs.numbers.next_signed.Goals as goal
 
-pub returns-in-Some : goal.returns-in-Some
-returns-in-Some c = λ n rest h e.
+pub returns : goal.returns
+returns c = λ n rest h e.
     let f = cut_front c.args.line.now _ rest (no_space-signed n h) e in
-    let m = some_once _ _ _ c.in-Some.is (c.signed_of.ensures.reads n h (c.cut.ensures.word ∙ f.0)) in
+    let m = some_once _ _ _ c.in_ok-number.was (c.signed_of.ensures.reads n h (c.cut.ensures.word ∙ f.0)) in
     (ap (λ (z : ℤ). to_z w64 (of_z w64 z)) m ∙ to_z-of_z w64 n h, c.cut.ensures.rest ∙ f.1)
 
-pub returns-in-None : goal.returns-in-None
-returns-in-None c = λ n rest h e.
+pub returns-in_err-number : goal.returns-in_err-number
+returns-in_err-number c = λ n rest h e.
     let f = cut_front c.args.line.now _ rest (no_space-signed n h) e in
-    none_or_some _ _ c.in-None.is (c.signed_of.ensures.reads n h (c.cut.ensures.word ∙ f.0))
+    absurd (none_or_some _ _ c.in_err-number.was (c.signed_of.ensures.reads n h (c.cut.ensures.word ∙ f.0)))
