@@ -56,7 +56,7 @@ given_at setting s h g w = record {
 }
 
 -- the round began at most so long before its Close
-round-soon : (setting : Setting) (m : ℕ) (q : Port) (close : Line) (cpast past : List Line) (start : Did) (idle : List Seen) → Fits setting past → Within (close ∷ cpast) past → node_of close ≡ m →
+pub round-soon : (setting : Setting) (m : ℕ) (q : Port) (close : Line) (cpast past : List Line) (start : Did) (idle : List Seen) → Fits setting past → Within (close ∷ cpast) past → node_of close ≡ m →
     started (view q (of m cpast)) ≡ Here start ∷ idle → close.did.tick ≤ start.tick + (CLOSE + SLACK) → close.did.step.at ≤ start.step.at + 9009011
 round-soon setting m q close cpast past start idle f close_in node start_is soon =
     let fc = fits_at setting (close ∷ cpast) past f close_in in

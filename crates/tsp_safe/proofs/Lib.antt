@@ -1,3 +1,4 @@
+pub mod AcknowledgedProof
 pub mod AgreedProof
 pub mod AgreedSums
 pub mod AskedProof
@@ -5,9 +6,14 @@ pub mod BestProof
 pub mod ClockProof
 pub mod Clocks
 pub mod Correcting
+pub mod FreshProof
+pub mod FreshSteps
 pub mod HeldProof
 pub mod HistoryPlaces
 pub mod KnownProof
+pub mod LastPostProof
+pub mod LastTakenProof
+pub mod LateProof
 pub mod Locating
 pub mod MasterMoved
 pub mod Matching
@@ -22,7 +28,10 @@ pub mod PortFits
 pub mod ReadingProof
 pub mod ResolvedProof
 pub mod RoundPlaces
+pub mod SameSendProof
+pub mod SeenPlaces
 pub mod SendPlaces
 pub mod SendProof
 pub mod SinceProof
+pub mod SpacedProof
 pub mod WordsProof
