@@ -1,6 +1,6 @@
 -- Order of places.
-use Rattle.std.specs.Prelude.{◌≡◌, ◌≤◌, List, [], ◌∷◌, length, refl}
-use Rattle.std.proofs.Common.{sym, ap, arith, subst, ◌⊎◌, inl, inr, ◌∙◌}
+use Rattle.std.specs.Prelude.{◌≤◌, List, [], ◌∷◌, length, refl}
+use Rattle.std.proofs.Common.{sym, arith, subst, ◌⊎◌, inl, inr}
 use Rattle.tsp_base.specs.Places.{Within}
 
 -- the whole list is a place of itself

@@ -1,8 +1,8 @@
 -- Places of a node's lines and places of what its ports see.
-use Rattle.std.specs.Prelude.{◌≡◌, ◌==◌, ◌||◌, ℕ, Bool, true, false, List, [], ◌∷◌, refl}
-use Rattle.std.proofs.Common.{sym, ap, subst, subst₂, ◌⊎◌, inl, inr, eqb-true, eq-eqb, ◌∙◌}
+use Rattle.std.specs.Prelude.{◌≡◌, ◌==◌, ◌||◌, Bool, true, false, List, [], ◌∷◌, refl}
+use Rattle.std.proofs.Common.{sym, ap, subst, subst₂, inl, inr, eqb-true, eq-eqb}
 use Rattle.tsp_base.specs.declared.place.Port.{Port}
-use Rattle.tsp_base.specs.History.{Deed, Did, Line, Seen, Here, Elsewhere, is_shared, seen_as, view, did_of, dids}
+use Rattle.tsp_base.specs.History.{Did, Line, Seen, Here, is_shared, seen_as, view, dids}
 use Rattle.tsp_base.specs.Places.{Within}
 use Rattle.tsp_base.proofs.PlaceLemmas.{Within-none}
 

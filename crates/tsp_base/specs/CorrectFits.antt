@@ -1,5 +1,5 @@
 -- What a Correct owes to its port's past.
-use Rattle.std.specs.Prelude.{◌≡◌, ◌≤◌, ◌⊎◌, ℕ, ◌+◌, ℤ, ◌-ℤ◌, true, List, ◌∷◌, None}
+use Rattle.std.specs.Prelude.{◌≡◌, ◌≤◌, ℕ, ◌+◌, ℤ, ◌-ℤ◌, true, List, ◌∷◌, None}
 use Rattle.tsp_base.specs.declared.act.Act.TheVariants.{Took, Close}
 use Rattle.tsp_base.specs.declared.constants.TheConstants.{GAP, QUIET}
 use Rattle.tsp_base.specs.declared.datagram.Datagram.TheVariants.{Message}

@@ -1,5 +1,5 @@
 -- What each deed owes to its port's past.
-use Rattle.std.specs.Prelude.{◌≡◌, ◌≤◌, ℕ, false, List, Some}
+use Rattle.std.specs.Prelude.{◌≡◌, ◌≤◌, false, List, Some}
 use Rattle.tsp_base.specs.declared.act.Act.{Act}
 use Rattle.tsp_base.specs.declared.act.Act.TheVariants.{Post, Become, Back, Sample, Acked, Close, Correct}
 use Rattle.tsp_base.specs.declared.datagram.Datagram.{Datagram}

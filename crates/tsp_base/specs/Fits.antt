@@ -1,5 +1,5 @@
 -- Histories that fit: what a schedule gives of each line, and what each deed owes.
-use Rattle.std.specs.Prelude.{◌≡◌, ◌≤◌, ◌<◌, ℕ, ◌^◌, ◌==◌, ◌||◌, ℤ, pos, ◌+ℤ◌, Bool, true, List, [], ◌∷◌}
+use Rattle.std.specs.Prelude.{◌≡◌, ◌≤◌, ◌<◌, ℕ, ◌^◌, ◌==◌, ◌||◌, pos, ◌+ℤ◌, Bool, true, List, [], ◌∷◌}
 use Rattle.tsp_base.specs.declared.act.Act.TheVariants.{Boot, Took, Post}
 use Rattle.tsp_base.specs.declared.datagram.Datagram.{Datagram}
 use Rattle.tsp_base.specs.declared.datagram.Taken.{Taken}
@@ -10,7 +10,7 @@ use Rattle.tsp_base.specs.declared.place.Port.{Port}
 use Rattle.tsp_base.specs.DeedFits.{DeedFits}
 use Rattle.tsp_base.specs.Everywhere.{Everywhere}
 use Rattle.tsp_base.specs.History.{Cause, Booted, Turned, Came, Handed, Step, Deed, Begins, Acts, Did, Line, of, dids, view, is_shared}
-use Rattle.tsp_base.specs.NodeFacts.{time_of, tick_of, up}
+use Rattle.tsp_base.specs.NodeFacts.{time_of, up}
 use Rattle.tsp_base.specs.Places.{Within}
 use Rattle.tsp_base.specs.Setting.{Setting}
 use Rattle.tsp_base.specs.StepFacts.{StepEnds}

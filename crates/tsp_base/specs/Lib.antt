@@ -26,9 +26,11 @@ pub mod Performs
 pub mod Places
 pub mod PortFacts
 pub mod Premises
+pub mod Relayed
 pub mod Resolved
 pub mod RoundFacts
 pub mod Rows
+pub mod Safe
 pub mod Samples
 pub mod SendFacts
 pub mod Setting

@@ -1,16 +1,25 @@
 -- The promise that a rival that takes Quit stops being master.
-use Rattle.std.specs.Prelude.{◌≡◌, ◌≤◌, ℕ, ◌+◌, List, ◌∷◌, Some}
-use Rattle.tsp_base.specs.declared.act.Act.TheVariants.{Become, Quit}
+use Rattle.std.specs.Prelude.{◌≡◌, ◌≢◌, ◌≤◌, ℕ, ◌+◌, List, ◌∷◌, Some}
+use Rattle.tsp_base.specs.declared.act.Act.TheVariants.{Become, Post, Quit, Ring}
+use Rattle.tsp_base.specs.declared.alarm.Alarm.TheVariants.{Resolve}
 use Rattle.tsp_base.specs.declared.constants.TheConstants.{ELECT_MIN}
+use Rattle.tsp_base.specs.declared.datagram.Datagram.TheVariants.{Message}
+use Rattle.tsp_base.specs.declared.kind.Kind.TheVariants.{Quit as QuitKind}
 use Rattle.tsp_base.specs.declared.place.PeerId.{PeerId}
+use Rattle.tsp_base.specs.declared.place.Place.TheVariants.{Peer}
 use Rattle.tsp_base.specs.declared.place.Port.{Port}
 use Rattle.tsp_base.specs.declared.role.Role.TheVariants.{Follow, Master}
 use Rattle.tsp_base.specs.Everywhere.{Everywhere}
 use Rattle.tsp_base.specs.Fits.{node_of}
-use Rattle.tsp_base.specs.History.{Begins, Acts, Line, Seen, of, view}
+use Rattle.tsp_base.specs.History.{Came, Begins, Acts, Did, Line, Seen, Here, of, dids, view}
+use Rattle.tsp_base.specs.Messages.{MessageValue}
+use Rattle.tsp_base.specs.NodeFacts.{time_of}
+use Rattle.tsp_base.specs.Once.{send}
 use Rattle.tsp_base.specs.Places.{Within}
 use Rattle.tsp_base.specs.PortFacts.{role}
+use Rattle.tsp_base.specs.Premises.{Life}
 use Rattle.tsp_base.specs.StepFacts.{owes}
+use Rattle.tsp_base.specs.Takings.{peer_of, posted}
 
 -- a master that took a QUIT of p in the step that ends here follows p
 abbrev pub YieldsAt : List Seen → Type 0
@@ -28,3 +37,30 @@ QuietAt l world = (other : Line) (older : List Line) (p : PeerId) → l.did.deed
 
 abbrev pub StaysQuiet : List Line → Type 0
 StaysQuiet = Everywhere QuietAt
+
+-- in this line a node takes the QUIT that an alarm's step of m begins: the line is its Quit, and its step takes a post of that send
+pub record TakesQuit (ring x : Line) (past : List Line) : Type 0 where
+  pub quits : x.did.deed ≡ Acts (Quit (peer_of (node_of ring)))
+  pub post : Line
+  pub older : List Line
+  pub place : Within (post ∷ older) past
+  pub takes : x.did.step.cause ≡ Came (posted (dids older))
+  pub message : MessageValue
+  pub deed : post.did.deed ≡ Acts (Post (Peer (peer_of (node_of x))) (Message message))
+  pub kind : message.kind ≡ QuitKind
+  pub node : node_of post ≡ node_of ring
+  pub first : Did
+  pub begun : List Seen
+  pub begins : send (node_of x) post older ≡ Here first ∷ begun
+  pub step : first.step ≡ ring.did.step
+
+-- two rivals x and y that take QUITs of one Ring, the later of them in the history's last step: then x leads no more
+abbrev pub StopsLeading : List Line → Type 0
+StopsLeading h = (ring x y : Line) (past xpast ypast : List Line) → Within (ring ∷ past) h → ring.did.deed ≡ Acts (Ring Resolve) → Within (x ∷ xpast) h → TakesQuit ring x xpast → Within (y ∷ ypast) h → TakesQuit ring y ypast →
+    time_of (dids h) ≡ y.did.step.at → role (view x.port (of (node_of x) h)) ≢ Master
+
+-- the three parts, of a history that ends with a step; the last needs that no datagram outlives LIFE
+pub record Resolved (h : List Line) : Type 0 where
+  pub yields : Yields h
+  pub quiet : StaysQuiet h
+  pub stops : Life h → StopsLeading h

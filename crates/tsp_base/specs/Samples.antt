@@ -1,5 +1,5 @@
 -- Samples of another clock.
-use Rattle.std.specs.Prelude.{ℕ, ◌/◌, ℤ, pos, negsuc, neg_ℤ, ◌-ℤ◌}
+use Rattle.std.specs.Prelude.{◌/◌, ℤ, pos, negsuc, neg_ℤ, ◌-ℤ◌}
 
 -- half of a number, rounded down
 abbrev pub half_down : ℤ → ℤ

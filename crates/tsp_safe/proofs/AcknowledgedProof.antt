@@ -1,18 +1,16 @@
 -- Where the last correction was acknowledged, and where the last taken one was taken.
-use Rattle.std.specs.Prelude.{◌≡◌, ◌==◌, ◌&&◌, ◌||◌, cond, Bool, true, false, ℕ, ◌⊎◌, ℤ, List, [], ◌∷◌, Option, Some, None, refl}
-use Rattle.std.proofs.Common.{sym, ap, subst, inl, inr, true≢false, ◌∙◌}
+use Rattle.std.specs.Prelude.{◌≡◌, ◌==◌, ◌&&◌, cond, Bool, true, false, List, [], ◌∷◌, refl}
+use Rattle.std.proofs.Common.{sym, ap, inl, inr, true≢false, ◌∙◌}
 use Rattle.tsp_base.specs.declared.act.Act.TheVariants.{Boot, Post, Become, Acked, Gave}
 use Rattle.tsp_base.specs.declared.datagram.Datagram.TheVariants.{Message}
 use Rattle.tsp_base.specs.declared.place.PeerId.{PeerId}
 use Rattle.tsp_base.specs.declared.place.Place.TheVariants.{Peer}
 use Rattle.tsp_base.specs.History.{Acts, Deed, Did, Seen, Here, Elsewhere}
-use Rattle.tsp_base.specs.Messages.{MessageValue}
 use Rattle.tsp_base.specs.Places.{Within}
 use Rattle.tsp_base.specs.PortFacts.{acting}
 use Rattle.tsp_base.specs.SendFacts.{is_correction, is_numbered, open_to, open_to_after, last_to, last_to_after, is_acknowledged, is_acknowledged_after, corrects_by, message_at, message_of}
 use Rattle.tsp_safe.proofs.LateProof.{numbered}
 use Rattle.tsp_safe.proofs.SendProof.{and-true, peer-same}
-
 
 last-of-post : (peer number correct begins : Bool) (d : Did) (before now last : List Seen) → (correct ≡ true → number ≡ true) → (corrects_by (message_at (Here d ∷ before)) ≡ correct) →
     (corrects_by (message_at now) ≡ true → last ≡ now) → corrects_by (message_at (cond (peer && (number && begins)) (Here d ∷ before) now)) ≡ true →

@@ -1,44 +1,38 @@
 -- Clocks corrected in one round agree.
-use Rattle.std.specs.Prelude.{◌≡◌, ◌==◌, ◌||◌, ◌≤◌, ◌≤ℤ◌, ◌<◌, ◌⊎◌, Bool, true, false, ℕ, ◌+◌, ◌-◌, ◌*◌, ℤ, pos, ◌+ℤ◌, ◌-ℤ◌, nat_abs, List, [], ◌∷◌, refl}
-use Rattle.std.proofs.Common.{sym, ap, arith, subst, subst₂, inl, inr, ◌∙◌}
-use Rattle.std.proofs.lemmas.Int.{ints}
-use Rattle.tsp_base.specs.declared.act.Act.TheVariants.{Took, Post, Close, Correct}
-use Rattle.tsp_base.specs.declared.constants.TheConstants.{CLOSE, LIFE, QUIET, SLACK}
-use Rattle.tsp_base.specs.declared.datagram.Datagram.TheVariants.{Message}
+use Rattle.std.specs.Prelude.{◌≡◌, ◌≤◌, ◌≤ℤ◌, ◌⊎◌, Bool, ℕ, ◌+◌, ◌-◌, ◌*◌, ℤ, pos, ◌+ℤ◌, ◌-ℤ◌, nat_abs, List, ◌∷◌, refl}
+use Rattle.std.proofs.Common.{sym, ap, arith, subst, inr, ◌∙◌}
+use Rattle.tsp_base.specs.declared.act.Act.TheVariants.{Correct}
+use Rattle.tsp_base.specs.declared.constants.TheConstants.{CLOSE, LIFE, SLACK}
 use Rattle.tsp_base.specs.declared.kind.Kind.TheVariants.{AdjTime}
 use Rattle.tsp_base.specs.declared.place.Port.{Port}
-use Rattle.tsp_base.specs.Agreed.{Agreed, AgreedPeers, AgreedMaster, Cast, ReadingOf, RightAfter, Unchanged, UnchangedBut}
+use Rattle.tsp_base.specs.Agreed.{Agreed, AgreedPeers, AgreedMaster, Cast, Unchanged}
 use Rattle.tsp_base.specs.ClockAt.{clock, clock_at}
-use Rattle.tsp_base.specs.CorrectFits.{CorrectFits, WhyCorrect, ByRound, ByMaster, EndsRound, TakesCorrection, amount_of}
-use Rattle.tsp_base.specs.CorrectionFits.{FromClose, FollowedBy}
-use Rattle.tsp_base.specs.Fits.{Fits, LineFits, node_of}
-use Rattle.tsp_base.specs.History.{Acts, Did, Line, Seen, Here, of, dids, view, plain, seen_as, is_shared}
-use Rattle.tsp_base.specs.Messages.{MessageValue}
-use Rattle.tsp_base.specs.NodeFacts.{all_corrects, boot_tick, lives, moved, target, tick_of, ticket, time_of}
-use Rattle.tsp_base.specs.Once.{ActsOn, send}
+use Rattle.tsp_base.specs.CorrectFits.{amount_of}
+use Rattle.tsp_base.specs.CorrectionFits.{FollowedBy}
+use Rattle.tsp_base.specs.Fits.{Fits, node_of}
+use Rattle.tsp_base.specs.History.{Acts, Did, Line, Seen, Here, of, dids, view, plain}
+use Rattle.tsp_base.specs.NodeFacts.{moved, target, ticket, time_of}
+use Rattle.tsp_base.specs.Once.{ActsOn}
 use Rattle.tsp_base.specs.Places.{Within}
 use Rattle.tsp_base.specs.Premises.{Honest, HonestAt, Life, TakenWithinAt, Words, WordsAt}
 use Rattle.tsp_base.specs.RoundFacts.{started}
 use Rattle.tsp_base.specs.Setting.{Setting}
-use Rattle.tsp_base.specs.Takings.{Undisturbed, peer_of, time_in}
+use Rattle.tsp_base.specs.Takings.{peer_of, time_in}
 use Rattle.tsp_base.specs.Ticks.{tick_at, width}
 use Rattle.tsp_base.proofs.EverywhereLemmas.{Everywhere-within}
-use Rattle.tsp_base.proofs.PlaceLemmas.{Within-all, Within-through, Within-tail}
-use Rattle.tsp_base.proofs.Views.{plain_view}
+use Rattle.tsp_base.proofs.PlaceLemmas.{Within-through, Within-tail}
 use Rattle.tsp_safe.proofs.AgreedSums.{sums, triangle, moved-by}
 use Rattle.tsp_safe.proofs.Clocks.{near, drift_apart}
-use Rattle.tsp_safe.proofs.Correcting.{TakesOf, takes_of}
-use Rattle.tsp_safe.proofs.HistoryPlaces.{of-own, own_in, Within-of}
-use Rattle.tsp_safe.proofs.Locating.{Located, line_on, locate, fits_in, tick_in}
+use Rattle.tsp_safe.proofs.Correcting.{takes_of}
+use Rattle.tsp_safe.proofs.HistoryPlaces.{of-own}
+use Rattle.tsp_safe.proofs.Locating.{line_on, locate, tick_in}
 use Rattle.tsp_safe.proofs.MasterMoved.{master_moved, unmoved}
-use Rattle.tsp_safe.proofs.Matching.{Kept, kept_by, first_after}
+use Rattle.tsp_safe.proofs.Matching.{first_after}
 use Rattle.tsp_safe.proofs.OnceTakenProof.{Acting, Aged, acting_on, aged}
-use Rattle.tsp_safe.proofs.OwnFitsProof.{own_fits, fits_at, place-time}
+use Rattle.tsp_safe.proofs.OwnFitsProof.{fits_at, place-time}
 use Rattle.tsp_safe.proofs.PortFits.{deed_fits}
 use Rattle.tsp_safe.proofs.ReadingProof.{ReadAt, read_at}
 use Rattle.tsp_safe.proofs.RoundPlaces.{started_at}
-use Rattle.tsp_safe.proofs.SendPlaces.{SendPlace}
-use Rattle.tsp_safe.proofs.SinceProof.{since}
 
 -- what a schedule gives
 pub record Given (setting : Setting) (world : List Line) : Type 0 where

@@ -1,9 +1,8 @@
 -- How many requests a port has posted.
-use Rattle.std.specs.Prelude.{◌≡◌, ◌==◌, ◌||◌, Bool, true, false, ℕ, ◌+◌, ◌≤◌, List, [], ◌∷◌, refl}
-use Rattle.std.proofs.Common.{sym, ap, arith, subst, inl, inr}
+use Rattle.std.specs.Prelude.{◌≡◌, ◌==◌, ◌||◌, Bool, true, false, ℕ, ◌≤◌, List, [], ◌∷◌, refl}
+use Rattle.std.proofs.Common.{sym, arith, subst, inl, inr}
 use Rattle.tsp_base.specs.declared.act.Act.TheVariants.{Boot, Post}
 use Rattle.tsp_base.specs.declared.datagram.Datagram.TheVariants.{Stamp}
-use Rattle.tsp_base.specs.declared.place.Place.{Place}
 use Rattle.tsp_base.specs.declared.place.Port.{Port}
 use Rattle.tsp_base.specs.declared.stamp.Stamp.TheVariants.{Request}
 use Rattle.tsp_base.specs.Fits.{node_of}

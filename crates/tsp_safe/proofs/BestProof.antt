@@ -1,5 +1,5 @@
 -- The best sample of a peer stands in the last round.
-use Rattle.std.specs.Prelude.{◌≡◌, ◌==◌, cond, int_lt, Bool, true, false, ℕ, ◌⊎◌, List, [], ◌∷◌, Option, Some, None, refl}
+use Rattle.std.specs.Prelude.{◌≡◌, ◌==◌, cond, int_lt, Bool, true, false, ◌⊎◌, List, [], ◌∷◌, Option, Some, None, refl}
 use Rattle.std.proofs.Common.{sym, ap, subst, inl, inr, ◌∙◌}
 use Rattle.tsp_base.specs.declared.act.Act.TheVariants.{Boot, Become, Arm, Sample}
 use Rattle.tsp_base.specs.declared.alarm.Alarm.TheVariants.{Close}

@@ -1,8 +1,7 @@
 -- The clock at a place is the target that the node's past gives.
-use Rattle.std.specs.Prelude.{◌≡◌, ◌==◌, Bool, true, false, ℕ, ◌+◌, ◌≤◌, ℤ, pos, ◌+ℤ◌, ◌-ℤ◌, List, [], ◌∷◌, refl}
+use Rattle.std.specs.Prelude.{◌≡◌, ◌==◌, Bool, true, false, ℕ, pos, ◌-ℤ◌, List, [], ◌∷◌, refl}
 use Rattle.std.proofs.Common.{sym, ap, arith, subst, eqb-true, true≢false, ◌∙◌}
 use Rattle.std.proofs.lemmas.Int.{ints}
-use Rattle.tsp_base.specs.declared.act.Act.{Act}
 use Rattle.tsp_base.specs.declared.act.Act.TheVariants.{Boot, Post}
 use Rattle.tsp_base.specs.declared.datagram.Datagram.{Datagram}
 use Rattle.tsp_base.specs.declared.place.Place.{Place}
@@ -12,7 +11,6 @@ use Rattle.tsp_base.specs.History.{Deed, Begins, Acts, Did, Line, of, dids}
 use Rattle.tsp_base.specs.NodeFacts.{base, boot_after, boot_tick, moved, target, up, up_after, wall, wall_after}
 use Rattle.tsp_base.specs.Setting.{Setting}
 use Rattle.tsp_safe.proofs.HistoryPlaces.{of-own}
-use Rattle.tsp_safe.proofs.OwnFitsProof.{tick_is}
 
 base-deed : (setting : Setting) (d : Did) (t : List Did) (deed : Deed) → Alive setting deed d (up t) → (up t ≡ true → base t ≡ setting.wall d.step.node) → up_after deed (up t) ≡ true →
     wall_after deed d.step.cause (wall t) -ℤ pos (boot_after deed d.tick (boot_tick t)) ≡ setting.wall d.step.node

@@ -1,22 +1,22 @@
 -- What a Correct takes, and what it makes of the ticket.
-use Rattle.std.specs.Prelude.{◌≡◌, ℕ, ◌+◌, ◌*◌, ◌%◌, ◌<◌, ◌≤◌, ℤ, Bool, true, false, List, [], ◌∷◌, Some, None, refl}
-use Rattle.std.proofs.Common.{sym, ap, arith, subst, subst₂, inl, inr, ◌∙◌}
+use Rattle.std.specs.Prelude.{◌≡◌, ℕ, ◌+◌, ◌<◌, ◌≤◌, ℤ, Bool, true, List, ◌∷◌, Some, refl}
+use Rattle.std.proofs.Common.{sym, ap, arith, subst, inl, inr, ◌∙◌}
 use Rattle.std.proofs.lemmas.Bool.{cases_lt}
-use Rattle.tsp_base.specs.declared.act.Act.TheVariants.{Took, Correct, Close}
+use Rattle.tsp_base.specs.declared.act.Act.TheVariants.{Correct}
 use Rattle.tsp_base.specs.declared.constants.TheConstants.{QUIET}
 use Rattle.tsp_base.specs.declared.datagram.Datagram.TheVariants.{Message}
 use Rattle.tsp_base.specs.declared.datagram.Taken.TheVariants.{Good}
 use Rattle.tsp_base.specs.declared.place.PeerId.{PeerId}
 use Rattle.tsp_base.specs.declared.place.Place.TheVariants.{Peer}
 use Rattle.tsp_base.specs.declared.role.Role.TheVariants.{Follow}
-use Rattle.tsp_base.specs.CorrectFits.{CorrectFits, WhyCorrect, ByRound, ByMaster, EndsRound, TakesCorrection, amount_of}
-use Rattle.tsp_base.specs.History.{Acts, Did, Seen, Here, plain}
+use Rattle.tsp_base.specs.CorrectFits.{WhyCorrect, ByRound, ByMaster, TakesCorrection, amount_of}
+use Rattle.tsp_base.specs.History.{Acts, Did, Seen, plain}
 use Rattle.tsp_base.specs.Messages.{MessageValue}
 use Rattle.tsp_base.specs.NodeFacts.{all_corrects, corrects, word, boot_tick, tick_of, ticket, target}
 use Rattle.tsp_base.specs.PortFacts.{Received, role, taken}
 use Rattle.tsp_base.specs.SendFacts.{is_correction}
 use Rattle.tsp_base.specs.Takings.{Receives, time_in}
-use Rattle.tsp_safe.specs.Since.{Since, OneLife, NewLife}
+use Rattle.tsp_safe.specs.Since.{Since}
 
 -- a Correct in a step that has taken this message of p
 pub record TakesOf (here : Did) (seen : List Seen) (amount : ℤ) (p : PeerId) (m : MessageValue) : Type 0 where

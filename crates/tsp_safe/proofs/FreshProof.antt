@@ -1,40 +1,34 @@
 -- A later correction to a peer comes long after an earlier one, or the peer's clock was corrected for each number between.
-use Rattle.std.specs.Prelude.{◌≡◌, ◌==◌, Bool, true, false, ℕ, ◌+◌, ◌*◌, ◌%◌, ◌<◌, ◌≤◌, ◌⊎◌, List, [], ◌∷◌, refl}
-use Rattle.std.proofs.Common.{sym, ap, arith, subst, subst₂, inl, inr, true≢false, ◌∙◌}
-use Rattle.tsp_base.specs.declared.act.Act.TheVariants.{Post, Acked}
-use Rattle.tsp_base.specs.declared.constants.TheConstants.{LAST, QUIET, REUSE}
+use Rattle.std.specs.Prelude.{◌≡◌, Bool, true, false, ℕ, ◌+◌, ◌%◌, ◌<◌, ◌≤◌, ◌⊎◌, List, ◌∷◌, refl}
+use Rattle.std.proofs.Common.{sym, ap, arith, subst, subst₂, inl, inr, ◌∙◌}
+use Rattle.tsp_base.specs.declared.act.Act.TheVariants.{Post}
+use Rattle.tsp_base.specs.declared.constants.TheConstants.{QUIET, REUSE}
 use Rattle.tsp_base.specs.declared.datagram.Datagram.TheVariants.{Message}
-use Rattle.tsp_base.specs.declared.place.PeerId.{PeerId}
 use Rattle.tsp_base.specs.declared.place.Place.TheVariants.{Peer}
 use Rattle.tsp_base.specs.declared.place.Port.{Port}
-use Rattle.tsp_base.specs.CorrectionFits.{BeginFits, CorrectionFits, Rests, Follows}
-use Rattle.tsp_base.specs.Fits.{Fits, LineFits, node_of, Sees}
-use Rattle.tsp_base.specs.History.{Acts, Did, Line, Seen, Here, of, dids, view, plain, is_shared}
+use Rattle.tsp_base.specs.CorrectionFits.{Rests}
+use Rattle.tsp_base.specs.Fits.{Fits, node_of}
+use Rattle.tsp_base.specs.History.{Acts, Did, Line, Seen, Here, of, dids, view, is_shared}
 use Rattle.tsp_base.specs.Messages.{MessageValue}
-use Rattle.tsp_base.specs.NodeFacts.{all_corrects, boot_tick, lives, tick_of}
-use Rattle.tsp_base.specs.Once.{ActsOn, Acted, ConfirmedAt, OnceConfirmed, send}
+use Rattle.tsp_base.specs.NodeFacts.{all_corrects, boot_tick}
+use Rattle.tsp_base.specs.Once.{ActsOn, send}
 use Rattle.tsp_base.specs.Places.{Within}
 use Rattle.tsp_base.specs.PortFacts.{acting}
-use Rattle.tsp_base.specs.SendFacts.{is_correction, open_to, send_of, last_to}
+use Rattle.tsp_base.specs.SendFacts.{is_correction, open_to, send_of}
 use Rattle.tsp_base.specs.Setting.{Setting}
 use Rattle.tsp_base.specs.Takings.{peer_of}
-use Rattle.tsp_base.proofs.EverywhereLemmas.{Everywhere-at}
-use Rattle.tsp_base.proofs.PlaceLemmas.{Within-all, Within-none, Within-through, Within-tail, Within-strict, Within-comparable}
+use Rattle.tsp_base.proofs.PlaceLemmas.{Within-all, Within-through, Within-tail, Within-strict, Within-comparable}
 use Rattle.tsp_base.proofs.ViewPlaces.{sees-own}
-use Rattle.tsp_base.proofs.Views.{plain_view}
 use Rattle.tsp_safe.specs.OwnFits.{OwnFits}
-use Rattle.tsp_safe.specs.Since.{Since, OneLife, NewLife}
-use Rattle.tsp_safe.proofs.AcknowledgedProof.{AckedAt, acked_at}
 use Rattle.tsp_safe.proofs.HistoryPlaces.{of-own, own_in, Within-of}
-use Rattle.tsp_safe.proofs.LastPostProof.{LastPost, last_post_late}
-use Rattle.tsp_safe.proofs.LateProof.{open_late, LastIs, last_is, last_late}
-use Rattle.tsp_safe.proofs.Locating.{Located, line_on, locate, seen_in, fits_in}
+use Rattle.tsp_safe.proofs.LastPostProof.{last_post_late}
+use Rattle.tsp_safe.proofs.LateProof.{open_late}
+use Rattle.tsp_safe.proofs.Locating.{line_on, seen_in, fits_in}
 use Rattle.tsp_safe.proofs.OnceTakenProof.{acting_on}
-use Rattle.tsp_safe.proofs.OwnFitsProof.{own_fits, own_fits_at, fits_at}
-use Rattle.tsp_safe.proofs.PortFits.{own_tick}
-use Rattle.tsp_safe.proofs.SeenPlaces.{seen_before, seen_same}
-use Rattle.tsp_safe.proofs.SendPlaces.{CorrectsTo, SendPlace, send_place, post_fits}
-use Rattle.tsp_safe.proofs.SendProof.{SendIs, send_is}
+use Rattle.tsp_safe.proofs.OwnFitsProof.{own_fits, fits_at}
+use Rattle.tsp_safe.proofs.SeenPlaces.{seen_same}
+use Rattle.tsp_safe.proofs.SendPlaces.{CorrectsTo, send_place, post_fits}
+use Rattle.tsp_safe.proofs.SendProof.{send_is}
 use Rattle.tsp_safe.proofs.SinceProof.{since}
 
 -- each post before t of the send of m to k that begins at `start` lies REUSE before t

@@ -1,5 +1,5 @@
 -- The induction over corrections to one peer.
-use Rattle.std.specs.Prelude.{◌≡◌, ◌==◌, true, ℕ, ◌+◌, ◌%◌, ◌<◌, ◌≤◌, ◌⊎◌, List, [], ◌∷◌, refl}
+use Rattle.std.specs.Prelude.{◌≡◌, true, ℕ, ◌+◌, ◌%◌, ◌≤◌, ◌⊎◌, List, [], ◌∷◌, refl}
 use Rattle.std.proofs.Common.{sym, ap, arith, subst, subst₂, inl, inr, ◌∙◌}
 use Rattle.tsp_base.specs.declared.act.Act.TheVariants.{Post, Acked}
 use Rattle.tsp_base.specs.declared.constants.TheConstants.{QUIET}
@@ -7,27 +7,26 @@ use Rattle.tsp_base.specs.declared.datagram.Datagram.TheVariants.{Message}
 use Rattle.tsp_base.specs.declared.place.PeerId.{PeerId}
 use Rattle.tsp_base.specs.declared.place.Place.TheVariants.{Peer}
 use Rattle.tsp_base.specs.declared.place.Port.{Port}
-use Rattle.tsp_base.specs.CorrectionFits.{BeginFits, CorrectionFits, Rests, Follows}
+use Rattle.tsp_base.specs.CorrectionFits.{Follows}
 use Rattle.tsp_base.specs.Fits.{Fits}
-use Rattle.tsp_base.specs.History.{Acts, Did, Line, Seen, Here, of, dids, view, plain}
+use Rattle.tsp_base.specs.History.{Acts, Did, Line, Here, of, dids, view, plain}
 use Rattle.tsp_base.specs.Messages.{MessageValue}
 use Rattle.tsp_base.specs.NodeFacts.{all_corrects, boot_tick, lives, tick_of}
 use Rattle.tsp_base.specs.Once.{ConfirmedAt, OnceConfirmed}
 use Rattle.tsp_base.specs.Places.{Within}
 use Rattle.tsp_base.specs.PortFacts.{acting}
-use Rattle.tsp_base.specs.SendFacts.{open_to, last_to}
+use Rattle.tsp_base.specs.SendFacts.{open_to}
 use Rattle.tsp_base.specs.Setting.{Setting}
 use Rattle.tsp_base.specs.Takings.{peer_of}
 use Rattle.tsp_base.proofs.EverywhereLemmas.{Everywhere-at}
 use Rattle.tsp_base.proofs.PlaceLemmas.{Within-none, Within-tail}
 use Rattle.tsp_base.proofs.Views.{plain_view}
-use Rattle.tsp_safe.specs.OwnFits.{OwnFits}
-use Rattle.tsp_safe.specs.Since.{Since, OneLife, NewLife}
-use Rattle.tsp_safe.proofs.AcknowledgedProof.{AckedAt, acked_at}
+use Rattle.tsp_safe.specs.Since.{OneLife}
+use Rattle.tsp_safe.proofs.AcknowledgedProof.{acked_at}
 use Rattle.tsp_safe.proofs.FreshProof.{OldBefore, Counted, Fresh, acked-counts, old-by-rest, old-by-boot, before_later}
 use Rattle.tsp_safe.proofs.HistoryPlaces.{own_in}
-use Rattle.tsp_safe.proofs.LateProof.{LastIs, last_is, last_late}
-use Rattle.tsp_safe.proofs.Locating.{Located, line_on, locate, seen_in}
+use Rattle.tsp_safe.proofs.LateProof.{last_is, last_late}
+use Rattle.tsp_safe.proofs.Locating.{line_on, locate, seen_in}
 use Rattle.tsp_safe.proofs.OwnFitsProof.{own_fits}
 use Rattle.tsp_safe.proofs.PortFits.{own_tick}
 use Rattle.tsp_safe.proofs.SeenPlaces.{seen_before, seen_same}

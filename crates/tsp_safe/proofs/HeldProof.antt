@@ -1,13 +1,13 @@
 -- The last Back and the last Quit that a port has seen.
 use Rattle.std.specs.Prelude.{◌≡◌, ◌==◌, ◌||◌, ◌≤◌, ◌⊎◌, Bool, true, false, ℕ, ◌+◌, List, [], ◌∷◌, Some, refl}
-use Rattle.std.proofs.Common.{sym, ap, arith, subst, inl, inr, ◌∙◌}
+use Rattle.std.proofs.Common.{arith, subst, inl, inr, ◌∙◌}
 use Rattle.tsp_base.specs.declared.act.Act.TheVariants.{Boot, Back, Quit}
 use Rattle.tsp_base.specs.declared.constants.TheConstants.{HOLD}
 use Rattle.tsp_base.specs.declared.place.PeerId.{PeerId}
 use Rattle.tsp_base.specs.declared.place.Port.{Port}
 use Rattle.tsp_base.specs.DeedFits.{DeedFits}
 use Rattle.tsp_base.specs.Fits.{Sees}
-use Rattle.tsp_base.specs.History.{Did, Deed, Acts, Line, Seen, Here, Elsewhere, dids, view, is_shared, seen_as}
+use Rattle.tsp_base.specs.History.{Did, Deed, Acts, Line, Seen, Here, dids, view, is_shared, seen_as}
 use Rattle.tsp_base.specs.NodeFacts.{lives, lives_after, tick_of}
 use Rattle.tsp_base.specs.Places.{Within}
 use Rattle.tsp_base.specs.PortFacts.{held}

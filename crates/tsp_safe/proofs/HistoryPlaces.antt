@@ -1,6 +1,6 @@
 -- Places of a history and places of one node's lines.
-use Rattle.std.specs.Prelude.{◌≡◌, ℕ, ◌==◌, ◌≤◌, ◌<◌, Bool, true, false, List, [], ◌∷◌, refl}
-use Rattle.std.proofs.Common.{sym, ap, arith, subst, ◌⊎◌, inl, inr, eqb-true, eq-eqb, ◌∙◌}
+use Rattle.std.specs.Prelude.{◌≡◌, ℕ, ◌==◌, Bool, true, false, List, [], ◌∷◌, refl}
+use Rattle.std.proofs.Common.{sym, ap, subst, inl, inr, eqb-true, eq-eqb}
 use Rattle.tsp_base.specs.Fits.{node_of}
 use Rattle.tsp_base.specs.History.{Line, of}
 use Rattle.tsp_base.specs.Places.{Within}

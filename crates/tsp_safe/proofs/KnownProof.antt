@@ -1,5 +1,5 @@
 -- What a step took from a peer is what that peer posted.
-use Rattle.std.specs.Prelude.{◌≡◌, ◌==◌, ◌||◌, Bool, true, false, ℕ, List, [], ◌∷◌, Option, Some, None, refl}
+use Rattle.std.specs.Prelude.{◌≡◌, ◌==◌, ◌||◌, Bool, true, false, ℕ, List, [], ◌∷◌, Some, refl}
 use Rattle.std.proofs.Common.{sym, ap, subst, subst₂, inl, inr, true≢false, ◌∙◌}
 use Rattle.tsp_base.specs.declared.act.Act.{Act}
 use Rattle.tsp_base.specs.declared.act.Act.TheVariants.{Took, Post}
@@ -10,8 +10,8 @@ use Rattle.tsp_base.specs.declared.place.PeerId.{PeerId}
 use Rattle.tsp_base.specs.declared.place.Place.{Place}
 use Rattle.tsp_base.specs.declared.place.Place.TheVariants.{Peer}
 use Rattle.tsp_base.specs.declared.place.Port.{Port}
-use Rattle.tsp_base.specs.Fits.{Fits, LineFits, SameStep, TookFits, Posted, node_of}
-use Rattle.tsp_base.specs.History.{Cause, Booted, Turned, Came, Handed, Step, Deed, Begins, Acts, Did, Line, Seen, of, dids, view, seen_as, is_shared}
+use Rattle.tsp_base.specs.Fits.{Fits, SameStep, TookFits, node_of}
+use Rattle.tsp_base.specs.History.{Cause, Booted, Turned, Came, Handed, Step, Deed, Begins, Acts, Did, Line, of, dids, view, seen_as, is_shared}
 use Rattle.tsp_base.specs.Places.{Within}
 use Rattle.tsp_base.specs.PortFacts.{Received, taken, taken_after}
 use Rattle.tsp_base.specs.Premises.{Honest, HonestAt}
@@ -23,7 +23,7 @@ use Rattle.tsp_base.proofs.ViewPlaces.{port-same, or-false}
 use Rattle.tsp_safe.specs.OwnFits.{OwnFits}
 use Rattle.tsp_safe.proofs.HistoryPlaces.{lift, of-own}
 use Rattle.tsp_safe.proofs.Locating.{line_on, fits_in}
-use Rattle.tsp_safe.proofs.OwnFitsProof.{own_fits, fits_at}
+use Rattle.tsp_safe.proofs.OwnFitsProof.{own_fits}
 
 -- the deeds' newest line is of this step
 abbrev pub InStep : List Line → Step → Type 0

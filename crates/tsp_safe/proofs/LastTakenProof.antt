@@ -66,7 +66,6 @@ correcting-is (Some r) from number e = by-said (said_by r.from (message_in r.tak
         number_is = ap (λ (z : Correcting). z.number) k;
       }
 
-
 taken-before : (q : Port) (l : Line) (t : List Line) (from : PeerId) (number : ℕ) → all_corrects_after l.did.deed (all_corrects (dids t)) ≡ all_corrects (dids t) → lives_after l.did.deed (lives (dids t)) ≡ lives (dids t) →
     TakenAt q t from number → TakenAt q (l ∷ t) from number
 taken-before q l t from number a v o = record {

@@ -1,20 +1,20 @@
 -- The open send and the last correction to a peer aren't older than a send that has begun.
-use Rattle.std.specs.Prelude.{◌≡◌, ◌==◌, ◌&&◌, ◌||◌, cond, Bool, true, false, ℕ, ◌+◌, ◌≤◌, ◌⊎◌, ℤ, List, [], ◌∷◌, Option, Some, None, refl}
-use Rattle.std.proofs.Common.{sym, ap, arith, subst, subst₂, inl, inr, eq-eqb, true≢false, ◌∙◌}
-use Rattle.tsp_base.specs.declared.act.Act.TheVariants.{Boot, Post, Become, Acked, Gave}
+use Rattle.std.specs.Prelude.{◌≡◌, ◌==◌, ◌&&◌, cond, Bool, true, false, ℕ, ◌≤◌, ◌⊎◌, List, [], ◌∷◌, refl}
+use Rattle.std.proofs.Common.{sym, ap, arith, subst, inl, inr, eq-eqb, true≢false, ◌∙◌}
+use Rattle.tsp_base.specs.declared.act.Act.TheVariants.{Boot, Post}
 use Rattle.tsp_base.specs.declared.datagram.Datagram.TheVariants.{Message}
 use Rattle.tsp_base.specs.declared.kind.Kind.{Kind}
 use Rattle.tsp_base.specs.declared.kind.Kind.TheVariants.{AdjTime, SetTime}
 use Rattle.tsp_base.specs.declared.place.PeerId.{PeerId}
 use Rattle.tsp_base.specs.declared.place.Place.TheVariants.{Peer}
-use Rattle.tsp_base.specs.History.{Acts, Deed, Did, Line, Seen, Here, Elsewhere, dids, view, plain, did_of, seen_as, is_shared}
+use Rattle.tsp_base.specs.History.{Acts, Deed, Did, Seen, Here, Elsewhere, plain, did_of}
 use Rattle.tsp_base.specs.Messages.{MessageValue}
-use Rattle.tsp_base.specs.NodeFacts.{lives, lives_after, tick_of}
+use Rattle.tsp_base.specs.NodeFacts.{lives, lives_after}
 use Rattle.tsp_base.specs.Places.{Within}
 use Rattle.tsp_base.specs.PortFacts.{acting}
 use Rattle.tsp_base.specs.SendFacts.{is_correction, is_numbered, open_to, last_to, last_to_after}
 use Rattle.tsp_safe.proofs.SendPlaces.{CorrectsTo}
-use Rattle.tsp_safe.proofs.SendProof.{OpensHere, and-true, open-here, peer-same, not-nil, if-nil}
+use Rattle.tsp_safe.proofs.SendProof.{and-true, open-here, peer-same, not-nil}
 
 pub numbered : (k : Kind) → is_correction k ≡ true → is_numbered k ≡ true
 numbered AdjTime e = refl

@@ -5,6 +5,7 @@ pub mod AskedProof
 pub mod BestProof
 pub mod ClockProof
 pub mod Clocks
+pub mod ConfirmedProof
 pub mod Correcting
 pub mod FreshProof
 pub mod FreshSteps
@@ -26,12 +27,16 @@ pub mod OnlyMasterProof
 pub mod OwnFitsProof
 pub mod PortFits
 pub mod ReadingProof
+pub mod RelayedProof
 pub mod ResolvedProof
 pub mod RoundPlaces
+pub mod SafeProof
 pub mod SameSendProof
 pub mod SeenPlaces
 pub mod SendPlaces
 pub mod SendProof
 pub mod SinceProof
+pub mod SourceProof
 pub mod SpacedProof
+pub mod StopsProof
 pub mod WordsProof

@@ -1,6 +1,6 @@
 -- Where a deed stands in the history that a port sees.
-use Rattle.std.specs.Prelude.{◌≡◌, ◌==◌, ◌||◌, ℕ, Bool, true, false, List, [], ◌∷◌, refl}
-use Rattle.std.proofs.Common.{sym, ap, subst, subst₂, inl, inr, ◌∙◌}
+use Rattle.std.specs.Prelude.{◌≡◌, ◌==◌, ◌||◌, ℕ, true, false, List, ◌∷◌, refl}
+use Rattle.std.proofs.Common.{ap, ◌∙◌}
 use Rattle.tsp_base.specs.declared.place.Port.{Port}
 use Rattle.tsp_base.specs.Fits.{Fits, LineFits, node_of}
 use Rattle.tsp_base.specs.History.{Did, Line, Seen, Here, of, view, is_shared}
@@ -8,8 +8,8 @@ use Rattle.tsp_base.specs.Places.{Within}
 use Rattle.tsp_base.specs.Setting.{Setting}
 use Rattle.tsp_base.specs.Ticks.{tick_at}
 use Rattle.tsp_base.proofs.EverywhereLemmas.{Everywhere-at}
-use Rattle.tsp_base.proofs.ViewPlaces.{On, on_port, sees-own, Within-view}
-use Rattle.tsp_safe.proofs.HistoryPlaces.{Lifted, lift, own_in, of-own}
+use Rattle.tsp_base.proofs.ViewPlaces.{on_port, sees-own, Within-view}
+use Rattle.tsp_safe.proofs.HistoryPlaces.{lift, own_in, of-own}
 use Rattle.tsp_safe.proofs.OwnFitsProof.{tick_is}
 
 -- a line of a port

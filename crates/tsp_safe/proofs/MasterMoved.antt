@@ -1,11 +1,11 @@
 -- What a master's own clock has moved by since its Close.
-use Rattle.std.specs.Prelude.{◌≡◌, ◌==◌, ◌||◌, ◌≤◌, ◌⊎◌, Bool, true, false, ℕ, ◌+◌, ℤ, pos, ◌+ℤ◌, List, [], ◌∷◌, refl}
+use Rattle.std.specs.Prelude.{◌≡◌, ◌==◌, ◌||◌, ◌⊎◌, Bool, true, false, ℕ, ◌+◌, ℤ, pos, ◌+ℤ◌, List, ◌∷◌, refl}
 use Rattle.std.proofs.Common.{sym, ap, arith, subst, subst₂, inl, inr, ◌∙◌}
 use Rattle.std.proofs.lemmas.Int.{ints}
 use Rattle.tsp_base.specs.declared.act.Act.TheVariants.{Close, Correct}
 use Rattle.tsp_base.specs.declared.place.Port.{Port}
 use Rattle.tsp_base.specs.Agreed.{RightAfter, UnchangedBut}
-use Rattle.tsp_base.specs.CorrectFits.{CorrectFits, WhyCorrect, ByRound, ByMaster, EndsRound, TakesCorrection}
+use Rattle.tsp_base.specs.CorrectFits.{WhyCorrect, ByRound, ByMaster}
 use Rattle.tsp_base.specs.CorrectionFits.{FollowedBy}
 use Rattle.tsp_base.specs.Fits.{Fits, node_of}
 use Rattle.tsp_base.specs.History.{Acts, Did, Line, Seen, Here, of, dids, view, plain, seen_as, is_shared}
@@ -16,7 +16,7 @@ use Rattle.tsp_base.specs.Takings.{Undisturbed}
 use Rattle.tsp_base.proofs.PlaceLemmas.{Within-through}
 use Rattle.tsp_base.proofs.Views.{plain_view}
 use Rattle.tsp_safe.proofs.HistoryPlaces.{of-own, Within-of}
-use Rattle.tsp_safe.proofs.Locating.{Located, line_on, locate, fits_in}
+use Rattle.tsp_safe.proofs.Locating.{line_on, locate, fits_in}
 use Rattle.tsp_safe.proofs.Matching.{kept_by}
 use Rattle.tsp_safe.proofs.OwnFitsProof.{own_fits}
 use Rattle.tsp_safe.proofs.PortFits.{deed_fits}

@@ -1,25 +1,23 @@
 -- A correction is the first after the place where its number comes from.
-use Rattle.std.specs.Prelude.{◌≡◌, ℕ, ◌+◌, ◌*◌, ◌%◌, ◌<◌, ◌≤◌, ◌⊎◌, List, [], ◌∷◌, refl}
-use Rattle.std.proofs.Common.{sym, ap, arith, subst, inl, inr, ◌∙◌}
+use Rattle.std.specs.Prelude.{◌≡◌, ℕ, ◌+◌, ◌<◌, ◌≤◌, List, ◌∷◌}
+use Rattle.std.proofs.Common.{ap, arith, subst, inl, inr, ◌∙◌}
 use Rattle.std.proofs.lemmas.Bool.{cases_lt}
 use Rattle.tsp_base.specs.declared.act.Act.TheVariants.{Post}
 use Rattle.tsp_base.specs.declared.constants.TheConstants.{QUIET}
 use Rattle.tsp_base.specs.declared.datagram.Datagram.{Datagram}
 use Rattle.tsp_base.specs.declared.place.Place.{Place}
-use Rattle.tsp_base.specs.Fits.{Fits, LineFits, node_of}
+use Rattle.tsp_base.specs.Fits.{Fits, node_of}
 use Rattle.tsp_base.specs.History.{Acts, Did, Line, of, dids}
-use Rattle.tsp_base.specs.NodeFacts.{all_corrects, boot_tick, corrects, last_correct, lives, moved, tick_of, ticket, word}
+use Rattle.tsp_base.specs.NodeFacts.{all_corrects, boot_tick, moved, tick_of, ticket}
 use Rattle.tsp_base.specs.Places.{Within}
 use Rattle.tsp_base.specs.Setting.{Setting}
 use Rattle.tsp_base.specs.Takings.{Undisturbed}
 use Rattle.tsp_base.specs.Ticks.{tick_at}
-use Rattle.tsp_base.proofs.PlaceLemmas.{Within-through}
-use Rattle.tsp_safe.specs.OwnFits.{OwnFits}
-use Rattle.tsp_safe.specs.Since.{Since, OneLife, NewLife}
+use Rattle.tsp_safe.specs.Since.{Since, OneLife}
 use Rattle.tsp_safe.proofs.Clocks.{near}
-use Rattle.tsp_safe.proofs.HistoryPlaces.{of-own, own_in, Within-of}
-use Rattle.tsp_safe.proofs.Locating.{tick_in, fits_in}
-use Rattle.tsp_safe.proofs.OwnFitsProof.{own_fits, fits_at, place-time}
+use Rattle.tsp_safe.proofs.HistoryPlaces.{of-own, Within-of}
+use Rattle.tsp_safe.proofs.Locating.{tick_in}
+use Rattle.tsp_safe.proofs.OwnFitsProof.{own_fits, place-time}
 use Rattle.tsp_safe.proofs.PortFits.{own_tick}
 use Rattle.tsp_safe.proofs.SinceProof.{since}
 

@@ -1,6 +1,6 @@
 -- A measurement errs by at most half its round trip.
-use Rattle.std.specs.Prelude.{◌≡◌, ◌≢◌, Bool, true, false, ℤ, pos, ◌+ℤ◌, ◌-ℤ◌, ◌≤ℤ◌, nat_abs, ℕ, zero, suc, ◌+◌, ◌-◌, ◌*◌, ◌/◌, ◌%◌, ◌^◌, ◌<◌, ◌≤◌, ◌⊎◌, List, [], ◌∷◌, Some, None, refl}
-use Rattle.std.proofs.Common.{sym, ap, arith, subst, subst₂, inl, inr, eqb-true, true≢false, ◌∙◌}
+use Rattle.std.specs.Prelude.{◌≡◌, true, ℤ, pos, ◌+ℤ◌, ◌-ℤ◌, ◌≤ℤ◌, nat_abs, ℕ, zero, suc, ◌+◌, ◌-◌, ◌/◌, ◌%◌, ◌^◌, ◌<◌, ◌≤◌, List, ◌∷◌, refl}
+use Rattle.std.proofs.Common.{sym, ap, arith, subst, subst₂, inl, inr, ◌∙◌}
 use Rattle.std.proofs.lemmas.Int.{ints}
 use Rattle.tsp_base.specs.declared.act.Act.TheVariants.{Post, Sample}
 use Rattle.tsp_base.specs.declared.datagram.Datagram.{Datagram}
@@ -10,34 +10,33 @@ use Rattle.tsp_base.specs.declared.place.Place.{Place}
 use Rattle.tsp_base.specs.declared.place.Place.TheVariants.{Peer}
 use Rattle.tsp_base.specs.declared.place.Port.{Port}
 use Rattle.tsp_base.specs.declared.stamp.Stamp.TheVariants.{Request, Reply}
-use Rattle.tsp_base.specs.ClockAt.{clock, clock_at}
+use Rattle.tsp_base.specs.ClockAt.{clock}
 use Rattle.tsp_base.specs.Fits.{Fits, LineFits, Alive, node_of}
-use Rattle.tsp_base.specs.History.{Came, Acts, Did, Line, Seen, Here, of, dids, view, plain, is_shared}
+use Rattle.tsp_base.specs.History.{Came, Acts, Did, Line, Seen, Here, of, dids, view, plain}
 use Rattle.tsp_base.specs.Measured.{MeasuredAt, Measured}
 use Rattle.tsp_base.specs.MeasureFits.{RequestFits, ReplyFits, SampleFits}
-use Rattle.tsp_base.specs.NodeFacts.{all_corrects, base, boot_tick, lives, moved, target, tick_of, time_of, up, word, wall, ticket}
+use Rattle.tsp_base.specs.NodeFacts.{all_corrects, base, boot_tick, lives, moved, target, up, word, wall, ticket}
 use Rattle.tsp_base.specs.Places.{Within}
 use Rattle.tsp_base.specs.Premises.{Honest, HonestAt, Words, WordsAt}
 use Rattle.tsp_base.specs.RoundFacts.{asked}
 use Rattle.tsp_base.specs.Samples.{half_down, half_up, sample_diff, sample_err}
 use Rattle.tsp_base.specs.Setting.{Setting}
 use Rattle.tsp_base.specs.Stamps.{ReplyValue}
-use Rattle.tsp_base.specs.Takings.{Receives, Undisturbed, peer_of, posted}
+use Rattle.tsp_base.specs.Takings.{Undisturbed, peer_of, posted}
 use Rattle.tsp_base.specs.Ticks.{tick_at}
-use Rattle.tsp_base.proofs.EverywhereLemmas.{Everywhere-at, Everywhere-from, Everywhere-within}
-use Rattle.tsp_base.proofs.PlaceLemmas.{Within-all, Within-through, Within-tail, Within-comparable}
+use Rattle.tsp_base.proofs.EverywhereLemmas.{Everywhere-from, Everywhere-within}
+use Rattle.tsp_base.proofs.PlaceLemmas.{Within-through, Within-tail, Within-comparable}
 use Rattle.tsp_base.proofs.Views.{plain_view}
-use Rattle.tsp_safe.specs.OwnFits.{OwnFits}
-use Rattle.tsp_safe.specs.Since.{Since, OneLife, NewLife}
+use Rattle.tsp_safe.specs.Since.{Since, OneLife}
 use Rattle.tsp_safe.proofs.AskedProof.{asked-mono, asked-few}
-use Rattle.tsp_safe.proofs.ClockProof.{base_is, clock_post, post_up, target_is}
+use Rattle.tsp_safe.proofs.ClockProof.{base_is, clock_post, post_up}
 use Rattle.tsp_safe.proofs.Clocks.{tick-mono}
-use Rattle.tsp_safe.proofs.HistoryPlaces.{own_in, of-own, Within-of}
-use Rattle.tsp_safe.proofs.KnownProof.{Known, known}
+use Rattle.tsp_safe.proofs.HistoryPlaces.{of-own, Within-of}
+use Rattle.tsp_safe.proofs.KnownProof.{known}
 use Rattle.tsp_safe.proofs.Locating.{Located, line_on, locate, fits_in, tick_in, view-line}
-use Rattle.tsp_safe.proofs.OwnFitsProof.{own_fits, own_fits_at, fits_at, place-time}
+use Rattle.tsp_safe.proofs.OwnFitsProof.{own_fits, fits_at, place-time}
 use Rattle.tsp_safe.proofs.PortFits.{deed_fits}
-use Rattle.tsp_safe.proofs.RoundPlaces.{StartedAt, started_at, ExchangeAt, exchange_at}
+use Rattle.tsp_safe.proofs.RoundPlaces.{started_at, exchange_at}
 use Rattle.tsp_safe.proofs.SendPlaces.{post_unique}
 use Rattle.tsp_safe.proofs.SinceProof.{since}
 use Rattle.tsp_safe.proofs.WordsProof.{word_moves}

@@ -1,29 +1,28 @@
 -- A follower's clock is moved only as its master says.
-use Rattle.std.specs.Prelude.{◌≡◌, ℕ, ℤ, Bool, true, false, List, [], ◌∷◌, Some, refl}
-use Rattle.std.proofs.Common.{sym, ap, subst, subst₂, inl, inr, ◌∙◌}
+use Rattle.std.specs.Prelude.{◌≡◌, ℕ, ℤ, Bool, true, false, List, ◌∷◌, refl}
+use Rattle.std.proofs.Common.{sym, ap, subst, inl, ◌∙◌}
 use Rattle.tsp_base.specs.declared.act.Act.TheVariants.{Close, Correct}
 use Rattle.tsp_base.specs.declared.datagram.Datagram.TheVariants.{Message}
 use Rattle.tsp_base.specs.declared.place.PeerId.{PeerId}
 use Rattle.tsp_base.specs.declared.place.Port.{Port}
 use Rattle.tsp_base.specs.declared.role.Role.TheVariants.{Follow, Master}
 use Rattle.tsp_base.specs.ClockAt.{clock_at}
-use Rattle.tsp_base.specs.CorrectFits.{CorrectFits, WhyCorrect, ByRound, ByMaster, EndsRound, TakesCorrection, amount_of}
+use Rattle.tsp_base.specs.CorrectFits.{WhyCorrect, ByRound, ByMaster, EndsRound, amount_of}
 use Rattle.tsp_base.specs.Fits.{Fits, LineFits, Alive, node_of}
-use Rattle.tsp_base.specs.History.{Acts, Did, Line, Seen, Here, of, dids, view, plain, is_shared}
+use Rattle.tsp_base.specs.History.{Acts, Line, Here, of, dids, view, plain, is_shared}
 use Rattle.tsp_base.specs.NodeFacts.{target, up}
-use Rattle.tsp_base.specs.Once.{ActsOn, Obeys, ObeysAt, OnceObeyed}
+use Rattle.tsp_base.specs.Once.{Obeys, ObeysAt, OnceObeyed}
 use Rattle.tsp_base.specs.Places.{Within}
 use Rattle.tsp_base.specs.PortFacts.{role}
 use Rattle.tsp_base.specs.Premises.{Honest, HonestAt}
 use Rattle.tsp_base.specs.Setting.{Setting}
-use Rattle.tsp_base.specs.Takings.{Receives, peer_of, time_in}
+use Rattle.tsp_base.specs.Takings.{Receives, time_in}
 use Rattle.tsp_base.proofs.EverywhereLemmas.{Everywhere-from, Everywhere-within}
-use Rattle.tsp_base.proofs.PlaceLemmas.{Within-all}
 use Rattle.tsp_base.proofs.Views.{plain_view}
 use Rattle.tsp_safe.proofs.ClockProof.{target_is}
 use Rattle.tsp_safe.proofs.Correcting.{taken-of}
-use Rattle.tsp_safe.proofs.KnownProof.{Known, known}
-use Rattle.tsp_safe.proofs.Locating.{Located, line_on, locate, fits_in}
+use Rattle.tsp_safe.proofs.KnownProof.{known}
+use Rattle.tsp_safe.proofs.Locating.{line_on, locate, fits_in}
 use Rattle.tsp_safe.proofs.OwnFitsProof.{fits_at}
 use Rattle.tsp_safe.proofs.PortFits.{deed_fits}
 

@@ -1,13 +1,12 @@
 -- Corrects of a node stand apart.
-use Rattle.std.specs.Prelude.{◌≡◌, ◌≤◌, ℕ, ◌+◌, List, [], ◌∷◌, refl}
+use Rattle.std.specs.Prelude.{◌≡◌, ◌≤◌, ◌+◌, List, ◌∷◌, refl}
 use Rattle.std.proofs.Common.{arith, subst}
 use Rattle.tsp_base.specs.declared.act.Act.TheVariants.{Correct}
 use Rattle.tsp_base.specs.declared.constants.TheConstants.{GAP}
-use Rattle.tsp_base.specs.Fits.{Fits, LineFits, node_of}
-use Rattle.tsp_base.specs.History.{Acts, Line, of, dids, view}
+use Rattle.tsp_base.specs.Fits.{Fits, node_of}
+use Rattle.tsp_base.specs.History.{Acts, Line, of, dids}
 use Rattle.tsp_base.specs.NodeFacts.{last_correct}
 use Rattle.tsp_base.specs.Once.{SpacedAt, OnceSpaced}
-use Rattle.tsp_base.specs.Places.{Within}
 use Rattle.tsp_base.specs.Setting.{Setting}
 use Rattle.tsp_base.proofs.EverywhereLemmas.{Everywhere-from}
 use Rattle.tsp_base.proofs.Views.{plain_view}

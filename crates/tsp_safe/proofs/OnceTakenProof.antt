@@ -1,29 +1,27 @@
 -- No two Corrects take posts of one send.
-use Rattle.std.specs.Prelude.{◌≡◌, ◌≢◌, ℤ, Bool, true, ℕ, ◌+◌, ◌*◌, ◌<◌, ◌≤◌, List, [], ◌∷◌, Some, refl}
-use Rattle.std.proofs.Common.{sym, ap, arith, subst, subst₂, inl, inr, ◌∙◌}
+use Rattle.std.specs.Prelude.{◌≡◌, true, ℕ, ◌+◌, ◌<◌, ◌≤◌, List, ◌∷◌, refl}
+use Rattle.std.proofs.Common.{sym, ap, arith, subst, ◌∙◌}
 use Rattle.tsp_base.specs.declared.act.Act.TheVariants.{Post, Correct}
 use Rattle.tsp_base.specs.declared.constants.TheConstants.{LIFE, QUIET}
 use Rattle.tsp_base.specs.declared.datagram.Datagram.TheVariants.{Message}
 use Rattle.tsp_base.specs.declared.place.PeerId.{PeerId}
 use Rattle.tsp_base.specs.declared.place.Place.TheVariants.{Peer}
-use Rattle.tsp_base.specs.CorrectFits.{CorrectFits}
 use Rattle.tsp_base.specs.Fits.{Fits, node_of}
-use Rattle.tsp_base.specs.History.{Acts, Did, Line, Seen, Here, of, dids, view, plain}
+use Rattle.tsp_base.specs.History.{Acts, Did, Line, Here, of, dids, view}
 use Rattle.tsp_base.specs.Messages.{MessageValue}
-use Rattle.tsp_base.specs.NodeFacts.{boot_tick, tick_of, ticket}
-use Rattle.tsp_base.specs.Once.{ActsOn, OnceAt, OnceTaken, send}
-use Rattle.tsp_base.specs.Places.{Within}
-use Rattle.tsp_base.specs.Premises.{Life, TakenWithin, TakenWithinAt}
+use Rattle.tsp_base.specs.NodeFacts.{boot_tick, ticket}
+use Rattle.tsp_base.specs.Once.{ActsOn, OnceAt, OnceTaken}
+use Rattle.tsp_base.specs.Premises.{Life, TakenWithinAt}
 use Rattle.tsp_base.specs.SendFacts.{is_correction}
 use Rattle.tsp_base.specs.Setting.{Setting}
 use Rattle.tsp_base.specs.Takings.{peer_of}
 use Rattle.tsp_base.specs.Ticks.{tick_at}
-use Rattle.tsp_base.proofs.EverywhereLemmas.{Everywhere-at, Everywhere-from, Everywhere-within}
+use Rattle.tsp_base.proofs.EverywhereLemmas.{Everywhere-from, Everywhere-within}
 use Rattle.tsp_base.proofs.Views.{plain_view}
 use Rattle.tsp_safe.proofs.Clocks.{near}
-use Rattle.tsp_safe.proofs.Correcting.{TakesOf, takes_of, ticket_moves}
+use Rattle.tsp_safe.proofs.Correcting.{takes_of, ticket_moves}
 use Rattle.tsp_safe.proofs.HistoryPlaces.{own_in}
-use Rattle.tsp_safe.proofs.Locating.{fits_in, tick_in}
+use Rattle.tsp_safe.proofs.Locating.{tick_in}
 use Rattle.tsp_safe.proofs.OwnFitsProof.{own_fits, fits_at, place-time}
 use Rattle.tsp_safe.proofs.PortFits.{deed_fits, own_tick}
 use Rattle.tsp_safe.proofs.SendPlaces.{SendPlace, send_place}

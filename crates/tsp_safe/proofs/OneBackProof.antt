@@ -1,27 +1,20 @@
 -- No node backs two candidates within the hold.
-use Rattle.std.specs.Prelude.{◌≡◌, ◌≤◌, ◌⊎◌, ℕ, ◌+◌, false, List, [], ◌∷◌, Some, refl}
-use Rattle.std.proofs.Common.{sym, ap, arith, subst, inl, inr, ◌∙◌}
+use Rattle.std.specs.Prelude.{◌≤◌, ◌+◌, List, ◌∷◌}
+use Rattle.std.proofs.Common.{arith, subst, inl, inr, ◌∙◌}
 use Rattle.tsp_base.specs.declared.act.Act.TheVariants.{Back, Post}
-use Rattle.tsp_base.specs.declared.constants.TheConstants.{HOLD, QUIET}
+use Rattle.tsp_base.specs.declared.constants.TheConstants.{QUIET}
 use Rattle.tsp_base.specs.declared.datagram.Datagram.TheVariants.{Message}
-use Rattle.tsp_base.specs.declared.kind.Kind.TheVariants.{Accept, Election}
-use Rattle.tsp_base.specs.declared.place.PeerId.{PeerId}
 use Rattle.tsp_base.specs.declared.place.Place.TheVariants.{Peer}
-use Rattle.tsp_base.specs.declared.place.Port.{Port}
-use Rattle.tsp_base.specs.DeedFits.{DeedFits, MessageFits}
-use Rattle.tsp_base.specs.Fits.{Fits, LineFits, Finished, Sees, node_of}
-use Rattle.tsp_base.specs.History.{Begins, Acts, Line, of, dids, view, is_shared}
-use Rattle.tsp_base.specs.Messages.{MessageValue}
-use Rattle.tsp_base.specs.NodeFacts.{boot_tick, lives}
+use Rattle.tsp_base.specs.DeedFits.{MessageFits}
+use Rattle.tsp_base.specs.Fits.{Fits, Finished, Sees, node_of}
+use Rattle.tsp_base.specs.History.{Acts, Line, of, dids, view, is_shared}
+use Rattle.tsp_base.specs.NodeFacts.{boot_tick}
 use Rattle.tsp_base.specs.OneBack.{HoldsAt, BacksAt, OneBack}
-use Rattle.tsp_base.specs.Places.{Within}
 use Rattle.tsp_base.specs.Setting.{Setting}
-use Rattle.tsp_base.specs.StepFacts.{backed, is_unbacked}
 use Rattle.tsp_base.proofs.EverywhereLemmas.{Everywhere-from}
 use Rattle.tsp_base.proofs.ViewPlaces.{sees-own}
 use Rattle.tsp_base.proofs.Views.{plain_view}
-use Rattle.tsp_safe.specs.Since.{OneLife, NewLife}
-use Rattle.tsp_safe.proofs.HeldProof.{BackedLate, back_late}
+use Rattle.tsp_safe.proofs.HeldProof.{back_late}
 use Rattle.tsp_safe.proofs.HistoryPlaces.{own_in}
 use Rattle.tsp_safe.proofs.OwnFitsProof.{own_fits, fits_at}
 use Rattle.tsp_safe.proofs.PortFits.{deed_fits, mark_fits, own_tick}

@@ -1,21 +1,19 @@
 -- Only masters correct.
-use Rattle.std.specs.Prelude.{◌≡◌, ◌==◌, ◌||◌, ℕ, ℤ, Bool, true, false, List, [], ◌∷◌, refl}
+use Rattle.std.specs.Prelude.{◌≡◌, ◌==◌, ◌||◌, ℕ, ℤ, Bool, true, false, List, ◌∷◌, refl}
 use Rattle.std.proofs.Common.{sym, ap, subst, true≢false, ◌∙◌}
-use Rattle.tsp_base.specs.declared.act.Act.TheVariants.{Took, Post, Close, Correct}
+use Rattle.tsp_base.specs.declared.act.Act.TheVariants.{Post, Close, Correct}
 use Rattle.tsp_base.specs.declared.datagram.Datagram.TheVariants.{Message}
-use Rattle.tsp_base.specs.declared.datagram.Taken.TheVariants.{Good}
 use Rattle.tsp_base.specs.declared.kind.Kind.{Kind}
-use Rattle.tsp_base.specs.declared.kind.Kind.TheVariants.{AdjTime, SetTime, Ack}
+use Rattle.tsp_base.specs.declared.kind.Kind.TheVariants.{AdjTime, SetTime}
 use Rattle.tsp_base.specs.declared.place.PeerId.{PeerId}
 use Rattle.tsp_base.specs.declared.place.Place.{Place}
 use Rattle.tsp_base.specs.declared.place.Place.TheVariants.{Peer, Stranger}
-use Rattle.tsp_base.specs.declared.place.Port.{Port}
 use Rattle.tsp_base.specs.declared.role.Role.TheVariants.{Master}
-use Rattle.tsp_base.specs.CorrectFits.{CorrectFits, WhyCorrect, ByRound, ByMaster, EndsRound, TakesCorrection}
+use Rattle.tsp_base.specs.CorrectFits.{WhyCorrect, ByRound, ByMaster}
 use Rattle.tsp_base.specs.CorrectionFits.{CorrectionFits}
 use Rattle.tsp_base.specs.DeedFits.{DeedFits, PostFits, MessageFits}
 use Rattle.tsp_base.specs.Fits.{Fits, LineFits, SameStep, node_of}
-use Rattle.tsp_base.specs.History.{Acts, Did, Line, Step, Seen, Here, of, dids, view, seen_as, is_shared}
+use Rattle.tsp_base.specs.History.{Acts, Did, Line, Step, Seen, of, dids, view, seen_as, is_shared}
 use Rattle.tsp_base.specs.Messages.{MessageValue}
 use Rattle.tsp_base.specs.OnlyMaster.{Leads, LeadsAt, OnlyMaster}
 use Rattle.tsp_base.specs.PortFacts.{role}

@@ -1,19 +1,17 @@
 -- The lines of each node of a history that fits.
 use Rattle.std.specs.Prelude.{◌≡◌, ◌==◌, Bool, true, false, ℕ, ◌≤◌, List, [], ◌∷◌, refl}
 use Rattle.std.proofs.Common.{sym, ap, ◌∙◌, arith, subst, inl, inr, eqb-true}
-use Rattle.tsp_base.specs.declared.place.Port.{Port}
 use Rattle.tsp_base.specs.DeedFits.{DeedFits}
-use Rattle.tsp_base.specs.Everywhere.{Everywhere}
-use Rattle.tsp_base.specs.Fits.{Fits, LineFits, Alive, SameStep, Sees, node_of}
+use Rattle.tsp_base.specs.Fits.{Fits, LineFits, Alive, SameStep, node_of}
 use Rattle.tsp_base.specs.History.{Line, Deed, Begins, Acts, Step, of, dids, view}
 use Rattle.tsp_base.specs.NodeFacts.{time_of, tick_of, up}
 use Rattle.tsp_base.specs.Places.{Within}
 use Rattle.tsp_base.specs.Setting.{Setting}
 use Rattle.tsp_base.specs.Ticks.{tick_at}
-use Rattle.tsp_base.proofs.EverywhereLemmas.{Everywhere-at, Everywhere-within}
+use Rattle.tsp_base.proofs.EverywhereLemmas.{Everywhere-within}
 use Rattle.tsp_safe.specs.OwnFits.{OwnFits, OwnLineFits}
 use Rattle.tsp_safe.proofs.Clocks.{tick-mono}
-use Rattle.tsp_safe.proofs.HistoryPlaces.{of-own, of-other}
+use Rattle.tsp_safe.proofs.HistoryPlaces.{of-own}
 
 -- a line's tick, by its node's number
 pub tick_is : (setting : Setting) (n : ℕ) (l : Line) (world : List Line) → node_of l ≡ n → LineFits setting l world → l.did.tick ≡ tick_at (setting.rate n) l.did.step.at

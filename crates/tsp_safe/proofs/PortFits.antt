@@ -1,6 +1,6 @@
 -- What a line owes to its own port's past.
-use Rattle.std.specs.Prelude.{◌≡◌, ◌==◌, ◌||◌, ◌≤◌, Bool, true, false, ℕ, List, ◌∷◌, refl}
-use Rattle.std.proofs.Common.{sym, subst}
+use Rattle.std.specs.Prelude.{◌≡◌, ◌==◌, ◌||◌, ◌≤◌, Bool, true, false, List, ◌∷◌, refl}
+use Rattle.std.proofs.Common.{subst}
 use Rattle.tsp_base.specs.DeedFits.{DeedFits}
 use Rattle.tsp_base.specs.Fits.{Fits, LineFits, Sees, node_of}
 use Rattle.tsp_base.specs.History.{Deed, Begins, Line, of, dids, view, is_shared}

@@ -1,5 +1,5 @@
 -- The reading of the sample that a Close used.
-use Rattle.std.specs.Prelude.{◌≡◌, ◌≤◌, ◌≤ℤ◌, ℕ, ℤ, pos, ◌-ℤ◌, nat_abs, List, [], ◌∷◌, Some, refl}
+use Rattle.std.specs.Prelude.{◌≡◌, ◌≤◌, ◌≤ℤ◌, ℕ, pos, ◌-ℤ◌, nat_abs, List, ◌∷◌, Some, refl}
 use Rattle.std.proofs.Common.{sym, ap, subst, subst₂, ◌∙◌}
 use Rattle.tsp_base.specs.declared.act.Act.TheVariants.{Post, Sample}
 use Rattle.tsp_base.specs.declared.datagram.Datagram.{Datagram}
@@ -20,7 +20,7 @@ use Rattle.tsp_base.proofs.PlaceLemmas.{Within-tail}
 use Rattle.tsp_base.proofs.Views.{plain_view}
 use Rattle.tsp_safe.proofs.BestProof.{BestAt, best_at}
 use Rattle.tsp_safe.proofs.HistoryPlaces.{Within-of}
-use Rattle.tsp_safe.proofs.Locating.{Located, line_on, locate}
+use Rattle.tsp_safe.proofs.Locating.{line_on, locate}
 use Rattle.tsp_safe.proofs.Matching.{Kept, kept_from}
 use Rattle.tsp_safe.proofs.MeasuredProof.{Reading, first-now, reading_at, reading_is, sample_fits}
 use Rattle.tsp_safe.proofs.OwnFitsProof.{own_fits, fits_at}

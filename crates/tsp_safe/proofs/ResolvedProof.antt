@@ -1,21 +1,19 @@
 -- A rival that takes Quit stops being master.
-use Rattle.std.specs.Prelude.{◌≡◌, ◌≤◌, ℕ, ◌+◌, List, [], ◌∷◌, Some, refl}
+use Rattle.std.specs.Prelude.{◌≡◌, ◌≤◌, ◌+◌, List, ◌∷◌}
 use Rattle.std.proofs.Common.{arith, subst, inl, inr}
-use Rattle.tsp_base.specs.declared.act.Act.TheVariants.{Become, Quit}
+use Rattle.tsp_base.specs.declared.act.Act.TheVariants.{Become}
 use Rattle.tsp_base.specs.declared.constants.TheConstants.{ELECT_MIN}
 use Rattle.tsp_base.specs.declared.place.Port.{Port}
 use Rattle.tsp_base.specs.declared.role.Role.TheVariants.{Master}
-use Rattle.tsp_base.specs.Fits.{Fits, LineFits, Finished, Sees, node_of}
+use Rattle.tsp_base.specs.Fits.{Fits, Finished, Sees, node_of}
 use Rattle.tsp_base.specs.History.{Begins, Acts, Line, of, dids, view, is_shared}
 use Rattle.tsp_base.specs.NodeFacts.{boot_tick}
-use Rattle.tsp_base.specs.Places.{Within}
 use Rattle.tsp_base.specs.Resolved.{YieldsAt, Yields, QuietAt, StaysQuiet}
 use Rattle.tsp_base.specs.Setting.{Setting}
 use Rattle.tsp_base.proofs.EverywhereLemmas.{Everywhere-from}
 use Rattle.tsp_base.proofs.ViewPlaces.{sees-own}
 use Rattle.tsp_base.proofs.Views.{plain_view}
-use Rattle.tsp_safe.specs.Since.{OneLife, NewLife}
-use Rattle.tsp_safe.proofs.HeldProof.{QuitLate, quit_late}
+use Rattle.tsp_safe.proofs.HeldProof.{quit_late}
 use Rattle.tsp_safe.proofs.HistoryPlaces.{own_in}
 use Rattle.tsp_safe.proofs.OwnFitsProof.{own_fits, fits_at}
 use Rattle.tsp_safe.proofs.PortFits.{deed_fits, mark_fits}

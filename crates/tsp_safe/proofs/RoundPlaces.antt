@@ -10,7 +10,7 @@ use Rattle.tsp_base.specs.declared.stamp.Stamp.TheVariants.{Request}
 use Rattle.tsp_base.specs.History.{Deed, Acts, Did, Seen, Here, Elsewhere}
 use Rattle.tsp_base.specs.Places.{Within}
 use Rattle.tsp_base.specs.RoundFacts.{started, started_after, exchange, exchange_after}
-use Rattle.tsp_safe.proofs.SendProof.{and-true, peer-same, not-nil, if-nil}
+use Rattle.tsp_safe.proofs.SendProof.{and-true, peer-same, not-nil}
 
 -- the last round's beginning stands at its place
 pub record StartedAt (start : Did) (idle seen : List Seen) : Type 0 where

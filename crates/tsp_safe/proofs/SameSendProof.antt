@@ -1,13 +1,12 @@
 -- A post with the open send's number, posted not long ago, is of the open send.
-use Rattle.std.specs.Prelude.{◌≡◌, true, ℕ, ◌+◌, ◌*◌, ◌%◌, ◌<◌, ◌≤◌, ◌⊎◌, List, [], ◌∷◌, refl}
-use Rattle.std.proofs.Common.{sym, ap, arith, subst, subst₂, inl, inr, ◌∙◌}
+use Rattle.std.specs.Prelude.{◌≡◌, true, ℕ, ◌+◌, ◌%◌, ◌<◌, ◌≤◌, List, ◌∷◌}
+use Rattle.std.proofs.Common.{sym, ap, arith, subst, subst₂, inl, inr}
 use Rattle.tsp_base.specs.declared.act.Act.TheVariants.{Post}
-use Rattle.tsp_base.specs.declared.constants.TheConstants.{GAP, REUSE}
 use Rattle.tsp_base.specs.declared.datagram.Datagram.TheVariants.{Message}
 use Rattle.tsp_base.specs.declared.place.Place.TheVariants.{Peer}
 use Rattle.tsp_base.specs.declared.place.Port.{Port}
 use Rattle.tsp_base.specs.Fits.{Fits}
-use Rattle.tsp_base.specs.History.{Acts, Did, Line, Seen, Here, of, dids, view}
+use Rattle.tsp_base.specs.History.{Acts, Did, Line, Here, of, dids, view}
 use Rattle.tsp_base.specs.Messages.{MessageValue}
 use Rattle.tsp_base.specs.NodeFacts.{all_corrects}
 use Rattle.tsp_base.specs.Once.{OnceConfirmed}
@@ -18,14 +17,14 @@ use Rattle.tsp_base.specs.Takings.{peer_of}
 use Rattle.tsp_base.specs.Ticks.{tick_at}
 use Rattle.tsp_base.proofs.PlaceLemmas.{Within-all, Within-through, Within-tail, Within-strict, Within-comparable}
 use Rattle.tsp_safe.proofs.Clocks.{near}
-use Rattle.tsp_safe.proofs.FreshProof.{OldBefore, Counted, before_later}
+use Rattle.tsp_safe.proofs.FreshProof.{before_later}
 use Rattle.tsp_safe.proofs.FreshSteps.{fresh}
 use Rattle.tsp_safe.proofs.LateProof.{open_late}
 use Rattle.tsp_safe.proofs.Locating.{line_on, seen_in, tick_in}
 use Rattle.tsp_safe.proofs.OwnFitsProof.{own_fits, fits_at, of-tick, place-time}
-use Rattle.tsp_safe.proofs.SendPlaces.{CorrectsTo, SendPlace, send_place}
+use Rattle.tsp_safe.proofs.SendPlaces.{CorrectsTo, send_place}
 use Rattle.tsp_safe.proofs.SinceProof.{last_by}
-use Rattle.tsp_safe.proofs.SpacedProof.{SpacedFrom, spaced_from}
+use Rattle.tsp_safe.proofs.SpacedProof.{spaced_from}
 
 -- 32,768 corrections of a clock take hours
 few-corrects : (setting : Setting) (k : ℕ) (q : Port) (s f : Did) (sw fw : List Line) (count n1 n2 : ℕ) → Fits setting (line_on q f ∷ fw) → Within (line_on q s ∷ sw) fw → f.step.at ≤ s.step.at + 64004007 → n1 ≡ n2 → n2 < 32768 →

@@ -7,8 +7,7 @@ use Rattle.tsp_base.specs.declared.datagram.Datagram.TheVariants.{Message}
 use Rattle.tsp_base.specs.declared.place.PeerId.{PeerId}
 use Rattle.tsp_base.specs.declared.place.Place.{Place}
 use Rattle.tsp_base.specs.declared.place.Place.TheVariants.{Peer}
-use Rattle.tsp_base.specs.DeedFits.{MessageFits}
-use Rattle.tsp_base.specs.CorrectionFits.{CorrectionFits, RepeatFits}
+use Rattle.tsp_base.specs.CorrectionFits.{CorrectionFits}
 use Rattle.tsp_base.specs.Fits.{Fits, LineFits, node_of}
 use Rattle.tsp_base.specs.History.{Acts, Deed, Did, Line, Seen, Here, of, dids, view, is_shared}
 use Rattle.tsp_base.specs.Messages.{MessageValue}
@@ -17,12 +16,10 @@ use Rattle.tsp_base.specs.PortFacts.{acting}
 use Rattle.tsp_base.specs.SendFacts.{is_correction, send_of}
 use Rattle.tsp_base.specs.Setting.{Setting}
 use Rattle.tsp_base.specs.Takings.{peer_of, posted, posted_after}
-use Rattle.tsp_base.specs.Ticks.{tick_at}
-use Rattle.tsp_base.proofs.PlaceLemmas.{Within-all}
 use Rattle.tsp_safe.proofs.Clocks.{near}
-use Rattle.tsp_safe.proofs.Locating.{Located, line_on, locate, view-line, tick_in, fits_in}
+use Rattle.tsp_safe.proofs.Locating.{line_on, locate, view-line, tick_in}
 use Rattle.tsp_safe.proofs.OnlyMasterProof.{correction_fits}
-use Rattle.tsp_safe.proofs.OwnFitsProof.{fits_at, place-time}
+use Rattle.tsp_safe.proofs.OwnFitsProof.{place-time}
 use Rattle.tsp_safe.proofs.PortFits.{deed_fits}
 use Rattle.tsp_safe.proofs.SendProof.{send_is}
 

@@ -1,19 +1,17 @@
 -- Sends: where the open one began, and which one a post belongs to.
-use Rattle.std.specs.Prelude.{◌≡◌, ◌==◌, ◌&&◌, cond, Bool, true, false, ℕ, ◌+◌, ◌*◌, ◌<◌, ◌≤◌, ◌⊎◌, List, [], ◌∷◌, refl}
-use Rattle.std.proofs.Common.{sym, ap, arith, subst, subst₂, inl, inr, eqb-true, true≢false, ◌∙◌}
+use Rattle.std.specs.Prelude.{◌≡◌, ◌==◌, ◌&&◌, cond, Bool, true, false, ◌+◌, ◌≤◌, ◌⊎◌, List, [], ◌∷◌, refl}
+use Rattle.std.proofs.Common.{sym, ap, arith, subst, inl, inr, eqb-true, true≢false, ◌∙◌}
 use Rattle.tsp_base.specs.declared.act.Act.TheVariants.{Boot, Post, Become, Acked, Gave}
 use Rattle.tsp_base.specs.declared.constants.TheConstants.{LAST}
 use Rattle.tsp_base.specs.declared.datagram.Datagram.TheVariants.{Message}
-use Rattle.tsp_base.specs.declared.kind.Kind.{Kind}
-use Rattle.tsp_base.specs.declared.kind.Kind.TheVariants.{AdjTime, SetTime}
 use Rattle.tsp_base.specs.declared.place.PeerId.{PeerId}
 use Rattle.tsp_base.specs.declared.place.Place.TheVariants.{Peer}
-use Rattle.tsp_base.specs.CorrectionFits.{CorrectionFits, RepeatFits}
+use Rattle.tsp_base.specs.CorrectionFits.{RepeatFits}
 use Rattle.tsp_base.specs.History.{Acts, Deed, Did, Seen, Here, Elsewhere}
 use Rattle.tsp_base.specs.Messages.{MessageValue}
 use Rattle.tsp_base.specs.Places.{Within}
 use Rattle.tsp_base.specs.PortFacts.{acting}
-use Rattle.tsp_base.specs.SendFacts.{is_correction, is_numbered, open_to, open_to_after, send_of}
+use Rattle.tsp_base.specs.SendFacts.{is_numbered, open_to, open_to_after, send_of}
 use Rattle.tsp_base.specs.Takings.{peer_of}
 
 -- a numbered send of this message to p begins here

@@ -1,21 +1,19 @@
 -- What a node's deeds up to one place tell of its deeds up to a later one.
-use Rattle.std.specs.Prelude.{◌≡◌, ◌==◌, ◌||◌, Bool, true, false, ℕ, ◌+◌, ◌*◌, ◌<◌, ◌≤◌, ◌⊎◌, ℤ, List, [], ◌∷◌, refl}
-use Rattle.std.proofs.Common.{sym, ap, arith, subst, inl, inr}
+use Rattle.std.specs.Prelude.{ℕ, ◌+◌, ◌≤◌, List, [], ◌∷◌, refl}
+use Rattle.std.proofs.Common.{sym, arith, subst, inl, inr}
 use Rattle.std.proofs.lemmas.Bool.{cases_lt}
 use Rattle.tsp_base.specs.declared.act.Act.TheVariants.{Boot, Correct}
 use Rattle.tsp_base.specs.declared.constants.TheConstants.{GAP, QUIET}
 use Rattle.tsp_base.specs.declared.place.Port.{Port}
-use Rattle.tsp_base.specs.CorrectFits.{CorrectFits}
 use Rattle.tsp_base.specs.DeedFits.{DeedFits}
-use Rattle.tsp_base.specs.Fits.{Sees}
-use Rattle.tsp_base.specs.History.{Did, Deed, Acts, Line, dids, view, plain, is_shared}
-use Rattle.tsp_base.specs.NodeFacts.{all_corrects, corrects, word, wall, boot_tick, last_correct, last_correct_after, time_of, tick_of, moved, up, lives}
+use Rattle.tsp_base.specs.History.{Did, Deed, Acts, Line, dids, view, is_shared}
+use Rattle.tsp_base.specs.NodeFacts.{all_corrects, boot_tick, last_correct, last_correct_after, time_of, tick_of}
 use Rattle.tsp_base.specs.Places.{Within}
 use Rattle.tsp_base.specs.Setting.{Setting}
 use Rattle.tsp_base.proofs.ViewPlaces.{sees-own}
 use Rattle.tsp_base.proofs.Views.{plain_view}
 use Rattle.tsp_safe.specs.OwnFits.{OwnFits, OwnLineFits}
-use Rattle.tsp_safe.specs.Since.{Since, OneLife, NewLife}
+use Rattle.tsp_safe.specs.Since.{Since}
 
 -- a Correct stands apart from the last one and from the boot
 pub record Apart (here : Did) (before : List Did) : Type 0 where

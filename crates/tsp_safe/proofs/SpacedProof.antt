@@ -6,7 +6,7 @@ use Rattle.tsp_base.specs.declared.act.Act.TheVariants.{Boot, Correct}
 use Rattle.tsp_base.specs.declared.constants.TheConstants.{GAP}
 use Rattle.tsp_base.specs.Fits.{Fits, node_of}
 use Rattle.tsp_base.specs.History.{Deed, Acts, Did, Line, of, dids}
-use Rattle.tsp_base.specs.NodeFacts.{all_corrects, last_correct, time_of, tick_of}
+use Rattle.tsp_base.specs.NodeFacts.{all_corrects, last_correct, time_of}
 use Rattle.tsp_base.specs.Places.{Within}
 use Rattle.tsp_base.specs.Setting.{Setting}
 use Rattle.tsp_base.specs.Ticks.{tick_at}

@@ -1,10 +1,9 @@
 -- A boot gives the node another word.
-use Rattle.std.specs.Prelude.{◌≡◌, ◌≢◌, ◌==◌, Bool, true, false, ℕ, ◌+◌, ◌<◌, ◌≤◌, ℤ, pos, ◌+ℤ◌, List, [], ◌∷◌, refl}
+use Rattle.std.specs.Prelude.{◌≡◌, ◌≢◌, ◌==◌, Bool, true, false, ℕ, ◌<◌, ℤ, pos, ◌+ℤ◌, List, [], ◌∷◌, refl}
 use Rattle.std.proofs.Common.{sym, ap, arith, subst, subst₂, inl, inr, eqb-true, true≢false, ◌∙◌}
-use Rattle.tsp_base.specs.declared.act.Act.{Act}
 use Rattle.tsp_base.specs.declared.act.Act.TheVariants.{Boot}
 use Rattle.tsp_base.specs.Fits.{Fits, LineFits, Alive, node_of}
-use Rattle.tsp_base.specs.History.{Booted, Deed, Begins, Acts, Did, Line, of, dids}
+use Rattle.tsp_base.specs.History.{Booted, Deed, Begins, Acts, Line, of, dids}
 use Rattle.tsp_base.specs.NodeFacts.{lives, lives_after, up, up_after, word, word_after}
 use Rattle.tsp_base.specs.Places.{Within}
 use Rattle.tsp_base.specs.Premises.{Words, WordsAt}
@@ -12,7 +11,7 @@ use Rattle.tsp_base.specs.Setting.{Setting}
 use Rattle.tsp_base.proofs.EverywhereLemmas.{Everywhere-at}
 use Rattle.tsp_base.proofs.PlaceLemmas.{Within-all, Within-through, Within-comparable}
 use Rattle.tsp_safe.specs.OwnFits.{OwnFits}
-use Rattle.tsp_safe.proofs.HistoryPlaces.{of-own, own_in}
+use Rattle.tsp_safe.proofs.HistoryPlaces.{own_in}
 use Rattle.tsp_safe.proofs.OwnFitsProof.{own_fits, own_fits_at}
 use Rattle.tsp_safe.proofs.SinceProof.{since}
 

@@ -8,12 +8,19 @@ ghost use Rattle.tsp_base.specs.Agreed.{Agreed};
 ghost use Rattle.tsp_base.specs.Fits.{Fits, Finished};
 ghost use Rattle.tsp_base.specs.History.{Line};
 ghost use Rattle.tsp_base.specs.Measured.{Measured};
-ghost use Rattle.tsp_base.specs.Once.{OnceObeyed, OnceSpaced, OnceTaken};
+ghost use Rattle.tsp_base.specs.Once.{OnceConfirmed, OnceObeyed, OnceSpaced, OnceTaken};
 ghost use Rattle.tsp_base.specs.OneBack.{OneBack};
 ghost use Rattle.tsp_base.specs.OnlyMaster.{OnlyMaster};
 ghost use Rattle.tsp_base.specs.Premises.{Honest, Life, Words};
-ghost use Rattle.tsp_base.specs.Resolved.{StaysQuiet, Yields};
+ghost use Rattle.tsp_base.specs.Relayed.{Relayed};
+ghost use Rattle.tsp_base.specs.Resolved.{StaysQuiet, StopsLeading, Yields};
+ghost use Rattle.tsp_base.specs.Safe.{Safe};
 ghost use Rattle.tsp_base.specs.Setting.{Setting};
+
+/// All promises of a history that ends with a step, each under the premises that it needs.
+pub fn safe()
+    ensures { (setting : Setting) (world : List Line) → Fits setting world → Finished world → Safe setting world }
+{}
 
 /// No node backs two candidates within the hold, forged datagrams or not.
 pub fn one_back()
@@ -35,12 +42,19 @@ pub fn once_obeyed()
     ensures { (setting : Setting) (world : List Line) → Fits setting world → Honest world → OnceObeyed setting world }
 {}
 
-/// No two corrections of clocks take posts of one send, if no datagram outlives `LIFE`; forged datagrams don't matter.
+/// No two corrections of clocks take posts of one send, if no datagram outlives `LIFE`; forged datagrams don't
+/// matter.
 pub fn once_taken()
     ensures { (setting : Setting) (world : List Line) → Fits setting world → Life world → OnceTaken world }
 {}
 
-/// A measurement errs by at most half its round trip, if no peer's datagram is forged and no two boots have one word.
+/// A correction that was acknowledged was taken.
+pub fn once_confirmed()
+    ensures { (setting : Setting) (world : List Line) → Fits setting world → Honest world → Life world → Words world → OnceConfirmed world }
+{}
+
+/// A measurement errs by at most half its round trip, if no peer's datagram is forged and no two boots have one
+/// word.
 pub fn measured()
     ensures { (setting : Setting) (world : List Line) → Fits setting world → Honest world → Words world → Measured setting world }
 {}
@@ -48,6 +62,11 @@ pub fn measured()
 /// Clocks that one Close corrected agree with one another, and with the master's.
 pub fn agreed()
     ensures { (setting : Setting) (world : List Line) → Fits setting world → Honest world → Life world → Words world → Agreed setting world }
+{}
+
+/// A clock that a corrected master corrected agrees with the first master's.
+pub fn relayed()
+    ensures { (setting : Setting) (world : List Line) → Fits setting world → Honest world → Life world → Words world → Relayed setting world }
 {}
 
 /// A master that takes a QUIT follows its sender at the end of that step.
@@ -58,4 +77,9 @@ pub fn resolved_yields()
 /// After a QUIT a port isn't a master again for the least election delay.
 pub fn resolved_stays_quiet()
     ensures { (setting : Setting) (world : List Line) → Fits setting world → StaysQuiet world }
+{}
+
+/// When the last rival has taken its QUIT, no rival is a master, if no datagram outlives `LIFE`.
+pub fn resolved_stops()
+    ensures { (setting : Setting) (world : List Line) → Fits setting world → Finished world → Life world → StopsLeading world }
 {}

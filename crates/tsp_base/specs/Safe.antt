@@ -1,0 +1,25 @@
+-- All promises of a history, each under the premises that it needs.
+use Rattle.std.specs.Prelude.{List}
+use Rattle.tsp_base.specs.Agreed.{Agreed}
+use Rattle.tsp_base.specs.History.{Line}
+use Rattle.tsp_base.specs.Measured.{Measured}
+use Rattle.tsp_base.specs.Once.{OnceConfirmed, OnceObeyed, OnceSpaced, OnceTaken}
+use Rattle.tsp_base.specs.OneBack.{OneBack}
+use Rattle.tsp_base.specs.OnlyMaster.{OnlyMaster}
+use Rattle.tsp_base.specs.Premises.{Honest, Life, Words}
+use Rattle.tsp_base.specs.Relayed.{Relayed}
+use Rattle.tsp_base.specs.Resolved.{Resolved}
+use Rattle.tsp_base.specs.Setting.{Setting}
+
+-- no node backs two candidates within the hold; only masters correct; each correction acts at most once; each measurement errs by at most half its round trip; clocks corrected in one round agree, also through a corrected master; and a rival that takes Quit stops being master
+pub record Safe (setting : Setting) (world : List Line) : Type 0 where
+  pub one_back : OneBack world
+  pub only_master : OnlyMaster world
+  pub once_spaced : OnceSpaced world
+  pub once_obeyed : Honest world → OnceObeyed setting world
+  pub once_taken : Life world → OnceTaken world
+  pub once_confirmed : Honest world → Life world → Words world → OnceConfirmed world
+  pub measured : Honest world → Words world → Measured setting world
+  pub agreed : Honest world → Life world → Words world → Agreed setting world
+  pub relayed : Honest world → Life world → Words world → Relayed setting world
+  pub resolved : Resolved world

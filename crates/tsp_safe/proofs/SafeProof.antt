@@ -1,0 +1,31 @@
+-- All promises together.
+use Rattle.std.specs.Prelude.{List}
+use Rattle.tsp_base.specs.Fits.{Fits, Finished}
+use Rattle.tsp_base.specs.History.{Line}
+use Rattle.tsp_base.specs.Safe.{Safe}
+use Rattle.tsp_base.specs.Setting.{Setting}
+use Rattle.tsp_safe.proofs.AgreedProof.{agreed}
+use Rattle.tsp_safe.proofs.ConfirmedProof.{once_confirmed}
+use Rattle.tsp_safe.proofs.MeasuredProof.{measured}
+use Rattle.tsp_safe.proofs.OnceObeyedProof.{once_obeyed}
+use Rattle.tsp_safe.proofs.OnceSpacedProof.{once_spaced}
+use Rattle.tsp_safe.proofs.OnceTakenProof.{once_taken}
+use Rattle.tsp_safe.proofs.OneBackProof.{one_back}
+use Rattle.tsp_safe.proofs.OnlyMasterProof.{only_master}
+use Rattle.tsp_safe.proofs.RelayedProof.{relayed}
+use Rattle.tsp_safe.proofs.ResolvedProof.{yields, stays_quiet}
+use Rattle.tsp_safe.proofs.StopsProof.{stops_leading}
+
+pub safe : (setting : Setting) (world : List Line) → Fits setting world → Finished world → Safe setting world
+safe setting world f end = record {
+  one_back = one_back setting world f end;
+  only_master = only_master setting world f;
+  once_spaced = once_spaced setting world f;
+  once_obeyed = once_obeyed setting world f;
+  once_taken = once_taken setting world f;
+  once_confirmed = λ honest life words. once_confirmed setting world (record { fits = f; honest = honest; life = life; words = words });
+  measured = measured setting world f;
+  agreed = λ honest life words. agreed setting world (record { fits = f; honest = honest; life = life; words = words });
+  relayed = λ honest life words. relayed setting world (record { fits = f; honest = honest; life = life; words = words });
+  resolved = record { yields = yields setting world f end; quiet = stays_quiet setting world f; stops = stops_leading setting world f end };
+}

@@ -1,0 +1,126 @@
+-- Rivals that take the QUITs of one resolution lead no more.
+use Rattle.std.specs.Prelude.{◌≡◌, ◌==◌, ◌||◌, ◌≤◌, ◌<◌, Bool, true, false, ℕ, ◌+◌, ◌*◌, List, [], ◌∷◌, Some, refl}
+use Rattle.std.proofs.Common.{sym, ap, arith, subst, subst₂, inl, inr, ◌∙◌}
+use Rattle.tsp_base.specs.declared.act.Act.TheVariants.{Boot, Become, Post, Quit}
+use Rattle.tsp_base.specs.declared.constants.TheConstants.{ELECT_MIN, LIFE}
+use Rattle.tsp_base.specs.declared.datagram.Datagram.TheVariants.{Message}
+use Rattle.tsp_base.specs.declared.place.PeerId.{PeerId}
+use Rattle.tsp_base.specs.declared.place.Place.TheVariants.{Peer}
+use Rattle.tsp_base.specs.declared.place.Port.{Port}
+use Rattle.tsp_base.specs.declared.role.Role.{Role}
+use Rattle.tsp_base.specs.declared.role.Role.TheVariants.{Follow, Master}
+use Rattle.tsp_base.specs.DeedFits.{DeedFits, MessageFits, NumberedFits}
+use Rattle.tsp_base.specs.Fits.{Fits, Finished, Sees, node_of}
+use Rattle.tsp_base.specs.History.{Step, Begins, Acts, Deed, Did, Line, Seen, Here, of, dids, view, seen_as, is_shared}
+use Rattle.tsp_base.specs.NodeFacts.{boot_tick, tick_of, time_of}
+use Rattle.tsp_base.specs.Places.{Within}
+use Rattle.tsp_base.specs.PortFacts.{role, role_after}
+use Rattle.tsp_base.specs.Premises.{Life, TakenWithinAt}
+use Rattle.tsp_base.specs.Resolved.{StopsLeading, TakesQuit}
+use Rattle.tsp_base.specs.Setting.{Setting}
+use Rattle.tsp_base.specs.StepFacts.{owes, owes_after}
+use Rattle.tsp_base.specs.Takings.{peer_of}
+use Rattle.tsp_base.specs.Ticks.{tick_at}
+use Rattle.tsp_base.proofs.EverywhereLemmas.{Everywhere-within}
+use Rattle.tsp_base.proofs.PlaceLemmas.{Within-none}
+use Rattle.tsp_base.proofs.ViewPlaces.{sees-own}
+use Rattle.tsp_base.proofs.Views.{plain_view}
+use Rattle.tsp_safe.specs.OwnFits.{OwnFits}
+use Rattle.tsp_safe.proofs.Clocks.{near}
+use Rattle.tsp_safe.proofs.HeldProof.{quit_late}
+use Rattle.tsp_safe.proofs.HistoryPlaces.{own_in}
+use Rattle.tsp_safe.proofs.Locating.{line_on, locate, view-line, tick_in}
+use Rattle.tsp_safe.proofs.OwnFitsProof.{own_fits, fits_at, of-tick, place-time}
+use Rattle.tsp_safe.proofs.PortFits.{deed_fits}
+use Rattle.tsp_safe.proofs.SendProof.{send_is}
+use Rattle.tsp_safe.proofs.SinceProof.{since}
+
+-- where a port leads after a QUIT, it owes its step's end to follow somebody
+record Owing (seen : List Seen) : Type 0 where
+  pub peer : PeerId
+  pub is : owes seen ≡ Some peer
+
+-- a port that becomes master has been quiet since a Quit
+quiet-own : (setting : Setting) (q : Port) (p : PeerId) (x l : Line) (rest t : List Line) → OwnFits setting (l ∷ t) → Sees q l → l.did.deed ≡ Acts (Become Master) → x.did.deed ≡ Acts (Quit p) → Sees q x → Within (x ∷ rest) t → x.did.tick + ELECT_MIN ≤ l.did.tick
+quiet-own setting q p x l rest t f sees is quit x_sees w =
+    let i = since setting (x ∷ rest) t f.1 w in
+    let fits = subst (λ k. DeedFits k l.did (view q t)) is (f.0.deeds q sees) in
+    let rested : boot_tick (dids t) + ELECT_MIN ≤ l.did.tick = subst (λ k. boot_tick k + ELECT_MIN ≤ l.did.tick) (plain_view q t) fits.rested in
+    elim i.life [
+      | inr new ↦ omega (arith, new.boot)
+      | inl one ↦ let late = quit_late setting q p x rest t f.1 quit x_sees w one.lives in omega (arith, late.by, fits.quiet late.at late.is)
+    ]
+
+owing-deed : (setting : Setting) (q : Port) (p : PeerId) (x l : Line) (rest t : List Line) (limit : ℕ) (deed : Deed) → deed ≡ l.did.deed → OwnFits setting (l ∷ t) → Sees q l → DeedFits deed l.did (view q t) → x.did.deed ≡ Acts (Quit p) → Sees q x →
+    Within (x ∷ rest) t → l.did.tick ≤ limit → limit < x.did.tick + ELECT_MIN → (role (view q t) ≡ Master → Owing (view q t)) → role_after deed (role (view q t)) ≡ Master → (peer : PeerId) × (owes_after deed (role (view q t)) (owes (view q t)) ≡ Some peer)
+owing-deed setting q p x l rest t limit Begins is f sees fits quit x_sees w by soon h e =
+    let o = h e in
+    let bad : ⊥ = (let k : Follow o.peer ≡ Master = sym (fits.follows o.peer o.is) ∙ e in cc) in absurd bad
+owing-deed setting q p x l rest t limit (Acts Boot) is f sees fits quit x_sees w by soon h e = let bad : ⊥ = cc in absurd bad
+owing-deed setting q p x l rest t limit (Acts (Become r)) is f sees fits quit x_sees w by soon h e =
+    let lead : l.did.deed ≡ Acts (Become Master) = sym is ∙ ap (λ (z : Role). Acts (Become z)) e in
+    absurd (omega (arith, quiet-own setting q p x l rest t f sees lead quit x_sees w))
+owing-deed setting q p x l rest t limit (Acts (Quit r)) is f sees fits quit x_sees w by soon h e = (r, rw e refl)
+owing-deed setting q p x l rest t limit _ is f sees fits quit x_sees w by soon h e = let o = h e in (o.peer, o.is)
+
+owing : (setting : Setting) (q : Port) (p : PeerId) (x : Line) (rest t : List Line) (limit : ℕ) → OwnFits setting t → x.did.deed ≡ Acts (Quit p) → Sees q x → Within (x ∷ rest) t → tick_of (dids t) ≤ limit → limit < x.did.tick + ELECT_MIN →
+    role (view q t) ≡ Master → Owing (view q t)
+owing setting q p x rest [] limit f quit sees w by soon e = Within-none x rest w
+owing setting q p x rest (l ∷ t) limit f quit sees (inl s) by soon e =
+    let here : role (view q (x ∷ rest)) ≡ Master = subst (λ k. role (view q k) ≡ Master) (sym s) e in
+    let before : role (view q rest) ≡ Master = at-quit here in
+    subst (λ k. Owing (view q k)) s (rw sees (record { peer = p; is = rw (quit, before) refl }))
+  where
+    at-quit : role (view q (x ∷ rest)) ≡ Master → role (view q rest) ≡ Master
+    at-quit h = (let k = sees in rw (sees, quit) at h)
+owing setting q p x rest (l ∷ t) limit f quit sees (inr w) by soon e =
+    more ((l.port.0 == q.0) || is_shared l.did.deed) refl (owing setting q p x rest t limit f.1 quit sees w (omega (arith, f.0.tick)) soon) e
+  where
+    more : (b : Bool) → ((l.port.0 == q.0) || is_shared l.did.deed) ≡ b → (role (view q t) ≡ Master → Owing (view q t)) → role (seen_as b l.did ∷ view q t) ≡ Master → Owing (seen_as b l.did ∷ view q t)
+    more true b h e = let o = owing-deed setting q p x l rest t limit l.did.deed refl f b (f.0.deeds q b) quit sees w by soon h e in record { peer = o.0; is = o.1 }
+    more false b h e = let o = h e in record { peer = o.peer; is = o.is }
+
+-- when a QUIT's step comes, counted from the alarm's step
+record Times (ring x : Line) : Type 0 where
+  pub after : ring.did.step.at ≤ x.did.step.at
+  pub soon : x.did.step.at ≤ ring.did.step.at + 34004007
+
+takes-times : (setting : Setting) (ring x : Line) (past : List Line) → Fits setting (x ∷ past) → Life (x ∷ past) → TakesQuit ring x past → Times ring x
+takes-times setting ring x past f life t =
+    let p = t.post in
+    let pk = peer_of (node_of x) in
+    let fp = fits_at setting (p ∷ t.older) past f.1 t.place in
+    let fits = deed_fits setting p t.older (Acts (Post (Peer pk) (Message t.message))) t.deed fp.0 in
+    let numbered : NumberedFits p.did (view p.port (of (node_of p) t.older)) pk t.message = subst (λ k. MessageFits k p.did (view p.port (of (node_of p) t.older)) pk t.message) t.kind fits in
+    let d = send_is pk p.did (view p.port (of (node_of p) t.older)) t.message t.deed numbered.repeats in
+    let both : Here d.first ∷ d.older ≡ Here t.first ∷ t.begun = sym d.is ∙ t.begins in
+    let first_is : d.first ≡ t.first = cc in
+    let at : d.first.step.at ≡ ring.did.step.at = ap (λ (z : Did). z.step.at) first_is ∙ ap (λ (z : Step). z.at) t.step in
+    let place : Within (Here d.first ∷ d.older) (view p.port (of (node_of p) (p ∷ t.older))) = subst (λ s. Within (Here d.first ∷ d.older) s) (sym (view-line (node_of p) p t.older refl)) d.place in
+    let l = locate (node_of p) p.port (p ∷ t.older) d.first d.older (rw d.same refl) place in
+    let after : d.first.step.at ≤ p.did.step.at = place-time setting (line_on p.port d.first ∷ l.older) (p ∷ t.older) fp l.place in
+    let n = near setting (node_of p) d.first.step.at p.did.step.at after in
+    let tick_f = tick_in setting (node_of p) (line_on p.port d.first) l.older (p ∷ t.older) fp l.node l.place in
+    let tick_p = tick_in setting (node_of p) p t.older (p ∷ t.older) fp refl (inl refl) in
+    let least = subst₂ (λ a b. 1000 * a + 999 * p.did.step.at ≤ 1000 * b + 999 * d.first.step.at + 2000) (sym tick_f) (sym tick_p) n.least in
+    let came = place-time setting (p ∷ t.older) past f.1 t.place in
+    let lives = life.0 p t.older (Peer pk) (Message t.message) t.place t.deed t.takes in
+    record { after = omega (arith, f.0.order); soon = omega (arith, d.soon) }
+
+pub stops_leading : (setting : Setting) (h : List Line) → Fits setting h → Finished h → Life h → StopsLeading h
+stops_leading setting h f end life ring x y past xpast ypast ring_in rings x_in tx y_in ty last leads =
+    let r = node_of x in
+    let fx = fits_at setting (x ∷ xpast) h f x_in in
+    let one = takes-times setting ring x xpast fx (Everywhere-within (TakenWithinAt LIFE) (x ∷ xpast) h life x_in) tx in
+    let two = takes-times setting ring y ypast (fits_at setting (y ∷ ypast) h f y_in) (Everywhere-within (TakenWithinAt LIFE) (y ∷ ypast) h life y_in) ty in
+    let order : x.did.step.at ≤ time_of (dids h) = place-time setting (x ∷ xpast) h f x_in in
+    let n = near setting r x.did.step.at (time_of (dids h)) order in
+    let tick_x : x.did.tick ≡ tick_at (setting.rate r) x.did.step.at = fx.0.tick in
+    let limit = tick_at (setting.rate r) (time_of (dids h)) in
+    let soon : limit < x.did.tick + ELECT_MIN = (let k = n.most in let a = one.after in let b = two.soon in omega arith) in
+    let o = owing setting x.port (peer_of (node_of ring)) x (of r xpast) (of r h) limit (own_fits setting r h f) tx.quits (sees-own x.port (is_shared x.did.deed)) (own_in r x xpast h refl x_in) (of-tick setting r h f) soon leads in
+    let follows : role (view x.port (of r h)) ≡ Follow o.peer = (end r x.port).follows o.peer o.is in
+    not-both o.peer (sym follows ∙ leads)
+  where
+    not-both : (p : PeerId) → Follow p ≡ Master → ⊥
+    not-both p e = cc
