@@ -1,8 +1,7 @@
 -- What a station stands for.
 use Rattle.std.specs.Prelude.{◌≡◌, ℕ, ℤ, List, ◌∷◌}
-use Rattle.tsp_base.specs.declared.act.Act.TheVariants.{Boot}
 use Rattle.tsp_base.specs.declared.place.PeerId.{PeerId}
-use Rattle.tsp_base.specs.History.{Booted, Acts, Seen, Here, Past, plain}
+use Rattle.tsp_base.specs.History.{Past, plain}
 use Rattle.tsp_base.specs.NodeFacts.{word}
 use Rattle.tsp_base.specs.PortFacts.{role, armed, held}
 use Rattle.tsp_acks.specs.declared.me.Me.{Me}
@@ -19,14 +18,9 @@ pub record Stands (past : Past) (station : Station) : Type 0 where
   pub alarms : station.alarms ≡ armed past.seen
   pub hold : station.hold ≡ held past.seen
 
--- the node has just booted, at this tick
-pub record HasBooted (me : Me) (peers : List PeerId) (tick : ℕ) (past : Past) : Type 0 where
+-- a past of this port
+pub record IsPortOf (me : Me) (peers : List PeerId) (past : Past) : Type 0 where
   pub own : me.own ≡ past.own
   pub name : me.name ≡ past.name
   pub may : me.may ≡ past.may
   pub peers_are : peers ≡ past.peers
-  pub wall : ℤ
-  pub at : ℕ
-  pub node : ℕ
-  pub before : List Seen
-  pub boots : past.seen ≡ Here (record { step = record { at = at; node = node; cause = Booted me.word wall }; tick = tick; deed = Acts Boot }) ∷ before

@@ -1,7 +1,10 @@
 //! A port's station: what all its roles share.
-ghost use Rattle.std.specs.Prelude.{◌≡◌, ◌&&◌, not, [], None, IfOk};
+ghost use Rattle.std.specs.Prelude.{◌≡◌, ◌&&◌, not, ℤ, [], ◌∷◌, None, IfOk};
+ghost use Rattle.tsp_base.specs.declared.act.Act.TheVariants.{Boot};
 ghost use Rattle.tsp_base.specs.declared.role.Role.TheVariants.{Starting};
 ghost use Rattle.tsp_base.specs.Alarms.{deadline, none_armed};
+ghost use Rattle.tsp_base.specs.History.{Past, Booted};
+ghost use Rattle.tsp_base.specs.Rows.{grown};
 ghost use Rattle.tsp_rules.specs.Tests.{is_over, is_met, is_among, is_starting_role};
 ghost use Rattle.tsp_acks.specs.Peers.{IsPeers};
 
@@ -31,14 +34,13 @@ pub struct Station {
 }
 
 impl Station {
-    ghost use Rattle.tsp_base.specs.History.{Past};
-    ghost use Rattle.tsp_acks.specs.Stands.{Stands, HasBooted};
+    ghost use Rattle.tsp_acks.specs.Stands.{Stands, IsPortOf};
 
     /// A station of a node that boots at this tick. The answer is an error only where memory is wanting.
     pub fn new(alloc: Global, me: Me, peers: &[PeerId], tick: u64) -> Result<Station, AllocError>
         requires { IsPeers peers.now }
         ensures station { IfOk result (λ s. s ≡ record { me = me; role = Starting; hold = record { boot = tick; back = None; quit = None }; alarms = none_armed; peers = peers.now }) }
-        ensures stands { IfOk result (λ s. (past : Past) → HasBooted me peers.now tick past → Stands past s) }
+        ensures stands { IfOk result (λ s. (past : Past) (wall : ℤ) → IsPortOf me peers.now past → past.step.cause ≡ Booted me.word wall → Stands (grown tick past (Boot ∷ [])) s) }
     {
         let peers = Peers::new(alloc, peers)?;
         Ok(Station {

@@ -1,0 +1,48 @@
+-- A corrected clock.
+use Rattle.std.specs.Prelude.{◌≡◌, ℕ, ◌+◌, ◌-◌, ◌/◌, ◌%◌, ◌^◌, ◌≤◌, ◌<◌, ℤ, pos, negsuc, ◌+ℤ◌, ◌-ℤ◌, ◌<ℤ◌, ◌≤ℤ◌, if◌then◌else◌}
+use Rattle.tsp_base.specs.declared.constants.TheConstants.{SLEW}
+use Rattle.tsp_base.specs.NodeFacts.{eased}
+use Rattle.tsp_rules.specs.ClockRows.{is_step}
+
+-- how far the target stands ahead of the ticks, what was still to be slewed right after the last correction,
+-- its tick (that of the boot where there was none), and the number that the next correction is to have
+pub record ClockValue : Type 0 where
+  pub offset : ℤ
+  pub rest : ℤ
+  pub at : ℕ
+  pub ticket : ℕ
+
+-- the target at a tick
+abbrev pub target_of : ClockValue → ℕ → ℤ
+target_of v x = v.offset +ℤ pos x
+
+-- what is still to be slewed at a tick: a microsecond less for each 200 ticks since the last correction
+abbrev pub rest_of : ClockValue → ℕ → ℤ
+rest_of v x = eased v.rest ((x - v.at) / SLEW)
+
+-- the value shown at a tick: the target less what is still to be slewed
+abbrev pub shown_of : ClockValue → ℕ → ℤ
+shown_of v x = target_of v x -ℤ rest_of v x
+
+-- the clock after a correction by an amount: a large one steps, any other is slewed
+abbrev pub adjusted : ClockValue → ℕ → ℤ → ClockValue
+adjusted v x amount = record {
+  offset = v.offset +ℤ amount;
+  rest = if is_step amount then pos 0 else rest_of v x +ℤ amount;
+  at = x;
+  ticket = (v.ticket + 1) % 32768;
+}
+
+-- the clock after it was set to a value, which is a step
+abbrev pub set_to : ClockValue → ℕ → ℤ → ClockValue
+set_to v x value = record { offset = value -ℤ pos x; rest = pos 0; at = x; ticket = (v.ticket + 1) % 32768 }
+
+-- ticks and tickets are in range, and so was the target at the last correction; what was shown then was no less than any
+-- target before, and ahead of a target by no more than the ticks
+pub record IsClock (v : ClockValue) : Type 0 where
+  pub early : v.at ≤ 2 ^ 61
+  pub small : v.ticket < 32768
+  pub low : negsuc 2147483647999999 <ℤ (v.offset +ℤ pos v.at)
+  pub high : (v.offset +ℤ pos v.at) <ℤ pos 2147483648000000
+  pub shown_low : negsuc 2147483647999999 <ℤ ((v.offset +ℤ pos v.at) -ℤ v.rest)
+  pub shown_high : ((v.offset +ℤ pos v.at) -ℤ v.rest) ≤ℤ pos (2147483648000000 + v.at)

@@ -1,0 +1,2 @@
+pub mod ClockStands
+pub mod Clocks
