@@ -6,7 +6,7 @@ ghost use Rattle.tsp_rules.specs.Tests.{is_clock_value};
 ghost use Rattle.tsp_clock.specs.Clocks.{target_of, adjusted, set_to};
 ghost use Rattle.tsp_clock.specs.ClockStands.{ClockStands};
 
-use crate::clock::{is_clock_value, Clock};
+use crate::clock::{Clock, is_clock_value};
 use tsp_base::act::Act;
 use tsp_base::desk::Desk;
 use tsp_base::place::Port;

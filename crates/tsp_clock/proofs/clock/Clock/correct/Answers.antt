@@ -1,5 +1,5 @@
 -- The new fields are in their ranges.
-use Rattle.std.proofs.Common.{rules, ◌≡◌, refl, arith, ap, ◌∙◌, ◌%◌, ◌+◌, ℤ, pos, ◌-ℤ◌, ◌+ℤ◌, negsuc, ◌<ℤ◌, SFits, w64, to_z, of_z, to_z-of_z}
+use Rattle.std.proofs.Common.{rules, ◌≡◌, arith, ap, ◌∙◌, ◌%◌, ◌+◌, pos, ◌-ℤ◌, negsuc, ◌<ℤ◌, SFits, w64, to_z, of_z, to_z-of_z}
 use Rattle.std.proofs.lemmas.Int.{ints}
 use Rattle.tsp_clock.proofs.ClockLemmas.{clock_value_low, clock_value_high}
 use Rattle.tsp_clock.proofs.clock.Clock.correct.Goals as goal
