@@ -1,1 +1,4 @@
+pub mod Lasts
 pub mod SlaveAlarms
+pub mod SlaveStands
+pub mod SlaveTakes

@@ -1,4 +1,5 @@
 //! What a port does at Loose and at Follow, and how its quiet time ends.
 #![tactic(auto)]
 
+pub mod last;
 pub mod ring;

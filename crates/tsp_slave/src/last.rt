@@ -1,0 +1,112 @@
+//! What a follower remembers.
+ghost use Rattle.std.specs.Prelude.{◌≡◌, [], ◌∷◌, ℕ, None, Some};
+ghost use Rattle.tsp_base.specs.declared.act.Act.TheVariants.{Boot};
+ghost use Rattle.tsp_base.specs.declared.constants.TheConstants.{GAP};
+ghost use Rattle.tsp_base.specs.History.{Past};
+ghost use Rattle.tsp_base.specs.Hold.{is_past};
+ghost use Rattle.tsp_base.specs.Rows.{grown};
+ghost use Rattle.tsp_rules.specs.SlaveRows.{is_by};
+
+use std::marker::Model;
+use tsp_base::constants::GAP;
+use tsp_base::name::Name;
+use tsp_base::place::PeerId;
+
+/// A correction that was taken: who sent it, and its number.
+#[derive(Clone, Copy, PartialEq, Eq, Debug)]
+pub struct Correction {
+    /// The master.
+    pub from: PeerId,
+    /// The ticket that it carried.
+    pub number: u16,
+}
+
+/// The tick of the node's last Correct since its boot, the correction that it took if it took one on this
+/// port, and the name of the master that was followed last.
+#[derive(Drop)]
+pub struct Last {
+    tick: Option<u64>,
+    taken: Option<Correction>,
+    name: Name,
+}
+
+impl Model for Last {
+    ghost use Rattle.tsp_slave.specs.Lasts.{LastValue, correcting_in};
+
+    ghost Value = { LastValue };
+
+    ghost view = { λ l. record { tick = l.tick; taken = correcting_in l.taken; name = l.name } };
+}
+
+impl Last {
+    ghost use Rattle.tsp_slave.specs.Lasts.{Remembers};
+
+    /// Nothing is remembered of a life that has just begun.
+    pub fn new() -> Last
+        ensures value { result ≡ record { tick = None; taken = None; name = [] } }
+        ensures stands { (x : ℕ) (past : Past) → Remembers (grown x past (Boot ∷ [])) result }
+    {
+        Last {
+            tick: None,
+            taken: None,
+            name: Name::empty(),
+        }
+    }
+
+    /// The tick of the node's last Correct; None exactly where there was none since the boot.
+    pub fn tick(&self) -> Option<u64>
+        ensures { result ≡ self.now.tick }
+    {
+        self.tick
+    }
+
+    /// The name that was kept of the master followed last; empty before one.
+    pub fn name(&self) -> &Name
+        ensures { result.now ≡ self.now.name }
+    {
+        &self.name
+    }
+
+    /// Notes a Correct that no message of a master to this port made.
+    pub fn moved(&mut self, tick: u64)
+        ensures { self.new ≡ record { tick = Some tick; taken = None; name = self.old.name } }
+    {
+        self.tick = Some(tick);
+        self.taken = None;
+    }
+
+    /// Notes a Correct that a master's message made.
+    pub fn took(&mut self, tick: u64, from: PeerId, number: u16)
+        ensures { self.new ≡ record { tick = Some tick; taken = Some (record { from = from; number = number }); name = self.old.name } }
+    {
+        self.tick = Some(tick);
+        self.taken = Some(Correction { from, number });
+    }
+
+    /// Keeps a master's name.
+    pub fn keep_name(&mut self, name: &Name)
+        ensures { self.new ≡ record self.old { name = name.now } }
+    {
+        self.name = name.copy();
+    }
+
+    /// Whether the last Correct took this number from this peer.
+    pub fn is_repeat(&self, from: PeerId, number: u16) -> bool
+        ensures { result ≡ is_by from number self.now.taken }
+    {
+        match self.taken {
+            None => false,
+            Some(last) => last.from.0 == from.0 && last.number == number,
+        }
+    }
+
+    /// Whether the last Correct, if there was one, lies `GAP` ticks or more back.
+    pub fn is_rested(&self, tick: u64) -> bool
+        ensures { result ≡ is_past self.now.tick GAP tick }
+    {
+        match self.tick {
+            None => true,
+            Some(at) => at <= tick && tick - at >= GAP,
+        }
+    }
+}
