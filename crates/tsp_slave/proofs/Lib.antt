@@ -1,1 +1,2 @@
 pub mod RowCases
+pub mod SlaveLemmas

@@ -1,0 +1,76 @@
+-- What acts of the station leave as it is: what is remembered, the clock, and what was taken.
+use Rattle.std.specs.Prelude.{◌≡◌, ℕ, Option, List}
+use Rattle.std.proofs.Common.{sym, ◌∙◌, ap}
+use Rattle.tsp_base.specs.declared.act.Act.TheVariants.{Become, Correct}
+use Rattle.tsp_base.specs.declared.act.Placed.{Placed}
+use Rattle.tsp_base.specs.declared.alarm.Alarm.{Alarm}
+use Rattle.tsp_base.specs.declared.alarm.Alarm.TheVariants.{Elect}
+use Rattle.tsp_base.specs.declared.kind.Kind.{Kind}
+use Rattle.tsp_base.specs.declared.kind.Kind.TheVariants.{Ack}
+use Rattle.tsp_base.specs.declared.place.PeerId.{PeerId}
+use Rattle.tsp_base.specs.declared.place.Port.{Port}
+use Rattle.tsp_base.specs.declared.role.Role.TheVariants.{Follow}
+use Rattle.tsp_base.specs.History.{Past}
+use Rattle.tsp_base.specs.Performs.{Performs, Keeps}
+use Rattle.tsp_base.specs.PortFacts.{Received, name_in}
+use Rattle.tsp_base.specs.Rows.{puts, arms, posts, ◌followed_by◌}
+use Rattle.tsp_base.proofs.PerformsLemmas.{Keeps_reading, Keeps_then}
+use Rattle.tsp_rules.specs.CommonRows.{arms_elect}
+use Rattle.tsp_rules.specs.SlaveRows.{confirms}
+use Rattle.tsp_rules.specs.Tests.{delay_at}
+use Rattle.tsp_acks.specs.declared.station.Station.{Station}
+use Rattle.tsp_acks.specs.Stands.{Stands}
+use Rattle.tsp_clock.specs.Clocks.{ClockValue}
+use Rattle.tsp_slave.specs.Lasts.{LastValue}
+use Rattle.tsp_slave.specs.SlaveStands.{AlsoStands, SlaveStands}
+
+pub AlsoStands_arms : (alarm : Alarm) (long : ℕ) → Keeps AlsoStands (arms alarm long)
+unfolding arms
+AlsoStands_arms alarm long x past state h = record {
+  first = record { tick_is = h.first.tick_is; taken_is = h.first.taken_is; name_is = h.first.name_is };
+  second = record {
+    first = record { offset_is = h.second.first.offset_is; rest_is = h.second.first.rest_is; at_is = h.second.first.at_is; ticket_is = h.second.first.ticket_is };
+    second = h.second.second;
+  };
+}
+
+pub AlsoStands_posts : (p : PeerId) (kind : Kind) (number : ℕ) → Keeps AlsoStands (posts p kind number)
+unfolding posts
+AlsoStands_posts p kind number x past state h = record {
+  first = record { tick_is = h.first.tick_is; taken_is = h.first.taken_is; name_is = h.first.name_is };
+  second = record {
+    first = record { offset_is = h.second.first.offset_is; rest_is = h.second.first.rest_is; at_is = h.second.first.at_is; ticket_is = h.second.first.ticket_is };
+    second = h.second.second;
+  };
+}
+
+pub AlsoStands_arms_elect : Keeps AlsoStands arms_elect
+unfolding arms_elect
+AlsoStands_arms_elect = Keeps_reading AlsoStands delay_at (arms Elect) (AlsoStands_arms Elect)
+
+pub AlsoStands_confirms : (p : PeerId) (number : ℕ) → Keeps AlsoStands (confirms p number)
+unfolding confirms
+AlsoStands_confirms p number = Keeps_then AlsoStands arms_elect (posts p Ack number) AlsoStands_arms_elect (AlsoStands_posts p Ack number)
+
+-- a port that begins to follow keeps the name that was taken
+pub follow_becomes : (p : PeerId) {x : ℕ} {port : Port} {before after : Station} (first last : LastValue) (clock : ClockValue) (took : Option Received) {old new : List Placed} →
+    last ≡ record first { name = name_in took } → Performs Stands Stands (puts (Become (Follow p))) x port before after old new →
+    Performs SlaveStands SlaveStands (puts (Become (Follow p))) x port (before, (first, (clock, took))) (after, (last, (clock, took))) old new
+unfolding puts
+follow_becomes p first last clock took e d = record {
+  acts = λ past h. d.acts past h.first;
+  stands = λ past h. record {
+    first = d.stands past h.first;
+    second = record {
+      first = record {
+        tick_is = ap (λ l. l.tick) e ∙ h.second.first.tick_is;
+        taken_is = ap (λ l. l.taken) e ∙ h.second.first.taken_is;
+        name_is = ap (λ l. l.name) e ∙ ap name_in (sym h.second.second.second);
+      };
+      second = record {
+        first = record { offset_is = h.second.second.first.offset_is; rest_is = h.second.second.first.rest_is; at_is = h.second.second.first.at_is; ticket_is = h.second.second.first.ticket_is };
+        second = h.second.second.second;
+      };
+    };
+  };
+}

@@ -1,0 +1,14 @@
+-- The number is the clock's ticket.
+use Rattle.tsp_base.specs.declared.kind.Kind.TheVariants.{SlaveUp}
+use Rattle.tsp_base.specs.Rows.{posts}
+use Rattle.tsp_base.proofs.PerformsLemmas.{Performs_beside, Performs_reading}
+use Rattle.tsp_rules.specs.CommonRows.{tells_ticket}
+use Rattle.tsp_rules.specs.Tests.{ticket_at}
+use Rattle.tsp_slave.proofs.SlaveLemmas.{AlsoStands_posts}
+use Rattle.tsp_slave.proofs.follow.tell_ticket.Goals as goal
+
+pub returns-clause-row : goal.returns-clause-row
+unfolding tells_ticket
+returns-clause-row g c x last took =
+    Performs_reading ticket_at (posts c.args.p SlaveUp) c.ticket.result (λ past h. let t = h.second.second.first.ticket_is in let v = c.ticket.ensures.value in cc)
+    (Performs_beside _ (AlsoStands_posts c.args.p SlaveUp c.ticket.result) (c.post.ensures.row x))

@@ -1,0 +1,57 @@
+//! How a port begins to follow a master, and tells it so.
+ghost use Rattle.std.specs.Prelude.{◌≡◌, ℕ, ◌+◌, ◌≤◌, ◌^◌, length, Option, Some};
+ghost use Rattle.tsp_base.specs.declared.alarm.Alarm.TheVariants.{Elect};
+ghost use Rattle.tsp_base.specs.declared.role.Role.TheVariants.{Follow};
+ghost use Rattle.tsp_base.specs.Alarms.{with_deadline, none_armed};
+ghost use Rattle.tsp_base.specs.Performs.{Performs};
+ghost use Rattle.tsp_base.specs.PortFacts.{Received, name_in};
+ghost use Rattle.tsp_rules.specs.CommonRows.{follow_row, tells_ticket};
+ghost use Rattle.tsp_rules.specs.Tests.{delay};
+ghost use Rattle.tsp_slave.specs.Lasts.{LastValue};
+ghost use Rattle.tsp_slave.specs.SlaveStands.{SlaveStands};
+
+use crate::last::Last;
+use tsp_acks::station::Station;
+use tsp_base::desk::Desk;
+use tsp_base::kind::Kind;
+use tsp_base::name::Name;
+use tsp_base::place::{PeerId, Port};
+use tsp_base::role::Role;
+use tsp_clock::clock::Clock;
+
+/// Follows a master, keeps the name in the message that was taken of it, and tells it the ticket.
+pub fn follow<D: Desk>(
+    station: &mut Station,
+    last: &mut Last,
+    clock: &Clock,
+    tick: u64,
+    p: PeerId,
+    name: &Name,
+    port: Port,
+    desk: &mut D,
+)
+    requires tick { tick ≤ 2 ^ 61 }
+    requires room { 3 ≤ D.spare desk.old }
+    ensures row { (took : Option Received) → name_in took ≡ name.now → Performs SlaveStands SlaveStands (follow_row p) tick port
+        (station.old, (last.old, (clock.now, took))) (station.new, (last.new, (clock.now, took))) (D.acts desk.old) (D.acts desk.new) }
+    ensures station { station.new ≡ record station.old { role = Follow p; alarms = with_deadline none_armed Elect (Some (tick + delay station.old.me.word)) } }
+    ensures last { last.new ≡ record last.old { name = name.now } }
+    ensures spare { D.spare desk.old ≡ D.spare desk.new + 3 }
+    ensures few { length (D.acts desk.new) ≡ length (D.acts desk.old) + 3 }
+{
+    station.become_role(Role::Follow(p), port, desk);
+    last.keep_name(name);
+    station.arm_elect(tick, port, desk);
+    tell_ticket(station, clock, p, port, desk);
+}
+
+/// Tells a master that it is followed, and the clock's ticket.
+pub fn tell_ticket<D: Desk>(station: &Station, clock: &Clock, p: PeerId, port: Port, desk: &mut D)
+    requires room { 1 ≤ D.spare desk.old }
+    ensures row { (x : ℕ) (last : LastValue) (took : Option Received) → Performs SlaveStands SlaveStands (tells_ticket p) x port
+        (station.now, (last, (clock.now, took))) (station.now, (last, (clock.now, took))) (D.acts desk.old) (D.acts desk.new) }
+    ensures spare { D.spare desk.old ≡ D.spare desk.new + 1 }
+    ensures few { length (D.acts desk.new) ≡ length (D.acts desk.old) + 1 }
+{
+    station.post(p, Kind::SlaveUp, clock.ticket(), port, desk);
+}
