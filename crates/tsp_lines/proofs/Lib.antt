@@ -5,6 +5,7 @@ pub mod Aheads
 pub mod Comes
 pub mod Endings
 pub mod Says
+pub mod Stops
 pub mod Passes
 pub mod Streams
 pub mod Buffers
