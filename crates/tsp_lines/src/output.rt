@@ -22,13 +22,15 @@ pub enum Unwritten {
 
 /// Where a write was cut off, and why.
 #[derive(Clone, Copy)]
-struct Cut {
-    at: usize,
-    fault: Unwritten,
+pub struct Cut {
+    /// How many octets were written before.
+    pub at: usize,
+    /// What went wrong.
+    pub fault: Unwritten,
 }
 
-/// Writes the octets whole, or up to the place of a fault.
-fn write_all<K: Sink>(sink: &mut K, octets: &[u8]) -> Result<(), Cut>
+/// Writes the octets whole, or up to the place of a fault, with no buffer between.
+pub fn write_all<K: Sink>(sink: &mut K, octets: &[u8]) -> Result<(), Cut>
     ensures ok { OnOk result (Grows (K.written sink.old) (K.written sink.new) octets.now) }
     ensures cut { IfErr result (λ cut. (cut.at < length octets.now) × Grows (K.written sink.old) (K.written sink.new) (take cut.at octets.now)) }
     ensures later { K.faults sink.old ≤ K.faults sink.new }
