@@ -7,6 +7,7 @@ pub record MeasuredPeers : Type 0 where
   pub peers : List ℕ
   pub measured : List Measured
 
+-- what stands at the place of a peer's number
 abbrev pub at_peer : List ℕ → List Measured → ℕ → Measured
 at_peer (q ∷ peers) (m ∷ measured) p = if q == p then m else at_peer peers measured p
 at_peer _ _ p = nothing_measured
