@@ -99,14 +99,14 @@ module _ {from : Place} {m : MessageValue} where
   treats_kind_leads Test e = to_rests (tests_leads m (λ seen p. subst (λ i. Answers i seen p m.number) (sym e) tt))
   treats_kind_leads _ e = from_peer_leads from (Good (Message m)) (peer_says m) (λ p i. peer_says_leads)
 
-treats_leads : (from : Place) (t : Taken) → Leads (JustTook from t) (treats from t) Rests
+pub treats_leads : (from : Place) (t : Taken) → Leads (JustTook from t) (treats from t) Rests
 unfolding treats
 treats_leads from (Bad fault) = nothing-rests (λ x past h. h)
 treats_leads from (Good (Message m)) = treats_kind_leads m.kind refl
 treats_leads from (Good (Stamp (Request word counter))) = Leads_from (λ x past h. h.free) (Leads_to (λ x past h. rests_of h) (replies_lead from word counter))
 treats_leads from (Good (Stamp (Reply r))) = from_peer_leads from (Good (Stamp (Reply r))) (peer_replies r) (λ p i. peer_replies_lead)
 
-open_rests : (x : ℕ) (past : Past) → Open x past → Rests x past
+pub open_rests : (x : ℕ) (past : Past) → Open x past → Rests x past
 open_rests x past h = record { fits = h.fits; knows = h.knows; ends = record { backs = h.backs; follows = λ p e. none-some p (sym h.owed ∙ e) } }
 
 input_leads : (g : Given) → Leads Open (input_row g) Rests
@@ -174,9 +174,34 @@ pub row_leads : (m : Makes) → Leads Fresh (row_of m) Rests
 row_leads Boots = boots_lead
 row_leads (Answering g) = answers_lead g
 
+-- what is known of a port is known later too
+pub rests_later : (x y : ℕ) (past : Past) → x ≤ y → Rests x past → Rests y past
+rests_later x y past later h =
+    let k = h.knows in record {
+      fits = h.fits;
+      knows = record {
+        boot_le = (let b = k.boot_le in omega (arith, b, later));
+        last_le = (let b = k.last_le in omega (arith, b, later));
+        boot_is = k.boot_is;
+        rested = elim k.rested [ inl e ↦ inl e | inr r ↦ inr (omega (arith, r, later)) ];
+        silent = k.silent;
+        stands = λ e. let s = k.stands e in let long = s.0 in (omega (arith, long, later), λ t i. let q = s.1 t i in omega (arith, q, later));
+        windows = k.windows;
+        rounds = k.rounds;
+        probing = k.probing;
+        closes = k.closes;
+        exchanges = k.exchanges;
+      };
+      ends = h.ends;
+    }
+
+-- and of another past in which the port has seen the same
+pub rests_seen : (x : ℕ) (past now : Past) → past.seen ≡ now.seen → Rests x past → Rests x now
+rests_seen x past now e h = subst (λ s. Rests x (record now { seen = s })) e (record { fits = h.fits; knows = h.knows; ends = h.ends })
+
 -- a port that has done nothing
-nothing-done : (past : Past) → Rests 0 (record past { seen = [] })
-nothing-done past = record {
+pub nothing-done : (x : ℕ) (past : Past) → Rests x (record past { seen = [] })
+nothing-done x past = record {
   fits = tt;
   knows = record {
     boot_le = omega arith;
@@ -199,7 +224,7 @@ own-ran [] past = refl
 own-ran (h ∷ before) past = own-ran before past
 
 ran-rests : (past : Past) (hs : List Happening) → past.seen ≡ [] → Ordered past.own.0 hs → Rests (last_tick hs) (ran hs past)
-ran-rests past [] e o = subst (λ s. Rests 0 (record past { seen = s })) (sym e) (nothing-done past)
+ran-rests past [] e o = subst (λ s. Rests 0 (record past { seen = s })) (sym e) (nothing-done 0 past)
 ran-rests past (h ∷ before) e o =
     let own : (ran before past).own.0 ≡ h.step.node = ap (λ (p : PeerId). p.0) (own-ran before past) ∙ sym o.1 in
     (row_leads h.makes).run h.tick (in_step h.step h.tick (ran before past)) (begins_fresh h.step (last_tick before) h.tick (ran before past) o.0 own (ran-rests past before e o.2))

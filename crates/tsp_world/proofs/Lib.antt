@@ -1,5 +1,9 @@
+pub mod AnswersFit
+pub mod FitsLines
 pub mod NodeLemmas
+pub mod PostPlaces
 pub mod RefusalLemmas
+pub mod RunFits
 pub mod RunLemmas
 pub mod SetCases
 pub mod WorldLemmas

@@ -2,6 +2,7 @@
 #![tactic(auto)]
 
 mod arrival;
+pub mod laws;
 pub mod line;
 mod node;
 pub mod posted;
