@@ -5,5 +5,6 @@ pub mod PostPlaces
 pub mod RefusalLemmas
 pub mod RunFits
 pub mod RunLemmas
+pub mod RunSafe
 pub mod SetCases
 pub mod WorldLemmas

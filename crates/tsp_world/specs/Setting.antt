@@ -3,7 +3,8 @@ use Rattle.std.specs.Prelude.{◌≡◌, ℕ, List}
 use Rattle.tsp_base.specs.declared.event.Event.{Event}
 use Rattle.tsp_base.specs.declared.place.Port.{Port}
 use Rattle.tsp_base.specs.Fits.{Fits, Finished}
-use Rattle.tsp_base.specs.Headers.{HeaderValue}
+use Rattle.tsp_base.specs.Headers.{HeaderValue, IsHeader}
+use Rattle.tsp_base.specs.Safe.{Safe}
 use Rattle.tsp_base.specs.Setting.{Setting}
 use Rattle.tsp_world.specs.Refusals.{Valid}
 use Rattle.tsp_world.specs.Run.{run}
@@ -19,3 +20,11 @@ pub record SetBy (header : HeaderValue) (setting : Setting) : Type 0 where
 -- the history of every valid schedule fits, and ends where a step ends
 abbrev pub RunsFit : Type 0
 RunsFit = (header : HeaderValue) (setting : Setting) (events : List Event) → SetBy header setting → Valid header events → Fits setting (run header events) × Finished (run header events)
+
+-- the history of every valid schedule keeps the promises
+abbrev pub RunsSafe : Type 0
+RunsSafe = (header : HeaderValue) (setting : Setting) (events : List Event) → SetBy header setting → Valid header events → Safe setting (run header events)
+
+-- every header sets its nodes up somehow
+abbrev pub EachIsSet : Type 0
+EachIsSet = (header : HeaderValue) → IsHeader header → (setting : Setting) × SetBy header setting

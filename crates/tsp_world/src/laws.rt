@@ -1,7 +1,18 @@
-//! What is true of every schedule: a law, which does nothing.
-ghost use Rattle.tsp_world.specs.Setting.{RunsFit};
+//! What is true of every schedule: laws, which do nothing.
+ghost use Rattle.tsp_world.specs.Setting.{EachIsSet, RunsFit, RunsSafe};
 
-/// Whatever a valid schedule brings, and whatever octets it hands to the nodes, each line of its history fits those before it, and each step ends as it must.
+/// Whatever a valid schedule brings, and whatever octets it hands to the nodes, each line of its history fits
+/// those before it, and each step ends as it must.
 pub fn runs_fit()
     ensures { RunsFit }
+{}
+
+/// The history of every valid schedule keeps the promises, each under the premises that it needs.
+pub fn runs_safe()
+    ensures { RunsSafe }
+{}
+
+/// Every header has a setting, of which the two laws before speak.
+pub fn each_is_set()
+    ensures { EachIsSet }
 {}

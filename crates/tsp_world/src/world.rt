@@ -35,12 +35,15 @@ pub struct World {
 
 impl World {
     ghost use Rattle.tsp_base.specs.Headers.{HeaderValue, Keeps};
+    ghost use Rattle.tsp_base.specs.Safe.{Safe};
+    ghost use Rattle.tsp_base.specs.Setting.{Setting};
     ghost use Rattle.tsp_base.specs.Ticks.{tick_at};
     ghost use Rattle.tsp_world.specs.Setup.{node_line};
     ghost use Rattle.tsp_base.specs.declared.event.Event.{Event};
     ghost use Rattle.tsp_world.specs.Answers.{answers_so_far};
     ghost use Rattle.tsp_world.specs.Refusals.{refusal, not_up, down, goes_to, actor, scene, Allowed, IsRefusal, room};
-    ghost use Rattle.tsp_world.specs.Run.{event_at, OnFirstPort, posted_time, arrives};
+    ghost use Rattle.tsp_world.specs.Run.{event_at, OnFirstPort, posted_time, arrives, run};
+    ghost use Rattle.tsp_world.specs.Setting.{SetBy};
     ghost use Rattle.tsp_codec.specs.Taken.{taken_of};
     ghost use Rattle.tsp_rules.specs.Answers.{Got};
     ghost use Rattle.tsp_world.specs.WorldStands.{WorldStands, scene_of, IsReady, Happens, HappensBy, up_at, CanNote, Notes, Passes};
@@ -100,11 +103,13 @@ impl World {
     /// Lets an event happen, or says for which first cause it can't: `TimeBack` where its time is below the
     /// last one's, `NoNode` for a number that no node has, `NoDatagram` for one that was never posted,
     /// `NotUp` where the node that would act hasn't booted, `Limit` where 200,000 events are there or the
-    /// node's posts might pass 1,000,000. A refusal leaves the world as it was, want of memory too.
+    /// node's posts might pass 1,000,000. A refusal leaves the world as it was, want of memory too. The history
+    /// of the events accepted so far keeps the promises.
     pub fn event(&mut self, e: &Event) -> Result<(), EventFault>
         requires time { event_at e.now ≤ 1000000000000000 }
         requires port { OnFirstPort e.now }
         ensures stands { (header : HeaderValue) (events : List Event) → WorldStands header events self.old → OnOk result (WorldStands header (e.now ∷ events) self.new) }
+        ensures safe { (header : HeaderValue) (events : List Event) (setting : Setting) → WorldStands header events self.old → SetBy header setting → OnOk result (Safe setting (run header (e.now ∷ events))) }
         ensures kept { (header : HeaderValue) (events : List Event) → WorldStands header events self.old → OnErr result (WorldStands header events self.new) }
         ensures fault { (header : HeaderValue) (events : List Event) → WorldStands header events self.old → MatchResult result (λ _. refusal (scene header events) e.now ≡ None) (λ f. IsRefusal (refusal (scene header events) e.now) f) }
     {

@@ -6,9 +6,10 @@ use Rattle.tsp_world.specs.declared.world.World.{World}
 use Rattle.tsp_world.specs.Refusals.{scene, refusal}
 use Rattle.tsp_world.specs.WorldStands.{scene_of, WorldStands}
 use Rattle.tsp_world.proofs.RefusalLemmas.{refusal-alike}
+use Rattle.tsp_world.proofs.RunSafe.{runs-safe}
 use Rattle.tsp_world.proofs.WorldLemmas.{Alike-stands}
 use Rattle.tsp_world.proofs.world.World.event.Goals as goal
-use Rattle.std.specs.Prelude.{List}
+use Rattle.std.specs.Prelude.{List, ◌∷◌}
 
 -- what the world refuses, its schedule refuses
 refuses : (header : HeaderValue) (events : List Event) (world : World) (e : Event) → WorldStands header events world → refusal (scene_of world) e ≡ refusal (scene header events) e
@@ -26,3 +27,6 @@ returns-clause-stands c = λ header events w.
 
 pub returns-clause-fault : goal.returns-clause-fault
 returns-clause-fault c = λ header events w. sym (refuses header events c.args.self.now c.args.e.now w) ∙ sym c.refusal.ensures ∙ c.in_default.is
+
+pub returns-clause-safe : goal.returns-clause-safe
+returns-clause-safe c = λ header events setting w set. runs-safe header setting (c.args.e.now ∷ events) set (returns-clause-stands c header events w).valid
