@@ -2,7 +2,7 @@
 use Rattle.std.specs.Prelude.{List}
 use Rattle.tsp_base.specs.Agreed.{Agreed}
 use Rattle.tsp_base.specs.History.{Line}
-use Rattle.tsp_base.specs.Measured.{Measured}
+use Rattle.tsp_base.specs.Measured.{Measured, Trips}
 use Rattle.tsp_base.specs.Once.{OnceConfirmed, OnceObeyed, OnceSpaced, OnceTaken}
 use Rattle.tsp_base.specs.OneBack.{OneBack}
 use Rattle.tsp_base.specs.OnlyMaster.{OnlyMaster}
@@ -19,6 +19,7 @@ pub record Safe (setting : Setting) (world : List Line) : Type 0 where
   pub once_obeyed : Honest world → OnceObeyed setting world
   pub once_taken : Life world → OnceTaken world
   pub once_confirmed : Honest world → Life world → Words world → OnceConfirmed world
+  pub trips : Trips setting world
   pub measured : Honest world → Words world → Measured setting world
   pub agreed : Honest world → Life world → Words world → Agreed setting world
   pub relayed : Honest world → Life world → Words world → Relayed setting world

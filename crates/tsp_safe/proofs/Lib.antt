@@ -39,4 +39,7 @@ pub mod SinceProof
 pub mod SourceProof
 pub mod SpacedProof
 pub mod StopsProof
+pub mod TripProof
+pub mod Witness
+pub mod WitnessUse
 pub mod WordsProof

@@ -15,6 +15,7 @@ use Rattle.tsp_safe.proofs.OnlyMasterProof.{only_master}
 use Rattle.tsp_safe.proofs.RelayedProof.{relayed}
 use Rattle.tsp_safe.proofs.ResolvedProof.{yields, stays_quiet}
 use Rattle.tsp_safe.proofs.StopsProof.{stops_leading}
+use Rattle.tsp_safe.proofs.TripProof.{trips}
 
 pub safe : (setting : Setting) (world : List Line) → Fits setting world → Finished world → Safe setting world
 safe setting world f end = record {
@@ -24,6 +25,7 @@ safe setting world f end = record {
   once_obeyed = once_obeyed setting world f;
   once_taken = once_taken setting world f;
   once_confirmed = λ honest life words. once_confirmed setting world (record { fits = f; honest = honest; life = life; words = words });
+  trips = trips setting world f;
   measured = measured setting world f;
   agreed = λ honest life words. agreed setting world (record { fits = f; honest = honest; life = life; words = words });
   relayed = λ honest life words. relayed setting world (record { fits = f; honest = honest; life = life; words = words });

@@ -1,2 +1,3 @@
+pub mod OrdinaryUse
 pub mod OwnFits
 pub mod Since

@@ -3,11 +3,11 @@
 //! `tsp_base`; whoever keeps what each deed owes to its past keeps the promises.
 #![tactic(auto)]
 
-ghost use Rattle.std.specs.Prelude.{List};
+ghost use Rattle.std.specs.Prelude.{◌≤◌, ◌+◌, nat_abs, ℕ, ℤ, List};
 ghost use Rattle.tsp_base.specs.Agreed.{Agreed};
 ghost use Rattle.tsp_base.specs.Fits.{Fits, Finished};
 ghost use Rattle.tsp_base.specs.History.{Line};
-ghost use Rattle.tsp_base.specs.Measured.{Measured};
+ghost use Rattle.tsp_base.specs.Measured.{Measured, Trips};
 ghost use Rattle.tsp_base.specs.Once.{OnceConfirmed, OnceObeyed, OnceSpaced, OnceTaken};
 ghost use Rattle.tsp_base.specs.OneBack.{OneBack};
 ghost use Rattle.tsp_base.specs.OnlyMaster.{OnlyMaster};
@@ -16,6 +16,8 @@ ghost use Rattle.tsp_base.specs.Relayed.{Relayed};
 ghost use Rattle.tsp_base.specs.Resolved.{StaysQuiet, StopsLeading, Yields};
 ghost use Rattle.tsp_base.specs.Safe.{Safe};
 ghost use Rattle.tsp_base.specs.Setting.{Setting};
+ghost use Rattle.tsp_base.specs.Ticks.{tick_at, width};
+ghost use Rattle.tsp_safe.specs.OrdinaryUse.{OrdinaryUse};
 
 /// All promises of a history that ends with a step, each under the premises that it needs.
 pub fn safe()
@@ -53,6 +55,11 @@ pub fn once_confirmed()
     ensures { (setting : Setting) (world : List Line) → Fits setting world → Honest world → Life world → Words world → OnceConfirmed world }
 {}
 
+/// The error that a measurement states is half its round trip, rounded up.
+pub fn measured_trips()
+    ensures { (setting : Setting) (world : List Line) → Fits setting world → Trips setting world }
+{}
+
 /// A measurement errs by at most half its round trip, if no peer's datagram is forged and no two boots have one
 /// word.
 pub fn measured()
@@ -82,4 +89,16 @@ pub fn resolved_stays_quiet()
 /// When the last rival has taken its QUIT, no rival is a master, if no datagram outlives `LIFE`.
 pub fn resolved_stops()
     ensures { (setting : Setting) (world : List Line) → Fits setting world → Finished world → Life world → StopsLeading world }
+{}
+
+/// No promise is empty: a history that fits and keeps every premise sees two nodes boot, one of them lead, the other
+/// take a SETTIME and acknowledge it, and a whole round.
+pub fn ordinary_use()
+    ensures { OrdinaryUse }
+{}
+
+/// Over some span of true time a tick counter advances by that span, give or take the width.
+pub fn ticks_keep_width()
+    ensures { (rate : ℤ) (drift start span : ℕ) → nat_abs rate ≤ drift → drift ≤ 1000 →
+        (tick_at rate (start + span) ≤ tick_at rate start + span + width drift span) × (tick_at rate start + span ≤ tick_at rate (start + span) + width drift span) }
 {}
