@@ -1,25 +1,23 @@
 -- A Sample's err is half its round trip.
-use Rattle.std.specs.Prelude.{◌≡◌, ℕ, ℤ, ◌-ℤ◌, true, List, ◌∷◌, refl}
-use Rattle.std.proofs.Common.{sym, ap, subst, subst₂, inl, ◌∙◌}
-use Rattle.tsp_base.specs.declared.act.Act.TheVariants.{Post, Sample}
+use Rattle.std.specs.Prelude.{◌≡◌, ◌-ℤ◌, true, List, ◌∷◌, refl}
+use Rattle.std.proofs.Common.{sym, ap, subst, subst₂, ◌∙◌}
 use Rattle.tsp_base.specs.declared.datagram.Datagram.TheVariants.{Stamp}
-use Rattle.tsp_base.specs.declared.place.PeerId.{PeerId}
 use Rattle.tsp_base.specs.declared.place.Place.TheVariants.{Peer}
 use Rattle.tsp_base.specs.declared.stamp.Stamp.TheVariants.{Request}
 use Rattle.tsp_base.specs.ClockAt.{clock, clock_at}
 use Rattle.tsp_base.specs.Fits.{Fits, Alive, node_of}
-use Rattle.tsp_base.specs.History.{Acts, Line, Seen, of, dids, view, plain}
-use Rattle.tsp_base.specs.Measured.{TripOf, TripAt, Trips}
+use Rattle.tsp_base.specs.History.{Line, of, dids, view, plain}
+use Rattle.tsp_base.specs.Measured.{TripAt, Trips}
 use Rattle.tsp_base.specs.NodeFacts.{target, up}
-use Rattle.tsp_base.specs.Samples.{half_up, sample_err}
+use Rattle.tsp_base.specs.Samples.{half_up}
 use Rattle.tsp_base.specs.Setting.{Setting}
 use Rattle.tsp_base.proofs.EverywhereLemmas.{Everywhere-from}
 use Rattle.tsp_base.proofs.Views.{plain_view}
 use Rattle.tsp_safe.proofs.ClockProof.{clock_post, target_is}
-use Rattle.tsp_safe.proofs.Locating.{Located, line_on, locate}
+use Rattle.tsp_safe.proofs.Locating.{line_on, locate}
 use Rattle.tsp_safe.proofs.MeasuredProof.{sample_fits}
 use Rattle.tsp_safe.proofs.OwnFitsProof.{fits_at}
-use Rattle.tsp_safe.proofs.RoundPlaces.{ExchangeAt, exchange_at}
+use Rattle.tsp_safe.proofs.RoundPlaces.{exchange_at}
 
 trip_at : (setting : Setting) (l : Line) (world : List Line) → Fits setting (l ∷ world) → TripAt setting l world
 trip_at setting l world f p counter diff err number is =

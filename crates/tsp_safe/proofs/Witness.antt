@@ -1,7 +1,6 @@
 -- A history of ordinary use that fits: two nodes boot, one leads, the other follows, is set by a SETTIME and acknowledges it; then comes a whole round.
-use Rattle.std.specs.Prelude.{◌≡◌, ◌≢◌, ◌==◌, ◌||◌, ◌≤◌, ◌<◌, Bool, true, false, ℕ, ◌+◌, ℤ, pos, negsuc, List, [], ◌∷◌, Option, Some, None, refl}
-use Rattle.std.proofs.Common.{sym, ap, arith, subst, subst₂, inl, inr, true≢false, ◌∙◌}
-use Rattle.tsp_base.specs.declared.act.Act.{Act}
+use Rattle.std.specs.Prelude.{◌≡◌, ◌==◌, ◌||◌, ◌≤◌, Bool, true, false, ℕ, ◌+◌, pos, negsuc, List, [], ◌∷◌, Some, None, refl}
+use Rattle.std.proofs.Common.{sym, ap, arith, subst, inl, inr, true≢false, ◌∙◌}
 use Rattle.tsp_base.specs.declared.act.Act.TheVariants.{Boot, Took, Post, Become, Arm, Ring, Acked, Sample, Close, Correct, Quit, Back}
 use Rattle.tsp_base.specs.declared.alarm.Alarm.TheVariants.{Round, Close as AlarmClose}
 use Rattle.tsp_base.specs.declared.datagram.Datagram.{Datagram}
@@ -18,12 +17,12 @@ use Rattle.tsp_base.specs.declared.place.Place.TheVariants.{Peer}
 use Rattle.tsp_base.specs.declared.place.Port.{Port}
 use Rattle.tsp_base.specs.declared.role.Role.TheVariants.{Follow, Master, Candidate}
 use Rattle.tsp_base.specs.declared.stamp.Stamp.TheVariants.{Request, Reply}
-use Rattle.tsp_base.specs.AckFits.{Acknowledges, AckedFits}
+use Rattle.tsp_base.specs.AckFits.{AckedFits}
 use Rattle.tsp_base.specs.CorrectFits.{ByMaster, ByRound}
 use Rattle.tsp_base.specs.DeedFits.{DeedFits}
 use Rattle.tsp_base.specs.Everywhere.{Everywhere}
-use Rattle.tsp_base.specs.Fits.{Fits, LineFits, Posted, TookFits, node_of}
-use Rattle.tsp_base.specs.History.{Cause, Booted, Turned, Came, Handed, Step, Deed, Begins, Acts, Did, Line, Seen, Here, of, dids, view, seen_as, is_shared}
+use Rattle.tsp_base.specs.Fits.{Fits, Posted, node_of}
+use Rattle.tsp_base.specs.History.{Cause, Booted, Turned, Came, Deed, Begins, Acts, Did, Line, Seen, Here, of, dids, view, seen_as, is_shared}
 use Rattle.tsp_base.specs.Messages.{MessageValue}
 use Rattle.tsp_base.specs.Places.{Within}
 use Rattle.tsp_base.specs.Setting.{Setting}

@@ -1,33 +1,20 @@
 -- The history of ordinary use keeps every premise.
-use Rattle.std.specs.Prelude.{◌≡◌, ◌≢◌, ◌==◌, ◌||◌, ◌≤◌, ◌<◌, Bool, true, false, ℕ, ◌+◌, ℤ, pos, negsuc, List, [], ◌∷◌, Option, Some, None, refl}
-use Rattle.std.proofs.Common.{sym, ap, arith, subst, subst₂, inl, inr, true≢false, ◌∙◌}
-use Rattle.tsp_base.specs.declared.act.Act.{Act}
-use Rattle.tsp_base.specs.declared.act.Act.TheVariants.{Boot, Took, Post, Become, Arm, Ring, Acked, Sample, Close, Correct, Quit}
+use Rattle.std.specs.Prelude.{◌≡◌, ◌==◌, ◌≤◌, Bool, true, false, ℕ, ◌+◌, ℤ, pos, negsuc, List, [], ◌∷◌, refl}
+use Rattle.std.proofs.Common.{sym, arith, subst, inl, inr, ◌∙◌}
+use Rattle.tsp_base.specs.declared.act.Act.TheVariants.{Boot, Took, Post, Become, Arm, Ring, Acked, Sample, Close, Correct}
 use Rattle.tsp_base.specs.declared.alarm.Alarm.TheVariants.{Round, Close as AlarmClose}
 use Rattle.tsp_base.specs.declared.datagram.Datagram.{Datagram}
 use Rattle.tsp_base.specs.declared.datagram.Datagram.TheVariants.{Message, Stamp}
-use Rattle.tsp_base.specs.declared.datagram.Taken.{Taken}
 use Rattle.tsp_base.specs.declared.datagram.Taken.TheVariants.{Good}
-use Rattle.tsp_base.specs.declared.kind.Kind.{Kind}
 use Rattle.tsp_base.specs.declared.kind.Kind.TheVariants.{AdjTime, SetTime, SlaveUp, Ack}
-use Rattle.tsp_base.specs.declared.message.Body.{Body}
 use Rattle.tsp_base.specs.declared.message.Body.TheVariants.{Nothing, Time}
-use Rattle.tsp_base.specs.declared.place.PeerId.{PeerId}
 use Rattle.tsp_base.specs.declared.place.Place.{Place}
 use Rattle.tsp_base.specs.declared.place.Place.TheVariants.{Peer}
-use Rattle.tsp_base.specs.declared.place.Port.{Port}
-use Rattle.tsp_base.specs.declared.role.Role.TheVariants.{Follow, Master, Candidate}
+use Rattle.tsp_base.specs.declared.role.Role.TheVariants.{Follow, Master}
 use Rattle.tsp_base.specs.declared.stamp.Stamp.TheVariants.{Request, Reply}
-use Rattle.tsp_base.specs.AckFits.{Acknowledges}
-use Rattle.tsp_base.specs.CorrectFits.{ByMaster, ByRound}
-use Rattle.tsp_base.specs.DeedFits.{DeedFits}
 use Rattle.tsp_base.specs.Everywhere.{Everywhere}
-use Rattle.tsp_base.specs.Fits.{Fits, LineFits, Posted, TookFits}
-use Rattle.tsp_base.specs.History.{Cause, Booted, Turned, Came, Handed, Step, Deed, Begins, Acts, Did, Line, Seen, Here, of, dids, view, seen_as, is_shared}
-use Rattle.tsp_base.specs.Messages.{MessageValue}
+use Rattle.tsp_base.specs.History.{Cause, Booted, Turned, Came, Handed, Deed, Begins, Acts, Line, of, dids, view}
 use Rattle.tsp_base.specs.Places.{Within}
-use Rattle.tsp_base.specs.Setting.{Setting}
-use Rattle.tsp_base.specs.StepFacts.{StepEnds, owes, is_unbacked}
 use Rattle.tsp_base.specs.Takings.{peer_of, posted}
 use Rattle.tsp_base.specs.declared.constants.TheConstants.{LIFE}
 use Rattle.tsp_base.specs.Agreed.{Cast}
@@ -229,11 +216,12 @@ life41 = (life-came (line 408000700 0 (Came 6) (Acts (Acked (peer_of 1)))) w40 6
 words : Words w41
 words = (not-boot (line 408000700 0 (Came 6) (Acts (Acked (peer_of 1)))) w40 tt, (not-boot (line 408000700 0 (Came 6) (Acts (Took (Peer (peer_of 1)) (Good (Message (msg Ack 10 Nothing)))))) w39 tt, (not-boot (line 408000700 0 (Came 6) Begins) w38 tt, (not-boot (line 408000400 1 (Came 5) (Acts (Post (Peer (peer_of 0)) (Message (msg Ack 10 Nothing))))) w37 tt, (not-boot (line 408000400 1 (Came 5) (Acts (Correct (pos 1) false (pos 408000498)))) w36 tt, (not-boot (line 408000400 1 (Came 5) (Acts (Took (Peer (peer_of 0)) (Good (Message (msg AdjTime 10 (Time (pos 1)))))))) w35 tt, (not-boot (line 408000400 1 (Came 5) Begins) w34 tt, (not-boot (line 408000000 0 Turned (Acts (Post (Peer (peer_of 1)) (Message (msg AdjTime 10 (Time (pos 1))))))) w33 tt, (not-boot (line 408000000 0 Turned (Acts (Correct (negsuc 0) false (pos 408000000)))) w32 tt, (not-boot (line 408000000 0 Turned (Acts (Close 2 (negsuc 1) (pos 2) (negsuc 0)))) w31 tt, (not-boot (line 408000000 0 Turned (Acts (Ring AlarmClose))) w30 tt, (not-boot (line 408000000 0 Turned Begins) w29 tt, (not-boot (line 400000801 0 (Came 4) (Acts (Sample (peer_of 1) 0 (negsuc 1) (pos 401) 10))) w28 tt, (not-boot (line 400000801 0 (Came 4) (Acts (Took (Peer (peer_of 1)) (Good (Stamp (Reply (record { ticket = 10; word = 7; counter = 0; reading = pos 400000398 }))))))) w27 tt, (not-boot (line 400000801 0 (Came 4) Begins) w26 tt, (not-boot (line 400000300 1 (Came 3) (Acts (Post (Peer (peer_of 0)) (Stamp (Reply (record { ticket = 10; word = 7; counter = 0; reading = pos 400000398 })))))) w25 tt, (not-boot (line 400000300 1 (Came 3) (Acts (Took (Peer (peer_of 0)) (Good (Stamp (Request 7 0)))))) w24 tt, (not-boot (line 400000300 1 (Came 3) Begins) w23 tt, (not-boot (line 400000000 0 Turned (Acts (Post (Peer (peer_of 1)) (Stamp (Request 7 0))))) w22 tt, (not-boot (line 400000000 0 Turned (Acts (Arm AlarmClose 408000000))) w21 tt, (not-boot (line 400000000 0 Turned (Acts (Ring Round))) w20 tt, (not-boot (line 400000000 0 Turned Begins) w19 tt, (not-boot (line 300000003 0 (Came 2) (Acts (Acked (peer_of 1)))) w18 tt, (not-boot (line 300000003 0 (Came 2) (Acts (Took (Peer (peer_of 1)) (Good (Message (msg Ack 9 Nothing)))))) w17 tt, (not-boot (line 300000003 0 (Came 2) Begins) w16 tt, (not-boot (line 300000002 1 (Came 1) (Acts (Post (Peer (peer_of 0)) (Message (msg Ack 9 Nothing))))) w15 tt, (not-boot (line 300000002 1 (Came 1) (Acts (Correct (pos 98) true (pos 300000100)))) w14 tt, (not-boot (line 300000002 1 (Came 1) (Acts (Took (Peer (peer_of 0)) (Good (Message (msg SetTime 9 (Time (pos 300000100)))))))) w13 tt, (not-boot (line 300000002 1 (Came 1) Begins) w12 tt, (not-boot (line 300000001 0 (Came 0) (Acts (Post (Peer (peer_of 1)) (Message (msg SetTime 9 (Time (pos 300000100))))))) w11 tt, (not-boot (line 300000001 0 (Came 0) (Acts (Took (Peer (peer_of 1)) (Good (Message (msg SlaveUp 9 Nothing)))))) w10 tt, (not-boot (line 300000001 0 (Came 0) Begins) w9 tt, (not-boot (line 300000000 1 Turned (Acts (Post (Peer (peer_of 0)) (Message (msg SlaveUp 9 Nothing))))) w8 tt, (not-boot (line 300000000 1 Turned (Acts (Become (Follow (peer_of 0))))) w7 tt, (not-boot (line 300000000 1 Turned Begins) w6 tt, (not-boot (line 300000000 0 Turned (Acts (Become Master))) w5 tt, (not-boot (line 300000000 0 Turned Begins) w4 tt, (second-boot, (not-boot (line 0 1 (Booted 9 (pos 0)) Begins) w2 tt, (first-boot, (not-boot (line 0 0 (Booted 7 (pos 0)) Begins) [] tt, tt)))))))))))))))))))))))))))))))))))))))))
 
-cast : Cast 0 (line 408000000 0 Turned (Acts (Close 2 (negsuc 1) (pos 2) (negsuc 0)))) w31 (negsuc 0) (line 408000400 1 (Came 5) (Acts (Correct (pos 1) false (pos 408000498)))) w36 (line 400000300 1 (Came 3) (Acts (Post (Peer (peer_of 0)) (Stamp (Reply (record { ticket = 10; word = 7; counter = 0; reading = pos 400000398 })))))) w25 (pos 401)
-cast = record {
+-- the Correct that takes the ADJTIME of the Close, by whatever amount
+pub cast-of : (amount : ℤ) (stepped : Bool) (shown : ℤ) → Cast 0 (line 408000000 0 Turned (Acts (Close 2 (negsuc 1) (pos 2) (negsuc 0)))) w31 (negsuc 0) (line 408000400 1 (Came 5) (Acts (Correct amount stepped shown))) w36 (line 400000300 1 (Came 3) (Acts (Post (Peer (peer_of 0)) (Stamp (Reply (record { ticket = 10; word = 7; counter = 0; reading = pos 400000398 })))))) w25 (pos 401)
+cast-of amount stepped shown = record {
   post = line 408000000 0 Turned (Acts (Post (Peer (peer_of 1)) (Message (msg AdjTime 10 (Time (pos 1))))));
   before = w33;
-  acts = record { amount = pos 1; stepped = false; shown = pos 408000498; correct = refl; place = (inr (inr (inl refl))); datagram = refl; message = (msg AdjTime 10 (Time (pos 1))); deed = refl; took = refl };
+  acts = record { amount = amount; stepped = stepped; shown = shown; correct = refl; place = (inr (inr (inl refl))); datagram = refl; message = (msg AdjTime 10 (Time (pos 1))); deed = refl; took = refl };
   kind = refl;
   node = refl;
   first = did 408000000 0 Turned (Acts (Post (Peer (peer_of 1)) (Message (msg AdjTime 10 (Time (pos 1))))));
@@ -262,7 +250,7 @@ closes = record {
   reading = line 400000300 1 (Came 3) (Acts (Post (Peer (peer_of 0)) (Stamp (Reply (record { ticket = 10; word = 7; counter = 0; reading = pos 400000398 })))));
   older = w25;
   err = pos 401;
-  cast = cast;
+  cast = cast-of (pos 1) false (pos 408000498);
   unchanged = record { within = (inr (inr (inr (inr (inl refl))))); since = record { corrects = refl; lives = refl } };
   unchanged_but = record { lives = refl; corrects = inr (record { next = line 408000000 0 Turned (Acts (Correct (negsuc 0) false (pos 408000000))); amount = negsuc 0; stepped = false; shown = pos 408000000; place = (inr (inr (inr (inr (inr (inr (inr (inr (inl refl))))))))); node = refl; deed = refl; corrects = refl }) };
 }

@@ -17,6 +17,7 @@ ghost use Rattle.tsp_base.specs.Resolved.{StaysQuiet, StopsLeading, Yields};
 ghost use Rattle.tsp_base.specs.Safe.{Safe};
 ghost use Rattle.tsp_base.specs.Setting.{Setting};
 ghost use Rattle.tsp_base.specs.Ticks.{tick_at, width};
+ghost use Rattle.tsp_safe.specs.Broken.{AllBreak};
 ghost use Rattle.tsp_safe.specs.OrdinaryUse.{OrdinaryUse};
 
 /// All promises of a history that ends with a step, each under the premises that it needs.
@@ -95,6 +96,11 @@ pub fn resolved_stops()
 /// take a SETTIME and acknowledge it, and a whole round.
 pub fn ordinary_use()
     ensures { OrdinaryUse }
+{}
+
+/// Each promise says something: a small history breaks it.
+pub fn promises_can_be_broken()
+    ensures { AllBreak }
 {}
 
 /// Over some span of true time a tick counter advances by that span, give or take the width.
