@@ -5,7 +5,7 @@ use Rattle.tsp_base.specs.declared.act.Act.TheVariants.{Post, Become, Back, Samp
 use Rattle.tsp_base.specs.declared.datagram.Datagram.{Datagram}
 use Rattle.tsp_base.specs.declared.datagram.Datagram.TheVariants.{Message, Stamp}
 use Rattle.tsp_base.specs.declared.kind.Kind.{Kind}
-use Rattle.tsp_base.specs.declared.kind.Kind.TheVariants.{AdjTime, Ack, SetTime, SlaveUp, Election, Accept, Conflict, Quit, Date, DateReq, TraceOn, TraceOff, Msite, MsiteReq, Test, SetDate}
+use Rattle.tsp_base.specs.declared.kind.Kind.TheVariants.{AdjTime, Ack, SetTime, SlaveUp, Election, Accept, Conflict, Quit, TraceOn, TraceOff, Msite, MsiteReq, Test}
 use Rattle.tsp_base.specs.declared.place.PeerId.{PeerId}
 use Rattle.tsp_base.specs.declared.place.Place.{Place}
 use Rattle.tsp_base.specs.declared.place.Place.TheVariants.{Peer, Stranger}
@@ -27,12 +27,12 @@ pub record NumberedFits (here : Did) (before : List Seen) (p : PeerId) (m : Mess
   pub number : 32768 ≤ m.number
   pub repeats : acting before ≡ false → RepeatFits here before p m
 
--- a candidate asks for votes only when it has backed itself
+-- a candidate asks for votes only when it has backed itself; its number and its repeats are for strict elections
 pub record ElectionFits (here : Did) (before : List Seen) (p : PeerId) (m : MessageValue) : Type 0 where
   pub numbered : NumberedFits here before p m
   pub backs : is_unbacked before ≡ false
 
--- what the post of a message to a peer owes, by its kind; the kinds of the control program are never posted
+-- what the post of a message to a peer owes, by its kind; what a node acknowledges to anybody it never posts
 abbrev pub MessageFits : Kind → Did → List Seen → PeerId → MessageValue → Type 0
 MessageFits AdjTime here before p m = CorrectionFits here before p m
 MessageFits SetTime here before p m = CorrectionFits here before p m
@@ -42,14 +42,11 @@ MessageFits Accept here before p m = backed before ≡ Some p
 MessageFits Election here before p m = ElectionFits here before p m
 MessageFits Conflict here before p m = NumberedFits here before p m
 MessageFits Quit here before p m = NumberedFits here before p m
-MessageFits Date here before p m = ⊥
-MessageFits DateReq here before p m = ⊥
 MessageFits TraceOn here before p m = ⊥
 MessageFits TraceOff here before p m = ⊥
 MessageFits Msite here before p m = ⊥
 MessageFits MsiteReq here before p m = ⊥
 MessageFits Test here before p m = ⊥
-MessageFits SetDate here before p m = ⊥
 MessageFits _ here before p m = Unit {0}
 
 -- what a post owes; strangers get acknowledgments and stamps alone

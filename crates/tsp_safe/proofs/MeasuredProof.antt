@@ -263,9 +263,9 @@ reading_at setting l world p counter number diff err f h words is s =
     let g : ReplyFits r.post.did (view r.post.port (of (node_of r.post) r.older)) (peer_of n) s.reply = deed_fits setting r.post r.older (Acts (Post (Peer (peer_of n)) (Stamp (Reply s.reply)))) r.deed fr.0 in
     let q = known setting r.post r.older (Post (Peer (peer_of n)) (Stamp (Reply s.reply))) (peer_of n) (Stamp (Request s.reply.word s.reply.counter)) fr hr r.deed g.took in
     let q_node : node_of q.post ≡ n = number-same (node_of q.post) n q.node in
-    let net : setting.net n q.post.port ≡ setting.net n l.port = subst (λ k. setting.net k q.post.port ≡ setting.net n l.port) q_node (◌∙◌ {a = setting.net (node_of q.post) q.post.port} q.net r.net) in
+    let net : setting.net n q.post.port ≡ setting.net n l.port = subst (λ k. setting.net k q.post.port ≡ setting.net n l.port) {x = node_of q.post} q_node (◌∙◌ {a = setting.net (node_of q.post) q.post.port} q.net r.net) in
     let l_up : up (dids (of n world)) ≡ true = subst (λ k. Alive setting k l.did (up (dids (of n world)))) is f.0.alive in
-    subst (λ k. Reading setting l world k diff err s.start s.idle s.reply) (ap (λ (z : PeerId). z.0) r.node)
+    subst (λ k. Reading setting l world k diff err s.start s.idle s.reply) {x = node_of r.post} (ap (λ (z : PeerId). z.0) r.node)
     (reading-q setting l r.post q.post world r.older q.older p counter number diff err f words s l_up r.place r.deed r.takes g q.place q.deed q_node (setting.apart n q.post.port l.port net))
 
 -- the reading is the post that the step takes

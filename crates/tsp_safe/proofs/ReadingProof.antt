@@ -24,7 +24,7 @@ use Rattle.tsp_safe.proofs.Locating.{line_on, locate}
 use Rattle.tsp_safe.proofs.Matching.{Kept, kept_from}
 use Rattle.tsp_safe.proofs.MeasuredProof.{Reading, first-now, reading_at, reading_is, sample_fits}
 use Rattle.tsp_safe.proofs.OwnFitsProof.{own_fits, fits_at}
-use Rattle.tsp_safe.proofs.RoundPlaces.{started_at}
+use Rattle.tsp_safe.proofs.RoundPlaces.{started_at, same-start}
 use Rattle.tsp_safe.proofs.SinceProof.{since}
 
 -- from the round's best sample to its Close the node is left alone
@@ -79,7 +79,6 @@ read_at setting m k q l r before cpast older sample start idle to datagram f h w
     let x = reading_at setting l before (peer_of k) sample.counter sample.ticket sample.diff sample.err f h w deed s in
     let same = reading_is setting l before k sample.diff sample.err s.start s.idle s.reply r older to datagram x r_in r_deed takes in
     let mine : started (view q (of m before)) ≡ Here s.start ∷ s.idle = subst₂ (λ n p. started (view p (of n before)) ≡ Here s.start ∷ s.idle) l_node l_port s.start_is in
-    let starts : Here s.start ∷ s.idle ≡ Here start ∷ idle = sym mine ∙ (ap started (sym rest_is) ∙ (b.round ∙ start_is)) in
-    let start_same : s.start ≡ start = cc in
+    let start_same = same-start s.start start s.idle idle (view q (of m before)) b.rest (view q (of m cpast)) mine rest_is b.round start_is in
     read-with setting m k q l r before cpast older sample start s.start idle s.idle s.reply to datagram l_node
     (kept-to-close setting m q cpast before (peer_of k) sample start idle fc b rest_is start_is u) s.number_is start_same x same

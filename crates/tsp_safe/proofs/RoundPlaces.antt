@@ -83,3 +83,9 @@ pub exchange_at : (p : PeerId) (c : ℕ) (seen : List Seen) (post : Did) (older 
 exchange_at p c [] post older e = not-nil (Here post) older e
 exchange_at p c (Elsewhere d ∷ before) post older e = let o = exchange_at p c before post older e in record { place = inr o.place; word = o.word; deed = o.deed; after = o.after }
 exchange_at p c (Here d ∷ before) post older e = exchange-deed p c d before post older d.deed refl (λ k. exchange_at p c before post older k) e
+
+-- two pasts of one round have one beginning of it
+pub same-start : (s start : Did) (i idle seen rest past : List Seen) → started seen ≡ Here s ∷ i → rest ≡ seen → started rest ≡ started past → started past ≡ Here start ∷ idle → s ≡ start
+same-start s start i idle seen rest past mine is round theirs =
+    let starts : Here s ∷ i ≡ Here start ∷ idle = sym mine ∙ (ap started (sym is) ∙ (round ∙ theirs)) in
+    cc

@@ -28,6 +28,7 @@ use Rattle.tsp_safe.proofs.KnownProof.{known}
 use Rattle.tsp_safe.proofs.Locating.{line_on, locate}
 use Rattle.tsp_safe.proofs.MeasuredProof.{Reading, reading_at, sample_fits}
 use Rattle.tsp_safe.proofs.PortFits.{deed_fits}
+use Rattle.tsp_safe.proofs.RoundPlaces.{same-start}
 use Rattle.tsp_safe.proofs.SendPlaces.{CorrectsTo, post_fits}
 
 -- k posted its ticket at most 30 s before the correction f began with it
@@ -99,8 +100,7 @@ from-close setting m k q f fw mf g f_node a =
     let sf = sample_fits setting (line_on q b.did) s.older (peer_of k) a.sample.counter a.sample.ticket a.sample.diff a.sample.err gs.fits.0 b.deed in
     let x = reading_at setting (line_on q b.did) s.older (peer_of k) a.sample.counter a.sample.ticket a.sample.diff a.sample.err gs.fits gs.honest gs.words b.deed sf in
     let mine : started (view q (of m s.older)) ≡ Here sf.start ∷ sf.idle = subst (λ n. started (view q (of n s.older)) ≡ Here sf.start ∷ sf.idle) s.node sf.start_is in
-    let starts : Here sf.start ∷ sf.idle ≡ Here u.start ∷ u.idle = sym mine ∙ (ap started s.before ∙ (b.round ∙ u.start_is)) in
-    let same : sf.start ≡ u.start = cc in
+    let same = same-start sf.start u.start sf.idle u.idle (view q (of m s.older)) b.rest a.past mine (sym s.before) b.round u.start_is in
     from-reading setting m k q f a.close b.did u.start sf.start fw c.older s.older u.idle sf.idle a.sample mf.number sf.reply gf.fits c.place c.node (ap started c.before ∙ u.start_is) u.soon u.at same u.number sf.number_is s.place x
 
 pub source : (setting : Setting) (m k : ℕ) (q : Port) (f : Did) (fw : List Line) (mf : MessageValue) → Given setting (line_on q f ∷ fw) → f.step.node ≡ m → CorrectsTo (peer_of k) mf f (view q (of m fw)) → Source k f fw mf.number
