@@ -42,5 +42,6 @@ pub mod SpacedProof
 pub mod StopsProof
 pub mod TripProof
 pub mod Witness
+pub mod WitnessRivals
 pub mod WitnessUse
 pub mod WordsProof

@@ -171,14 +171,14 @@ w40 = line 408000700 0 (Came 6) (Acts (Took (Peer (peer_of 1)) (Good (Message (m
 abbrev pub w41 : List Line
 w41 = line 408000700 0 (Came 6) (Acts (Acked (peer_of 1))) ∷ w40
 
-none-some : {A B : Type 0} (x : A) → None ≡ Some x → B
+pub none-some : {A B : Type 0} (x : A) → None ≡ Some x → B
 none-some x e = let bad : ⊥ = cc in absurd bad
 
 some-same : (x y : ℕ) → Some x ≡ Some y → x ≡ y
 some-same x y e = cc
 
 -- a deed on port 0 owes what it owes there
-here : (P : Port → Type 0) → P port0 → (q : Port) → ((0 == q.0) || false) ≡ true → P q
+pub here : (P : Port → Type 0) → P port0 → (q : Port) → ((0 == q.0) || false) ≡ true → P q
 here P p q e = subst P (port-same port0 q (or-false (0 == q.0) false e refl)) p
 
 -- deeds that owe nothing at a step's end
@@ -189,11 +189,11 @@ Calm (Acts (Become Candidate)) = ⊥
 Calm _ = Unit {0}
 
 -- nothing is owed at a step's end
-record Free (seen : List Seen) : Type 0 where
+pub record Free (seen : List Seen) : Type 0 where
   pub unbacked : is_unbacked seen ≡ false
   pub none : owes seen ≡ None
 
-calm-deed : (b : Bool) (d : Did) (seen : List Seen) (deed : Deed) → deed ≡ d.deed → Calm deed → Free seen → Free (seen_as b d ∷ seen)
+pub calm-deed : (b : Bool) (d : Did) (seen : List Seen) (deed : Deed) → deed ≡ d.deed → Calm deed → Free seen → Free (seen_as b d ∷ seen)
 calm-deed false d seen deed is c h = record { unbacked = h.unbacked; none = h.none }
 calm-deed true d seen Begins is c h = record { unbacked = subst (λ k. is_unbacked_after k d.step.node (is_unbacked seen) ≡ false) is refl; none = subst (λ k. owes_after k (role seen) (owes seen) ≡ None) is refl }
 calm-deed true d seen (Acts (Quit p)) is c h = absurd c
@@ -212,13 +212,13 @@ abbrev NotTook : Deed → Type 0
 NotTook (Acts (Took from taken)) = ⊥
 NotTook _ = Unit {0}
 
-no-took : {B : Type 0} (deed : Deed) → NotTook deed → (from : Place) (taken : Taken) → deed ≡ Acts (Took from taken) → B
+pub no-took : {B : Type 0} (deed : Deed) → NotTook deed → (from : Place) (taken : Taken) → deed ≡ Acts (Took from taken) → B
 no-took deed n from taken e = absurd (subst (λ k. NotTook k) e n)
 
 same-took : (p : PeerId) (d : Datagram) (from : Place) (taken : Taken) → Acts (Took (Peer p) (Good d)) ≡ Acts (Took from taken) → (Peer p ≡ from) × (Good d ≡ taken)
 same-took p d from taken e = (cc, cc)
 
-took-posted : (l : Line) (world older : List Line) (k : ℕ) (post : Line) (p : PeerId) (d : Datagram) (from : Place) (taken : Taken) → Acts (Took (Peer p) (Good d)) ≡ Acts (Took from taken) → Within (post ∷ older) world → posted (dids older) ≡ k →
+pub took-posted : (l : Line) (world older : List Line) (k : ℕ) (post : Line) (p : PeerId) (d : Datagram) (from : Place) (taken : Taken) → Acts (Took (Peer p) (Good d)) ≡ Acts (Took from taken) → Within (post ∷ older) world → posted (dids older) ≡ k →
     post.did.deed ≡ Acts (Post (Peer (peer_of (node_of l))) d) → post.port.0 ≡ l.port.0 → p ≡ peer_of (node_of post) → Posted still l world k from taken
 took-posted l world older k post p d from taken e place number deed net node =
     let s = same-took p d from taken e in

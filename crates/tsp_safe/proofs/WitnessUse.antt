@@ -43,13 +43,13 @@ abbrev NotCame : Cause → Type 0
 NotCame (Came k) = ⊥
 NotCame _ = Unit {0}
 
-not-came : (l : Line) (world : List Line) → NotCame l.did.step.cause → TakenWithinAt LIFE l world
+pub not-came : (l : Line) (world : List Line) → NotCame l.did.step.cause → TakenWithinAt LIFE l world
 not-came l world n post older to datagram w deed e = absurd (subst (λ k. NotCame k) e n)
 
 same-number : (j k : ℕ) → Came j ≡ Came k → j ≡ k
 same-number j k e = cc
 
-life-came : (l : Line) (world : List Line) (k : ℕ) (sent : Line) (before : List Line) (whom : Place) (what : Datagram) → Within (sent ∷ before) world → sent.did.deed ≡ Acts (Post whom what) → posted (dids before) ≡ k → l.did.step.cause ≡ Came k →
+pub life-came : (l : Line) (world : List Line) (k : ℕ) (sent : Line) (before : List Line) (whom : Place) (what : Datagram) → Within (sent ∷ before) world → sent.did.deed ≡ Acts (Post whom what) → posted (dids before) ≡ k → l.did.step.cause ≡ Came k →
     l.did.step.at ≤ sent.did.step.at + LIFE → TakenWithinAt LIFE l world
 life-came l world k sent before whom what place deed number cause soon post older to datagram w post_deed e =
     let n : posted (dids before) ≡ posted (dids older) = number ∙ same-number k (posted (dids older)) (sym cause ∙ e) in

@@ -1,4 +1,5 @@
 pub mod Broken
 pub mod OrdinaryUse
 pub mod OwnFits
+pub mod RivalsMeet
 pub mod Since

@@ -19,6 +19,7 @@ ghost use Rattle.tsp_base.specs.Setting.{Setting};
 ghost use Rattle.tsp_base.specs.Ticks.{tick_at, width};
 ghost use Rattle.tsp_safe.specs.Broken.{AllBreak};
 ghost use Rattle.tsp_safe.specs.OrdinaryUse.{OrdinaryUse};
+ghost use Rattle.tsp_safe.specs.RivalsMeet.{RivalsMeet};
 
 /// All promises of a history that ends with a step, each under the premises that it needs.
 pub fn safe()
@@ -96,6 +97,12 @@ pub fn resolved_stops()
 /// take a SETTIME and acknowledge it, and a whole round.
 pub fn ordinary_use()
     ensures { OrdinaryUse }
+{}
+
+/// Nor are the promises of backings and of resolutions empty: a history that fits sees a node back two candidates, and
+/// a rival take the QUIT of a resolution.
+pub fn rivals_meet()
+    ensures { RivalsMeet }
 {}
 
 /// Each promise says something: a small history breaks it.
