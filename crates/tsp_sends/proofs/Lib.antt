@@ -1,2 +1,5 @@
 pub mod PlaceLemmas
+pub mod SearchLemmas
+pub mod SendsLemmas
+pub mod SlotLemmas
 pub mod TreeLemmas

@@ -1,2 +1,4 @@
 pub mod Deadlines
+pub mod Slots
+pub mod Treating
 pub mod Trees

@@ -1,0 +1,18 @@
+use Rattle.std.proofs.Common.{◌≡◌, ◌<◌, arith, length, ap, ◌∙◌, None}
+use Rattle.std.proofs.lemmas.List.{length-map}
+use Rattle.tsp_sends.specs.declared.slot.Slot.{Slot}
+use Rattle.tsp_sends.specs.Slots.{peers_of}
+use Rattle.tsp_sends.proofs.SendsLemmas.{peers_of-fill, none_in_empty, empty_more, length-fill}
+use Rattle.tsp_sends.proofs.sends.Sends.clear.Goals as goal
+
+pub loop-place-preserved : goal.loop-place-preserved
+loop-place-preserved c =
+    let inside : c.loop-place.place < length c.loop-place.self = omega (arith, c.loop-place-test.true, c.len-place-end.ensures, ap length c.self.view_is, c.loop-place.invariant.many) in
+    record {
+      peers = peers_of-fill c.loop-place.self c.fill.new.self c.loop-place.place None c.fill.ensures ∙ c.loop-place.invariant.peers;
+      many = length-fill c.loop-place.self c.fill.new.self c.loop-place.place None c.fill.ensures ∙ c.loop-place.invariant.many;
+      empty = empty_more c.loop-place.self c.fill.new.self c.loop-place.place inside c.fill.ensures c.loop-place.invariant.empty;
+    }
+
+pub returns-clause-sends : goal.returns-clause-sends
+returns-clause-sends c = λ p. none_in_empty c.loop-place.self p (λ k d h. c.loop-place.invariant.empty k d (omega (arith, c.loop-place-test.false, c.len-place-end.ensures, ap length c.self.view_is, c.loop-place.invariant.many)) h)

@@ -1,0 +1,14 @@
+use Rattle.std.proofs.Common.{◌≡◌, map, ap}
+use Rattle.tsp_sends.specs.Slots.{peers_of, empty_slot, sending_to}
+use Rattle.tsp_sends.specs.Trees.{TreeValue}
+use Rattle.tsp_sends.proofs.SendsLemmas.{IsSends-empty, peers_of-empty, sending_to-empty}
+use Rattle.tsp_sends.proofs.sends.Sends.new.Goals as goal
+
+pub invariant_of-result : goal.invariant_of-result
+invariant_of-result c = IsSends-empty c.args.peers.now _ _ c.requires c.in_ok-slots.ensures (ap (λ (t : TreeValue). t.deadlines) c.in_ok-tree.ensures)
+
+pub returns-clause-peers : goal.returns-clause-peers
+returns-clause-peers c = rw c.in_ok-slots.ensures (peers_of-empty c.args.peers.now)
+
+pub returns-clause-sends : goal.returns-clause-sends
+returns-clause-sends c = λ p. rw c.in_ok-slots.ensures (sending_to-empty c.args.peers.now p)

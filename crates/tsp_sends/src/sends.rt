@@ -1,0 +1,162 @@
+//! The open sends of a port.
+ghost use Rattle.std.specs.Prelude.{◌≡◌, ◌^◌, ◌≤◌, ◌<◌, length, map, slice_index_or, slice_set, true, MatchBool, IfOk};
+ghost use Rattle.std.specs.List.{Contains};
+ghost use Rattle.tsp_base.specs.declared.place.PeerId.{PeerId};
+ghost use Rattle.tsp_sends.specs.declared.slot.Slot.{Slot};
+ghost use Rattle.tsp_sends.specs.Slots.{IsAscending, peers_of, empty_slot, sending_to, kind_of, has_number, SetsOnly};
+ghost use Rattle.tsp_sends.specs.Treating.{TreatsNext, IsEarliest, IsPlaceOf, IsFirstAfter};
+
+use crate::due::Due;
+use crate::sending::Sending;
+use crate::slot::Slot;
+use crate::tree::Tree;
+use std::alloc::{AllocError, Global};
+use std::marker::Model;
+use tsp_base::kind::Kind;
+use tsp_base::message::Message;
+use tsp_base::place::PeerId;
+
+/// The open sends: one slot a peer, in the order of the peers.
+///
+/// A tree has the slots' deadlines, so that a due one is found without a look at each slot.
+#[derive(Drop)]
+pub struct Sends {
+    slots: Vec<Slot>,
+    tree: Tree,
+}
+
+impl Model for Sends {
+    ghost use Rattle.std.specs.Prelude.{List};
+    ghost use Rattle.tsp_sends.specs.declared.slot.Slot.{Slot};
+    ghost use Rattle.tsp_sends.specs.Slots.{IsSends};
+
+    ghost Value = { List Slot };
+
+    ghost view = { λ s. s.slots.items };
+
+    ghost invariant = { λ s. IsSends s.slots.items s.tree.deadlines };
+}
+
+impl Sends {
+    /// No open send to any of these peers.
+    ///
+    /// The answer is an error only where memory is wanting; no later call takes any.
+    pub fn new(alloc: Global, peers: &[PeerId]) -> Result<Sends, AllocError>
+        requires { IsAscending peers.now }
+        ensures peers { IfOk result (λ s. peers_of s ≡ peers.now) }
+        ensures sends { IfOk result (λ s. (p : PeerId) → sending_to s p ≡ None) }
+    {
+        let tree = Tree::new(alloc, peers.len())?;
+        let slots = empty_slots(alloc, peers)?;
+        Ok(Sends { slots, tree })
+    }
+
+    /// Begins a send to one of the peers at a tick, in place of the open one.
+    pub fn begin(&mut self, peer: PeerId, m: Message, tick: u64)
+        requires peer { Contains (peers_of self.old) peer }
+        requires tick { tick ≤ 2 ^ 61 }
+        ensures sends { SetsOnly peer (Some (record { began = tick; posts = 1; message = m })) self.old self.new }
+        ensures peers { peers_of self.new ≡ peers_of self.old }
+    {
+        if let Ok(place) = place_of(&self.slots, peer) {
+            self.fill(place, Some(Sending::begin(m, tick)));
+        }
+    }
+
+    /// The kind of the open send to a peer.
+    pub fn kind(&self, peer: PeerId) -> Option<Kind>
+        ensures { result ≡ kind_of (sending_to self.now peer) }
+    {
+        match place_of(&self.slots, peer) {
+            Ok(place) => self.slots[place].kind(),
+            Err(_) => None,
+        }
+    }
+
+    /// Ends the open send to a peer where its number is this one, and tells whether it is.
+    pub fn ack(&mut self, peer: PeerId, number: u16) -> bool
+        ensures ends { result ≡ has_number number (sending_to self.old peer) }
+        ensures sends { MatchBool result (SetsOnly peer None self.old self.new) (self.new ≡ self.old) }
+        ensures peers { peers_of self.new ≡ peers_of self.old }
+    {
+        let Ok(place) = place_of(&self.slots, peer) else {
+            return false;
+        };
+        let ends = self.slots[place].has_number(number);
+        if ends {
+            self.fill(place, None);
+        }
+        ends
+    }
+
+    /// Treats the send to the least peer above `after` that is due; None exactly where there is none.
+    pub fn due(&mut self, after: Option<PeerId>, tick: u64) -> Option<Due>
+        ensures sends { TreatsNext after tick self.old self.new result }
+        ensures peers { peers_of self.new ≡ peers_of self.old }
+    {
+        let from = place_after(&self.slots, after);
+        let place = self.tree.first_due(from, tick)?;
+        let slot = &mut self.slots[place];
+        let due = slot.treat(tick);
+        let at = slot.deadline();
+        self.tree.put(place, at);
+        due
+    }
+
+    /// The tick from which the first send is due; None exactly where no send is open.
+    pub fn least(&self) -> Option<u64>
+        ensures { IsEarliest self.now result }
+    {
+        self.tree.least()
+    }
+
+    /// Ends all open sends.
+    pub fn clear(&mut self)
+        ensures sends { (p : PeerId) → sending_to self.new p ≡ None }
+        ensures peers { peers_of self.new ≡ peers_of self.old }
+    {
+        for place in 0..self.slots.len() {
+            self.fill(place, None);
+        }
+    }
+
+    /// Gives a slot another send, or none.
+    fn fill(&mut self, place: usize, sending: Option<Sending>)
+        requires { place < length self.old }
+        ensures { (d : Slot) → self.new ≡ slice_set self.old place (record (slice_index_or self.old place d) { sending = sending }) }
+    {
+        let slot = &mut self.slots[place];
+        slot.sending = sending;
+        let at = slot.deadline();
+        self.tree.put(place, at);
+    }
+}
+
+/// A slot for each peer, without sends.
+fn empty_slots(alloc: Global, peers: &[PeerId]) -> Result<Vec<Slot>, AllocError>
+    ensures { IfOk result (λ v. v.items ≡ map empty_slot peers.now) }
+{
+    peers.iter().map(|peer| Slot::new(*peer)).collect(alloc)
+}
+
+/// The place of a peer's slot; an error is the place where it would be.
+fn place_of(slots: &[Slot], peer: PeerId) -> Result<usize, usize>
+    requires { IsAscending (peers_of slots.now) }
+    ensures { IsPlaceOf peer slots.now result }
+{
+    slots.binary_search_by_key(&peer.0, |slot| slot.peer.0)
+}
+
+/// The place of the first slot whose peer comes after this one.
+fn place_after(slots: &[Slot], after: Option<PeerId>) -> usize
+    requires { IsAscending (peers_of slots.now) }
+    ensures { IsFirstAfter after slots.now result }
+{
+    match after {
+        None => 0,
+        Some(peer) => match place_of(slots, peer) {
+            Ok(place) => place + 1,
+            Err(place) => place,
+        },
+    }
+}
