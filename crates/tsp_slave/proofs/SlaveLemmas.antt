@@ -1,6 +1,8 @@
 -- What acts of the station leave as it is: what is remembered, the clock, and what was taken.
-use Rattle.std.specs.Prelude.{◌≡◌, ℕ, Option, List}
+use Rattle.std.specs.Prelude.{◌≡◌, ℕ, ℤ, Bool, true, false, Option, Some, List, [], ◌∷◌, refl}
 use Rattle.std.proofs.Common.{sym, ◌∙◌, ap}
+use Rattle.std.proofs.lemmas.Bool.{false≢true}
+use Rattle.tsp_base.specs.declared.act.Act.{Act}
 use Rattle.tsp_base.specs.declared.act.Act.TheVariants.{Become, Correct}
 use Rattle.tsp_base.specs.declared.act.Placed.{Placed}
 use Rattle.tsp_base.specs.declared.alarm.Alarm.{Alarm}
@@ -12,17 +14,24 @@ use Rattle.tsp_base.specs.declared.place.Port.{Port}
 use Rattle.tsp_base.specs.declared.role.Role.TheVariants.{Follow}
 use Rattle.tsp_base.specs.History.{Past}
 use Rattle.tsp_base.specs.Performs.{Performs, Keeps}
-use Rattle.tsp_base.specs.PortFacts.{Received, name_in}
-use Rattle.tsp_base.specs.Rows.{puts, arms, posts, ◌followed_by◌}
+use Rattle.tsp_base.specs.PortFacts.{Received, said, name_in}
+use Rattle.tsp_base.specs.Rows.{grown, puts, arms, posts}
+use Rattle.tsp_base.specs.SendFacts.{Correcting, correcting_of}
 use Rattle.tsp_base.proofs.PerformsLemmas.{Keeps_reading, Keeps_then}
+use Rattle.tsp_rules.specs.ClockRows.{adjusts, sets}
 use Rattle.tsp_rules.specs.CommonRows.{arms_elect}
 use Rattle.tsp_rules.specs.SlaveRows.{confirms}
 use Rattle.tsp_rules.specs.Tests.{delay_at}
 use Rattle.tsp_acks.specs.declared.station.Station.{Station}
 use Rattle.tsp_acks.specs.Stands.{Stands}
 use Rattle.tsp_clock.specs.Clocks.{ClockValue}
+use Rattle.tsp_clock.specs.ClockStands.{ClockStands}
 use Rattle.tsp_slave.specs.Lasts.{LastValue}
 use Rattle.tsp_slave.specs.SlaveStands.{AlsoStands, SlaveStands}
+
+abbrev pub is_correct : Act → Bool
+is_correct (Correct amount stepped shown) = true
+is_correct _ = false
 
 pub AlsoStands_arms : (alarm : Alarm) (long : ℕ) → Keeps AlsoStands (arms alarm long)
 unfolding arms
@@ -73,4 +82,39 @@ follow_becomes p first last clock took e d = record {
       };
     };
   };
+}
+
+-- a correction by what a step took: the clock moves, and whose correction it was is remembered
+pub Stands_took : (act : Act) (x : ℕ) (past : Past) (station : Station) (first last : LastValue) (clock moved : ClockValue) (took : Option Received) (by : Correcting) →
+    is_correct act ≡ true → correcting_of (said took) ≡ Some by → last ≡ record first { tick = Some x; taken = Some by } →
+    SlaveStands past (station, (first, (clock, took))) → ClockStands (grown x past (act ∷ [])) moved → SlaveStands (grown x past (act ∷ [])) (station, (last, (moved, took)))
+Stands_took (Correct amount stepped shown) x past station first last clock moved took by i s e h m = record {
+  first = record { own = h.first.own; name = h.first.name; may = h.first.may; peers = h.first.peers; word = h.first.word; role = h.first.role; alarms = h.first.alarms; hold = h.first.hold };
+  second = record {
+    first = record {
+      tick_is = ap (λ l. l.tick) e;
+      taken_is = ap (λ l. l.taken) e ∙ sym s ∙ ap (λ t. correcting_of (said t)) (sym h.second.second.second);
+      name_is = ap (λ l. l.name) e ∙ h.second.first.name_is;
+    };
+    second = record { first = m; second = h.second.second.second };
+  };
+}
+Stands_took _ x past station first last clock moved took by i s e h m = absurd (false≢true i)
+
+pub Performs_adjusts : (amount : ℤ) {x : ℕ} {port : Port} (station : Station) (first last : LastValue) {clock moved : ClockValue} (took : Option Received) (by : Correcting) {old new : List Placed} →
+    correcting_of (said took) ≡ Some by → last ≡ record first { tick = Some x; taken = Some by } → Performs ClockStands ClockStands (adjusts amount) x port clock moved old new →
+    Performs SlaveStands SlaveStands (adjusts amount) x port (station, (first, (clock, took))) (station, (last, (moved, took))) old new
+unfolding adjusts
+Performs_adjusts amount {x = x} station first last {clock = clock} {moved = moved} took by s e d = record {
+  acts = λ past h. d.acts past h.second.second.first;
+  stands = λ past h. Stands_took _ x past station first last clock moved took by refl s e h (d.stands past h.second.second.first);
+}
+
+pub Performs_sets : (value : ℤ) {x : ℕ} {port : Port} (station : Station) (first last : LastValue) {clock moved : ClockValue} (took : Option Received) (by : Correcting) {old new : List Placed} →
+    correcting_of (said took) ≡ Some by → last ≡ record first { tick = Some x; taken = Some by } → Performs ClockStands ClockStands (sets value) x port clock moved old new →
+    Performs SlaveStands SlaveStands (sets value) x port (station, (first, (clock, took))) (station, (last, (moved, took))) old new
+unfolding sets
+Performs_sets value {x = x} station first last {clock = clock} {moved = moved} took by s e d = record {
+  acts = λ past h. d.acts past h.second.second.first;
+  stands = λ past h. Stands_took _ x past station first last clock moved took by refl s e h (d.stands past h.second.second.first);
 }

@@ -1,6 +1,6 @@
 -- What a port that is Loose or follows does with a message of a peer, as far as it is built: it follows masters and takes
 -- corrections. It doesn't yet report a conflict, back a candidate, or answer a QUIT or an ACK.
-use Rattle.std.specs.Prelude.{◌==◌, if◌then◌else◌}
+use Rattle.std.specs.Prelude.{◌==◌, Bool, false, if◌then◌else◌}
 use Rattle.tsp_base.specs.declared.alarm.Alarm.TheVariants.{Search}
 use Rattle.tsp_base.specs.declared.kind.Kind.{Kind}
 use Rattle.tsp_base.specs.declared.kind.Kind.TheVariants.{AdjTime, MasterAck, SetTime, MasterUp}
@@ -34,3 +34,8 @@ takes_kind_so_far p m _ = nothing
 
 unfoldable pub takes_so_far : PeerId → MessageValue → Row
 takes_so_far p m = takes_kind_so_far p m m.kind
+
+-- whether a role is to follow p
+abbrev pub is_master_of : PeerId → Role → Bool
+is_master_of p (Follow q) = q.0 == p.0
+is_master_of p _ = false

@@ -1,5 +1,5 @@
 -- The role and the name, the alarm, and the ticket.
-use Rattle.std.proofs.Common.{◌≡◌, sym, ◌∙◌, ap}
+use Rattle.std.proofs.Common.{sym, ◌∙◌, ap}
 use Rattle.tsp_base.proofs.PerformsLemmas.{Performs_then, Performs_beside}
 use Rattle.tsp_rules.specs.CommonRows.{follow_row}
 use Rattle.tsp_slave.proofs.SlaveLemmas.{AlsoStands_arms_elect, follow_becomes}

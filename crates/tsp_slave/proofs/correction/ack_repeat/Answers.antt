@@ -1,0 +1,18 @@
+-- The row's test is the code's.
+use Rattle.tsp_base.specs.declared.kind.Kind.TheVariants.{Ack}
+use Rattle.tsp_base.specs.Rows.{nothing, posts}
+use Rattle.tsp_base.proofs.PerformsLemmas.{Performs_then_part, Performs_else_part, Performs_beside, Performs_nothing}
+use Rattle.tsp_rules.specs.SlaveRows.{acks_repeat, is_repeated}
+use Rattle.tsp_slave.proofs.SlaveLemmas.{AlsoStands_posts}
+use Rattle.tsp_slave.proofs.correction.ack_repeat.Goals as goal
+
+pub returns-then-is_repeat-clause-row : goal.returns-then-is_repeat-clause-row
+unfolding acks_repeat
+returns-then-is_repeat-clause-row g c x clock took =
+    Performs_then_part (is_repeated c.args.from c.args.number) nothing (λ past h. let t = h.second.first.taken_is in cc)
+    (Performs_beside _ (AlsoStands_posts c.args.from Ack c.args.number) (c.post.ensures.row x))
+
+pub returns-else-is_repeat-clause-row : goal.returns-else-is_repeat-clause-row
+unfolding acks_repeat
+returns-else-is_repeat-clause-row g c x clock took =
+    Performs_else_part (is_repeated c.args.from c.args.number) (posts c.args.from Ack c.args.number) (λ past h. let t = h.second.first.taken_is in cc) Performs_nothing
