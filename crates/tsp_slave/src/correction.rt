@@ -42,6 +42,7 @@ pub fn adjtime<D: Desk>(
     ensures few { length (D.acts desk.new) ≤ length (D.acts desk.old) + 3 }
     ensures me { station.new.me ≡ station.old.me }
     ensures peers { station.new.peers ≡ station.old.peers }
+    ensures clock { clock.new.at ≤ tick }
 {
     if takes_amount(last, clock, tick, number, amount) {
         adjust(last, clock, tick, from, number, amount, port, desk);
@@ -72,6 +73,7 @@ pub fn settime<D: Desk>(
     ensures few { length (D.acts desk.new) ≤ length (D.acts desk.old) + 3 }
     ensures me { station.new.me ≡ station.old.me }
     ensures peers { station.new.peers ≡ station.old.peers }
+    ensures clock { clock.new.at ≤ tick }
 {
     if takes_value(last, clock, tick, number, value) {
         set(last, clock, tick, from, number, value, port, desk);
@@ -123,6 +125,7 @@ fn adjust<D: Desk>(
         (station, (last.old, (clock.old, took))) (station, (last.new, (clock.new, took))) (D.acts desk.old) (D.acts desk.new) }
     ensures spare { D.spare desk.old ≡ D.spare desk.new + 1 }
     ensures few { length (D.acts desk.new) ≡ length (D.acts desk.old) + 1 }
+    ensures clock { clock.new.at ≤ tick }
 {
     clock.correct_by(tick, amount, port, desk);
     last.took(tick, from, number);
@@ -147,6 +150,7 @@ fn set<D: Desk>(
         (station, (last.old, (clock.old, took))) (station, (last.new, (clock.new, took))) (D.acts desk.old) (D.acts desk.new) }
     ensures spare { D.spare desk.old ≡ D.spare desk.new + 1 }
     ensures few { length (D.acts desk.new) ≡ length (D.acts desk.old) + 1 }
+    ensures clock { clock.new.at ≤ tick }
 {
     clock.correct_to(tick, value, port, desk);
     last.took(tick, from, number);

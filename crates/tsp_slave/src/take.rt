@@ -46,6 +46,7 @@ pub fn slave_take<D: Desk>(
     ensures few { length (D.acts desk.new) ≤ length (D.acts desk.old) + 3 }
     ensures me { station.new.me ≡ station.old.me }
     ensures peers { station.new.peers ≡ station.old.peers }
+    ensures clock { clock.new.at ≤ tick }
 {
     match m.kind() {
         Kind::MasterUp => hear_master(station, last, clock, tick, from, m.name(), port, desk),
@@ -138,6 +139,7 @@ fn take_adjtime<D: Desk>(
     ensures few { length (D.acts desk.new) ≤ length (D.acts desk.old) + 3 }
     ensures me { station.new.me ≡ station.old.me }
     ensures peers { station.new.peers ≡ station.old.peers }
+    ensures clock { clock.new.at ≤ tick }
 {
     if follows(station, from) {
         adjtime(
@@ -174,6 +176,7 @@ fn take_settime<D: Desk>(
     ensures few { length (D.acts desk.new) ≤ length (D.acts desk.old) + 3 }
     ensures me { station.new.me ≡ station.old.me }
     ensures peers { station.new.peers ≡ station.old.peers }
+    ensures clock { clock.new.at ≤ tick }
 {
     if follows(station, from) {
         settime(
