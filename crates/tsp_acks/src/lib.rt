@@ -6,3 +6,5 @@ pub mod me;
 pub mod peers;
 pub mod posts;
 pub mod station;
+#[cfg(test)]
+mod tests;

@@ -4,3 +4,5 @@
 pub mod clock;
 pub mod corrections;
 pub mod slew;
+#[cfg(test)]
+mod tests;

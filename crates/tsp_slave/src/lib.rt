@@ -6,3 +6,5 @@ pub mod follow;
 pub mod last;
 pub mod ring;
 pub mod take;
+#[cfg(test)]
+mod tests;

@@ -1,0 +1,56 @@
+//! A station, through each of its calls.
+ghost use Rattle.std.specs.Prelude.{◌≡◌, length, IfOk};
+
+use crate::me::Me;
+use crate::station::Station;
+use std::alloc::{AllocError, Global};
+use std::test::Fail;
+use tsp_base::alarm::Alarm;
+use tsp_base::desk::Desk;
+use tsp_base::kind::Kind;
+use tsp_base::name::Name;
+use tsp_base::pad::Pad;
+use tsp_base::place::{PeerId, Place, Port};
+use tsp_base::role::Role;
+
+/// A station of peer 2 of three, which booted at tick 5 with the word 7.
+fn station(alloc: Global) -> Result<Station, AllocError>
+    ensures { IfOk result (λ s. length s.peers ≡ 3) }
+{
+    let me = Me {
+        own: PeerId(2),
+        name: Name::empty(),
+        word: 7,
+        may: true,
+    };
+    Station::new(alloc, me, &[PeerId(1), PeerId(2), PeerId(4)], 5)
+}
+
+#[test]
+fn changes_by_acts(rt: HostRuntime) -> Result<(), Fail> {
+    let mut pad = Pad::new(rt.alloc());
+    pad.reserve(14)?;
+    let mut station = station(rt.alloc())?;
+    let port = Port(0);
+    assert!(rt; station.role == Role::Starting && !station.hears(PeerId(1)));
+    station.become_role(Role::Loose, port, &mut pad);
+    assert!(rt; station.hears(PeerId(4)) && !station.hears(PeerId(3)));
+    station.arm(Alarm::Search, 10, 5, port, &mut pad);
+    assert!(rt; station.is_due(Alarm::Search, 15) && !station.is_due(Alarm::Search, 14));
+    assert!(rt; station.is_in_time(Alarm::Search, 1_000_015) && !station.is_in_time(Alarm::Search, 1_000_016));
+    station.ring(Alarm::Search, port, &mut pad);
+    station.late(Alarm::Probe, port, &mut pad);
+    station.abandon(port, &mut pad);
+    station.arm_elect(20, port, &mut pad);
+    assert!(rt; station.alarms.at(Alarm::Elect) == Some(300_000_027));
+    assert!(rt; station.alarms.at(Alarm::Search) == None);
+    station.back(PeerId(4), 30, port, &mut pad);
+    assert!(rt; !station.hold.may_back(60_000_029, PeerId(1)) && station.hold.may_back(60_000_030, PeerId(1)));
+    station.quit(PeerId(4), 40, port, &mut pad);
+    station.post(PeerId(4), Kind::Ack, 7, port, &mut pad);
+    station.post_back(Place::Stranger, Kind::Ack, 7, port, &mut pad);
+    station.post_to_others(Kind::MasterReq, 0, port, &mut pad);
+    assert_eq!(rt; pad.acts().len(), 12);
+    assert_eq!(rt; station.peers().len(), 3);
+    Ok(())
+}
