@@ -1,0 +1,50 @@
+-- Laws of lines that are made of datagrams.
+use Rattle.std.proofs.Common.{◌≡◌, ℕ, List, [], ◌∷◌, ◌++◌, refl, sym, ap, ◌∙◌, map, append-nil, append_assoc, inl, Result, Ok, Err}
+use Rattle.std.specs.Prelude.{OnOk, OnErr, IfErr, MatchResult}
+use Rattle.std.specs.List.{AllZip}
+use Rattle.std.specs.declared.option.Option.{Option}
+use Rattle.std.proofs.lemmas.List.{map-append}
+use Rattle.std.proofs.lemmas.Grind.{flat_map-append}
+use Rattle.tsp_lines.specs.Lines.{close, closed}
+use Rattle.tsp_lines.specs.Meanings.{Meaning, Goes, StopsAt, stop_of}
+use Rattle.tsp_lines.specs.Outputs.{Hands}
+use Rattle.tsp_lines.specs.declared.treatment.Stop.{Stop}
+use Rattle.tsp_lines.specs.declared.output.Unwritten.{Unwritten}
+use Rattle.tsp_lines.specs.declared.output.Unwritten.TheVariants.{WriteFault, OutOfMemory}
+
+-- each of these lines is the value at its place, and the text is those values' output
+abbrev pub Converts : {A : Type 0} → (List ℕ → A → Type 0) → (A → List ℕ) → List (List ℕ) → List ℕ → Type 0
+Converts {A} Is write lines text = (values : List A) × AllZip Is lines values × (text ≡ closed (map write values))
+
+AllZip-more : {A B : Type 0} (R : A → B → Type 0) (xs : List A) (ys : List B) (x : A) (y : B) → AllZip R xs ys → R x y → AllZip R (xs ++ x ∷ []) (ys ++ y ∷ [])
+AllZip-more R [] [] x y h r = (r, tt)
+AllZip-more R [] (b ∷ ys) x y h r = absurd h
+AllZip-more R (a ∷ xs) [] x y h r = absurd h
+AllZip-more R (a ∷ xs) (b ∷ ys) x y h r = (h.0, AllZip-more R xs ys x y h.1 r)
+
+-- the lines of one value more
+closed-more : {A : Type 0} (f : A → List ℕ) (xs : List A) (x : A) → closed (map f xs) ++ close (f x) ≡ closed (map f (xs ++ x ∷ []))
+closed-more f xs x = sym (ap closed (map-append f xs (x ∷ [])) ∙ flat_map-append close (map f xs) (f x ∷ []) ∙ ap (λ l. closed (map f xs) ++ l) (append-nil (close (f x))))
+
+-- one line more
+pub Converts-more : {A : Type 0} (Is : List ℕ → A → Type 0) (write : A → List ℕ) (lines : List (List ℕ)) (text : List ℕ) (line more : List ℕ) (x : A)
+    → Converts Is write lines text → Is line x → more ≡ close (write x) → Converts Is write (lines ++ line ∷ []) (text ++ more)
+Converts-more Is write lines text line more x c is e = (
+  c.0 ++ x ∷ [],
+  AllZip-more Is lines c.0 line x c.1 is,
+  rw (c.2, e) (closed-more write c.0 x),
+)
+
+-- a line's output wasn't handed over
+StopsAt-unwritten : (m : Meaning) (lines : List (List ℕ)) (text line : List ℕ) (written : Option (List ℕ)) (held : List ℕ) (now : Option (List ℕ)) (keeps : List ℕ) (fault : Unwritten)
+    → Hands written held now keeps [] → StopsAt m lines text line written held now keeps (stop_of fault)
+StopsAt-unwritten m lines text line written held now keeps WriteFault h = ([], h, inl refl)
+StopsAt-unwritten m lines text line written held now keeps OutOfMemory h = ([], h, inl refl)
+
+-- a line's output was handed over, or not
+pub Goes-or_StopsAt : (m : Meaning) (Stands : List (List ℕ) → Type 0) (lines : List (List ℕ)) (text line more : List ℕ) (written : Option (List ℕ)) (held : List ℕ) (now : Option (List ℕ)) (keeps : List ℕ) (r : Result Unit Stop)
+    → OnOk r (Hands written held now keeps more) → OnErr r (Hands written held now keeps []) → IfErr r (λ stop. (fault : Unwritten) × (stop ≡ stop_of fault))
+    → m.accepts (lines ++ line ∷ []) (text ++ more) → Stands (lines ++ line ∷ [])
+    → MatchResult r (λ _. Goes m Stands lines text line written held now keeps) (λ stop. StopsAt m lines text line written held now keeps stop)
+Goes-or_StopsAt m Stands lines text line more written held now keeps (Ok x) ok err stop a s = (more, ok, a, s)
+Goes-or_StopsAt m Stands lines text line more written held now keeps (Err x) ok err stop a s = rw stop.1 (StopsAt-unwritten m lines text line written held now keeps stop.0 err)

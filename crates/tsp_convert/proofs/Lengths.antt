@@ -1,0 +1,98 @@
+-- How long a message line is at most.
+use Rattle.std.proofs.Common.{◌≡◌, ℕ, ◌+◌, ◌*◌, ◌^◌, ◌<◌, ◌≤◌, List, [], ◌∷◌, ◌++◌, suc, Bool, true, false, length, refl, ap, arith, length-append}
+use Rattle.std.specs.Prelude.{ℤ, pos, negsuc, ◌≤ℤ◌, ◌<ℤ◌, decimal, codes, flat_map, if◌then◌else◌}
+use Rattle.std.specs.Fmt.{signed_decimal}
+use Rattle.std.proofs.lemmas.Fmt.{length-decimal-le, length_signed_le}
+use Rattle.std.proofs.lemmas.Int.{ints}
+use Rattle.hex.specs.Hex.{encode_lower, encode_with}
+use Rattle.tsp_base.specs.Kinds.{kind_word}
+use Rattle.tsp_base.specs.Names.{IsName}
+use Rattle.tsp_base.specs.Messages.{MessageValue}
+use Rattle.tsp_base.specs.Stamps.{ReplyValue, IsReply}
+use Rattle.tsp_base.specs.Times.{IsMicros}
+use Rattle.tsp_base.specs.declared.kind.Kind.{Kind}
+use Rattle.tsp_base.specs.declared.kind.Kind.TheVariants.{AdjTime}
+use Rattle.tsp_base.specs.declared.message.Body.{Body}
+use Rattle.tsp_base.specs.declared.message.Body.TheVariants.{Nothing, Time, Hops}
+use Rattle.tsp_base.specs.declared.stamp.Stamp.TheVariants.{Request, Reply}
+use Rattle.tsp_base.specs.declared.datagram.Datagram.{Datagram}
+use Rattle.tsp_base.specs.declared.datagram.Datagram.TheVariants.{Message, Stamp}
+use Rattle.tsp_script.specs.Ranges.{IsBody, IsMessage, IsDatagram}
+use Rattle.tsp_script.specs.Texts.{space, is_plain, escaped, name_text, body_text, message_line, reply_text, stamp_text, message_text}
+
+word_length : (k : Kind) → length (kind_word k) ≤ 10
+unfolding kind_word
+word_length AdjTime = omega arith
+word_length _ = omega arith
+
+number_length : (n : ℕ) → n < 2 ^ 64 → length (decimal n) ≤ 20
+number_length n h = length-decimal-le 20 n (omega arith) (omega arith) h
+
+octet_length : (b : Bool) (c : ℕ) → length (if b then c ∷ [] else 37 ∷ encode_lower (c ∷ [])) ≤ 3
+unfolding encode_with
+octet_length true c = omega arith
+octet_length false c = omega arith
+
+octets_length : (name : List ℕ) → length (flat_map escaped name) ≤ 3 * length name
+octets_length [] = omega arith
+octets_length (c ∷ cs) = omega (arith, length-append (escaped c) (flat_map escaped cs), octet_length (is_plain c) c, octets_length cs)
+
+name_length : (name : List ℕ) → IsName name → length (name_text name) ≤ 189
+name_length [] h = omega arith
+name_length (c ∷ cs) h = omega (arith, octets_length (c ∷ cs), h.short)
+
+-- a time of at most 63 bits, with its sign
+signed_length : (t : ℤ) → negsuc 2147483647999999 ≤ℤ t → t <ℤ pos 2147483648000000 → length (signed_decimal t) ≤ 20
+signed_length (pos n) low high = number_length n (omega (arith, ints, high))
+signed_length (negsuc n) low high = omega (arith, length-decimal-le 19 (suc n) (omega arith) (omega (arith, ints, low)) (omega (arith, ints, low)))
+
+body_length : (b : Body) → IsBody b → length (body_text b) ≤ 21
+body_length Nothing h = omega arith
+body_length (Time t) h = omega (arith, length-append (signed_decimal t) space, signed_length t h.low h.high)
+body_length (Hops n) h = omega (arith, length-append (decimal n) space, number_length n (omega (arith, h)))
+
+message_length : (m : MessageValue) → IsMessage m → length (message_line m) ≤ 242
+message_length m h = omega (
+  arith,
+  length-append (((((kind_word m.kind ++ space) ++ decimal m.number) ++ space) ++ body_text m.body)) (name_text m.name),
+  length-append ((((kind_word m.kind ++ space) ++ decimal m.number) ++ space)) (body_text m.body),
+  length-append (((kind_word m.kind ++ space) ++ decimal m.number)) space,
+  length-append (kind_word m.kind ++ space) (decimal m.number),
+  length-append (kind_word m.kind) space,
+  word_length m.kind,
+  number_length m.number (omega (arith, h.number)),
+  body_length m.body h.body,
+  name_length m.name h.name,
+)
+
+request_length : (word counter : ℕ) → word < 2 ^ 64 → counter < 2 ^ 64 → length (stamp_text (Request word counter)) ≤ 242
+request_length word counter w c = omega (
+  arith,
+  length-append ((codes "request " ++ decimal word) ++ space) (decimal counter),
+  length-append (codes "request " ++ decimal word) space,
+  length-append (codes "request ") (decimal word),
+  number_length word w,
+  number_length counter c,
+)
+
+reply_length : (r : ReplyValue) → r.word < 2 ^ 64 → r.counter < 2 ^ 64 → IsReply r.ticket r.reading → length (reply_text r) ≤ 242
+reply_length r w c v = omega (
+  arith,
+  length-append ((((((codes "reply " ++ decimal r.ticket) ++ space) ++ decimal r.word) ++ space) ++ decimal r.counter) ++ space) (signed_decimal r.reading),
+  length-append (((((codes "reply " ++ decimal r.ticket) ++ space) ++ decimal r.word) ++ space) ++ decimal r.counter) space,
+  length-append ((((codes "reply " ++ decimal r.ticket) ++ space) ++ decimal r.word) ++ space) (decimal r.counter),
+  length-append (((codes "reply " ++ decimal r.ticket) ++ space) ++ decimal r.word) space,
+  length-append ((codes "reply " ++ decimal r.ticket) ++ space) (decimal r.word),
+  length-append (codes "reply " ++ decimal r.ticket) space,
+  length-append (codes "reply ") (decimal r.ticket),
+  number_length r.ticket (omega (arith, v.small)),
+  number_length r.word w,
+  number_length r.counter c,
+  signed_length r.reading (omega (arith, ints, v.low)) v.high,
+)
+
+-- a message line has at most 242 octets
+pub length-message_text : (d : Datagram) → IsDatagram d → length (message_text d) ≤ 242
+length-message_text (Message m) h = message_length m h
+length-message_text (Stamp (Request word counter)) h = request_length word counter h.0 h.1
+length-message_text (Stamp (Reply r)) h = reply_length r h.0 h.1 h.2

@@ -1,0 +1,32 @@
+-- What `pack` makes of lines.
+use Rattle.std.specs.Prelude.{◌≡◌, ℕ, ◌<◌, ◌≤◌, ◌⊎◌, List, [], length, map, codes}
+use Rattle.std.specs.List.{AllZip}
+use Rattle.hex.specs.Hex.{encode_lower}
+use Rattle.tsp_base.specs.declared.datagram.Datagram.{Datagram}
+use Rattle.tsp_codec.specs.Canon.{canon}
+use Rattle.tsp_lines.specs.Lines.{closed}
+use Rattle.tsp_lines.specs.Meanings.{Meaning}
+use Rattle.tsp_script.specs.Ranges.{IsDatagram}
+use Rattle.tsp_script.specs.Texts.{message_text}
+
+-- the line is the message line of this datagram, which is in its ranges
+abbrev pub IsLineOf : List ℕ → Datagram → Type 0
+IsLineOf line d = IsDatagram d × (line ≡ message_text d)
+
+-- the line is no datagram's message line
+abbrev pub RefusesMessage : List ℕ → List ℕ → Type 0
+RefusesMessage line cause = ((d : Datagram) → IsLineOf line d → ⊥) × (cause ≡ codes "message")
+
+-- the written octets of these datagrams in hexadecimal, in lower case and each with its line feed
+abbrev pub packed : List Datagram → List ℕ
+packed datagrams = closed (map (λ d. encode_lower (canon d)) datagrams)
+
+-- what lines mean to `pack`: each is a datagram's message line, and the output is the datagrams' octets
+abbrev pub pack_meaning : Meaning
+pack_meaning = record {
+  accepts = λ lines text. (datagrams : List Datagram) × AllZip IsLineOf lines datagrams × (text ≡ packed datagrams);
+  refuses = λ lines line cause. RefusesMessage line cause;
+  limits = λ lines line. ⊥;
+  ends = λ lines more. more ≡ [];
+  lacks = λ lines cause. ⊥
+}

@@ -1,0 +1,6 @@
+//! Datagrams as hexadecimal to message lines, and back.
+#![tactic(auto)]
+
+mod hand_over;
+pub mod pack;
+pub mod show;
