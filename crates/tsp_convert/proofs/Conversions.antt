@@ -48,3 +48,16 @@ pub Goes-or_StopsAt : (m : Meaning) (Stands : List (List ℕ) → Type 0) (lines
     → MatchResult r (λ _. Goes m Stands lines text line written held now keeps) (λ stop. StopsAt m lines text line written held now keeps stop)
 Goes-or_StopsAt m Stands lines text line more written held now keeps (Ok x) ok err stop a s = (more, ok, a, s)
 Goes-or_StopsAt m Stands lines text line more written held now keeps (Err x) ok err stop a s = rw stop.1 (StopsAt-unwritten m lines text line written held now keeps stop.0 err)
+
+AllZip-one : {A B : Type 0} (R : A → B → Type 0) (one : (x : A) (y z : B) → R x y → R x z → y ≡ z) (xs : List A) (ys zs : List B) → AllZip R xs ys → AllZip R xs zs → ys ≡ zs
+AllZip-one R one [] [] [] h k = refl
+AllZip-one R one [] [] (z ∷ zs) h k = absurd k
+AllZip-one R one [] (y ∷ ys) zs h k = absurd h
+AllZip-one R one (x ∷ xs) [] zs h k = absurd h
+AllZip-one R one (x ∷ xs) (y ∷ ys) [] h k = absurd k
+AllZip-one R one (x ∷ xs) (y ∷ ys) (z ∷ zs) h k = rw (one x y z h.0 k.0, AllZip-one R one xs ys zs h.1 k.1) refl
+
+-- where a line is one value at most, the same lines have one output
+pub Converts-one : {A : Type 0} (Is : List ℕ → A → Type 0) (write : A → List ℕ) (one : (line : List ℕ) (x y : A) → Is line x → Is line y → x ≡ y)
+    (lines : List (List ℕ)) (text other : List ℕ) → Converts Is write lines text → Converts Is write lines other → text ≡ other
+Converts-one Is write one lines text other c d = c.2 ∙ ap (λ xs. closed (map write xs)) (AllZip-one Is one lines c.0 d.0 c.1 d.1) ∙ sym d.2

@@ -1,2 +1,6 @@
 mod Conversions
 mod Lengths
+mod NamesApart
+mod LinesApart
+mod InRanges
+mod Hexes

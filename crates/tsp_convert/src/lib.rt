@@ -2,5 +2,6 @@
 #![tactic(auto)]
 
 mod hand_over;
+pub mod laws;
 pub mod pack;
 pub mod show;
