@@ -4,4 +4,5 @@
 mod hand_over;
 pub mod laws;
 pub mod pack;
+pub mod run;
 pub mod show;

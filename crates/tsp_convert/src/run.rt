@@ -1,0 +1,44 @@
+//! The conversion of a whole input.
+ghost use Rattle.std.specs.Prelude.{◌≡◌, ◌≤◌, false};
+ghost use Rattle.tsp_io.specs.Counts.{Rose};
+ghost use Rattle.tsp_lines.specs.Outcomes.{Comes};
+ghost use Rattle.tsp_convert.specs.Shows.{show_meaning};
+ghost use Rattle.tsp_convert.specs.Packs.{pack_meaning};
+
+use crate::pack::Pack;
+use crate::show::Show;
+use std::alloc::Global;
+use tsp_io::sink::Sink;
+use tsp_io::source::Source;
+use tsp_lines::treat::{Outcome, treat_all};
+
+/// The most octets of an input: 64 MiB.
+const LIMIT: u64 = 67_108_864;
+
+/// Reads lines of hexadecimal, and writes the message line of each one's datagram.
+///
+/// The first line that isn't hexadecimal of a datagram ends it with `bad LINE CAUSE`, where the cause is
+/// `hex` or the word of the datagram's fault. An input of more than 64 MiB ends it with `limit LINE`.
+pub fn show<S: Source, K: Sink>(alloc: Global, source: &mut S, sink: &mut K) -> Outcome
+    requires open { S.ended source.old ≡ false }
+    ensures comes { Comes show_meaning 67108864 (S.left source.old) (S.left source.new) (K.written sink.old) (K.written sink.new) result }
+    ensures later { (S.faults source.old ≤ S.faults source.new) × (K.faults sink.old ≤ K.faults sink.new) }
+    ensures read { result ≡ Outcome.ReadFault → Rose (S.faults source.old) (S.faults source.new) × (S.ended source.new ≡ false) }
+    ensures write { result ≡ Outcome.WriteFault → Rose (K.faults sink.old) (K.faults sink.new) }
+{
+    treat_all(alloc, LIMIT, source, sink, &mut Show)
+}
+
+/// Reads message lines, and writes the octets of each one's datagram in hexadecimal.
+///
+/// The first line that is no datagram's message line ends it with `bad LINE message`. An input of more
+/// than 64 MiB ends it with `limit LINE`.
+pub fn pack<S: Source, K: Sink>(alloc: Global, source: &mut S, sink: &mut K) -> Outcome
+    requires open { S.ended source.old ≡ false }
+    ensures comes { Comes pack_meaning 67108864 (S.left source.old) (S.left source.new) (K.written sink.old) (K.written sink.new) result }
+    ensures later { (S.faults source.old ≤ S.faults source.new) × (K.faults sink.old ≤ K.faults sink.new) }
+    ensures read { result ≡ Outcome.ReadFault → Rose (S.faults source.old) (S.faults source.new) × (S.ended source.new ≡ false) }
+    ensures write { result ≡ Outcome.WriteFault → Rose (K.faults sink.old) (K.faults sink.new) }
+{
+    treat_all(alloc, LIMIT, source, sink, &mut Pack)
+}
