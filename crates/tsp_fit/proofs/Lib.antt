@@ -1,9 +1,12 @@
 pub mod AlarmLeads
 pub mod AnswerLeads
+pub mod CalmRows
+pub mod CalmSteps
 pub mod Changes
 pub mod CloseLeads
 pub mod CommonLeads
 pub mod CorrectionLeads
+pub mod FewActs
 pub mod Known
 pub mod LeadsLeaves
 pub mod Leaves

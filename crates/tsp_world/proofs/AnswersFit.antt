@@ -23,7 +23,9 @@ use Rattle.tsp_fit.proofs.Changes.{JustTook, open_of, take}
 use Rattle.tsp_fit.proofs.CorrectionLeads.{Fresh}
 use Rattle.tsp_fit.proofs.TakenLeads.{rests_of, replies_lead}
 use Rattle.tsp_fit.proofs.AnswerLeads.{open_rests}
+use Rattle.tsp_fit.proofs.FewActs.{is_calm_act, is_calm}
 use Rattle.tsp_world.specs.Answers.{takes_stamp, takes_datagram, takes_of_other, takes_read, answers_so_far}
+use Rattle.tsp_world.specs.Refusals.{room}
 use Rattle.tsp_world.specs.Run.{line_of}
 use Rattle.tsp_world.proofs.FitsLines.{TakenOk, AllTaken, AllAlive}
 
@@ -45,16 +47,6 @@ so_far_leads Turn = Leads_from (λ x past h. open_rests x past (open_of h)) Lead
 so_far_leads (Got from t) = Leads_then {Q = JustTook from t} (puts (Took from t)) (takes_read from t)
     (Leads_puts (Took from t) (λ x past h. take from t (open_of h)))
     (read_leads from t)
-
--- an act that is neither a boot nor a taking
-abbrev pub is_calm_act : Act → Bool
-is_calm_act Boot = false
-is_calm_act (Took from t) = false
-is_calm_act _ = true
-
-abbrev pub is_calm : List Act → Bool
-is_calm [] = true
-is_calm (a ∷ rest) = is_calm_act a && is_calm rest
 
 -- a row's acts are few and calm
 pub record Calm (n : ℕ) (row : Row) : Type 0 where
@@ -109,19 +101,19 @@ taken_all setting step x history [] e = tt
 taken_all setting step x history (a ∷ rest) e = let both = calm-and (is_calm_act a) (is_calm rest) e in (taken_one setting step x history a both.0, taken_all setting step x history rest both.1)
 
 -- what a step by the rules so far owes besides
-pub record StepOk (setting : Setting) (step : Step) (x : ℕ) (history : List Line) (is_up : Bool) (acts : List Act) : Type 0 where
-  pub few : length acts ≤ 3
+pub record StepOk (nodes : ℕ) (setting : Setting) (step : Step) (x : ℕ) (history : List Line) (is_up : Bool) (acts : List Act) : Type 0 where
+  pub few : length acts ≤ room nodes
   pub alive : AllAlive setting step x is_up acts
   pub taken : AllTaken setting step x history acts
 
-pub turn_ok : (setting : Setting) (step : Step) (x : ℕ) (history : List Line) (past : Past) → StepOk setting step x history true (answers_so_far Turn x past)
+pub turn_ok : (nodes : ℕ) (setting : Setting) (step : Step) (x : ℕ) (history : List Line) (past : Past) → StepOk nodes setting step x history true (answers_so_far Turn x past)
 unfolding answers_so_far nothing
-turn_ok setting step x history past = record { few = omega arith; alive = tt; taken = tt }
+turn_ok nodes setting step x history past = record { few = omega arith; alive = tt; taken = tt }
 
-pub got_ok : (setting : Setting) (step : Step) (x : ℕ) (history : List Line) (past : Past) (from : Place) (t : Taken) → TookFits step.cause setting (line_of step x (Acts (Took from t))) history from t →
-    StepOk setting step x history true (answers_so_far (Got from t) x past)
+pub got_ok : (nodes : ℕ) (setting : Setting) (step : Step) (x : ℕ) (history : List Line) (past : Past) (from : Place) (t : Taken) → TookFits step.cause setting (line_of step x (Acts (Took from t))) history from t →
+    StepOk nodes setting step x history true (answers_so_far (Got from t) x past)
 unfolding answers_so_far puts ◌followed_by◌
-got_ok setting step x history past from t f =
+got_ok nodes setting step x history past from t f =
     let c = calm-read from t in
     let now = grown x past (Took from t ∷ []) in
     record {

@@ -29,7 +29,7 @@ use Rattle.tsp_fit.proofs.AnswerLeads.{boots_lead, begins_fresh, rests_later, re
 use Rattle.tsp_world.specs.declared.arrival.Arrival.{Arrival}
 use Rattle.tsp_world.specs.declared.posted.Posted.{Posted}
 use Rattle.tsp_world.specs.Answers.{answers_so_far}
-use Rattle.tsp_world.specs.Refusals.{Valid, scene, refusal, actor, goes_to, down}
+use Rattle.tsp_world.specs.Refusals.{room, Valid, scene, refusal, actor, goes_to, down}
 use Rattle.tsp_world.specs.Run.{run, joins, joined, line_of, happening, steps, step_tick, boot_step, event_at, last_at, posts, reaches, arrives, arrives_at, node_at}
 use Rattle.tsp_world.specs.Setting.{SetBy, RunsFit}
 use Rattle.tsp_world.specs.Setup.{node_line, past_of, first_port}
@@ -75,8 +75,8 @@ node_after header setting t h step x acts later nodes after tick_is n false e =
     (rests_later (tick_at (setting.rate n) t) (tick_at (setting.rate n) step.at) (past_of header (rests n) h) (ticks-rise setting n t step.at later) (nodes n))
 
 -- a step by a row that keeps what is known of its port
-stepped : (header : HeaderValue) (setting : Setting) (t : ℕ) (h : List Line) (step : Step) (row : Row) → SetBy header setting → Ran header setting t h → t ≤ step.at → posted (dids h) + 3 < 2 ^ 64 → Leads Fresh row Rests →
-    StepOk setting step (step_tick header step) h (up (dids (of step.node h))) (row (step_tick header step) (in_step step (step_tick header step) (past_of header step h))) →
+stepped : (header : HeaderValue) (setting : Setting) (t : ℕ) (h : List Line) (step : Step) (row : Row) → SetBy header setting → Ran header setting t h → t ≤ step.at → posted (dids h) + room (length header.nodes) < 2 ^ 64 → Leads Fresh row Rests →
+    StepOk (length header.nodes) setting step (step_tick header step) h (up (dids (of step.node h))) (row (step_tick header step) (in_step step (step_tick header step) (past_of header step h))) →
     Ran header setting step.at (joins (Some (steps header h row step)) h)
 unfolding steps
 stepped header setting t h step row set r later few leads ok =
@@ -93,9 +93,9 @@ stepped header setting t h step row set r later few leads ok =
     let own : (step.node == step.node) ≡ true = eq-eqb step.node step.node refl in
     let seen_is : view first_port (of step.node (line_of step x Begins ∷ h)) ≡ Here (record { step = step; tick = x; deed = Begins }) ∷ view first_port (of step.node h) = rw own refl in
     let up_is : up (dids (of step.node (line_of step x Begins ∷ h))) ≡ up (dids (of step.node h)) = rw own refl in
-    let three = ok.few in
+    let most = ok.few in
     record {
-      fits = acts_fit setting step x h acts Begins h tick_is (refl, r.first) (inr (Within-all h)) (omega (arith, few, three))
+      fits = acts_fit setting step x h acts Begins h tick_is (refl, r.first) (inr (Within-all h)) (omega (arith, few, most))
           (subst (λ b. AllAlive setting step x b acts) (sym up_is) ok.alive) ok.taken
           (subst (λ s. PortFits (added step x acts s)) (sym seen_is) after.fits) (mark, r.fits);
       first = joined-first step x acts (line_of step x Begins ∷ h) (refl, r.first);
@@ -104,7 +104,7 @@ stepped header setting t h step row set r later few leads ok =
     }
 
 -- the posts leave room
-few_posts : (header : HeaderValue) (before : List Event) (e : Event) (n : ℕ) → refusal (scene header before) e ≡ None → actor (scene header before) e ≡ Some n → posted (dids (run header before)) + 3 < 2 ^ 64
+few_posts : (header : HeaderValue) (before : List Event) (e : Event) (n : ℕ) → refusal (scene header before) e ≡ None → actor (scene header before) e ≡ Some n → posted (dids (run header before)) + room (length header.nodes) < 2 ^ 64
 few_posts header before e n none acts =
     let a = allowed (scene header before) e none in
     let some = a.posts n acts in
@@ -113,7 +113,7 @@ few_posts header before e n none acts =
 
 -- the boot of a node
 boot_ok : (header : HeaderValue) (setting : Setting) (h : List Line) (at node word : ℕ) (is_up : Bool) (past : Past) → SetBy header setting →
-    StepOk setting (boot_step header at node word) (step_tick header (boot_step header at node word)) h is_up (boots (step_tick header (boot_step header at node word)) past)
+    StepOk (length header.nodes) setting (boot_step header at node word) (step_tick header (boot_step header at node word)) h is_up (boots (step_tick header (boot_step header at node word)) past)
 unfolding boots puts arms ◌followed_by◌
 boot_ok header setting h at node word is_up past set = record {
   few = omega arith;
@@ -127,11 +127,11 @@ up_seen header before n e = up-down (scene header before) n e
 module _ {header : HeaderValue} {setting : Setting} (set : SetBy header setting) where
   by_answers : (before : List Event) (e : Event) (step : Step) (g : Given) → Ran header setting (last_at before) (run header before) → refusal (scene header before) e ≡ None → actor (scene header before) e ≡ Some step.node →
       (scene header before).last ≤ step.at → up (dids (of step.node (run header before))) ≡ true →
-      ((past : Past) → StepOk setting step (step_tick header step) (run header before) true (answers_so_far g (step_tick header step) past)) →
+      ((past : Past) → StepOk (length header.nodes) setting step (step_tick header step) (run header before) true (answers_so_far g (step_tick header step) past)) →
       Ran header setting step.at (joins (Some (steps header (run header before) (answers_so_far g) step)) (run header before))
   by_answers before e step g r none acts later is_up ok =
       stepped header setting (last_at before) (run header before) step (answers_so_far g) set r later (few_posts header before e step.node none acts) (so_far_leads g)
-      (subst (λ b. StepOk setting step (step_tick header step) (run header before) b (answers_so_far g (step_tick header step) (in_step step (step_tick header step) (past_of header step (run header before))))) (sym is_up)
+      (subst (λ b. StepOk (length header.nodes) setting step (step_tick header step) (run header before) b (answers_so_far g (step_tick header step) (in_step step (step_tick header step) (past_of header step (run header before))))) (sym is_up)
       (ok (in_step step (step_tick header step) (past_of header step (run header before)))))
 
   to-peer : (nodes : ℕ) (to : Place) (n : ℕ) → node_at nodes to ≡ Some n → to ≡ Peer (peer_of n)
@@ -175,7 +175,7 @@ module _ {header : HeaderValue} {setting : Setting} (set : SetBy header setting)
         let is_up : up (dids (of n (run header before))) ≡ true = up_seen header before n (ap (λ q. down (scene header before).up q) (sym goes) ∙ allow.up) in
         subst (λ b. Ran header setting at (joins (reaches header (run header before) at k (Some b)) (run header before))) (some_same f)
         (by_answers before (Take at k) (record { at = at; node = n; cause = Came k }) (Got (Peer (record { 0 = p.from })) (Good p.datagram)) r none goes allow.time is_up
-        (λ past. got_ok setting (record { at = at; node = n; cause = Came k }) (step_tick header (record { at = at; node = n; cause = Came k })) (run header before) past (Peer (record { 0 = p.from })) (Good p.datagram) (came before at k p n r.first there is)))
+        (λ past. got_ok (length header.nodes) setting (record { at = at; node = n; cause = Came k }) (step_tick header (record { at = at; node = n; cause = Came k })) (run header before) past (Peer (record { 0 = p.from })) (Good p.datagram) (came before at k p n r.first there is)))
 
   event_ran : (before : List Event) (e : Event) → Ran header setting (last_at before) (run header before) → refusal (scene header before) e ≡ None → Ran header setting (event_at e) (joins (happening header (run header before) e) (run header before))
   event_ran before (BootAt at node word) r none =
@@ -186,12 +186,12 @@ module _ {header : HeaderValue} {setting : Setting} (set : SetBy header setting)
   event_ran before (Turn at node) r none =
       let allow = allowed (scene header before) (Turn at node) none in
       let step : Step = record { at = at; node = node; cause = Turned } in
-      by_answers before (Turn at node) step NoInput r none refl allow.time (up_seen header before node allow.up) (λ past. turn_ok setting step (step_tick header step) (run header before) past)
+      by_answers before (Turn at node) step NoInput r none refl allow.time (up_seen header before node allow.up) (λ past. turn_ok (length header.nodes) setting step (step_tick header step) (run header before) past)
   event_ran before (Take at k) r none = taken_step before at k (slice_get (posts (run header before)) k) r none refl _ refl
   event_ran before (Bytes at node port from octets) r none =
       let allow = allowed (scene header before) (Bytes at node port from octets) none in
       let step : Step = record { at = at; node = node; cause = Handed } in
-      by_answers before (Bytes at node port from octets) step (Got from (taken_of octets)) r none refl allow.time (up_seen header before node allow.up) (λ past. got_ok setting step (step_tick header step) (run header before) past from (taken_of octets) tt)
+      by_answers before (Bytes at node port from octets) step (Got from (taken_of octets)) r none refl allow.time (up_seen header before node allow.up) (λ past. got_ok (length header.nodes) setting step (step_tick header step) (run header before) past from (taken_of octets) tt)
 
   ran : (events : List Event) → Valid header events → Ran header setting (last_at events) (run header events)
   ran [] v = record { fits = tt; first = tt; time = omega arith; nodes = λ n. nothing-done (tick_at (setting.rate n) 0) (past_of header (rests n) []) }
