@@ -26,6 +26,7 @@ use Rattle.tsp_base.specs.Takings.{peer_of}
 use Rattle.tsp_base.proofs.EverywhereLemmas.{Everywhere-at}
 use Rattle.tsp_base.proofs.PlaceLemmas.{Within-none}
 use Rattle.tsp_safe.specs.Broken.{AllBreak, Breaks}
+use Rattle.tsp_safe.proofs.BrokenPeers.{peers}
 use Rattle.tsp_safe.proofs.Witness.{did, line, msg, port0, still, w25, w31, w36}
 use Rattle.tsp_safe.proofs.WitnessUse.{cast-of}
 
@@ -210,6 +211,7 @@ all_break = record {
   confirmed = confirmed;
   measured = measured;
   trips = trips;
+  peers = peers;
   agreed = agreed;
   yields = yields;
   quiet = quiet;

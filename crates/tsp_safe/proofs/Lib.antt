@@ -3,6 +3,7 @@ pub mod AgreedProof
 pub mod AgreedSums
 pub mod AskedProof
 pub mod BestProof
+pub mod BrokenPeers
 pub mod BrokenProof
 pub mod ClockProof
 pub mod Clocks

@@ -1,6 +1,6 @@
 -- That the promises say something: for each a small history that breaks it.
 use Rattle.std.specs.Prelude.{List}
-use Rattle.tsp_base.specs.Agreed.{AgreedMaster}
+use Rattle.tsp_base.specs.Agreed.{AgreedMaster, AgreedPeers}
 use Rattle.tsp_base.specs.Everywhere.{Everywhere}
 use Rattle.tsp_base.specs.History.{Line}
 use Rattle.tsp_base.specs.Measured.{Measured, Trips}
@@ -36,6 +36,8 @@ pub record AllBreak : Type 0 where
   pub measured : Breaks (Measured setting)
   -- a Sample without a request
   pub trips : Breaks (Trips setting)
+  -- two clocks of one round of which one moves by another amount than its ADJTIME says
+  pub peers : Breaks (AgreedPeers setting)
   -- a clock that moves by another amount than the ADJTIME says
   pub agreed : Breaks (AgreedMaster setting)
   -- a master that stays master in the step in which it takes a QUIT
