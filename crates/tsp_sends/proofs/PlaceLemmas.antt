@@ -5,7 +5,7 @@ use Rattle.std.proofs.lemmas.Nat.{shl_whole}
 use Rattle.std.proofs.lemmas.Bool.Decides.{nat_tests}
 use Rattle.std.proofs.lemmas.Bool.{cases_lt}
 use Rattle.std.proofs.lemmas.List.{get_or_past, length-replicate, get_or-replicate, drop-set-add, take-replicate, drop-replicate}
-use Rattle.tsp_sends.specs.Deadlines.{is_due, deadline_at, IsFirstDueAt, IsLeast}
+use Rattle.tsp_sends.specs.Deadlines.{is_due, deadline_at, IsLeast}
 use Rattle.tsp_sends.specs.Trees.{HoldsEarlier, IsTree}
 use Rattle.tsp_sends.proofs.TreeLemmas.{none_due_below, some_due_below}
 

@@ -1,17 +1,16 @@
 -- Lemmas on the search for a peer's slot.
-use Rattle.std.proofs.Common.{◌≡◌, ◌≢◌, ℕ, ◌+◌, ◌≤◌, ◌<◌, Bool, true, false, List, length, Option, None, Some, Result, Ok, Err, get_or, refl, sym, ◌∙◌, ap, arith, inl, inr, ◌⊎◌}
+use Rattle.std.proofs.Common.{◌≡◌, ◌≢◌, ℕ, ◌+◌, ◌≤◌, ◌<◌, List, length, Option, None, Some, Result, Ok, Err, get_or, sym, ◌∙◌, ap, arith, inl, inr}
 use Rattle.std.specs.List.{Contains}
 use Rattle.std.specs.List.Sorted.{IsBinarySearchResult, IsSearchInRange}
 use Rattle.std.specs.Ordering.{nat_cmp, ordering_index}
 use Rattle.std.specs.declared.cmp.Ordering.TheVariants.{Less, Equal, Greater}
-use Rattle.std.proofs.lemmas.Bool.{cases_lt, cases_eq}
+use Rattle.std.proofs.lemmas.Bool.{cases_lt}
 use Rattle.std.proofs.lemmas.Bool.Decides.{nat_tests}
-use Rattle.std.proofs.lemmas.List.{length-map, get_or-map, get_or_default}
+use Rattle.std.proofs.lemmas.List.{length-map, get_or-map}
 use Rattle.tsp_base.specs.declared.place.PeerId.{PeerId}
-use Rattle.tsp_base.specs.SendFacts.{Sending}
 use Rattle.tsp_sends.specs.declared.slot.Slot.{Slot}
 use Rattle.tsp_sends.specs.Slots.{peers_of, sending_to}
-use Rattle.tsp_sends.specs.Treating.{IsAfter, IsPlaceOf, IsFirstAfter}
+use Rattle.tsp_sends.specs.Treating.{IsPlaceOf, IsFirstAfter}
 use Rattle.tsp_sends.proofs.SlotLemmas.{Rise, sending_to-absent}
 
 equal_means : (a b : ℕ) → nat_cmp a b ≡ Equal → a ≡ b

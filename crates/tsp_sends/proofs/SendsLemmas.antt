@@ -1,5 +1,5 @@
 -- Lemmas on slots with their deadlines.
-use Rattle.std.proofs.Common.{◌≡◌, ◌≢◌, ℕ, ◌+◌, ◌≤◌, ◌<◌, nat_le, Bool, true, false, if◌then◌else◌, List, [], ◌∷◌, length, map, replicate, Option, None, Some, Ok, get_or, set, length-set, get_or-set_same, get_or-set_other, refl, sym, ◌∙◌, ap, arith, inl, inr, ◌⊎◌}
+use Rattle.std.proofs.Common.{◌≡◌, ℕ, ◌+◌, ◌≤◌, ◌<◌, true, false, List, [], ◌∷◌, length, map, replicate, Option, None, Some, Ok, get_or, set, length-set, get_or-set_same, get_or-set_other, refl, sym, ◌∙◌, ap, arith, inl, inr}
 use Rattle.std.specs.Option.{option_map, option_and_then}
 use Rattle.std.proofs.lemmas.Bool.{cases_lt, cases_eq}
 use Rattle.std.proofs.lemmas.List.{length-map, get_or-map, get_or_default, map-set}
@@ -7,9 +7,9 @@ use Rattle.tsp_base.specs.declared.place.PeerId.{PeerId}
 use Rattle.tsp_base.specs.SendFacts.{Sending}
 use Rattle.tsp_sends.specs.declared.due.Due.{Due}
 use Rattle.tsp_sends.specs.declared.slot.Slot.{Slot}
-use Rattle.tsp_sends.specs.Deadlines.{is_due, deadline_at, IsFirstDue, IsFirstDueAt, IsLeast, IsLeastDeadline}
+use Rattle.tsp_sends.specs.Deadlines.{is_due, deadline_at, IsFirstDue, IsFirstDueAt, IsLeast}
 use Rattle.tsp_sends.specs.Slots.{IsAscending, peers_of, empty_slot, sending_to, deadline_of, deadline_in, SetsOnly, IsSends}
-use Rattle.tsp_sends.specs.Treating.{IsAfter, is_due_send, treated, kept, IsNextDue, TreatsNext, IsEarliest, IsLeastSend, IsPlaceOf, IsFirstAfter}
+use Rattle.tsp_sends.specs.Treating.{IsAfter, is_due_send, treated, kept, TreatsNext, IsEarliest, IsPlaceOf, IsFirstAfter}
 use Rattle.tsp_sends.proofs.SlotLemmas.{Rise, Rise-ascending, sending_to-at, sending_to-found, SetsOnly-set, peers_of-set}
 
 -- a slot gets another send, and its leaf the deadline

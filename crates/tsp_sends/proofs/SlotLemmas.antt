@@ -1,13 +1,11 @@
 -- Lemmas on the slots of a port's peers.
-use Rattle.std.proofs.Common.{◌≡◌, ◌≢◌, ℕ, zero, suc, ◌+◌, ◌-◌, ◌≤◌, ◌<◌, ◌==◌, Bool, true, false, if◌then◌else◌, List, [], ◌∷◌, length, map, Option, None, Some, Result, Ok, Err, get_or, set, eqb-true, eq-eqb, refl, sym, ◌∙◌, ap, arith, inl, inr, ◌⊎◌}
-use Rattle.std.specs.List.{Contains}
-use Rattle.std.proofs.lemmas.Bool.{ne_eqb, cases_lt, cases_order, cases_eq}
-use Rattle.std.proofs.lemmas.List.{length-map, get_or-map, get_or_default}
+use Rattle.std.proofs.Common.{◌≡◌, ◌≢◌, ℕ, zero, suc, ◌+◌, ◌-◌, ◌<◌, ◌==◌, Bool, true, false, if◌then◌else◌, List, [], ◌∷◌, length, map, Option, None, Some, get_or, set, eqb-true, eq-eqb, refl, sym, ◌∙◌, ap, arith}
+use Rattle.std.proofs.lemmas.Bool.{ne_eqb}
+use Rattle.std.proofs.lemmas.List.{length-map, get_or-map}
 use Rattle.tsp_base.specs.declared.place.PeerId.{PeerId}
 use Rattle.tsp_base.specs.SendFacts.{Sending}
 use Rattle.tsp_sends.specs.declared.slot.Slot.{Slot}
 use Rattle.tsp_sends.specs.Slots.{IsAscending, peers_of, sending_to, SetsOnly}
-use Rattle.tsp_sends.specs.Treating.{IsPlaceOf}
 
 -- the peers' numbers rise along the slots
 pub record Rise (slots : List Slot) : Type 0 where
@@ -98,3 +96,14 @@ pub peers_of-set : (slots : List Slot) (i : ℕ) (d new : Slot) → (i < length 
 peers_of-set [] i d new e = refl
 peers_of-set (s ∷ slots) zero d new e = ap (λ p. p ∷ peers_of slots) (e (omega arith))
 peers_of-set (s ∷ slots) (suc i) d new e = ap (λ ps. s.peer ∷ ps) (peers_of-set slots i d new (λ h. e (omega arith)))
+
+-- peers numbered by their places ascend
+pub IsAscending-numbers : (ps : List PeerId) → ((k : ℕ) (d : PeerId) → k < length ps → (get_or ps k d).0 ≡ k) → IsAscending ps
+IsAscending-numbers ps at k inside =
+    let d : PeerId = record { 0 = 0 } in
+    let many : length (map (λ (p : PeerId). p.0) ps) ≡ length ps = length-map ps (λ (p : PeerId). p.0) in
+    let low : k < length ps = omega arith in
+    let high : k + 1 < length ps = omega arith in
+    let here : get_or (map (λ (p : PeerId). p.0) ps) k 0 ≡ k = get_or-map (λ (p : PeerId). p.0) ps k d 0 low ∙ at k d low in
+    let next : get_or (map (λ (p : PeerId). p.0) ps) (k + 1) 0 ≡ k + 1 = get_or-map (λ (p : PeerId). p.0) ps (k + 1) d 0 high ∙ at (k + 1) d high in
+    omega arith

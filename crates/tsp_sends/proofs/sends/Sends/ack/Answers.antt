@@ -1,5 +1,5 @@
-use Rattle.std.proofs.Common.{◌≡◌, None, refl, sym, ap, ◌∙◌}
-use Rattle.tsp_sends.specs.Slots.{has_number, sending_to}
+use Rattle.std.proofs.Common.{None, refl, sym, ap, ◌∙◌}
+use Rattle.tsp_sends.specs.Slots.{has_number}
 use Rattle.tsp_sends.proofs.SearchLemmas.{sending_to-no_place}
 use Rattle.tsp_sends.proofs.SendsLemmas.{sending_found, SetsOnly-fill, peers_of-fill}
 use Rattle.tsp_sends.proofs.sends.Sends.ack.Goals as goal

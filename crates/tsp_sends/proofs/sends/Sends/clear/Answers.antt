@@ -1,7 +1,4 @@
-use Rattle.std.proofs.Common.{◌≡◌, ◌<◌, arith, length, ap, ◌∙◌, None}
-use Rattle.std.proofs.lemmas.List.{length-map}
-use Rattle.tsp_sends.specs.declared.slot.Slot.{Slot}
-use Rattle.tsp_sends.specs.Slots.{peers_of}
+use Rattle.std.proofs.Common.{◌<◌, arith, length, ap, ◌∙◌, None}
 use Rattle.tsp_sends.proofs.SendsLemmas.{peers_of-fill, none_in_empty, empty_more, length-fill}
 use Rattle.tsp_sends.proofs.sends.Sends.clear.Goals as goal
 

@@ -1,9 +1,9 @@
-use Rattle.std.proofs.Common.{◌≡◌, ◌<◌, arith, length, set, ap, sym, ◌∙◌}
+use Rattle.std.proofs.Common.{◌≡◌, arith, length, set, ap, ◌∙◌}
 use Rattle.std.specs.Option.{option_map, option_and_then}
 use Rattle.std.proofs.lemmas.List.{length-map}
 use Rattle.tsp_sends.specs.declared.slot.Slot.{Slot}
 use Rattle.tsp_sends.specs.Deadlines.{IsFirstDueAt}
-use Rattle.tsp_sends.specs.Slots.{peers_of, deadline_in}
+use Rattle.tsp_sends.specs.Slots.{deadline_in}
 use Rattle.tsp_sends.specs.Treating.{treated, kept}
 use Rattle.tsp_sends.proofs.SlotLemmas.{peers_of-set}
 use Rattle.tsp_sends.proofs.SendsLemmas.{IsSends-set, TreatsNext-none, TreatsNext-found}

@@ -1,4 +1,4 @@
-use Rattle.std.proofs.Common.{◌≡◌, ◌<◌, arith, length, set, ap, ◌∙◌}
+use Rattle.std.proofs.Common.{◌<◌, arith, length, set, ap, ◌∙◌}
 use Rattle.tsp_sends.specs.declared.slot.Slot.{Slot}
 use Rattle.tsp_sends.proofs.SendsLemmas.{IsSends-set}
 use Rattle.tsp_sends.proofs.sends.Sends.fill.Goals as goal

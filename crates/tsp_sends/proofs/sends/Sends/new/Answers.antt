@@ -1,5 +1,4 @@
-use Rattle.std.proofs.Common.{◌≡◌, map, ap}
-use Rattle.tsp_sends.specs.Slots.{peers_of, empty_slot, sending_to}
+use Rattle.std.proofs.Common.{ap}
 use Rattle.tsp_sends.specs.Trees.{TreeValue}
 use Rattle.tsp_sends.proofs.SendsLemmas.{IsSends-empty, peers_of-empty, sending_to-empty}
 use Rattle.tsp_sends.proofs.sends.Sends.new.Goals as goal
