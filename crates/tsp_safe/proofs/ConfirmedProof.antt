@@ -39,9 +39,9 @@ use Rattle.tsp_safe.proofs.SinceProof.{since}
 use Rattle.tsp_safe.proofs.SourceProof.{Source, source}
 
 -- the last Correct doesn't stand before the source of a number that it took
-before-source : (setting : Setting) (k : ℕ) (c r : Line) (cw ro uo : List Line) (amount number : ℤ) (stepped : Bool) (shown : ℤ) → Fits setting uo → Within (r ∷ ro) uo → Within (c ∷ cw) ro → node_of c ≡ k → c.did.deed ≡ Acts (Correct amount stepped shown) →
+before-source : (setting : Setting) (k : ℕ) (c r : Line) (cw ro uo : List Line) (amount : ℤ) (stepped : Bool) (shown : ℤ) → Fits setting uo → Within (r ∷ ro) uo → Within (c ∷ cw) ro → node_of c ≡ k → c.did.deed ≡ Acts (Correct amount stepped shown) →
     all_corrects (dids (c ∷ of k cw)) ≡ all_corrects (dids (of k uo)) → lives (dids (c ∷ of k cw)) ≡ lives (dids (of k uo)) → ticket (dids (of k cw)) ≡ ticket (dids (of k ro)) → ⊥
-before-source setting k c r cw ro uo amount number stepped shown f r_in c_in node deed all lives_is same =
+before-source setting k c r cw ro uo amount stepped shown f r_in c_in node deed all lives_is same =
     let own = own_fits setting k uo f in
     let ro_in : Within (of k ro) (of k uo) = Within-of k ro uo (Within-tail r ro uo r_in) in
     let one = since setting (c ∷ of k cw) (of k ro) (own_fits_at setting (of k ro) (of k uo) own ro_in) (own_in k c cw ro node c_in) in
@@ -56,7 +56,7 @@ after-source : (setting : Setting) (k : ℕ) (c r : Line) (cw ro uo : List Line)
 after-source setting k c r cw ro uo amount stepped shown f r_in c_in node deed all lives_is same = elim (Within-comparable (r ∷ ro) (c ∷ cw) uo r_in c_in) [
   | inl i ↦ place-time setting (r ∷ ro) (c ∷ cw) (fits_at setting (c ∷ cw) uo f c_in) i
   | inr (inl e) ↦ (let line : c ≡ r = cc in let o = ap (λ (z : Line). z.did.step.at) line in omega arith)
-  | inr (inr i) ↦ absurd (before-source setting k c r cw ro uo amount amount stepped shown f r_in i node deed all lives_is same)
+  | inr (inr i) ↦ absurd (before-source setting k c r cw ro uo amount stepped shown f r_in i node deed all lives_is same)
 ]
 
 -- an ACK of a number below 32,768 answers a correction
@@ -86,11 +86,11 @@ record OpenSend (setting : Setting) (n k : ℕ) (q : Port) (world : List Line) (
   pub small : m.number < 32768
 
 -- the last Correct before the ACK takes a post p3 of the open send
-confirmed-c : (setting : Setting) (n k : ℕ) (q r : Port) (f : Did) (u c p3 : Line) (world fw uo cw o3 : List Line) (mf t2 : MessageValue) (amount : ℤ) (stepped : Bool) (shown : ℤ) → Given setting world → OnceConfirmed world → OpenSend setting n k q world f fw mf →
+confirmed-c : (setting : Setting) (n k : ℕ) (q : Port) (f : Did) (u c p3 : Line) (world fw uo cw o3 : List Line) (mf t2 : MessageValue) (amount : ℤ) (stepped : Bool) (shown : ℤ) → Given setting world → OnceConfirmed world → OpenSend setting n k q world f fw mf →
     Within (u ∷ uo) world → Within (line_on q f ∷ fw) uo → Within (c ∷ cw) uo → node_of c ≡ k → c.did.deed ≡ Acts (Correct amount stepped shown) → all_corrects (dids (c ∷ of k cw)) ≡ all_corrects (dids (of k uo)) →
     lives (dids (c ∷ of k cw)) ≡ lives (dids (of k uo)) → Receives (view c.port (of k cw)) (peer_of n) (Message t2) → t2.number ≡ mf.number →
     Within (p3 ∷ o3) cw → p3.did.deed ≡ Acts (Post (Peer (peer_of k)) (Message t2)) → node_of p3 ≡ n → p3.port ≡ q → c.did.step.cause ≡ Came (posted (dids o3)) → Acted n k world (Here f ∷ view q (of n fw))
-confirmed-c setting n k q r f u c p3 world fw uo cw o3 mf t2 amount stepped shown g h s u_in f_uo c_in c_node c_deed all lives_is took number p3_in p3_deed p3_node p3_port takes =
+confirmed-c setting n k q f u c p3 world fw uo cw o3 mf t2 amount stepped shown g h s u_in f_uo c_in c_node c_deed all lives_is took number p3_in p3_deed p3_node p3_port takes =
     let gu = given_at setting (u ∷ uo) world g u_in in
     let guo = given_at setting uo (u ∷ uo) gu (inr (Within-all uo)) in
     let gc = given_at setting (c ∷ cw) uo guo c_in in
@@ -156,7 +156,7 @@ confirmed-u setting n k q f u p2 world fw uo o2 mf m2 g h s u_in u_node net life
     let p3 = known setting (line_on u.port t.correct) c.world (Correct t.amount t.stepped t.shown) (peer_of n) (Message t.message) gc.fits gc.honest t.deed (subst (λ z. Receives (view u.port (of z c.world)) (peer_of n) (Message t.message)) (sym c.node) took) in
     let p3_node : node_of p3.post ≡ n = number-same (node_of p3.post) n p3.node in
     let p3_net : setting.net (node_of p3.post) p3.post.port ≡ setting.net k u.port = subst (λ z. setting.net (node_of p3.post) p3.post.port ≡ setting.net z u.port) c.node p3.net in
-    confirmed-c setting n k q u.port f u (line_on u.port t.correct) p3.post world fw uo c.world p3.older mf t.message t.amount t.stepped t.shown g h s u_in f_uo c.place c.node t.deed
+    confirmed-c setting n k q f u (line_on u.port t.correct) p3.post world fw uo c.world p3.older mf t.message t.amount t.stepped t.shown g h s u_in f_uo c.place c.node t.deed
     (ap (λ z. all_corrects (dids (line_on u.port t.correct ∷ z))) c.own ∙ t.all) (ap (λ z. lives (dids (line_on u.port t.correct ∷ z))) c.own ∙ t.lives) took t.number_is
     p3.place (subst (λ z. p3.post.did.deed ≡ Acts (Post (Peer (peer_of z)) (Message t.message))) c.node p3.deed) p3_node (port-is setting n k q u.port p3.post p3_node p3_net net) p3.takes
 

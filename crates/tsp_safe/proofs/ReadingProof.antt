@@ -52,10 +52,10 @@ pub record ReadAt (setting : Setting) (m k : ℕ) (cpast : List Line) (sample : 
   pub after : start.step.at ≤ r.did.step.at
 
 -- with the Reading of the Sample's line
-read-with : (setting : Setting) (m k : ℕ) (q : Port) (l r : Line) (before cpast older : List Line) (sample : Sampled) (start s : Did) (idle i : List Seen) (reply : ReplyValue) (to : Place) (datagram : Datagram) → node_of l ≡ m →
+read-with : (setting : Setting) (m k : ℕ) (l r : Line) (before cpast older : List Line) (sample : Sampled) (start s : Did) (i : List Seen) (reply : ReplyValue) → node_of l ≡ m →
     Kept (dids (of m before)) (dids (of m cpast)) → sample.ticket ≡ reply.ticket → s ≡ start →
     (x : Reading setting l before k sample.diff sample.err s i reply) → x.post ∷ x.older ≡ r ∷ older → ReadAt setting m k cpast sample start r older
-read-with setting m k q l r before cpast older sample start s idle i reply to datagram l_node kept number start_is x same =
+read-with setting m k l r before cpast older sample start s i reply l_node kept number start_is x same =
     let post_is : x.post ≡ r = cc in
     let older_is : x.older ≡ older = cc in
     record {
@@ -80,5 +80,5 @@ read_at setting m k q l r before cpast older sample start idle to datagram f h w
     let same = reading_is setting l before k sample.diff sample.err s.start s.idle s.reply r older to datagram x r_in r_deed takes in
     let mine : started (view q (of m before)) ≡ Here s.start ∷ s.idle = subst₂ (λ n p. started (view p (of n before)) ≡ Here s.start ∷ s.idle) l_node l_port s.start_is in
     let start_same = same-start s.start start s.idle idle (view q (of m before)) b.rest (view q (of m cpast)) mine rest_is b.round start_is in
-    read-with setting m k q l r before cpast older sample start s.start idle s.idle s.reply to datagram l_node
+    read-with setting m k l r before cpast older sample start s.start s.idle s.reply l_node
     (kept-to-close setting m q cpast before (peer_of k) sample start idle fc b rest_is start_is u) s.number_is start_same x same
