@@ -2,6 +2,7 @@ pub mod AcknowledgedProof
 pub mod AgreedProof
 pub mod AgreedSums
 pub mod AskedProof
+pub mod BecameProof
 pub mod BestProof
 pub mod BrokenPeers
 pub mod BrokenProof

@@ -1,3 +1,4 @@
+pub mod Became
 pub mod Broken
 pub mod OrdinaryUse
 pub mod OwnFits

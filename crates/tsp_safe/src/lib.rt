@@ -17,6 +17,7 @@ ghost use Rattle.tsp_base.specs.Resolved.{StaysQuiet, StopsLeading, Yields};
 ghost use Rattle.tsp_base.specs.Safe.{Safe};
 ghost use Rattle.tsp_base.specs.Setting.{Setting};
 ghost use Rattle.tsp_base.specs.Ticks.{tick_at, width};
+ghost use Rattle.tsp_safe.specs.Became.{BecomesAfter};
 ghost use Rattle.tsp_safe.specs.Broken.{AllBreak};
 ghost use Rattle.tsp_safe.specs.OrdinaryUse.{OrdinaryUse};
 ghost use Rattle.tsp_safe.specs.RivalsMeet.{RivalsMeet};
@@ -81,6 +82,11 @@ pub fn relayed()
 /// A master that takes a QUIT follows its sender at the end of that step.
 pub fn resolved_yields()
     ensures { (setting : Setting) (world : List Line) → Fits setting world → Finished world → Yields world }
+{}
+
+/// It comes to follow by a change of its role in that step, after the QUIT.
+pub fn resolved_becomes()
+    ensures { BecomesAfter }
 {}
 
 /// After a QUIT a port isn't a master again for the least election delay.
