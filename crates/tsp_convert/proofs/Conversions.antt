@@ -1,5 +1,5 @@
 -- Laws of lines that are made of datagrams.
-use Rattle.std.proofs.Common.{◌≡◌, ℕ, List, [], ◌∷◌, ◌++◌, refl, sym, ap, ◌∙◌, map, append-nil, append_assoc, inl, Result, Ok, Err}
+use Rattle.std.proofs.Common.{◌≡◌, ℕ, List, [], ◌∷◌, ◌++◌, refl, sym, ap, ◌∙◌, map, append-nil, inl, Result, Ok, Err}
 use Rattle.std.specs.Prelude.{OnOk, OnErr, IfErr, MatchResult}
 use Rattle.std.specs.List.{AllZip}
 use Rattle.std.specs.declared.option.Option.{Option}
@@ -10,7 +10,7 @@ use Rattle.tsp_lines.specs.Meanings.{Meaning, Goes, StopsAt, stop_of}
 use Rattle.tsp_lines.specs.Outputs.{Hands}
 use Rattle.tsp_lines.specs.declared.treatment.Stop.{Stop}
 use Rattle.tsp_lines.specs.declared.output.Unwritten.{Unwritten}
-use Rattle.tsp_lines.specs.declared.output.Unwritten.TheVariants.{WriteFault, OutOfMemory}
+use Rattle.tsp_lines.proofs.Stops.{StopsAt-stop_of}
 
 -- each of these lines is the value at its place, and the text is those values' output
 abbrev pub Converts : {A : Type 0} → (List ℕ → A → Type 0) → (A → List ℕ) → List (List ℕ) → List ℕ → Type 0
@@ -35,19 +35,13 @@ Converts-more Is write lines text line more x c is e = (
   rw (c.2, e) (closed-more write c.0 x),
 )
 
--- a line's output wasn't handed over
-StopsAt-unwritten : (m : Meaning) (lines : List (List ℕ)) (text line : List ℕ) (written : Option (List ℕ)) (held : List ℕ) (now : Option (List ℕ)) (keeps : List ℕ) (fault : Unwritten)
-    → Hands written held now keeps [] → StopsAt m lines text line written held now keeps (stop_of fault)
-StopsAt-unwritten m lines text line written held now keeps WriteFault h = ([], h, inl refl)
-StopsAt-unwritten m lines text line written held now keeps OutOfMemory h = ([], h, inl refl)
-
 -- a line's output was handed over, or not
 pub Goes-or_StopsAt : (m : Meaning) (Stands : List (List ℕ) → Type 0) (lines : List (List ℕ)) (text line more : List ℕ) (written : Option (List ℕ)) (held : List ℕ) (now : Option (List ℕ)) (keeps : List ℕ) (r : Result Unit Stop)
     → OnOk r (Hands written held now keeps more) → OnErr r (Hands written held now keeps []) → IfErr r (λ stop. (fault : Unwritten) × (stop ≡ stop_of fault))
     → m.accepts (lines ++ line ∷ []) (text ++ more) → Stands (lines ++ line ∷ [])
     → MatchResult r (λ _. Goes m Stands lines text line written held now keeps) (λ stop. StopsAt m lines text line written held now keeps stop)
 Goes-or_StopsAt m Stands lines text line more written held now keeps (Ok x) ok err stop a s = (more, ok, a, s)
-Goes-or_StopsAt m Stands lines text line more written held now keeps (Err x) ok err stop a s = rw stop.1 (StopsAt-unwritten m lines text line written held now keeps stop.0 err)
+Goes-or_StopsAt m Stands lines text line more written held now keeps (Err x) ok err stop a s = rw stop.1 (StopsAt-stop_of m lines text line written now held keeps stop.0 ([], err, inl refl))
 
 AllZip-one : {A B : Type 0} (R : A → B → Type 0) (one : (x : A) (y z : B) → R x y → R x z → y ≡ z) (xs : List A) (ys zs : List B) → AllZip R xs ys → AllZip R xs zs → ys ≡ zs
 AllZip-one R one [] [] [] h k = refl

@@ -1,11 +1,10 @@
 -- Laws of hexadecimal lines.
-use Rattle.std.proofs.Common.{◌≡◌, ℕ, ◌<◌, List, [], ◌∷◌, suc, Ok, IsErr, inl, inr, true, false, length, map, refl, sym, ap, ◌∙◌, arith}
+use Rattle.std.proofs.Common.{◌≡◌, ℕ, List, [], ◌∷◌, suc, inl, inr, true, false, map, refl, ap, ◌∙◌, arith}
 use Rattle.std.specs.List.{All, AllZip}
-use Rattle.hex.specs.Hex.{decode_of, encode_lower}
+use Rattle.hex.specs.Hex.{encode_lower}
 use Rattle.hex.proofs.HexLemmas.{decode_of-ok, decode_of-same}
 use Rattle.tsp_base.specs.declared.datagram.Datagram.{Datagram}
 use Rattle.tsp_codec.specs.Canon.{canon}
-use Rattle.tsp_codec.specs.Spelling.{Spells}
 use Rattle.tsp_codec.proofs.OneDatagram.{Spells-one}
 use Rattle.tsp_codec.proofs.NoFault.{Spells-no_fault}
 use Rattle.tsp_script.specs.Ranges.{IsDatagram}

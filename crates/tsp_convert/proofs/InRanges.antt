@@ -1,15 +1,14 @@
 -- What octets spell is in its ranges.
-use Rattle.std.proofs.Common.{◌≡◌, ℕ, ◌+◌, ◌^◌, ◌<◌, List, [], ◌∷◌, ◌++◌, zero, suc, true, false, drop, refl, sym, ap, ◌∙◌, arith}
-use Rattle.std.specs.Int.{w16, w64, from_be_bytes}
+use Rattle.std.proofs.Common.{◌≡◌, ℕ, ◌+◌, ◌^◌, ◌<◌, List, [], ◌∷◌, ◌++◌, zero, suc, true, drop, refl, sym, arith}
 use Rattle.hex.specs.Hex.{IsBytes}
-use Rattle.tsp_base.specs.Messages.{MessageValue, body_fits}
+use Rattle.tsp_base.specs.Messages.{body_fits}
 use Rattle.tsp_base.specs.declared.kind.Kind.{Kind}
 use Rattle.tsp_base.specs.declared.message.Body.{Body}
 use Rattle.tsp_base.specs.declared.message.Body.TheVariants.{Nothing, Time, Hops}
 use Rattle.tsp_base.specs.declared.stamp.Stamp.TheVariants.{Request, Reply}
 use Rattle.tsp_base.specs.declared.datagram.Datagram.{Datagram}
 use Rattle.tsp_base.specs.declared.datagram.Datagram.TheVariants.{Message, Stamp}
-use Rattle.tsp_codec.specs.Numbers.{octet_at, be16_at, be64_at}
+use Rattle.tsp_codec.specs.Numbers.{be16_at, be64_at}
 use Rattle.tsp_codec.specs.Spelling.{Spells, SpellsBody}
 use Rattle.tsp_script.specs.Ranges.{IsBody, IsDatagram}
 

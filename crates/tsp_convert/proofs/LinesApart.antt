@@ -7,7 +7,7 @@ use Rattle.std.specs.Int.RustNames.{FitsSigned}
 use Rattle.std.proofs.lemmas.Fmt.{decimal_injective, signed_decimal_injective}
 use Rattle.std.proofs.lemmas.Int.{ints}
 use lib.Signed.{mag}
-use Rattle.tsp_base.specs.Kinds.{kind_word, carries_time, carries_hops}
+use Rattle.tsp_base.specs.Kinds.{kind_word}
 use Rattle.tsp_base.specs.Messages.{MessageValue, body_fits}
 use Rattle.tsp_base.specs.Stamps.{ReplyValue, IsReply}
 use Rattle.tsp_base.specs.declared.kind.Kind.{Kind}
@@ -102,7 +102,6 @@ replies_apart r s h i e =
     let c = numbers_apart r.counter s.counter _ _ h.1 i.1 w.1 in
     let z = signed_decimal_injective r.reading s.reading (small r.reading (omega (arith, ints, h.2.low), h.2.high)) (small s.reading (omega (arith, ints, i.2.low), i.2.high)) c.1 in
     reply_parts r.ticket r.word r.counter r.reading s r t.0 w.0 c.0 z refl
-
 
 letters_differ : (x : ℕ) → x ≡ 113 → x ≡ 112 → ⊥
 letters_differ x p q = omega arith

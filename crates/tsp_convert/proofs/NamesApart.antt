@@ -1,5 +1,5 @@
 -- Texts that are the same have the same words and the same names.
-use Rattle.std.proofs.Common.{◌≡◌, ℕ, ◌<◌, List, [], ◌∷◌, ◌++◌, suc, Bool, true, false, Ok, take, drop, refl, sym, ap, ◌∙◌, arith}
+use Rattle.std.proofs.Common.{◌≡◌, ℕ, ◌<◌, List, [], ◌∷◌, ◌++◌, suc, Bool, true, false, Ok, take, drop, refl, sym, ap, ◌∙◌}
 use Rattle.std.specs.Prelude.{Contains, flat_map, if◌then◌else◌}
 use Rattle.hex.specs.Hex.{encode_lower, encode_with, decode_of, IsBytes}
 use Rattle.hex.proofs.HexLemmas.{decode_of-encode_lower}

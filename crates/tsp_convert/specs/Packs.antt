@@ -1,5 +1,5 @@
 -- What `pack` makes of lines.
-use Rattle.std.specs.Prelude.{◌≡◌, ℕ, ◌<◌, ◌≤◌, ◌⊎◌, List, [], length, map, codes}
+use Rattle.std.specs.Prelude.{◌≡◌, ℕ, List, [], map, codes}
 use Rattle.std.specs.List.{AllZip}
 use Rattle.hex.specs.Hex.{encode_lower}
 use Rattle.tsp_base.specs.declared.datagram.Datagram.{Datagram}
@@ -28,5 +28,5 @@ pack_meaning = record {
   refuses = λ lines line cause. RefusesMessage line cause;
   limits = λ lines line. ⊥;
   ends = λ lines more. more ≡ [];
-  lacks = λ lines cause. ⊥
+  lacks = λ lines cause. ⊥;
 }

@@ -39,5 +39,5 @@ show_meaning = record {
   refuses = λ lines line cause. RefusesHex line cause;
   limits = λ lines line. ⊥;
   ends = λ lines more. more ≡ [];
-  lacks = λ lines cause. ⊥
+  lacks = λ lines cause. ⊥;
 }

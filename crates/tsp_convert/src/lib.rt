@@ -6,3 +6,5 @@ pub mod laws;
 pub mod pack;
 pub mod run;
 pub mod show;
+#[cfg(test)]
+mod tests;

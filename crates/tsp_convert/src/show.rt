@@ -51,7 +51,12 @@ impl Treatment for Show {
 
     ghost stands = { λ _ _. ⊤ };
 
-    fn treat<K: Sink>(&mut self, line: &[u8], output: &mut Output, sink: &mut K) -> Result<(), Stop> {
+    fn treat<K: Sink>(
+        &mut self,
+        line: &[u8],
+        output: &mut Output,
+        sink: &mut K,
+    ) -> Result<(), Stop> {
         match shown(line) {
             Ok(text) => hand_over(text.as_slice(), output, sink),
             Err(cause) => Err(Stop::Bad(cause)),

@@ -1,4 +1,4 @@
-use Rattle.std.proofs.Common.{ap, arith, length, sym}
+use Rattle.std.proofs.Common.{ap, arith, length}
 use Rattle.tsp_convert.proofs.Lengths.{length-message_text}
 use Rattle.tsp_convert.proofs.pack.PackTreatment.refuse_long.Goals as goal
 
