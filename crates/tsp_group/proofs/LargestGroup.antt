@@ -1,18 +1,16 @@
 -- Lemmas on the largest group.
-use Rattle.std.proofs.Common.{◌≡◌, ◌∙◌, refl, ap, sym, subst, ℕ, ◌+◌, ◌-◌, ◌<◌, ◌==◌, nat_lt, Bool, true, false, cond, ℤ, pos, List, length, take, get_or, arith, inl, inr, ◌⊎◌, length-take}
+use Rattle.std.proofs.Common.{◌≡◌, ◌∙◌, refl, ap, sym, subst, ℕ, ◌<◌, ◌==◌, nat_lt, Bool, true, false, cond, ℤ, pos, List, length, get_or, arith, inl, inr, ◌⊎◌}
 use Rattle.std.proofs.lemmas.Int.{ints}
 use Rattle.std.proofs.lemmas.Bool.Decides.{nat_tests}
-use Rattle.std.proofs.lemmas.List.{get_or-take}
 use Rattle.std.proofs.lemmas.List.Elements.{All-contains, Contains-get_or}
-use Rattle.std.proofs.lemmas.List.Sums.{fold_more}
 use Rattle.std.proofs.lemmas.List.Sorted.{IsPermutation-sym, Contains-permutation}
-use Rattle.std.specs.List.{All, Contains, fold, filter}
+use Rattle.std.specs.List.{All, Contains, filter}
 use Rattle.std.specs.List.Sorted.{IsPermutation}
-use Rattle.tsp_group.specs.Groups.{is_member, group_from, goes_before, better, no_group, try_lo, group_of, IsLargest}
+use Rattle.tsp_group.specs.Groups.{is_member, group_from, goes_before, no_group, group_of, IsLargest}
 use Rattle.tsp_group.specs.declared.group.Group.{Group}
 use Rattle.tsp_group.proofs.Members.{is_member-inside}
 use Rattle.tsp_group.proofs.Permutations.{Passing, passing_from_filter, group_from-permutation}
-use Rattle.tsp_group.proofs.Precedence.{goes_before-tie, better-stays}
+use Rattle.tsp_group.proofs.Precedence.{goes_before-tie}
 use Rattle.tsp_group.proofs.Trials.{best_of-first, best_of-cases}
 
 some_pass : (p : ℤ → Bool) (xs : List ℤ) (x : ℤ) → Contains xs x → p x ≡ true → 0 < length (filter p xs)
@@ -72,18 +70,3 @@ IsLargest-permutation span xs ys g h p = record {
 -- the largest group is that of the list in any order
 pub group_of-permutation : (span : ℕ) (xs ys : List ℤ) → IsPermutation xs ys → 0 < length xs → 0 < length ys → group_of span ys ≡ group_of span xs
 group_of-permutation span xs ys h some more = IsLargest-unique span ys (group_of span ys) (group_of span xs) (group_of-IsLargest span ys more) (IsLargest-permutation span xs ys (group_of span xs) h (group_of-IsLargest span xs some))
-
--- one more value was tried
-pub tried_more : (span : ℕ) (xs : List ℤ) (i : ℕ) (best : Group) → i < length xs → best ≡ fold (try_lo span xs) no_group (take i xs) → fold (try_lo span xs) no_group (take (i + 1) xs) ≡ better best (group_from span xs (get_or xs i (pos 0)))
-tried_more span xs i best h e = fold_more (try_lo span xs) no_group xs i (pos 0) h ∙ ap (λ g. better g (group_from span xs (get_or xs i (pos 0)))) (sym e)
-
--- a value that equals the one before it changes nothing
-pub tried_again : (span : ℕ) (xs : List ℤ) (i : ℕ) (best : Group) → i < length xs → best ≡ fold (try_lo span xs) no_group (take i xs) → 0 < i → get_or xs (i - 1) (pos 0) ≡ get_or xs i (pos 0) → fold (try_lo span xs) no_group (take (i + 1) xs) ≡ best
-tried_again span xs i best h e some same =
-    let lt : i - 1 < i = omega arith in
-    let read : get_or (take i xs) (i - 1) (pos 0) ≡ get_or xs i (pos 0) = get_or-take i xs (i - 1) (pos 0) lt ∙ same in
-    let c : Contains (take i xs) (get_or (take i xs) (i - 1) (pos 0)) = Contains-get_or (take i xs) (i - 1) (pos 0) (omega (arith, length-take i xs)) in
-    let d : Contains (take i xs) (get_or xs i (pos 0)) = subst (λ (x : ℤ). Contains (take i xs) x) read c in
-    let first = best_of-first (group_from span xs) (take i xs) no_group best e in
-    let behind : goes_before (group_from span xs (get_or xs i (pos 0))) best ≡ false = All-contains (λ lo. goes_before (group_from span xs lo) best ≡ false) (take i xs) (get_or xs i (pos 0)) first d in
-    tried_more span xs i best h e ∙ better-stays best (group_from span xs (get_or xs i (pos 0))) behind

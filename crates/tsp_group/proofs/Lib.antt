@@ -5,8 +5,8 @@ pub mod Members
 pub mod Orders
 pub mod Permutations
 pub mod Precedence
-pub mod Repeats
-pub mod Stretches
 pub mod Sums
-pub mod Sweeps
 pub mod Trials
+pub mod Windows
+pub mod BestWindows
+pub mod Slides

@@ -6,7 +6,7 @@ use Rattle.std.proofs.lemmas.List.Elements.{All-head, All-tail, All-take, All-we
 use Rattle.std.specs.List.{All, fold}
 use Rattle.tsp_group.specs.Groups.{total}
 use Rattle.tsp_group.specs.Values.{IsNear}
-use Rattle.tsp_group.specs.Stretches.{IsSmallSum}
+use Rattle.tsp_group.specs.Windows.{IsSmallSum}
 
 pub total_more : (xs : List ℤ) (i : ℕ) → i < length xs → total (take (i + 1) xs) ≡ total (take i xs) +ℤ get_or xs i (pos 0)
 total_more xs i h = fold_more ◌+ℤ◌ (pos 0) xs i (pos 0) h

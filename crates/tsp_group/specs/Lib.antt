@@ -1,3 +1,3 @@
 pub mod Groups
-pub mod Stretches
 pub mod Values
+pub mod Windows

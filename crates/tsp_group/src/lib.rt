@@ -2,11 +2,11 @@
 #![tactic(auto)]
 
 mod group;
-mod stretch;
 mod sweep;
 #[cfg(test)]
 mod tests;
 mod values;
+mod window;
 
 pub use group::{Group, correction, mean};
 pub use sweep::largest;

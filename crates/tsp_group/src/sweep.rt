@@ -4,12 +4,38 @@ ghost use Rattle.std.specs.List.{All};
 ghost use Rattle.std.specs.List.Sorted.{IsPermutation};
 ghost use Rattle.tsp_group.specs.Groups.{group_of, mean_of, HasMean, IsLargest, FollowsMajority};
 ghost use Rattle.tsp_group.specs.declared.group.Group.{Group};
-ghost use Rattle.tsp_group.specs.Stretches.{IsStretch, IsSmallSum, IsWhole, StaysBelow};
 ghost use Rattle.tsp_group.specs.Values.{IsNear, IsAscending};
+ghost use Rattle.tsp_group.specs.Windows.{IsBest, IsWindow};
 
 use crate::group::Group;
-use crate::stretch::Stretch;
 use crate::values::Values;
+use crate::window::Window;
+
+/// Moves the window on by a value, and gives the best group so far.
+///
+/// It never grows shorter: a group of fewer members than the best one is no better.
+fn advance(window: &mut Window, values: &mut Values, span: u64, best: Group) -> Group
+    requires window { IsWindow values.old.items window.old }
+    requires some { window.old.end < length values.old.items }
+    requires near { All IsNear values.old.items }
+    requires small { length values.old.items < 2 ^ 32 }
+    requires ascending { IsAscending values.old.items }
+    requires span { span ≤ 2 ^ 31 }
+    requires best { IsBest span values.old.items (window.old.end - window.old.first) window.old.end best }
+    ensures window { IsWindow values.new.items window.new }
+    ensures end { window.new.end ≡ window.old.end + 1 }
+    ensures best { IsBest span values.new.items (window.new.end - window.new.first) window.new.end result }
+    ensures items { values.new.items ≡ values.old.items }
+    ensures room { values.new.room ≡ values.old.room }
+    ensures looks { values.new.looks + window.old.first ≤ values.old.looks + window.new.first + 1 }
+{
+    let value = window.slide(values, span);
+    if window.reaches(value, span) {
+        best.better(window.group(value))
+    } else {
+        best
+    }
+}
 
 /// The largest group of values in ascending order.
 fn largest_sorted(values: &mut Values, span: u64) -> Group
@@ -22,16 +48,9 @@ fn largest_sorted(values: &mut Values, span: u64) -> Group
     ensures looks { values.new.looks ≤ values.old.looks + 2 * length values.old.items }
 {
     let mut best = Group::NONE;
-    let mut last = None;
-    let mut stretch = Stretch::begin(values);
-    while stretch.first < values.len() {
-        let lo = stretch.reach(values, span);
-        // The group of an equal value was tried at the first of them.
-        if last != Some(lo) {
-            best = best.better(stretch.group(lo));
-        }
-        stretch.leave(lo);
-        last = Some(lo);
+    let mut window = Window::begin(values);
+    while window.end < values.len() {
+        best = advance(&mut window, values, span, best);
     }
     best
 }
