@@ -3,6 +3,7 @@
 
 pub mod clock;
 pub mod corrections;
+pub mod laws;
 pub mod slew;
 #[cfg(test)]
 mod tests;
