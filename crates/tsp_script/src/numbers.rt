@@ -96,8 +96,8 @@ fn is_text_of(word: &[u8], number: u64) -> bool
     ensures { MatchBool result (word.now ≡ decimal number) (word.now ≡ decimal number → ⊥) }
 {
     let mut buffer = Buffer::new();
-    let text = buffer.format(number).as_bytes();
-    if text == word { true } else { false }
+    let digits = buffer.format(number).as_bytes();
+    if digits == word { true } else { false }
 }
 
 /// The number that the word is the decimal text of, with a dash where it is negative; None exactly where
