@@ -22,7 +22,7 @@ use tsp_base::place::{PeerId, Port};
 use tsp_clock::clock::{Clock, is_clock_value};
 
 /// Takes an ADJTIME from the master that is followed.
-pub fn adjtime<D: Desk>(
+pub(crate) fn adjtime<D: Desk>(
     station: &mut Station,
     last: &mut Last,
     clock: &mut Clock,
@@ -53,7 +53,7 @@ pub fn adjtime<D: Desk>(
 }
 
 /// Takes a SETTIME from the master that is followed.
-pub fn settime<D: Desk>(
+pub(crate) fn settime<D: Desk>(
     station: &mut Station,
     last: &mut Last,
     clock: &mut Clock,

@@ -13,12 +13,12 @@ use tsp_base::name::Name;
 use tsp_base::place::PeerId;
 
 /// A correction that was taken: who sent it, and its number.
-#[derive(Clone, Copy, PartialEq, Eq, Debug)]
-pub struct Correction {
+#[derive(Clone, Copy)]
+pub(crate) struct Correction {
     /// The master.
-    pub from: PeerId,
+    pub(crate) from: PeerId,
     /// The ticket that it carried.
-    pub number: u16,
+    pub(crate) number: u16,
 }
 
 /// The tick of the node's last Correct since its boot, the correction that it took if it took one on this
@@ -76,7 +76,7 @@ impl Last {
     }
 
     /// Notes a Correct that a master's message made.
-    pub fn took(&mut self, tick: u64, from: PeerId, number: u16)
+    pub(crate) fn took(&mut self, tick: u64, from: PeerId, number: u16)
         ensures { self.new ≡ record { tick = Some tick; taken = Some (record { from = from; number = number }); name = self.old.name } }
     {
         self.tick = Some(tick);
@@ -84,14 +84,14 @@ impl Last {
     }
 
     /// Keeps a master's name.
-    pub fn keep_name(&mut self, name: &Name)
+    pub(crate) fn keep_name(&mut self, name: &Name)
         ensures { self.new ≡ record self.old { name = name.now } }
     {
         self.name = name.copy();
     }
 
     /// Whether the last Correct took this number from this peer.
-    pub fn is_repeat(&self, from: PeerId, number: u16) -> bool
+    pub(crate) fn is_repeat(&self, from: PeerId, number: u16) -> bool
         ensures { result ≡ is_by from number self.now.taken }
     {
         match self.taken {
@@ -101,7 +101,7 @@ impl Last {
     }
 
     /// Whether the last Correct, if there was one, lies `GAP` ticks or more back.
-    pub fn is_rested(&self, tick: u64) -> bool
+    pub(crate) fn is_rested(&self, tick: u64) -> bool
         ensures { result ≡ is_past self.now.tick GAP tick }
     {
         match self.tick {

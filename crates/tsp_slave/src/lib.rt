@@ -1,7 +1,7 @@
 //! What a port does at Loose and at Follow, and how its quiet time ends.
 #![tactic(auto)]
 
-pub mod correction;
+mod correction;
 pub mod follow;
 pub mod last;
 pub mod ring;
