@@ -46,7 +46,13 @@ pub fn follow<D: Desk>(
 }
 
 /// Tells a master that it is followed, and the clock's ticket.
-pub(crate) fn tell_ticket<D: Desk>(station: &Station, clock: &Clock, p: PeerId, port: Port, desk: &mut D)
+pub(crate) fn tell_ticket<D: Desk>(
+    station: &Station,
+    clock: &Clock,
+    p: PeerId,
+    port: Port,
+    desk: &mut D,
+)
     requires room { 1 ≤ D.spare desk.old }
     ensures row { (x : ℕ) (last : LastValue) (took : Option Received) → Performs SlaveStands SlaveStands (tells_ticket p) x port
         (station.now, (last, (clock.now, took))) (station.now, (last, (clock.now, took))) (D.acts desk.old) (D.acts desk.new) }

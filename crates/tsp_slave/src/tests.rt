@@ -20,6 +20,7 @@ use tsp_base::role::Role;
 use tsp_clock::clock::Clock;
 
 const PORT: Port = Port(0);
+
 const MASTER: PeerId = PeerId(1);
 
 /// A station of peer 0 of two, which booted at tick 0 with the word 7.
@@ -82,17 +83,35 @@ fn corrects_once(rt: HostRuntime) -> Result<(), Fail> {
     slave_ring(&mut station, Alarm::Quiet, 80_000_000, PORT, &mut pad);
     assert_eq!(rt; pad.acts().len(), 4);
     let m = message(Kind::MasterUp, 0, None);
-    assert_eq!(rt; took(&mut station, &mut last, &mut clock, &mut pad, 81_000_000, m)?, (3, 81_000_000));
+    assert_eq!(rt;
+        took(&mut station, &mut last, &mut clock, &mut pad, 81_000_000, m)?,
+        (3, 81_000_000)
+    );
     let m = message(Kind::AdjTime, 7, Some(10_000));
-    assert_eq!(rt; took(&mut station, &mut last, &mut clock, &mut pad, 82_000_000, m)?, (3, 82_000_000));
+    assert_eq!(rt;
+        took(&mut station, &mut last, &mut clock, &mut pad, 82_000_000, m)?,
+        (3, 82_000_000)
+    );
     let m = message(Kind::AdjTime, 7, Some(10_000));
-    assert_eq!(rt; took(&mut station, &mut last, &mut clock, &mut pad, 82_500_000, m)?, (1, 82_502_500));
+    assert_eq!(rt;
+        took(&mut station, &mut last, &mut clock, &mut pad, 82_500_000, m)?,
+        (1, 82_502_500)
+    );
     let m = message(Kind::AdjTime, 8, Some(1));
-    assert_eq!(rt; took(&mut station, &mut last, &mut clock, &mut pad, 82_999_999, m)?, (0, 83_004_998));
+    assert_eq!(rt;
+        took(&mut station, &mut last, &mut clock, &mut pad, 82_999_999, m)?,
+        (0, 83_004_998)
+    );
     let m = message(Kind::AdjTime, 8, Some(1));
-    assert_eq!(rt; took(&mut station, &mut last, &mut clock, &mut pad, 83_000_000, m)?, (3, 83_005_000));
+    assert_eq!(rt;
+        took(&mut station, &mut last, &mut clock, &mut pad, 83_000_000, m)?,
+        (3, 83_005_000)
+    );
     let m = message(Kind::SetTime, 9, Some(100_000_000));
-    assert_eq!(rt; took(&mut station, &mut last, &mut clock, &mut pad, 84_000_000, m)?, (3, 100_000_000));
+    assert_eq!(rt;
+        took(&mut station, &mut last, &mut clock, &mut pad, 84_000_000, m)?,
+        (3, 100_000_000)
+    );
     assert!(rt; station.role == Role::Follow(MASTER));
     assert!(rt; last.tick() == Some(84_000_000) && last.name().octets() == b"b".as_slice());
     last.moved(84_000_001);
