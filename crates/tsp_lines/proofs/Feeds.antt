@@ -1,5 +1,5 @@
 -- Laws of the first line feed.
-use Rattle.std.proofs.Common.{◌≡◌, ℕ, ◌<◌, ◌≤◌, ◌+◌, ◌-◌, List, [], ◌∷◌, ◌++◌, None, Some, refl, sym, ap, ◌∙◌, take, drop, length, get_or, append_assoc, take-append-drop, arith, eq-eqb, eqb-true, length-take-le, add_assoc}
+use Rattle.std.proofs.Common.{◌≡◌, ℕ, ◌<◌, ◌≤◌, ◌+◌, ◌-◌, List, [], ◌∷◌, ◌++◌, None, Some, refl, sym, ap, ◌∙◌, take, drop, length, get_or, append_assoc, take-append-drop, arith, eq-eqb, eqb-true, length-take-le, add_assoc, zero, suc, subst}
 use Rattle.std.specs.Prelude.{MatchOption, slice_range}
 use Rattle.std.specs.declared.option.Option.{Option}
 use Rattle.std.proofs.lemmas.List.{drop_more, drop-take, drop-drop}
@@ -8,6 +8,7 @@ use Rattle.std.proofs.lemmas.List.Elements.{Contains-append_left}
 use Rattle.std.proofs.lemmas.Grind.{common_steps, get_or_default_zero}
 use Rattle.memchr.specs.Find.{IsFirstByte, is_byte, Nowhere, Passes}
 use Rattle.tsp_lines.specs.Lines.{NoFeed, close}
+use Rattle.tsp_lines.specs.Readings.{ReaderValue}
 
 NoFeed-take : (hay : List ℕ) (n : ℕ) → n ≤ length hay → Nowhere (Passes (is_byte 10) hay) 0 n → NoFeed (take n hay)
 NoFeed-take hay n h p = λ c.
@@ -40,18 +41,30 @@ held_rest buf at end place h =
     let g : drop (at + place + 1) buf ≡ drop (place + 1) (drop at buf) = ap (λ n. drop n buf) (add_assoc at place 1) ∙ sym (drop-drop (place + 1) at buf) in
     rw (f, g) (sym (drop-take (place + 1) m (drop at buf)) ∙ ap (λ n. drop (place + 1) (take n (drop at buf))) e)
 
--- a line that is given, and one that is too long
-pub given_line : (buf held : List ℕ) (at end place : ℕ) → slice_range buf at end ≡ held → place < length held → NoFeed (take place held) → held ≡ close (take place held) ++ drop (place + 1) held → place ≤ 1024
-    → NoFeed (slice_range buf at (at + place)) × (length (slice_range buf at (at + place)) ≤ 1024) × (held ≡ close (slice_range buf at (at + place)) ++ slice_range buf (at + place + 1) end)
-given_line buf held at end place e h n s short =
-    let within : place < length (slice_range buf at end) = rw e h in
-    rw (held_line buf at end place within, held_rest buf at end place within, e) (n, omega (arith, length-take-le place held (omega (arith, h)), short), s)
+-- a reader whose line is the part up to a place of what is held
+pub taken_line : (v : ReaderValue) (buf line start : List ℕ) (at end place got limit : ℕ)
+    → record { line = line; start = start; held = slice_range buf at end; got = got; limit = limit } ≡ v → place < length v.held
+    → record { line = slice_range buf at (at + place); start = start; held = slice_range buf (at + place + 1) end; got = got; limit = limit } ≡ record v { line = take place v.held; held = drop (place + 1) v.held }
+taken_line v buf line start at end place got limit e w =
+    let within : place < length (slice_range buf at end) = subst {A = ReaderValue} (λ u. place < length u.held) (sym e) w in
+    subst {A = ReaderValue} (λ u. record { line = slice_range buf at (at + place); start = start; held = slice_range buf (at + place + 1) end; got = got; limit = limit } ≡ record u { line = take place u.held; held = drop (place + 1) u.held }) e
+    (rw (held_line buf at end place within, held_rest buf at end place within) refl)
 
-pub given_long : (buf held : List ℕ) (at end place : ℕ) → slice_range buf at end ≡ held → place < length held → NoFeed (take place held) → held ≡ close (take place held) ++ drop (place + 1) held → 1024 < place
-    → (line : List ℕ) × NoFeed line × (1024 < length line) × (held ≡ close line ++ slice_range buf (at + place + 1) end)
-given_long buf held at end place e h n s long =
-    let within : place < length (slice_range buf at end) = rw e h in
-    rw (held_rest buf at end place within, e) (take place held, n, omega (arith, length-take-le place held (omega (arith, h)), long), s)
+-- the first octets of the first octets
+take-take : (xs : List ℕ) (n m : ℕ) → n ≤ m → take n (take m xs) ≡ take n xs
+take-take xs zero m h = refl
+take-take xs (suc n) zero h = absurd (omega (arith, h))
+take-take [] (suc n) (suc m) h = refl
+take-take (x ∷ xs) (suc n) (suc m) h = ap (λ l. x ∷ l) (take-take xs n m (omega (arith, h)))
+
+-- a line that is given, and one that is too long
+pub given_line : (held : List ℕ) (place : ℕ) → place < length held → NoFeed (take place held) → held ≡ close (take place held) ++ drop (place + 1) held → place ≤ 1024
+    → NoFeed (take place held) × (length (take place held) ≤ 1024) × (held ≡ close (take place held) ++ drop (place + 1) held)
+given_line held place h n s short = (n, omega (arith, length-take-le place held (omega (arith, h)), short), s)
+
+pub given_long : (held : List ℕ) (place : ℕ) → place < length held → NoFeed (take place held) → held ≡ close (take place held) ++ drop (place + 1) held → 1024 < place
+    → (line : List ℕ) × NoFeed line × (1024 < length line) × (held ≡ close line ++ drop (place + 1) held) × (take 8 held ≡ take 8 line)
+given_long held place h n s long = (take place held, n, omega (arith, length-take-le place held (omega (arith, h)), long), s, sym (take-take held 8 place (omega (arith, long))))
 
 split_end : (xs : List ℕ) → 0 < length xs → (part : List ℕ) × (x : ℕ) × (xs ≡ part ++ x ∷ [])
 split_end [] h = absurd (omega arith)

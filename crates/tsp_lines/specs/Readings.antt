@@ -1,5 +1,5 @@
 -- What a reader of lines holds and gives.
-use Rattle.std.specs.Prelude.{◌≡◌, ℕ, ◌<◌, ◌≤◌, ◌+◌, List, [], ◌∷◌, ◌++◌, length, Bool, true, false, ◌==◌}
+use Rattle.std.specs.Prelude.{◌≡◌, ℕ, ◌<◌, ◌≤◌, ◌+◌, List, [], ◌∷◌, ◌++◌, length, take, Bool, true, false, ◌==◌}
 use Rattle.tsp_io.specs.declared.source.Got.{Got}
 use Rattle.tsp_io.specs.declared.source.Got.TheVariants.{Got as Gave, Failed as NotGot}
 use Rattle.tsp_lines.specs.Lines.{NoFeed, close}
@@ -8,9 +8,10 @@ use Rattle.tsp_lines.specs.declared.reader.Next.TheVariants.{Line, Last, Long, L
 use Rattle.tsp_lines.specs.declared.reader.Fill.{Fill}
 use Rattle.tsp_lines.specs.declared.reader.Fill.TheVariants.{More, Over, NotRead}
 
--- a reader: the line last given, the octets read and not used yet, how many were got in all, and how many may be
+-- a reader: the line last given, the first octets of the long line last given, the octets read and not used yet, how many were got in all, and how many may be
 pub record ReaderValue : Type 0 where
   pub line : List ℕ
+  pub start : List ℕ
   pub held : List ℕ
   pub got : ℕ
   pub limit : ℕ
@@ -19,8 +20,8 @@ pub record ReaderValue : Type 0 where
 abbrev pub IsNext : ReaderValue → List ℕ → Next → Type 0
 IsNext r ahead Line = NoFeed r.line × (length r.line ≤ 1024) × (ahead ≡ close r.line ++ r.held)
 IsNext r ahead Last = NoFeed r.line × (0 < length r.line) × (length r.line ≤ 1024) × (ahead ≡ r.line) × (r.held ≡ [])
-IsNext r ahead Long = (line : List ℕ) × NoFeed line × (1024 < length line) × (ahead ≡ close line ++ r.held)
-IsNext r ahead LongLast = NoFeed ahead × (1024 < length ahead) × (r.held ≡ [])
+IsNext r ahead Long = (line : List ℕ) × NoFeed line × (1024 < length line) × (ahead ≡ close line ++ r.held) × (r.start ≡ take 8 line)
+IsNext r ahead LongLast = NoFeed ahead × (1024 < length ahead) × (r.held ≡ []) × (r.start ≡ take 8 ahead)
 IsNext r ahead End = (ahead ≡ []) × (r.held ≡ [])
 IsNext r ahead Limit = (r.got ≡ r.limit + 1) × ((part : List ℕ) × (x : ℕ) × NoFeed part × (ahead ≡ part ++ x ∷ []))
 IsNext r ahead Failed = NoFeed ahead

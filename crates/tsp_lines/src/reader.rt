@@ -5,6 +5,7 @@ ghost use Rattle.tsp_io.specs.Streams.{Gives};
 ghost use Rattle.tsp_lines.specs.Lines.{NoFeed, close, IsOver};
 ghost use Rattle.tsp_lines.specs.Readings.{IsNext, IsPassed, long_of, is_over, IsFill, meets_end, count_of, is_end};
 
+use arrayvec::ArrayVec;
 use memchr::memchr;
 use std::alloc::{AllocError, Global};
 use std::marker::Model;
@@ -15,6 +16,9 @@ const ROOM: usize = 65536;
 
 /// The most octets of a line, without its line feed.
 const LONGEST: usize = 1024;
+
+/// How many octets of a long line are kept.
+const START: usize = 8;
 
 /// What a reader of lines gives.
 #[derive(Clone, Copy, PartialEq, Eq, Debug)]
@@ -94,10 +98,12 @@ fn long_of(next: Next) -> Next
     }
 }
 
-/// Octets that were read from a source and not used yet, and the line last given.
+/// Octets that were read from a source and not used yet, the line last given, and the first octets of
+/// the long line last given.
 #[derive(Drop)]
 pub struct LineReader {
     buf: Vec<u8>,
+    start: ArrayVec<u8, START>,
     from: usize,
     to: usize,
     at: usize,
@@ -112,7 +118,7 @@ impl Model for LineReader {
 
     ghost Value = { ReaderValue };
 
-    ghost view = { λ r. record { line = slice_range r.buf.items r.from r.to; held = slice_range r.buf.items r.at r.end; got = r.got; limit = r.limit } };
+    ghost view = { λ r. record { line = slice_range r.buf.items r.from r.to; start = r.start.items; held = slice_range r.buf.items r.at r.end; got = r.got; limit = r.limit } };
 
     ghost invariant = { λ r. (vec_len r.buf ≡ 65536) × (r.from ≤ r.to) × (r.to ≤ 65536) × (r.at ≤ r.end) × (r.end ≤ 65536) × (r.got ≤ r.limit + 1) × (r.limit < r.got → r.at < r.end) × (r.limit < 2 ^ 63) };
 }
@@ -121,10 +127,11 @@ impl LineReader {
     /// A reader that has read nothing, and reads no octet behind the first one past the limit.
     pub fn new(alloc: Global, limit: u64) -> Result<LineReader, AllocError>
         requires { limit < 2 ^ 63 }
-        ensures { IfOk result (λ r. r ≡ record { line = []; held = []; got = 0; limit = limit }) }
+        ensures { IfOk result (λ r. r ≡ record { line = []; start = []; held = []; got = 0; limit = limit }) }
     {
         Ok(LineReader {
             buf: vec![in alloc; 0; ROOM]?,
+            start: ArrayVec::new(),
             from: 0,
             to: 0,
             at: 0,
@@ -141,12 +148,47 @@ impl LineReader {
         &self.buf[self.from..self.to]
     }
 
+    /// The first 8 octets of the long line last given.
+    pub fn start(&self) -> &[u8]
+        ensures { result.now ≡ self.now.start }
+    {
+        self.start.as_slice()
+    }
+
+    /// The first octets of the long line that is held.
+    fn start_of_held(&self) -> ArrayVec<u8, START>
+        requires { 1024 < length self.now.held }
+        ensures { result.items ≡ take 8 self.now.held }
+    {
+        let mut start = ArrayVec::new();
+        let _ = start.try_extend_from_slice(&self.buf[self.at..self.at + START]);
+        start
+    }
+
+    /// Keeps the first octets of a long line.
+    fn keep(&mut self, start: ArrayVec<u8, START>)
+        ensures { self.new ≡ record self.old { start = start.items } }
+    {
+        self.start = start;
+    }
+
     /// The place of the first line feed that is held.
     fn feed(&self) -> Option<usize>
         ensures first { MatchOption result (NoFeed self.now.held) (λ place. NoFeed (take place self.now.held) × (self.now.held ≡ close (take place self.now.held) ++ drop (place + 1) self.now.held)) }
         ensures within { IfSome result (λ place. place < length self.now.held) }
     {
         memchr(b'\n', &self.buf[self.at..self.end])
+    }
+
+    /// Takes the line that ends at this place of what is held.
+    fn take_line(&mut self, place: usize)
+        requires within { place < length self.old.held }
+        requires before { self.old.limit < self.old.got → place + 1 < length self.old.held }
+        ensures { self.new ≡ record self.old { line = take place self.old.held; held = drop (place + 1) self.old.held } }
+    {
+        self.from = self.at;
+        self.to = self.at + place;
+        self.at = self.to + 1;
     }
 
     /// Gives the line that ends at this place of what is held.
@@ -158,14 +200,14 @@ impl LineReader {
         ensures next { IsNext self.new self.old.held result }
         ensures same { (self.new.got ≡ self.old.got) × (self.new.limit ≡ self.old.limit) × (is_over result ≡ false) × (result ≢ Next.Failed) }
     {
-        self.from = self.at;
-        self.to = self.at + place;
-        self.at = self.to + 1;
         if place > LONGEST {
-            Next::Long
-        } else {
-            Next::Line
+            let start = self.start_of_held();
+            self.keep(start);
+            self.take_line(place);
+            return Next::Long;
         }
+        self.take_line(place);
+        Next::Line
     }
 
     /// The next line, or the limit's, where its end is held; none where more has to be read first.
@@ -284,8 +326,10 @@ impl LineReader {
         ensures over { is_over result ≡ true → IsOver (S.left source.new) }
         ensures ended { S.ended source.new ≡ is_over result }
     {
+        let start = self.start_of_held();
         loop {
             if let Some(next) = self.pass(source) {
+                self.keep(start);
                 return next;
             }
         }

@@ -45,7 +45,7 @@ impl Treatment for Echo {
         }
     }
 
-    fn refuse_long(&mut self) -> Cause {
+    fn refuse_long(&mut self, _start: &[u8]) -> Cause {
         Cause::of(b"long")
     }
 

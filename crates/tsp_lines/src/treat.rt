@@ -1,5 +1,5 @@
 //! The treatment of a whole input.
-ghost use Rattle.std.specs.Prelude.{◌≡◌, ◌≢◌, ℕ, List, ◌≤◌, ◌<◌, ◌+◌, ◌-◌, ◌^◌, [], ◌++◌, ◌⊎◌, length, true, false, IfOk, OnOk, OnErr, IfSome, MatchOption, MatchResult};
+ghost use Rattle.std.specs.Prelude.{◌≡◌, ◌≢◌, ℕ, List, ◌≤◌, ◌<◌, ◌+◌, ◌-◌, ◌^◌, [], ◌++◌, ◌⊎◌, length, take, true, false, IfOk, OnOk, OnErr, IfSome, MatchOption, MatchResult};
 ghost use Rattle.std.specs.declared.option.Option.{Option};
 ghost use Rattle.tsp_io.specs.Counts.{Rose};
 ghost use Rattle.tsp_io.specs.Streams.{Gives};
@@ -153,14 +153,14 @@ impl Progress {
 
     /// Refuses a line of more than 1,024 octets.
     fn refuse_long<K: Sink, T: Treatment>(&mut self, sink: &mut K, treatment: &mut T) -> Outcome
-        ensures ends { (lines : List (List ℕ)) → (text : List ℕ) → (line : List ℕ) → T.stands treatment.old lines → T.meaning.accepts lines text → NoFeed line → 1024 < length line
+        ensures ends { (lines : List (List ℕ)) → (text : List ℕ) → (line : List ℕ) → T.stands treatment.old lines → T.meaning.accepts lines text → NoFeed line → 1024 < length line → self.old.reader.start ≡ take 8 line
             → Ends (line_sayings T.meaning lines text self.old.number line) (K.written sink.old) self.old.output (K.written sink.new) result }
         ensures same { self.new.reader ≡ self.old.reader }
         ensures later { K.faults sink.old ≤ K.faults sink.new }
         ensures cause { result ≡ Outcome.WriteFault → Rose (K.faults sink.old) (K.faults sink.new) }
         ensures kind { result ≢ Outcome.ReadFault }
     {
-        let cause = treatment.refuse_long();
+        let cause = treatment.refuse_long(self.reader.start());
         let words = bad_line(self.number, cause.words());
         refuse(&mut self.output, sink, words.as_slice())
     }

@@ -1,5 +1,5 @@
 //! What is done with lines.
-ghost use Rattle.std.specs.Prelude.{◌≡◌, ℕ, ◌≤◌, ◌<◌, length, List, MatchResult};
+ghost use Rattle.std.specs.Prelude.{◌≡◌, ℕ, ◌≤◌, ◌<◌, length, take, List, MatchResult};
 ghost use Rattle.tsp_io.specs.Counts.{Rose};
 ghost use Rattle.tsp_lines.specs.Lines.{NoFeed};
 ghost use Rattle.tsp_lines.specs.Meanings.{Meaning, Goes, StopsAt, Closes, StopsAtEnd, stop_of};
@@ -53,9 +53,9 @@ pub trait Treatment {
         ensures later { K.faults sink.old ≤ K.faults sink.new }
         ensures cause { result ≡ Err Stop.WriteFault → Rose (K.faults sink.old) (K.faults sink.new) × (0 < length output.new) };
 
-    /// The cause for which a line of more than 1,024 octets is refused.
-    fn refuse_long(&mut self) -> Cause
-        ensures { (lines : List (List ℕ)) → (text : List ℕ) → (line : List ℕ) → stands self.old lines → meaning.accepts lines text → NoFeed line → 1024 < length line → meaning.refuses lines line result };
+    /// The cause for which a line of more than 1,024 octets is refused, of which only the first 8 octets are given.
+    fn refuse_long(&mut self, start: &[u8]) -> Cause
+        ensures { (lines : List (List ℕ)) → (text : List ℕ) → (line : List ℕ) → stands self.old lines → meaning.accepts lines text → NoFeed line → 1024 < length line → start.now ≡ take 8 line → meaning.refuses lines line result };
 
     /// Says whether the input may end here, and hands over the output of its end.
     fn end<K: Sink>(&mut self, output: &mut Output, sink: &mut K) -> Result<(), Stop>

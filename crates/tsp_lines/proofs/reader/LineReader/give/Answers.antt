@@ -1,10 +1,9 @@
-use Rattle.std.proofs.Common.{ap}
+use Rattle.std.proofs.Common.{arith}
 use Rattle.tsp_lines.proofs.Feeds.{given_line, given_long}
 use Rattle.tsp_lines.proofs.reader.LineReader.give.Goals as goal
-use Rattle.tsp_lines.proofs.reader.LineReader.give.Goals.{then-place-gt-LONGEST, else-place-gt-LONGEST}
+
+pub returns-then-place-gt-LONGEST-clause-next : goal.returns-then-place-gt-LONGEST-clause-next
+returns-then-place-gt-LONGEST-clause-next c = rw (c.take_line.ensures, c.keep.ensures, c.start_of_held-start.ensures) (given_long _ _ c.requires.within c.requires.line c.requires.feed c.if-place-gt-LONGEST.true)
 
 pub returns-clause-next : goal.returns-clause-next
-returns-clause-next c = elim c.if-place-gt-LONGEST.branch [
-  | then-place-gt-LONGEST w ↦ rw w.result-is (given_long _ _ _ _ _ (ap (λ v. v.held) c.self.view_is) c.requires.within c.requires.line c.requires.feed w.if-place-gt-LONGEST.true)
-  | else-place-gt-LONGEST w ↦ rw w.result-is (given_line _ _ _ _ _ (ap (λ v. v.held) c.self.view_is) c.requires.within c.requires.line c.requires.feed w.if-place-gt-LONGEST.false)
-]
+returns-clause-next c = rw c.take_line-2.ensures (given_line _ _ c.requires.within c.requires.line c.requires.feed c.if-place-gt-LONGEST.false)

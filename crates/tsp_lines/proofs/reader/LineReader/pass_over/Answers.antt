@@ -1,4 +1,5 @@
-use Rattle.std.proofs.Common.{arith}
+use Rattle.std.proofs.Common.{arith, refl, [], append-nil}
+use Rattle.tsp_lines.proofs.Streams.{Gives-nil}
 use Rattle.tsp_lines.proofs.Passes.{passed, passed_more}
 use Rattle.tsp_lines.proofs.reader.LineReader.pass_over.Goals as goal
 
@@ -6,7 +7,7 @@ pub returns-in-Some-clause-next : goal.returns-in-Some-clause-next
 returns-in-Some-clause-next g c =
     let i = c.loop-next.invariant in
     let p = c.in-Some.ensures.passes in
-    passed _ _ _ _ _ _ _ _ _ c.requires.long i.0.1 i.0.3 p.1 (omega (arith, i.0.2, p.2)) p.3
+    rw c.keep.ensures (passed _ _ _ c.pass.new.self _ _ _ _ _ _ c.requires.long c.start_of_held-start.ensures i.0.1 i.0.3 p.1 (omega (arith, i.0.2, p.2)) p.3)
 
 pub loop-next-preserved : goal.loop-next-preserved
 loop-next-preserved g c =
@@ -19,3 +20,6 @@ loop-next-preserved g c =
       e.ended,
       omega (arith, i.4, e.later),
     )
+
+pub loop-next-init : goal.loop-next-init
+loop-next-init g c = (([], Gives-nil _, omega arith, rw (append-nil c.args.self.now.held) c.requires.line), refl, c.requires.within, c.requires.open, omega arith)

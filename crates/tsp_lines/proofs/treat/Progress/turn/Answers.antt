@@ -52,8 +52,8 @@ returns-in-Long-clause-turns g c = λ input written lines text at.
     let n = c.in-Ok.ensures.next in
     let a = After-next _ _ _ _ _ _ _ _ _ c.next.new.self.reader _ c.next.new.self.output _ c.next.new.self.number lines text n.0 at n.1 n.2 c.next.ensures.hands c.next.ensures.same.0 in
     elim c.in-Long.is [
-      | inl e ↦ let m = rw e at n.3 in Comes-line _ _ _ _ _ _ _ _ c.next.new.self.reader _ _ lines text _ m.0 c.refuse_long.result a (HasNext-long _ _ _ c.next.new.self.reader _ a.reach m) (c.refuse_long.ensures.ends lines text m.0 at.stands at.accepted m.1 m.2)
-      | inr e ↦ let m = rw e at n.3 in Comes-line _ _ _ _ _ _ _ _ c.next.new.self.reader _ _ lines text _ _ c.refuse_long.result a (HasNext-last _ _ _ c.next.new.self.reader _ a.reach m.0 (omega (arith, m.1)) (c.in-Ok.ensures.over (ap is_over e))) (c.refuse_long.ensures.ends lines text _ at.stands at.accepted m.0 m.1)
+      | inl e ↦ let m = rw e at n.3 in Comes-line _ _ _ _ _ _ _ _ c.next.new.self.reader _ _ lines text _ m.0 c.refuse_long.result a (HasNext-long _ _ _ c.next.new.self.reader _ a.reach m) (c.refuse_long.ensures.ends lines text m.0 at.stands at.accepted m.1 m.2 m.4)
+      | inr e ↦ let m = rw e at n.3 in Comes-line _ _ _ _ _ _ _ _ c.next.new.self.reader _ _ lines text _ _ c.refuse_long.result a (HasNext-last _ _ _ c.next.new.self.reader _ a.reach m.0 (omega (arith, m.1)) (c.in-Ok.ensures.over (ap is_over e))) (c.refuse_long.ensures.ends lines text _ at.stands at.accepted m.0 m.1 m.3)
     ]
 
 pub returns-in-End-clause-turns : goal.returns-in-End-clause-turns
