@@ -59,7 +59,7 @@ impl Treatment for Pack {
         }
     }
 
-    fn refuse_long(&mut self) -> Cause {
+    fn refuse_long(&mut self, _start: &[u8]) -> Cause {
         Cause::of(b"message")
     }
 

@@ -63,7 +63,7 @@ impl Treatment for Show {
         }
     }
 
-    fn refuse_long(&mut self) -> Cause {
+    fn refuse_long(&mut self, _start: &[u8]) -> Cause {
         Cause::of(b"hex")
     }
 
