@@ -37,7 +37,10 @@ fn changes_by_acts(rt: HostRuntime) -> Result<(), Fail> {
     assert!(rt; station.hears(PeerId(4)) && !station.hears(PeerId(3)));
     station.arm(Alarm::Search, 10, 5, port, &mut pad);
     assert!(rt; station.is_due(Alarm::Search, 15) && !station.is_due(Alarm::Search, 14));
-    assert!(rt; station.is_in_time(Alarm::Search, 1_000_015) && !station.is_in_time(Alarm::Search, 1_000_016));
+    assert!(rt;
+        station.is_in_time(Alarm::Search, 1_000_015)
+            && !station.is_in_time(Alarm::Search, 1_000_016)
+    );
     station.ring(Alarm::Search, port, &mut pad);
     station.late(Alarm::Probe, port, &mut pad);
     station.abandon(port, &mut pad);
@@ -45,7 +48,10 @@ fn changes_by_acts(rt: HostRuntime) -> Result<(), Fail> {
     assert!(rt; station.alarms.at(Alarm::Elect) == Some(300_000_027));
     assert!(rt; station.alarms.at(Alarm::Search) == None);
     station.back(PeerId(4), 30, port, &mut pad);
-    assert!(rt; !station.hold.may_back(60_000_029, PeerId(1)) && station.hold.may_back(60_000_030, PeerId(1)));
+    assert!(rt;
+        !station.hold.may_back(60_000_029, PeerId(1))
+            && station.hold.may_back(60_000_030, PeerId(1))
+    );
     station.quit(PeerId(4), 40, port, &mut pad);
     station.post(PeerId(4), Kind::Ack, 7, port, &mut pad);
     station.post_back(Place::Stranger, Kind::Ack, 7, port, &mut pad);
