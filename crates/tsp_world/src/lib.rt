@@ -9,4 +9,6 @@ pub mod posted;
 mod refusals;
 mod step;
 mod tell;
+#[cfg(test)]
+mod tests;
 pub mod world;
