@@ -7,7 +7,7 @@ use Rattle.tsp_base.specs.declared.place.PeerId.{PeerId}
 use Rattle.tsp_base.specs.declared.place.Port.{Port}
 use Rattle.tsp_base.specs.History.{Past}
 use Rattle.tsp_base.specs.Performs.{Performs}
-use Rattle.tsp_base.specs.Rows.{Row, puts, grown, placed}
+use Rattle.tsp_base.specs.Rows.{Row, puts, grown}
 use Rattle.tsp_world.specs.declared.node.Node.{Node}
 use Rattle.tsp_base.specs.declared.place.Place.{Place}
 use Rattle.tsp_base.specs.declared.place.Place.TheVariants.{Peer, Stranger}

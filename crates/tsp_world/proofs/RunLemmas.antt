@@ -1,14 +1,13 @@
 -- What a step adds to a history: what its node sees, what others see, and what was posted.
-use Rattle.std.specs.Prelude.{◌≡◌, ℕ, ◌==◌, ◌||◌, Bool, true, false, List, [], ◌∷◌, ◌++◌, Some}
-use Rattle.std.proofs.Common.{refl, sym, ap, ◌∙◌, append_assoc, append-nil, subst}
+use Rattle.std.specs.Prelude.{◌≡◌, ℕ, ◌==◌, Bool, true, false, List, [], ◌∷◌, ◌++◌}
+use Rattle.std.proofs.Common.{refl, sym, ap, ◌∙◌, append_assoc, append-nil}
 use Rattle.tsp_base.specs.declared.act.Act.{Act}
 use Rattle.tsp_base.specs.declared.act.Act.TheVariants.{Boot}
-use Rattle.tsp_base.specs.Headers.{HeaderValue}
-use Rattle.tsp_base.specs.History.{Step, Deed, Begins, Acts, Did, Line, Seen, Here, Past, of, view, plain, dids, is_shared}
+use Rattle.tsp_base.specs.History.{Step, Deed, Begins, Acts, Line, Seen, Here, of, view, plain, dids}
 use Rattle.tsp_base.specs.NodeFacts.{up, up_after}
-use Rattle.tsp_base.specs.Rows.{added, placed, grown, in_step}
+use Rattle.tsp_base.specs.Rows.{added, placed}
 use Rattle.tsp_base.proofs.Views.{plain_view}
-use Rattle.tsp_world.specs.Run.{Happening, joined, joins, line_of, posts, posts_from, posted_by}
+use Rattle.tsp_world.specs.Run.{joined, line_of, posts, posts_from, posted_by}
 use Rattle.tsp_world.specs.Setup.{first_port}
 
 one-own : (n : ℕ) (step : Step) (x : ℕ) (deed : Deed) (h : List Line) → (step.node == n) ≡ true → view first_port (of n (line_of step x deed ∷ h)) ≡ Here (record { step = step; tick = x; deed = deed }) ∷ view first_port (of n h)

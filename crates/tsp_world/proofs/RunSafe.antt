@@ -1,15 +1,13 @@
 -- The history of every valid schedule keeps the promises.
-use Rattle.std.specs.Prelude.{◌≡◌, ◌≤◌, ◌<◌, ℕ, ℤ, pos, nat_abs, List, length, refl}
-use Rattle.std.proofs.Common.{ap, subst, sym, arith, ◌⊎◌, inl, inr}
+use Rattle.std.specs.Prelude.{◌≤◌, ℕ, nat_abs, length, refl}
+use Rattle.std.proofs.Common.{ap, subst, sym, arith, inl, inr}
 use Rattle.std.proofs.lemmas.Bool.{cases_lt}
 use Rattle.std.proofs.lemmas.List.{get_or_past}
 use Rattle.tsp_base.specs.declared.header.NodeLine.{NodeLine}
 use Rattle.tsp_base.specs.declared.place.Port.{Port}
-use Rattle.tsp_base.specs.Headers.{HeaderValue, IsHeader}
-use Rattle.tsp_base.specs.Setting.{Setting}
 use Rattle.tsp_safe.proofs.SafeProof.{safe}
 use Rattle.tsp_world.specs.Run.{run}
-use Rattle.tsp_world.specs.Setting.{SetBy, RunsSafe, EachIsSet}
+use Rattle.tsp_world.specs.Setting.{RunsSafe, EachIsSet}
 use Rattle.tsp_world.specs.Setup.{node_line, nobody}
 use Rattle.tsp_world.proofs.RunFits.{runs-fit}
 

@@ -1,22 +1,21 @@
 -- How a world stands for one event more.
-use Rattle.std.specs.Prelude.{◌≡◌, ◌≢◌, ◌⊎◌, ℕ, ◌+◌, ◌<◌, ◌≤◌, ◌==◌, Bool, true, false, List, [], ◌∷◌, ◌++◌, length, replicate, Option, None, Some, slice_get, vec_len}
+use Rattle.std.specs.Prelude.{◌≡◌, ◌≢◌, ℕ, ◌<◌, ◌≤◌, ◌==◌, Bool, true, false, List, [], ◌∷◌, ◌++◌, length, Option, None, Some, slice_get, vec_len}
 use Rattle.std.proofs.Common.{refl, sym, ap, ◌∙◌, arith, subst, inl, inr, eq-eqb, eqb-true, true≢false, ◌+ℤ◌}
 use Rattle.std.proofs.lemmas.Bool.{ne_eqb, cases_lt}
 use Rattle.std.proofs.lemmas.Option.{slice_get-get_or}
 use Rattle.tsp_base.specs.declared.act.Act.{Act}
 use Rattle.tsp_base.specs.declared.act.Placed.{Placed}
 use Rattle.tsp_base.specs.declared.event.Event.{Event}
-use Rattle.tsp_base.specs.declared.place.PeerId.{PeerId}
 use Rattle.tsp_base.specs.Headers.{HeaderValue}
-use Rattle.tsp_base.specs.History.{Step, Past, Line, Begins, Here, of, view, dids, plain}
+use Rattle.tsp_base.specs.History.{Step, Past, Line, of, view, dids, plain}
 use Rattle.tsp_base.specs.NodeFacts.{up, ticket, base, moved}
 use Rattle.tsp_base.specs.Performs.{Performs}
-use Rattle.tsp_base.specs.Rows.{Row, placed, grown, in_step, added}
+use Rattle.tsp_base.specs.Rows.{Row, placed, grown, in_step}
 use Rattle.tsp_world.specs.declared.node.Node.{Node}
 use Rattle.tsp_world.specs.declared.world.World.{World}
 use Rattle.tsp_world.specs.NodeStands.{NodeStands, OwnStands}
-use Rattle.tsp_world.specs.Refusals.{Scene, scene, refusal}
-use Rattle.tsp_world.specs.Run.{run, joins, happening, steps, step_tick, event_at, line_of}
+use Rattle.tsp_world.specs.Refusals.{scene, refusal}
+use Rattle.tsp_world.specs.Run.{run, joins, happening, steps, step_tick, event_at}
 use Rattle.tsp_world.specs.Setup.{past_of, first_port}
 use Rattle.tsp_world.specs.WorldStands.{WorldStands, PlaceStands, Notes, Passes, rests, up_at, is_node, scene_of}
 use Rattle.tsp_world.proofs.RefusalLemmas.{Alike, some_same}

@@ -1,5 +1,5 @@
 -- When an event is refused after a schedule, and for what: the first cause of their order.
-use Rattle.std.specs.Prelude.{◌≡◌, ◌≢◌, ◌⊎◌, ℕ, ◌+◌, ◌*◌, ◌<◌, ◌≤◌, nat_lt, nat_le, ◌||◌, ◌&&◌, is_some, Bool, true, false, if◌then◌else◌, List, [], ◌∷◌, length, Option, None, Some, slice_get}
+use Rattle.std.specs.Prelude.{◌≡◌, ◌⊎◌, ℕ, ◌+◌, ◌*◌, ◌<◌, ◌≤◌, nat_lt, nat_le, ◌||◌, ◌&&◌, is_some, Bool, if◌then◌else◌, List, [], ◌∷◌, length, Option, None, Some, slice_get}
 use Rattle.tsp_base.specs.declared.event.Event.{Event}
 use Rattle.tsp_base.specs.declared.event.Event.TheVariants.{Boot, Turn, Take, Bytes}
 use Rattle.tsp_base.specs.declared.event.EventFault.{EventFault}
@@ -7,7 +7,7 @@ use Rattle.tsp_base.specs.declared.event.EventFault.TheVariants.{TimeBack, NoNod
 use Rattle.tsp_base.specs.declared.place.Place.{Place}
 use Rattle.tsp_base.specs.declared.place.Place.TheVariants.{Peer, Stranger}
 use Rattle.tsp_base.specs.Headers.{HeaderValue}
-use Rattle.tsp_base.specs.History.{Line, of, dids}
+use Rattle.tsp_base.specs.History.{of, dids}
 use Rattle.tsp_base.specs.NodeFacts.{up}
 use Rattle.tsp_world.specs.declared.posted.Posted.{Posted}
 use Rattle.tsp_world.specs.Run.{event_at, last_at, posts, run, node_at}

@@ -3,7 +3,7 @@ use Rattle.std.specs.Prelude.{◌≡◌, ℕ, ◌+◌, ◌≤◌, Bool, true, fa
 use Rattle.tsp_base.specs.declared.act.Placed.{Placed}
 use Rattle.tsp_base.specs.declared.event.Event.{Event}
 use Rattle.tsp_base.specs.Headers.{HeaderValue}
-use Rattle.tsp_base.specs.History.{Cause, Step, Turned, Past, Line, of, dids}
+use Rattle.tsp_base.specs.History.{Cause, Step, Turned, Line, of, dids}
 use Rattle.tsp_base.specs.NodeFacts.{up}
 use Rattle.tsp_base.specs.Rows.{Row}
 use Rattle.tsp_world.specs.declared.node.Node.{Node}

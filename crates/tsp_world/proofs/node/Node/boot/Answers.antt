@@ -1,5 +1,5 @@
 -- Three puts, and a clock that starts at the wall clock.
-use Rattle.std.proofs.Common.{◌≡◌, ℤ, pos, ◌+ℤ◌, ◌-ℤ◌, arith, ◌∙◌, ap, SFits, w64, to_z, of_z, to_z-of_z, rules}
+use Rattle.std.proofs.Common.{◌≡◌, pos, ◌-ℤ◌, arith, ◌∙◌, ap, SFits, w64, to_z, of_z, to_z-of_z, rules}
 use Rattle.std.proofs.lemmas.Int.{ints}
 use Rattle.tsp_base.specs.Rows.{puts, arms, ◌followed_by◌}
 use Rattle.tsp_rules.specs.CommonRows.{boots}

@@ -1,5 +1,4 @@
 -- The row's test is the code's.
-use Rattle.std.proofs.Common.{◌∙◌, sym}
 use Rattle.tsp_base.proofs.PerformsLemmas.{Performs_nothing, Performs_then_part, Performs_else_part}
 use Rattle.tsp_rules.specs.Tests.{is_own}
 use Rattle.tsp_world.specs.Answers.{takes_of_other}

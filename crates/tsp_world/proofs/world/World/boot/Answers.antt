@@ -1,11 +1,9 @@
 -- The node boots by its row, and takes its place.
-use Rattle.std.proofs.Common.{◌≡◌, ◌≢◌, ◌∙◌, ap, refl, subst, sym, Some, rules, vec_len, length, pos, ◌+ℤ◌, SFits, w64, to_z, of_z, to_z-of_z, slice_get, inl, inr, ◌++◌}
+use Rattle.std.proofs.Common.{◌≡◌, ◌∙◌, ap, refl, subst, sym, Some, rules, vec_len, length, pos, ◌+ℤ◌, SFits, w64, to_z, of_z, to_z-of_z, inl, inr, ◌++◌}
 use Rattle.std.proofs.Math.ListN.{set}
 use Rattle.tsp_base.specs.declared.event.Event.TheVariants.{Boot}
-use Rattle.tsp_base.specs.History.{Booted}
-use Rattle.tsp_base.specs.NodeFacts.{up}
 use Rattle.tsp_base.specs.Performs.{Performs}
-use Rattle.tsp_base.specs.Rows.{grown, in_step, placed, puts, arms, ◌followed_by◌}
+use Rattle.tsp_base.specs.Rows.{in_step, placed, puts, arms, ◌followed_by◌}
 use Rattle.tsp_base.specs.Ticks.{tick_at}
 use Rattle.tsp_rules.specs.CommonRows.{boots}
 use Rattle.tsp_world.specs.NodeStands.{NodeStands, Unbooted}

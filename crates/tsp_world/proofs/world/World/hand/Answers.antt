@@ -1,5 +1,5 @@
 -- The node takes what was read, by its row.
-use Rattle.std.proofs.Common.{◌≡◌, ◌∙◌, ap, refl, subst, sym, Some, rules, vec_len, length}
+use Rattle.std.proofs.Common.{◌≡◌, ◌∙◌, ap, subst, Some, rules, vec_len, length}
 use Rattle.std.proofs.lemmas.Option.{get_or_from_slice_get}
 use Rattle.tsp_base.specs.Performs.{Performs}
 use Rattle.tsp_base.specs.Ticks.{tick_at}

@@ -1,15 +1,14 @@
 -- Each kind of event, as nothing refuses it.
-use Rattle.std.proofs.Common.{◌≡◌, ◌≤◌, ◌+◌, ◌*◌, ◌∙◌, ℕ, ap, refl, subst, sym, arith, Some, None, rules, vec_len, length}
+use Rattle.std.proofs.Common.{◌≡◌, ◌≤◌, ◌+◌, ◌∙◌, ℕ, refl, subst, arith, Some, rules, vec_len, length}
 use Rattle.tsp_base.specs.declared.event.Event.{Event}
-use Rattle.tsp_base.specs.declared.event.Event.TheVariants.{Boot, Turn, Take, Bytes}
+use Rattle.tsp_base.specs.declared.event.Event.TheVariants.{Bytes}
 use Rattle.tsp_base.specs.History.{Handed}
 use Rattle.tsp_codec.specs.Taken.{taken_of}
 use Rattle.tsp_rules.specs.Answers.{Got}
 use Rattle.tsp_world.specs.declared.world.World.{World}
 use Rattle.tsp_world.specs.Answers.{answers_so_far}
-use Rattle.tsp_world.specs.Refusals.{Allowed, scene, refusal, actor, room}
-use Rattle.tsp_world.specs.Run.{event_at}
-use Rattle.tsp_world.specs.WorldStands.{scene_of, WorldStands, HappensBy}
+use Rattle.tsp_world.specs.Refusals.{Allowed, scene, actor, room}
+use Rattle.tsp_world.specs.WorldStands.{scene_of, HappensBy}
 use Rattle.tsp_world.proofs.RefusalLemmas.{refusal-none, up-down}
 use Rattle.tsp_world.proofs.WorldLemmas.{Alike-stands}
 use Rattle.tsp_world.proofs.world.World.happen.Goals as goal

@@ -1,5 +1,5 @@
 -- The datagram reaches the node that the run says, or nobody.
-use Rattle.std.proofs.Common.{◌≡◌, ◌∙◌, ap, refl, subst, sym, Some, None, true, rules, vec_len, length, slice_get}
+use Rattle.std.proofs.Common.{◌≡◌, ◌∙◌, ap, refl, sym, Some, None, rules, vec_len, length, slice_get}
 use Rattle.tsp_base.specs.declared.event.Event.TheVariants.{Take}
 use Rattle.tsp_base.specs.History.{Came}
 use Rattle.tsp_world.specs.Refusals.{scene, down, goes_to}

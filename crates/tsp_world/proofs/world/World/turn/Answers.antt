@@ -1,8 +1,7 @@
 -- A turn of a node that is up puts nothing.
-use Rattle.std.proofs.Common.{◌≡◌, ◌∙◌, ap, refl, subst, sym, true, rules, vec_len, length}
+use Rattle.std.proofs.Common.{◌≡◌, ◌∙◌, ap, refl, subst, rules, vec_len, length}
 use Rattle.tsp_base.specs.declared.event.Event.TheVariants.{Turn}
 use Rattle.tsp_base.specs.History.{Turned}
-use Rattle.tsp_base.specs.Rows.{nothing}
 use Rattle.tsp_base.specs.Ticks.{tick_at}
 use Rattle.tsp_base.proofs.PerformsLemmas.{Performs_nothing}
 use Rattle.tsp_rules.specs.Answers.{Turn as NoInput}
