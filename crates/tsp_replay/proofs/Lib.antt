@@ -1,0 +1,4 @@
+pub mod LongLines
+pub mod StageLemmas
+pub mod TraceLemmas
+pub mod TreatLemmas

@@ -1,0 +1,154 @@
+-- No line of a schedule has more than 1,024 octets.
+use Rattle.std.specs.Prelude.{◌≡◌, ◌⊎◌, ℕ, ℤ, pos, negsuc, ◌^◌, ◌<◌, ◌≤◌, List, [], ◌∷◌, ◌++◌, length, take, drop, decimal, codes, nat_abs, Bool, true, false, MatchBool, ◌==◌, refl}
+use Rattle.std.proofs.Common.{sym, ap, ◌∙◌, inl, inr, suc, arith, length-append, append_assoc, take-append-drop, subst, eqb-true}
+use Rattle.std.specs.Fmt.{signed_decimal}
+use Rattle.std.proofs.lemmas.Fmt.{length-decimal-le}
+use Rattle.tsp_base.specs.declared.event.Event.{Event}
+use Rattle.tsp_base.specs.declared.event.Event.TheVariants.{Boot, Turn, Take, Bytes}
+use Rattle.tsp_base.specs.declared.header.NodeLine.{NodeLine}
+use Rattle.tsp_base.specs.declared.place.Place.{Place}
+use Rattle.tsp_base.specs.declared.place.Place.TheVariants.{Peer, Stranger}
+use Rattle.tsp_base.specs.Headers.{HeaderValue}
+use Rattle.tsp_script.specs.Texts.{space}
+use Rattle.tsp_script.specs.Traces.{place_text}
+use Rattle.tsp_script.specs.declared.event_line.EventItem.{EventItem}
+use Rattle.tsp_script.specs.declared.event_line.EventItem.TheVariants.{Event as EventOf, End}
+use Rattle.tsp_script.specs.declared.head_line.HeadItem.{HeadItem}
+use Rattle.tsp_script.specs.declared.head_line.HeadItem.TheVariants.{Title, Drift, Node, NotHead}
+use Rattle.tsp_script.specs.Schedules.{event_text, node_text, flag_text, IsPlace, IsEvent, IsHexOf, IsNodeLine, SpellsEvent, SpellsHead}
+use Rattle.tsp_script.proofs.EventLines.{short_hex}
+use Rattle.tsp_replay.specs.Schedules.{Progress, Untitled, Titled, Heading, Running, Ended, Refuses}
+use Rattle.tsp_replay.specs.Stages.{StageStands}
+use Rattle.tsp_replay.specs.declared.stage.Stage.TheVariants.{Titled as AtTitled, Heading as AtHeading, Running as AtRunning}
+use Rattle.tsp_world.specs.declared.world.World.{World}
+
+number_length : (n : ℕ) → n < 2 ^ 64 → length (decimal n) ≤ 20
+number_length n h = length-decimal-le 20 n (omega arith) (omega arith) h
+
+signed_length : (t : ℤ) → nat_abs t ≤ 1000000000000000 → length (signed_decimal t) ≤ 21
+signed_length (pos n) h = omega (arith, number_length n (omega (arith, h)))
+signed_length (negsuc n) h = omega (arith, number_length (suc n) (omega (arith, h)))
+
+place_length : (p : Place) → IsPlace p → length (place_text p) ≤ 20
+place_length (Peer p) h = number_length p.0 (omega (arith, h))
+place_length Stranger h = omega arith
+
+flag_length : (may : Bool) → length (flag_text may) ≤ 1
+flag_length true = omega arith
+flag_length false = omega arith
+
+event_length : (e : Event) (hex : List ℕ) → IsEvent e → IsHexOf hex e → length (event_text e hex) ≤ 1024
+event_length (Boot at node word) hex i h = omega (arith,
+  number_length at (omega (arith, i.0)), number_length node (omega (arith, i.1)), number_length word i.2,
+  length-append (((((codes "at ") ++ decimal at) ++ codes " boot ") ++ decimal node) ++ space) (decimal word),
+  length-append ((((codes "at ") ++ decimal at) ++ codes " boot ") ++ decimal node) space,
+  length-append (((codes "at ") ++ decimal at) ++ codes " boot ") (decimal node),
+  length-append ((codes "at ") ++ decimal at) (codes " boot "),
+  length-append (codes "at ") (decimal at))
+event_length (Turn at node) hex i h = omega (arith,
+  number_length at (omega (arith, i.0)), number_length node (omega (arith, i.1)),
+  length-append (((codes "at ") ++ decimal at) ++ codes " turn ") (decimal node),
+  length-append ((codes "at ") ++ decimal at) (codes " turn "),
+  length-append (codes "at ") (decimal at))
+event_length (Take at datagram) hex i h = omega (arith,
+  number_length at (omega (arith, i.0)), number_length datagram i.1,
+  length-append (((codes "at ") ++ decimal at) ++ codes " take ") (decimal datagram),
+  length-append ((codes "at ") ++ decimal at) (codes " take "),
+  length-append (codes "at ") (decimal at))
+event_length (Bytes at node port from octets) hex i h = omega (arith,
+  number_length at (omega (arith, i.0)), number_length node (omega (arith, i.1)), place_length from i.3, short_hex hex octets h i.5,
+  length-append (((((((codes "at ") ++ decimal at) ++ codes " bytes ") ++ decimal node) ++ space) ++ place_text from) ++ space) hex,
+  length-append ((((((codes "at ") ++ decimal at) ++ codes " bytes ") ++ decimal node) ++ space) ++ place_text from) space,
+  length-append (((((codes "at ") ++ decimal at) ++ codes " bytes ") ++ decimal node) ++ space) (place_text from),
+  length-append ((((codes "at ") ++ decimal at) ++ codes " bytes ") ++ decimal node) space,
+  length-append (((codes "at ") ++ decimal at) ++ codes " bytes ") (decimal node),
+  length-append ((codes "at ") ++ decimal at) (codes " bytes "),
+  length-append (codes "at ") (decimal at))
+
+node_length : (n : NodeLine) → IsNodeLine n → length (node_text n) ≤ 1024
+node_length n i = omega (arith,
+  signed_length n.rate (omega (arith, i.rate)), signed_length n.wall i.wall, flag_length n.may, i.host.name.short,
+  length-append (((((((codes "node ") ++ n.name) ++ space) ++ signed_decimal n.rate) ++ space) ++ signed_decimal n.wall) ++ space) (flag_text n.may),
+  length-append ((((((codes "node ") ++ n.name) ++ space) ++ signed_decimal n.rate) ++ space) ++ signed_decimal n.wall) space,
+  length-append (((((codes "node ") ++ n.name) ++ space) ++ signed_decimal n.rate) ++ space) (signed_decimal n.wall),
+  length-append ((((codes "node ") ++ n.name) ++ space) ++ signed_decimal n.rate) space,
+  length-append (((codes "node ") ++ n.name) ++ space) (signed_decimal n.rate),
+  length-append ((codes "node ") ++ n.name) space,
+  length-append (codes "node ") n.name)
+
+-- a long line is no event's and not the last
+pub SpellsEvent-long : (line : List ℕ) → 1024 < length line → (item : EventItem) → SpellsEvent line item → ⊥
+SpellsEvent-long line l (EventOf e) s = let b : length line ≤ 1024 = rw s.1.2 (event_length e s.1.0 s.0 s.1.1) in omega (arith, l, b)
+SpellsEvent-long line l End s = let b : length line ≡ length (codes "end") = ap length s in omega (arith, l, b)
+
+-- a long line is no title and no drift
+pub SpellsHead-first : (line : List ℕ) → 1024 < length line → (item : HeadItem) → SpellsHead 1 line item → ⊥
+SpellsHead-first line l Title s = let b : length line ≡ length (codes "tsp-schedule 1") = ap length s.1 in omega (arith, l, b)
+SpellsHead-first line l (Drift p) s = omega (arith, s.0)
+SpellsHead-first line l (Node n) s = omega (arith, s.0)
+SpellsHead-first line l NotHead s = omega (arith, s.0)
+
+pub SpellsHead-second : (line : List ℕ) → 1024 < length line → (item : HeadItem) → SpellsHead 2 line item → ⊥
+SpellsHead-second line l Title s = omega (arith, s.0)
+SpellsHead-second line l (Drift p) s = let b : length line ≡ length (codes "drift " ++ decimal p) = ap length s.2 in omega (arith, l, b, length-append (codes "drift ") (decimal p), number_length p (omega (arith, s.1)))
+SpellsHead-second line l (Node n) s = omega (arith, s.0)
+SpellsHead-second line l NotHead s = omega (arith, s.0)
+
+-- a long line that begins as a node's is no line of the header
+pub SpellsHead-node : (line rest : List ℕ) → 1024 < length line → line ≡ codes "node " ++ rest → (item : HeadItem) → SpellsHead 3 line item → ⊥
+SpellsHead-node line rest l e Title s = omega (arith, s.0)
+SpellsHead-node line rest l e (Drift p) s = omega (arith, s.0)
+SpellsHead-node line rest l e (Node n) s = let b : length line ≤ 1024 = rw s.2 (node_length n s.1) in omega (arith, l, b)
+SpellsHead-node line rest l e NotHead s = s.1 rest e
+
+-- what a line begins with, its first octets begin with, and the other way round
+pub starts : (line start rest : List ℕ) → start ≡ take 8 line → start ≡ codes "node " ++ rest → line ≡ codes "node " ++ (rest ++ drop 8 line)
+starts line start rest s e = sym (take-append-drop 8 line) ∙ ap (λ l. l ++ drop 8 line) (sym s ∙ e) ∙ append_assoc (codes "node ") rest (drop 8 line)
+
+pub not_node : (line start : List ℕ) → start ≡ take 8 line → ((rest : List ℕ) → start ≡ codes "node " ++ rest → ⊥) → SpellsHead 3 line NotHead
+not_node line start s n = (omega arith, λ rest e. n (take 3 rest) (s ∙ ap (λ l. take 8 l) e))
+
+-- where a node is expected, a long line that begins as a node's is the header's
+pub Refuses-node : (header : HeaderValue) (line start : List ℕ) → 1024 < length line → start ≡ take 8 line → (rest : List ℕ) × (start ≡ codes "node " ++ rest) → Refuses (Heading header) line (codes "header")
+Refuses-node header line start l s r = inl (inl (SpellsHead-node line (r.0 ++ drop 8 line) l (starts line start r.0 s r.1)), refl)
+
+pub Refuses-none : (header : HeaderValue) (line start : List ℕ) → start ≡ take 8 line → ((rest : List ℕ) → start ≡ codes "node " ++ rest → ⊥) → header.nodes ≡ [] → Refuses (Heading header) line (codes "header")
+Refuses-none header line start s n e = inl (inr (inr (not_node line start s n, e)), refl)
+
+pub Refuses-other : (header : HeaderValue) (line start : List ℕ) → 1024 < length line → start ≡ take 8 line → ((rest : List ℕ) → start ≡ codes "node " ++ rest → ⊥) → 0 < length header.nodes → Refuses (Heading header) line (codes "line")
+Refuses-other header line start l s n h = inr (not_node line start s n, h, inl (SpellsEvent-long line l, refl))
+
+-- at a stage a long line is refused as where that stage stands
+pub Refuses-titled : (p : Progress) (line : List ℕ) → StageStands p AtTitled → 1024 < length line → Refuses p line (codes "header")
+Refuses-titled Untitled line s l = absurd s
+Refuses-titled Titled line s l = (SpellsHead-second line l, refl)
+Refuses-titled (Heading header) line s l = absurd s
+Refuses-titled (Running header events) line s l = absurd s
+Refuses-titled (Ended header events) line s l = absurd s
+
+pub Refuses-heading : (p : Progress) (held : HeaderValue) (line cause : List ℕ) → StageStands p (AtHeading held) → Refuses (Heading held) line cause → Refuses p line cause
+Refuses-heading Untitled held line cause s r = absurd s
+Refuses-heading Titled held line cause s r = absurd s
+Refuses-heading (Heading header) held line cause s r = subst {A = HeaderValue} (λ h. Refuses (Heading h) line cause) s r
+Refuses-heading (Running header events) held line cause s r = absurd s
+Refuses-heading (Ended header events) held line cause s r = absurd s
+
+pub Refuses-running : (p : Progress) (world : World) (line : List ℕ) → StageStands p (AtRunning world) → 1024 < length line → Refuses p line (codes "line")
+Refuses-running Untitled world line s l = absurd s
+Refuses-running Titled world line s l = absurd s
+Refuses-running (Heading header) world line s l = absurd s
+Refuses-running (Running header events) world line s l = inl (SpellsEvent-long line l, refl)
+Refuses-running (Ended header events) world line s l = absurd s
+
+-- what a test says
+pub is_so : (P Q : Type 0) (b : Bool) → MatchBool b P Q → b ≡ true → P
+is_so P Q true h e = h
+is_so P Q false h e = cc
+
+pub is_not : (P Q : Type 0) (b : Bool) → MatchBool b P Q → b ≡ false → Q
+is_not P Q true h e = cc
+is_not P Q false h e = h
+
+pub nodes_none : (xs ys : List NodeLine) → xs ≡ ys → true ≡ (length xs == 0) → ys ≡ []
+nodes_none [] ys e t = sym e
+nodes_none (x ∷ xs) ys e t = let n : length (x ∷ xs) ≡ 0 = eqb-true (length (x ∷ xs)) 0 (sym t) in absurd (omega (arith, n))

@@ -1,0 +1,196 @@
+-- How a stage goes on, and how it halts.
+use Rattle.std.specs.Prelude.{◌≡◌, ◌≢◌, ◌⊎◌, ℕ, ◌<◌, List, [], ◌∷◌, ◌++◌, length, Ok, Err, Some, None, MatchResult, refl}
+use Rattle.std.proofs.Common.{sym, ap, ◌∙◌, inl, inr, subst}
+use Rattle.std.specs.declared.result.Result.{Result}
+use Rattle.tsp_base.specs.declared.event.Event.{Event}
+use Rattle.tsp_base.specs.declared.event.EventFault.{EventFault}
+use Rattle.tsp_base.specs.declared.event.EventFault.TheVariants.{TimeBack, NoNode, NoDatagram, NotUp, Limit as NoRoom, OutOfMemory as NoMemory}
+use Rattle.tsp_base.specs.declared.header.NodeLine.{NodeLine}
+use Rattle.tsp_base.specs.Headers.{HeaderValue}
+use Rattle.tsp_lines.specs.declared.treatment.Stop.{Stop}
+use Rattle.tsp_lines.specs.declared.treatment.Stop.TheVariants.{Bad, Limit, WriteFault, OutOfMemory}
+use Rattle.tsp_script.specs.declared.event_line.EventItem.{EventItem}
+use Rattle.tsp_script.specs.declared.event_line.EventItem.TheVariants.{Event as EventOf, End}
+use Rattle.tsp_script.specs.declared.head_line.HeadItem.{HeadItem}
+use Rattle.tsp_script.specs.declared.head_line.HeadItem.TheVariants.{Title, Drift, Node, NotHead}
+use Rattle.tsp_script.specs.declared.line_fault.LineFault.{LineFault}
+use Rattle.tsp_script.specs.Schedules.{SpellsEvent, SpellsHead}
+use Rattle.tsp_world.specs.declared.world.World.{World}
+use Rattle.tsp_world.specs.Refusals.{scene, refusal, IsRefusal}
+use Rattle.tsp_world.specs.WorldStands.{WorldStands}
+use Rattle.tsp_replay.specs.declared.stage.Stage.{Stage}
+use Rattle.tsp_replay.specs.declared.stage.Stage.TheVariants.{Heading as AtHeading, Running as AtRunning, Ended as AtEnded}
+use Rattle.tsp_replay.specs.Schedules.{Progress, Untitled, Titled, Heading, Running, Ended, GoesOn, RunsOn, Takes, IsCause, Refuses, RefusesRun, Limits, LimitsRun}
+use Rattle.tsp_replay.specs.Stages.{StageStands, Advances, AdvancesRun, Halts, HaltsRun, HaltsFirst, HaltsNode, HaltsEvent, StopsFor}
+
+pub MatchResult-map : {A B : Type 0} {P R : A → Type 0} {Q S : B → Type 0} (r : Result A B) → MatchResult r P Q → ((a : A) → P a → R a) → ((b : B) → Q b → S b) → MatchResult r R S
+MatchResult-map (Ok a) h f g = f a h
+MatchResult-map (Err b) h f g = g b h
+
+bad_cause : (fault : EventFault) (cause : List ℕ) → StopsFor fault (Bad cause) → IsCause fault cause
+bad_cause (TimeBack a b) cause s = s
+bad_cause (NoNode a b) cause s = s
+bad_cause (NoDatagram a b) cause s = s
+bad_cause (NotUp a) cause s = s
+bad_cause (NoRoom a b) cause s = absurd s
+bad_cause NoMemory cause s = absurd s
+
+not_memory : (fault : EventFault) (cause : List ℕ) → StopsFor fault (Bad cause) → fault ≢ NoMemory
+not_memory (TimeBack a b) cause s q = cc
+not_memory (NoNode a b) cause s q = cc
+not_memory (NoDatagram a b) cause s q = cc
+not_memory (NotUp a) cause s q = cc
+not_memory (NoRoom a b) cause s q = cc
+not_memory NoMemory cause s q = s
+
+no_write : (fault : EventFault) → StopsFor fault WriteFault → ⊥
+no_write (TimeBack a b) s = s
+no_write (NoNode a b) s = s
+no_write (NoDatagram a b) s = s
+no_write (NotUp a) s = s
+no_write (NoRoom a b) s = s
+no_write NoMemory s = s
+
+no_room : (header : HeaderValue) (events : List Event) (e : Event) (fault : EventFault) → StopsFor fault Limit → IsRefusal (refusal (scene header events) e) fault → HaltsEvent header events e Limit
+no_room header events e (TimeBack a b) s i = absurd s
+no_room header events e (NoNode a b) s i = absurd s
+no_room header events e (NoDatagram a b) s i = absurd s
+no_room header events e (NotUp a) s i = absurd s
+no_room header events e (NoRoom a b) s (inl r) = (a, b, r)
+no_room header events e (NoRoom a b) s (inr r) = let q = r.1 in let bad : ⊥ = cc in absurd bad
+no_room header events e NoMemory s i = absurd s
+
+-- a refused event stops the replay as its fault says
+pub HaltsEvent-stops : (header : HeaderValue) (events : List Event) (e : Event) (fault : EventFault) (stop : Stop) → StopsFor fault stop → IsRefusal (refusal (scene header events) e) fault → HaltsEvent header events e stop
+HaltsEvent-stops header events e fault (Bad cause) s (inl r) = (fault, r, bad_cause fault cause s)
+HaltsEvent-stops header events e fault (Bad cause) s (inr r) = absurd (not_memory fault cause s r.1)
+HaltsEvent-stops header events e fault Limit s i = no_room header events e fault s i
+HaltsEvent-stops header events e fault WriteFault s i = absurd (no_write fault s)
+HaltsEvent-stops header events e fault OutOfMemory s i = tt
+
+-- where an event is refused, so is its line
+pub HaltsRun-event : (header : HeaderValue) (events : List Event) (e : Event) (line : List ℕ) (stop : Stop) → SpellsEvent line (EventOf e) → HaltsEvent header events e stop → HaltsRun header events line stop
+HaltsRun-event header events e line (Bad cause) s h = inr (e, h.0, s, h.1, h.2)
+HaltsRun-event header events e line Limit s h = (e, h.0, h.1, s, h.2)
+HaltsRun-event header events e line WriteFault s h = h
+HaltsRun-event header events e line OutOfMemory s h = tt
+
+event_same : (r : Result EventItem LineFault) (e other : Event) → r ≡ Ok (EventOf e) → r ≡ Ok (EventOf other) → other ≡ e
+event_same r e other p q = cc
+
+event_not_end : (r : Result EventItem LineFault) (e : Event) → r ≡ Ok (EventOf e) → r ≡ Ok End → ⊥
+event_not_end r e p q = cc
+
+only_event : (header : HeaderValue) (events : List Event) (e : Event) (line : List ℕ) (r : Result EventItem LineFault) → r ≡ Ok (EventOf e) → ((item : EventItem) → SpellsEvent line item → r ≡ Ok item) →
+    (other : Progress) → RunsOn header events line other → other ≡ Running header (e ∷ events)
+only_event header events e line r is one other (inl g) = g.3 ∙ ap (λ k. Running header (k ∷ events)) (event_same r e g.0 is (one (EventOf g.0) g.1))
+only_event header events e line r is one other (inr g) = absurd (event_not_end r e is (one End g.0))
+
+-- a line of an event that nothing refuses is accepted
+pub AdvancesRun-event : (header : HeaderValue) (events : List Event) (e : Event) (line : List ℕ) (next : Stage) (r : Result EventItem LineFault) → r ≡ Ok (EventOf e) → ((item : EventItem) → SpellsEvent line item → r ≡ Ok item) →
+    SpellsEvent line (EventOf e) → refusal (scene header events) e ≡ None → StageStands (Running header (e ∷ events)) next → AdvancesRun header events line next
+AdvancesRun-event header events e line next r is one spells none stands = record {
+  to = Running header (e ∷ events);
+  goes = inl (e, spells, none, refl);
+  stands = stands;
+  only = only_event header events e line r is one;
+}
+
+only_end : (header : HeaderValue) (events : List Event) (line : List ℕ) (r : Result EventItem LineFault) → r ≡ Ok End → ((item : EventItem) → SpellsEvent line item → r ≡ Ok item) →
+    (other : Progress) → RunsOn header events line other → other ≡ Ended header events
+only_end header events line r is one other (inl g) = absurd (event_not_end r g.0 (one (EventOf g.0) g.1) is)
+only_end header events line r is one other (inr g) = g.1
+
+-- the last line is accepted
+pub AdvancesRun-end : (header : HeaderValue) (events : List Event) (line : List ℕ) (r : Result EventItem LineFault) → r ≡ Ok End → ((item : EventItem) → SpellsEvent line item → r ≡ Ok item) → SpellsEvent line End → AdvancesRun header events line AtEnded
+AdvancesRun-end header events line r is one spells = record {
+  to = Ended header events;
+  goes = inr (spells, refl);
+  stands = tt;
+  only = only_end header events line r is one;
+}
+
+drift_same : (r : Result HeadItem LineFault) (d other : ℕ) → r ≡ Ok (Drift d) → r ≡ Ok (Drift other) → other ≡ d
+drift_same r d other p q = cc
+
+-- the second line is accepted
+pub Advances-drift : (d : ℕ) (line : List ℕ) (held : HeaderValue) (r : Result HeadItem LineFault) → r ≡ Ok (Drift d) → ((item : HeadItem) → SpellsHead 2 line item → r ≡ Ok item) → SpellsHead 2 line (Drift d) →
+    held ≡ record { drift = d; nodes = [] } → Advances Titled line (AtHeading held)
+Advances-drift d line held r is one spells held_is = record {
+  to = Heading (record { drift = d; nodes = [] });
+  goes = (d, spells, refl);
+  stands = held_is;
+  only = λ other g. g.2 ∙ ap (λ k. Heading (record { drift = k; nodes = [] })) (drift_same r d g.0 is (one (Drift g.0) g.1));
+}
+
+node_same : (r : Result HeadItem LineFault) (n other : NodeLine) → r ≡ Ok (Node n) → r ≡ Ok (Node other) → other ≡ n
+node_same r n other p q = cc
+
+node_head : (r : Result HeadItem LineFault) (n : NodeLine) → r ≡ Ok (Node n) → r ≡ Ok NotHead → ⊥
+node_head r n p q = cc
+
+only_node : (header : HeaderValue) (n : NodeLine) (line : List ℕ) (r : Result HeadItem LineFault) → r ≡ Ok (Node n) → ((item : HeadItem) → SpellsHead 3 line item → r ≡ Ok item) →
+    (other : Progress) → GoesOn (Heading header) line other → other ≡ Heading (record header { nodes = header.nodes ++ n ∷ [] })
+only_node header n line r is one other (inl g) = g.3 ∙ ap (λ k. Heading (record header { nodes = header.nodes ++ k ∷ [] })) (node_same r n g.0 is (one (Node g.0) g.1))
+only_node header n line r is one other (inr g) = absurd (node_head r n is (one NotHead g.0))
+
+-- a node that the header can take is accepted
+pub Advances-node : (header : HeaderValue) (n : NodeLine) (line : List ℕ) (next : Stage) (r : Result HeadItem LineFault) → r ≡ Ok (Node n) → ((item : HeadItem) → SpellsHead 3 line item → r ≡ Ok item) → SpellsHead 3 line (Node n) →
+    Takes header n → next ≡ AtHeading (record header { nodes = header.nodes ++ n ∷ [] }) → Advances (Heading header) line next
+Advances-node header n line next r is one spells takes next_is = record {
+  to = Heading (record header { nodes = header.nodes ++ n ∷ [] });
+  goes = inl (n, spells, takes, refl);
+  stands = subst (λ s. StageStands (Heading (record header { nodes = header.nodes ++ n ∷ [] })) s) (sym next_is) refl;
+  only = only_node header n line r is one;
+}
+
+-- and one that it can't take is refused
+pub Halts-node : (header : HeaderValue) (n : NodeLine) (line : List ℕ) (stop : Stop) → SpellsHead 3 line (Node n) → HaltsNode header n stop → Halts (Heading header) line stop
+Halts-node header n line (Bad cause) spells h = inl (inr (inl (n, spells, h.0)), h.1)
+Halts-node header n line Limit spells h = absurd h
+Halts-node header n line WriteFault spells h = h
+Halts-node header n line OutOfMemory spells h = tt
+
+only_first : (header : HeaderValue) (line : List ℕ) (next : Stage) (r : Result HeadItem LineFault) → r ≡ Ok NotHead → ((item : HeadItem) → SpellsHead 3 line item → r ≡ Ok item) → (a : AdvancesRun header [] line next) →
+    (other : Progress) → GoesOn (Heading header) line other → other ≡ a.to
+only_first header line next r is one a other (inl g) = absurd (node_head r g.0 (one (Node g.0) g.1) is)
+only_first header line next r is one a other (inr g) = a.only other g.2
+
+-- the first line behind the nodes is accepted as any line behind the header
+pub Advances-first : (header : HeaderValue) (line : List ℕ) (next : Stage) (r : Result HeadItem LineFault) → r ≡ Ok NotHead → ((item : HeadItem) → SpellsHead 3 line item → r ≡ Ok item) → SpellsHead 3 line NotHead →
+    0 < length header.nodes → AdvancesRun header [] line next → Advances (Heading header) line next
+Advances-first header line next r is one spells some a = record {
+  to = a.to;
+  goes = inr (spells, some, a.goes);
+  stands = a.stands;
+  only = only_first header line next r is one a;
+}
+
+pub Halts-first : (header : HeaderValue) (line : List ℕ) (stop : Stop) → SpellsHead 3 line NotHead → HaltsFirst header line stop → Halts (Heading header) line stop
+Halts-first header line (Bad cause) spells (inl h) = inl (inr (inr (spells, h.0)), h.1)
+Halts-first header line (Bad cause) spells (inr h) = inr (spells, h.0, h.1)
+Halts-first header line Limit spells h = (spells, h.0, h.1)
+Halts-first header line WriteFault spells h = h
+Halts-first header line OutOfMemory spells h = tt
+
+pub HaltsFirst-run : (header : HeaderValue) (line : List ℕ) (stop : Stop) → 0 < length header.nodes → HaltsRun header [] line stop → HaltsFirst header line stop
+HaltsFirst-run header line (Bad cause) some h = inr (some, h)
+HaltsFirst-run header line Limit some h = (some, h)
+HaltsFirst-run header line WriteFault some h = h
+HaltsFirst-run header line OutOfMemory some h = tt
+
+Halts-run : (header : HeaderValue) (events : List Event) (line : List ℕ) (stop : Stop) → HaltsRun header events line stop → Halts (Running header events) line stop
+Halts-run header events line (Bad cause) h = h
+Halts-run header events line Limit h = h
+Halts-run header events line WriteFault h = h
+Halts-run header events line OutOfMemory h = tt
+
+-- a running stage goes on as its world does
+pub running-next : (p : Progress) (world : World) (line : List ℕ) (r : Result Stage Stop) → StageStands p (AtRunning world) →
+    ((header : HeaderValue) (events : List Event) → WorldStands header events world → MatchResult r (AdvancesRun header events line) (HaltsRun header events line)) → MatchResult r (Advances p line) (Halts p line)
+running-next Untitled world line r h f = absurd h
+running-next Titled world line r h f = absurd h
+running-next (Heading header) world line r h f = absurd h
+running-next (Running header events) world line r h f =
+    MatchResult-map r (f header events h) (λ next a. record { to = a.to; goes = a.goes; stands = a.stands; only = a.only }) (λ stop s. Halts-run header events line stop s)
+running-next (Ended header events) world line r h f = absurd h

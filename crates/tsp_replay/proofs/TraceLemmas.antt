@@ -1,0 +1,85 @@
+-- How the trace grows, and how lists of lines are read.
+use Rattle.std.specs.Prelude.{◌≡◌, ◌⊎◌, ℕ, ◌<◌, List, [], ◌∷◌, ◌++◌, length, reverse, flat_map, refl}
+use Rattle.std.proofs.Common.{sym, ap, ◌∙◌, inl, inr, subst, append-nil}
+use Rattle.std.specs.Prelude.{Option, Ok, Err, OnOk, OnErr}
+use Rattle.std.specs.declared.result.Result.{Result}
+use Rattle.tsp_lines.specs.Outputs.{Hands}
+use Rattle.tsp_lines.proofs.Outputs.{Hands-trans}
+use Rattle.std.proofs.lemmas.List.{reverse-append}
+use Rattle.std.proofs.lemmas.Grind.{flat_map-append}
+use Rattle.tsp_base.specs.declared.event.Event.{Event}
+use Rattle.tsp_base.specs.Headers.{HeaderValue}
+use Rattle.tsp_world.specs.Run.{told, gained}
+use Rattle.tsp_replay.specs.declared.stage.Stage.{Stage}
+use Rattle.tsp_replay.specs.declared.stage.Stage.TheVariants.{Untitled as AtUntitled, Titled as AtTitled, Heading as AtHeading, Running as AtRunning, Ended as AtEnded}
+use Rattle.tsp_replay.specs.Schedules.{Progress, Untitled, Titled, Heading, Running, Ended, GoesOn, RunsOn, Reaches}
+use Rattle.tsp_replay.specs.Stages.{StageStands, told_at}
+use Rattle.tsp_replay.specs.Traces.{line_text, lines_text, trace, written_at}
+
+-- one line more, read back
+pub reverse-more : {A : Type 0} (xs : List A) (x : A) → reverse (xs ++ x ∷ []) ≡ x ∷ reverse xs
+reverse-more xs x = reverse-append xs (x ∷ [])
+
+-- one event more
+pub trace-more : (header : HeaderValue) (events : List Event) (e : Event) → trace header (e ∷ events) ≡ trace header events ++ lines_text (gained header (e ∷ events))
+trace-more header events e = flat_map-append line_text (told header events) (gained header (e ∷ events))
+
+titled_told : (stage : Stage) → StageStands Titled stage → told_at stage ≡ []
+titled_told AtUntitled s = absurd s
+titled_told AtTitled s = refl
+titled_told (AtHeading held) s = absurd s
+titled_told (AtRunning world) s = absurd s
+titled_told AtEnded s = absurd s
+
+heading_told : (header : HeaderValue) (stage : Stage) → StageStands (Heading header) stage → told_at stage ≡ []
+heading_told header AtUntitled s = absurd s
+heading_told header AtTitled s = absurd s
+heading_told header (AtHeading held) s = refl
+heading_told header (AtRunning world) s = absurd s
+heading_told header AtEnded s = absurd s
+
+running_told : (header : HeaderValue) (events : List Event) (stage : Stage) → StageStands (Running header events) stage → told_at stage ≡ gained header events
+running_told header events AtUntitled s = absurd s
+running_told header events AtTitled s = absurd s
+running_told header events (AtHeading held) s = absurd s
+running_told header events (AtRunning world) s = s.lines
+running_told header events AtEnded s = absurd s
+
+ended_told : (header : HeaderValue) (events : List Event) (stage : Stage) → StageStands (Ended header events) stage → told_at stage ≡ []
+ended_told header events AtUntitled s = absurd s
+ended_told header events AtTitled s = absurd s
+ended_told header events (AtHeading held) s = absurd s
+ended_told header events (AtRunning world) s = absurd s
+ended_told header events AtEnded s = refl
+
+run_written : (header : HeaderValue) (events : List Event) (line : List ℕ) (to : Progress) (next : Stage) → RunsOn header events line to → StageStands to next → written_at to ≡ trace header events ++ lines_text (told_at next)
+run_written header events line to next (inl g) s =
+    let stands : StageStands (Running header (g.0 ∷ events)) next = subst (λ p. StageStands p next) g.3 s in
+    ap written_at g.3 ∙ trace-more header events g.0 ∙ ap (λ ls. trace header events ++ lines_text ls) (sym (running_told header (g.0 ∷ events) next stands))
+run_written header events line to next (inr g) s =
+    let stands : StageStands (Ended header events) next = subst (λ p. StageStands p next) g.1 s in
+    ap written_at g.1 ∙ sym (append-nil (trace header events)) ∙ ap (λ ls. trace header events ++ lines_text ls) (sym (ended_told header events next stands))
+
+-- what is written grows by the lines of the last event
+pub written_at-more : (p : Progress) (line : List ℕ) (to : Progress) (next : Stage) → GoesOn p line to → StageStands to next → written_at to ≡ written_at p ++ lines_text (told_at next)
+written_at-more Untitled line to next g s = ap written_at g.1 ∙ ap (λ ls. lines_text ls) (sym (titled_told next (subst (λ p. StageStands p next) g.1 s)))
+written_at-more Titled line to next g s = ap written_at g.2 ∙ ap (λ ls. lines_text ls) (sym (heading_told _ next (subst (λ p. StageStands p next) g.2 s)))
+written_at-more (Heading header) line to next (inl g) s = ap written_at g.3 ∙ ap (λ ls. lines_text ls) (sym (heading_told _ next (subst (λ p. StageStands p next) g.3 s)))
+written_at-more (Heading header) line to next (inr g) s = run_written header [] line to next g.2 s
+written_at-more (Running header events) line to next g s = run_written header events line to next g s
+written_at-more (Ended header events) line to next g s = absurd g
+
+-- nothing of a text was handed over
+pub told_none : {A B : Type 0} (w n : Option (List ℕ)) (h k : List ℕ) (line : List ℕ) (r : Result A B) → Hands w h n k [] → OnErr r ((part : List ℕ) × (rest : List ℕ) × (line ≡ part ++ rest) × Hands w h n k part)
+told_none w n h k line (Ok a) t = tt
+told_none w n h k line (Err e) t = ([], line, refl, t)
+
+-- a text and then its line feed were handed over
+pub told_line : {A B : Type 0} (w n m : Option (List ℕ)) (h k l : List ℕ) (r : Result A B) (text line : List ℕ) → line ≡ text ++ 10 ∷ [] → Hands w h n k text → OnOk r (Hands n k m l (10 ∷ [])) → OnOk r (Hands w h m l line)
+told_line w n m h k l (Ok a) text line e t f = subst (λ o. Hands w h m l o) (sym e) (Hands-trans w n m h k l text (10 ∷ []) t f)
+told_line w n m h k l (Err b) text line e t f = tt
+
+-- a text was handed over, and its line feed wasn't
+pub told_text : {A B : Type 0} (w n m : Option (List ℕ)) (h k l : List ℕ) (r : Result A B) (text line : List ℕ) → line ≡ text ++ 10 ∷ [] → Hands w h n k text → OnErr r (Hands n k m l []) → OnErr r ((part : List ℕ) × (rest : List ℕ) × (line ≡ part ++ rest) × Hands w h m l part)
+told_text w n m h k l (Ok a) text line e t f = tt
+told_text w n m h k l (Err b) text line e t f = (text, 10 ∷ [], e, subst (λ o. Hands w h m l o) (append-nil text) (Hands-trans w n m h k l text [] t f))

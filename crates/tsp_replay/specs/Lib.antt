@@ -1,0 +1,4 @@
+pub mod Schedules
+pub mod Traces
+pub mod Meaning
+pub mod Stages

@@ -1,0 +1,108 @@
+-- Reading a schedule line by line: how far a list of lines has come, which line may follow, and why one is refused.
+use Rattle.std.specs.Prelude.{◌≡◌, ◌≢◌, ◌⊎◌, ℕ, ◌<◌, ◌≤◌, List, [], ◌∷◌, ◌++◌, length, reverse, Some, None, codes, decimal}
+use Rattle.tsp_base.specs.declared.event.Event.{Event}
+use Rattle.tsp_base.specs.declared.event.EventFault.{EventFault}
+use Rattle.tsp_base.specs.declared.event.EventFault.TheVariants.{TimeBack, NoNode, NoDatagram, NotUp, Limit, OutOfMemory}
+use Rattle.tsp_base.specs.declared.header.NodeLine.{NodeLine}
+use Rattle.tsp_base.specs.Headers.{HeaderValue, Keeps}
+use Rattle.tsp_script.specs.declared.event_line.EventItem.{EventItem}
+use Rattle.tsp_script.specs.declared.event_line.EventItem.TheVariants.{Event as EventOf, End}
+use Rattle.tsp_script.specs.declared.head_line.HeadItem.{HeadItem}
+use Rattle.tsp_script.specs.declared.head_line.HeadItem.TheVariants.{Title, Drift, Node, NotHead}
+use Rattle.tsp_script.specs.Schedules.{SpellsEvent, SpellsHead}
+use Rattle.tsp_world.specs.Refusals.{scene, refusal}
+
+-- how far the lines of a schedule have come; the events are newest first
+pub data Progress : Type 0 where
+  -- no line was read
+  Untitled : Progress
+  -- the title was read
+  Titled : Progress
+  -- the drift and some nodes, maybe none, were read
+  Heading : (header : HeaderValue) → Progress
+  -- the header ended, and these events, one at least, were read
+  Running : (header : HeaderValue) → (events : List Event) → Progress
+  -- the last line was read
+  Ended : (header : HeaderValue) → (events : List Event) → Progress
+
+-- a header can take one node more
+pub record Takes (header : HeaderValue) (node : NodeLine) : Type 0 where
+  pub few : length header.nodes < 64
+  pub kept : Keeps header.drift node
+
+-- behind the header a line is an event that nothing refuses, or the last
+abbrev pub RunsOn : HeaderValue → List Event → List ℕ → Progress → Type 0
+RunsOn header events line next =
+    ((e : Event) × SpellsEvent line (EventOf e) × (refusal (scene header events) e ≡ None) × (next ≡ Running header (e ∷ events)))
+    ⊎ (SpellsEvent line End × (next ≡ Ended header events))
+
+-- a line may follow, and this is how far it brings the schedule
+abbrev pub GoesOn : Progress → List ℕ → Progress → Type 0
+GoesOn Untitled line next = SpellsHead 1 line Title × (next ≡ Titled)
+GoesOn Titled line next = (drift : ℕ) × SpellsHead 2 line (Drift drift) × (next ≡ Heading (record { drift = drift; nodes = [] }))
+GoesOn (Heading header) line next =
+    ((node : NodeLine) × SpellsHead 3 line (Node node) × Takes header node × (next ≡ Heading (record header { nodes = header.nodes ++ node ∷ [] })))
+    ⊎ (SpellsHead 3 line NotHead × (0 < length header.nodes) × RunsOn header [] line next)
+GoesOn (Running header events) line next = RunsOn header events line next
+GoesOn (Ended header events) line next = ⊥
+
+-- these lines, the newest first, bring a schedule so far
+abbrev pub Reaches : List (List ℕ) → Progress → Type 0
+Reaches [] p = p ≡ Untitled
+Reaches (line ∷ before) p = (q : Progress) × Reaches before q × GoesOn q line p
+
+-- the words for a refused event, with the numbers that the fault keeps; a limit has words of its own
+abbrev pub IsCause : EventFault → List ℕ → Type 0
+IsCause (TimeBack a b) words = words ≡ codes "time-back " ++ decimal a ++ codes " " ++ decimal b
+IsCause (NoNode a b) words = words ≡ codes "no-node " ++ decimal a ++ codes " " ++ decimal b
+IsCause (NoDatagram a b) words = words ≡ codes "no-datagram " ++ decimal a ++ codes " " ++ decimal b
+IsCause (NotUp a) words = words ≡ codes "not-up " ++ decimal a
+IsCause (Limit a b) words = ⊥
+IsCause OutOfMemory words = ⊥
+
+-- behind the header a line is refused: it is no event's and not the last, or its event is refused
+abbrev pub RefusesRun : HeaderValue → List Event → List ℕ → List ℕ → Type 0
+RefusesRun header events line cause =
+    (((item : EventItem) → SpellsEvent line item → ⊥) × (cause ≡ codes "line"))
+    ⊎ ((e : Event) × (fault : EventFault) × SpellsEvent line (EventOf e) × (refusal (scene header events) e ≡ Some fault) × IsCause fault cause)
+
+-- a line of the header is refused: it is none of the header's, or a node that the header can't take, or it ends the header before a node
+abbrev pub RefusesHeading : HeaderValue → List ℕ → Type 0
+RefusesHeading header line =
+    ((item : HeadItem) → SpellsHead 3 line item → ⊥)
+    ⊎ (((node : NodeLine) × SpellsHead 3 line (Node node) × ¬ Takes header node) ⊎ (SpellsHead 3 line NotHead × (header.nodes ≡ [])))
+
+-- a line may not follow, for this cause
+abbrev pub Refuses : Progress → List ℕ → List ℕ → Type 0
+Refuses Untitled line cause = ((item : HeadItem) → SpellsHead 1 line item → ⊥) × (cause ≡ codes "header")
+Refuses Titled line cause = ((item : HeadItem) → SpellsHead 2 line item → ⊥) × (cause ≡ codes "header")
+Refuses (Heading header) line cause =
+    (RefusesHeading header line × (cause ≡ codes "header"))
+    ⊎ (SpellsHead 3 line NotHead × (0 < length header.nodes) × RefusesRun header [] line cause)
+Refuses (Running header events) line cause = RefusesRun header events line cause
+Refuses (Ended header events) line cause = cause ≡ codes "after-end"
+
+-- behind the header a line is an event for which there is no room
+abbrev pub LimitsRun : HeaderValue → List Event → List ℕ → Type 0
+LimitsRun header events line = (e : Event) × (a : ℕ) × (b : ℕ) × SpellsEvent line (EventOf e) × (refusal (scene header events) e ≡ Some (Limit a b))
+
+-- a line may not follow, since it passes a limit
+abbrev pub Limits : Progress → List ℕ → Type 0
+Limits Untitled line = ⊥
+Limits Titled line = ⊥
+Limits (Heading header) line = SpellsHead 3 line NotHead × (0 < length header.nodes) × LimitsRun header [] line
+Limits (Running header events) line = LimitsRun header events line
+Limits (Ended header events) line = ⊥
+
+-- the input may not end yet, for this cause: the header isn't whole, or the last line is missing
+abbrev pub Lacks : Progress → List ℕ → Type 0
+Lacks Untitled cause = cause ≡ codes "header"
+Lacks Titled cause = cause ≡ codes "header"
+Lacks (Heading header) cause = ((header.nodes ≡ []) × (cause ≡ codes "header")) ⊎ ((0 < length header.nodes) × (cause ≡ codes "no-end"))
+Lacks (Running header events) cause = cause ≡ codes "no-end"
+Lacks (Ended header events) cause = ⊥
+
+-- the input may end
+abbrev pub IsEnded : Progress → Type 0
+IsEnded (Ended header events) = Unit {0}
+IsEnded _ = ⊥

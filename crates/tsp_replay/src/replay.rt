@@ -1,0 +1,63 @@
+//! The replay as a treatment of lines.
+ghost use Rattle.std.specs.Prelude.{◌≡◌};
+
+use crate::stage::Stage;
+use crate::tell::tell_stage;
+use std::alloc::Global;
+use std::mem;
+use tsp_io::sink::Sink;
+use tsp_lines::cause::Cause;
+use tsp_lines::output::Output;
+use tsp_lines::treatment::{Stop, Treatment};
+
+/// Takes a schedule's lines, and hands the trace of its run over.
+#[derive(Drop)]
+pub struct Replay {
+    alloc: Global,
+    stage: Stage,
+}
+
+impl Replay {
+    ghost use Rattle.tsp_replay.specs.Schedules.{Progress, Untitled};
+
+    /// No line was read. Takes no memory.
+    pub fn new(alloc: Global) -> Replay
+        ensures { result.stage ≡ Stage.Untitled }
+    {
+        Replay {
+            alloc,
+            stage: Stage::Untitled,
+        }
+    }
+}
+
+impl Treatment for Replay {
+    ghost use Rattle.tsp_replay.specs.Meaning.{replaying};
+    ghost use Rattle.tsp_replay.specs.Stages.{Stands};
+
+    ghost meaning = { replaying };
+
+    ghost stands = { λ r lines. Stands r.stage lines };
+
+    fn treat<K: Sink>(&mut self, line: &[u8], output: &mut Output, sink: &mut K) -> Result<(), Stop> {
+        let stage = mem::replace(&mut self.stage, Stage::Ended);
+        match stage.next(self.alloc, line) {
+            Ok(next) => {
+                self.stage = next;
+                tell_stage(&self.stage, output, sink)
+            }
+            Err(stop) => Err(stop),
+        }
+    }
+
+    fn refuse_long(&mut self, start: &[u8]) -> Cause {
+        self.stage.refuse_long(start)
+    }
+
+    fn end<K: Sink>(&mut self, output: &mut Output, sink: &mut K) -> Result<(), Stop> {
+        match self.stage.lacks() {
+            None => Ok(()),
+            Some(cause) => Err(Stop::Bad(cause)),
+        }
+    }
+}

@@ -1,0 +1,212 @@
+//! How far a replay has come.
+ghost use Rattle.std.specs.Prelude.{◌≡◌, ◌≢◌, ◌<◌, ◌≤◌, ℕ, List, [], ◌∷◌, ◌++◌, length, take, MatchBool, MatchResult, MatchOption, None, Err, codes};
+ghost use Rattle.tsp_base.specs.Headers.{HeaderValue};
+ghost use Rattle.tsp_base.specs.declared.event.Event.{Event};
+ghost use Rattle.tsp_script.specs.Schedules.{IsEvent};
+ghost use Rattle.tsp_world.specs.Refusals.{refusal, scene};
+ghost use Rattle.tsp_world.specs.WorldStands.{WorldStands};
+ghost use Rattle.tsp_replay.specs.Schedules.{Progress, Untitled, Titled, Heading, Running, Takes, Lacks, IsEnded, Refuses};
+ghost use Rattle.tsp_replay.specs.Stages.{StageStands, Advances, Halts, AdvancesRun, HaltsRun, HaltsNode, HaltsFirst, HaltsEvent, told_at};
+
+use crate::faults::stop_of;
+use std::alloc::Global;
+use tsp_base::event::Event;
+use tsp_base::header::{Header, HeaderFault, NodeLine};
+use tsp_lines::cause::Cause;
+use tsp_lines::treatment::Stop;
+use tsp_script::event_line::{EventItem, event_line};
+use tsp_script::head_line::{HeadItem, head_line};
+use tsp_world::line::Line;
+use tsp_world::world::World;
+
+/// What was read of a schedule.
+#[derive(Drop)]
+pub enum Stage {
+    /// Nothing.
+    Untitled,
+    /// The title.
+    Titled,
+    /// The drift, and some nodes.
+    Heading(Header),
+    /// The header and some events, one at least.
+    Running(World),
+    /// The last line.
+    Ended,
+}
+
+/// The refusal of a line of the header.
+fn bad_header() -> Stop
+    ensures { result ≡ Stop.Bad (codes "header") }
+{
+    Stop::Bad(Cause::of(b"header"))
+}
+
+/// Whether a line with this beginning is a node's.
+fn is_node(start: &[u8]) -> bool
+    ensures { MatchBool result ((rest : List ℕ) × (start.now ≡ codes "node " ++ rest)) ((rest : List ℕ) → start.now ≡ codes "node " ++ rest → ⊥) }
+{
+    matches!(start, [b'n', b'o', b'd', b'e', b' ', ..])
+}
+
+impl Stage {
+    /// The stage after one line more, or why the line may not follow.
+    pub fn next(self, alloc: Global, line: &[u8]) -> Result<Stage, Stop>
+        ensures next { (p : Progress) → StageStands p self → MatchResult result (Advances p line.now) (Halts p line.now) }
+        ensures kind { result ≢ Err Stop.WriteFault }
+    {
+        match self {
+            Stage::Untitled => Stage::title(line),
+            Stage::Titled => Stage::drift(alloc, line),
+            Stage::Heading(header) => Stage::head(alloc, header, line),
+            Stage::Running(world) => Stage::run(world, line),
+            Stage::Ended => Err(Stop::Bad(Cause::of(b"after-end"))),
+        }
+    }
+
+    /// Reads the title.
+    fn title(line: &[u8]) -> Result<Stage, Stop>
+        ensures next { MatchResult result (Advances Untitled line.now) (Halts Untitled line.now) }
+        ensures kind { result ≢ Err Stop.WriteFault }
+    {
+        match head_line(line, 1) {
+            Ok(_) => Ok(Stage::Titled),
+            Err(_) => Err(bad_header()),
+        }
+    }
+
+    /// Reads the drift.
+    fn drift(alloc: Global, line: &[u8]) -> Result<Stage, Stop>
+        ensures next { MatchResult result (Advances Titled line.now) (Halts Titled line.now) }
+        ensures kind { result ≢ Err Stop.WriteFault }
+    {
+        match head_line(line, 2) {
+            Ok(HeadItem::Drift(drift)) => Ok(Stage::Heading(Header::new(alloc, drift))),
+            Ok(_) => unreachable!(),
+            Err(_) => Err(bad_header()),
+        }
+    }
+
+    /// Reads a line where a node is expected.
+    fn head(alloc: Global, header: Header, line: &[u8]) -> Result<Stage, Stop>
+        ensures next { MatchResult result (Advances (Heading header) line.now) (Halts (Heading header) line.now) }
+        ensures kind { result ≢ Err Stop.WriteFault }
+    {
+        match head_line(line, 3) {
+            Ok(HeadItem::Node(node)) => Stage::node(header, node),
+            Ok(HeadItem::NotHead) => Stage::first(alloc, header, line),
+            Ok(_) => unreachable!(),
+            Err(_) => Err(bad_header()),
+        }
+    }
+
+    /// Adds a node to the header.
+    fn node(mut header: Header, node: NodeLine) -> Result<Stage, Stop>
+        ensures next { MatchResult result (λ next. Takes header node × (next ≡ Stage.Heading (record header { nodes = header.nodes ++ node ∷ [] }))) (HaltsNode header node) }
+        ensures kind { result ≢ Err Stop.WriteFault }
+    {
+        match header.push(node) {
+            Ok(()) => Ok(Stage::Heading(header)),
+            Err(HeaderFault::OutOfMemory) => Err(Stop::OutOfMemory),
+            Err(_) => Err(bad_header()),
+        }
+    }
+
+    /// Reads the first line behind the nodes.
+    fn first(alloc: Global, header: Header, line: &[u8]) -> Result<Stage, Stop>
+        ensures next { MatchResult result (λ next. (0 < length header.nodes) × AdvancesRun header [] line.now next) (HaltsFirst header line.now) }
+        ensures kind { result ≢ Err Stop.WriteFault }
+    {
+        if header.nodes().is_empty() {
+            return Err(bad_header());
+        }
+        match World::new(alloc, header) {
+            Ok(world) => Stage::run(world, line),
+            Err(_) => Err(Stop::OutOfMemory),
+        }
+    }
+
+    /// Reads a line behind the header.
+    fn run(world: World, line: &[u8]) -> Result<Stage, Stop>
+        ensures next { (header : HeaderValue) (events : List Event) → WorldStands header events world → MatchResult result (AdvancesRun header events line.now) (HaltsRun header events line.now) }
+        ensures kind { result ≢ Err Stop.WriteFault }
+    {
+        match event_line(line) {
+            Ok(EventItem::Event(e)) => Stage::happen(world, &e),
+            Ok(EventItem::End) => Ok(Stage::Ended),
+            Err(_) => Err(Stop::Bad(Cause::of(b"line"))),
+        }
+    }
+
+    /// Lets an event happen.
+    fn happen(mut world: World, e: &Event) -> Result<Stage, Stop>
+        requires { IsEvent e.now }
+        ensures next { (header : HeaderValue) (events : List Event) → WorldStands header events world → MatchResult result
+            (λ next. (refusal (scene header events) e.now ≡ None) × StageStands (Running header (e.now ∷ events)) next) (HaltsEvent header events e.now) }
+        ensures kind { result ≢ Err Stop.WriteFault }
+    {
+        match world.event(e) {
+            Ok(()) => Ok(Stage::Running(world)),
+            Err(fault) => Err(stop_of(fault)),
+        }
+    }
+
+    /// For what cause a line of more than 1,024 octets is refused, of which these are the first 8.
+    pub fn refuse_long(&self, start: &[u8]) -> Cause
+        ensures { (p : Progress) → StageStands p self.now → (line : List ℕ) → 1024 < length line → start.now ≡ take 8 line → Refuses p line result }
+    {
+        match self {
+            Stage::Untitled => Cause::of(b"header"),
+            Stage::Titled => Cause::of(b"header"),
+            Stage::Heading(header) => Stage::head_refuses_long(header, start),
+            Stage::Running(_) => Cause::of(b"line"),
+            Stage::Ended => Cause::of(b"after-end"),
+        }
+    }
+
+    /// For what cause a long line is refused where a node is expected.
+    fn head_refuses_long(header: &Header, start: &[u8]) -> Cause
+        ensures { (line : List ℕ) → 1024 < length line → start.now ≡ take 8 line → Refuses (Heading header.now) line result }
+    {
+        if is_node(start) {
+            return Cause::of(b"header");
+        }
+        if header.nodes().is_empty() {
+            return Cause::of(b"header");
+        }
+        Cause::of(b"line")
+    }
+
+    /// The lines of the last event's acts; none where the last line was no event.
+    pub fn told(&self) -> &[Line]
+        ensures { result.now ≡ told_at self.now }
+    {
+        match self {
+            Stage::Running(world) => world.acts(),
+            _ => &[],
+        }
+    }
+
+    /// Whether the input may end, and else for what cause it may not.
+    pub fn lacks(&self) -> Option<Cause>
+        ensures { (p : Progress) → StageStands p self.now → MatchOption result (IsEnded p) (Lacks p) }
+    {
+        match self {
+            Stage::Untitled => Some(Cause::of(b"header")),
+            Stage::Titled => Some(Cause::of(b"header")),
+            Stage::Heading(header) => Some(Stage::head_lacks(header)),
+            Stage::Running(_) => Some(Cause::of(b"no-end")),
+            Stage::Ended => None,
+        }
+    }
+
+    /// What is missing where the input ends behind a line of the header.
+    fn head_lacks(header: &Header) -> Cause
+        ensures { Lacks (Heading header.now) result }
+    {
+        if header.nodes().is_empty() {
+            Cause::of(b"header")
+        } else {
+            Cause::of(b"no-end")
+        }
+    }
+}

@@ -1,0 +1,63 @@
+//! The lines of an event's acts, as they are handed over.
+ghost use Rattle.std.specs.Prelude.{◌≡◌, ◌≤◌, ◌<◌, ◌++◌, ℕ, List, [], length, OnOk, OnErr, MatchResult};
+ghost use Rattle.tsp_io.specs.Counts.{Rose};
+ghost use Rattle.tsp_lines.specs.Outputs.{Hands};
+ghost use Rattle.tsp_replay.specs.Stages.{told_at, Untold};
+ghost use Rattle.tsp_replay.specs.Traces.{line_text, lines_text, number_in};
+
+use crate::stage::Stage;
+use tsp_io::sink::Sink;
+use tsp_lines::output::{Output, Unwritten};
+use tsp_lines::treatment::Stop;
+use tsp_script::trace::placed_text;
+use tsp_world::line::Line;
+
+/// Hands over the lines of the last event's acts.
+pub(crate) fn tell_stage<K: Sink>(stage: &Stage, output: &mut Output, sink: &mut K) -> Result<(), Stop>
+    ensures tells { MatchResult result (λ _. Hands (K.written sink.old) output.old (K.written sink.new) output.new (lines_text (told_at stage.now)))
+        (Untold (lines_text (told_at stage.now)) (K.written sink.old) output.old (K.written sink.new) output.new) }
+    ensures later { K.faults sink.old ≤ K.faults sink.new }
+    ensures cause { result ≡ Err Stop.WriteFault → Rose (K.faults sink.old) (K.faults sink.new) × (0 < length output.new) }
+{
+    match tell(stage.told(), output, sink) {
+        Ok(()) => Ok(()),
+        Err(Unwritten::WriteFault) => Err(Stop::WriteFault),
+        Err(Unwritten::OutOfMemory) => Err(Stop::OutOfMemory),
+    }
+}
+
+/// Hands lines of the trace over; where it fails, a part of them.
+fn tell<K: Sink>(lines: &[Line], output: &mut Output, sink: &mut K) -> Result<(), Unwritten>
+    ensures ok { OnOk result (Hands (K.written sink.old) output.old (K.written sink.new) output.new (lines_text lines.now)) }
+    ensures err { OnErr result ((part : List ℕ) × (rest : List ℕ) × (lines_text lines.now ≡ part ++ rest) × Hands (K.written sink.old) output.old (K.written sink.new) output.new part) }
+    ensures later { K.faults sink.old ≤ K.faults sink.new }
+    ensures cause { result ≡ Err Unwritten.WriteFault → Rose (K.faults sink.old) (K.faults sink.new) × (0 < length output.new) }
+{
+    for line in lines {
+        tell_one(line, output, sink)?;
+    }
+    Ok(())
+}
+
+/// Hands a line of the trace over; where it fails, a part of it.
+fn tell_one<K: Sink>(line: &Line, output: &mut Output, sink: &mut K) -> Result<(), Unwritten>
+    ensures ok { OnOk result (Hands (K.written sink.old) output.old (K.written sink.new) output.new (line_text line.now)) }
+    ensures err { OnErr result ((part : List ℕ) × (rest : List ℕ) × (line_text line.now ≡ part ++ rest) × Hands (K.written sink.old) output.old (K.written sink.new) output.new part) }
+    ensures later { K.faults sink.old ≤ K.faults sink.new }
+    ensures cause { result ≡ Err Unwritten.WriteFault → Rose (K.faults sink.old) (K.faults sink.new) × (0 < length output.new) }
+{
+    let number = number_in(line.number);
+    let text = placed_text(line.event, line.node, line.tick, number, &line.placed);
+    output.put(sink, text.as_slice())?;
+    output.put(sink, b"\n")
+}
+
+/// A post's number; 0 for other acts.
+fn number_in(number: Option<u64>) -> u64
+    ensures { result ≡ number_in number }
+{
+    match number {
+        Some(k) => k,
+        None => 0,
+    }
+}
