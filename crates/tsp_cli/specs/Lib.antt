@@ -1,2 +1,4 @@
+pub mod Commands
+pub mod Headline
 pub mod Statuses
 pub mod Usage

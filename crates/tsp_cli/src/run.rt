@@ -1,20 +1,26 @@
-//! The top call: all that the program does.
-ghost use Rattle.std.specs.Prelude.{◌≡◌, ◌≢◌, ◌≤◌, ◌⊎◌, false};
-ghost use Rattle.tsp_cli.specs.Usage.{usage_line};
+//! The top call.
+ghost use Rattle.std.specs.Prelude.{◌≡◌, ◌≤◌, ◌⊎◌, List, [], ◌∷◌, ◌++◌, ℕ, false, map, codes, string_bytes};
 ghost use Rattle.tsp_io.specs.Counts.{Rose};
-ghost use Rattle.tsp_io.specs.Streams.{Grows};
+ghost use Rattle.tsp_convert.specs.Packs.{pack_meaning};
+ghost use Rattle.tsp_convert.specs.Shows.{show_meaning};
+ghost use Rattle.tsp_replay.specs.Meaning.{replaying};
+ghost use Rattle.tsp_cli.specs.Commands.{IsNoCommand, EndsAs, Says};
+ghost use Rattle.tsp_cli.specs.Headline.{PrintsHistory};
+ghost use Rattle.tsp_cli.specs.Usage.{usage_line};
 
 use crate::status::Status;
 use std::alloc::Global;
+use tsp_convert::run::{pack, show};
 use tsp_io::sink::Sink;
 use tsp_io::source::Source;
 use tsp_lines::output::{Unwritten, write_all};
+use tsp_replay::run::replay;
 
-/// Writes a text whole, and gives the status that is asked for; else the fault's.
+/// Writes a text, and then answers with this status; with another one where not all of it was written.
 pub fn say<K: Sink>(sink: &mut K, text: &[u8], status: Status) -> Status
-    ensures said { (result ≡ status × Grows (K.written sink.old) (K.written sink.new) text.now) ⊎ (result ≡ Status.WriteFault ⊎ result ≡ Status.OutOfMemory) }
+    ensures says { Says text.now status (K.written sink.old) (K.written sink.new) result }
     ensures later { K.faults sink.old ≤ K.faults sink.new }
-    ensures cause { status ≢ Status.WriteFault → result ≡ Status.WriteFault → Rose (K.faults sink.old) (K.faults sink.new) }
+    ensures write { result ≡ Status.WriteFault → (status ≡ Status.WriteFault) ⊎ Rose (K.faults sink.old) (K.faults sink.new) }
 {
     match write_all(sink, text) {
         Ok(()) => status,
@@ -25,20 +31,52 @@ pub fn say<K: Sink>(sink: &mut K, text: &[u8], status: Status) -> Status
     }
 }
 
-/// Runs the command that the words name.
+/// Does what the words after the program's name ask for.
 ///
-/// Words that are no command write `usage`, and nothing is read.
+/// `replay`, `show` and `pack`, each alone, read the source to its end and write to the sink; any other
+/// words are `Usage`, and nothing is read.
 pub fn run<S: Source, K: Sink>(
-    _alloc: Global,
-    _words: &[String],
-    _source: &mut S,
+    alloc: Global,
+    words: &[String],
+    source: &mut S,
     sink: &mut K,
 ) -> Status
-    requires open { S.ended _source.old ≡ false }
-    ensures usage { (result ≡ Status.Usage × Grows (K.written sink.old) (K.written sink.new) usage_line) ⊎ (result ≡ Status.WriteFault ⊎ result ≡ Status.OutOfMemory) }
-    ensures unread { _source.new ≡ _source.old }
-    ensures later { K.faults sink.old ≤ K.faults sink.new }
-    ensures cause { result ≡ Status.WriteFault → Rose (K.faults sink.old) (K.faults sink.new) }
+    requires open { S.ended source.old ≡ false }
+    ensures replays { map string_bytes words.now ≡ codes "replay" ∷ [] → EndsAs replaying (S.left source.old) (S.left source.new) (K.written sink.old) (K.written sink.new) result }
+    ensures headline { map string_bytes words.now ≡ codes "replay" ∷ [] → result ≡ Status.Ok → PrintsHistory (S.left source.old) (S.left source.new) (K.written sink.old) (K.written sink.new) }
+    ensures shows { map string_bytes words.now ≡ codes "show" ∷ [] → EndsAs show_meaning (S.left source.old) (S.left source.new) (K.written sink.old) (K.written sink.new) result }
+    ensures packs { map string_bytes words.now ≡ codes "pack" ∷ [] → EndsAs pack_meaning (S.left source.old) (S.left source.new) (K.written sink.old) (K.written sink.new) result }
+    ensures usage { IsNoCommand (map string_bytes words.now) → Says usage_line Status.Usage (K.written sink.old) (K.written sink.new) result × (source.new ≡ source.old) }
+    ensures later { (S.faults source.old ≤ S.faults source.new) × (K.faults sink.old ≤ K.faults sink.new) }
+    ensures read { result ≡ Status.ReadFault → Rose (S.faults source.old) (S.faults source.new) × (S.ended source.new ≡ false) }
+    ensures write { result ≡ Status.WriteFault → Rose (K.faults sink.old) (K.faults sink.new) }
 {
-    say(sink, b"usage\n", Status::Usage)
+    match words {
+        [word] => run_word(alloc, word.as_str(), source, sink),
+        _ => say(sink, b"usage\n", Status::Usage),
+    }
+}
+
+/// Does what one word asks for.
+fn run_word<S: Source, K: Sink>(
+    alloc: Global,
+    word: &str,
+    source: &mut S,
+    sink: &mut K,
+) -> Status
+    requires open { S.ended source.old ≡ false }
+    ensures replays { word.now ≡ codes "replay" → EndsAs replaying (S.left source.old) (S.left source.new) (K.written sink.old) (K.written sink.new) result }
+    ensures shows { word.now ≡ codes "show" → EndsAs show_meaning (S.left source.old) (S.left source.new) (K.written sink.old) (K.written sink.new) result }
+    ensures packs { word.now ≡ codes "pack" → EndsAs pack_meaning (S.left source.old) (S.left source.new) (K.written sink.old) (K.written sink.new) result }
+    ensures usage { IsNoCommand (word.now ∷ []) → Says usage_line Status.Usage (K.written sink.old) (K.written sink.new) result × (source.new ≡ source.old) }
+    ensures later { (S.faults source.old ≤ S.faults source.new) × (K.faults sink.old ≤ K.faults sink.new) }
+    ensures read { result ≡ Status.ReadFault → Rose (S.faults source.old) (S.faults source.new) × (S.ended source.new ≡ false) }
+    ensures write { result ≡ Status.WriteFault → Rose (K.faults sink.old) (K.faults sink.new) }
+{
+    match word {
+        "replay" => Status::of(replay(alloc, source, sink)),
+        "show" => Status::of(show(alloc, source, sink)),
+        "pack" => Status::of(pack(alloc, source, sink)),
+        _ => say(sink, b"usage\n", Status::Usage),
+    }
 }

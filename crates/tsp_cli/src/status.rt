@@ -1,6 +1,8 @@
 //! How the program ends.
 ghost use Rattle.std.specs.Prelude.{◌≡◌};
-ghost use Rattle.tsp_cli.specs.Statuses.{status_number};
+ghost use Rattle.tsp_cli.specs.Statuses.{status_number, status_of};
+
+use tsp_lines::treat::Outcome;
 
 /// What a run comes to; the number is the program's exit status, 0 to 8 in this order.
 #[derive(Clone, Copy, PartialEq, Eq, Debug)]
@@ -31,5 +33,18 @@ impl Status {
         ensures { result ≡ status_number self.now }
     {
         *self as u8
+    }
+    /// The status of what the treatment of an input comes to.
+    pub fn of(outcome: Outcome) -> Status
+        ensures { result ≡ status_of outcome }
+    {
+        match outcome {
+            Outcome::Ok => Status::Ok,
+            Outcome::Bad => Status::Bad,
+            Outcome::ReadFault => Status::ReadFault,
+            Outcome::WriteFault => Status::WriteFault,
+            Outcome::Limit => Status::Limit,
+            Outcome::OutOfMemory => Status::OutOfMemory,
+        }
     }
 }

@@ -8,12 +8,12 @@ use Rattle.tsp_replay.specs.Traces.{written_at}
 abbrev pub Replays : List (List ℕ) → List ℕ → Type 0
 Replays lines text = (p : Progress) × Reaches (reverse lines) p × (text ≡ written_at p)
 
--- lines are accepted as the beginning of a schedule, and their output is its trace
+-- lines are accepted as the beginning of a schedule, and their output is its trace; the input may end where, however its lines are read, the last one is the schedule's last
 abbrev pub replaying : Meaning
 replaying = record {
   accepts = Replays;
   refuses = λ lines line cause. (p : Progress) × Reaches (reverse lines) p × Refuses p line cause;
   limits = λ lines line. (p : Progress) × Reaches (reverse lines) p × Limits p line;
-  ends = λ lines more. (p : Progress) × Reaches (reverse lines) p × IsEnded p × (more ≡ []);
+  ends = λ lines more. ((p : Progress) → Reaches (reverse lines) p → IsEnded p) × (more ≡ []);
   lacks = λ lines cause. (p : Progress) × Reaches (reverse lines) p × Lacks p cause;
 }
