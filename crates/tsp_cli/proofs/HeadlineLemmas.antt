@@ -1,6 +1,6 @@
 -- From what a replay comes to, to the headline.
 use Rattle.std.specs.Prelude.{◌≡◌, ◌⊎◌, ℕ, List, [], ◌∷◌, ◌++◌, reverse, Option, refl}
-use Rattle.std.proofs.Common.{sym, ap, ◌∙◌, inl, inr, subst, append-nil, arith, length, take, drop, take-append-drop, ◌<◌}
+use Rattle.std.proofs.Common.{sym, ap, ◌∙◌, inl, inr, subst, append-nil, arith, length, take, drop, take-append-drop, ◌<◌, map, get_or}
 use Rattle.std.proofs.lemmas.List.{length-drop}
 use Rattle.tsp_base.specs.declared.event.Event.{Event}
 use Rattle.tsp_base.specs.Headers.{HeaderValue}
@@ -83,3 +83,8 @@ EndsAs-comes m input left written now NoMemory c = c
 -- not all of a text was written
 pub Says-cut : (text : List ℕ) (status answer : Status) (written now : Option (List ℕ)) (at : ℕ) → (answer ≡ WriteFault) ⊎ (answer ≡ OutOfMemory) → at < length text → Grows written now (take at text) → Says text status written now answer
 Says-cut text status answer written now at w l g = inr (w, (take at text, drop at text, omega (arith, length-drop at text, l), sym (take-append-drop at text), g))
+
+-- the text of the first of some items, of which there is only one text
+pub item_text : {A : Type 0} (f : A → List ℕ) (xs : List A) (x : A) (text : List ℕ) → map f xs ≡ text ∷ [] → x ≡ get_or xs 0 x → f x ≡ text
+item_text f [] x text m is = cc
+item_text f (y ∷ ys) x text m is = let e : f y ≡ text = cc in ap f is ∙ e

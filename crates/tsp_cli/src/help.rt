@@ -6,13 +6,15 @@ ghost use Rattle.tsp_cli.specs.Usage.{IsAlone};
 pub const HELP: &[u8] = b"\
 tsp: the time synchronization protocol, from octets to octets
 
-    tsp replay     reads a schedule, writes its trace
+    tsp replay     reads a schedule, writes every act of its run
+    tsp show       reads lines of hexadecimal, writes each datagram as a message line
+    tsp pack       reads message lines, writes each datagram as a line of hexadecimal
     tsp --help     prints this text
     tsp --version  prints the program's version
 
-Input is standard input, output is standard output. The exit status is 0 where all went well,
-1 for other words, 2 for a refused line, 3 and 4 for a failed read and write, 7 for a limit
-and 8 for want of memory.
+Input is standard input, output is standard output. A refused line ends a command with the
+words `bad LINE CAUSE`. The exit status is 0 where all went well, 1 for other words, 2 for a
+refused line, 3 and 4 for a failed read and write, 7 for a limit and 8 for want of memory.
 ";
 
 /// What `--version` prints.
