@@ -1,11 +1,9 @@
 -- From what a replay comes to, to the headline.
-use Rattle.std.specs.Prelude.{◌≡◌, ◌⊎◌, ℕ, List, [], ◌∷◌, ◌++◌, reverse, Option, refl}
+use Rattle.std.specs.Prelude.{◌≡◌, ◌⊎◌, ℕ, List, [], ◌∷◌, ◌++◌, reverse, Option}
 use Rattle.std.proofs.Common.{sym, ap, ◌∙◌, inl, inr, subst, append-nil, arith, length, take, drop, take-append-drop, ◌<◌, map, get_or}
 use Rattle.std.proofs.lemmas.List.{length-drop}
 use Rattle.tsp_base.specs.declared.event.Event.{Event}
 use Rattle.tsp_base.specs.Headers.{HeaderValue}
-use Rattle.tsp_base.specs.Safe.{Safe}
-use Rattle.tsp_base.specs.Setting.{Setting}
 use Rattle.tsp_io.specs.Streams.{Grows}
 use Rattle.tsp_replay.specs.Schedules.{Progress, Untitled, Titled, Heading, Running, Ended, Reaches, GoesOn, RunsOn, IsEnded}
 use Rattle.tsp_replay.specs.Traces.{written_at, trace}

@@ -1,5 +1,5 @@
 -- The headline: what a replay that ends well has read and written.
-use Rattle.std.specs.Prelude.{◌≡◌, ℕ, List, [], ◌++◌, reverse, Option, IfSome}
+use Rattle.std.specs.Prelude.{ℕ, List, reverse, Option}
 use Rattle.tsp_base.specs.declared.event.Event.{Event}
 use Rattle.tsp_base.specs.Headers.{HeaderValue}
 use Rattle.tsp_base.specs.Safe.{Safe}

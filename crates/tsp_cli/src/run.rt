@@ -58,12 +58,7 @@ pub fn run<S: Source, K: Sink>(
 }
 
 /// Does what one word asks for.
-fn run_word<S: Source, K: Sink>(
-    alloc: Global,
-    word: &str,
-    source: &mut S,
-    sink: &mut K,
-) -> Status
+fn run_word<S: Source, K: Sink>(alloc: Global, word: &str, source: &mut S, sink: &mut K) -> Status
     requires open { S.ended source.old ≡ false }
     ensures replays { word.now ≡ codes "replay" → EndsAs replaying (S.left source.old) (S.left source.new) (K.written sink.old) (K.written sink.new) result }
     ensures shows { word.now ≡ codes "show" → EndsAs show_meaning (S.left source.old) (S.left source.new) (K.written sink.old) (K.written sink.new) result }

@@ -1,5 +1,5 @@
 -- No line of a schedule has more than 1,024 octets.
-use Rattle.std.specs.Prelude.{◌≡◌, ◌⊎◌, ℕ, ℤ, pos, negsuc, ◌^◌, ◌<◌, ◌≤◌, List, [], ◌∷◌, ◌++◌, length, take, drop, decimal, codes, nat_abs, Bool, true, false, MatchBool, ◌==◌, refl}
+use Rattle.std.specs.Prelude.{◌≡◌, ℕ, ℤ, pos, negsuc, ◌^◌, ◌<◌, ◌≤◌, List, [], ◌∷◌, ◌++◌, length, take, drop, decimal, codes, nat_abs, Bool, true, false, MatchBool, ◌==◌, refl}
 use Rattle.std.proofs.Common.{sym, ap, ◌∙◌, inl, inr, suc, arith, length-append, append_assoc, take-append-drop, subst, eqb-true}
 use Rattle.std.specs.Fmt.{signed_decimal}
 use Rattle.std.proofs.lemmas.Fmt.{length-decimal-le}
@@ -38,43 +38,63 @@ flag_length true = omega arith
 flag_length false = omega arith
 
 event_length : (e : Event) (hex : List ℕ) → IsEvent e → IsHexOf hex e → length (event_text e hex) ≤ 1024
-event_length (Boot at node word) hex i h = omega (arith,
-  number_length at (omega (arith, i.0)), number_length node (omega (arith, i.1)), number_length word i.2,
+event_length (Boot at node word) hex i h = omega (
+  arith,
+  number_length at (omega (arith, i.0)),
+  number_length node (omega (arith, i.1)),
+  number_length word i.2,
   length-append (((((codes "at ") ++ decimal at) ++ codes " boot ") ++ decimal node) ++ space) (decimal word),
   length-append ((((codes "at ") ++ decimal at) ++ codes " boot ") ++ decimal node) space,
   length-append (((codes "at ") ++ decimal at) ++ codes " boot ") (decimal node),
   length-append ((codes "at ") ++ decimal at) (codes " boot "),
-  length-append (codes "at ") (decimal at))
-event_length (Turn at node) hex i h = omega (arith,
-  number_length at (omega (arith, i.0)), number_length node (omega (arith, i.1)),
+  length-append (codes "at ") (decimal at),
+)
+event_length (Turn at node) hex i h = omega (
+  arith,
+  number_length at (omega (arith, i.0)),
+  number_length node (omega (arith, i.1)),
   length-append (((codes "at ") ++ decimal at) ++ codes " turn ") (decimal node),
   length-append ((codes "at ") ++ decimal at) (codes " turn "),
-  length-append (codes "at ") (decimal at))
-event_length (Take at datagram) hex i h = omega (arith,
-  number_length at (omega (arith, i.0)), number_length datagram i.1,
+  length-append (codes "at ") (decimal at),
+)
+event_length (Take at datagram) hex i h = omega (
+  arith,
+  number_length at (omega (arith, i.0)),
+  number_length datagram i.1,
   length-append (((codes "at ") ++ decimal at) ++ codes " take ") (decimal datagram),
   length-append ((codes "at ") ++ decimal at) (codes " take "),
-  length-append (codes "at ") (decimal at))
-event_length (Bytes at node port from octets) hex i h = omega (arith,
-  number_length at (omega (arith, i.0)), number_length node (omega (arith, i.1)), place_length from i.3, short_hex hex octets h i.5,
+  length-append (codes "at ") (decimal at),
+)
+event_length (Bytes at node port from octets) hex i h = omega (
+  arith,
+  number_length at (omega (arith, i.0)),
+  number_length node (omega (arith, i.1)),
+  place_length from i.3,
+  short_hex hex octets h i.5,
   length-append (((((((codes "at ") ++ decimal at) ++ codes " bytes ") ++ decimal node) ++ space) ++ place_text from) ++ space) hex,
   length-append ((((((codes "at ") ++ decimal at) ++ codes " bytes ") ++ decimal node) ++ space) ++ place_text from) space,
   length-append (((((codes "at ") ++ decimal at) ++ codes " bytes ") ++ decimal node) ++ space) (place_text from),
   length-append ((((codes "at ") ++ decimal at) ++ codes " bytes ") ++ decimal node) space,
   length-append (((codes "at ") ++ decimal at) ++ codes " bytes ") (decimal node),
   length-append ((codes "at ") ++ decimal at) (codes " bytes "),
-  length-append (codes "at ") (decimal at))
+  length-append (codes "at ") (decimal at),
+)
 
 node_length : (n : NodeLine) → IsNodeLine n → length (node_text n) ≤ 1024
-node_length n i = omega (arith,
-  signed_length n.rate (omega (arith, i.rate)), signed_length n.wall i.wall, flag_length n.may, i.host.name.short,
+node_length n i = omega (
+  arith,
+  signed_length n.rate (omega (arith, i.rate)),
+  signed_length n.wall i.wall,
+  flag_length n.may,
+  i.host.name.short,
   length-append (((((((codes "node ") ++ n.name) ++ space) ++ signed_decimal n.rate) ++ space) ++ signed_decimal n.wall) ++ space) (flag_text n.may),
   length-append ((((((codes "node ") ++ n.name) ++ space) ++ signed_decimal n.rate) ++ space) ++ signed_decimal n.wall) space,
   length-append (((((codes "node ") ++ n.name) ++ space) ++ signed_decimal n.rate) ++ space) (signed_decimal n.wall),
   length-append ((((codes "node ") ++ n.name) ++ space) ++ signed_decimal n.rate) space,
   length-append (((codes "node ") ++ n.name) ++ space) (signed_decimal n.rate),
   length-append ((codes "node ") ++ n.name) space,
-  length-append (codes "node ") n.name)
+  length-append (codes "node ") n.name,
+)
 
 -- a long line is no event's and not the last
 pub SpellsEvent-long : (line : List ℕ) → 1024 < length line → (item : EventItem) → SpellsEvent line item → ⊥

@@ -1,5 +1,5 @@
 -- How a stage goes on, and how it halts.
-use Rattle.std.specs.Prelude.{◌≡◌, ◌≢◌, ◌⊎◌, ℕ, ◌<◌, List, [], ◌∷◌, ◌++◌, length, Ok, Err, Some, None, MatchResult, refl}
+use Rattle.std.specs.Prelude.{◌≡◌, ◌≢◌, ℕ, ◌<◌, List, [], ◌∷◌, ◌++◌, length, Ok, Err, None, MatchResult, refl}
 use Rattle.std.proofs.Common.{sym, ap, ◌∙◌, inl, inr, subst}
 use Rattle.std.specs.declared.result.Result.{Result}
 use Rattle.tsp_base.specs.declared.event.Event.{Event}
@@ -12,7 +12,7 @@ use Rattle.tsp_lines.specs.declared.treatment.Stop.TheVariants.{Bad, Limit, Writ
 use Rattle.tsp_script.specs.declared.event_line.EventItem.{EventItem}
 use Rattle.tsp_script.specs.declared.event_line.EventItem.TheVariants.{Event as EventOf, End}
 use Rattle.tsp_script.specs.declared.head_line.HeadItem.{HeadItem}
-use Rattle.tsp_script.specs.declared.head_line.HeadItem.TheVariants.{Title, Drift, Node, NotHead}
+use Rattle.tsp_script.specs.declared.head_line.HeadItem.TheVariants.{Drift, Node, NotHead}
 use Rattle.tsp_script.specs.declared.line_fault.LineFault.{LineFault}
 use Rattle.tsp_script.specs.Schedules.{SpellsEvent, SpellsHead}
 use Rattle.tsp_world.specs.declared.world.World.{World}
@@ -20,7 +20,7 @@ use Rattle.tsp_world.specs.Refusals.{scene, refusal, IsRefusal}
 use Rattle.tsp_world.specs.WorldStands.{WorldStands}
 use Rattle.tsp_replay.specs.declared.stage.Stage.{Stage}
 use Rattle.tsp_replay.specs.declared.stage.Stage.TheVariants.{Heading as AtHeading, Running as AtRunning, Ended as AtEnded}
-use Rattle.tsp_replay.specs.Schedules.{Progress, Untitled, Titled, Heading, Running, Ended, GoesOn, RunsOn, Takes, IsCause, Refuses, RefusesRun, Limits, LimitsRun}
+use Rattle.tsp_replay.specs.Schedules.{Progress, Untitled, Titled, Heading, Running, Ended, GoesOn, RunsOn, Takes, IsCause}
 use Rattle.tsp_replay.specs.Stages.{StageStands, Advances, AdvancesRun, Halts, HaltsRun, HaltsFirst, HaltsNode, HaltsEvent, StopsFor}
 
 pub MatchResult-map : {A B : Type 0} {P R : A → Type 0} {Q S : B → Type 0} (r : Result A B) → MatchResult r P Q → ((a : A) → P a → R a) → ((b : B) → Q b → S b) → MatchResult r R S

@@ -1,6 +1,6 @@
 -- How the treatment of a line comes out.
-use Rattle.std.specs.Prelude.{◌≡◌, ◌⊎◌, ℕ, List, [], ◌∷◌, ◌++◌, reverse, refl, Option}
-use Rattle.std.proofs.Common.{sym, ap, ◌∙◌, inl, inr, subst, append_assoc}
+use Rattle.std.specs.Prelude.{◌≡◌, ℕ, List, [], ◌∷◌, ◌++◌, reverse, refl, Option}
+use Rattle.std.proofs.Common.{sym, ap, ◌∙◌, inl, inr, subst}
 use Rattle.tsp_lines.specs.declared.treatment.Stop.{Stop}
 use Rattle.tsp_lines.specs.declared.treatment.Stop.TheVariants.{Bad, Limit, WriteFault, OutOfMemory}
 use Rattle.tsp_lines.specs.Meanings.{Goes, StopsAt}
@@ -8,7 +8,7 @@ use Rattle.tsp_lines.specs.Outputs.{Hands}
 use Rattle.tsp_lines.proofs.Outputs.{Hands-nil}
 use Rattle.tsp_replay.specs.declared.stage.Stage.{Stage}
 use Rattle.tsp_replay.specs.Meaning.{replaying, Replays}
-use Rattle.tsp_replay.specs.Schedules.{Progress, GoesOn, Reaches}
+use Rattle.tsp_replay.specs.Schedules.{Progress, Reaches}
 use Rattle.tsp_replay.specs.Stages.{StageStands, Stands, Advances, Halts, told_at, Untold}
 use Rattle.tsp_replay.specs.Traces.{lines_text, written_at}
 use Rattle.tsp_replay.proofs.TraceLemmas.{reverse-more, written_at-more}

@@ -39,7 +39,12 @@ impl Treatment for Replay {
 
     ghost stands = { λ r lines. Stands r.stage lines };
 
-    fn treat<K: Sink>(&mut self, line: &[u8], output: &mut Output, sink: &mut K) -> Result<(), Stop> {
+    fn treat<K: Sink>(
+        &mut self,
+        line: &[u8],
+        output: &mut Output,
+        sink: &mut K,
+    ) -> Result<(), Stop> {
         let stage = mem::replace(&mut self.stage, Stage::Ended);
         match stage.next(self.alloc, line) {
             Ok(next) => {

@@ -13,7 +13,11 @@ use tsp_script::trace::placed_text;
 use tsp_world::line::Line;
 
 /// Hands over the lines of the last event's acts.
-pub(crate) fn tell_stage<K: Sink>(stage: &Stage, output: &mut Output, sink: &mut K) -> Result<(), Stop>
+pub(crate) fn tell_stage<K: Sink>(
+    stage: &Stage,
+    output: &mut Output,
+    sink: &mut K,
+) -> Result<(), Stop>
     ensures tells { MatchResult result (λ _. Hands (K.written sink.old) output.old (K.written sink.new) output.new (lines_text (told_at stage.now)))
         (Untold (lines_text (told_at stage.now)) (K.written sink.old) output.old (K.written sink.new) output.new) }
     ensures later { K.faults sink.old ≤ K.faults sink.new }

@@ -1,5 +1,5 @@
 -- Where a line fails, what was handed over is what came before and a part of it.
-use Rattle.std.proofs.Common.{◌≡◌, ◌∙◌, ap, sym, ◌++◌, ◌∷◌, ◌+◌, ◌<◌, List, ℕ, Ok, Err, length, get_or, append_assoc, drop, rules}
+use Rattle.std.proofs.Common.{◌≡◌, ◌∙◌, ap, sym, ◌++◌, ◌+◌, List, ℕ, Ok, Err, get_or, append_assoc, drop, rules}
 use Rattle.std.specs.Prelude.{OnErr}
 use Rattle.std.specs.declared.result.Result.{Result}
 use Rattle.std.proofs.lemmas.List.{drop_more}

@@ -1,5 +1,5 @@
 -- A line is its text and its line feed, handed over one after the other.
-use Rattle.std.proofs.Common.{rules, ◌≡◌, ◌∙◌, ap, sym, refl, ◌++◌, ◌∷◌, [], List, ℕ}
+use Rattle.std.proofs.Common.{rules, ◌∙◌}
 use Rattle.tsp_replay.specs.Traces.{line_text}
 use Rattle.tsp_replay.proofs.TraceLemmas.{told_none, told_line, told_text}
 use Rattle.tsp_replay.proofs.tell.tell_one.Goals as goal

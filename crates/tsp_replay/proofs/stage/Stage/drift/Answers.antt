@@ -1,5 +1,5 @@
 -- The drift's line is the one that may follow.
-use Rattle.std.proofs.Common.{◌≡◌, ◌∙◌, ap, refl, subst, sym, Ok, rules, ◌<◌, length}
+use Rattle.std.proofs.Common.{◌∙◌, ap, subst, Ok}
 use Rattle.tsp_script.specs.Schedules.{SpellsHead}
 use Rattle.tsp_replay.proofs.StageLemmas.{Advances-drift}
 use Rattle.tsp_replay.proofs.stage.Stage.drift.Goals as goal

@@ -1,5 +1,5 @@
 -- With a node at least the first line is as any behind the header.
-use Rattle.std.proofs.Common.{◌≡◌, ◌∙◌, ap, refl, subst, sym, Ok, rules, ◌<◌, length}
+use Rattle.std.proofs.Common.{rules, ◌<◌, length}
 use Rattle.tsp_replay.proofs.StageLemmas.{MatchResult-map, HaltsFirst-run}
 use Rattle.tsp_replay.proofs.stage.Stage.first.Goals as goal
 use Rattle.std.specs.Prelude.{[]}

@@ -1,5 +1,5 @@
 -- A node, or the first line behind the nodes.
-use Rattle.std.proofs.Common.{◌≡◌, ◌∙◌, ap, refl, subst, sym, Ok, rules, ◌<◌, length}
+use Rattle.std.proofs.Common.{◌∙◌, ap, subst, Ok}
 use Rattle.tsp_script.specs.Schedules.{SpellsHead}
 use Rattle.tsp_replay.proofs.StageLemmas.{MatchResult-map, Advances-node, Halts-node, Advances-first, Halts-first}
 use Rattle.tsp_replay.proofs.stage.Stage.head.Goals as goal

@@ -1,4 +1,4 @@
-use Rattle.std.proofs.Common.{rules, ◌≡◌, ◌<◌, List, ℕ, [], ◌∷◌, ◌++◌, length, refl}
+use Rattle.std.proofs.Common.{rules}
 use Rattle.tsp_replay.proofs.LongLines.{Refuses-node, Refuses-none, Refuses-other, is_so, is_not, nodes_none}
 use Rattle.tsp_replay.proofs.stage.Stage.head_refuses_long.Goals as goal
 

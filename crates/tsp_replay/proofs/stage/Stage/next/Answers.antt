@@ -1,5 +1,5 @@
 -- A running stage goes on as its world does.
-use Rattle.std.proofs.Common.{◌≡◌, ◌∙◌, ap, refl, subst, sym, Ok, rules, ◌<◌, length}
+use Rattle.std.proofs.Common.{subst}
 use Rattle.tsp_replay.specs.Stages.{StageStands}
 use Rattle.tsp_replay.proofs.StageLemmas.{running-next}
 use Rattle.tsp_replay.proofs.stage.Stage.next.Goals as goal

@@ -1,5 +1,4 @@
-use Rattle.std.proofs.Common.{sym, subst}
-use Rattle.tsp_replay.specs.Schedules.{Progress, Refuses}
+use Rattle.std.proofs.Common.{subst}
 use Rattle.tsp_replay.specs.Stages.{StageStands}
 use Rattle.tsp_replay.specs.declared.stage.Stage.{Stage}
 use Rattle.tsp_replay.proofs.LongLines.{Refuses-titled, Refuses-heading, Refuses-running}

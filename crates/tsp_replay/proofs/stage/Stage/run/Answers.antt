@@ -1,5 +1,5 @@
 -- An event that nothing refuses, or the last line.
-use Rattle.std.proofs.Common.{◌≡◌, ◌∙◌, ap, refl, subst, sym, Ok, rules, ◌<◌, length}
+use Rattle.std.proofs.Common.{◌∙◌, ap, subst, Ok}
 use Rattle.tsp_script.specs.Schedules.{SpellsEvent}
 use Rattle.tsp_replay.proofs.StageLemmas.{MatchResult-map, AdvancesRun-event, HaltsRun-event, AdvancesRun-end}
 use Rattle.tsp_replay.proofs.stage.Stage.run.Goals as goal
