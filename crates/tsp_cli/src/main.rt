@@ -4,6 +4,8 @@
 mod help;
 mod run;
 mod status;
+#[cfg(test)]
+mod tests;
 
 use run::{run, say};
 use status::Status;

@@ -1,0 +1,159 @@
+//! Runs of the program over memory, whose traces and refusals were worked out by hand.
+use crate::run::run;
+use crate::status::Status;
+use std::alloc::{AllocError, Global};
+use std::process::Abort;
+use tsp_io::memory::{MemorySink, MemorySource};
+
+/// A schedule of one node that boots, is turned, and answers a stranger's stamp.
+const ANSWERS: &str = "\
+tsp-schedule 1
+drift 0
+node a 0 1000 m
+at 0 boot 0 5
+at 10 turn 0
+at 20 bytes 0 - 80010000000000000000000100000000000000020000000000000000
+end
+";
+
+/// The trace of that schedule.
+const TRACE: &str = "\
+1 0 0 0 boot
+1 0 0 0 become starting
+1 0 0 0 arm quiet 80000000
+3 0 0 20 took - request 1 2
+3 0 0 20 post 0 - reply 5 1 2 1020
+";
+
+/// The words, an input, the reads and writes that fail, and what comes of it.
+#[derive(Drop)]
+struct Row {
+    words: &'static [&'static str],
+    input: &'static str,
+    reads: &'static [u32],
+    writes: &'static [u32],
+    status: Status,
+    written: &'static str,
+}
+
+/// Whether the run comes to what the row says.
+fn comes(alloc: Global, row: &Row) -> Result<bool, AllocError> {
+    let mut words = Vec::new(alloc);
+    for word in row.words {
+        words.push(String::from_str(alloc, word)?)?;
+    }
+    let mut source = MemorySource::new(alloc, row.input.as_bytes(), row.reads)?;
+    let mut sink = MemorySink::new(alloc, row.writes)?;
+    let status = run(alloc, words.as_slice(), &mut source, &mut sink);
+    Ok(status == row.status && sink.written() == row.written.as_bytes())
+}
+
+/// A row of one word, where no read and no write fails.
+fn plain(
+    words: &'static [&'static str],
+    input: &'static str,
+    status: Status,
+    written: &'static str,
+) -> Row {
+    Row {
+        words,
+        input,
+        reads: &[],
+        writes: &[],
+        status,
+        written,
+    }
+}
+
+/// A replay ends with the status and the trace that were worked out.
+#[test]
+fn replays(rt: HostRuntime) {
+    for (input, status, written) in [
+        ("", Status::Bad, "bad 1 header\n"),
+        (ANSWERS, Status::Ok, TRACE),
+        (
+            "tsp-schedule 1\ndrift 0\nnode a 0 1000 m\nat 0 boot 0 5\nat 10 take 0\nend\n",
+            Status::Bad,
+            "1 0 0 0 boot\n1 0 0 0 become starting\n1 0 0 0 arm quiet 80000000\nbad 5 no-datagram 0 0\n",
+        ),
+        (
+            "tsp-schedule 1\ndrift 0\nnode a 0 0 m\nat 5 boot 0 1\nat 4 turn 0\n",
+            Status::Bad,
+            "1 0 0 5 boot\n1 0 0 5 become starting\n1 0 0 5 arm quiet 80000005\nbad 5 time-back 4 5\n",
+        ),
+        (
+            "tsp-schedule 1\ndrift 0\nnode a 0 0 m\nat 5 boot 0 1\nat 5 turn 1\n",
+            Status::Bad,
+            "1 0 0 5 boot\n1 0 0 5 become starting\n1 0 0 5 arm quiet 80000005\nbad 5 no-node 1 1\n",
+        ),
+        (
+            "tsp-schedule 1\ndrift 0\nnode a 0 0 m\nat 5 turn 0\n",
+            Status::Bad,
+            "bad 4 not-up 0\n",
+        ),
+        (
+            "tsp-schedule 1\ndrift 0\nnode a 0 0 m\nend\nend\n",
+            Status::Bad,
+            "bad 5 after-end\n",
+        ),
+        (
+            "tsp-schedule 1\ndrift 0\nnode a 0 0 m\n",
+            Status::Bad,
+            "bad 4 no-end\n",
+        ),
+    ] {
+        let row = plain(&["replay"], input, status, written);
+        assert!(rt; comes(rt.alloc(), &row) == Ok(true), "{written}");
+    }
+}
+
+/// Words that are no command's, conversions, and calls that fail.
+#[test]
+fn other_runs_end(rt: HostRuntime) {
+    let digits = "0101000700000000000004d2616c7068610000000000000000000000000000000000000000000000000000000000000000000000000000000000000000000000000000000000000000000000\n";
+    for row in [
+        plain(&[], ANSWERS, Status::Usage, "usage\n"),
+        plain(&["replay", "x"], ANSWERS, Status::Usage, "usage\n"),
+        plain(&["show"], digits, Status::Ok, "adjtime 7 1234 alpha\n"),
+        plain(&["pack"], "adjtime 7 1234 alpha\n", Status::Ok, digits),
+        Row {
+            words: &["replay"],
+            input: ANSWERS,
+            reads: &[0],
+            writes: &[],
+            status: Status::ReadFault,
+            written: "",
+        },
+        Row {
+            words: &["replay"],
+            input: ANSWERS,
+            reads: &[],
+            writes: &[0],
+            status: Status::WriteFault,
+            written: "",
+        },
+    ] {
+        assert!(rt; comes(rt.alloc(), &row) == Ok(true), "{}", row.written);
+    }
+}
+
+/// A line of 1,100 octets behind a node's line is refused where it ends.
+#[test]
+fn long_lines_are_refused(rt: HostRuntime) -> Result<(), AllocError> {
+    let alloc = rt.alloc();
+    for (start, written) in [("node ", "bad 4 header\n"), ("nodes", "bad 4 line\n")] {
+        let mut input = String::from_str(alloc, "tsp-schedule 1\ndrift 0\nnode a 0 1000 m\n")?;
+        input.push_str(start)?;
+        for _ in start.len()..1100 {
+            input.push('a')?;
+        }
+        input.push('\n')?;
+        let mut words = Vec::new(alloc);
+        words.push(String::from_str(alloc, "replay")?)?;
+        let mut source = MemorySource::new(alloc, input.as_bytes(), &[])?;
+        let mut sink = MemorySink::new(alloc, &[])?;
+        let status = run(alloc, words.as_slice(), &mut source, &mut sink);
+        assert!(rt; status == Status::Bad && sink.written() == written.as_bytes());
+    }
+    Ok(())
+}
