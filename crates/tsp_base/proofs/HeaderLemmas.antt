@@ -1,11 +1,11 @@
 -- One node more keeps a header's rules.
 use Rattle.std.specs.Prelude.{◌≡◌, ℕ, ◌+◌, ◌≤◌, ◌<◌, List, [], ◌∷◌, ◌++◌, length, nat_abs, Bool, true, false, if◌then◌else◌}
-use Rattle.std.proofs.Common.{arith, subst, slice_index_or, refl}
+use Rattle.std.proofs.Common.{arith, subst, slice_index_or}
 use Rattle.std.proofs.lemmas.List.Elements.{All-append}
 use Rattle.std.proofs.lemmas.List.{length-append}
 use Rattle.std.specs.List.{All}
 use Rattle.tsp_base.specs.declared.header.NodeLine.{NodeLine}
-use Rattle.tsp_base.specs.Headers.{HeaderValue, IsHeader, Keeps}
+use Rattle.tsp_base.specs.Headers.{IsHeader, Keeps}
 
 All-one : {X : Type 0} (P : X → Type 0) (x : X) → P x → All P (x ∷ [])
 All-one P x h = λ k d lt. let zero_is : k ≡ 0 = omega (arith, lt) in subst (λ i. P (slice_index_or (x ∷ []) i d)) (let e : 0 ≡ k = omega (arith, lt) in e) h

@@ -1,5 +1,5 @@
 -- The table of kinds, each law once.
-use Rattle.std.proofs.Common.{◌≡◌, ◌<◌, ◌≤◌, lit<, zero, suc, slice_index_or, ℕ, length, arith, rules, ◌+◌, ◌-◌, List, [], ◌∷◌, refl, Some, None, sym, ◌∙◌, ap}
+use Rattle.std.proofs.Common.{◌≡◌, ◌<◌, ◌≤◌, lit<, zero, suc, slice_index_or, ℕ, length, arith, rules, ◌+◌, ◌-◌, List, [], ◌∷◌, refl, Some}
 use Rattle.std.proofs.lemmas.Bool.Decides.{nat_tests}
 use denote.Enum.Declared.{tag_of}
 use Rattle.tsp_base.specs.contracts.kind.Kind.{the_type}

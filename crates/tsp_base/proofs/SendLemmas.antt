@@ -1,6 +1,5 @@
 -- What one act more makes of a port's sends.
 use Rattle.std.specs.Prelude.{◌≡◌, ℕ, ◌+◌, ◌==◌, ◌&&◌, Bool, true, false, if◌then◌else◌, List, [], ◌∷◌, Option, None, Some, refl}
-use Rattle.std.proofs.Common.{sym, ap, ◌∙◌}
 use Rattle.tsp_base.specs.declared.act.Act.{Act}
 use Rattle.tsp_base.specs.declared.act.Act.TheVariants.{Post, Acked, Gave}
 use Rattle.tsp_base.specs.declared.datagram.Datagram.TheVariants.{Message}
@@ -10,7 +9,7 @@ use Rattle.tsp_base.specs.declared.place.Place.TheVariants.{Peer, Stranger}
 use Rattle.tsp_base.specs.History.{Step, Acts, Seen, Here, did_of}
 use Rattle.tsp_base.specs.Messages.{MessageValue}
 use Rattle.tsp_base.specs.PortFacts.{acting}
-use Rattle.tsp_base.specs.SendFacts.{again, corrects_in, message_of, sending_of, is_numbered, is_correction, Sending, open_send, sending_at, open_to, posts_of, last_post, last_number, number_of, message_at, last_to, is_acknowledged, corrects_by}
+use Rattle.tsp_base.specs.SendFacts.{again, corrects_in, message_of, sending_of, is_numbered, is_correction, open_send, sending_at, open_to, posts_of, last_post, last_number, number_of, message_at, last_to, is_acknowledged, corrects_by}
 
 -- an act here, in this step and at this tick
 abbrev pub seen_act : Step → ℕ → Act → Seen

@@ -34,7 +34,7 @@ pub record ActsOn (l : Line) (world : List Line) (post : Line) (older : List Lin
 abbrev pub send : ℕ → Line → List Line → List Seen
 send k post older = send_of (peer_of k) (Here post.did ∷ view post.port (of (node_of post) older))
 
--- two Corrects of a node stand GAP ticks apart, boots between included
+-- a node's Correct stands GAP ticks after each earlier one of that node, in this life or another
 abbrev pub SpacedAt : Line → List Line → Type 0
 SpacedAt l world = (other : Line) (older : List Line) (a b : ℤ) (s t : Bool) (x y : ℤ) → l.did.deed ≡ Acts (Correct a s x) → Within (other ∷ older) world → node_of other ≡ node_of l →
     other.did.deed ≡ Acts (Correct b t y) → other.did.tick + GAP ≤ l.did.tick
@@ -52,7 +52,7 @@ pub record Obeys (setting : Setting) (l : Line) (world : List Line) (amount : �
 abbrev pub ObeysAt : Setting → Line → List Line → Type 0
 ObeysAt setting l world = (q : PeerId) (amount : ℤ) (stepped : Bool) (shown : ℤ) → l.did.deed ≡ Acts (Correct amount stepped shown) → role (view l.port (of (node_of l) world)) ≡ Follow q → Obeys setting l world amount q
 
--- no two Corrects take posts of the same send
+-- where this Correct has taken a post of a send, no Correct before it has taken one of that send
 abbrev pub OnceAt : Line → List Line → Type 0
 OnceAt l world = (post c other : Line) (older past rest : List Line) → ActsOn l world post older → Within (c ∷ past) world → ActsOn c past other rest →
     send (node_of l) post older ≢ send (node_of c) other rest

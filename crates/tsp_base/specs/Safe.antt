@@ -11,7 +11,7 @@ use Rattle.tsp_base.specs.Relayed.{Relayed}
 use Rattle.tsp_base.specs.Resolved.{Resolved}
 use Rattle.tsp_base.specs.Setting.{Setting}
 
--- no node backs two candidates within the hold; only masters correct; each correction acts at most once; each measurement errs by at most half its round trip; clocks corrected in one round agree, also through a corrected master; and a rival that takes Quit stops being master
+-- who is backed and who corrects is safe whatever is delivered; the rest rests on who sends, on how long datagrams live, and on words that differ
 pub record Safe (setting : Setting) (world : List Line) : Type 0 where
   pub one_back : OneBack world
   pub only_master : OnlyMaster world

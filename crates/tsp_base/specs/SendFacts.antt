@@ -1,6 +1,7 @@
 -- Facts of a port's numbered sends, each of which is a first post and its repeats.
-use Rattle.std.specs.Prelude.{ℕ, ◌+◌, ◌==◌, Bool, true, false, ◌&&◌, if◌then◌else◌, List, [], ◌∷◌, Option, None, Some}
+use Rattle.std.specs.Prelude.{ℕ, ◌+◌, ◌*◌, ◌==◌, nat_le, nat_lt, Bool, true, false, ◌&&◌, ◌||◌, if◌then◌else◌, List, [], ◌∷◌, Option, None, Some}
 use Rattle.tsp_base.specs.declared.act.Act.TheVariants.{Boot, Post, Become, Acked, Gave, Correct}
+use Rattle.tsp_base.specs.declared.constants.TheConstants.{RETRY, TRIES, LAST}
 use Rattle.tsp_base.specs.declared.datagram.Datagram.TheVariants.{Message}
 use Rattle.tsp_base.specs.declared.kind.Kind.{Kind}
 use Rattle.tsp_base.specs.declared.kind.Kind.TheVariants.{AdjTime, SetTime, Election, Conflict, Quit}
@@ -92,6 +93,14 @@ sending_at (s ∷ before) posts = sending_of (message_of (did_of s).deed) (did_o
 -- the open send to p, if there is one
 abbrev pub open_send : PeerId → List Seen → Option Sending
 open_send p seen = sending_at (open_to p seen) (posts_of p seen)
+
+-- the tick from which an open send is due: a RETRY has passed since it began for each of its posts
+abbrev pub deadline_of : Sending → ℕ
+deadline_of s = s.began + s.posts * RETRY
+
+-- whether a send that is due is given up: it began too long ago, or was posted often enough
+abbrev pub is_given_up : Sending → ℕ → Bool
+is_given_up s tick = nat_lt (s.began + LAST) tick || nat_le TRIES s.posts
 
 -- a send with one post more
 abbrev pub again : Option Sending → Option Sending

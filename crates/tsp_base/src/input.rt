@@ -3,6 +3,7 @@
 use crate::place::{Place, Port};
 
 /// What makes a node take a step.
+#[derive(Clone, Copy)]
 pub enum Input<'a> {
     /// Its timers are looked at.
     Turn,

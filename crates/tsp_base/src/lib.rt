@@ -22,3 +22,5 @@ pub mod pad;
 pub mod place;
 pub mod role;
 pub mod stamp;
+#[cfg(test)]
+mod tests;

@@ -1,11 +1,10 @@
 -- The slots of a port's peers, each with at most one open send.
-use Rattle.std.specs.Prelude.{◌≡◌, ℕ, ◌+◌, ◌*◌, ◌==◌, nat_le, nat_lt, Bool, false, ◌||◌, if◌then◌else◌, List, [], ◌∷◌, map, Option, None, Some}
+use Rattle.std.specs.Prelude.{◌≡◌, ℕ, ◌==◌, Bool, false, if◌then◌else◌, List, [], ◌∷◌, map, Option, None, Some}
 use Rattle.std.specs.List.Sorted.{IsStrictlyIncreasing}
 use Rattle.std.specs.Option.{option_map}
-use Rattle.tsp_base.specs.declared.constants.TheConstants.{RETRY, TRIES, LAST}
 use Rattle.tsp_base.specs.declared.kind.Kind.{Kind}
 use Rattle.tsp_base.specs.declared.place.PeerId.{PeerId}
-use Rattle.tsp_base.specs.SendFacts.{Sending}
+use Rattle.tsp_base.specs.SendFacts.{Sending, deadline_of}
 use Rattle.tsp_sends.specs.declared.slot.Slot.{Slot}
 
 -- the peers' numbers, ascending
@@ -24,14 +23,6 @@ empty_slot p = record { peer = p; sending = None }
 abbrev pub sending_to : List Slot → PeerId → Option Sending
 sending_to [] p = None
 sending_to (s ∷ slots) p = if s.peer.0 == p.0 then s.sending else sending_to slots p
-
--- the tick from which a send is due: a RETRY has passed since it began for each of its posts
-abbrev pub deadline_of : Sending → ℕ
-deadline_of s = s.began + s.posts * RETRY
-
--- whether a send that is due is given up: it began too long ago, or was posted often enough
-abbrev pub is_given_up : Sending → ℕ → Bool
-is_given_up s tick = nat_lt (s.began + LAST) tick || nat_le TRIES s.posts
 
 -- the deadline in a slot
 abbrev pub deadline_in : Slot → Option ℕ

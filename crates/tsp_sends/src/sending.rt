@@ -1,6 +1,6 @@
 //! A numbered send that waits for its ACK.
 ghost use Rattle.std.specs.Prelude.{◌≡◌, ◌+◌, ◌^◌, ◌≤◌, ◌<◌};
-ghost use Rattle.tsp_sends.specs.Slots.{deadline_of, is_given_up};
+ghost use Rattle.tsp_base.specs.SendFacts.{deadline_of, is_given_up};
 
 use std::marker::Model;
 use tsp_base::constants::{LAST, RETRY, TRIES};

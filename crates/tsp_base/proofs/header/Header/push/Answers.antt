@@ -1,4 +1,4 @@
-use Rattle.std.proofs.Common.{ℕ, rules, arith, ◌≤◌, ◌<◌, length, nat_abs}
+use Rattle.std.proofs.Common.{rules}
 use Rattle.tsp_base.proofs.HeaderLemmas.{IsHeader-maybe}
 use Rattle.tsp_base.proofs.header.Header.push.Goals as goal
 

@@ -1,0 +1,177 @@
+//! The values through their public calls, each on its happy path and at its edges.
+
+use crate::act::Act;
+use crate::alarm::Alarm;
+use crate::alarms::Alarms;
+use crate::constants::{ELECT_MIN, HOLD, LIMIT};
+use crate::desk::Desk;
+use crate::drift::{tick_at, width};
+use crate::header::{Header, HeaderFault, NodeLine};
+use crate::hold::Hold;
+use crate::kind::Kind;
+use crate::message::{Body, Message};
+use crate::micros::Micros;
+use crate::name::{Name, NameFault};
+use crate::octets::Octets;
+use crate::pad::Pad;
+use crate::place::{PeerId, Port};
+use crate::stamp::Stamp;
+use std::test::Fail;
+
+#[test]
+fn bounds_values(rt: HostRuntime) -> Result<(), Fail> {
+    let times = [
+        (-LIMIT - 1, false),
+        (-LIMIT, true),
+        (0, true),
+        (LIMIT - 1, true),
+        (LIMIT, false),
+    ];
+    for (value, fits) in &times {
+        assert_eq!(rt; Micros::of(*value).is_some(), *fits);
+    }
+    let replies = [
+        (32_767, LIMIT - 1, true),
+        (32_768, 0, false),
+        (0, LIMIT, false),
+        (0, -LIMIT, false),
+        (0, 1 - LIMIT, true),
+    ];
+    for (ticket, reading, fits) in &replies {
+        assert_eq!(rt; Stamp::reply(*ticket, 1, 2, *reading).is_some(), *fits);
+    }
+    assert!(rt; Octets::of(&[7; 300]).is_some() && Octets::of(&[7; 301]).is_none());
+    Ok(())
+}
+
+#[test]
+fn bounds_names(rt: HostRuntime) -> Result<(), Fail> {
+    assert!(rt; Name::of(&[b'a'; 63]).is_ok() && Name::of(b"").is_ok());
+    assert!(rt; matches!(Name::of(&[b'a'; 64]), Err(NameFault::TooLong)));
+    assert!(rt; matches!(Name::of(&[0; 64]), Err(NameFault::TooLong)));
+    assert!(rt; matches!(Name::of(b"a\0b"), Err(NameFault::HasNul)));
+    match Name::of(b"alpha") {
+        Ok(name) => assert_eq!(rt; name.copy().octets(), b"alpha".as_slice()),
+        Err(_) => panic!(rt; "the name is short and has no NUL"),
+    }
+    assert!(rt; Name::empty().octets().is_empty());
+    Ok(())
+}
+
+#[test]
+fn matches_bodies_to_kinds(rt: HostRuntime) -> Result<(), Fail> {
+    let Some(time) = Micros::of(1234) else {
+        panic!(rt; "the time is in range");
+    };
+    let bodies = [
+        (Kind::AdjTime, Body::Time(time), true),
+        (Kind::AdjTime, Body::Nothing, false),
+        (Kind::Loop, Body::Hops(3), true),
+        (Kind::Loop, Body::Time(time), false),
+        (Kind::Ack, Body::Nothing, true),
+        (Kind::Ack, Body::Hops(0), false),
+    ];
+    for (kind, body, fits) in &bodies {
+        assert_eq!(rt;
+            Message::of(*kind, 7, *body, Name::empty()).is_some(),
+            *fits
+        );
+    }
+    let kinds = [
+        (1, b"adjtime".as_slice(), Kind::AdjTime),
+        (13, b"quit".as_slice(), Kind::Quit),
+        (24, b"loop".as_slice(), Kind::Loop),
+    ];
+    for (number, word, kind) in &kinds {
+        assert!(rt; Kind::of(*number) == Some(*kind) && kind.number() == *number);
+        assert!(rt; Kind::of_word(*word) == Some(*kind) && kind.word() == *word);
+    }
+    assert!(rt;
+        Kind::of(0).is_none() && Kind::of(25).is_none() && Kind::of_word(b"quits").is_none()
+    );
+    Ok(())
+}
+
+#[test]
+fn holds_and_stands(rt: HostRuntime) -> Result<(), Fail> {
+    let (own, other) = (PeerId(0), PeerId(1));
+    let mut hold = Hold::new(5);
+    assert!(rt; hold.may_back(5, other));
+    assert!(rt; !hold.may_stand(4 + ELECT_MIN, own) && hold.may_stand(5 + ELECT_MIN, own));
+    hold.back(10, other);
+    assert!(rt; hold.may_back(11, other));
+    assert!(rt; !hold.may_back(9 + HOLD, own) && hold.may_back(10 + HOLD, own));
+    hold.quit(100);
+    assert!(rt; !hold.may_stand(99 + ELECT_MIN, own) && hold.may_stand(100 + ELECT_MIN, own));
+    Ok(())
+}
+
+#[test]
+fn keeps_deadlines(rt: HostRuntime) -> Result<(), Fail> {
+    let mut alarms = Alarms::new();
+    assert!(rt; alarms.least().is_none());
+    alarms.arm(Alarm::Round, 30);
+    alarms.arm(Alarm::Quiet, 20);
+    alarms.arm(Alarm::Probe, 25);
+    assert!(rt; alarms.at(Alarm::Probe) == Some(25) && alarms.least() == Some(20));
+    alarms.off(Alarm::Quiet);
+    assert!(rt; alarms.at(Alarm::Quiet).is_none() && alarms.least() == Some(25));
+    alarms.clear();
+    assert!(rt; alarms.least().is_none());
+    Ok(())
+}
+
+#[test]
+fn refuses_nodes(rt: HostRuntime) -> Result<(), Fail> {
+    let mut header = Header::new(rt.alloc(), 100);
+    let lines = [
+        (101, 0, Err(HeaderFault::Rate)),
+        (101, 1_000_000_000_000_001, Err(HeaderFault::Rate)),
+        (-100, -1_000_000_000_000_001, Err(HeaderFault::Wall)),
+        (-100, -1_000_000_000_000_000, Ok(())),
+    ];
+    for (rate, wall, answer) in &lines {
+        let line = NodeLine {
+            name: Name::empty(),
+            rate: *rate,
+            wall: *wall,
+            may: true,
+        };
+        assert!(rt; header.push(line) == *answer);
+    }
+    assert!(rt; header.drift() == 100 && header.nodes().len() == 1);
+    Ok(())
+}
+
+#[test]
+fn counts_ticks(rt: HostRuntime) -> Result<(), Fail> {
+    let ticks = [
+        (0, 10, 10),
+        (100, 10_000, 10_001),
+        (-100, 10_000, 9_999),
+        (-1, 1, 0),
+    ];
+    for (rate, at, tick) in &ticks {
+        assert_eq!(rt; tick_at(*rate, *at), *tick);
+    }
+    assert!(rt; width(100, 10_000_000) == 1001 && width(0, 10_000_000) == 1);
+    Ok(())
+}
+
+#[test]
+fn puts_acts(rt: HostRuntime) -> Result<(), Fail> {
+    let mut pad = Pad::new(rt.alloc());
+    pad.reserve(2)?;
+    pad.put(Port(0), Act::Boot);
+    pad.put(Port(1), Act::Abandon);
+    match pad.acts() {
+        [first, last] => {
+            assert!(rt; first.port == Port(0) && matches!(first.act, Act::Boot));
+            assert!(rt; last.copy().port == Port(1) && matches!(last.act.copy(), Act::Abandon));
+        }
+        _ => panic!(rt; "two acts were put"),
+    }
+    pad.clear();
+    assert!(rt; pad.acts().is_empty());
+    Ok(())
+}
