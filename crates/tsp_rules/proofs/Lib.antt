@@ -1,2 +1,3 @@
 pub mod RowsOther
 pub mod ScriptsAnswered
+pub mod SoFarAnswered

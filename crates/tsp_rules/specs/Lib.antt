@@ -13,4 +13,6 @@ pub mod RoundRows
 pub mod Scripts
 pub mod SendRows
 pub mod SlaveRows
+pub mod SoFar
+pub mod SoFarScripts
 pub mod Tests

@@ -1,7 +1,7 @@
 -- How numbered sends begin, are repeated and end.
-use Rattle.std.specs.Prelude.{ℕ, ◌+◌, ◌*◌, ◌%◌, ◌==◌, nat_le, nat_lt, ℤ, Bool, true, false, not, ◌&&◌, ◌||◌, if◌then◌else◌, List, Option, None, Some, is_some}
+use Rattle.std.specs.Prelude.{ℕ, ◌+◌, ◌%◌, ◌==◌, nat_le, ℤ, Bool, true, false, not, ◌&&◌, ◌||◌, if◌then◌else◌, List, Option, None, Some, is_some}
 use Rattle.tsp_base.specs.declared.act.Act.TheVariants.{Post, Acked, Gave, Leave}
-use Rattle.tsp_base.specs.declared.constants.TheConstants.{RETRY, TRIES, LAST, REUSE}
+use Rattle.tsp_base.specs.declared.constants.TheConstants.{REUSE}
 use Rattle.tsp_base.specs.declared.datagram.Datagram.TheVariants.{Message}
 use Rattle.tsp_base.specs.declared.kind.Kind.{Kind}
 use Rattle.tsp_base.specs.declared.kind.Kind.TheVariants.{AdjTime, SetTime, Election, Quit}
@@ -12,7 +12,7 @@ use Rattle.tsp_base.specs.Hold.{is_past}
 use Rattle.tsp_base.specs.Messages.{MessageValue}
 use Rattle.tsp_base.specs.NodeFacts.{word}
 use Rattle.tsp_base.specs.Rows.{Row, nothing, puts, ◌followed_by◌, either_by, reading, for_each, others, posts, posts_time}
-use Rattle.tsp_base.specs.SendFacts.{is_correction, Sending, open_send, begun, last_post, is_acknowledged, last_number}
+use Rattle.tsp_base.specs.SendFacts.{is_correction, Sending, deadline_of, is_given_up, open_send, begun, last_post, is_acknowledged, last_number}
 use Rattle.tsp_rules.specs.Tests.{target_at, is_in_range, is_slave_at}
 
 -- the port's next own number: 32768 and, modulo 32768, the word and the sends that have begun with such numbers
@@ -90,13 +90,13 @@ has_quit p x past = is_quit (open_at p x past)
 unfoldable pub acknowledges : PeerId → ℕ → Row
 acknowledges p number = either_by (has_other p number) (puts (Acked p)) nothing
 
--- whether a send is due: a RETRY has passed since it began for each of its posts
+-- whether a send is due
 abbrev pub is_send_due : Sending → ℕ → Past → Bool
-is_send_due s x past = nat_le (s.began + s.posts * RETRY) x
+is_send_due s x past = nat_le (deadline_of s) x
 
--- whether a send that is due is given up: it began too long ago, or was posted often enough
+-- whether a send that is due is given up
 abbrev pub is_spent : Sending → ℕ → Past → Bool
-is_spent s x past = nat_lt (s.began + LAST) x || nat_le TRIES s.posts
+is_spent s x past = is_given_up s x
 
 -- a slave that doesn't acknowledge a correction leaves
 unfoldable pub leaves_after : PeerId → Kind → Row

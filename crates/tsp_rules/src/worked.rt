@@ -4,6 +4,7 @@ ghost use Rattle.tsp_rules.specs.HoldScript.{HoldsOne};
 ghost use Rattle.tsp_rules.specs.LateClose.{ClosesLate};
 ghost use Rattle.tsp_rules.specs.OrdinaryUse.{OrdinaryUse};
 ghost use Rattle.tsp_rules.specs.RivalsScript.{MeetsRival};
+ghost use Rattle.tsp_rules.specs.SoFarScripts.{AnswersSoFar};
 
 /// Two nodes: an election, a first setting of the other clock, one round.
 pub fn ordinary_use()
@@ -28,4 +29,9 @@ pub fn closes_late()
 /// A follower is corrected once by a repeated message, not too soon again, and its clock slews.
 pub fn corrects_once()
     ensures { CorrectsOnce }
+{}
+
+/// The rules that are built so far give the same acts, until a master's first slave comes or a rival is found.
+pub fn answers_so_far()
+    ensures { AnswersSoFar }
 {}
