@@ -47,7 +47,7 @@ unfolding due_alarms
 due_alarms_lead = Leads_then (rings Quiet) _ quiet_leads (Leads_then (rings Search) _ search_leads (Leads_then (rings Elect) _ elect_leads (Leads_then (rings Window) _ window_leads
     (Leads_then (rings Probe) _ probe_leads (Leads_then (rings Close) _ close_leads (Leads_then (rings Resolve) (rings Round) resolve_leads round_leads))))))
 
-nothing-rests : {from : Place} {t : Taken} {P : ℕ → Past → Type 0} → ((x : ℕ) (past : Past) → P x past → JustTook from t x past) → Leads P nothing Rests
+pub nothing-rests : {from : Place} {t : Taken} {P : ℕ → Past → Type 0} → ((x : ℕ) (past : Past) → P x past → JustTook from t x past) → Leads P nothing Rests
 nothing-rests k = Leads_from (λ x past h. rests_of (k x past h).free) Leads_nothing
 
 module _ {p : PeerId} {m : MessageValue} where
@@ -76,7 +76,7 @@ module _ {p : PeerId} {r : ReplyValue} where
   unfolding peer_replies
   peer_replies_lead = Leads_reading role_at (replies_in p r) (λ a. Leads_from (λ x past h. h.0) (replies_in_leads a))
 
-from_peer_leads : (from : Place) (t : Taken) (row : PeerId → Row) → ((p : PeerId) → from ≡ Peer p → Leads (Heard p t) (row p) Rests) → Leads (JustTook from t) (from_peer from row) Rests
+pub from_peer_leads : (from : Place) (t : Taken) (row : PeerId → Row) → ((p : PeerId) → from ≡ Peer p → Leads (Heard p t) (row p) Rests) → Leads (JustTook from t) (from_peer from row) Rests
 unfolding from_peer
 from_peer_leads (Peer p) t row k = Leads_either (is_heard p) (row p) nothing
     (Leads_from (λ x past h.

@@ -1,43 +1,36 @@
 -- The rules put few acts in a step, and take nothing but what is given.
 use Rattle.std.specs.Prelude.{◌≡◌, ◌≤◌, ℕ, suc, ◌+◌, ◌*◌, ◌==◌, not, ℤ, ◌-ℤ◌, Bool, true, false, if◌then◌else◌, List, [], ◌∷◌, ◌++◌, length, map, Option, None, Some, refl}
-use Rattle.std.proofs.Common.{sym, ap, subst, arith, ◌∙◌, append_assoc, length-append}
-use Rattle.tsp_base.specs.declared.act.Act.{Act}
-use Rattle.tsp_base.specs.declared.act.Act.TheVariants.{Took, Post, Become, Back, Backer, Quit, Ring, Late, Join, Leave, Rival, Acked, Gave, Abandon, Trace}
+use Rattle.std.proofs.Common.{ap, arith, length-append}
+use Rattle.tsp_base.specs.declared.act.Act.TheVariants.{Post, Become, Back, Quit, Ring, Late, Leave, Acked, Gave, Abandon}
 use Rattle.tsp_base.specs.declared.alarm.Alarm.{Alarm}
 use Rattle.tsp_base.specs.declared.alarm.Alarm.TheVariants.{Quiet as QuietAlarm, Search, Elect, Window, Probe, Close, Resolve as ResolveAlarm, Round}
 use Rattle.tsp_base.specs.declared.constants.TheConstants.{WINDOW, ROUND, PROBE, CLOSE, SPAN}
-use Rattle.tsp_base.specs.declared.datagram.Datagram.TheVariants.{Message, Stamp}
-use Rattle.tsp_base.specs.declared.datagram.Taken.{Taken}
-use Rattle.tsp_base.specs.declared.datagram.Taken.TheVariants.{Good, Bad}
+use Rattle.tsp_base.specs.declared.datagram.Datagram.TheVariants.{Message}
 use Rattle.tsp_base.specs.declared.kind.Kind.{Kind}
-use Rattle.tsp_base.specs.declared.kind.Kind.TheVariants.{AdjTime, Ack, MasterReq, MasterAck, SetTime, MasterUp, SlaveUp, Election, Accept, Refuse, Conflict, Resolve, Quit as QuitKind, TraceOn, TraceOff, Msite, MsiteReq, Test}
+use Rattle.tsp_base.specs.declared.kind.Kind.TheVariants.{AdjTime, Ack, MasterReq, MasterAck, SetTime, MasterUp, SlaveUp, Election, Accept, Refuse, Conflict, Quit as QuitKind}
 use Rattle.tsp_base.specs.declared.place.PeerId.{PeerId}
-use Rattle.tsp_base.specs.declared.place.Place.{Place}
-use Rattle.tsp_base.specs.declared.place.Place.TheVariants.{Peer, Stranger}
+use Rattle.tsp_base.specs.declared.place.Place.TheVariants.{Peer}
 use Rattle.tsp_base.specs.declared.role.Role.{Role}
-use Rattle.tsp_base.specs.declared.role.Role.TheVariants.{Starting, Loose, Follow, Candidate, Master}
-use Rattle.tsp_base.specs.declared.stamp.Stamp.TheVariants.{Request, Reply}
-use Rattle.tsp_base.specs.History.{Past, Seen}
+use Rattle.tsp_base.specs.declared.role.Role.TheVariants.{Loose, Follow, Candidate, Master}
+use Rattle.tsp_base.specs.History.{Past}
 use Rattle.tsp_base.specs.Messages.{MessageValue}
 use Rattle.tsp_base.specs.PortFacts.{in_table, is_rival}
-use Rattle.tsp_base.specs.RoundFacts.{is_measured, Sampled, word_asked, target_there}
-use Rattle.tsp_base.specs.Rows.{Row, grown, nothing, puts, ◌followed_by◌, either_by, reading, for_each, arms, bare, posts, posts_to_others, posts_back, posts_time}
+use Rattle.tsp_base.specs.RoundFacts.{is_measured, Sampled}
+use Rattle.tsp_base.specs.Rows.{Row, grown, nothing, puts, ◌followed_by◌, either_by, reading, for_each, arms, posts, posts_to_others, posts_time}
 use Rattle.tsp_base.specs.SendFacts.{is_correction, Sending}
-use Rattle.tsp_base.specs.Stamps.{ReplyValue}
 use Rattle.tsp_base.specs.Takings.{time_in}
 use Rattle.tsp_group.specs.Groups.{group_of, mean_of}
 use Rattle.tsp_group.specs.declared.group.Group.{Group}
-use Rattle.tsp_rules.specs.Answers.{alarm_rings, rings, due_alarms, says_in, peer_says, replies_in, peer_replies, from_peer, treats_kind, treats, takes, Given, Turn, Got, input_row, answers}
-use Rattle.tsp_rules.specs.CandidateRows.{lead_row, yields, window_rings, accepted_by, refused_by, candidate_takes_kind, candidate_takes}
+use Rattle.tsp_rules.specs.Answers.{alarm_rings, rings, due_alarms}
+use Rattle.tsp_rules.specs.CandidateRows.{lead_row, yields, window_rings}
 use Rattle.tsp_rules.specs.ClockRows.{adjusts, sets, can_adjust}
-use Rattle.tsp_rules.specs.CommonRows.{arms_elect, searches, tells_ticket, follow_row, own_at, backs_own, stand_row, follows_unless, quits, posts_reply, replies, master_name, names_master, says_master, traces, may_be_asked, is_awake, tests}
-use Rattle.tsp_rules.specs.MasterRows.{may_join, joins, sends_away, master_takes_kind, master_takes}
-use Rattle.tsp_rules.specs.ResolveRows.{resolves, is_new_rival, finds_rival, quits_rivals, resolve_rings}
-use Rattle.tsp_rules.specs.RoundRows.{asks, asks_slaves, round_begins, round_rings, measured_at, asks_measured, has_more, arms_next, abandons, probe_rings, exchange_at, sample_of, samples_exchange, samples, Standing, round_at, standing, estimates, is_near, corrects_by, corrects_peer, close_act, closes_with, closes, close_rings}
-use Rattle.tsp_rules.specs.SendRows.{next_number, begins, others_at, begins_to_others, may_correct, begins_adjtime, may_set, begins_settime, open_at, is_free, has_other, has_election, has_quit, acknowledges, is_send_due, is_spent, leaves_after, gives_up, repeats, treats_send, due_send, peers_at, due_sends}
-use Rattle.tsp_rules.specs.SlaveRows.{quiet_rings, rings_or_late, search_rings, loosens, elect_rings, reports_conflict, masterup_in, masterack_in, election_of, is_repeated, acks_repeat, confirms, takes_amount, adjtime_of, takes_value, settime_of, from_master, slave_takes_kind, slave_takes}
-use Rattle.tsp_rules.specs.Tests.{role_at, ticket_at, target_at, is_in_range, delay_at, is_due, is_in_time, is_armed, may_back_at, may_stand_at, table_at, is_slave_at, rivals_at, follows_at, is_master_at, is_own, is_heard}
-use Rattle.tsp_fit.proofs.FewActs.{Calm, is_calm, calm_append, each_few, each_calm, calm_nothing, calm_puts, calm_then, calm_either, calm_reading, calm_more, calm_arms, calm_posts, calm_posts_back, calm_posts_time, calm_posts_to_others, calm_each, filter_few}
+use Rattle.tsp_rules.specs.CommonRows.{arms_elect, searches, tells_ticket, follow_row, own_at, backs_own, stand_row, follows_unless, quits}
+use Rattle.tsp_rules.specs.ResolveRows.{quits_rivals, resolve_rings}
+use Rattle.tsp_rules.specs.RoundRows.{asks, asks_slaves, round_begins, round_rings, measured_at, asks_measured, has_more, arms_next, abandons, probe_rings, Standing, round_at, standing, estimates, is_near, corrects_by, corrects_peer, close_act, closes_with, closes, close_rings}
+use Rattle.tsp_rules.specs.SendRows.{next_number, begins, others_at, begins_to_others, may_correct, begins_adjtime, may_set, begins_settime, open_at, is_free, has_other, acknowledges, is_send_due, is_spent, leaves_after, gives_up, repeats, treats_send, due_send, peers_at, due_sends}
+use Rattle.tsp_rules.specs.SlaveRows.{quiet_rings, rings_or_late, search_rings, loosens, elect_rings, reports_conflict, masterup_in, masterack_in, election_of, is_repeated, acks_repeat, confirms, takes_amount, adjtime_of, takes_value, settime_of, from_master, slave_takes_kind}
+use Rattle.tsp_rules.specs.Tests.{role_at, ticket_at, target_at, delay_at, is_due, is_in_time, is_armed, may_back_at, may_stand_at, table_at, is_slave_at, rivals_at, follows_at}
+use Rattle.tsp_fit.proofs.FewActs.{Calm, is_calm, calm_append, each_few, each_calm, calm_nothing, calm_puts, calm_then, calm_either, calm_reading, calm_more, calm_arms, calm_posts, calm_posts_time, calm_posts_to_others, calm_each, filter_few}
 
 -- at most so many, whatever the parts add up to
 sum : (j b k c m n : ℕ) (r s : Row) → Calm j b r → Calm k c s → j + k ≤ m → b + c ≤ n → Calm m n (r followed_by s)
@@ -61,7 +54,7 @@ calm-ticket : (p : PeerId) → Calm 0 1 (tells_ticket p)
 unfolding tells_ticket
 calm-ticket p = calm_reading 0 1 ticket_at (posts p SlaveUp) (λ n. calm_posts p SlaveUp n)
 
-calm-again : (p : PeerId) → Calm 0 2 (arms_elect followed_by tells_ticket p)
+pub calm-again : (p : PeerId) → Calm 0 2 (arms_elect followed_by tells_ticket p)
 calm-again p = calm_then 0 1 0 1 arms_elect (tells_ticket p) calm-elect (calm-ticket p)
 
 pub calm-follow : (p : PeerId) → Calm 0 3 (follow_row p)

@@ -1,8 +1,8 @@
 -- A whole step takes nothing but what it is given, and puts few acts.
-use Rattle.std.specs.Prelude.{◌≡◌, ◌≤◌, ℕ, ◌+◌, ◌*◌, ◌==◌, Bool, true, false, if◌then◌else◌, List, [], ◌∷◌, ◌++◌, length, Option, None, Some, refl}
-use Rattle.std.proofs.Common.{sym, ap, subst, arith, ◌∙◌, append_assoc, length-append}
+use Rattle.std.specs.Prelude.{◌≡◌, ◌≤◌, ℕ, ◌+◌, ◌*◌, ◌==◌, Bool, true, false, if◌then◌else◌, List, [], ◌∷◌, ◌++◌, length, refl}
+use Rattle.std.proofs.Common.{sym, arith, append_assoc, length-append}
 use Rattle.tsp_base.specs.declared.act.Act.{Act}
-use Rattle.tsp_base.specs.declared.act.Act.TheVariants.{Took, Post, Become, Backer, Join, Rival, Acked, Trace}
+use Rattle.tsp_base.specs.declared.act.Act.TheVariants.{Took, Post, Backer, Join, Rival, Acked, Trace}
 use Rattle.tsp_base.specs.declared.alarm.Alarm.TheVariants.{Resolve as ResolveAlarm}
 use Rattle.tsp_base.specs.declared.constants.TheConstants.{WINDOW}
 use Rattle.tsp_base.specs.declared.datagram.Datagram.TheVariants.{Message, Stamp}
@@ -21,9 +21,9 @@ use Rattle.tsp_base.specs.Messages.{MessageValue}
 use Rattle.tsp_base.specs.RoundFacts.{word_asked, target_there}
 use Rattle.tsp_base.specs.Rows.{Row, grown, nothing, puts, ◌followed_by◌, either_by, reading, arms, bare, posts, posts_to_others, posts_back}
 use Rattle.tsp_base.specs.Stamps.{ReplyValue}
-use Rattle.tsp_rules.specs.Answers.{due_alarms, says_in, peer_says, replies_in, peer_replies, from_peer, treats_kind, treats, takes, Given, Turn, Got, input_row, answers}
+use Rattle.tsp_rules.specs.Answers.{due_alarms, says_in, peer_says, replies_in, peer_replies, from_peer, treats_kind, treats, takes, Turn, Got, input_row, answers}
 use Rattle.tsp_rules.specs.CandidateRows.{yields, accepted_by, refused_by, candidate_takes_kind, candidate_takes}
-use Rattle.tsp_rules.specs.CommonRows.{follow_row, stand_row, posts_reply, replies, master_name, names_master, says_master, traces, may_be_asked, is_awake, tests}
+use Rattle.tsp_rules.specs.CommonRows.{stand_row, posts_reply, replies, master_name, names_master, says_master, traces, may_be_asked, is_awake, tests}
 use Rattle.tsp_rules.specs.MasterRows.{may_join, joins, sends_away, master_takes_kind, master_takes}
 use Rattle.tsp_rules.specs.ResolveRows.{resolves, is_new_rival, finds_rival}
 use Rattle.tsp_rules.specs.RoundRows.{exchange_at, sample_of, samples_exchange, samples}
@@ -43,7 +43,7 @@ unfolding refused_by
 calm-refused p number = calm_either 0 3 (has_election p number) (puts (Acked p) followed_by yields) nothing
     (calm_then 0 1 0 2 (puts (Acked p)) yields (calm_puts (Acked p) refl) calm-yields) (none 0 3)
 
-calm-candidate : (p : PeerId) (m : MessageValue) (k : Kind) → Calm 1 5 (candidate_takes_kind p m k)
+pub calm-candidate : (p : PeerId) (m : MessageValue) (k : Kind) → Calm 1 5 (candidate_takes_kind p m k)
 unfolding candidate_takes_kind
 calm-candidate p m MasterUp = five 3 _ (omega arith) (calm-follow p)
 calm-candidate p m MasterAck = five 3 _ (omega arith) (calm-follow p)
@@ -114,12 +114,12 @@ calm-peer-replies : (r : ReplyValue) (p : PeerId) → Calm 1 5 (peer_replies r p
 unfolding peer_replies
 calm-peer-replies r p = calm_reading 1 5 role_at (replies_in p r) (calm-replies-in p r)
 
-calm-from-peer : (from : Place) (row : PeerId → Row) → ((p : PeerId) → Calm 1 5 (row p)) → Calm 1 5 (from_peer from row)
+pub calm-from-peer : (from : Place) (row : PeerId → Row) → ((p : PeerId) → Calm 1 5 (row p)) → Calm 1 5 (from_peer from row)
 unfolding from_peer
 calm-from-peer (Peer p) row k = calm_either 1 5 (is_heard p) (row p) nothing (k p) (none 1 5)
 calm-from-peer Stranger row k = none 1 5
 
-calm-reply : (from : Place) (word counter : ℕ) → Calm 0 1 (replies from word counter)
+pub calm-reply : (from : Place) (word counter : ℕ) → Calm 0 1 (replies from word counter)
 unfolding replies posts_reply
 calm-reply from word counter = calm_either 0 1 is_in_range (posts_reply from word counter) nothing (record { few = λ x past. omega arith; calm = λ x past. refl }) (none 0 1)
 
@@ -157,19 +157,21 @@ pub record TakesOnce (from : Place) (t : Taken) (peers : ℕ) (acts : List Act) 
   pub calm_after : is_calm after ≡ true
   pub few : length acts ≤ 19 * peers + 38
 
-pub takes_once : (from : Place) (t : Taken) (x : ℕ) (past : Past) → TakesOnce from t (length past.peers) (answers (Got from t) x past)
-unfolding answers input_row takes ◌followed_by◌ puts
-takes_once from t x past =
-    let sent = due_sends x past in
+-- a step that takes between calm rows
+pub takes_between : (from : Place) (t : Taken) (sends alarms treated : Row) → Calm 2 0 sends → Calm 16 32 alarms → Calm 1 5 treated → (x : ℕ) (past : Past) →
+    TakesOnce from t (length past.peers) ((sends followed_by (alarms followed_by (puts (Took from t) followed_by either_by (is_own from) nothing treated))) x past)
+unfolding ◌followed_by◌ puts
+takes_between from t sends alarms treated send_calm alarm_calm treat_calm x past =
+    let sent = sends x past in
     let first = grown x past sent in
-    let rung = due_alarms x first in
+    let rung = alarms x first in
     let second = grown x first rung in
     let third = grown x second (Took from t ∷ []) in
-    let row = either_by (is_own from) nothing (treats from t) in
-    let row_calm = calm_either 1 5 (is_own from) nothing (treats from t) (none 1 5) (calm_treats from t) in
+    let row = either_by (is_own from) nothing treated in
+    let row_calm = calm_either 1 5 (is_own from) nothing treated (none 1 5) treat_calm in
     let rest = row x third in
-    let n = calm_due_sends.few x past in
-    let k = calm_due_alarms.few x first in
+    let n = send_calm.few x past in
+    let k = alarm_calm.few x first in
     let j = row_calm.few x third in
     let one = length-append rung ((Took from t ∷ []) ++ rest) in
     let two = length-append sent (rung ++ ((Took from t ∷ []) ++ rest)) in
@@ -177,7 +179,11 @@ takes_once from t x past =
       before = sent ++ rung;
       after = rest;
       is = sym (append_assoc sent rung (Took from t ∷ rest));
-      calm_before = calm_append sent rung (calm_due_sends.calm x past) (calm_due_alarms.calm x first);
+      calm_before = calm_append sent rung (send_calm.calm x past) (alarm_calm.calm x first);
       calm_after = row_calm.calm x third;
       few = omega (arith, n, k, j, one, two);
     }
+
+pub takes_once : (from : Place) (t : Taken) (x : ℕ) (past : Past) → TakesOnce from t (length past.peers) (answers (Got from t) x past)
+unfolding answers input_row takes
+takes_once from t = takes_between from t due_sends due_alarms (treats from t) calm_due_sends calm_due_alarms (calm_treats from t)

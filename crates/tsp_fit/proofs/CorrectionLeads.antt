@@ -171,17 +171,22 @@ soon_of s x past e = ltb-false (s.began + LAST) x (or-false (nat_lt (s.began + L
   or-false true b e = absurd (true≢false e)
   or-false false b e = refl
 
+-- an open send that is due and not spent is posted again
+pub repeats_lead : (p : PeerId) (s : Sending) → Leads (λ x past. ((Fresh x past × (open_at p x past ≡ Some s)) × (is_send_due s x past ≡ true)) × (is_spent s x past ≡ false)) (repeats p s.message) Fresh
+unfolding repeats
+repeats_lead p s = Leads_puts (Post (Peer p) (Message s.message)) (λ x past h.
+    let f = h.0.0.0 in
+    post_message p s.message (repeat_fits p past.seen (now x past (Post (Peer p) (Message s.message))) s f.fits h.0.0.1 f.backs f.acting_is (soon_of s x past h.1)) f)
+
 treats_leads : (p : PeerId) (o : Option Sending) → Leads (λ x past. Fresh x past × (open_at p x past ≡ o)) (treats_send p o) Fresh
-unfolding treats_send gives_up repeats
+unfolding treats_send gives_up
 treats_leads p None = Leads_from (λ x past h. h.0) Leads_nothing
-treats_leads p (Some s) = Leads_either (is_send_due s) (either_by (is_spent s) (puts (Gave p) followed_by leaves_after p s.message.kind) (puts (Post (Peer p) (Message s.message)))) nothing
-    (Leads_either (is_spent s) (puts (Gave p) followed_by leaves_after p s.message.kind) (puts (Post (Peer p) (Message s.message)))
+treats_leads p (Some s) = Leads_either (is_send_due s) (either_by (is_spent s) (puts (Gave p) followed_by leaves_after p s.message.kind) (repeats p s.message)) nothing
+    (Leads_either (is_spent s) (puts (Gave p) followed_by leaves_after p s.message.kind) (repeats p s.message)
     (Leads_then {Q = Fresh} (puts (Gave p)) (leaves_after p s.message.kind)
     (Leads_puts (Gave p) (λ x past h. gave p h.0.0.0))
     (leaves_fresh p s.message.kind))
-    (Leads_puts (Post (Peer p) (Message s.message)) (λ x past h.
-    let f = h.0.0.0 in
-    post_message p s.message (repeat_fits p past.seen (now x past (Post (Peer p) (Message s.message))) s f.fits h.0.0.1 f.backs f.acting_is (soon_of s x past h.1)) f)))
+    (repeats_lead p s))
     (Leads_from (λ x past h. h.0.0) Leads_nothing)
 
 -- the due sends keep what is known of a port

@@ -1,8 +1,8 @@
 -- How many acts the rows put at the most, and that only a taking takes.
-use Rattle.std.specs.Prelude.{◌≡◌, ◌≤◌, ℕ, suc, ◌+◌, ◌*◌, ◌&&◌, ◌==◌, not, ℤ, Bool, true, false, if◌then◌else◌, List, [], ◌∷◌, ◌++◌, length, map, filter, Option, None, Some, refl}
-use Rattle.std.proofs.Common.{sym, ap, subst, arith, ◌∙◌, true≢false, length-append}
+use Rattle.std.specs.Prelude.{◌≡◌, ◌≤◌, ℕ, suc, ◌+◌, ◌*◌, ◌&&◌, ◌==◌, not, ℤ, Bool, true, false, if◌then◌else◌, List, [], ◌∷◌, ◌++◌, length, map, filter, refl}
+use Rattle.std.proofs.Common.{sym, ap, arith, true≢false, length-append}
 use Rattle.tsp_base.specs.declared.act.Act.{Act}
-use Rattle.tsp_base.specs.declared.act.Act.TheVariants.{Boot, Took, Post, Arm}
+use Rattle.tsp_base.specs.declared.act.Act.TheVariants.{Boot, Took}
 use Rattle.tsp_base.specs.declared.alarm.Alarm.{Alarm}
 use Rattle.tsp_base.specs.declared.kind.Kind.{Kind}
 use Rattle.tsp_base.specs.declared.place.PeerId.{PeerId}

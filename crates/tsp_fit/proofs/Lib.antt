@@ -13,5 +13,7 @@ pub mod Leaves
 pub mod RoleLeads
 pub mod SendFits
 pub mod SlaveLeads
+pub mod SoFarCalm
+pub mod SoFarLeads
 pub mod TakenLeads
 pub mod TestFacts

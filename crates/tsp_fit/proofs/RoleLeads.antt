@@ -49,7 +49,7 @@ none-only : {p : PeerId} (q : PeerId) → None ≡ Some q → q ≡ p
 none-only q e = let bad : ⊥ = cc in absurd bad
 
 module _ {p : PeerId} {m : MessageValue} where
-  acknowledged : {r : Role} → m.kind ≡ Ack → Leads (HeardIn p m r) (acknowledges p m.number) Rests
+  pub acknowledged : {r : Role} → m.kind ≡ Ack → Leads (HeardIn p m r) (acknowledges p m.number) Rests
   acknowledged k = Leads_from (λ x past h. h.0.just.free) (Leads_to (λ x past h. rests_of h) (acknowledges_lead k))
 
   -- by the kind of the message

@@ -54,7 +54,7 @@ module _ {p : PeerId} {m : MessageValue} where
       (Leads_from (λ x past h. h.0.just.free) (Leads_to (λ x past h. rests_of h) (begins_conflict q)))
       (idle_heard (λ x past h. h.0))
 
-  hears_again : Leads (Heard p (Good (Message m))) (arms_elect followed_by tells_ticket p) Rests
+  pub hears_again : Leads (Heard p (Good (Message m))) (arms_elect followed_by tells_ticket p) Rests
   hears_again = Leads_from heard_free (Leads_to (λ x past h. rests_of h) (Leads_then arms_elect (tells_ticket p) arms_elect_during (tells_ticket_during p)))
 
   pub masterup_leads : (r : Role) → Leads (Heard p (Good (Message m))) (masterup_in p r) Rests
