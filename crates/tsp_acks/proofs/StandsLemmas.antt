@@ -1,24 +1,61 @@
 -- Acts that change nothing that a station stands for.
-use Rattle.std.specs.Prelude.{◌≡◌, ℕ, Bool, true, false, List, [], ◌∷◌, map}
+use Rattle.std.specs.Prelude.{◌≡◌, ℕ, ◌%◌, Bool, true, false, List, [], ◌∷◌, map, refl}
+use Rattle.std.proofs.Common.{sym, ◌∙◌, ap}
 use Rattle.std.proofs.lemmas.Bool.{false≢true}
 use Rattle.tsp_base.specs.declared.act.Act.{Act}
-use Rattle.tsp_base.specs.declared.act.Act.TheVariants.{Took, Backer, Join, Leave, Rival, Sample, Close, Correct, Trace}
+use Rattle.tsp_base.specs.declared.act.Act.TheVariants.{Took, Post, Backer, Join, Leave, Rival, Sample, Close, Correct, Trace}
+use Rattle.tsp_base.specs.declared.datagram.Datagram.TheVariants.{Message, Stamp as StampOf}
 use Rattle.tsp_base.specs.declared.kind.Kind.{Kind}
+use Rattle.tsp_base.specs.declared.kind.Kind.TheVariants.{Election, Conflict, Quit}
 use Rattle.tsp_base.specs.declared.place.PeerId.{PeerId}
-use Rattle.tsp_base.specs.History.{Past, Here, Acts}
+use Rattle.tsp_base.specs.declared.place.Place.{Place}
+use Rattle.tsp_base.specs.declared.place.Place.TheVariants.{Peer, Stranger}
+use Rattle.tsp_base.specs.declared.stamp.Stamp.{Stamp}
+use Rattle.tsp_base.specs.History.{Step, Past, Seen}
+use Rattle.tsp_base.specs.Messages.{MessageValue}
 use Rattle.tsp_base.specs.Performs.{Keeps}
-use Rattle.tsp_base.specs.Rows.{grown, post_of, puts}
-use Rattle.tsp_base.specs.SendFacts.{is_numbered}
+use Rattle.tsp_base.specs.Rows.{bare, grown, post_of, puts}
+use Rattle.tsp_base.specs.SendFacts.{is_numbered, has_own_number, begun}
+use Rattle.tsp_base.proofs.SendLemmas.{seen_act, open_send-unnumbered}
 use Rattle.tsp_acks.specs.declared.station.Station.{Station}
 use Rattle.tsp_acks.specs.Stands.{Stands}
+
+-- a message that isn't numbered has no number of the port's own
+own-unnumbered : (k : Kind) → is_numbered k ≡ false → has_own_number k ≡ false
+own-unnumbered Election n = absurd (false≢true (sym n))
+own-unnumbered Conflict n = absurd (false≢true (sym n))
+own-unnumbered Quit n = absurd (false≢true (sym n))
+own-unnumbered _ n = refl
+
+begun-unnumbered : (step : Step) (x : ℕ) (to : Place) (m : MessageValue) (seen : List Seen) → is_numbered m.kind ≡ false → begun (seen_act step x (Post to (Message m)) ∷ seen) ≡ begun seen
+begun-unnumbered step x to m seen n = rw (own-unnumbered m.kind n) refl
+
+-- the post of a message that is no numbered send
+pub Stands_post : (to : Place) (m : MessageValue) (x : ℕ) (past : Past) (station : Station) → is_numbered m.kind ≡ false → Stands past station → Stands (grown x past (Post to (Message m) ∷ [])) station
+Stands_post to m x past station n s = record {
+  own = s.own;
+  name = s.name;
+  may = s.may;
+  peers = s.peers;
+  word = s.word;
+  role = s.role;
+  alarms = s.alarms;
+  hold = s.hold;
+  sends = λ p. s.sends p ∙ sym (open_send-unnumbered past.step x p to m past.seen n);
+  begun = s.begun ∙ ap (λ n. n % 32768) (sym (begun-unnumbered past.step x to m past.seen n));
+}
+
+-- the post of a stamp
+pub Stands_stamp : (to : Place) (stamp : Stamp) (x : ℕ) (past : Past) (station : Station) → Stands past station → Stands (grown x past (Post to (StampOf stamp) ∷ [])) station
+Stands_stamp (Peer q) stamp x past station s = record { own = s.own; name = s.name; may = s.may; peers = s.peers; word = s.word; role = s.role; alarms = s.alarms; hold = s.hold; sends = s.sends; begun = s.begun }
+Stands_stamp Stranger stamp x past station s = record { own = s.own; name = s.name; may = s.may; peers = s.peers; word = s.word; role = s.role; alarms = s.alarms; hold = s.hold; sends = s.sends; begun = s.begun }
 
 -- posts of a message that is no numbered send
 pub Stands-posts : (kind : Kind) (number : ℕ) (name : List ℕ) (ps : List PeerId) (x : ℕ) (past : Past) (station : Station) →
     is_numbered kind ≡ false → Stands past station → Stands (grown x past (map (post_of kind number name) ps)) station
 Stands-posts kind number name [] x past station n s = s
 Stands-posts kind number name (p ∷ ps) x past station n s =
-    Stands-posts kind number name ps x (record past { seen = Here (record { step = past.step; tick = x; deed = Acts (post_of kind number name p) }) ∷ past.seen }) station n
-    (record { own = s.own; name = s.name; may = s.may; peers = s.peers; word = s.word; role = s.role; alarms = s.alarms; hold = s.hold })
+    Stands-posts kind number name ps x (grown x past (post_of kind number name p ∷ [])) station n (Stands_post (Peer p) (bare kind number name) x past station n s)
 
 -- acts of other parts of a port
 abbrev pub is_idle : Act → Bool
@@ -35,13 +72,13 @@ is_idle _ = false
 
 pub Stands_idle : (a : Act) → is_idle a ≡ true → Keeps Stands (puts a)
 unfolding puts
-Stands_idle (Took from taken) i x past station s = record { own = s.own; name = s.name; may = s.may; peers = s.peers; word = s.word; role = s.role; alarms = s.alarms; hold = s.hold }
-Stands_idle (Backer p) i x past station s = record { own = s.own; name = s.name; may = s.may; peers = s.peers; word = s.word; role = s.role; alarms = s.alarms; hold = s.hold }
-Stands_idle (Join p) i x past station s = record { own = s.own; name = s.name; may = s.may; peers = s.peers; word = s.word; role = s.role; alarms = s.alarms; hold = s.hold }
-Stands_idle (Leave p) i x past station s = record { own = s.own; name = s.name; may = s.may; peers = s.peers; word = s.word; role = s.role; alarms = s.alarms; hold = s.hold }
-Stands_idle (Rival p) i x past station s = record { own = s.own; name = s.name; may = s.may; peers = s.peers; word = s.word; role = s.role; alarms = s.alarms; hold = s.hold }
-Stands_idle (Sample peer counter diff err ticket) i x past station s = record { own = s.own; name = s.name; may = s.may; peers = s.peers; word = s.word; role = s.role; alarms = s.alarms; hold = s.hold }
-Stands_idle (Close count lo width mean) i x past station s = record { own = s.own; name = s.name; may = s.may; peers = s.peers; word = s.word; role = s.role; alarms = s.alarms; hold = s.hold }
-Stands_idle (Correct amount stepped shown) i x past station s = record { own = s.own; name = s.name; may = s.may; peers = s.peers; word = s.word; role = s.role; alarms = s.alarms; hold = s.hold }
-Stands_idle (Trace on) i x past station s = record { own = s.own; name = s.name; may = s.may; peers = s.peers; word = s.word; role = s.role; alarms = s.alarms; hold = s.hold }
+Stands_idle (Took from taken) i x past station s = record { own = s.own; name = s.name; may = s.may; peers = s.peers; word = s.word; role = s.role; alarms = s.alarms; hold = s.hold; sends = s.sends; begun = s.begun }
+Stands_idle (Backer p) i x past station s = record { own = s.own; name = s.name; may = s.may; peers = s.peers; word = s.word; role = s.role; alarms = s.alarms; hold = s.hold; sends = s.sends; begun = s.begun }
+Stands_idle (Join p) i x past station s = record { own = s.own; name = s.name; may = s.may; peers = s.peers; word = s.word; role = s.role; alarms = s.alarms; hold = s.hold; sends = s.sends; begun = s.begun }
+Stands_idle (Leave p) i x past station s = record { own = s.own; name = s.name; may = s.may; peers = s.peers; word = s.word; role = s.role; alarms = s.alarms; hold = s.hold; sends = s.sends; begun = s.begun }
+Stands_idle (Rival p) i x past station s = record { own = s.own; name = s.name; may = s.may; peers = s.peers; word = s.word; role = s.role; alarms = s.alarms; hold = s.hold; sends = s.sends; begun = s.begun }
+Stands_idle (Sample peer counter diff err ticket) i x past station s = record { own = s.own; name = s.name; may = s.may; peers = s.peers; word = s.word; role = s.role; alarms = s.alarms; hold = s.hold; sends = s.sends; begun = s.begun }
+Stands_idle (Close count lo width mean) i x past station s = record { own = s.own; name = s.name; may = s.may; peers = s.peers; word = s.word; role = s.role; alarms = s.alarms; hold = s.hold; sends = s.sends; begun = s.begun }
+Stands_idle (Correct amount stepped shown) i x past station s = record { own = s.own; name = s.name; may = s.may; peers = s.peers; word = s.word; role = s.role; alarms = s.alarms; hold = s.hold; sends = s.sends; begun = s.begun }
+Stands_idle (Trace on) i x past station s = record { own = s.own; name = s.name; may = s.may; peers = s.peers; word = s.word; role = s.role; alarms = s.alarms; hold = s.hold; sends = s.sends; begun = s.begun }
 Stands_idle _ i x past station s = absurd (false≢true i)

@@ -1,3 +1,4 @@
+pub mod Openings
 pub mod Peers
 pub mod Posts
 pub mod Stands

@@ -1,9 +1,14 @@
 -- What a station stands for.
-use Rattle.std.specs.Prelude.{◌≡◌, List}
+use Rattle.std.specs.Prelude.{◌≡◌, ℕ, ◌%◌, true, false, None, List}
 use Rattle.tsp_base.specs.declared.place.PeerId.{PeerId}
+use Rattle.tsp_base.specs.declared.role.Role.TheVariants.{Starting}
+use Rattle.tsp_base.specs.Alarms.{none_armed}
 use Rattle.tsp_base.specs.History.{Past, plain}
 use Rattle.tsp_base.specs.NodeFacts.{word}
-use Rattle.tsp_base.specs.PortFacts.{role, armed, held}
+use Rattle.tsp_base.specs.Performs.{Beside}
+use Rattle.tsp_base.specs.PortFacts.{role, armed, held, acting}
+use Rattle.tsp_base.specs.SendFacts.{open_send, begun}
+use Rattle.tsp_sends.specs.Slots.{sending_to}
 use Rattle.tsp_acks.specs.declared.me.Me.{Me}
 use Rattle.tsp_acks.specs.declared.station.Station.{Station}
 
@@ -17,6 +22,24 @@ pub record Stands (past : Past) (station : Station) : Type 0 where
   pub role : station.role ≡ role past.seen
   pub alarms : station.alarms ≡ armed past.seen
   pub hold : station.hold ≡ held past.seen
+  pub sends : (p : PeerId) → sending_to station.sends p ≡ open_send p past.seen
+  pub begun : station.begun ≡ begun past.seen % 32768
+
+-- this step has rung an alarm, found one late or taken a datagram: a numbered message that is posted now begins a send
+abbrev pub HasActed : Past → Unit {0} → Type 0
+HasActed past _ = acting past.seen ≡ true
+
+-- it hasn't yet: a numbered message that is posted now repeats the open send
+abbrev pub HasNotActed : Past → Unit {0} → Type 0
+HasNotActed past _ = acting past.seen ≡ false
+
+-- a station in a step that has acted
+abbrev pub StandsActing : Past → Station × Unit {0} → Type 0
+StandsActing = Beside Stands HasActed
+
+-- a station in a step that hasn't
+abbrev pub StandsStill : Past → Station × Unit {0} → Type 0
+StandsStill = Beside Stands HasNotActed
 
 -- a past of this port
 pub record IsPortOf (me : Me) (peers : List PeerId) (past : Past) : Type 0 where
@@ -24,3 +47,13 @@ pub record IsPortOf (me : Me) (peers : List PeerId) (past : Past) : Type 0 where
   pub name : me.name ≡ past.name
   pub may : me.may ≡ past.may
   pub peers_are : peers ≡ past.peers
+
+-- the station of a node that has just booted at a tick
+pub record IsFresh (me : Me) (peers : List PeerId) (tick : ℕ) (station : Station) : Type 0 where
+  pub me_is : station.me ≡ me
+  pub role_is : station.role ≡ Starting
+  pub hold_is : station.hold ≡ record { boot = tick; back = None; quit = None }
+  pub sends_are : (p : PeerId) → sending_to station.sends p ≡ None
+  pub alarms_are : station.alarms ≡ none_armed
+  pub begun_is : station.begun ≡ 0
+  pub peers_are : station.peers ≡ peers

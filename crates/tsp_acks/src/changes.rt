@@ -2,11 +2,13 @@
 ghost use Rattle.std.specs.Prelude.{◌≡◌, ℕ, ◌+◌, ◌≤◌, ◌<◌, ◌^◌, length, Some, None};
 ghost use Rattle.tsp_base.specs.declared.act.Act.TheVariants.{Become, Ring, Late, Back, Quit, Abandon};
 ghost use Rattle.tsp_base.specs.declared.alarm.Alarm.TheVariants.{Probe, Close, Elect};
+ghost use Rattle.tsp_base.specs.declared.place.PeerId.{PeerId};
 ghost use Rattle.tsp_base.specs.Alarms.{with_deadline, none_armed};
 ghost use Rattle.tsp_base.specs.Performs.{Performs};
 ghost use Rattle.tsp_base.specs.Rows.{puts, arms};
 ghost use Rattle.tsp_rules.specs.CommonRows.{arms_elect};
 ghost use Rattle.tsp_rules.specs.Tests.{delay};
+ghost use Rattle.tsp_sends.specs.Slots.{sending_to};
 
 use crate::station::Station;
 use tsp_base::act::Act;
@@ -71,16 +73,23 @@ impl Station {
         self.alarms.off(Alarm::Close);
     }
 
-    /// Takes a role, which turns all alarms off.
+    /// Takes a role, which turns all alarms off and ends all open sends.
     pub fn become_role<D: Desk>(&mut self, role: Role, port: Port, desk: &mut D)
         requires room { 1 ≤ D.spare desk.old }
         ensures row { (x : ℕ) → Performs Stands Stands (puts (Become role)) x port self.old self.new (D.acts desk.old) (D.acts desk.new) }
-        ensures station { self.new ≡ record self.old { role = role; alarms = none_armed } }
+        ensures me { self.new.me ≡ self.old.me }
+        ensures hold { self.new.hold ≡ self.old.hold }
+        ensures begun { self.new.begun ≡ self.old.begun }
+        ensures peers { self.new.peers ≡ self.old.peers }
+        ensures role { self.new.role ≡ role }
+        ensures alarms { self.new.alarms ≡ none_armed }
+        ensures sends { (p : PeerId) → sending_to self.new.sends p ≡ None }
         ensures spare { D.spare desk.new + 1 ≡ D.spare desk.old }
         ensures few { length (D.acts desk.new) ≡ length (D.acts desk.old) + 1 }
     {
         desk.put(port, Act::Become(role));
         self.role = role;
+        self.sends.clear();
         self.alarms.clear();
     }
 

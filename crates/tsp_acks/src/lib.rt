@@ -2,9 +2,11 @@
 #![tactic(auto)]
 
 pub mod changes;
+pub mod due;
 pub mod me;
 pub mod peers;
 pub mod posts;
+pub mod sending;
 pub mod station;
 #[cfg(test)]
 mod tests;

@@ -1,11 +1,11 @@
 //! A port's station: what all its roles share.
-ghost use Rattle.std.specs.Prelude.{◌≡◌, ◌&&◌, not, ℤ, [], ◌∷◌, None, IfOk};
+ghost use Rattle.std.specs.Prelude.{◌≡◌, ◌+◌, ◌%◌, ◌<◌, ◌&&◌, not, ℤ, [], ◌∷◌, IfOk};
 ghost use Rattle.tsp_base.specs.declared.act.Act.TheVariants.{Boot};
-ghost use Rattle.tsp_base.specs.declared.role.Role.TheVariants.{Starting};
-ghost use Rattle.tsp_base.specs.Alarms.{deadline, none_armed};
+ghost use Rattle.tsp_base.specs.Alarms.{deadline};
 ghost use Rattle.tsp_base.specs.History.{Past, Booted};
 ghost use Rattle.tsp_base.specs.Rows.{grown};
 ghost use Rattle.tsp_rules.specs.Tests.{is_over, is_met, is_among, is_starting_role};
+ghost use Rattle.tsp_sends.specs.Slots.{peers_of};
 ghost use Rattle.tsp_acks.specs.Peers.{IsPeers};
 
 use crate::me::Me;
@@ -17,6 +17,7 @@ use tsp_base::constants::SLACK;
 use tsp_base::hold::Hold;
 use tsp_base::place::PeerId;
 use tsp_base::role::Role;
+use tsp_sends::Sends;
 
 /// What all roles of a port share.
 #[derive(Drop)]
@@ -27,27 +28,36 @@ pub struct Station {
     pub role: Role,
     /// Whom it holds, and when it may stand.
     pub hold: Hold,
+    /// The open numbered sends, with a slot for each peer.
+    pub sends: Sends,
     /// What its alarms are armed for.
     pub alarms: Alarms,
+    /// How many sends with the port's own numbers began since the boot, modulo 32,768.
+    pub begun: u16,
     /// All peers, itself among them.
     pub peers: Peers,
+    ghost slots: { peers_of sends ≡ peers },
+    ghost turns: { begun < 32768 },
 }
 
 impl Station {
-    ghost use Rattle.tsp_acks.specs.Stands.{Stands, IsPortOf};
+    ghost use Rattle.tsp_acks.specs.Stands.{Stands, IsFresh, IsPortOf};
 
     /// A station of a node that boots at this tick. The answer is an error only where memory is wanting.
     pub fn new(alloc: Global, me: Me, peers: &[PeerId], tick: u64) -> Result<Station, AllocError>
         requires { IsPeers peers.now }
-        ensures station { IfOk result (λ s. s ≡ record { me = me; role = Starting; hold = record { boot = tick; back = None; quit = None }; alarms = none_armed; peers = peers.now }) }
+        ensures station { IfOk result (λ s. IsFresh me peers.now tick s) }
         ensures stands { IfOk result (λ s. (past : Past) (wall : ℤ) → IsPortOf me peers.now past → past.step.cause ≡ Booted me.word wall → Stands (grown tick past (Boot ∷ [])) s) }
     {
+        let sends = Sends::new(alloc, peers)?;
         let peers = Peers::new(alloc, peers)?;
         Ok(Station {
             me,
             role: Role::Starting,
             hold: Hold::new(tick),
+            sends,
             alarms: Alarms::new(),
+            begun: 0,
             peers,
         })
     }
@@ -58,6 +68,15 @@ impl Station {
         ensures valid { IsPeers self.now.peers }
     {
         self.peers.as_slice()
+    }
+
+    /// The number of the next send with a number of the port's own: 32,768 and, modulo 32,768, the word and
+    /// the sends that began so.
+    pub fn next_number(&self) -> u16
+        ensures { result ≡ 32768 + (self.now.me.word + self.now.begun) % 32768 }
+    {
+        let turn = (self.me.word % 32768 + self.begun as u64) % 32768;
+        32768 + turn as u16
     }
 
     /// Whether an alarm is armed for this tick or an earlier one.

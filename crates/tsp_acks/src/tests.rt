@@ -60,3 +60,35 @@ fn changes_by_acts(rt: HostRuntime) -> Result<(), Fail> {
     assert_eq!(rt; station.peers().len(), 3);
     Ok(())
 }
+
+#[test]
+fn sends_until_answered(rt: HostRuntime) -> Result<(), Fail> {
+    let mut pad = Pad::new(rt.alloc());
+    pad.reserve(20)?;
+    let mut station = station(rt.alloc())?;
+    let port = Port(0);
+    station.become_role(Role::Candidate, port, &mut pad);
+    assert_eq!(rt; station.next_number(), 32_775);
+    // Two ELECTIONs begin, numbered 32775 and 32776, and then a CONFLICT in place of the first.
+    station.begin_to_others(Kind::Election, 100, port, &mut pad);
+    assert_eq!(rt; pad.acts().len(), 3);
+    let first = station.peers()[0];
+    station.begin(Kind::Conflict, first, 200, port, &mut pad);
+    assert_eq!(rt; station.next_number(), 32_778);
+    assert!(rt; station.sends.least() == Some(1_000_100));
+    // An ACK doesn't answer an ELECTION, and an ACCEPT no CONFLICT.
+    station.acknowledge(PeerId(4), 32_776, port, &mut pad);
+    assert!(rt; !station.answered(PeerId(1), 32_777, port, &mut pad));
+    assert!(rt; !station.answered(PeerId(4), 32_775, port, &mut pad));
+    assert_eq!(rt; pad.acts().len(), 4);
+    // Both are due a second after they began, and are posted again.
+    station.treat_sends(1_000_199, port, &mut pad);
+    assert_eq!(rt; pad.acts().len(), 5);
+    station.treat_sends(1_000_200, port, &mut pad);
+    assert_eq!(rt; pad.acts().len(), 6);
+    assert!(rt; station.answered(PeerId(4), 32_776, port, &mut pad));
+    station.acknowledge(PeerId(1), 32_777, port, &mut pad);
+    assert_eq!(rt; pad.acts().len(), 8);
+    assert!(rt; station.sends.least().is_none());
+    Ok(())
+}

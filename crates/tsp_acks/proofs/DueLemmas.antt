@@ -1,0 +1,203 @@
+-- What the treatment of a due send makes of a station.
+use Rattle.std.specs.Prelude.{◌≡◌, ℕ, ◌+◌, ◌%◌, ◌==◌, ◌&&◌, Bool, true, false, if◌then◌else◌, List, [], ◌∷◌, ◌++◌, Option, Some, None, refl}
+use Rattle.std.specs.List.{Contains}
+use Rattle.std.proofs.Common.{sym, ◌∙◌, ap, arith, eqb-true}
+use Rattle.std.proofs.Math.Bool.{and-false}
+use Rattle.std.proofs.lemmas.List.{length-map, get_or-map}
+use Rattle.tsp_base.specs.declared.act.Act.{Act}
+use Rattle.tsp_base.specs.declared.act.Act.TheVariants.{Boot, Post, Become, Acked, Gave as GaveAct}
+use Rattle.tsp_base.specs.declared.act.Placed.{Placed}
+use Rattle.tsp_base.specs.declared.datagram.Datagram.TheVariants.{Message}
+use Rattle.tsp_base.specs.declared.place.PeerId.{PeerId}
+use Rattle.tsp_base.specs.declared.place.Place.TheVariants.{Peer}
+use Rattle.tsp_base.specs.declared.place.Port.{Port}
+use Rattle.tsp_base.specs.History.{Deed, Acts, Step, Past, Seen, Here, Elsewhere}
+use Rattle.tsp_base.specs.Messages.{MessageValue}
+use Rattle.tsp_base.specs.Performs.{Performs}
+use Rattle.tsp_base.specs.PortFacts.{acting}
+use Rattle.tsp_base.specs.Rows.{grown, nothing, puts}
+use Rattle.tsp_base.specs.SendFacts.{again, begun, has_own_number, is_given_up, is_numbered, message_at, message_of, open_send, open_to, open_to_after, posts_of, Sending, sending_at, sending_of}
+use Rattle.tsp_base.proofs.PerformsLemmas.{Performs_else_part, Performs_nothing, Performs_reading, Performs_then_part}
+use Rattle.tsp_base.proofs.SendLemmas.{seen_act, open_send-gave, open_send-repeats}
+use Rattle.tsp_rules.specs.SendRows.{is_send_due, is_spent, open_at, repeats}
+use Rattle.tsp_rules.specs.SoFar.{due_send_so_far, treats_send_so_far}
+use Rattle.tsp_sends.specs.declared.due.Due.{Due}
+use Rattle.tsp_sends.specs.declared.due.Due.TheVariants.{Again, Gave}
+use Rattle.tsp_sends.specs.declared.slot.Slot.{Slot}
+use Rattle.tsp_sends.specs.Slots.{peers_of, sending_to, SetsOnly}
+use Rattle.tsp_sends.specs.Treating.{IsAfter, is_due_send, treated, TreatsNext}
+use Rattle.tsp_sends.proofs.SlotLemmas.{sending_to-found}
+use Rattle.tsp_acks.specs.declared.station.Station.{Station}
+use Rattle.tsp_acks.specs.Stands.{StandsStill}
+
+-- no message, or one that is a numbered send
+abbrev IsNumbered : Option MessageValue → Type 0
+IsNumbered None = Unit {0}
+IsNumbered (Some m) = is_numbered m.kind ≡ true
+
+IsNumbered-after : (p : PeerId) (deed : Deed) (acts : Bool) (here keep : List Seen) → message_at here ≡ message_of deed → IsNumbered (message_at keep) → IsNumbered (message_at (open_to_after p deed acts here keep))
+IsNumbered-after p (Acts Boot) acts here keep is k = tt
+IsNumbered-after p (Acts (Become r)) acts here keep is k = tt
+IsNumbered-after p (Acts (Post (Peer q) (Message m))) acts here keep is k = by_test (q.0 == p.0) acts (is_numbered m.kind) refl where
+  by_test : (b acts n : Bool) → is_numbered m.kind ≡ n → IsNumbered (message_at (if b && (n && acts) then here else keep))
+  by_test true true true e = rw is e
+  by_test true false true e = k
+  by_test true acts false e = k
+  by_test false acts n e = k
+IsNumbered-after p (Acts (Acked q)) acts here keep is k = by_test (q.0 == p.0) where
+  by_test : (b : Bool) → IsNumbered (message_at (if b then [] else keep))
+  by_test true = tt
+  by_test false = k
+IsNumbered-after p (Acts (GaveAct q)) acts here keep is k = by_test (q.0 == p.0) where
+  by_test : (b : Bool) → IsNumbered (message_at (if b then [] else keep))
+  by_test true = tt
+  by_test false = k
+IsNumbered-after p _ acts here keep is k = k
+
+IsNumbered-place : (p : PeerId) (seen : List Seen) → IsNumbered (message_at (open_to p seen))
+IsNumbered-place p [] = tt
+IsNumbered-place p (Here d ∷ before) = IsNumbered-after p d.deed (acting before) (Here d ∷ before) (open_to p before) refl (IsNumbered-place p before)
+IsNumbered-place p (Elsewhere d ∷ before) = IsNumbered-place p before
+
+-- the message of an open send is a numbered one
+pub open_send-numbered : (p : PeerId) (seen : List Seen) (s : Sending) → open_send p seen ≡ Some s → is_numbered s.message.kind ≡ true
+open_send-numbered p seen s e = at_place (open_to p seen) (posts_of p seen) (IsNumbered-place p seen) e where
+  of_message : (m : Option MessageValue) (x n : ℕ) → IsNumbered m → sending_of m x n ≡ Some s → is_numbered s.message.kind ≡ true
+  of_message None x n k e = let bad : ⊥ = cc in absurd bad
+  of_message (Some m) x n k e = let same : m ≡ s.message = cc in rw (← same) k
+
+  at_place : (place : List Seen) (n : ℕ) → IsNumbered (message_at place) → sending_at place n ≡ Some s → is_numbered s.message.kind ≡ true
+  at_place [] n k e = let bad : ⊥ = cc in absurd bad
+  at_place (Here d ∷ before) n k e = of_message (message_of d.deed) d.tick n k e
+  at_place (Elsewhere d ∷ before) n k e = of_message (message_of d.deed) d.tick n k e
+
+-- all but the sends is the same
+pub record KeepsRest (before after : Station) : Type 0 where
+  pub me : after.me ≡ before.me
+  pub role : after.role ≡ before.role
+  pub hold : after.hold ≡ before.hold
+  pub alarms : after.alarms ≡ before.alarms
+  pub peers : after.peers ≡ before.peers
+  pub begun : after.begun ≡ before.begun
+
+-- a send is given up
+pub StandsStill_gave : (p : PeerId) (x : ℕ) (past : Past) (before after : Station) → KeepsRest before after → SetsOnly p None before.sends after.sends → StandsStill past (before, tt) → StandsStill (grown x past (GaveAct p ∷ [])) (after, tt)
+StandsStill_gave p x past before after t only h = record {
+  first = record {
+    own = ap (λ i. i.own) t.me ∙ h.first.own;
+    name = ap (λ i. i.name) t.me ∙ h.first.name;
+    may = ap (λ i. i.may) t.me ∙ h.first.may;
+    peers = t.peers ∙ h.first.peers;
+    word = ap (λ i. i.word) t.me ∙ h.first.word;
+    role = t.role ∙ h.first.role;
+    alarms = t.alarms ∙ h.first.alarms;
+    hold = t.hold ∙ h.first.hold;
+    sends = λ q. only q ∙ ap (λ o. if p.0 == q.0 then None else o) (h.first.sends q) ∙ sym (open_send-gave past.step x q p past.seen);
+    begun = t.begun ∙ h.first.begun;
+  };
+  second = h.second;
+}
+
+-- a repeat begins no send
+begun-repeats : (step : Step) (x : ℕ) (p : PeerId) (m : MessageValue) (seen : List Seen) → acting seen ≡ false → begun (seen_act step x (Post (Peer p) (Message m)) ∷ seen) ≡ begun seen
+begun-repeats step x p m seen still = rw (still, and-false (has_own_number m.kind)) refl
+
+-- the open send to p has one post more
+again-only : (p q : PeerId) (s : Sending) (keep : Option Sending) (b : Bool) → (p.0 == q.0) ≡ b → (p ≡ q → keep ≡ Some s) → (if b then Some (record s { posts = s.posts + 1 }) else keep) ≡ (if b then again keep else keep)
+again-only p q s keep true e k =
+    let same : p ≡ q = ap (λ n. record { 0 = n }) (eqb-true p.0 q.0 e) in
+    sym (ap again (k same))
+again-only p q s keep false e k = refl
+
+-- a send is posted again
+pub StandsStill_repeats : (p : PeerId) (s : Sending) (x : ℕ) (past : Past) (before after : Station) → sending_to before.sends p ≡ Some s → KeepsRest before after
+    → SetsOnly p (Some (record s { posts = s.posts + 1 })) before.sends after.sends → StandsStill past (before, tt) → StandsStill (grown x past (Post (Peer p) (Message s.message) ∷ [])) (after, tt)
+StandsStill_repeats p s x past before after is t only h =
+    let open_is : open_send p past.seen ≡ Some s = sym (h.first.sends p) ∙ is in
+    record {
+      first = record {
+        own = ap (λ i. i.own) t.me ∙ h.first.own;
+        name = ap (λ i. i.name) t.me ∙ h.first.name;
+        may = ap (λ i. i.may) t.me ∙ h.first.may;
+        peers = t.peers ∙ h.first.peers;
+        word = ap (λ i. i.word) t.me ∙ h.first.word;
+        role = t.role ∙ h.first.role;
+        alarms = t.alarms ∙ h.first.alarms;
+        hold = t.hold ∙ h.first.hold;
+        sends = λ q.
+            only q ∙ again-only p q s (sending_to before.sends q) (p.0 == q.0) refl (λ same. ap (sending_to before.sends) (sym same) ∙ is)
+            ∙ ap (λ o. if p.0 == q.0 then again o else o) (h.first.sends q)
+            ∙ sym (open_send-repeats past.step x q p s.message past.seen (open_send-numbered p past.seen s open_is) h.second);
+        begun = t.begun ∙ h.first.begun ∙ ap (λ n. n % 32768) (sym (begun-repeats past.step x p s.message past.seen h.second));
+      };
+      second = h.second;
+    }
+
+-- whom a due send is to
+abbrev pub peer_of : Due → PeerId
+peer_of (Again p m) = p
+peer_of (Gave p k) = p
+
+-- what is put for a due send
+abbrev pub act_of : Due → Act
+act_of (Again p m) = Post (Peer p) (Message m)
+act_of (Gave p k) = GaveAct p
+
+peer_of-treated : (p : PeerId) (x : ℕ) (s : Sending) → peer_of (treated p x s) ≡ p
+peer_of-treated p x s = by_test (is_given_up s x) where
+  by_test : (b : Bool) → peer_of (if b then Gave p s.message.kind else Again p s.message) ≡ p
+  by_test true = refl
+  by_test false = refl
+
+has_slot : (slots : List Slot) (p : PeerId) (s : Sending) → sending_to slots p ≡ Some s → Contains (peers_of slots) p
+has_slot slots p s e =
+    let w = sending_to-found slots p s e in
+    let d : Slot = record { peer = p; sending = None } in
+    (w.0, omega (arith, w.1, length-map slots (λ (t : Slot). t.peer)), get_or-map (λ (t : Slot). t.peer) slots w.0 d p w.1 ∙ ap (λ n. record { 0 = n }) (w.2 d).0)
+
+-- the next due send is to one of the peers
+pub next_peer : (after : Option PeerId) (x : ℕ) (slots new : List Slot) (due : Due) (peers : List PeerId) → TreatsNext after x slots new (Some due) → peers_of slots ≡ peers → Contains peers (peer_of due) × IsAfter after (peer_of due)
+next_peer after x slots new due peers t slots_are =
+    let is : peer_of due ≡ t.0 = ap peer_of t.3 ∙ peer_of-treated t.0 x t.1 in
+    rw (is, ← slots_are) (has_slot slots t.0 t.1 t.2.sending, t.2.later)
+
+-- a due send is given up
+gives_row : (p : PeerId) (s : Sending) (x : ℕ) (port : Port) (before after : Station) (old new : List Placed) → sending_to before.sends p ≡ Some s → is_due_send x (Some s) ≡ true → is_given_up s x ≡ true → KeepsRest before after
+    → SetsOnly p None before.sends after.sends → new ≡ old ++ record { port = port; act = GaveAct p } ∷ [] → Performs StandsStill StandsStill (due_send_so_far p) x port (before, tt) (after, tt) old new
+unfolding due_send_so_far treats_send_so_far puts
+gives_row p s x port before after old new is due spent t only put =
+    Performs_reading (open_at p) (treats_send_so_far p) (Some s) (λ past h. sym (h.first.sends p) ∙ is)
+    (Performs_then_part (is_send_due s) nothing (λ past h. due)
+    (Performs_then_part (is_spent s) (repeats p s.message) (λ past h. spent)
+    (record { acts = λ past h. put; stands = λ past h. StandsStill_gave p x past before after t only h })))
+
+-- a due send is posted again
+repeats_row : (p : PeerId) (s : Sending) (x : ℕ) (port : Port) (before after : Station) (old new : List Placed) → sending_to before.sends p ≡ Some s → is_due_send x (Some s) ≡ true → is_given_up s x ≡ false → KeepsRest before after
+    → SetsOnly p (Some (record s { posts = s.posts + 1 })) before.sends after.sends → new ≡ old ++ record { port = port; act = Post (Peer p) (Message s.message) } ∷ []
+    → Performs StandsStill StandsStill (due_send_so_far p) x port (before, tt) (after, tt) old new
+unfolding due_send_so_far treats_send_so_far repeats puts
+repeats_row p s x port before after old new is due fresh t only put =
+    Performs_reading (open_at p) (treats_send_so_far p) (Some s) (λ past h. sym (h.first.sends p) ∙ is)
+    (Performs_then_part (is_send_due s) nothing (λ past h. due)
+    (Performs_else_part (is_spent s) (puts (GaveAct p)) (λ past h. fresh)
+    (record { acts = λ past h. put; stands = λ past h. StandsStill_repeats p s x past before after is t only h })))
+
+-- the next due send is treated as the row of its peer says
+pub Performs_due : (last : Option PeerId) (x : ℕ) (port : Port) (due : Due) (before after : Station) (old new : List Placed) → TreatsNext last x before.sends after.sends (Some due) → KeepsRest before after
+    → new ≡ old ++ record { port = port; act = act_of due } ∷ [] → Performs StandsStill StandsStill (due_send_so_far (peer_of due)) x port (before, tt) (after, tt) old new
+Performs_due last x port due before after old new t rest put = rw is (by_test (is_given_up t.1 x) refl t.3 t.4) where
+  is : peer_of due ≡ t.0
+  is = ap peer_of t.3 ∙ peer_of-treated t.0 x t.1
+
+  by_test : (b : Bool) → is_given_up t.1 x ≡ b → due ≡ (if b then Gave t.0 t.1.message.kind else Again t.0 t.1.message)
+      → SetsOnly t.0 (if b then None else Some (record t.1 { posts = t.1.posts + 1 })) before.sends after.sends → Performs StandsStill StandsStill (due_send_so_far t.0) x port (before, tt) (after, tt) old new
+  by_test true b e only = gives_row t.0 t.1 x port before after old new t.2.sending t.2.due b rest only (put ∙ ap (λ d. old ++ record { port = port; act = act_of d } ∷ []) e)
+  by_test false b e only = repeats_row t.0 t.1 x port before after old new t.2.sending t.2.due b rest only (put ∙ ap (λ d. old ++ record { port = port; act = act_of d } ∷ []) e)
+
+-- nothing is done for a send that isn't due
+pub Performs_not_due : (p : PeerId) (x : ℕ) (port : Port) (station : Station) (old : List Placed) → is_due_send x (sending_to station.sends p) ≡ false → Performs StandsStill StandsStill (due_send_so_far p) x port (station, tt) (station, tt) old old
+unfolding due_send_so_far treats_send_so_far
+Performs_not_due p x port station old late = Performs_reading (open_at p) (treats_send_so_far p) (sending_to station.sends p) (λ past h. sym (h.first.sends p)) (by_send (sending_to station.sends p) late) where
+  by_send : (o : Option Sending) → is_due_send x o ≡ false → Performs StandsStill StandsStill (treats_send_so_far p o) x port (station, tt) (station, tt) old old
+  by_send None e = Performs_nothing
+  by_send (Some s) e = Performs_else_part (is_send_due s) _ (λ past h. e) Performs_nothing

@@ -1,0 +1,75 @@
+-- A send begins to one peer after the other.
+use Rattle.std.specs.Prelude.{◌≡◌, suc, ◌+◌, ◌∷◌, [], ◌++◌, length, take, slice_index_or, refl}
+use Rattle.std.proofs.Common.{sym, ◌∙◌, ap, subst, arith}
+use Rattle.std.proofs.Math.Seq.{take-suc}
+use Rattle.std.proofs.lemmas.List.{take_all}
+use Rattle.tsp_base.specs.declared.place.PeerId.{PeerId}
+use Rattle.tsp_base.specs.Performs.{Performs}
+use Rattle.tsp_base.specs.Rows.{for_each, others}
+use Rattle.tsp_base.proofs.PerformsLemmas.{Performs_nothing, Performs_reading}
+use Rattle.tsp_base.proofs.RowLemmas.{others-own}
+use Rattle.tsp_rules.specs.SendRows.{begins, begins_to_others, others_at}
+use Rattle.tsp_acks.proofs.SendingLemmas.{Performs_begun_more}
+use Rattle.tsp_acks.specs.Stands.{StandsActing}
+use Rattle.tsp_acks.proofs.station.Station.begin_to_others.Goals.{then-p-self, else-p-self}
+use Rattle.tsp_acks.proofs.station.Station.begin_to_others.Goals as goal
+
+pub loop-place-init : goal.loop-place-init
+unfolding for_each
+loop-place-init g c = record {
+  row = Performs_nothing;
+  me = refl;
+  role = refl;
+  hold = refl;
+  alarms = refl;
+  peers = refl;
+  spare = omega arith;
+  few = omega arith;
+}
+
+pub loop-place-preserved : goal.loop-place-preserved
+loop-place-preserved g c =
+    let inv = c.loop-place.invariant in
+    let peers = c.args.self.now.peers in
+    let n = c.loop-place.place in
+    let p : PeerId = slice_index_or c.as_slice.result.now n (record { 0 = 0 }) in
+    let there : c.as_slice.result.now ≡ peers = c.as_slice.ensures.value ∙ inv.peers in
+    let inside = c.loop-place-test.true in
+    let end = ap length c.as_slice-place-end.ensures.value in
+    let one : n + 1 ≡ suc n = omega arith in
+    let more : take (n + 1) peers ≡ take n peers ++ p ∷ [] = ap (λ k. take k peers) one ∙ take-suc peers n (record { 0 = 0 }) (omega (arith, inside, end)) ∙ ap (λ l. take n peers ++ slice_index_or l n (record { 0 = 0 }) ∷ []) (sym there) in
+    elim c.if-p-self.branch [
+      | then-p-self w ↦ record {
+        row = rw (w.self-is, w.desk-is, more) (Performs_begun_more c.args.kind c.args.self.now.me.own p (take n peers) (λ e. w.if-p-self.true (e ∙ ap (λ i. i.own.0) (sym inv.me))) inv.row w.begin.ensures.row);
+        me = ap (λ s. s.me) w.self-is ∙ w.begin.ensures.me ∙ inv.me;
+        role = ap (λ s. s.role) w.self-is ∙ w.begin.ensures.role ∙ inv.role;
+        hold = ap (λ s. s.hold) w.self-is ∙ w.begin.ensures.hold ∙ inv.hold;
+        alarms = ap (λ s. s.alarms) w.self-is ∙ w.begin.ensures.alarms ∙ inv.alarms;
+        peers = ap (λ s. s.peers) w.self-is ∙ w.begin.ensures.peers ∙ inv.peers;
+        spare = rw w.desk-is (omega (arith, inv.spare, w.begin.ensures.spare));
+        few = rw w.desk-is (omega (arith, inv.few, w.begin.ensures.few));
+      }
+      | else-p-self w ↦ record {
+        row = rw (w.self-is, w.desk-is, more, others-own c.args.self.now.me.own p (take n peers) (w.if-p-self.false ∙ ap (λ i. i.own.0) inv.me)) inv.row;
+        me = ap (λ s. s.me) w.self-is ∙ inv.me;
+        role = ap (λ s. s.role) w.self-is ∙ inv.role;
+        hold = ap (λ s. s.hold) w.self-is ∙ inv.hold;
+        alarms = ap (λ s. s.alarms) w.self-is ∙ inv.alarms;
+        peers = ap (λ s. s.peers) w.self-is ∙ inv.peers;
+        spare = rw w.desk-is (omega (arith, inv.spare));
+        few = rw w.desk-is (omega (arith, inv.few));
+      }
+    ]
+
+pub returns-clause-row : goal.returns-clause-row
+unfolding begins_to_others
+returns-clause-row g c =
+    let st = c.args.self.now in
+    let n = c.loop-place.place in
+    let end = ap length c.as_slice-place-end.ensures.value in
+    let past_end = c.loop-place-test.false in
+    let all : take n st.peers ≡ st.peers = take_all _ _ (omega (arith, end, past_end)) in
+    Performs_reading others_at (for_each (begins c.args.kind)) (others st.me.own st.peers)
+    (λ past h. ap (λ own. others own past.peers) (sym h.first.own) ∙ ap (λ ps. others st.me.own ps) (sym h.first.peers))
+    (subst (λ ps. Performs StandsActing StandsActing (for_each (begins c.args.kind) (others st.me.own ps)) c.args.tick c.args.port (st, tt) (c.loop-place.self, tt) (g.D.Desk.acts c.args.desk.now) (g.D.Desk.acts c.loop-place.desk))
+    all c.loop-place.invariant.row)
