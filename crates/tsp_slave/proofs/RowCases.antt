@@ -4,16 +4,17 @@ use Rattle.std.proofs.lemmas.Bool.{false≢true}
 use Rattle.tsp_base.specs.declared.alarm.Alarm.{Alarm}
 use Rattle.tsp_base.specs.declared.alarm.Alarm.TheVariants.{Quiet, Search, Elect}
 use Rattle.tsp_base.specs.declared.kind.Kind.{Kind}
-use Rattle.tsp_base.specs.declared.kind.Kind.TheVariants.{AdjTime, MasterAck, SetTime, MasterUp}
+use Rattle.tsp_base.specs.declared.kind.Kind.TheVariants.{AdjTime, Ack, MasterAck, SetTime, MasterUp, Election}
 use Rattle.tsp_base.specs.declared.place.PeerId.{PeerId}
 use Rattle.tsp_base.specs.declared.role.Role.{Role}
 use Rattle.tsp_base.specs.declared.role.Role.TheVariants.{Loose, Follow}
 use Rattle.tsp_base.specs.Messages.{MessageValue}
 use Rattle.tsp_base.specs.Rows.{Row, nothing}
 use Rattle.tsp_rules.specs.SlaveRows.{from_master}
+use Rattle.tsp_rules.specs.SoFar.{hears_master, finds_master, slave_takes_kind_so_far}
 use Rattle.tsp_rules.specs.Tests.{is_follow}
 use Rattle.tsp_slave.specs.SlaveAlarms.{slave_rings}
-use Rattle.tsp_slave.specs.SlaveTakes.{hears_master, finds_master, takes_kind_so_far, is_master_of}
+use Rattle.tsp_slave.specs.SlaveTakes.{is_master_of}
 
 pub is_follow-other : (r : Role) → ((q : PeerId) → r ≡ Follow q → ⊥) → is_follow r ≡ false
 is_follow-other (Follow q) n = absurd (n q refl)
@@ -47,10 +48,12 @@ unfolding from_master
 from_master-other p row (Follow q) h = rw h refl
 from_master-other p row _ h = refl
 
-pub takes_kind_so_far-other : (p : PeerId) (m : MessageValue) (k : Kind) → k ≢ MasterUp → k ≢ MasterAck → k ≢ AdjTime → k ≢ SetTime → takes_kind_so_far p m k ≡ nothing
-unfolding takes_kind_so_far
-takes_kind_so_far-other p m MasterUp a b d e = absurd (a refl)
-takes_kind_so_far-other p m MasterAck a b d e = absurd (b refl)
-takes_kind_so_far-other p m AdjTime a b d e = absurd (d refl)
-takes_kind_so_far-other p m SetTime a b d e = absurd (e refl)
-takes_kind_so_far-other p m _ a b d e = refl
+pub slave_takes_kind_so_far-other : (p : PeerId) (m : MessageValue) (k : Kind) → k ≢ MasterUp → k ≢ MasterAck → k ≢ Election → k ≢ AdjTime → k ≢ SetTime → k ≢ Ack → slave_takes_kind_so_far p m k ≡ nothing
+unfolding slave_takes_kind_so_far
+slave_takes_kind_so_far-other p m MasterUp a b d e f g = absurd (a refl)
+slave_takes_kind_so_far-other p m MasterAck a b d e f g = absurd (b refl)
+slave_takes_kind_so_far-other p m Election a b d e f g = absurd (d refl)
+slave_takes_kind_so_far-other p m AdjTime a b d e f g = absurd (e refl)
+slave_takes_kind_so_far-other p m SetTime a b d e f g = absurd (f refl)
+slave_takes_kind_so_far-other p m Ack a b d e f g = absurd (g refl)
+slave_takes_kind_so_far-other p m _ a b d e f g = refl

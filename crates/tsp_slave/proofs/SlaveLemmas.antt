@@ -3,27 +3,29 @@ use Rattle.std.specs.Prelude.{◌≡◌, ℕ, ℤ, Bool, true, false, Option, So
 use Rattle.std.proofs.Common.{sym, ◌∙◌, ap}
 use Rattle.std.proofs.lemmas.Bool.{false≢true}
 use Rattle.tsp_base.specs.declared.act.Act.{Act}
-use Rattle.tsp_base.specs.declared.act.Act.TheVariants.{Become, Correct}
+use Rattle.tsp_base.specs.declared.act.Act.TheVariants.{Become, Back, Acked, Correct}
 use Rattle.tsp_base.specs.declared.act.Placed.{Placed}
 use Rattle.tsp_base.specs.declared.alarm.Alarm.{Alarm}
 use Rattle.tsp_base.specs.declared.alarm.Alarm.TheVariants.{Elect}
 use Rattle.tsp_base.specs.declared.kind.Kind.{Kind}
-use Rattle.tsp_base.specs.declared.kind.Kind.TheVariants.{Ack}
+use Rattle.tsp_base.specs.declared.kind.Kind.TheVariants.{Ack, Accept, Refuse}
 use Rattle.tsp_base.specs.declared.place.PeerId.{PeerId}
 use Rattle.tsp_base.specs.declared.place.Port.{Port}
 use Rattle.tsp_base.specs.declared.role.Role.TheVariants.{Follow}
 use Rattle.tsp_base.specs.History.{Past}
 use Rattle.tsp_base.specs.Performs.{Performs, Keeps}
 use Rattle.tsp_base.specs.PortFacts.{Received, said, name_in}
-use Rattle.tsp_base.specs.Rows.{grown, puts, arms, posts}
+use Rattle.tsp_base.specs.Rows.{grown, nothing, puts, ◌followed_by◌, arms, posts}
 use Rattle.tsp_base.specs.SendFacts.{Correcting, correcting_of}
-use Rattle.tsp_base.proofs.PerformsLemmas.{Keeps_reading, Keeps_then}
+use Rattle.tsp_base.proofs.PerformsLemmas.{Keeps_reading, Keeps_then, Keeps_either, Keeps_nothing}
 use Rattle.tsp_rules.specs.ClockRows.{adjusts, sets}
 use Rattle.tsp_rules.specs.CommonRows.{arms_elect}
-use Rattle.tsp_rules.specs.SlaveRows.{confirms}
-use Rattle.tsp_rules.specs.Tests.{delay_at}
+use Rattle.tsp_rules.specs.SendRows.{has_other, acknowledges}
+use Rattle.tsp_rules.specs.SlaveRows.{election_of, confirms}
+use Rattle.tsp_rules.specs.Tests.{delay_at, may_back_at}
 use Rattle.tsp_acks.specs.declared.station.Station.{Station}
 use Rattle.tsp_acks.specs.Stands.{Stands}
+use Rattle.tsp_acks.proofs.StandsLemmas.{Stands_idle}
 use Rattle.tsp_clock.specs.Clocks.{ClockValue}
 use Rattle.tsp_clock.specs.ClockStands.{ClockStands}
 use Rattle.tsp_slave.specs.Lasts.{LastValue}
@@ -61,6 +63,38 @@ pub AlsoStands_confirms : (p : PeerId) (number : ℕ) → Keeps AlsoStands (conf
 unfolding confirms
 AlsoStands_confirms p number = Keeps_then AlsoStands arms_elect (posts p Ack number) AlsoStands_arms_elect (AlsoStands_posts p Ack number)
 
+pub AlsoStands_backs : (p : PeerId) → Keeps AlsoStands (puts (Back p))
+unfolding puts
+AlsoStands_backs p x past state h = record {
+  first = record { tick_is = h.first.tick_is; taken_is = h.first.taken_is; name_is = h.first.name_is };
+  second = record {
+    first = record { offset_is = h.second.first.offset_is; rest_is = h.second.first.rest_is; at_is = h.second.first.at_is; ticket_is = h.second.first.ticket_is };
+    second = h.second.second;
+  };
+}
+
+pub AlsoStands_acked : (p : PeerId) → Keeps AlsoStands (puts (Acked p))
+unfolding puts
+AlsoStands_acked p x past state h = record {
+  first = record { tick_is = h.first.tick_is; taken_is = h.first.taken_is; name_is = h.first.name_is };
+  second = record {
+    first = record { offset_is = h.second.first.offset_is; rest_is = h.second.first.rest_is; at_is = h.second.first.at_is; ticket_is = h.second.first.ticket_is };
+    second = h.second.second;
+  };
+}
+
+pub AlsoStands_election_of : (p : PeerId) (number : ℕ) → Keeps AlsoStands (election_of p number)
+unfolding election_of
+AlsoStands_election_of p number =
+    Keeps_either AlsoStands (may_back_at p) (puts (Back p) followed_by (arms_elect followed_by posts p Accept number)) (posts p Refuse number)
+    (Keeps_then AlsoStands (puts (Back p)) (arms_elect followed_by posts p Accept number) (AlsoStands_backs p)
+    (Keeps_then AlsoStands arms_elect (posts p Accept number) AlsoStands_arms_elect (AlsoStands_posts p Accept number)))
+    (AlsoStands_posts p Refuse number)
+
+pub AlsoStands_acknowledges : (p : PeerId) (number : ℕ) → Keeps AlsoStands (acknowledges p number)
+unfolding acknowledges
+AlsoStands_acknowledges p number = Keeps_either AlsoStands (has_other p number) (puts (Acked p)) nothing (AlsoStands_acked p) (Keeps_nothing AlsoStands)
+
 -- a port that begins to follow keeps the name that was taken
 pub follow_becomes : (p : PeerId) {x : ℕ} {port : Port} {before after : Station} (first last : LastValue) (clock : ClockValue) (took : Option Received) {old new : List Placed} →
     last ≡ record first { name = name_in took } → Performs Stands Stands (puts (Become (Follow p))) x port before after old new →
@@ -88,8 +122,9 @@ follow_becomes p first last clock took e d = record {
 pub Stands_took : (act : Act) (x : ℕ) (past : Past) (station : Station) (first last : LastValue) (clock moved : ClockValue) (took : Option Received) (by : Correcting) →
     is_correct act ≡ true → correcting_of (said took) ≡ Some by → last ≡ record first { tick = Some x; taken = Some by } →
     SlaveStands past (station, (first, (clock, took))) → ClockStands (grown x past (act ∷ [])) moved → SlaveStands (grown x past (act ∷ [])) (station, (last, (moved, took)))
+unfolding puts
 Stands_took (Correct amount stepped shown) x past station first last clock moved took by i s e h m = record {
-  first = record { own = h.first.own; name = h.first.name; may = h.first.may; peers = h.first.peers; word = h.first.word; role = h.first.role; alarms = h.first.alarms; hold = h.first.hold };
+  first = Stands_idle (Correct amount stepped shown) refl x past station h.first;
   second = record {
     first = record {
       tick_is = ap (λ l. l.tick) e;

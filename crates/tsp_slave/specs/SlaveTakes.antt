@@ -1,39 +1,8 @@
--- What a port that is Loose or follows does with a message of a peer, as far as it is built: it follows masters and takes
--- corrections. It doesn't yet report a conflict, back a candidate, or answer a QUIT or an ACK.
-use Rattle.std.specs.Prelude.{◌==◌, Bool, false, if◌then◌else◌}
-use Rattle.tsp_base.specs.declared.alarm.Alarm.TheVariants.{Search}
-use Rattle.tsp_base.specs.declared.kind.Kind.{Kind}
-use Rattle.tsp_base.specs.declared.kind.Kind.TheVariants.{AdjTime, MasterAck, SetTime, MasterUp}
+-- Whose corrections a port takes.
+use Rattle.std.specs.Prelude.{◌==◌, Bool, false}
 use Rattle.tsp_base.specs.declared.place.PeerId.{PeerId}
 use Rattle.tsp_base.specs.declared.role.Role.{Role}
-use Rattle.tsp_base.specs.declared.role.Role.TheVariants.{Loose, Follow}
-use Rattle.tsp_base.specs.Messages.{MessageValue}
-use Rattle.tsp_base.specs.Rows.{Row, nothing, ◌followed_by◌, either_by, reading}
-use Rattle.tsp_base.specs.Takings.{time_in}
-use Rattle.tsp_rules.specs.CommonRows.{arms_elect, tells_ticket, follow_row}
-use Rattle.tsp_rules.specs.SlaveRows.{from_master, adjtime_of, settime_of}
-use Rattle.tsp_rules.specs.Tests.{role_at, is_armed}
-
--- a master says that it is there: one that isn't followed yet is followed by a port that follows none
-unfoldable pub hears_master : PeerId → Role → Row
-hears_master p Loose = follow_row p
-hears_master p (Follow q) = if q.0 == p.0 then (arms_elect followed_by tells_ticket p) else nothing
-hears_master p _ = nothing
-
--- a master answers a search
-unfoldable pub finds_master : PeerId → Role → Row
-finds_master p Loose = either_by (is_armed Search) (follow_row p) nothing
-finds_master p _ = nothing
-
-unfoldable pub takes_kind_so_far : PeerId → MessageValue → Kind → Row
-takes_kind_so_far p m MasterUp = reading role_at (hears_master p)
-takes_kind_so_far p m MasterAck = reading role_at (finds_master p)
-takes_kind_so_far p m AdjTime = reading role_at (from_master p (adjtime_of p m.number (time_in m.body)))
-takes_kind_so_far p m SetTime = reading role_at (from_master p (settime_of p m.number (time_in m.body)))
-takes_kind_so_far p m _ = nothing
-
-unfoldable pub takes_so_far : PeerId → MessageValue → Row
-takes_so_far p m = takes_kind_so_far p m m.kind
+use Rattle.tsp_base.specs.declared.role.Role.TheVariants.{Follow}
 
 -- whether a role is to follow p
 abbrev pub is_master_of : PeerId → Role → Bool

@@ -1,12 +1,14 @@
 //! How a port begins to follow a master, and tells it so.
-ghost use Rattle.std.specs.Prelude.{◌≡◌, ℕ, ◌+◌, ◌≤◌, ◌^◌, length, Option, Some};
+ghost use Rattle.std.specs.Prelude.{◌≡◌, ℕ, ◌+◌, ◌≤◌, ◌^◌, length, Option, None, Some};
 ghost use Rattle.tsp_base.specs.declared.alarm.Alarm.TheVariants.{Elect};
+ghost use Rattle.tsp_base.specs.declared.place.PeerId.{PeerId};
 ghost use Rattle.tsp_base.specs.declared.role.Role.TheVariants.{Follow};
 ghost use Rattle.tsp_base.specs.Alarms.{with_deadline, none_armed};
 ghost use Rattle.tsp_base.specs.Performs.{Performs};
 ghost use Rattle.tsp_base.specs.PortFacts.{Received, name_in};
 ghost use Rattle.tsp_rules.specs.CommonRows.{follow_row, tells_ticket};
 ghost use Rattle.tsp_rules.specs.Tests.{delay};
+ghost use Rattle.tsp_sends.specs.Slots.{sending_to};
 ghost use Rattle.tsp_slave.specs.Lasts.{LastValue};
 ghost use Rattle.tsp_slave.specs.SlaveStands.{SlaveStands};
 
@@ -34,7 +36,13 @@ pub fn follow<D: Desk>(
     requires room { 3 ≤ D.spare desk.old }
     ensures row { (took : Option Received) → name_in took ≡ name.now → Performs SlaveStands SlaveStands (follow_row p) tick port
         (station.old, (last.old, (clock.now, took))) (station.new, (last.new, (clock.now, took))) (D.acts desk.old) (D.acts desk.new) }
-    ensures station { station.new ≡ record station.old { role = Follow p; alarms = with_deadline none_armed Elect (Some (tick + delay station.old.me.word)) } }
+    ensures me { station.new.me ≡ station.old.me }
+    ensures role { station.new.role ≡ Follow p }
+    ensures hold { station.new.hold ≡ station.old.hold }
+    ensures sends { (q : PeerId) → sending_to station.new.sends q ≡ None }
+    ensures alarms { station.new.alarms ≡ with_deadline none_armed Elect (Some (tick + delay station.old.me.word)) }
+    ensures begun { station.new.begun ≡ station.old.begun }
+    ensures peers { station.new.peers ≡ station.old.peers }
     ensures last { last.new ≡ record last.old { name = name.now } }
     ensures spare { D.spare desk.old ≡ D.spare desk.new + 3 }
     ensures few { length (D.acts desk.new) ≡ length (D.acts desk.old) + 3 }

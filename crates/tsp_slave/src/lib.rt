@@ -2,6 +2,7 @@
 #![tactic(auto)]
 
 mod correction;
+mod election;
 pub mod follow;
 pub mod last;
 pub mod ring;

@@ -9,11 +9,13 @@ ghost use Rattle.tsp_base.specs.Rows.{reading};
 ghost use Rattle.tsp_base.specs.SendFacts.{correcting_of};
 ghost use Rattle.tsp_base.specs.Takings.{time_in};
 ghost use Rattle.tsp_rules.specs.SlaveRows.{adjtime_of, settime_of, from_master};
+ghost use Rattle.tsp_rules.specs.SoFar.{hears_master, finds_master, slave_takes_so_far};
 ghost use Rattle.tsp_rules.specs.Tests.{role_at};
 ghost use Rattle.tsp_slave.specs.SlaveStands.{SlaveStands};
-ghost use Rattle.tsp_slave.specs.SlaveTakes.{hears_master, finds_master, takes_so_far, is_master_of};
+ghost use Rattle.tsp_slave.specs.SlaveTakes.{is_master_of};
 
 use crate::correction::{adjtime, settime};
+use crate::election::answer_candidate;
 use crate::follow::{follow, tell_ticket};
 use crate::last::Last;
 use tsp_acks::station::Station;
@@ -40,7 +42,7 @@ pub fn slave_take<D: Desk>(
     requires tick { tick ≤ 2 ^ 61 }
     requires later { clock.old.at ≤ tick }
     requires room { 2 * length station.old.peers + 16 ≤ D.spare desk.old }
-    ensures row { (took : Option Received) → took ≡ Some (record { from = Peer from; taken = Good (MessageOf m.now) }) → Performs SlaveStands SlaveStands (takes_so_far from m.now) tick port
+    ensures row { (took : Option Received) → took ≡ Some (record { from = Peer from; taken = Good (MessageOf m.now) }) → Performs SlaveStands SlaveStands (slave_takes_so_far from m.now) tick port
         (station.old, (last.old, (clock.old, took))) (station.new, (last.new, (clock.new, took))) (D.acts desk.old) (D.acts desk.new) }
     ensures spare { D.spare desk.old ≤ D.spare desk.new + 3 }
     ensures few { length (D.acts desk.new) ≤ length (D.acts desk.old) + 3 }
@@ -51,8 +53,10 @@ pub fn slave_take<D: Desk>(
     match m.kind() {
         Kind::MasterUp => hear_master(station, last, clock, tick, from, m.name(), port, desk),
         Kind::MasterAck => find_master(station, last, clock, tick, from, m.name(), port, desk),
+        Kind::Election => answer_candidate(station, tick, from, m.number(), port, desk),
         Kind::AdjTime => take_adjtime(station, last, clock, tick, from, m, port, desk),
         Kind::SetTime => take_settime(station, last, clock, tick, from, m, port, desk),
+        Kind::Ack => station.acknowledge(from, m.number(), port, desk),
         _ => {}
     }
 }

@@ -1,0 +1,21 @@
+-- The row's test is the code's.
+use Rattle.tsp_base.specs.declared.act.Act.TheVariants.{Back}
+use Rattle.tsp_base.specs.declared.kind.Kind.TheVariants.{Accept, Refuse}
+use Rattle.tsp_base.specs.Rows.{puts, ◌followed_by◌, posts}
+use Rattle.tsp_base.proofs.PerformsLemmas.{Performs_then, Performs_then_part, Performs_else_part}
+use Rattle.tsp_rules.specs.CommonRows.{arms_elect}
+use Rattle.tsp_rules.specs.SlaveRows.{election_of}
+use Rattle.tsp_rules.specs.Tests.{may_back_at}
+use Rattle.tsp_slave.proofs.election.answer_candidate.Goals as goal
+
+pub returns-then-may_back-clause-row : goal.returns-then-may_back-clause-row
+unfolding election_of
+returns-then-may_back-clause-row g c =
+    Performs_then_part (may_back_at c.args.from) (posts c.args.from Refuse c.args.number) (λ past s. let h = s.hold in cc)
+    (Performs_then c.back.ensures.row (Performs_then c.arm_elect.ensures.row (c.post.ensures.row c.args.tick)))
+
+pub returns-else-may_back-clause-row : goal.returns-else-may_back-clause-row
+unfolding election_of
+returns-else-may_back-clause-row g c =
+    Performs_else_part (may_back_at c.args.from) (puts (Back c.args.from) followed_by (arms_elect followed_by posts c.args.from Accept c.args.number))
+    (λ past s. let h = s.hold in cc) (c.post-else-may_back.ensures.row c.args.tick)

@@ -1,0 +1,37 @@
+//! What a port that is Loose or follows answers to a candidate.
+ghost use Rattle.std.specs.Prelude.{◌≡◌, ◌+◌, ◌≤◌, ◌^◌, length};
+ghost use Rattle.tsp_base.specs.Performs.{Performs};
+ghost use Rattle.tsp_rules.specs.SlaveRows.{election_of};
+ghost use Rattle.tsp_acks.specs.Stands.{Stands};
+
+use tsp_acks::station::Station;
+use tsp_base::desk::Desk;
+use tsp_base::kind::Kind;
+use tsp_base::place::{PeerId, Port};
+
+/// Answers a peer that stands for election. It is backed where the hold allows it at this tick, and then the
+/// election alarm is armed anew, so that it has time to win; else it is refused.
+pub(crate) fn answer_candidate<D: Desk>(
+    station: &mut Station,
+    tick: u64,
+    from: PeerId,
+    number: u16,
+    port: Port,
+    desk: &mut D,
+)
+    requires tick { tick ≤ 2 ^ 61 }
+    requires room { 3 ≤ D.spare desk.old }
+    ensures row { Performs Stands Stands (election_of from number) tick port station.old station.new (D.acts desk.old) (D.acts desk.new) }
+    ensures spare { D.spare desk.old ≤ D.spare desk.new + 3 }
+    ensures few { length (D.acts desk.new) ≤ length (D.acts desk.old) + 3 }
+    ensures me { station.new.me ≡ station.old.me }
+    ensures peers { station.new.peers ≡ station.old.peers }
+{
+    if station.hold.may_back(tick, from) {
+        station.back(from, tick, port, desk);
+        station.arm_elect(tick, port, desk);
+        station.post(from, Kind::Accept, number, port, desk);
+    } else {
+        station.post(from, Kind::Refuse, number, port, desk);
+    }
+}
