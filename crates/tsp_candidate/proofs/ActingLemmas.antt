@@ -1,0 +1,31 @@
+-- A step that has acted goes on acting, whatever it puts.
+use Rattle.std.specs.Prelude.{◌≡◌, ℕ, Bool, true, List, [], ◌∷◌, refl}
+use Rattle.tsp_base.specs.declared.act.Act.{Act}
+use Rattle.tsp_base.specs.declared.act.Act.TheVariants.{Took, Ring, Late}
+use Rattle.tsp_base.specs.declared.act.Placed.{Placed}
+use Rattle.tsp_base.specs.declared.place.Port.{Port}
+use Rattle.tsp_base.specs.History.{Step, Seen, Acts}
+use Rattle.tsp_base.specs.Performs.{Performs, Keeps}
+use Rattle.tsp_base.specs.PortFacts.{acting, acting_after}
+use Rattle.tsp_base.specs.Rows.{Row, added}
+use Rattle.tsp_base.proofs.PerformsLemmas.{Performs_beside}
+use Rattle.tsp_acks.specs.declared.station.Station.{Station}
+use Rattle.tsp_acks.specs.Stands.{Stands, HasActed, StandsActing}
+
+acting_after-acts : (a : Act) (before : Bool) → before ≡ true → acting_after (Acts a) before ≡ true
+acting_after-acts (Took from taken) before e = refl
+acting_after-acts (Ring alarm) before e = refl
+acting_after-acts (Late alarm) before e = refl
+acting_after-acts _ before e = e
+
+acting-added : (step : Step) (x : ℕ) (acts : List Act) (seen : List Seen) → acting seen ≡ true → acting (added step x acts seen) ≡ true
+acting-added step x [] seen e = e
+acting-added step x (a ∷ rest) seen e = acting-added step x rest _ (acting_after-acts a (acting seen) e)
+
+HasActed_row : (row : Row) → Keeps HasActed row
+HasActed_row row x past state acted = acting-added past.step x (row x past) past.seen acted
+
+-- a call in a step that has acted
+pub Performs_acting : {row : Row} {x : ℕ} {port : Port} {before after : Station} {old new : List Placed} → Performs Stands Stands row x port before after old new →
+    Performs StandsActing StandsActing row x port (before, tt) (after, tt) old new
+Performs_acting {row = row} d = Performs_beside tt (HasActed_row row) d

@@ -1,0 +1,4 @@
+pub mod ActingLemmas
+pub mod AlsoLemmas
+pub mod AnswerLemmas
+pub mod RowCases

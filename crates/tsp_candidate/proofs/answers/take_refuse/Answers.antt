@@ -1,0 +1,20 @@
+-- A REFUSE that answers an open ELECTION ends it, and the candidature.
+use Rattle.std.proofs.Common.{◌∙◌}
+use Rattle.tsp_base.specs.Rows.{nothing}
+use Rattle.tsp_base.proofs.PerformsLemmas.{Performs_then, Performs_then_part}
+use Rattle.tsp_rules.specs.CandidateRows.{refused_by}
+use Rattle.tsp_rules.specs.SendRows.{has_election}
+use Rattle.tsp_candidate.proofs.AnswerLemmas.{Performs_passed_over}
+use Rattle.tsp_candidate.proofs.answers.take_refuse.Goals as goal
+
+pub returns-then-answered-clause-row : goal.returns-then-answered-clause-row
+unfolding refused_by
+returns-then-answered-clause-row g c =
+    Performs_then_part (has_election c.args.from c.args.number) nothing (λ past s. c.answered.ensures.test c.args.tick past s ∙ c.if-answered.true)
+    (Performs_then (c.answered.ensures.row c.if-answered.true c.args.tick) c.give_way.ensures.row)
+
+pub returns-else-answered-clause-row : goal.returns-else-answered-clause-row
+unfolding refused_by
+returns-else-answered-clause-row g c =
+    Performs_passed_over (has_election c.args.from c.args.number) _ (λ past s. c.answered.ensures.test c.args.tick past s ∙ c.if-answered.false)
+    (c.answered.ensures.same c.if-answered.false)

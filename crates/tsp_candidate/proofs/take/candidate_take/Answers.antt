@@ -1,0 +1,62 @@
+-- Each kind has its row.
+use Rattle.std.proofs.Common.{◌≡◌, sym, ◌∙◌, ap}
+use Rattle.tsp_base.specs.declared.kind.Kind.TheVariants.{Ack, Election, Accept, Refuse}
+use Rattle.tsp_base.specs.PortFacts.{name_in}
+use Rattle.tsp_base.specs.Rows.{nothing}
+use Rattle.tsp_base.proofs.PerformsLemmas.{Performs_beside, Performs_nothing}
+use Rattle.tsp_rules.specs.CommonRows.{follow_row}
+use Rattle.tsp_rules.specs.SoFar.{candidate_takes_so_far, candidate_takes_kind_so_far}
+use Rattle.tsp_slave.proofs.SlaveLemmas.{AlsoStands_posts, AlsoStands_acknowledges}
+use Rattle.tsp_candidate.proofs.AlsoLemmas.{AlsoStands_accepted_by, AlsoStands_refused_by}
+use Rattle.tsp_candidate.proofs.RowCases.{candidate_takes_kind_so_far-master, candidate_takes_kind_so_far-other}
+use Rattle.tsp_candidate.proofs.take.candidate_take.Goals as goal
+
+pub returns-in-MasterUp-clause-row : goal.returns-in-MasterUp-clause-row
+unfolding candidate_takes_so_far
+returns-in-MasterUp-clause-row g c took e =
+    let m = c.args.m.now in
+    let k : candidate_takes_kind_so_far c.args.from m m.kind ≡ follow_row c.args.from =
+    ap (candidate_takes_kind_so_far c.args.from m) (sym c.kind.ensures) ∙ candidate_takes_kind_so_far-master c.args.from m c.kind.result c.in-MasterUp.is in
+    rw k (c.follow.ensures.row took (ap name_in e ∙ sym c.name.ensures))
+
+pub returns-in-Election-clause-row : goal.returns-in-Election-clause-row
+unfolding candidate_takes_so_far candidate_takes_kind_so_far
+returns-in-Election-clause-row g c took e =
+    let k : c.args.m.now.kind ≡ Election = sym c.kind.ensures ∙ c.in-Election.is in
+    let n : c.number.result ≡ c.args.m.now.number = c.number.ensures in
+    let d = c.post.ensures.row c.args.tick in
+    rw k (Performs_beside _ (AlsoStands_posts c.args.from Refuse c.args.m.now.number) (rw n at d))
+
+pub returns-in-Accept-clause-row : goal.returns-in-Accept-clause-row
+unfolding candidate_takes_so_far candidate_takes_kind_so_far
+returns-in-Accept-clause-row g c took e =
+    let k : c.args.m.now.kind ≡ Accept = sym c.kind.ensures ∙ c.in-Accept.is in
+    let n : c.number-in-Accept.result ≡ c.args.m.now.number = c.number-in-Accept.ensures in
+    let d = c.take_accept.ensures.row c.args.tick in
+    rw k (Performs_beside _ (AlsoStands_accepted_by c.args.from c.args.m.now.number) (rw n at d))
+
+pub returns-in-Refuse-clause-row : goal.returns-in-Refuse-clause-row
+unfolding candidate_takes_so_far candidate_takes_kind_so_far
+returns-in-Refuse-clause-row g c took e =
+    let k : c.args.m.now.kind ≡ Refuse = sym c.kind.ensures ∙ c.in-Refuse.is in
+    let n : c.number-in-Refuse.result ≡ c.args.m.now.number = c.number-in-Refuse.ensures in
+    let d = c.take_refuse.ensures.row in
+    rw k (Performs_beside _ (AlsoStands_refused_by c.args.from c.args.m.now.number) (rw n at d))
+
+pub returns-in-Ack-clause-row : goal.returns-in-Ack-clause-row
+unfolding candidate_takes_so_far candidate_takes_kind_so_far
+returns-in-Ack-clause-row g c took e =
+    let k : c.args.m.now.kind ≡ Ack = sym c.kind.ensures ∙ c.in-Ack.is in
+    let n : c.number-in-Ack.result ≡ c.args.m.now.number = c.number-in-Ack.ensures in
+    let d = c.acknowledge.ensures.row c.args.tick in
+    rw k (Performs_beside _ (AlsoStands_acknowledges c.args.from c.args.m.now.number) (rw n at d))
+
+pub returns-in_default-clause-row : goal.returns-in_default-clause-row
+unfolding candidate_takes_so_far
+returns-in_default-clause-row g c took e =
+    let m = c.args.m.now in
+    let o = c.in_default in
+    let k : candidate_takes_kind_so_far c.args.from m m.kind ≡ nothing =
+    ap (candidate_takes_kind_so_far c.args.from m) (sym c.kind.ensures)
+    ∙ candidate_takes_kind_so_far-other c.args.from m c.kind.result o.not-MasterUp o.not-MasterAck o.not-Election o.not-Accept o.not-Refuse o.not-Ack in
+    rw k Performs_nothing

@@ -1,0 +1,32 @@
+//! How a candidature begins.
+ghost use Rattle.std.specs.Prelude.{◌≡◌, ◌+◌, ◌≤◌, ◌^◌, length};
+ghost use Rattle.tsp_base.specs.Performs.{Performs};
+ghost use Rattle.tsp_rules.specs.CommonRows.{stand_row};
+ghost use Rattle.tsp_acks.specs.Stands.{StandsActing};
+
+use tsp_acks::station::Station;
+use tsp_base::alarm::Alarm;
+use tsp_base::constants::WINDOW;
+use tsp_base::desk::Desk;
+use tsp_base::kind::Kind;
+use tsp_base::place::Port;
+use tsp_base::role::Role;
+
+/// Stands for election: the port backs itself, asks each other peer by an ELECTION with a number of its
+/// own, and waits `WINDOW` ticks for refusals. In this step an alarm has rung or come late, or a datagram
+/// was taken. At most three acts, and one more for each peer.
+pub fn stand<D: Desk>(station: &mut Station, tick: u64, port: Port, desk: &mut D)
+    requires tick { tick ≤ 2 ^ 61 }
+    requires room { length station.old.peers + 3 ≤ D.spare desk.old }
+    ensures row { Performs StandsActing StandsActing stand_row tick port (station.old, tt) (station.new, tt) (D.acts desk.old) (D.acts desk.new) }
+    ensures spare { D.spare desk.old ≤ D.spare desk.new + (length station.old.peers + 3) }
+    ensures few { length (D.acts desk.new) ≤ length (D.acts desk.old) + (length station.old.peers + 3) }
+    ensures me { station.new.me ≡ station.old.me }
+    ensures peers { station.new.peers ≡ station.old.peers }
+{
+    station.become_role(Role::Candidate, port, desk);
+    let own = station.me.own;
+    station.back(own, tick, port, desk);
+    station.arm(Alarm::Window, tick, WINDOW, port, desk);
+    station.begin_to_others(Kind::Election, tick, port, desk);
+}

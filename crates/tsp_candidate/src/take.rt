@@ -1,0 +1,53 @@
+//! What a candidate does with a message of a peer.
+ghost use Rattle.std.specs.Prelude.{◌≡◌, ◌+◌, ◌*◌, ◌≤◌, ◌^◌, length, Option, Some};
+ghost use Rattle.tsp_base.specs.declared.datagram.Datagram.TheVariants.{Message as MessageOf};
+ghost use Rattle.tsp_base.specs.declared.datagram.Taken.TheVariants.{Good};
+ghost use Rattle.tsp_base.specs.declared.place.Place.TheVariants.{Peer};
+ghost use Rattle.tsp_base.specs.Performs.{Performs};
+ghost use Rattle.tsp_base.specs.PortFacts.{Received};
+ghost use Rattle.tsp_rules.specs.SoFar.{candidate_takes_so_far};
+ghost use Rattle.tsp_slave.specs.SlaveStands.{SlaveStands};
+
+use crate::answers::{take_accept, take_refuse};
+use tsp_acks::station::Station;
+use tsp_base::desk::Desk;
+use tsp_base::kind::Kind;
+use tsp_base::message::Message;
+use tsp_base::place::{PeerId, Port};
+use tsp_clock::clock::Clock;
+use tsp_slave::follow::follow;
+use tsp_slave::last::Last;
+
+/// Treats a message of another peer at a port that stands for election: a master is followed, any other
+/// candidate is refused, since a candidate holds itself, and answers to its own ELECTIONs count. At most
+/// three acts.
+pub fn candidate_take<D: Desk>(
+    station: &mut Station,
+    last: &mut Last,
+    clock: &Clock,
+    tick: u64,
+    from: PeerId,
+    m: &Message,
+    port: Port,
+    desk: &mut D,
+)
+    requires tick { tick ≤ 2 ^ 61 }
+    requires room { 2 * length station.old.peers + 16 ≤ D.spare desk.old }
+    ensures row { (took : Option Received) → took ≡ Some (record { from = Peer from; taken = Good (MessageOf m.now) }) → Performs SlaveStands SlaveStands (candidate_takes_so_far from m.now) tick port
+        (station.old, (last.old, (clock.now, took))) (station.new, (last.new, (clock.now, took))) (D.acts desk.old) (D.acts desk.new) }
+    ensures spare { D.spare desk.old ≤ D.spare desk.new + 3 }
+    ensures few { length (D.acts desk.new) ≤ length (D.acts desk.old) + 3 }
+    ensures me { station.new.me ≡ station.old.me }
+    ensures peers { station.new.peers ≡ station.old.peers }
+{
+    match m.kind() {
+        Kind::MasterUp | Kind::MasterAck => {
+            follow(station, last, clock, tick, from, m.name(), port, desk)
+        }
+        Kind::Election => station.post(from, Kind::Refuse, m.number(), port, desk),
+        Kind::Accept => take_accept(station, from, m.number(), port, desk),
+        Kind::Refuse => take_refuse(station, tick, from, m.number(), port, desk),
+        Kind::Ack => station.acknowledge(from, m.number(), port, desk),
+        _ => {}
+    }
+}
