@@ -1,0 +1,6 @@
+pub mod ConfigLemmas
+pub mod DueLemmas
+pub mod HearLemmas
+pub mod NodeLemmas
+pub mod RingLemmas
+pub mod SilentRows

@@ -1,0 +1,19 @@
+-- Each alarm has its row.
+use Rattle.std.proofs.Common.{◌≡◌}
+use Rattle.tsp_rules.specs.Answers.{alarm_rings}
+use Rattle.tsp_slave.specs.SlaveAlarms.{slave_rings}
+use Rattle.tsp_node.proofs.RingLemmas.{slave_rings-is}
+use Rattle.tsp_node.proofs.ringing.ring_alarm.Goals as goal
+
+pub returns-in-Elect-clause-row : goal.returns-in-Elect-clause-row
+unfolding alarm_rings
+returns-in-Elect-clause-row g c = rw c.in-Elect.is c.ring_elect.ensures.row
+
+pub returns-in-Window-clause-row : goal.returns-in-Window-clause-row
+unfolding alarm_rings
+returns-in-Window-clause-row g c = rw c.in-Window.is c.candidate_ring.ensures.row
+
+pub returns-in_default-clause-row : goal.returns-in_default-clause-row
+returns-in_default-clause-row g c =
+    let same : slave_rings c.args.alarm ≡ alarm_rings c.args.alarm = slave_rings-is c.args.alarm c.requires.built c.in_default.not-Elect c.in_default.not-Window in
+    rw same at c.slave_ring.ensures.row

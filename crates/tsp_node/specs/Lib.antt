@@ -1,0 +1,5 @@
+pub mod Configs
+pub mod Inputs
+pub mod NodeStands
+pub mod Ringing
+pub mod Takings

@@ -1,0 +1,76 @@
+//! What a node is on a port.
+ghost use Rattle.std.specs.Prelude.{◌≡◌, ◌+◌, ◌≤◌, ◌^◌, ℤ, Some, None, [], ◌∷◌, IfOk, length};
+ghost use Rattle.tsp_base.specs.declared.act.Act.TheVariants.{Boot, Become};
+ghost use Rattle.tsp_base.specs.declared.alarm.Alarm.TheVariants.{Quiet};
+ghost use Rattle.tsp_base.specs.declared.constants.TheConstants.{QUIET};
+ghost use Rattle.tsp_base.specs.declared.role.Role.TheVariants.{Starting};
+ghost use Rattle.tsp_base.specs.History.{Past, Booted};
+ghost use Rattle.tsp_base.specs.Performs.{Performs};
+ghost use Rattle.tsp_base.specs.Rows.{grown, puts, arms, ◌followed_by◌};
+ghost use Rattle.tsp_acks.specs.Peers.{IsPeers};
+ghost use Rattle.tsp_acks.specs.Stands.{IsPortOf};
+ghost use Rattle.tsp_clock.specs.Clocks.{ClockValue};
+ghost use Rattle.tsp_clock.specs.ClockStands.{ClockStands};
+
+use std::alloc::{AllocError, Global};
+use tsp_acks::me::Me;
+use tsp_acks::station::Station;
+use tsp_base::alarm::Alarm;
+use tsp_base::constants::QUIET;
+use tsp_base::desk::Desk;
+use tsp_base::place::{PeerId, Port};
+use tsp_base::role::Role;
+use tsp_slave::last::Last;
+
+/// What a node is on a port: what all its roles share, and what it remembers of corrections.
+#[derive(Drop)]
+pub struct Part {
+    pub(crate) station: Station,
+    pub(crate) last: Last,
+}
+
+impl Part {
+    ghost use Rattle.tsp_node.specs.NodeStands.{PartStands};
+
+    /// A port of a node that boots at this tick. The answer is an error only where memory is wanting.
+    pub fn new(alloc: Global, me: Me, peers: &[PeerId], tick: u64) -> Result<Part, AllocError>
+        requires { IsPeers peers.now }
+        ensures peers { IfOk result (λ part. part.station.peers ≡ peers.now) }
+        ensures stands { IfOk result (λ part. (past : Past) (wall : ℤ) (clock : ClockValue) → IsPortOf me peers.now past → past.step.cause ≡ Booted me.word wall →
+            ClockStands (grown tick past (Boot ∷ [])) clock → PartStands (grown tick past (Boot ∷ [])) (part, clock)) }
+    {
+        let station = Station::new(alloc, me, peers, tick)?;
+        Ok(Part {
+            station,
+            last: Last::new(),
+        })
+    }
+
+    /// Begins a life right after its boot, at that tick: Starting, until the quiet time ends.
+    pub fn begin<D: Desk>(&mut self, tick: u64, port: Port, desk: &mut D)
+        requires room { 2 ≤ D.spare desk.old }
+        requires tick { tick ≤ 2 ^ 61 }
+        ensures row { (clock : ClockValue) → Performs PartStands PartStands (puts (Become Starting) followed_by arms Quiet QUIET) tick port (self.old, clock) (self.new, clock) (D.acts desk.old) (D.acts desk.new) }
+        ensures peers { self.new.station.peers ≡ self.old.station.peers }
+        ensures spare { D.spare desk.new + 2 ≡ D.spare desk.old }
+        ensures few { length (D.acts desk.new) ≡ length (D.acts desk.old) + 2 }
+    {
+        self.station.become_role(Role::Starting, port, desk);
+        self.station.arm(Alarm::Quiet, tick, QUIET, port, desk);
+    }
+
+    /// Notes a correction that no message of a master to this port made.
+    pub fn moved(&mut self, tick: u64)
+        ensures station { self.new.station ≡ self.old.station }
+        ensures last { self.new.last ≡ record { tick = Some tick; taken = None; name = self.old.last.name } }
+    {
+        self.last.moved(tick);
+    }
+
+    /// What all its roles share.
+    pub fn station(&self) -> &Station
+        ensures { result.now ≡ self.now.station }
+    {
+        &self.station
+    }
+}

@@ -1,0 +1,53 @@
+//! How a stamp request is answered.
+ghost use Rattle.std.specs.Prelude.{◌≡◌, ◌+◌, ◌≤◌, ◌^◌, true, false, IfSome, IfNone, length};
+ghost use Rattle.tsp_base.specs.Performs.{Performs};
+ghost use Rattle.tsp_rules.specs.CommonRows.{replies};
+ghost use Rattle.tsp_rules.specs.Tests.{is_clock_value};
+ghost use Rattle.tsp_clock.specs.Clocks.{target_of};
+ghost use Rattle.tsp_node.specs.declared.part.Part.{Part};
+ghost use Rattle.tsp_node.specs.NodeStands.{PartStands};
+
+use tsp_base::act::Act;
+use tsp_base::datagram::Datagram;
+use tsp_base::desk::Desk;
+use tsp_base::place::{Place, Port};
+use tsp_base::stamp::Stamp;
+use tsp_clock::clock::{Clock, is_clock_value};
+
+/// Answers a request with the clock's ticket and target, unless the target has left the range of clocks.
+pub(crate) fn reply<D: Desk>(
+    clock: &Clock,
+    tick: u64,
+    from: Place,
+    word: u64,
+    counter: u64,
+    port: Port,
+    desk: &mut D,
+)
+    requires room { 1 ≤ D.spare desk.old }
+    requires tick { tick ≤ 2 ^ 61 }
+    requires later { clock.now.at ≤ tick }
+    ensures row { (part : Part) → Performs PartStands PartStands (replies from word counter) tick port (part, clock.now) (part, clock.now) (D.acts desk.old) (D.acts desk.new) }
+    ensures spare { D.spare desk.old ≤ D.spare desk.new + 1 }
+    ensures few { length (D.acts desk.new) ≤ length (D.acts desk.old) + 1 }
+{
+    match stamp_at(clock, tick, word, counter) {
+        Some(stamp) => desk.put(port, Act::Post(from, Datagram::Stamp(stamp))),
+        None => {}
+    }
+}
+
+/// The reply to a request at a tick; None exactly where the target isn't a clock's value.
+fn stamp_at(clock: &Clock, tick: u64, word: u64, counter: u64) -> Option<Stamp>
+    requires tick { tick ≤ 2 ^ 61 }
+    requires later { clock.now.at ≤ tick }
+    ensures there { IfSome result (λ s. (is_clock_value (target_of clock.now tick) ≡ true) × (s ≡ Stamp.Reply (record { ticket = clock.now.ticket; word = word; counter = counter; reading = target_of clock.now tick }))) }
+    ensures none { IfNone result (is_clock_value (target_of clock.now tick) ≡ false) }
+{
+    let target = clock.target(tick);
+    if is_clock_value(target) {
+        Stamp::reply(clock.ticket(), word, counter, target)
+    } else {
+        None
+    }
+}
