@@ -26,9 +26,10 @@ use Rattle.tsp_fit.specs.PortFits.{PortFits}
 use Rattle.tsp_fit.proofs.Known.{Rests}
 use Rattle.tsp_fit.proofs.CorrectionLeads.{Fresh}
 use Rattle.tsp_fit.proofs.AnswerLeads.{boots_lead, begins_fresh, rests_later, rests_seen, nothing-done}
+use Rattle.tsp_fit.proofs.SoFarLeads.{so_far_leads}
 use Rattle.tsp_world.specs.declared.arrival.Arrival.{Arrival}
 use Rattle.tsp_world.specs.declared.posted.Posted.{Posted}
-use Rattle.tsp_world.specs.Answers.{answers_so_far}
+use Rattle.tsp_rules.specs.SoFar.{answers_so_far}
 use Rattle.tsp_world.specs.Refusals.{room, Valid, scene, refusal, actor, goes_to, down}
 use Rattle.tsp_world.specs.Run.{run, joins, joined, line_of, happening, steps, step_tick, boot_step, event_at, last_at, posts, reaches, arrives, arrives_at, node_at}
 use Rattle.tsp_world.specs.Setting.{SetBy, RunsFit}
@@ -36,9 +37,10 @@ use Rattle.tsp_world.specs.Setup.{node_line, past_of, first_port}
 use Rattle.tsp_world.specs.WorldStands.{rests}
 use Rattle.tsp_world.proofs.RefusalLemmas.{some_same, allowed, up-down}
 use Rattle.tsp_world.proofs.RunLemmas.{joins-own, joins-other}
+use Rattle.tsp_world.proofs.SetupLemmas.{length-peers_below}
 use Rattle.tsp_world.proofs.FitsLines.{OnFirst, all_end, AllAlive, acts_fit, mark_line, of-first, port-first}
 use Rattle.tsp_world.proofs.PostPlaces.{length-posts, post_at}
-use Rattle.tsp_world.proofs.AnswersFit.{StepOk, so_far_leads, turn_ok, got_ok}
+use Rattle.tsp_world.proofs.AnswersFit.{StepOk, turn_ok, got_ok}
 
 -- what is known of a run: its lines fit, they are on the first port, its time is that of its last event, and each node is at rest
 record Ran (header : HeaderValue) (setting : Setting) (t : ℕ) (h : List Line) : Type 0 where
@@ -127,12 +129,12 @@ up_seen header before n e = up-down (scene header before) n e
 module _ {header : HeaderValue} {setting : Setting} (set : SetBy header setting) where
   by_answers : (before : List Event) (e : Event) (step : Step) (g : Given) → Ran header setting (last_at before) (run header before) → refusal (scene header before) e ≡ None → actor (scene header before) e ≡ Some step.node →
       (scene header before).last ≤ step.at → up (dids (of step.node (run header before))) ≡ true →
-      ((past : Past) → StepOk (length header.nodes) setting step (step_tick header step) (run header before) true (answers_so_far g (step_tick header step) past)) →
+      ((past : Past) → length past.peers ≡ length header.nodes → StepOk (length header.nodes) setting step (step_tick header step) (run header before) true (answers_so_far g (step_tick header step) past)) →
       Ran header setting step.at (joins (Some (steps header (run header before) (answers_so_far g) step)) (run header before))
   by_answers before e step g r none acts later is_up ok =
       stepped header setting (last_at before) (run header before) step (answers_so_far g) set r later (few_posts header before e step.node none acts) (so_far_leads g)
       (subst (λ b. StepOk (length header.nodes) setting step (step_tick header step) (run header before) b (answers_so_far g (step_tick header step) (in_step step (step_tick header step) (past_of header step (run header before))))) (sym is_up)
-      (ok (in_step step (step_tick header step) (past_of header step (run header before)))))
+      (ok (in_step step (step_tick header step) (past_of header step (run header before))) (length-peers_below (length header.nodes))))
 
   to-peer : (nodes : ℕ) (to : Place) (n : ℕ) → node_at nodes to ≡ Some n → to ≡ Peer (peer_of n)
   to-peer nodes (Peer p) n e = by_case (nat_lt p.0 nodes) e where
@@ -175,7 +177,7 @@ module _ {header : HeaderValue} {setting : Setting} (set : SetBy header setting)
         let is_up : up (dids (of n (run header before))) ≡ true = up_seen header before n (ap (λ q. down (scene header before).up q) (sym goes) ∙ allow.up) in
         subst (λ b. Ran header setting at (joins (reaches header (run header before) at k (Some b)) (run header before))) (some_same f)
         (by_answers before (Take at k) (record { at = at; node = n; cause = Came k }) (Got (Peer (record { 0 = p.from })) (Good p.datagram)) r none goes allow.time is_up
-        (λ past. got_ok (length header.nodes) setting (record { at = at; node = n; cause = Came k }) (step_tick header (record { at = at; node = n; cause = Came k })) (run header before) past (Peer (record { 0 = p.from })) (Good p.datagram) (came before at k p n r.first there is)))
+        (λ past all. got_ok (length header.nodes) setting (record { at = at; node = n; cause = Came k }) (step_tick header (record { at = at; node = n; cause = Came k })) (run header before) past (Peer (record { 0 = p.from })) (Good p.datagram) all (came before at k p n r.first there is)))
 
   event_ran : (before : List Event) (e : Event) → Ran header setting (last_at before) (run header before) → refusal (scene header before) e ≡ None → Ran header setting (event_at e) (joins (happening header (run header before) e) (run header before))
   event_ran before (BootAt at node word) r none =
@@ -186,12 +188,12 @@ module _ {header : HeaderValue} {setting : Setting} (set : SetBy header setting)
   event_ran before (Turn at node) r none =
       let allow = allowed (scene header before) (Turn at node) none in
       let step : Step = record { at = at; node = node; cause = Turned } in
-      by_answers before (Turn at node) step NoInput r none refl allow.time (up_seen header before node allow.up) (λ past. turn_ok (length header.nodes) setting step (step_tick header step) (run header before) past)
+      by_answers before (Turn at node) step NoInput r none refl allow.time (up_seen header before node allow.up) (λ past all. turn_ok (length header.nodes) setting step (step_tick header step) (run header before) past all)
   event_ran before (Take at k) r none = taken_step before at k (slice_get (posts (run header before)) k) r none refl _ refl
   event_ran before (Bytes at node port from octets) r none =
       let allow = allowed (scene header before) (Bytes at node port from octets) none in
       let step : Step = record { at = at; node = node; cause = Handed } in
-      by_answers before (Bytes at node port from octets) step (Got from (taken_of octets)) r none refl allow.time (up_seen header before node allow.up) (λ past. got_ok (length header.nodes) setting step (step_tick header step) (run header before) past from (taken_of octets) tt)
+      by_answers before (Bytes at node port from octets) step (Got from (taken_of octets)) r none refl allow.time (up_seen header before node allow.up) (λ past all. got_ok (length header.nodes) setting step (step_tick header step) (run header before) past from (taken_of octets) all tt)
 
   ran : (events : List Event) → Valid header events → Ran header setting (last_at events) (run header events)
   ran [] v = record { fits = tt; first = tt; time = omega arith; nodes = λ n. nothing-done (tick_at (setting.rate n) 0) (past_of header (rests n) []) }

@@ -1,37 +1,28 @@
 -- How a world stands for one event more.
 use Rattle.std.specs.Prelude.{◌≡◌, ◌≢◌, ℕ, ◌<◌, ◌≤◌, ◌==◌, Bool, true, false, List, [], ◌∷◌, ◌++◌, length, Option, None, Some, slice_get, vec_len}
-use Rattle.std.proofs.Common.{refl, sym, ap, ◌∙◌, arith, subst, inl, inr, eq-eqb, eqb-true, true≢false, ◌+ℤ◌}
+use Rattle.std.proofs.Common.{refl, sym, ap, ◌∙◌, arith, subst, inl, inr, eq-eqb, eqb-true, true≢false, length-set}
 use Rattle.std.proofs.lemmas.Bool.{ne_eqb, cases_lt}
 use Rattle.std.proofs.lemmas.Option.{slice_get-get_or}
+use Rattle.std.proofs.Math.ListN.{set}
 use Rattle.tsp_base.specs.declared.act.Act.{Act}
 use Rattle.tsp_base.specs.declared.act.Placed.{Placed}
 use Rattle.tsp_base.specs.declared.event.Event.{Event}
 use Rattle.tsp_base.specs.Headers.{HeaderValue}
 use Rattle.tsp_base.specs.History.{Step, Past, Line, of, view, dids, plain}
-use Rattle.tsp_base.specs.NodeFacts.{up, ticket, base, moved}
+use Rattle.tsp_base.specs.NodeFacts.{up}
 use Rattle.tsp_base.specs.Performs.{Performs}
 use Rattle.tsp_base.specs.Rows.{Row, placed, grown, in_step}
-use Rattle.tsp_world.specs.declared.node.Node.{Node}
+use Rattle.tsp_node.specs.declared.node.Node.{Node}
 use Rattle.tsp_world.specs.declared.world.World.{World}
-use Rattle.tsp_world.specs.NodeStands.{NodeStands, OwnStands}
+use Rattle.tsp_node.specs.NodeStands.{NodeStands}
 use Rattle.tsp_world.specs.Refusals.{scene, refusal}
 use Rattle.tsp_world.specs.Run.{run, joins, happening, steps, step_tick, event_at}
 use Rattle.tsp_world.specs.Setup.{past_of, first_port}
-use Rattle.tsp_world.specs.WorldStands.{WorldStands, PlaceStands, Notes, Passes, rests, up_at, is_node, scene_of}
+use Rattle.tsp_world.specs.WorldStands.{WorldStands, PlaceStands, UpBegun, UpStands, Notes, Passes, rests, up_at, is_node, scene_of}
+use Rattle.tsp_world.proofs.NodeLemmas.{NodeStands-step, Begun-in_step}
 use Rattle.tsp_world.proofs.RefusalLemmas.{Alike, some_same}
 use Rattle.tsp_world.proofs.RunLemmas.{joins-own, joins-other, posts-joins, up-added, up-seen}
-
--- what a node stands for rests on what its port has seen
-pub NodeStands-seen : (past now : Past) (node : Node) → past.seen ≡ now.seen → NodeStands past node → NodeStands now node
-NodeStands-seen past now node e h = record {
-  ticket_is = h.ticket_is ∙ ap (λ s. ticket (plain s)) e;
-  offset_is = h.offset_is ∙ ap (λ s. base (plain s) +ℤ moved (plain s)) e;
-}
-
--- a step begins
-pub OwnStands-begun : (header : HeaderValue) (history : List Line) (step : Step) (x : ℕ) (node : Node) → NodeStands (past_of header (rests step.node) history) node →
-    OwnStands (record { 0 = step.node }) (in_step step x (past_of header step history)) node
-OwnStands-begun header history step x node h = record { own_is = refl; stands = record { ticket_is = h.ticket_is; offset_is = h.offset_is } }
+use Rattle.tsp_world.proofs.SetCases.{set_cases}
 
 -- what the place of a node stands for after a step by this row
 pub PlaceStands-acted : (header : HeaderValue) (history : List Line) (row : Row) (step : Step) (node : Node) →
@@ -45,7 +36,7 @@ PlaceStands-acted header history row step node h u =
     let seen = joins-own step.node step x (row x past) history (eq-eqb step.node step.node refl) in
     let now = joins (Some (steps header history row step)) history in (
       up-seen step.node now ∙ ap (λ s. up (plain s)) seen ∙ u,
-      NodeStands-seen (grown x past (row x past)) (past_of header (rests step.node) now) node (sym seen) h,
+      subst (λ s. NodeStands (record (past_of header (rests step.node) history) { seen = s }) node) (sym seen) (NodeStands-step (rests step.node) (grown x past (row x past)) node h),
     )
 
 -- and what that of another node does
@@ -58,7 +49,7 @@ PlaceStands-other header history row step n place other h =
     let same : of n (joins (Some (steps header history row step)) history) ≡ of n history = joins-other n step x acts history (ne_eqb step.node n (λ e. other (sym e))) in
     by_place place h same where
       by_place : (place : Option Node) → PlaceStands header history n place → of n (joins (Some (steps header history row step)) history) ≡ of n history → PlaceStands header (joins (Some (steps header history row step)) history) n place
-      by_place (Some node) h same = (rw same h.0, NodeStands-seen _ _ node (ap (λ l. view first_port l) (sym same)) h.1)
+      by_place (Some node) h same = (rw same h.0, subst (λ l. NodeStands (record (past_of header (rests n) history) { seen = view first_port l }) node) (sym same) h.1)
       by_place None h same = rw same h
 
 by_node : (header : HeaderValue) (history : List Line) (row : Row) (step : Step) (nodes : List (Option Node)) (n : ℕ) (place : Option Node) → slice_get nodes n ≡ Some place →
@@ -106,29 +97,40 @@ up_place places n None e up = absurd (true≢false (sym up))
 up_place places n (Some None) e up = absurd (true≢false (sym up))
 up_place places n (Some (Some node)) e up = (node, e)
 
--- a world whose node, which is up, has acted by a row that leaves it as it is
-pub WorldStands-handed : (header : HeaderValue) (events : List Event) (e : Event) (row : Row) (step : Step) (old new : World) (acts : List Placed) →
+-- a node that is up begins a step
+UpBegun-from : (header : HeaderValue) (history : List Line) (step : Step) (x : ℕ) (place : Option Node) (node : Node) → place ≡ Some node → NodeStands (past_of header (rests step.node) history) node → UpBegun (in_step step x (past_of header step history)) place
+UpBegun-from header history step x place node is h =
+    subst (λ p. UpBegun (in_step step x (past_of header step history)) p) (sym is) (Begun-in_step step x (past_of header step history) node (NodeStands-step step (past_of header (rests step.node) history) node h))
+
+-- and ends it
+PlaceStands-ended : (header : HeaderValue) (history : List Line) (row : Row) (step : Step) (place : Option Node) →
+    let x = step_tick header step in
+    let past = in_step step x (past_of header step history) in
+    UpStands (grown x past (row x past)) place → up (plain (grown x past (row x past)).seen) ≡ true → PlaceStands header (joins (Some (steps header history row step)) history) step.node place
+PlaceStands-ended header history row step None h u = absurd h
+PlaceStands-ended header history row step (Some node) h u = PlaceStands-acted header history row step node h u
+
+-- a world whose node, which is up, has acted by a row
+pub WorldStands-handed : (header : HeaderValue) (events : List Event) (e : Event) (row : Row) (step : Step) (old new : World) (before after : Option Node) (acts : List Placed) →
     WorldStands header events old → refusal (scene header events) e ≡ None → happening header (run header events) e ≡ Some (steps header (run header events) row step) →
-    event_at e ≡ step.at → step.node < length header.nodes → old.desk.placed.items ≡ [] → up_at old.nodes.items step.node ≡ true →
-    ((node : Node) → slice_get old.nodes.items step.node ≡ Some (Some node) →
-    Performs (OwnStands (record { 0 = step.node })) (OwnStands (record { 0 = step.node })) row (step_tick header step) first_port node node old.desk.placed.items acts) →
-    Notes step.at step.node (step_tick header step) old.header old.nodes.items old.events old.sent.items acts new → WorldStands header (e ∷ events) new
-WorldStands-handed header events e row step old new acts w none happens at inside idle is_up performs noted =
+    event_at e ≡ step.at → step.node < length header.nodes → old.desk.placed.items ≡ [] → up_at old.nodes.items step.node ≡ true → slice_get old.nodes.items step.node ≡ Some before →
+    Performs UpBegun UpStands row (step_tick header step) first_port before after old.desk.placed.items acts →
+    Notes step.at step.node (step_tick header step) old.header (set old.nodes.items step.node after) old.events old.sent.items acts new → WorldStands header (e ∷ events) new
+WorldStands-handed header events e row step old new before after acts w none happens at inside idle is_up there did noted =
     let x : ℕ = step_tick header step in
     let past : Past = in_step step x (past_of header step (run header events)) in
-    let there = up_place old.nodes.items step.node (slice_get old.nodes.items step.node) refl is_up in
-    let node : Node = there.0 in
-    let stood : PlaceStands header (run header events) step.node (Some node) = w.nodes step.node (Some node) there.1 in
-    let begun : OwnStands (record { 0 = step.node }) past node = OwnStands-begun header (run header events) step x node stood.1 in
-    let did = performs node there.1 in
-    let now : OwnStands (record { 0 = step.node }) (grown x past (row x past)) node = did.stands past begun in
+    let found = up_place old.nodes.items step.node (slice_get old.nodes.items step.node) refl is_up in
+    let stood : PlaceStands header (run header events) step.node (Some found.0) = w.nodes step.node (Some found.0) found.1 in
+    let begun : UpBegun past before = UpBegun-from header (run header events) step x before found.0 (some_same (sym there ∙ found.1)) stood.1 in
+    let now : UpStands (grown x past (row x past)) after = did.stands past begun in
     let acts_are : acts ≡ placed first_port (row x past) = did.acts past begun ∙ ap (λ ps. ps ++ placed first_port (row x past)) idle in
     let is_up_now : up (plain (grown x past (row x past)).seen) ≡ true = up-added step x (row x past) past.seen (sym (up-seen step.node (run header events)) ∙ stood.0) in
-    WorldStands-acted header events e row step old new old.nodes.items acts w none happens at inside refl acts_are noted
-    (λ place is.
-    let same : Some node ≡ place = some_same (sym there.1 ∙ is) in
-    subst (λ p. PlaceStands header (joins (Some (steps header (run header events) row step)) (run header events)) step.node p) same (PlaceStands-acted header (run header events) row step node now.stands is_up_now))
-    (λ n place q is. is)
+    WorldStands-acted header events e row step old new (set old.nodes.items step.node after) acts w none happens at inside (length-set old.nodes.items step.node after) acts_are noted
+    (λ place is. elim (set_cases old.nodes.items step.node step.node after place is) [
+      | inl h ↦ subst (λ p. PlaceStands header (joins (Some (steps header (run header events) row step)) (run header events)) step.node p) h.1 (PlaceStands-ended header (run header events) row step after now is_up_now)
+      | inr h ↦ absurd (h.0 refl)
+    ])
+    (λ n place other is. elim (set_cases old.nodes.items step.node n after place is) [ inl h ↦ absurd (other (sym h.0)) | inr h ↦ h.1 ])
 
 -- and so does one that has noted an event at which nobody acts
 pub WorldStands-passed : (header : HeaderValue) (events : List Event) (e : Event) (old new : World) → WorldStands header events old → refusal (scene header events) e ≡ None → happening header (run header events) e ≡ None → Passes (event_at e) old new → WorldStands header (e ∷ events) new

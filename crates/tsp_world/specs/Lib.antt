@@ -1,5 +1,4 @@
-pub mod Answers
-pub mod NodeStands
+pub mod NodesReady
 pub mod Refusals
 pub mod Run
 pub mod Setting

@@ -18,7 +18,7 @@ use Rattle.tsp_world.specs.declared.line.Line.{Line as ToldLine}
 use Rattle.tsp_world.specs.declared.posted.Posted.{Posted}
 use Rattle.tsp_rules.specs.Answers.{Turn as NoInput, Got}
 use Rattle.tsp_rules.specs.CommonRows.{boots}
-use Rattle.tsp_world.specs.Answers.{answers_so_far}
+use Rattle.tsp_rules.specs.SoFar.{answers_so_far}
 use Rattle.tsp_world.specs.Setup.{node_line, past_of, first_port}
 
 -- the time of an event

@@ -5,6 +5,7 @@ use Rattle.tsp_base.specs.declared.place.PeerId.{PeerId}
 use Rattle.tsp_base.specs.declared.place.Port.{Port}
 use Rattle.tsp_base.specs.Headers.{HeaderValue}
 use Rattle.tsp_base.specs.History.{Step, Line, Past, of, view}
+use Rattle.tsp_node.specs.Configs.{ConfigValue}
 
 -- a node without a name, which stands for a number that no node has
 abbrev pub nobody : NodeLine
@@ -18,6 +19,20 @@ node_line header n = slice_index_or header.nodes n nobody
 abbrev pub peers_below : ℕ → List PeerId
 peers_below zero = []
 peers_below (suc n) = peers_below n ++ record { 0 = n } ∷ []
+
+-- what a node is set up with: every node has all nodes as peers
+abbrev pub config_of : HeaderValue → ℕ → ConfigValue
+config_of header n = record {
+  name = (node_line header n).name;
+  own = record { 0 = n };
+  peers = peers_below (length header.nodes);
+  may = (node_line header n).may;
+}
+
+-- what the nodes with numbers below this one are set up with, in order
+abbrev pub configs_below : HeaderValue → ℕ → List ConfigValue
+configs_below header zero = []
+configs_below header (suc n) = configs_below header n ++ config_of header n ∷ []
 
 -- the only port of a node
 abbrev pub first_port : Port

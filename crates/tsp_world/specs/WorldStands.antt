@@ -3,13 +3,13 @@ use Rattle.std.specs.Prelude.{◌≡◌, ℕ, ◌+◌, ◌≤◌, Bool, true, fa
 use Rattle.tsp_base.specs.declared.act.Placed.{Placed}
 use Rattle.tsp_base.specs.declared.event.Event.{Event}
 use Rattle.tsp_base.specs.Headers.{HeaderValue}
-use Rattle.tsp_base.specs.History.{Cause, Step, Turned, Line, of, dids}
+use Rattle.tsp_base.specs.History.{Cause, Step, Turned, Line, Past, of, dids}
 use Rattle.tsp_base.specs.NodeFacts.{up}
 use Rattle.tsp_base.specs.Rows.{Row}
-use Rattle.tsp_world.specs.declared.node.Node.{Node}
+use Rattle.tsp_node.specs.declared.node.Node.{Node}
 use Rattle.tsp_world.specs.declared.posted.Posted.{Posted}
 use Rattle.tsp_world.specs.declared.world.World.{World}
-use Rattle.tsp_world.specs.NodeStands.{NodeStands}
+use Rattle.tsp_node.specs.NodeStands.{NodeStands, Begun}
 use Rattle.tsp_world.specs.Refusals.{Scene, Valid, scene, refusal, room}
 use Rattle.tsp_world.specs.Run.{run, posts, last_at, gained, event_at, happening, steps, posts_from, told_from}
 use Rattle.tsp_world.specs.Setup.{past_of}
@@ -22,6 +22,16 @@ rests n = record { at = 0; node = n; cause = Turned }
 abbrev pub PlaceStands : HeaderValue → List Line → ℕ → Option Node → Type 0
 PlaceStands header history n (Some node) = (up (dids (of n history)) ≡ true) × NodeStands (past_of header (rests n) history) node
 PlaceStands header history n None = up (dids (of n history)) ≡ false
+
+-- a place whose node is up and stands for this past
+abbrev pub UpStands : Past → Option Node → Type 0
+UpStands past None = ⊥
+UpStands past (Some node) = NodeStands past node
+
+-- a place whose node is up, and whose step has just begun
+abbrev pub UpBegun : Past → Option Node → Type 0
+UpBegun past None = ⊥
+UpBegun past (Some node) = Begun past node
 
 -- whether a place of the world's nodes has a node that is up
 abbrev pub is_node : Option (Option Node) → Bool
@@ -55,6 +65,10 @@ pub record IsReady (world : World) : Type 0 where
   pub lines : room (vec_len world.nodes) ≤ vec_capacity world.lines
   pub sent : vec_len world.sent + room (vec_len world.nodes) ≤ vec_capacity world.sent
 
+-- the world stands for what it stood for
+abbrev pub Stays : World → World → Type 0
+Stays old new = (header : HeaderValue) (events : List Event) → WorldStands header events old → WorldStands header events new
+
 -- an event has happened
 abbrev pub Happens : Event → World → World → Type 0
 Happens e old new = (header : HeaderValue) (events : List Event) → WorldStands header events old → refusal (scene header events) e ≡ None → WorldStands header (e ∷ events) new
@@ -73,7 +87,7 @@ pub record CanNote (world : World) : Type 0 where
   pub few_events : world.events < 200000
   pub few_posts : vec_len world.sent + room (vec_len world.nodes) ≤ 1000000
 
--- an event was noted by a world with this header, these nodes, so many events and these posts: its time, and these acts as lines and as posts
+-- an event at this time was noted by a world with this header, these nodes, so many events and these posts: these acts as lines and as posts
 pub record Notes (at node tick : ℕ) (header : HeaderValue) (nodes : List (Option Node)) (events : ℕ) (sent : List Posted) (acts : List Placed) (new : World) : Type 0 where
   pub header_is : new.header ≡ header
   pub nodes_are : new.nodes.items ≡ nodes

@@ -21,12 +21,15 @@ returns-in-Some-clause-fault c = λ header events w. inl (sym (refuses header ev
 pub returns-then-is_err-clause-fault : goal.returns-then-is_err-clause-fault
 returns-then-is_err-clause-fault c = λ header events w. inr (sym (refuses header events c.args.self.now c.args.e.now w) ∙ sym c.refusal.ensures ∙ c.in_default.is, refl)
 
-pub returns-clause-stands : goal.returns-clause-stands
-returns-clause-stands c = λ header events w.
-    c.happen.ensures header events (c.make_room.ensures.stands header events w) (sym (refuses header events c.args.self.now c.args.e.now w) ∙ sym c.refusal.ensures ∙ c.in_default.is)
+pub returns-in-Err-clause-fault : goal.returns-in-Err-clause-fault
+returns-in-Err-clause-fault c = λ header events w. inr (sym (refuses header events c.args.self.now c.args.e.now w) ∙ sym c.refusal.ensures ∙ c.in_default.is, refl)
 
-pub returns-clause-fault : goal.returns-clause-fault
-returns-clause-fault c = λ header events w. sym (refuses header events c.args.self.now c.args.e.now w) ∙ sym c.refusal.ensures ∙ c.in_default.is
+pub returns-in-Ok-clause-stands : goal.returns-in-Ok-clause-stands
+returns-in-Ok-clause-stands c = λ header events w.
+    c.in-Ok.ensures.happens header events (c.make_room.ensures.stands header events w) (sym (refuses header events c.args.self.now c.args.e.now w) ∙ sym c.refusal.ensures ∙ c.in_default.is)
 
-pub returns-clause-safe : goal.returns-clause-safe
-returns-clause-safe c = λ header events setting w set. runs-safe header setting (c.args.e.now ∷ events) set (returns-clause-stands c header events w).valid
+pub returns-in-Ok-clause-fault : goal.returns-in-Ok-clause-fault
+returns-in-Ok-clause-fault c = λ header events w. sym (refuses header events c.args.self.now c.args.e.now w) ∙ sym c.refusal.ensures ∙ c.in_default.is
+
+pub returns-in-Ok-clause-safe : goal.returns-in-Ok-clause-safe
+returns-in-Ok-clause-safe c = λ header events setting w set. runs-safe header setting (c.args.e.now ∷ events) set (returns-in-Ok-clause-stands c header events w).valid

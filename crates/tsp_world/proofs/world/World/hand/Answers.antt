@@ -1,25 +1,55 @@
 -- The node takes what was read, by its row.
-use Rattle.std.proofs.Common.{◌≡◌, ◌∙◌, ap, subst, Some, rules, vec_len, length}
-use Rattle.std.proofs.lemmas.Option.{get_or_from_slice_get}
+use Rattle.std.proofs.Common.{◌≡◌, ◌≤◌, ◌∙◌, ap, subst, arith, Some, rules, vec_len, length, slice_get}
+use Rattle.std.proofs.Math.ListN.{set}
 use Rattle.tsp_base.specs.Performs.{Performs}
 use Rattle.tsp_base.specs.Ticks.{tick_at}
 use Rattle.tsp_rules.specs.Answers.{Got}
-use Rattle.tsp_world.specs.Answers.{answers_so_far}
-use Rattle.tsp_world.specs.NodeStands.{OwnStands}
+use Rattle.tsp_rules.specs.SoFar.{answers_so_far}
+use Rattle.tsp_world.specs.NodesReady.{PlaceReady}
+use Rattle.tsp_world.specs.Refusals.{room}
 use Rattle.tsp_world.specs.Setup.{node_line, first_port}
-use Rattle.tsp_world.specs.WorldStands.{Notes}
+use Rattle.tsp_world.specs.WorldStands.{Notes, UpBegun, UpStands}
+use Rattle.tsp_world.proofs.ReadyLemmas.{NodesReady-later, NodesReady-set, CanAct-ready, PlaceReady-acts, place_there}
 use Rattle.tsp_world.proofs.WorldLemmas.{WorldStands-handed, in_header}
 use Rattle.tsp_world.proofs.world.World.hand.Goals as goal
+use Rattle.tsp_world.proofs.world.World.hand.Goals.{After-index_mut-place}
+
+there : (c : After-index_mut-place) → slice_get c.args.self.now.nodes.items c.args.node ≡ Some c.index_mut-place.result.now
+there c = place_there c.args.self.now c.args.node c.index_mut-place.result.now c.requires.node (search rules) c.index_mut-place.ensures.value
+
+ready : (c : After-index_mut-place) → PlaceReady (length c.args.self.now.header.nodes) c.tick-tick.result c.index_mut-place.result.now
+ready c = PlaceReady-acts c.args.self.now c.args.node c.args.at c.tick-tick.result c.index_mut-place.result.now c.requires.order c.tick-tick.ensures.tick (there c)
+
+pub take-requires-clause-able : goal.take-requires-clause-able
+take-requires-clause-able c = CanAct-ready (length c.args.self.now.header.nodes) c.tick-tick.result c.args.self.now.desk.spare c.index_mut-place.result.now (ready (goal.at.take-requires-clause-able c).After-index_mut-place)
+    (subst (λ k. room k ≤ c.args.self.now.desk.spare) c.args.self.now.places c.requires.ready.desk)
+
+pub invariant_of-self-clause-ready : goal.invariant_of-self-clause-ready
+invariant_of-self-clause-ready c = NodesReady-set c.args.node c.take.new.place (NodesReady-later c.requires.order c.args.self.now.ready)
+    (subst (λ t. PlaceReady (length c.args.self.now.header.nodes) t c.take.new.place) c.tick-tick.ensures.tick (c.take.ensures.ready (length c.args.self.now.header.nodes) (ready (goal.at.invariant_of-self-clause-ready c).After-index_mut-place)))
+
+pub note-requires : goal.note-requires
+note-requires c =
+    let world = c.args.self.now in
+    let few = c.take.ensures.few (length world.header.nodes) (ready (goal.at.note-requires c).After-index_mut-place) in
+    let none = ap (λ ps. length ps) c.requires.ready.idle in
+    let count = world.places in
+    record {
+      acts = omega (arith, few, none, count);
+      lines = c.requires.ready.lines;
+      sent = c.requires.ready.sent;
+      few_events = c.requires.events;
+      few_posts = c.requires.posts;
+    }
 
 pub returns : goal.returns
 returns c cause header events e w at none up happens =
     let world = c.args.self.now in
     let len : vec_len world.nodes ≡ length world.nodes.items = search rules in
     let tick_is = c.tick-tick.ensures.tick ∙ ap (λ h. tick_at (node_line h c.args.node).rate c.args.at) w.header_is in
-    let acts = c.step.new.desk.placed.items in
-    WorldStands-handed header events e (answers_so_far (Got c.args.from c.args.taken.now)) (record { at = c.args.at; node = c.args.node; cause = cause }) world c.note.new.self acts
-    w none happens at (in_header header events world len w c.args.node c.requires.node) c.requires.ready.idle up
-    (λ node is.
-    let there : c.index-place.result.now ≡ Some node = c.index-place.ensures ∙ get_or_from_slice_get world.nodes.items c.args.node (Some node) c.index-place.result.now is in
-    subst (λ t. Performs (OwnStands (record { 0 = c.args.node })) (OwnStands (record { 0 = c.args.node })) (answers_so_far (Got c.args.from c.args.taken.now)) t first_port node node world.desk.placed.items acts) tick_is (c.step.ensures.row node there))
-    (subst (λ t. Notes c.args.at c.args.node t world.header world.nodes.items world.events world.sent.items acts c.note.new.self) tick_is c.note.ensures)
+    let row = answers_so_far (Got c.args.from c.args.taken.now) in
+    let acts = c.take.new.desk.placed.items in
+    WorldStands-handed header events e row (record { at = c.args.at; node = c.args.node; cause = cause }) world c.note.new.self c.index_mut-place.result.now c.take.new.place acts
+    w none happens at (in_header header events world len w c.args.node c.requires.node) c.requires.ready.idle up (there (goal.at.returns c).After-index_mut-place)
+    (subst (λ t. Performs UpBegun UpStands row t first_port c.index_mut-place.result.now c.take.new.place world.desk.placed.items acts) tick_is c.take.ensures.row)
+    (subst (λ t. Notes c.args.at c.args.node t world.header (set world.nodes.items c.args.node c.take.new.place) world.events world.sent.items acts c.note.new.self) tick_is c.note.ensures)

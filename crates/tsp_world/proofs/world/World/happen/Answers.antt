@@ -6,7 +6,7 @@ use Rattle.tsp_base.specs.History.{Handed}
 use Rattle.tsp_codec.specs.Taken.{taken_of}
 use Rattle.tsp_rules.specs.Answers.{Got}
 use Rattle.tsp_world.specs.declared.world.World.{World}
-use Rattle.tsp_world.specs.Answers.{answers_so_far}
+use Rattle.tsp_rules.specs.SoFar.{answers_so_far}
 use Rattle.tsp_world.specs.Refusals.{Allowed, scene, actor, room}
 use Rattle.tsp_world.specs.WorldStands.{scene_of, HappensBy}
 use Rattle.tsp_world.proofs.RefusalLemmas.{refusal-none, up-down}
@@ -37,8 +37,8 @@ bytes-requires-clause-node c = (subst (λ e. Allowed (scene_of c.args.self.now) 
 pub bytes-requires-clause-posts : goal.bytes-requires-clause-posts
 bytes-requires-clause-posts c = posts_room c.args.self.now _ c.in-Bytes.node (subst (λ e. Allowed (scene_of c.args.self.now) e) c.in-Bytes.is c.requires.allowed) refl
 
-pub returns-in-Bytes : goal.returns-in-Bytes
-returns-in-Bytes c header events =
+pub returns-in-Bytes-clause-happens : goal.returns-in-Bytes-clause-happens
+returns-in-Bytes-clause-happens c header events =
     let world = c.args.self.now in
     let at = c.in-Bytes.at in
     let node = c.in-Bytes.node in

@@ -1,0 +1,27 @@
+-- No node is up, and each is set up as the header says.
+use Rattle.std.proofs.Common.{◌≡◌, refl, sym, subst, rules, Some, None, slice_get, []}
+use Rattle.tsp_world.specs.WorldStands.{PlaceStands}
+use Rattle.tsp_world.proofs.SetCases.{slice_get-replicate}
+use Rattle.tsp_world.proofs.world.World.new.Goals as goal
+
+pub invariant_of-result-clause-ready : goal.invariant_of-result-clause-ready
+invariant_of-result-clause-ready c = record {
+  header_is = c.nodes-items.ensures.valid;
+  configs_are = c.in_ok-configs.ensures;
+  places = λ n place is node up.
+      let none = slice_get-replicate c.loop.index n None place (subst (λ ps. slice_get ps n ≡ Some place) c.loop.invariant.none is) in
+      let bad : ⊥ = cc in absurd bad;
+}
+
+pub returns : goal.returns
+returns c = record {
+  header_is = refl;
+  valid = tt;
+  count = refl;
+  last = refl;
+  sent = c.new.ensures.items;
+  lines = c.new-2.ensures.items;
+  places = search rules;
+  nodes = λ n place is. subst (λ p. PlaceStands c.args.header [] n p) (sym (slice_get-replicate c.loop.index n None place (subst (λ ps. slice_get ps n ≡ Some place) c.loop.invariant.none is))) refl;
+  nobody = λ n past. refl;
+}
