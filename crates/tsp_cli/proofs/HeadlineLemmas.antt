@@ -1,5 +1,5 @@
 -- From what a replay comes to, to the headline.
-use Rattle.std.specs.Prelude.{◌≡◌, ◌⊎◌, ℕ, List, [], ◌∷◌, ◌++◌, reverse, Option}
+use Rattle.std.specs.Prelude.{◌≡◌, ◌⊎◌, ℕ, List, [], ◌∷◌, ◌++◌, reverse, Option, All}
 use Rattle.std.proofs.Common.{sym, ap, ◌∙◌, inl, inr, subst, append-nil, arith, length, take, drop, take-append-drop, ◌<◌, map, get_or}
 use Rattle.std.proofs.lemmas.List.{length-drop}
 use Rattle.tsp_base.specs.declared.event.Event.{Event}
@@ -9,7 +9,7 @@ use Rattle.tsp_replay.specs.Schedules.{Progress, Untitled, Titled, Heading, Runn
 use Rattle.tsp_replay.specs.Traces.{written_at, trace}
 use Rattle.tsp_world.specs.Refusals.{Valid}
 use Rattle.tsp_world.proofs.RunSafe.{runs-safe}
-use Rattle.tsp_lines.specs.Lines.{AreLines, IsInput, IsOver}
+use Rattle.tsp_lines.specs.Lines.{NoFeed, AreLines, IsInput, IsOver}
 use Rattle.tsp_lines.specs.Meanings.{Meaning}
 use Rattle.tsp_lines.specs.Outcomes.{Comes}
 use Rattle.tsp_lines.specs.declared.treat.Outcome.{Outcome}
@@ -47,15 +47,15 @@ Reaches-valid [] p r = subst (λ q. KeepsValid q) (sym r) tt
 Reaches-valid (line ∷ before) p r = goes_valid r.0 line p (Reaches-valid before r.0 r.1) r.2
 
 done_prints : (p : Progress) (input left written now : Option (List ℕ)) (lines : List (List ℕ)) (octets text said : List ℕ)
-    → Reaches (reverse lines) p → text ≡ written_at p → IsEnded p → said ≡ [] → AreLines octets lines → IsInput input octets → IsOver left → Grows written now (text ++ said) → PrintsHistory input left written now
-done_prints Untitled input left written now lines octets text said r t e s a i o g = absurd e
-done_prints Titled input left written now lines octets text said r t e s a i o g = absurd e
-done_prints (Heading header) input left written now lines octets text said r t e s a i o g = absurd e
-done_prints (Running header events) input left written now lines octets text said r t e s a i o g = absurd e
-done_prints (Ended header events) input left written now lines octets text said r t e s a i o g =
+    → All NoFeed lines → Reaches (reverse lines) p → text ≡ written_at p → IsEnded p → said ≡ [] → AreLines octets lines → IsInput input octets → IsOver left → Grows written now (text ++ said) → PrintsHistory input left written now
+done_prints Untitled input left written now lines octets text said n r t e s a i o g = absurd e
+done_prints Titled input left written now lines octets text said n r t e s a i o g = absurd e
+done_prints (Heading header) input left written now lines octets text said n r t e s a i o g = absurd e
+done_prints (Running header events) input left written now lines octets text said n r t e s a i o g = absurd e
+done_prints (Ended header events) input left written now lines octets text said n r t e s a i o g =
     let valid : Valid header events = Reaches-valid (reverse lines) (Ended header events) r in
     let all : text ++ said ≡ trace header events = ap (λ l. text ++ l) s ∙ append-nil text ∙ t in
-    (header, events, octets, i, (lines, a, r), valid, o, subst (λ l. Grows written now l) all g, λ setting set. runs-safe header setting events set valid)
+    (header, events, octets, i, (lines, n, a, r), valid, o, subst (λ l. Grows written now l) all g, λ setting set. runs-safe header setting events set valid)
 
 -- a replay that ends well printed the history of a schedule
 pub Comes-prints : (input left written now : Option (List ℕ)) → Comes replaying 67108864 input left written now Done → PrintsHistory input left written now
@@ -63,7 +63,7 @@ Comes-prints input left written now c =
     let w = c.0 in
     let accepts = w.4 in
     let done = w.5 in
-    done_prints accepts.0 input left written now w.0 done.0 w.1 w.2 accepts.1 accepts.2 (done.3.0 accepts.0 accepts.1) done.3.1 done.1 done.2 c.1 w.6
+    done_prints accepts.0 input left written now w.0 done.0 w.1 w.2 w.3 accepts.1 accepts.2 (done.3.0 accepts.0 accepts.1) done.3.1 done.1 done.2 c.1 w.6
 
 -- where a replay's status is the best, it printed the history of a schedule
 pub EndsAs-prints : (input left written now : Option (List ℕ)) (status : Status) → EndsAs replaying input left written now status → status ≡ Ok → PrintsHistory input left written now

@@ -1,7 +1,8 @@
 -- The words of commands, and what a command comes to.
-use Rattle.std.specs.Prelude.{◌≡◌, ◌≢◌, ◌⊎◌, ℕ, ◌<◌, List, [], ◌∷◌, ◌++◌, length, Option, codes}
+use Rattle.std.specs.Prelude.{◌≡◌, ◌≢◌, ◌⊎◌, ℕ, ◌<◌, ◌≤◌, List, [], ◌∷◌, ◌++◌, length, Option, Some, codes}
 use Rattle.tsp_cli.specs.declared.status.Status.{Status}
 use Rattle.tsp_cli.specs.declared.status.Status.TheVariants.{Ok, Usage, Bad, ReadFault, WriteFault, LinkFault, NoAnswer, Limit, OutOfMemory}
+use Rattle.tsp_io.specs.Counts.{Rose}
 use Rattle.tsp_io.specs.Streams.{Grows}
 use Rattle.tsp_lines.specs.declared.treat.Outcome.TheVariants.{Ok as Done, Bad as Refused, ReadFault as NotRead, WriteFault as NotWritten, Limit as Limited, OutOfMemory as NoMemory}
 use Rattle.tsp_lines.specs.Meanings.{Meaning}
@@ -28,3 +29,8 @@ abbrev pub Says : List ℕ → Status → Option (List ℕ) → Option (List ℕ
 Says text status written now answer =
     ((answer ≡ status) × Grows written now text)
     ⊎ (((answer ≡ WriteFault) ⊎ (answer ≡ OutOfMemory)) × ((part : List ℕ) × (rest : List ℕ) × (0 < length rest) × (text ≡ part ++ rest) × Grows written now part))
+
+-- where the input is told, has at most 64 MiB and is such a text, and no count of faults rose, the status is Ok, or there was no memory
+abbrev pub Completes : (List ℕ → Type 0) → Option (List ℕ) → ℕ → ℕ → ℕ → ℕ → Status → Type 0
+Completes IsText input reads reads_now writes writes_now status =
+    (octets : List ℕ) → input ≡ Some octets → length octets ≤ 67108864 → IsText octets → ¬ Rose reads reads_now → ¬ Rose writes writes_now → (status ≡ Ok) ⊎ (status ≡ OutOfMemory)

@@ -1,20 +1,16 @@
 -- The headline: what a replay that ends well has read and written.
-use Rattle.std.specs.Prelude.{ℕ, List, reverse, Option}
+use Rattle.std.specs.Prelude.{ℕ, List, Option}
 use Rattle.tsp_base.specs.declared.event.Event.{Event}
 use Rattle.tsp_base.specs.Headers.{HeaderValue}
 use Rattle.tsp_base.specs.Safe.{Safe}
 use Rattle.tsp_base.specs.Setting.{Setting}
 use Rattle.tsp_io.specs.Streams.{Grows}
-use Rattle.tsp_lines.specs.Lines.{AreLines, IsInput, IsOver}
-use Rattle.tsp_replay.specs.Schedules.{Ended, Reaches}
+use Rattle.tsp_lines.specs.Lines.{IsInput, IsOver}
+use Rattle.tsp_replay.specs.Meaning.{IsSchedule}
 use Rattle.tsp_replay.specs.Traces.{trace}
 use Rattle.tsp_world.specs.Refusals.{Valid}
 use Rattle.tsp_world.specs.Run.{run}
 use Rattle.tsp_world.specs.Setting.{SetBy}
-
--- octets are the text of a schedule: a header, events, the newest first, and the last line
-abbrev pub IsSchedule : List ℕ → HeaderValue → List Event → Type 0
-IsSchedule octets header events = (lines : List (List ℕ)) × AreLines octets lines × Reaches (reverse lines) (Ended header events)
 
 -- the input was the text of a schedule of which no event is refused, nothing of it is left, and what was written is exactly the trace of its run, whose history keeps the promises
 abbrev pub PrintsHistory : Option (List ℕ) → Option (List ℕ) → Option (List ℕ) → Option (List ℕ) → Type 0

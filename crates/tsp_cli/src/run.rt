@@ -1,10 +1,10 @@
 //! The top call.
 ghost use Rattle.std.specs.Prelude.{◌≡◌, ◌≤◌, ◌⊎◌, List, [], ◌∷◌, ◌++◌, ℕ, false, map, codes, string_bytes};
 ghost use Rattle.tsp_io.specs.Counts.{Rose};
-ghost use Rattle.tsp_convert.specs.Packs.{pack_meaning};
-ghost use Rattle.tsp_convert.specs.Shows.{show_meaning};
-ghost use Rattle.tsp_replay.specs.Meaning.{replaying};
-ghost use Rattle.tsp_cli.specs.Commands.{IsNoCommand, EndsAs, Says};
+ghost use Rattle.tsp_convert.specs.Packs.{AreMessageLines, pack_meaning};
+ghost use Rattle.tsp_convert.specs.Shows.{AreHexLines, show_meaning};
+ghost use Rattle.tsp_replay.specs.Meaning.{IsScheduleText, replaying};
+ghost use Rattle.tsp_cli.specs.Commands.{IsNoCommand, EndsAs, Says, Completes};
 ghost use Rattle.tsp_cli.specs.Headline.{PrintsHistory};
 ghost use Rattle.tsp_cli.specs.Usage.{usage_line};
 
@@ -34,7 +34,8 @@ pub fn say<K: Sink>(sink: &mut K, text: &[u8], status: Status) -> Status
 /// Does what the words after the program's name ask for.
 ///
 /// `replay`, `show` and `pack`, each alone, read the source to its end and write to the sink; any other
-/// words are `Usage`, and nothing is read.
+/// words are `Usage`, and nothing is read. An input of at most 64 MiB of which nothing is refused ends
+/// with `Ok`, if no read and no write fails and there is memory.
 pub fn run<S: Source, K: Sink>(
     alloc: Global,
     words: &[String],
@@ -46,6 +47,9 @@ pub fn run<S: Source, K: Sink>(
     ensures headline { map string_bytes words.now ≡ codes "replay" ∷ [] → result ≡ Status.Ok → PrintsHistory (S.left source.old) (S.left source.new) (K.written sink.old) (K.written sink.new) }
     ensures shows { map string_bytes words.now ≡ codes "show" ∷ [] → EndsAs show_meaning (S.left source.old) (S.left source.new) (K.written sink.old) (K.written sink.new) result }
     ensures packs { map string_bytes words.now ≡ codes "pack" ∷ [] → EndsAs pack_meaning (S.left source.old) (S.left source.new) (K.written sink.old) (K.written sink.new) result }
+    ensures complete { map string_bytes words.now ≡ codes "replay" ∷ [] → Completes IsScheduleText (S.left source.old) (S.faults source.old) (S.faults source.new) (K.faults sink.old) (K.faults sink.new) result }
+    ensures complete_show { map string_bytes words.now ≡ codes "show" ∷ [] → Completes AreHexLines (S.left source.old) (S.faults source.old) (S.faults source.new) (K.faults sink.old) (K.faults sink.new) result }
+    ensures complete_pack { map string_bytes words.now ≡ codes "pack" ∷ [] → Completes AreMessageLines (S.left source.old) (S.faults source.old) (S.faults source.new) (K.faults sink.old) (K.faults sink.new) result }
     ensures usage { IsNoCommand (map string_bytes words.now) → Says usage_line Status.Usage (K.written sink.old) (K.written sink.new) result × (source.new ≡ source.old) }
     ensures later { (S.faults source.old ≤ S.faults source.new) × (K.faults sink.old ≤ K.faults sink.new) }
     ensures read { result ≡ Status.ReadFault → Rose (S.faults source.old) (S.faults source.new) × (S.ended source.new ≡ false) }
@@ -63,6 +67,9 @@ fn run_word<S: Source, K: Sink>(alloc: Global, word: &str, source: &mut S, sink:
     ensures replays { word.now ≡ codes "replay" → EndsAs replaying (S.left source.old) (S.left source.new) (K.written sink.old) (K.written sink.new) result }
     ensures shows { word.now ≡ codes "show" → EndsAs show_meaning (S.left source.old) (S.left source.new) (K.written sink.old) (K.written sink.new) result }
     ensures packs { word.now ≡ codes "pack" → EndsAs pack_meaning (S.left source.old) (S.left source.new) (K.written sink.old) (K.written sink.new) result }
+    ensures complete { word.now ≡ codes "replay" → Completes IsScheduleText (S.left source.old) (S.faults source.old) (S.faults source.new) (K.faults sink.old) (K.faults sink.new) result }
+    ensures complete_show { word.now ≡ codes "show" → Completes AreHexLines (S.left source.old) (S.faults source.old) (S.faults source.new) (K.faults sink.old) (K.faults sink.new) result }
+    ensures complete_pack { word.now ≡ codes "pack" → Completes AreMessageLines (S.left source.old) (S.faults source.old) (S.faults source.new) (K.faults sink.old) (K.faults sink.new) result }
     ensures usage { IsNoCommand (word.now ∷ []) → Says usage_line Status.Usage (K.written sink.old) (K.written sink.new) result × (source.new ≡ source.old) }
     ensures later { (S.faults source.old ≤ S.faults source.new) × (K.faults sink.old ≤ K.faults sink.new) }
     ensures read { result ≡ Status.ReadFault → Rose (S.faults source.old) (S.faults source.new) × (S.ended source.new ≡ false) }

@@ -138,6 +138,21 @@ fn other_runs_end(rt: HostRuntime) {
     }
 }
 
+/// The first read gives the first five lines of the schedule, 66 octets, and the second one fails: what
+/// those lines write is written, and no more.
+#[test]
+fn a_failed_read_ends_the_replay(rt: HostRuntime) -> Result<(), AllocError> {
+    let alloc = rt.alloc();
+    let mut words = Vec::new(alloc);
+    words.push(String::from_str(alloc, "replay")?)?;
+    let mut source = MemorySource::new(alloc, ANSWERS.as_bytes(), &[1])?.in_pieces(66);
+    let mut sink = MemorySink::new(alloc, &[])?;
+    let status = run(alloc, words.as_slice(), &mut source, &mut sink);
+    let written = "1 0 0 0 boot\n1 0 0 0 become starting\n1 0 0 0 arm quiet 80000000\n";
+    assert!(rt; status == Status::ReadFault && sink.written() == written.as_bytes());
+    Ok(())
+}
+
 /// A line of 1,100 octets behind a node's line is refused where it ends.
 #[test]
 fn long_lines_are_refused(rt: HostRuntime) -> Result<(), AllocError> {

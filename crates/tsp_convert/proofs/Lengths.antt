@@ -1,8 +1,7 @@
 -- How long a message line is at most.
-use Rattle.std.proofs.Common.{ℕ, ◌*◌, ◌^◌, ◌<◌, ◌≤◌, List, [], ◌∷◌, ◌++◌, suc, Bool, true, false, length, arith, length-append}
+use Rattle.std.proofs.Common.{ℕ, ◌*◌, ◌^◌, ◌<◌, ◌≤◌, List, [], ◌∷◌, ◌++◌, Bool, true, false, length, arith, length-append}
 use Rattle.std.specs.Prelude.{ℤ, pos, negsuc, ◌≤ℤ◌, ◌<ℤ◌, decimal, codes, flat_map, if◌then◌else◌}
 use Rattle.std.specs.Fmt.{signed_decimal}
-use Rattle.std.proofs.lemmas.Fmt.{length-decimal-le}
 use Rattle.std.proofs.lemmas.Int.{ints}
 use Rattle.hex.specs.Hex.{encode_lower, encode_with}
 use Rattle.tsp_base.specs.Kinds.{kind_word}
@@ -16,6 +15,7 @@ use Rattle.tsp_base.specs.declared.message.Body.TheVariants.{Nothing, Time, Hops
 use Rattle.tsp_base.specs.declared.stamp.Stamp.TheVariants.{Request, Reply}
 use Rattle.tsp_base.specs.declared.datagram.Datagram.{Datagram}
 use Rattle.tsp_base.specs.declared.datagram.Datagram.TheVariants.{Message, Stamp}
+use Rattle.tsp_script.proofs.Lengths.{number_length, signed_length}
 use Rattle.tsp_script.specs.Ranges.{IsBody, IsMessage, IsDatagram}
 use Rattle.tsp_script.specs.Texts.{space, is_plain, escaped, name_text, body_text, message_line, reply_text, stamp_text, message_text}
 
@@ -23,9 +23,6 @@ word_length : (k : Kind) → length (kind_word k) ≤ 10
 unfolding kind_word
 word_length AdjTime = omega arith
 word_length _ = omega arith
-
-number_length : (n : ℕ) → n < 2 ^ 64 → length (decimal n) ≤ 20
-number_length n h = length-decimal-le 20 n (omega arith) (omega arith) h
 
 octet_length : (b : Bool) (c : ℕ) → length (if b then c ∷ [] else 37 ∷ encode_lower (c ∷ [])) ≤ 3
 unfolding encode_with
@@ -40,14 +37,14 @@ name_length : (name : List ℕ) → IsName name → length (name_text name) ≤ 
 name_length [] h = omega arith
 name_length (c ∷ cs) h = omega (arith, octets_length (c ∷ cs), h.short)
 
--- a time of at most 63 bits, with its sign
-signed_length : (t : ℤ) → negsuc 2147483647999999 ≤ℤ t → t <ℤ pos 2147483648000000 → length (signed_decimal t) ≤ 20
-signed_length (pos n) low high = number_length n (omega (arith, ints, high))
-signed_length (negsuc n) low high = omega (arith, length-decimal-le 19 (suc n) (omega arith) (omega (arith, ints, low)) (omega (arith, ints, low)))
+-- a time of a message or a reply, with its sign
+time_length : (t : ℤ) → negsuc 2147483647999999 ≤ℤ t → t <ℤ pos 2147483648000000 → length (signed_decimal t) ≤ 20
+time_length (pos n) low high = signed_length (pos n) (omega (arith, ints, high))
+time_length (negsuc n) low high = signed_length (negsuc n) (omega (arith, ints, low))
 
 body_length : (b : Body) → IsBody b → length (body_text b) ≤ 21
 body_length Nothing h = omega arith
-body_length (Time t) h = omega (arith, length-append (signed_decimal t) space, signed_length t h.low h.high)
+body_length (Time t) h = omega (arith, length-append (signed_decimal t) space, time_length t h.low h.high)
 body_length (Hops n) h = omega (arith, length-append (decimal n) space, number_length n (omega (arith, h)))
 
 message_length : (m : MessageValue) → IsMessage m → length (message_line m) ≤ 242
@@ -87,7 +84,7 @@ reply_length r w c v = omega (
   number_length r.ticket (omega (arith, v.small)),
   number_length r.word w,
   number_length r.counter c,
-  signed_length r.reading (omega (arith, ints, v.low)) v.high,
+  time_length r.reading (omega (arith, ints, v.low)) v.high,
 )
 
 -- a message line has at most 242 octets

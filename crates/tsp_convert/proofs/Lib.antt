@@ -4,3 +4,4 @@ mod NamesApart
 mod LinesApart
 mod InRanges
 mod Hexes
+mod Unrefusals

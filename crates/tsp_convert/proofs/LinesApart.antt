@@ -19,11 +19,11 @@ use Rattle.tsp_base.specs.declared.datagram.Datagram.TheVariants.{Message, Stamp
 use Rattle.tsp_script.specs.Ranges.{IsBody, IsMessage, IsDatagram}
 use Rattle.tsp_script.specs.Texts.{space, body_text, name_text, message_line, reply_text, stamp_text, message_text}
 use Rattle.tsp_script.proofs.Bodies.{time_body, hops_body}
-use Rattle.tsp_script.proofs.Cuts.{no_space-decimal, no_space-signed}
+use Rattle.tsp_script.proofs.Apart.{words_apart, numbers_apart, signs_apart}
 use Rattle.tsp_script.proofs.KindWords.{kind_word-injective, kind_word-not_request, kind_word-not_reply, no_space-kind_word, no_space-spaceless}
 use Rattle.tsp_script.proofs.MessageLines.{message_rest, request_rest, reply_rest, message_of_parts}
 use Rattle.tsp_convert.specs.Packs.{IsLineOf}
-use Rattle.tsp_convert.proofs.NamesApart.{words_apart, name_text-injective}
+use Rattle.tsp_convert.proofs.NamesApart.{name_text-injective}
 
 abbrev IsShort : ℤ → Type 0
 IsShort t = (negsuc 2147483647999999 ≤ℤ t) × (t <ℤ pos 2147483648000000)
@@ -36,15 +36,8 @@ small : (t : ℤ) → IsShort t → mag t < 2 ^ 63
 small (pos n) h = omega (arith, ints, h.1)
 small (negsuc n) h = omega (arith, ints, h.0)
 
-numbers_apart : (m n : ℕ) (r s : List ℕ) → m < 2 ^ 64 → n < 2 ^ 64 → decimal m ++ 32 ∷ r ≡ decimal n ++ 32 ∷ s → (m ≡ n) × (r ≡ s)
-numbers_apart m n r s h k e =
-    let p = words_apart (decimal m) (decimal n) r s (no_space-decimal m h) (no_space-decimal n k) e in
-    (decimal_injective m n h k p.0, p.1)
-
 times_apart : (t u : ℤ) (r s : List ℕ) → IsShort t → IsShort u → signed_decimal t ++ 32 ∷ r ≡ signed_decimal u ++ 32 ∷ s → (t ≡ u) × (r ≡ s)
-times_apart t u r s h k e =
-    let p = words_apart (signed_decimal t) (signed_decimal u) r s (no_space-signed t (fits t h)) (no_space-signed u (fits u k)) e in
-    (signed_decimal_injective t u (small t h) (small u k) p.0, p.1)
+times_apart t u r s h k e = signs_apart t u r s (fits t h) (fits u k) (small t h) (small u k) e
 
 spaced : (w r : List ℕ) → (w ++ space) ++ r ≡ w ++ 32 ∷ r
 spaced w r = append_assoc w space r

@@ -1,18 +1,10 @@
--- Texts that are the same have the same words and the same names.
+-- Texts that are the same are one name's.
 use Rattle.std.proofs.Common.{◌≡◌, ℕ, ◌<◌, List, [], ◌∷◌, ◌++◌, suc, Bool, true, false, Ok, take, drop, refl, sym, ap, ◌∙◌}
-use Rattle.std.specs.Prelude.{Contains, flat_map, if◌then◌else◌}
+use Rattle.std.specs.Prelude.{flat_map, if◌then◌else◌}
 use Rattle.hex.specs.Hex.{encode_lower, encode_with, decode_of, IsBytes}
 use Rattle.hex.proofs.HexLemmas.{decode_of-encode_lower}
 use Rattle.tsp_script.specs.Texts.{is_plain, escaped, name_text}
-use Rattle.tsp_script.proofs.Cuts.{cut_front}
 use Rattle.tsp_script.proofs.NameTexts.{IsBytes-one, escaped_some, name_empty}
-
--- words in front of a space
-pub words_apart : (v w r s : List ℕ) → ¬ Contains v 32 → ¬ Contains w 32 → v ++ 32 ∷ r ≡ w ++ 32 ∷ s → (v ≡ w) × (r ≡ s)
-words_apart v w r s n m e =
-    let p = cut_front (v ++ 32 ∷ r) v r n refl in
-    let q = cut_front (v ++ 32 ∷ r) w s m e in
-    (sym p.0 ∙ q.0, sym p.1 ∙ q.1)
 
 true_false : (b : Bool) → b ≡ true → b ≡ false → ⊥
 true_false b p q = cc

@@ -1,10 +1,10 @@
 -- What `pack` makes of lines.
 use Rattle.std.specs.Prelude.{◌≡◌, ℕ, List, [], map, codes}
-use Rattle.std.specs.List.{AllZip}
+use Rattle.std.specs.List.{All, AllZip}
 use Rattle.hex.specs.Hex.{encode_lower}
 use Rattle.tsp_base.specs.declared.datagram.Datagram.{Datagram}
 use Rattle.tsp_codec.specs.Canon.{canon}
-use Rattle.tsp_lines.specs.Lines.{closed}
+use Rattle.tsp_lines.specs.Lines.{NoFeed, closed, AreLines}
 use Rattle.tsp_lines.specs.Meanings.{Meaning}
 use Rattle.tsp_script.specs.Ranges.{IsDatagram}
 use Rattle.tsp_script.specs.Texts.{message_text}
@@ -30,3 +30,7 @@ pack_meaning = record {
   ends = λ lines more. more ≡ [];
   lacks = λ lines cause. ⊥;
 }
+
+-- octets are message lines of datagrams, a datagram a line
+abbrev pub AreMessageLines : List ℕ → Type 0
+AreMessageLines octets = (lines : List (List ℕ)) × (datagrams : List Datagram) × All NoFeed lines × AreLines octets lines × AllZip IsLineOf lines datagrams

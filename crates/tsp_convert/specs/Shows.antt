@@ -1,12 +1,12 @@
 -- What `show` makes of lines.
 use Rattle.std.specs.Prelude.{◌≡◌, ℕ, ◌<◌, ◌≤◌, ◌⊎◌, List, [], length, map, codes, Ok, IsErr}
-use Rattle.std.specs.List.{AllZip}
+use Rattle.std.specs.List.{All, AllZip}
 use Rattle.hex.specs.Hex.{decode_of}
 use Rattle.tsp_base.specs.declared.datagram.Datagram.{Datagram}
 use Rattle.tsp_base.specs.declared.datagram.DecodeFault.{DecodeFault}
 use Rattle.tsp_codec.specs.Spelling.{Spells}
 use Rattle.tsp_codec.specs.Faults.{IsFault}
-use Rattle.tsp_lines.specs.Lines.{closed}
+use Rattle.tsp_lines.specs.Lines.{NoFeed, closed, AreLines}
 use Rattle.tsp_lines.specs.Meanings.{Meaning}
 use Rattle.tsp_script.specs.Texts.{message_text}
 use Rattle.tsp_script.specs.Traces.{fault_word}
@@ -41,3 +41,7 @@ show_meaning = record {
   ends = λ lines more. more ≡ [];
   lacks = λ lines cause. ⊥;
 }
+
+-- octets are lines of datagrams in hexadecimal, a datagram a line
+abbrev pub AreHexLines : List ℕ → Type 0
+AreHexLines octets = (lines : List (List ℕ)) × (datagrams : List Datagram) × All NoFeed lines × AreLines octets lines × AllZip IsHexOf lines datagrams

@@ -1,9 +1,9 @@
 //! The conversion of a whole input.
-ghost use Rattle.std.specs.Prelude.{◌≡◌, ◌≤◌, false};
+ghost use Rattle.std.specs.Prelude.{◌≡◌, ◌≤◌, ◌⊎◌, ℕ, List, length, false};
 ghost use Rattle.tsp_io.specs.Counts.{Rose};
 ghost use Rattle.tsp_lines.specs.Outcomes.{Comes};
-ghost use Rattle.tsp_convert.specs.Shows.{show_meaning};
-ghost use Rattle.tsp_convert.specs.Packs.{pack_meaning};
+ghost use Rattle.tsp_convert.specs.Shows.{AreHexLines, show_meaning};
+ghost use Rattle.tsp_convert.specs.Packs.{AreMessageLines, pack_meaning};
 
 use crate::pack::Pack;
 use crate::show::Show;
@@ -19,12 +19,15 @@ const LIMIT: u64 = 67_108_864;
 ///
 /// The first line that isn't hexadecimal of a datagram ends it with `bad LINE CAUSE`, where the cause is
 /// `hex` or the word of the datagram's fault. An input of more than 64 MiB ends it with `limit LINE`.
+/// Where every line is a datagram's, the answer is `Ok`, if nothing fails and there is memory.
 pub fn show<S: Source, K: Sink>(alloc: Global, source: &mut S, sink: &mut K) -> Outcome
     requires open { S.ended source.old ≡ false }
     ensures comes { Comes show_meaning 67108864 (S.left source.old) (S.left source.new) (K.written sink.old) (K.written sink.new) result }
     ensures later { (S.faults source.old ≤ S.faults source.new) × (K.faults sink.old ≤ K.faults sink.new) }
     ensures read { result ≡ Outcome.ReadFault → Rose (S.faults source.old) (S.faults source.new) × (S.ended source.new ≡ false) }
     ensures write { result ≡ Outcome.WriteFault → Rose (K.faults sink.old) (K.faults sink.new) }
+    ensures complete { (octets : List ℕ) → S.left source.old ≡ Some octets → length octets ≤ 67108864 → AreHexLines octets → ¬ Rose (S.faults source.old) (S.faults source.new) → ¬ Rose (K.faults sink.old) (K.faults sink.new)
+        → (result ≡ Outcome.Ok) ⊎ (result ≡ Outcome.OutOfMemory) }
 {
     treat_all(alloc, LIMIT, source, sink, &mut Show)
 }
@@ -32,13 +35,16 @@ pub fn show<S: Source, K: Sink>(alloc: Global, source: &mut S, sink: &mut K) -> 
 /// Reads message lines, and writes the octets of each one's datagram in hexadecimal.
 ///
 /// The first line that is no datagram's message line ends it with `bad LINE message`. An input of more
-/// than 64 MiB ends it with `limit LINE`.
+/// than 64 MiB ends it with `limit LINE`. Where every line is a datagram's, the answer is `Ok`, if
+/// nothing fails and there is memory.
 pub fn pack<S: Source, K: Sink>(alloc: Global, source: &mut S, sink: &mut K) -> Outcome
     requires open { S.ended source.old ≡ false }
     ensures comes { Comes pack_meaning 67108864 (S.left source.old) (S.left source.new) (K.written sink.old) (K.written sink.new) result }
     ensures later { (S.faults source.old ≤ S.faults source.new) × (K.faults sink.old ≤ K.faults sink.new) }
     ensures read { result ≡ Outcome.ReadFault → Rose (S.faults source.old) (S.faults source.new) × (S.ended source.new ≡ false) }
     ensures write { result ≡ Outcome.WriteFault → Rose (K.faults sink.old) (K.faults sink.new) }
+    ensures complete { (octets : List ℕ) → S.left source.old ≡ Some octets → length octets ≤ 67108864 → AreMessageLines octets → ¬ Rose (S.faults source.old) (S.faults source.new) → ¬ Rose (K.faults sink.old) (K.faults sink.new)
+        → (result ≡ Outcome.Ok) ⊎ (result ≡ Outcome.OutOfMemory) }
 {
     treat_all(alloc, LIMIT, source, sink, &mut Pack)
 }

@@ -9,3 +9,5 @@ pub mod Stops
 pub mod Passes
 pub mod Streams
 pub mod Buffers
+pub mod OneCut
+pub mod Unrefusals

@@ -1,5 +1,6 @@
 -- Laws of a long line that is passed over.
-use Rattle.std.proofs.Common.{◌≡◌, ◌≢◌, ℕ, ◌<◌, ◌+◌, List, [], ◌∷◌, ◌++◌, false, refl, sym, ap, ◌∙◌, append_assoc, append-nil, length, take, zero, suc, ◌≤◌, arith, length-append, inl, inr, subst}
+use Rattle.std.proofs.Common.{◌≡◌, ◌≢◌, ℕ, ◌<◌, ◌+◌, List, [], ◌∷◌, ◌++◌, false, refl, sym, ap, ◌∙◌, append_assoc, append-nil, length, take, arith, length-append, inl, inr, subst}
+use Rattle.std.proofs.lemmas.List.{take-append-le}
 use Rattle.std.proofs.lemmas.List.Elements.{Contains-append_cases}
 use Rattle.std.specs.declared.option.Option.{Option}
 use Rattle.tsp_io.specs.Streams.{Gives}
@@ -27,17 +28,11 @@ IsPassed-long_of r octets Failed p o f = absurd (f refl)
 abbrev pub keeping : ReaderValue → List ℕ → ReaderValue
 keeping r start = record r { start = start }
 
--- the first octets of a list are those of a longer one
-take-append : (xs ys : List ℕ) (n : ℕ) → n ≤ length xs → take n (xs ++ ys) ≡ take n xs
-take-append xs ys zero h = refl
-take-append [] ys (suc n) h = absurd (omega (arith, h))
-take-append (x ∷ xs) ys (suc n) h = ap (λ l. x ∷ l) (take-append xs ys n (omega (arith, h)))
-
 -- what is given behind a part of a long line is given of the whole
 pub IsNext-passed : (r : ReaderValue) (front octets start : List ℕ) (n : Next) → NoFeed front → 1024 < length front → start ≡ take 8 front → IsPassed r octets n → IsNext (keeping r start) (front ++ octets) n
 IsNext-passed r front octets start Line f l s p = absurd p
 IsNext-passed r front octets start Last f l s p = absurd p
-IsNext-passed r front octets start Long f l s p = (front ++ p.0, NoFeed-append front p.0 f p.1, omega (arith, length-append front p.0, l), ap (λ o. front ++ o) p.2 ∙ rw (append_assoc front p.0 (10 ∷ [])) (sym (append_assoc front (close p.0) r.held)), s ∙ sym (take-append front p.0 8 (omega (arith, l))))
+IsNext-passed r front octets start Long f l s p = (front ++ p.0, NoFeed-append front p.0 f p.1, omega (arith, length-append front p.0, l), ap (λ o. front ++ o) p.2 ∙ rw (append_assoc front p.0 (10 ∷ [])) (sym (append_assoc front (close p.0) r.held)), s ∙ sym (take-append-le 8 front p.0 (omega (arith, l))))
 IsNext-passed r front octets start LongLast f l s p = rw (p.0, append-nil front) (f, l, p.1, s)
 IsNext-passed r front octets start End f l s p = absurd p
 IsNext-passed r front octets start Limit f l s p = (p.0, (front ++ p.1.0, p.1.1, NoFeed-append front p.1.0 f p.1.2, ap (λ o. front ++ o) p.1.3 ∙ sym (append_assoc front p.1.0 (p.1.1 ∷ []))))
@@ -51,7 +46,7 @@ passed a b c r held octets more start got n l s g f h e p = (
   octets ++ more,
   Gives-trans a b c octets more g h,
   omega (arith, e, length-append octets more),
-  subst (λ o. IsNext (keeping r start) o n) (append_assoc held octets more) (IsNext-passed r (held ++ octets) more start n f (omega (arith, l, length-append held octets)) (s ∙ sym (take-append held octets 8 (omega (arith, l)))) p),
+  subst (λ o. IsNext (keeping r start) o n) (append_assoc held octets more) (IsNext-passed r (held ++ octets) more start n f (omega (arith, l, length-append held octets)) (s ∙ sym (take-append-le 8 held octets (omega (arith, l)))) p),
 )
 
 pub passed_more : (a b c : Option (List ℕ)) (held octets more : List ℕ) (got now : ℕ)

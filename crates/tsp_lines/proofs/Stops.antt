@@ -1,11 +1,10 @@
 -- Laws for the proofs of treatments: what `?` gives where octets weren't written.
-use Rattle.std.proofs.Common.{◌≡◌, ℕ, ◌⊎◌, inl, inr, List, [], ◌∷◌, ◌++◌, Ok, Err, refl, subst, sym}
+use Rattle.std.proofs.Common.{◌≡◌, ℕ, List, [], ◌∷◌, ◌++◌, Ok, Err, subst, sym}
 use Rattle.std.specs.Prelude.{MatchResult, IsErr}
 use Rattle.std.specs.Result.{IsErrAnd}
 use Rattle.std.specs.declared.option.Option.{Option}
 use Rattle.std.specs.declared.result.Result.{Result}
 use Rattle.tsp_lines.specs.Meanings.{Meaning, Breaks, StopsAt, StopsAtEnd, stop_of}
-use Rattle.tsp_lines.specs.Outputs.{Hands}
 use Rattle.tsp_lines.specs.declared.output.Unwritten.{Unwritten}
 use Rattle.tsp_lines.specs.declared.output.Unwritten.TheVariants.{WriteFault as NotWritten, OutOfMemory as NoMemory}
 use Rattle.tsp_lines.specs.declared.treatment.Stop.{Stop}

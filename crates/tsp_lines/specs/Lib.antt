@@ -4,3 +4,4 @@ pub mod Meanings
 pub mod Readings
 pub mod Outcomes
 pub mod Turns
+pub mod Unrefused

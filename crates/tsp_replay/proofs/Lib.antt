@@ -2,3 +2,4 @@ pub mod LongLines
 pub mod StageLemmas
 pub mod TraceLemmas
 pub mod TreatLemmas
+pub mod OneReading

@@ -1,8 +1,7 @@
 -- No line of a schedule has more than 1,024 octets.
-use Rattle.std.specs.Prelude.{◌≡◌, ℕ, ℤ, pos, negsuc, ◌^◌, ◌<◌, ◌≤◌, List, [], ◌∷◌, ◌++◌, length, take, drop, decimal, codes, nat_abs, Bool, true, false, MatchBool, ◌==◌, refl}
-use Rattle.std.proofs.Common.{sym, ap, ◌∙◌, inl, inr, suc, arith, length-append, append_assoc, take-append-drop, subst, eqb-true}
+use Rattle.std.specs.Prelude.{◌≡◌, ℕ, ◌<◌, ◌≤◌, List, [], ◌∷◌, ◌++◌, length, take, drop, decimal, codes, Bool, true, false, ◌==◌, refl}
+use Rattle.std.proofs.Common.{sym, ap, ◌∙◌, inl, inr, arith, length-append, append_assoc, take-append-drop, subst, eqb-true}
 use Rattle.std.specs.Fmt.{signed_decimal}
-use Rattle.std.proofs.lemmas.Fmt.{length-decimal-le}
 use Rattle.tsp_base.specs.declared.event.Event.{Event}
 use Rattle.tsp_base.specs.declared.event.Event.TheVariants.{Boot, Turn, Take, Bytes}
 use Rattle.tsp_base.specs.declared.header.NodeLine.{NodeLine}
@@ -17,17 +16,11 @@ use Rattle.tsp_script.specs.declared.head_line.HeadItem.{HeadItem}
 use Rattle.tsp_script.specs.declared.head_line.HeadItem.TheVariants.{Title, Drift, Node, NotHead}
 use Rattle.tsp_script.specs.Schedules.{event_text, node_text, flag_text, IsPlace, IsEvent, IsHexOf, IsNodeLine, SpellsEvent, SpellsHead}
 use Rattle.tsp_script.proofs.EventLines.{short_hex}
+use Rattle.tsp_script.proofs.Lengths.{number_length, signed_length}
 use Rattle.tsp_replay.specs.Schedules.{Progress, Untitled, Titled, Heading, Running, Ended, Refuses}
 use Rattle.tsp_replay.specs.Stages.{StageStands}
 use Rattle.tsp_replay.specs.declared.stage.Stage.TheVariants.{Titled as AtTitled, Heading as AtHeading, Running as AtRunning}
 use Rattle.tsp_world.specs.declared.world.World.{World}
-
-number_length : (n : ℕ) → n < 2 ^ 64 → length (decimal n) ≤ 20
-number_length n h = length-decimal-le 20 n (omega arith) (omega arith) h
-
-signed_length : (t : ℤ) → nat_abs t ≤ 1000000000000000 → length (signed_decimal t) ≤ 21
-signed_length (pos n) h = omega (arith, number_length n (omega (arith, h)))
-signed_length (negsuc n) h = omega (arith, number_length (suc n) (omega (arith, h)))
 
 place_length : (p : Place) → IsPlace p → length (place_text p) ≤ 20
 place_length (Peer p) h = number_length p.0 (omega (arith, h))
@@ -84,7 +77,7 @@ node_length : (n : NodeLine) → IsNodeLine n → length (node_text n) ≤ 1024
 node_length n i = omega (
   arith,
   signed_length n.rate (omega (arith, i.rate)),
-  signed_length n.wall i.wall,
+  signed_length n.wall (omega (arith, i.wall)),
   flag_length n.may,
   i.host.name.short,
   length-append (((((((codes "node ") ++ n.name) ++ space) ++ signed_decimal n.rate) ++ space) ++ signed_decimal n.wall) ++ space) (flag_text n.may),
@@ -159,15 +152,6 @@ Refuses-running Titled world line s l = absurd s
 Refuses-running (Heading header) world line s l = absurd s
 Refuses-running (Running header events) world line s l = inl (SpellsEvent-long line l, refl)
 Refuses-running (Ended header events) world line s l = absurd s
-
--- what a test says
-pub is_so : (P Q : Type 0) (b : Bool) → MatchBool b P Q → b ≡ true → P
-is_so P Q true h e = h
-is_so P Q false h e = cc
-
-pub is_not : (P Q : Type 0) (b : Bool) → MatchBool b P Q → b ≡ false → Q
-is_not P Q true h e = cc
-is_not P Q false h e = h
 
 pub nodes_none : (xs ys : List NodeLine) → xs ≡ ys → true ≡ (length xs == 0) → ys ≡ []
 nodes_none [] ys e t = sym e

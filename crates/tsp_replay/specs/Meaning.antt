@@ -1,8 +1,19 @@
 -- What lines mean to the replay of a schedule.
-use Rattle.std.specs.Prelude.{◌≡◌, ℕ, List, [], reverse}
+use Rattle.std.specs.Prelude.{◌≡◌, ℕ, List, [], reverse, All}
+use Rattle.tsp_base.specs.declared.event.Event.{Event}
+use Rattle.tsp_base.specs.Headers.{HeaderValue}
+use Rattle.tsp_lines.specs.Lines.{NoFeed, AreLines}
 use Rattle.tsp_lines.specs.Meanings.{Meaning}
-use Rattle.tsp_replay.specs.Schedules.{Progress, Reaches, Refuses, Limits, Lacks, IsEnded}
+use Rattle.tsp_replay.specs.Schedules.{Progress, Ended, Reaches, Refuses, Limits, Lacks, IsEnded}
 use Rattle.tsp_replay.specs.Traces.{written_at}
+
+-- octets are the text of a schedule: a header, events, the newest first, and the last line
+abbrev pub IsSchedule : List ℕ → HeaderValue → List Event → Type 0
+IsSchedule octets header events = (lines : List (List ℕ)) × All NoFeed lines × AreLines octets lines × Reaches (reverse lines) (Ended header events)
+
+-- octets are the text of some schedule
+abbrev pub IsScheduleText : List ℕ → Type 0
+IsScheduleText octets = (header : HeaderValue) × (events : List Event) × IsSchedule octets header events
 
 -- these lines are the beginning of a schedule, and this is the trace of its events
 abbrev pub Replays : List (List ℕ) → List ℕ → Type 0

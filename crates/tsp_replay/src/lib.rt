@@ -2,6 +2,7 @@
 #![tactic(auto)]
 
 mod faults;
+pub mod laws;
 pub mod replay;
 pub mod run;
 pub mod stage;

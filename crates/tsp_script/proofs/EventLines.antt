@@ -16,7 +16,7 @@ use Rattle.tsp_script.proofs.Cuts.{cut_front, no_space-decimal}
 use Rattle.tsp_script.proofs.KindWords.{no_space-spaceless}
 
 -- a dash is no number
-dash_no_number : (ds : List ℕ) → AllDigits 10 ds → codes "-" ≡ ds → ⊥
+pub dash_no_number : (ds : List ℕ) → AllDigits 10 ds → codes "-" ≡ ds → ⊥
 dash_no_number ds a e = let q = rw (sym e) at a in omega (arith, q.0)
 
 pub dash_is_stranger : (word : List ℕ) (p : Place) → IsPlace p → word ≡ codes "-" → word ≡ place_text p → Some Stranger ≡ Some p

@@ -6,3 +6,7 @@ pub mod KindWords
 pub mod MessageLines
 pub mod NameTexts
 pub mod Outcomes
+pub mod Apart
+pub mod Lengths
+pub mod OneEvent
+pub mod OneHead

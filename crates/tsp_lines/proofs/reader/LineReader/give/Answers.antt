@@ -1,4 +1,3 @@
-use Rattle.std.proofs.Common.{arith}
 use Rattle.tsp_lines.proofs.Feeds.{given_line, given_long}
 use Rattle.tsp_lines.proofs.reader.LineReader.give.Goals as goal
 

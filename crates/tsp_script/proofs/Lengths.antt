@@ -1,0 +1,13 @@
+-- How long numbers are at most.
+use Rattle.std.proofs.Common.{ℕ, ◌^◌, ◌<◌, ◌≤◌, suc, length, arith}
+use Rattle.std.specs.Prelude.{ℤ, pos, negsuc, decimal, nat_abs}
+use Rattle.std.specs.Fmt.{signed_decimal}
+use Rattle.std.proofs.lemmas.Fmt.{length-decimal-le}
+
+pub number_length : (n : ℕ) → n < 2 ^ 64 → length (decimal n) ≤ 20
+number_length n h = length-decimal-le 20 n (omega arith) (omega arith) h
+
+-- a time of at most 63 bits, with its sign
+pub signed_length : (t : ℤ) → nat_abs t ≤ 2147483648000000 → length (signed_decimal t) ≤ 20
+signed_length (pos n) h = number_length n (omega (arith, h))
+signed_length (negsuc n) h = omega (arith, length-decimal-le 19 (suc n) (omega arith) (omega (arith, h)) (omega (arith, h)))
