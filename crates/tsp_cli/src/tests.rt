@@ -25,6 +25,99 @@ const TRACE: &str = "\
 3 0 0 20 post 0 - reply 5 1 2 1020
 ";
 
+/// A follower that is corrected, hears the correction again, and is corrected too soon, in time and by a step.
+const CORRECTS: &str = "\
+tsp-schedule 1
+drift 0
+node a 0 0 s
+node b 0 0 s
+at 0 boot 0 7
+at 80000000 turn 0
+at 81000000 bytes 0 1 0601000000000000000000006200
+at 82000000 bytes 0 1 0101000700000000000027106200
+at 82500000 bytes 0 1 0101000700000000000027106200
+at 82999999 bytes 0 1 0101000800000000000000016200
+at 83000000 bytes 0 1 0101000800000000000000016200
+at 84000000 bytes 0 1 0501000900000064000000006200
+end
+";
+
+/// The trace of that schedule: a repeat is acknowledged and moves no clock.
+const CORRECTED: &str = "\
+1 0 0 0 boot
+1 0 0 0 become starting
+1 0 0 0 arm quiet 80000000
+2 0 0 80000000 ring quiet
+2 0 0 80000000 become loose
+2 0 0 80000000 arm search 85000000
+2 0 0 80000000 post 0 1 masterreq 0 a
+3 0 0 81000000 took 1 masterup 0 b
+3 0 0 81000000 become follow 1
+3 0 0 81000000 arm elect 381000007
+3 0 0 81000000 post 1 1 slaveup 7 a
+4 0 0 82000000 took 1 adjtime 7 10000 b
+4 0 0 82000000 correct 10000 slew 82000000
+4 0 0 82000000 arm elect 382000007
+4 0 0 82000000 post 2 1 ack 7 a
+5 0 0 82500000 took 1 adjtime 7 10000 b
+5 0 0 82500000 post 3 1 ack 7 a
+6 0 0 82999999 took 1 adjtime 8 1 b
+7 0 0 83000000 took 1 adjtime 8 1 b
+7 0 0 83000000 correct 1 slew 83005000
+7 0 0 83000000 arm elect 383000007
+7 0 0 83000000 post 4 1 ack 8 a
+8 0 0 84000000 took 1 settime 9 100000000 b
+8 0 0 84000000 correct 15989999 step 100000000
+8 0 0 84000000 arm elect 384000007
+8 0 0 84000000 post 5 1 ack 9 a
+";
+
+/// A node that two candidates ask for its backing, and that boots again.
+const HOLDS: &str = "\
+tsp-schedule 1
+drift 0
+node a 0 0 s
+node b 0 0 s
+node c 0 0 s
+at 0 boot 0 0
+at 80000000 turn 0
+at 85000000 turn 0
+at 90000000 bytes 0 1 0801800000000000000000006200
+at 149999999 bytes 0 2 0801800000000000000000006300
+at 150000000 bytes 0 2 0801800000000000000000006300
+at 151000000 boot 0 1
+at 160000000 bytes 0 1 0801800000000000000000006200
+end
+";
+
+/// The trace of that schedule: the second candidate is backed when the hold is over, and none in the quiet time.
+const HELD: &str = "\
+1 0 0 0 boot
+1 0 0 0 become starting
+1 0 0 0 arm quiet 80000000
+2 0 0 80000000 ring quiet
+2 0 0 80000000 become loose
+2 0 0 80000000 arm search 85000000
+2 0 0 80000000 post 0 1 masterreq 0 a
+2 0 0 80000000 post 1 2 masterreq 0 a
+3 0 0 85000000 ring search
+3 0 0 85000000 arm elect 385000000
+4 0 0 90000000 took 1 election 32768 b
+4 0 0 90000000 back 1
+4 0 0 90000000 arm elect 390000000
+4 0 0 90000000 post 2 1 accept 32768 a
+5 0 0 149999999 took 2 election 32768 c
+5 0 0 149999999 post 3 2 refuse 32768 a
+6 0 0 150000000 took 2 election 32768 c
+6 0 0 150000000 back 2
+6 0 0 150000000 arm elect 450000000
+6 0 0 150000000 post 4 2 accept 32768 a
+7 0 0 151000000 boot
+7 0 0 151000000 become starting
+7 0 0 151000000 arm quiet 231000000
+8 0 0 160000000 took 1 election 32768 b
+";
+
 /// The words, an input, the reads and writes that fail, and what comes of it.
 #[derive(Drop)]
 struct Row {
@@ -103,6 +196,15 @@ fn replays(rt: HostRuntime) {
         ),
     ] {
         let row = plain(&["replay"], input, status, written);
+        assert!(rt; comes(rt.alloc(), &row) == Ok(true), "{written}");
+    }
+}
+
+/// Nodes follow a master, are corrected once, and back one candidate within the hold.
+#[test]
+fn follows_and_holds(rt: HostRuntime) {
+    for (input, written) in [(CORRECTS, CORRECTED), (HOLDS, HELD)] {
+        let row = plain(&["replay"], input, Status::Ok, written);
         assert!(rt; comes(rt.alloc(), &row) == Ok(true), "{written}");
     }
 }
