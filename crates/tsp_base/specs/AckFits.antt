@@ -3,41 +3,54 @@ use Rattle.std.specs.Prelude.{◌≡◌, ℕ, true, List, ◌∷◌, Some}
 use Rattle.tsp_base.specs.declared.act.Act.TheVariants.{Post}
 use Rattle.tsp_base.specs.declared.datagram.Datagram.TheVariants.{Message}
 use Rattle.tsp_base.specs.declared.kind.Kind.{Kind}
-use Rattle.tsp_base.specs.declared.kind.Kind.TheVariants.{AdjTime, SetTime, Ack, Conflict, Quit, Msite, MsiteReq, Test, TraceOn, TraceOff}
+use Rattle.tsp_base.specs.declared.kind.Kind.TheVariants.{AdjTime, SetTime, Ack, Conflict, Quit, Date, DateAck, SetDate, SetDateReq, Msite, MsiteReq, Test, TraceOn, TraceOff}
 use Rattle.tsp_base.specs.declared.place.PeerId.{PeerId}
-use Rattle.tsp_base.specs.declared.place.Place.TheVariants.{Peer}
+use Rattle.tsp_base.specs.declared.place.Place.{Place}
+use Rattle.tsp_base.specs.declared.place.Place.TheVariants.{Peer, Stranger}
 use Rattle.tsp_base.specs.History.{Did, Acts, Seen, Here}
 use Rattle.tsp_base.specs.Messages.{MessageValue}
 use Rattle.tsp_base.specs.SendFacts.{is_correction, open_to, last_taken}
-use Rattle.tsp_base.specs.Takings.{Receives}
+use Rattle.tsp_base.specs.Takings.{Receives, TakesFrom}
 
--- what an ACK to p may answer: a correction only where the node's last Correct took one of this number from p
-abbrev pub Answers : Kind → List Seen → PeerId → ℕ → Type 0
-Answers AdjTime before p number = last_taken before ≡ Some (record { from = p; number = number })
-Answers SetTime before p number = last_taken before ≡ Some (record { from = p; number = number })
-Answers Conflict before p number = Unit {0}
-Answers Quit before p number = Unit {0}
-Answers Msite before p number = Unit {0}
-Answers MsiteReq before p number = Unit {0}
-Answers Test before p number = Unit {0}
-Answers TraceOn before p number = Unit {0}
-Answers TraceOff before p number = Unit {0}
-Answers _ before p number = ⊥
+-- the node's last Correct took this number here from there
+abbrev pub TookLast : Place → List Seen → ℕ → Type 0
+TookLast (Peer p) before number = last_taken before ≡ Some (record { from = p; number = number })
+TookLast Stranger before number = ⊥
+
+-- what an ACK may answer: a correction only where the node's last Correct took one of this number from there
+abbrev pub Answers : Kind → Place → List Seen → ℕ → Type 0
+Answers AdjTime to before number = TookLast to before number
+Answers SetTime to before number = TookLast to before number
+Answers Conflict to before number = Unit {0}
+Answers Quit to before number = Unit {0}
+Answers Date to before number = Unit {0}
+Answers SetDate to before number = Unit {0}
+Answers Msite to before number = Unit {0}
+Answers MsiteReq to before number = Unit {0}
+Answers Test to before number = Unit {0}
+Answers TraceOn to before number = Unit {0}
+Answers TraceOff to before number = Unit {0}
+Answers _ to before number = ⊥
 
 -- an ACK answers the message that the step took from its addressee, with its number
-pub record AckFits (before : List Seen) (p : PeerId) (number : ℕ) : Type 0 where
+pub record AckFits (to : Place) (before : List Seen) (number : ℕ) : Type 0 where
+  pub message : MessageValue
+  pub took : TakesFrom before to (Message message)
+  pub number_is : message.number ≡ number
+  pub answers : Answers message.kind to before number
+
+-- the step took an answer of this kind of p, with this number
+pub record Acknowledges (answer : Kind) (before : List Seen) (p : PeerId) (number : ℕ) : Type 0 where
   pub message : MessageValue
   pub took : Receives before p (Message message)
-  pub number_is : message.number ≡ number
-  pub answers : Answers message.kind before p number
-
--- the step took an ACK of p with this number
-pub record Acknowledges (before : List Seen) (p : PeerId) (number : ℕ) : Type 0 where
-  pub message : MessageValue
-  pub took : Receives before p (Message message)
-  pub kind : message.kind ≡ Ack
+  pub kind : message.kind ≡ answer
   pub number_is : message.number ≡ number
 
--- an Acked ends a correction only where the step took an ACK of its number
+-- a correction is ended by an ACK of its number, a date that was passed on by a DATEACK of its number
+pub record EndsFits (before : List Seen) (p : PeerId) (m : MessageValue) : Type 0 where
+  pub correction : is_correction m.kind ≡ true → Acknowledges Ack before p m.number
+  pub date : m.kind ≡ SetDateReq → Acknowledges DateAck before p m.number
+
+-- what an Acked owes, by the send that it ends
 abbrev pub AckedFits : List Seen → PeerId → Type 0
-AckedFits before p = (first : Did) (older : List Seen) (m : MessageValue) → open_to p before ≡ Here first ∷ older → first.deed ≡ Acts (Post (Peer p) (Message m)) → is_correction m.kind ≡ true → Acknowledges before p m.number
+AckedFits before p = (first : Did) (older : List Seen) (m : MessageValue) → open_to p before ≡ Here first ∷ older → first.deed ≡ Acts (Post (Peer p) (Message m)) → EndsFits before p m

@@ -12,7 +12,7 @@ use Rattle.tsp_base.specs.Everywhere.{Everywhere}
 use Rattle.tsp_base.specs.History.{Cause, Booted, Turned, Came, Handed, Step, Deed, Begins, Acts, Did, Line, of, dids, view, is_shared}
 use Rattle.tsp_base.specs.NodeFacts.{time_of, up}
 use Rattle.tsp_base.specs.Places.{Within}
-use Rattle.tsp_base.specs.Setting.{Setting}
+use Rattle.tsp_base.specs.Setting.{Setting, setup_of}
 use Rattle.tsp_base.specs.StepFacts.{StepEnds}
 use Rattle.tsp_base.specs.Takings.{peer_of, posted}
 use Rattle.tsp_base.specs.Ticks.{tick_at}
@@ -64,7 +64,7 @@ pub record LineFits (setting : Setting) (l : Line) (world : List Line) : Type 0 
   pub step : SameStep l.did.deed l.did.step (dids world)
   pub alive : Alive setting l.did.deed l.did (up (dids (of (node_of l) world)))
   pub took : (from : Place) (taken : Taken) → l.did.deed ≡ Acts (Took from taken) → TookFits l.did.step.cause setting l world from taken
-  pub deeds : (q : Port) → Sees q l → DeedFits l.did.deed l.did (view q (of (node_of l) world))
+  pub deeds : (q : Port) → Sees q l → DeedFits (setup_of setting (node_of l) q) l.did.deed l.did (view q (of (node_of l) world))
 
 -- each line fits the history before it
 abbrev pub Fits : Setting → List Line → Type 0

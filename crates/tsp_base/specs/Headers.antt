@@ -1,26 +1,48 @@
 -- A schedule's header.
-use Rattle.std.specs.Prelude.{◌≡◌, ℕ, ◌≤◌, ◌<◌, List, [], ◌∷◌, ◌++◌, length, nat_abs, Ok, Err}
-use Rattle.std.specs.List.{All}
+use Rattle.std.specs.Prelude.{◌≡◌, ℕ, zero, suc, ◌≤◌, ◌<◌, Bool, true, ◌&&◌, ◌||◌, ◌==◌, List, [], ◌∷◌, ◌++◌, length, count_by, nat_abs, Ok, Err}
+use Rattle.std.specs.List.{All, list_any}
+use Rattle.std.specs.List.Sorted.{IsStrictlyIncreasing}
 use Rattle.std.specs.declared.result.Result.{Result}
+use Rattle.tsp_base.specs.Names.{IsName}
 use Rattle.tsp_base.specs.declared.header.NodeLine.{NodeLine}
 use Rattle.tsp_base.specs.declared.header.HeaderFault.{HeaderFault}
-use Rattle.tsp_base.specs.declared.header.HeaderFault.TheVariants.{Full, Rate, Wall, OutOfMemory}
+use Rattle.tsp_base.specs.declared.header.HeaderFault.TheVariants.{Full, Rate, Wall, Nets, Net, OutOfMemory}
 
--- the drift in parts in a million, and the nodes in order
+-- the drift in parts in a million, whether elections are strict, and the nodes and the networks in order
 pub record HeaderValue : Type 0 where
   pub drift : ℕ
+  pub strict : Bool
   pub nodes : List NodeLine
+  pub nets : List (List ℕ)
 
--- a node whose clock keeps the drift, and whose wall is in range
+-- a node with a name, whose clock keeps the drift, and whose wall is in range
 pub record Keeps (drift : ℕ) (line : NodeLine) : Type 0 where
+  pub name : IsName line.name
   pub rate : nat_abs line.rate ≤ drift
   pub wall : nat_abs line.wall ≤ 1000000000000000
 
--- at most 64 nodes that keep the drift
+-- some of this many nodes, in ascending order
+pub record IsNet (nodes : ℕ) (net : List ℕ) : Type 0 where
+  pub some : 0 < length net
+  pub ascending : IsStrictlyIncreasing net
+  pub known : All (λ n. n < nodes) net
+
+-- a node is a member of a network
+abbrev pub has_member : ℕ → List ℕ → Bool
+has_member n net = list_any (λ m. m == n) net
+
+-- how many of these networks a node is in
+abbrev pub nets_with : ℕ → List (List ℕ) → ℕ
+nets_with n nets = count_by (has_member n) nets
+
+-- at most 64 nodes that keep the drift, and at most 64 networks of them, of which no node is in more than 4
 pub record IsHeader (header : HeaderValue) : Type 0 where
   pub small : header.drift ≤ 1000
   pub few : length header.nodes ≤ 64
   pub kept : All (Keeps header.drift) header.nodes
+  pub few_nets : length header.nets ≤ 64
+  pub nets_are : All (IsNet (length header.nodes)) header.nets
+  pub few_ports : (n : ℕ) → nets_with n header.nets ≤ 4
 
 -- what one node more does to a header
 abbrev pub Pushes : HeaderValue → NodeLine → Result Unit HeaderFault → HeaderValue → Type 0
@@ -29,3 +51,29 @@ Pushes old line (Err Full) new = (64 ≤ length old.nodes) × (new ≡ old)
 Pushes old line (Err Rate) new = (length old.nodes < 64) × (old.drift < nat_abs line.rate) × (new ≡ old)
 Pushes old line (Err Wall) new = (length old.nodes < 64) × (nat_abs line.rate ≤ old.drift) × (1000000000000000 < nat_abs line.wall) × (new ≡ old)
 Pushes old line (Err OutOfMemory) new = new ≡ old
+Pushes old line (Err Nets) new = ⊥
+Pushes old line (Err Net) new = ⊥
+
+-- one network more may join these of the nodes: it is a network, and each of its members is in fewer than 4
+pub record Joins (nodes : ℕ) (nets : List (List ℕ)) (net : List ℕ) : Type 0 where
+  pub net_is : IsNet nodes net
+  pub free : All (λ n. nets_with n nets < 4) net
+
+-- what one network more does to a header
+abbrev pub AddsNet : HeaderValue → List ℕ → Result Unit HeaderFault → HeaderValue → Type 0
+AddsNet old net (Ok _) new = (length old.nets < 64) × Joins (length old.nodes) old.nets net × (new ≡ record old { nets = old.nets ++ net ∷ [] })
+AddsNet old net (Err Nets) new = (64 ≤ length old.nets) × (new ≡ old)
+AddsNet old net (Err Net) new = (length old.nets < 64) × ¬ Joins (length old.nodes) old.nets net × (new ≡ old)
+AddsNet old net (Err OutOfMemory) new = new ≡ old
+AddsNet old net (Err Full) new = ⊥
+AddsNet old net (Err Rate) new = ⊥
+AddsNet old net (Err Wall) new = ⊥
+
+-- each node below this number is in one of the networks
+abbrev pub all_joined : ℕ → List (List ℕ) → Bool
+all_joined zero nets = true
+all_joined (suc n) nets = all_joined n nets && list_any (has_member n) nets
+
+-- there is no network, or each node is in one
+abbrev pub is_whole : HeaderValue → Bool
+is_whole header = length header.nets == 0 || all_joined (length header.nodes) header.nets

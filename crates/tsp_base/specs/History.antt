@@ -47,7 +47,12 @@ pub data Seen : Type 0 where
 pub record Past : Type 0 where
   pub own : PeerId
   pub name : List ℕ
+  -- whether the node may be master
   pub may : Bool
+  -- whether a candidate needs a majority
+  pub strict : Bool
+  -- which of its node's ports it is
+  pub port : Port
   pub peers : List PeerId
   pub step : Step
   pub seen : List Seen
@@ -82,6 +87,15 @@ did_of (Elsewhere d) = d
 abbrev pub plain : List Seen → List Did
 plain [] = []
 plain (s ∷ before) = did_of s ∷ plain before
+
+abbrev pub from_act_at : Deed → List Line → List Line → List Line
+from_act_at Begins here keep = keep
+from_act_at (Acts a) here keep = here
+
+-- the lines from the newest act on: marks that stand before it are passed over
+abbrev pub from_act : List Line → List Line
+from_act [] = []
+from_act (l ∷ before) = from_act_at l.did.deed (l ∷ before) (from_act before)
 
 -- a node's lines, without ports
 abbrev pub dids : List Line → List Did

@@ -1,32 +1,34 @@
 -- What the acts of a measurement owe to their port's past: requests, replies and samples.
-use Rattle.std.specs.Prelude.{◌≡◌, ℕ, ◌%◌, ◌^◌, ℤ, List, ◌∷◌}
+use Rattle.std.specs.Prelude.{◌≡◌, ℕ, ◌%◌, ◌^◌, ℤ, true, List, ◌∷◌}
 use Rattle.tsp_base.specs.declared.datagram.Datagram.TheVariants.{Stamp}
 use Rattle.tsp_base.specs.declared.place.PeerId.{PeerId}
+use Rattle.tsp_base.specs.declared.place.Place.{Place}
 use Rattle.tsp_base.specs.declared.stamp.Stamp.TheVariants.{Request, Reply}
 use Rattle.tsp_base.specs.History.{Did, Seen, Here, plain}
 use Rattle.tsp_base.specs.NodeFacts.{word, ticket, target}
-use Rattle.tsp_base.specs.RoundFacts.{started, asked, exchange}
+use Rattle.tsp_base.specs.RoundFacts.{is_going, started, asked, exchange}
 use Rattle.tsp_base.specs.Samples.{sample_diff, sample_err}
 use Rattle.tsp_base.specs.Stamps.{ReplyValue}
-use Rattle.tsp_base.specs.Takings.{Receives, Undisturbed}
+use Rattle.tsp_base.specs.Takings.{Receives, TakesFrom, Undisturbed}
 
 -- a request has the boot's word, and the number of requests before it as its counter
 pub record RequestFits (before : List Seen) (request_word counter : ℕ) : Type 0 where
   pub word_is : request_word ≡ word (plain before)
   pub counter_is : counter ≡ asked before % 2 ^ 64
 
--- a reply answers the request that the step took from its addressee, with the ticket and the target
-pub record ReplyFits (here : Did) (before : List Seen) (p : PeerId) (reply : ReplyValue) : Type 0 where
-  pub took : Receives before p (Stamp (Request reply.word reply.counter))
+-- a reply answers the request that the step took from its addressee, a peer or a stranger, with the ticket and the target
+pub record ReplyFits (here : Did) (before : List Seen) (to : Place) (reply : ReplyValue) : Type 0 where
+  pub took : TakesFrom before to (Stamp (Request reply.word reply.counter))
   pub ticket_is : reply.ticket ≡ ticket (plain before)
   pub reading_is : reply.reading ≡ target (plain before) here.tick
 
--- a Sample ends an open exchange of the last round by the reply that its step took, and its node was left alone since the round began
+-- a Sample ends an open exchange of the going round by the reply that its step took, and its node was left alone since the round began
 pub record SampleFits (here : Did) (before : List Seen) (p : PeerId) (counter : ℕ) (diff err : ℤ) (number : ℕ) : Type 0 where
   pub start : Did
   pub idle : List Seen
   pub start_is : started before ≡ Here start ∷ idle
   pub undisturbed : Undisturbed (plain idle) (plain before)
+  pub going : is_going before ≡ true
   pub post : Did
   pub older : List Seen
   pub exchange_is : exchange p counter before ≡ Here post ∷ older

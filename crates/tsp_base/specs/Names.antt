@@ -9,13 +9,13 @@ use Rattle.tsp_base.specs.declared.name.NameFault.TheVariants.{TooLong, HasNul a
 abbrev pub HasNul : List ℕ → Type 0
 HasNul octets = Contains octets 0
 
--- at most 63 octets, none of them zero
+-- at most 255 octets, none of them zero
 pub record IsName (octets : List ℕ) : Type 0 where
-  pub short : length octets ≤ 63
+  pub short : length octets ≤ 255
   pub no_nul : ¬ HasNul octets
 
 -- what making a name of these octets gives
 abbrev pub NameGives : Result (List ℕ) NameFault → List ℕ → Type 0
 NameGives (Ok name) octets = IsName octets × (name ≡ octets)
-NameGives (Err TooLong) octets = 63 < length octets
-NameGives (Err HasNulFault) octets = (length octets ≤ 63) × HasNul octets
+NameGives (Err TooLong) octets = 255 < length octets
+NameGives (Err HasNulFault) octets = (length octets ≤ 255) × HasNul octets

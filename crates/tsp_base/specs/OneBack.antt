@@ -5,6 +5,7 @@ use Rattle.tsp_base.specs.declared.constants.TheConstants.{HOLD}
 use Rattle.tsp_base.specs.declared.datagram.Datagram.TheVariants.{Message}
 use Rattle.tsp_base.specs.declared.kind.Kind.TheVariants.{Election, Accept}
 use Rattle.tsp_base.specs.declared.place.PeerId.{PeerId}
+use Rattle.tsp_base.specs.declared.place.Place.{Place}
 use Rattle.tsp_base.specs.declared.place.Place.TheVariants.{Peer}
 use Rattle.tsp_base.specs.declared.place.Port.{Port}
 use Rattle.tsp_base.specs.Everywhere.{Everywhere}
@@ -22,7 +23,7 @@ HoldsAt l world = (p q : PeerId) (other : Line) (older : List Line) → l.did.de
 -- each ACCEPT stands in a step that has backed its addressee before; a port that became a candidate has backed itself before it posts an ELECTION, and at its step's end
 pub record BacksAt (l : Line) (world : List Line) : Type 0 where
   pub accepts : (p : PeerId) (m : MessageValue) → l.did.deed ≡ Acts (Post (Peer p) (Message m)) → m.kind ≡ Accept → backed (view l.port (of (node_of l) world)) ≡ Some p
-  pub asks : (p : PeerId) (m : MessageValue) → l.did.deed ≡ Acts (Post (Peer p) (Message m)) → m.kind ≡ Election → is_unbacked (view l.port (of (node_of l) world)) ≡ false
+  pub asks : (to : Place) (m : MessageValue) → l.did.deed ≡ Acts (Post to (Message m)) → m.kind ≡ Election → is_unbacked (view l.port (of (node_of l) world)) ≡ false
   pub ends : l.did.deed ≡ Begins → (q : Port) → is_unbacked (view q (of (node_of l) world)) ≡ false
 
 -- of a history that ends with a step

@@ -134,17 +134,28 @@ in_table p [] = false
 in_table p (Here d ∷ before) = in_table_after p d.deed (in_table p before)
 in_table p (Elsewhere d ∷ before) = in_table p before
 
-abbrev pub is_backer_after : PeerId → Deed → Bool → Bool
-is_backer_after p (Acts Boot) keep = false
-is_backer_after p (Acts (Become r)) keep = false
-is_backer_after p (Acts (Backer q)) keep = if q.0 == p.0 then true else keep
-is_backer_after p _ keep = keep
+abbrev pub backers_after : Deed → List PeerId → List PeerId
+backers_after (Acts Boot) keep = []
+backers_after (Acts (Become r)) keep = []
+backers_after (Acts (Backer p)) keep = p ∷ keep
+backers_after _ keep = keep
 
--- whether p has backed this candidature
-abbrev pub is_backer : PeerId → List Seen → Bool
-is_backer p [] = false
-is_backer p (Here d ∷ before) = is_backer_after p d.deed (is_backer p before)
-is_backer p (Elsewhere d ∷ before) = is_backer p before
+-- who has backed this candidature, the last one first
+abbrev pub backers : List Seen → List PeerId
+backers [] = []
+backers (Here d ∷ before) = backers_after d.deed (backers before)
+backers (Elsewhere d ∷ before) = backers before
+
+abbrev pub stood_after : Deed → List Seen → List Seen → List Seen
+stood_after (Acts Boot) here keep = []
+stood_after (Acts (Become r)) here keep = here
+stood_after _ here keep = keep
+
+-- the place of the last change of the role since the boot; empty where there was none
+abbrev pub stood : List Seen → List Seen
+stood [] = []
+stood (Here d ∷ before) = stood_after d.deed (Here d ∷ before) (stood before)
+stood (Elsewhere d ∷ before) = stood before
 
 abbrev pub is_rival_after : PeerId → Deed → Bool → Bool
 is_rival_after p (Acts Boot) keep = false

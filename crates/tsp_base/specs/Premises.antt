@@ -1,5 +1,5 @@
 -- What the promises ask of a schedule.
-use Rattle.std.specs.Prelude.{◌≡◌, ◌≢◌, ◌≤◌, ℕ, ◌+◌, ℤ, List, ◌∷◌}
+use Rattle.std.specs.Prelude.{◌≡◌, ◌≢◌, ◌≤◌, ◌<◌, ℕ, ◌+◌, ℤ, List, ◌∷◌}
 use Rattle.tsp_base.specs.declared.act.Act.TheVariants.{Boot, Took, Post}
 use Rattle.tsp_base.specs.declared.constants.TheConstants.{LIFE}
 use Rattle.tsp_base.specs.declared.datagram.Datagram.{Datagram}
@@ -8,8 +8,11 @@ use Rattle.tsp_base.specs.declared.place.PeerId.{PeerId}
 use Rattle.tsp_base.specs.declared.place.Place.{Place}
 use Rattle.tsp_base.specs.declared.place.Place.TheVariants.{Peer}
 use Rattle.tsp_base.specs.Everywhere.{Everywhere}
-use Rattle.tsp_base.specs.History.{Booted, Came, Handed, Acts, Line, dids}
+use Rattle.tsp_base.specs.Fits.{node_of}
+use Rattle.tsp_base.specs.History.{Booted, Came, Handed, Acts, Line, of, dids, view}
 use Rattle.tsp_base.specs.Places.{Within}
+use Rattle.tsp_base.specs.SendFacts.{begun}
+use Rattle.tsp_base.specs.Setting.{Setting}
 use Rattle.tsp_base.specs.Takings.{posted}
 
 -- octets from outside are no peer's
@@ -41,3 +44,19 @@ WordsAt l world = (other : Line) (older : List Line) (v w : ℕ) (x y : ℤ) →
 -- the words of any two boots differ
 abbrev pub Words : List Line → Type 0
 Words = Everywhere WordsAt
+
+-- fewer than 32,768 sends with own numbers began on this line's port since its node's boot
+abbrev pub FewAt : Line → List Line → Type 0
+FewAt l world = begun (view l.port (of (node_of l) (l ∷ world))) < 32768
+
+-- no port begins 32,768 sends with own numbers in one life of its node
+abbrev pub Few : List Line → Type 0
+Few = Everywhere FewAt
+
+-- no other node with a line before has the name of this line's node
+abbrev pub NamesApartAt : Setting → Line → List Line → Type 0
+NamesApartAt setting l world = (other : Line) (older : List Line) → Within (other ∷ older) world → setting.name (node_of other) ≡ setting.name (node_of l) → node_of other ≡ node_of l
+
+-- the names of the nodes differ
+abbrev pub NamesApart : Setting → List Line → Type 0
+NamesApart setting = Everywhere (NamesApartAt setting)

@@ -11,15 +11,14 @@ use Rattle.tsp_base.specs.declared.place.Port.{Port}
 use Rattle.tsp_base.specs.declared.role.Role.TheVariants.{Follow, Master}
 use Rattle.tsp_base.specs.Everywhere.{Everywhere}
 use Rattle.tsp_base.specs.Fits.{node_of}
-use Rattle.tsp_base.specs.History.{Came, Begins, Acts, Did, Line, Seen, Here, of, dids, view}
+use Rattle.tsp_base.specs.History.{Came, Begins, Acts, Did, Line, Seen, of, dids, plain, view}
 use Rattle.tsp_base.specs.Messages.{MessageValue}
-use Rattle.tsp_base.specs.NodeFacts.{time_of}
-use Rattle.tsp_base.specs.Once.{send}
+use Rattle.tsp_base.specs.Once.{OfSend}
 use Rattle.tsp_base.specs.Places.{Within}
 use Rattle.tsp_base.specs.PortFacts.{role}
 use Rattle.tsp_base.specs.Premises.{Life}
 use Rattle.tsp_base.specs.StepFacts.{owes}
-use Rattle.tsp_base.specs.Takings.{peer_of, posted}
+use Rattle.tsp_base.specs.Takings.{peer_of, posted, steps}
 
 -- a master that took a QUIT of p in the step that ends here follows p
 abbrev pub YieldsAt : List Seen → Type 0
@@ -39,25 +38,31 @@ abbrev pub StaysQuiet : List Line → Type 0
 StaysQuiet = Everywhere QuietAt
 
 -- in this line a node takes the QUIT that an alarm's step of m begins: the line is its Quit, and its step takes a post of that send
-pub record TakesQuit (ring x : Line) (past : List Line) : Type 0 where
+pub record TakesQuit (ring : Line) (past : List Line) (x : Line) (xpast : List Line) : Type 0 where
   pub quits : x.did.deed ≡ Acts (Quit (peer_of (node_of ring)))
   pub post : Line
   pub older : List Line
-  pub place : Within (post ∷ older) past
+  pub place : Within (post ∷ older) xpast
   pub takes : x.did.step.cause ≡ Came (posted (dids older))
-  pub message : MessageValue
-  pub deed : post.did.deed ≡ Acts (Post (Peer (peer_of (node_of x))) (Message message))
-  pub kind : message.kind ≡ QuitKind
   pub node : node_of post ≡ node_of ring
   pub first : Did
   pub begun : List Seen
-  pub begins : send (node_of x) post older ≡ Here first ∷ begun
-  pub step : first.step ≡ ring.did.step
+  pub of_send : OfSend (node_of x) post older first begun
+  pub message : MessageValue
+  pub deed : first.deed ≡ Acts (Post (Peer (peer_of (node_of x))) (Message message))
+  pub kind : message.kind ≡ QuitKind
+  -- it begins in the alarm's step
+  pub step : steps (plain begun) ≡ steps (dids (of (node_of ring) (ring ∷ past)))
 
--- two rivals x and y that take QUITs of one Ring, the later of them in the history's last step: then x leads no more
-abbrev pub StopsLeading : List Line → Type 0
-StopsLeading h = (ring x y : Line) (past xpast ypast : List Line) → Within (ring ∷ past) h → ring.did.deed ≡ Acts (Ring Resolve) → Within (x ∷ xpast) h → TakesQuit ring x xpast → Within (y ∷ ypast) h → TakesQuit ring y ypast →
-    time_of (dids h) ≡ y.did.step.at → role (view x.port (of (node_of x) h)) ≢ Master
+-- where a step ends in which the rival y takes a QUIT of this alarm: no rival x that has taken one leads on the port on which it took it
+abbrev pub StopsBy : List Line → Type 0
+StopsBy h = (ring x y : Line) (past xpast ypast : List Line) → Within (ring ∷ past) h → ring.did.deed ≡ Acts (Ring Resolve) → Within (x ∷ xpast) h → TakesQuit ring past x xpast →
+    Within (y ∷ ypast) h → TakesQuit ring past y ypast → steps (dids (y ∷ ypast)) ≡ steps (dids h) → role (view x.port (of (node_of x) h)) ≢ Master
+
+-- at each step's end: of the step that a mark ends, and of the last one
+pub record StopsLeading (world : List Line) : Type 0 where
+  pub marks : Everywhere (λ (l : Line) (before : List Line). l.did.deed ≡ Begins → StopsBy before) world
+  pub ends : StopsBy world
 
 -- the three parts, of a history that ends with a step; the last needs that no datagram outlives LIFE
 pub record Resolved (h : List Line) : Type 0 where

@@ -134,3 +134,29 @@ abbrev pub best : PeerId → List Seen → Option Sampled
 best p [] = None
 best p (Here d ∷ before) = best_after p d.deed (Here d ∷ before) before (best p before)
 best p (Elsewhere d ∷ before) = best p before
+
+-- an open exchange as its answer is measured by: the word that was asked under, and the clock's target then
+pub record OpenRequest : Type 0 where
+  pub word : ℕ
+  pub target : ℤ
+
+abbrev pub request_at_place : List Seen → Option OpenRequest
+request_at_place [] = None
+request_at_place (s ∷ before) = Some (record { word = word_asked (s ∷ before); target = target_there (s ∷ before) })
+
+-- the open exchange with p under this counter
+abbrev pub request_open : PeerId → ℕ → List Seen → Option OpenRequest
+request_open p c seen = request_at_place (exchange p c seen)
+
+-- how far a peer's clock stands ahead, and the ticket that it told with its reading
+pub record Estimate : Type 0 where
+  pub diff : ℤ
+  pub ticket : ℕ
+
+abbrev pub estimate_of : Option Sampled → Option Estimate
+estimate_of None = None
+estimate_of (Some s) = Some (record { diff = s.diff; ticket = s.ticket })
+
+-- what the best sample of p says
+abbrev pub estimate : PeerId → List Seen → Option Estimate
+estimate p seen = estimate_of (best p seen)

@@ -1,9 +1,9 @@
 -- All promises of a history, each under the premises that it needs.
 use Rattle.std.specs.Prelude.{List}
-use Rattle.tsp_base.specs.Agreed.{Agreed}
+use Rattle.tsp_base.specs.Agreed.{Agreed, StayAgreed}
 use Rattle.tsp_base.specs.History.{Line}
 use Rattle.tsp_base.specs.Measured.{Measured, Trips}
-use Rattle.tsp_base.specs.Once.{OnceConfirmed, OnceObeyed, OnceSpaced, OnceTaken}
+use Rattle.tsp_base.specs.Once.{OnceConfirmed, OnceCorrected, OnceObeyed, OnceSpaced, OnceSpacedOverLives, OnceTaken}
 use Rattle.tsp_base.specs.OneBack.{OneBack}
 use Rattle.tsp_base.specs.OnlyMaster.{OnlyMaster}
 use Rattle.tsp_base.specs.Premises.{Honest, Life, Words}
@@ -16,11 +16,14 @@ pub record Safe (setting : Setting) (world : List Line) : Type 0 where
   pub one_back : OneBack world
   pub only_master : OnlyMaster world
   pub once_spaced : OnceSpaced world
+  pub once_spaced_over_lives : OnceSpacedOverLives world
   pub once_obeyed : Honest world → OnceObeyed setting world
-  pub once_taken : Life world → OnceTaken world
+  pub once_corrected : Life world → OnceCorrected world
+  pub once_taken : Honest world → Life world → Words world → OnceTaken world
   pub once_confirmed : Honest world → Life world → Words world → OnceConfirmed world
-  pub trips : Trips setting world
+  pub trips : Trips world
   pub measured : Honest world → Words world → Measured setting world
   pub agreed : Honest world → Life world → Words world → Agreed setting world
+  pub stay_agreed : Honest world → Life world → Words world → StayAgreed setting world
   pub relayed : Honest world → Life world → Words world → Relayed setting world
   pub resolved : Resolved world

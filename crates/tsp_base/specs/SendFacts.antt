@@ -4,7 +4,7 @@ use Rattle.tsp_base.specs.declared.act.Act.TheVariants.{Boot, Post, Become, Acke
 use Rattle.tsp_base.specs.declared.constants.TheConstants.{RETRY, TRIES, LAST}
 use Rattle.tsp_base.specs.declared.datagram.Datagram.TheVariants.{Message}
 use Rattle.tsp_base.specs.declared.kind.Kind.{Kind}
-use Rattle.tsp_base.specs.declared.kind.Kind.TheVariants.{AdjTime, SetTime, Election, Conflict, Quit}
+use Rattle.tsp_base.specs.declared.kind.Kind.TheVariants.{AdjTime, SetTime, Election, Conflict, Quit, Date, DateReq, SetDate, SetDateReq}
 use Rattle.tsp_base.specs.declared.place.PeerId.{PeerId}
 use Rattle.tsp_base.specs.declared.place.Place.TheVariants.{Peer}
 use Rattle.tsp_base.specs.History.{Deed, Acts, Seen, Here, Elsewhere, did_of}
@@ -22,6 +22,7 @@ abbrev pub has_own_number : Kind → Bool
 has_own_number Election = true
 has_own_number Conflict = true
 has_own_number Quit = true
+has_own_number SetDateReq = true
 has_own_number _ = false
 
 -- whether messages of this kind are numbered sends, which are repeated until they are acknowledged
@@ -31,7 +32,25 @@ is_numbered SetTime = true
 is_numbered Election = true
 is_numbered Conflict = true
 is_numbered Quit = true
+is_numbered SetDateReq = true
 is_numbered _ = false
+
+-- whether messages of this kind pass a date on to the master
+abbrev pub is_date_request : Kind → Bool
+is_date_request DateReq = true
+is_date_request SetDateReq = true
+is_date_request _ = false
+
+-- whether messages of this kind set a date: a client's, or one that is passed on
+abbrev pub sets_date : Kind → Bool
+sets_date Date = true
+sets_date SetDate = true
+sets_date kind = is_date_request kind
+
+-- whether this is the kind in which a port passes a date on
+abbrev pub is_set_date_request : Kind → Bool
+is_set_date_request SetDateReq = true
+is_set_date_request _ = false
 
 abbrev pub open_to_after : PeerId → Deed → Bool → List Seen → List Seen → List Seen
 open_to_after p (Acts Boot) begins here keep = []
@@ -47,10 +66,16 @@ open_to p [] = []
 open_to p (Here d ∷ before) = open_to_after p d.deed (acting before) (Here d ∷ before) (open_to p before)
 open_to p (Elsewhere d ∷ before) = open_to p before
 
--- the send to p of the numbered post that stands at the head: it begins there, or it is the open one
-abbrev pub send_of : PeerId → List Seen → List Seen
-send_of p [] = []
-send_of p (s ∷ before) = if acting before then s ∷ before else open_to p before
+abbrev pub begun_to_after : PeerId → Deed → Bool → List Seen → List Seen → List Seen
+begun_to_after p (Acts Boot) begins here keep = []
+begun_to_after p (Acts (Post (Peer q) (Message m))) begins here keep = if (q.0 == p.0) && (is_numbered m.kind && begins) then here else keep
+begun_to_after p _ begins here keep = keep
+
+-- the last send that began to p since the boot, open or ended: the place of its first post; empty where none began. A numbered post to p belongs to this one
+abbrev pub begun_to : PeerId → List Seen → List Seen
+begun_to p [] = []
+begun_to p (Here d ∷ before) = begun_to_after p d.deed (acting before) (Here d ∷ before) (begun_to p before)
+begun_to p (Elsewhere d ∷ before) = begun_to p before
 
 abbrev pub posts_of_after : PeerId → Deed → Bool → ℕ → ℕ
 posts_of_after p (Acts Boot) begins n = 0
@@ -175,10 +200,10 @@ pub record Correcting : Type 0 where
   pub from : PeerId
   pub number : ℕ
 
--- the sender and the number of what a step took
+-- the sender and the number of what a step took, where that is a correction
 abbrev pub correcting_of : Option Said → Option Correcting
 correcting_of None = None
-correcting_of (Some s) = Some (record { from = s.from; number = s.message.number })
+correcting_of (Some s) = if is_correction s.message.kind then Some (record { from = s.from; number = s.message.number }) else None
 
 abbrev pub last_taken_after : Deed → Option Received → Option Correcting → Option Correcting
 last_taken_after (Acts Boot) took keep = None
@@ -194,3 +219,34 @@ abbrev pub last_taken : List Seen → Option Correcting
 last_taken [] = None
 last_taken (Here d ∷ before) = last_taken_after d.deed (taken before) (last_taken before)
 last_taken (Elsewhere d ∷ before) = last_taken_elsewhere d.deed (last_taken before)
+
+-- a date that was set for a peer: the tick then, and the number under which the peer passed it on
+pub record Dating : Type 0 where
+  pub at : ℕ
+  pub number : ℕ
+
+abbrev pub dating_of : PeerId → ℕ → Option Said → Option Dating → Option Dating
+dating_of p x None keep = keep
+dating_of p x (Some s) keep = if (s.from.0 == p.0) && is_date_request s.message.kind then Some (record { at = x; number = s.message.number }) else keep
+
+abbrev pub last_date_after : PeerId → Deed → ℕ → Option Received → Option Dating → Option Dating
+last_date_after p (Acts Boot) x took keep = None
+last_date_after p (Acts (Correct amount stepped shown)) x took keep = dating_of p x (said took) keep
+last_date_after p _ x took keep = keep
+
+-- the last date of p since the boot: the last Correct on this port that stands after a Took of a date that p passes on
+abbrev pub last_date : PeerId → List Seen → Option Dating
+last_date p [] = None
+last_date p (Here d ∷ before) = last_date_after p d.deed d.tick (taken before) (last_date p before)
+last_date p (Elsewhere d ∷ before) = last_date p before
+
+abbrev pub last_asked_after : Deed → Bool → ℕ → Option ℕ → Option ℕ
+last_asked_after (Acts Boot) begins x keep = None
+last_asked_after (Acts (Post to (Message m))) begins x keep = if is_set_date_request m.kind && begins then Some x else keep
+last_asked_after _ begins x keep = keep
+
+-- the tick at which this port last began to pass a date on, since the boot
+abbrev pub last_asked : List Seen → Option ℕ
+last_asked [] = None
+last_asked (Here d ∷ before) = last_asked_after d.deed (acting before) d.tick (last_asked before)
+last_asked (Elsewhere d ∷ before) = last_asked before

@@ -1,14 +1,33 @@
 -- What a history is set in.
-use Rattle.std.specs.Prelude.{◌≡◌, ◌≤◌, ℕ, ℤ, nat_abs}
+use Rattle.std.specs.Prelude.{◌≡◌, ◌≤◌, ℕ, ℤ, Bool, true, List, nat_abs}
+use Rattle.tsp_base.specs.declared.place.PeerId.{PeerId}
 use Rattle.tsp_base.specs.declared.place.Port.{Port}
+use Rattle.tsp_base.specs.Peers.{is_among}
+use Rattle.tsp_base.specs.Setup.{Setup}
+use Rattle.tsp_base.specs.Takings.{peer_of}
 
--- the clocks and the networks of all nodes: the greatest drift and each node's rate, in millionths; its wall clock at tick 0; and the network of each of its ports
+-- a network: one that the schedule names, or that of a port which its node doesn't have, where there is nobody else
+pub data Network : Type 0 where
+  -- the k-th of the header
+  Named : (k : ℕ) → Network
+  Alone : (n : ℕ) → (q : ℕ) → Network
+
+-- the clocks, names and networks of all nodes: the greatest drift and each node's rate, in millionths; its wall clock at tick 0; its name; the network of each of its ports, and who is on it; and whether a candidate needs a majority
 pub record Setting : Type 0 where
   pub drift : ℕ
   pub rate : ℕ → ℤ
   pub wall : ℕ → ℤ
-  pub net : ℕ → Port → ℕ
+  pub name : ℕ → List ℕ
+  pub strict : Bool
+  pub net : ℕ → Port → Network
+  pub members : Network → List PeerId
   pub small : drift ≤ 1000
   pub rates : (n : ℕ) → nat_abs (rate n) ≤ drift
   -- a node is on each network by one port
   pub apart : (n : ℕ) (p q : Port) → net n p ≡ net n q → p ≡ q
+  -- a node is a member of its networks
+  pub own : (n : ℕ) (q : Port) → is_among (peer_of n) (members (net n q)) ≡ true
+
+-- what port q of node n is set up with
+abbrev pub setup_of : Setting → ℕ → Port → Setup
+setup_of setting n q = record { name = setting.name n; port = q; peers = setting.members (setting.net n q); strict = setting.strict }

@@ -48,7 +48,7 @@ pub enum DecodeFault {
     /// A name without its NUL that the octets cut short.
     #[error("no-end")]
     NoEnd,
-    /// A name of more than 63 octets.
+    /// A name of more than 255 octets.
     #[error("name-too-long")]
     NameTooLong,
     /// A stamp with a ticket, or a request's reading, that must not be.

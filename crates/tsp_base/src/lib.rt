@@ -14,6 +14,7 @@ pub mod header;
 pub mod hold;
 pub mod input;
 pub mod kind;
+pub mod members;
 pub mod message;
 pub mod micros;
 pub mod name;

@@ -1,54 +1,67 @@
 //! Host names.
-ghost use Rattle.std.specs.Prelude.{◌≡◌, []};
+ghost use Rattle.std.specs.Prelude.{◌≡◌, [], take};
 ghost use Rattle.tsp_base.specs.Names.{IsName, NameGives};
 
-use arrayvec::ArrayVec;
 use std::marker::Model;
 use thiserror::Error;
 
 /// Why octets are no name.
 #[derive(Clone, Copy, PartialEq, Eq, Debug, Error)]
 pub enum NameFault {
-    /// More than 63 octets.
-    #[error("the name is longer than 63 octets")]
+    /// More than 255 octets.
+    #[error("the name is longer than 255 octets")]
     TooLong,
-    /// At most 63 octets, one of them zero.
+    /// At most 255 octets, one of them zero.
     #[error("the name has a NUL")]
     HasNul,
 }
 
-/// A host's name: at most 63 octets without NUL; it may be empty.
+/// A host's name: at most 255 octets without NUL; it may be empty. (RFC 1035 bounds a domain name so.)
+///
+/// It lies in 256 octets of its own, so that a copy is one move of them.
 #[derive(Drop)]
 pub struct Name {
-    octets: ArrayVec<u8, 63>,
+    octets: [u8; 255],
+    len: u8,
 }
 
 impl Model for Name {
-    ghost use Rattle.std.specs.Prelude.{List, ℕ};
+    ghost use Rattle.std.specs.Prelude.{List, ℕ, take};
     ghost use Rattle.tsp_base.specs.Names.{IsName};
 
     ghost Value = { List ℕ };
 
-    ghost view = { λ n. n.octets.items };
+    ghost view = { λ n. take n.len n.octets };
 
-    ghost invariant = { λ n. IsName n.octets.items };
+    ghost invariant = { λ n. IsName (take n.len n.octets) };
 }
 
 impl Name {
-    /// The name of these octets; `TooLong` exactly where there are more than 63, else `HasNul` exactly
+    /// The name of these octets; `TooLong` exactly where there are more than 255, else `HasNul` exactly
     /// where one is zero.
     pub fn of(octets: &[u8]) -> Result<Name, NameFault>
         ensures { NameGives result octets.now }
     {
-        if octets.len() > 63 {
+        if octets.len() > 255 {
             return Err(NameFault::TooLong);
         }
         if octets.contains(&0) {
             return Err(NameFault::HasNul);
         }
-        let mut held = ArrayVec::new();
-        let _ = held.try_extend_from_slice(octets);
-        Ok(Name { octets: held })
+        Ok(Name::new(octets))
+    }
+
+    /// The name of octets that are known to be one.
+    pub fn new(octets: &[u8]) -> Name
+        requires { IsName octets.now }
+        ensures { result ≡ octets.now }
+    {
+        let mut held = [0; 255];
+        held[..octets.len()].copy_from_slice(octets);
+        Name {
+            octets: held,
+            len: octets.len() as u8,
+        }
     }
 
     /// The empty name.
@@ -56,7 +69,8 @@ impl Name {
         ensures { result ≡ [] }
     {
         Name {
-            octets: ArrayVec::new(),
+            octets: [0; 255],
+            len: 0,
         }
     }
 
@@ -65,15 +79,16 @@ impl Name {
         ensures value { result.now ≡ self.now }
         ensures valid { IsName self.now }
     {
-        self.octets.as_slice()
+        &self.octets[..self.len as usize]
     }
 
     /// The same name again.
     pub fn copy(&self) -> Name
         ensures { result ≡ self.now }
     {
-        let mut held = ArrayVec::new();
-        let _ = held.try_extend_from_slice(self.octets.as_slice());
-        Name { octets: held }
+        Name {
+            octets: self.octets,
+            len: self.len,
+        }
     }
 }

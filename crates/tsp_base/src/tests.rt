@@ -1,4 +1,5 @@
 //! The values through their public calls, each on its happy path and at its edges.
+ghost use Rattle.std.specs.Prelude.{◌≡◌, [], IfSome};
 
 use crate::act::Act;
 use crate::alarm::Alarm;
@@ -9,6 +10,7 @@ use crate::drift::{tick_at, width};
 use crate::header::{Header, HeaderFault, NodeLine};
 use crate::hold::Hold;
 use crate::kind::Kind;
+use crate::members::Members;
 use crate::message::{Body, Message};
 use crate::micros::Micros;
 use crate::name::{Name, NameFault};
@@ -16,6 +18,7 @@ use crate::octets::Octets;
 use crate::pad::Pad;
 use crate::place::{PeerId, Port};
 use crate::stamp::Stamp;
+use std::alloc::Global;
 use std::test::Fail;
 
 #[test]
@@ -46,9 +49,10 @@ fn bounds_values(rt: HostRuntime) -> Result<(), Fail> {
 
 #[test]
 fn bounds_names(rt: HostRuntime) -> Result<(), Fail> {
-    assert!(rt; Name::of(&[b'a'; 63]).is_ok() && Name::of(b"").is_ok());
-    assert!(rt; matches!(Name::of(&[b'a'; 64]), Err(NameFault::TooLong)));
-    assert!(rt; matches!(Name::of(&[0; 64]), Err(NameFault::TooLong)));
+    assert!(rt; Name::of(&[b'a'; 255]).is_ok() && Name::of(b"").is_ok());
+    assert!(rt; matches!(Name::of(&[b'a'; 256]), Err(NameFault::TooLong)));
+    assert!(rt; matches!(Name::of(&[0; 256]), Err(NameFault::TooLong)));
+    assert!(rt; matches!(Name::of(&[0; 255]), Err(NameFault::HasNul)));
     assert!(rt; matches!(Name::of(b"a\0b"), Err(NameFault::HasNul)));
     match Name::of(b"alpha") {
         Ok(name) => assert_eq!(rt; name.copy().octets(), b"alpha".as_slice()),
@@ -123,7 +127,7 @@ fn keeps_deadlines(rt: HostRuntime) -> Result<(), Fail> {
 
 #[test]
 fn refuses_nodes(rt: HostRuntime) -> Result<(), Fail> {
-    let mut header = Header::new(rt.alloc(), 100);
+    let mut header = Header::new(rt.alloc(), 100, false);
     let lines = [
         (101, 0, Err(HeaderFault::Rate)),
         (101, 1_000_000_000_000_001, Err(HeaderFault::Rate)),
@@ -140,6 +144,72 @@ fn refuses_nodes(rt: HostRuntime) -> Result<(), Fail> {
         assert!(rt; header.push(line) == *answer);
     }
     assert!(rt; header.drift() == 100 && header.nodes().len() == 1);
+    Ok(())
+}
+
+/// A header of this many nodes.
+fn header_of(alloc: Global, nodes: usize) -> Option<Header>
+    ensures { IfSome result (λ header. header.nets ≡ []) }
+{
+    let mut header = Header::new(alloc, 0, true);
+    for _ in 0..nodes {
+        let line = NodeLine {
+            name: Name::empty(),
+            rate: 0,
+            wall: 0,
+            may: true,
+        };
+        header.push(line).ok()?;
+    }
+    Some(header)
+}
+
+#[test]
+fn refuses_networks(rt: HostRuntime) -> Result<(), Fail> {
+    let Some(mut header) = header_of(rt.alloc(), 3) else {
+        panic!(rt; "three nodes are pushed");
+    };
+    assert!(rt; header.strict() && header.whole() && header.nets().is_empty());
+    let lines: [(&[u32], Result<(), HeaderFault>, bool); 12] = [
+        (&[], Err(HeaderFault::Net), true),
+        (&[1, 0], Err(HeaderFault::Net), true),
+        (&[1, 1], Err(HeaderFault::Net), true),
+        (&[0, 3], Err(HeaderFault::Net), true),
+        (&[0, 1], Ok(()), false),
+        (&[1], Ok(()), false),
+        (&[1], Ok(()), false),
+        (&[0, 1, 2], Ok(()), true),
+        (&[0, 1], Err(HeaderFault::Net), true),
+        (&[0], Ok(()), true),
+        (&[0, 2], Ok(()), true),
+        (&[0], Err(HeaderFault::Net), true),
+    ];
+    for (nodes, answer, whole) in &lines {
+        assert!(rt; header.net(nodes) == *answer && header.whole() == *whole);
+    }
+    match header.nets() {
+        [first, .., last] => {
+            assert!(rt;
+                first.numbers() == [0, 1].as_slice() && last.numbers() == [0, 2].as_slice()
+            );
+        }
+        _ => panic!(rt; "six networks were added"),
+    }
+    Ok(())
+}
+
+#[test]
+fn bounds_networks(rt: HostRuntime) -> Result<(), Fail> {
+    let Some(mut header) = header_of(rt.alloc(), 64) else {
+        panic!(rt; "64 nodes are pushed");
+    };
+    for node in 0..64 {
+        assert!(rt; header.net(&[node]).is_ok() && header.whole() == (node == 63));
+    }
+    assert!(rt; header.net(&[0]) == Err(HeaderFault::Nets));
+    assert!(rt; header.net(&[]) == Err(HeaderFault::Nets));
+    assert!(rt; header.nets().len() == 64);
+    assert!(rt; Members::of(&[7; 64]).is_some() && Members::of(&[7; 65]).is_none());
     Ok(())
 }
 

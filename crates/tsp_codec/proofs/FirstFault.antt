@@ -30,11 +30,11 @@ IsFault-Kind o h n p q = record { applies = (n, p, q); first = search rules }
 pub IsFault-StampLength : (o : List ℕ) → HasHead o → HasStampType o → length o ≢ 28 → IsFault o StampLength
 IsFault-StampLength o h s z = record { applies = (s, z); first = search rules }
 
-pub IsFault-NoEnd : (o : List ℕ) (k : Kind) → HasHead o → kind_of (octet_at o 0) ≡ Some k → ¬ Contains (name_room o) 0 → length o < 76 → IsFault o NoEnd
+pub IsFault-NoEnd : (o : List ℕ) (k : Kind) → HasHead o → kind_of (octet_at o 0) ≡ Some k → ¬ Contains (name_room o) 0 → length o < 268 → IsFault o NoEnd
 IsFault-NoEnd o k h e n s = record { applies = (HasKind-kind o k e, grind (arith, common_steps), n); first = search (HasStampType-kind, rules) }
 
-pub IsFault-NameTooLong : (o : List ℕ) (k : Kind) → HasHead o → kind_of (octet_at o 0) ≡ Some k → ¬ Contains (name_room o) 0 → 76 ≤ length o → IsFault o NameTooLong
-IsFault-NameTooLong o k h e n s = let l : 64 ≤ length (drop 12 o) = grind (arith, common_steps) in record { applies = (HasKind-kind o k e, l, n); first = search (HasStampType-kind, rules) }
+pub IsFault-NameTooLong : (o : List ℕ) (k : Kind) → HasHead o → kind_of (octet_at o 0) ≡ Some k → ¬ Contains (name_room o) 0 → 268 ≤ length o → IsFault o NameTooLong
+IsFault-NameTooLong o k h e n s = let l : 256 ≤ length (drop 12 o) = grind (arith, common_steps) in record { applies = (HasKind-kind o k e, l, n); first = search (HasStampType-kind, rules) }
 
 pub IsFault-Time : (o : List ℕ) (k : Kind) → HasHead o → kind_of (octet_at o 0) ≡ Some k → Contains (name_room o) 0 → carries_time k ≡ true → ¬ IsTime o → IsFault o Time
 IsFault-Time o k h e n t b = record { applies = inl ((k, e, t), b); first = search (HasStampType-kind, rules) }

@@ -16,9 +16,9 @@ split_at_nul (x ∷ xs) (suc n) (suc end) h e = let r = split_at_nul xs n end (o
 pub length-take-take : (end n : ℕ) (xs : List ℕ) → end < length (take n xs) → length (take end (take n xs)) ≤ n - 1
 length-take-take end n xs h = grind (arith, common_steps)
 
--- what stands before a zero of the first 64 octets is a name
-pub IsName-take : (xs : List ℕ) (end : ℕ) → end < length (take 64 xs) → ¬ Contains (take end (take 64 xs)) 0 → IsName (take end (take 64 xs))
-IsName-take xs end h n = record { short = length-take-take end 64 xs h; no_nul = n }
+-- what stands before a zero of the first 256 octets is a name
+pub IsName-take : (xs : List ℕ) (end : ℕ) → end < length (take 256 xs) → ¬ Contains (take end (take 256 xs)) 0 → IsName (take end (take 256 xs))
+IsName-take xs end h n = record { short = length-take-take end 256 xs h; no_nul = n }
 
 -- an octet of the front is an octet of the list
 pub Contains-∷ : (a : List ℕ) (c : ℕ) → Contains a 0 → Contains (c ∷ a) 0

@@ -20,7 +20,7 @@ use Rattle.tsp_codec.proofs.OneDatagram.{HasStampType-kind, kind_of-stamp, kind_
 
 -- a message's name ends within its room
 Contains-name_room : (o : List ℕ) (m : MessageValue) → SpellsMessage o m → Contains (name_room o) 0
-Contains-name_room o m p = rw p.name.1.1 (let s = p.name.0.short in Contains-take 64 m.name p.name.1.0 (omega arith))
+Contains-name_room o m p = rw p.name.1.1 (let s = p.name.0.short in Contains-take 256 m.name p.name.1.0 (omega arith))
 
 -- a message whose kind has a time spells one
 IsTime-body : (o : List ℕ) (k : Kind) (b : Body) → SpellsBody o k b → carries_time k ≡ true → IsTime o

@@ -51,13 +51,13 @@ length-take-low : (n : ℕ) (xs : List ℕ) → length (take n xs) ≤ n
 length-take-low n xs = grind (arith, common_steps)
 
 -- what stands before a NUL is shorter than the whole
-length-before : (xs name rest : List ℕ) → length xs ≤ 64 → xs ≡ name ++ 0 ∷ rest → length name ≤ 63
+length-before : (xs name rest : List ℕ) → length xs ≤ 256 → xs ≡ name ++ 0 ∷ rest → length name ≤ 255
 length-before xs name rest l e = let m : length xs ≡ length name + length (0 ∷ rest) = ap length e ∙ length-append name (0 ∷ rest) in omega (arith, l, m)
 
 SpellsName-room : (o name : List ℕ) → EndsAtNul (name_room o) (Some name) → SpellsName o name
 SpellsName-room o name p = (
-  record { short = length-before (name_room o) name p.1.0 (length-take-low 64 (drop 12 o)) p.1.1; no_nul = p.0 },
-  (p.1.0 ++ drop 64 (drop 12 o), sym (take-append-drop 64 (drop 12 o)) ∙ ap (λ z. z ++ drop 64 (drop 12 o)) p.1.1 ∙ append_assoc name (0 ∷ p.1.0) (drop 64 (drop 12 o))),
+  record { short = length-before (name_room o) name p.1.0 (length-take-low 256 (drop 12 o)) p.1.1; no_nul = p.0 },
+  (p.1.0 ++ drop 256 (drop 12 o), sym (take-append-drop 256 (drop 12 o)) ∙ ap (λ z. z ++ drop 256 (drop 12 o)) p.1.1 ∙ append_assoc name (0 ∷ p.1.0) (drop 256 (drop 12 o))),
 )
 
 true_from_T : (b : Bool) → T b → b ≡ true
@@ -92,12 +92,12 @@ ReadsBody-if o k true false c d e f = (d, λ t. both_ways _ e (is_time-IsTime o 
 ReadsBody-if o k false b true d e f = (d, f, refl)
 ReadsBody-if o k false b false d e f = (d, f)
 
-Reads-short_name : (o : List ℕ) (k : Kind) (b : Bool) → nat_lt (length o) 76 ≡ b → HasHead o → kind_of (octet_at o 0) ≡ Some k → ¬ Contains (name_room o) 0 → Reads o (Bad (if b then NoEnd else NameTooLong))
-Reads-short_name o k true e h t n = IsFault-NoEnd o k h t n (ltb-true (length o) 76 e)
-Reads-short_name o k false e h t n = IsFault-NameTooLong o k h t n (ltb-false (length o) 76 e)
+Reads-short_name : (o : List ℕ) (k : Kind) (b : Bool) → nat_lt (length o) 268 ≡ b → HasHead o → kind_of (octet_at o 0) ≡ Some k → ¬ Contains (name_room o) 0 → Reads o (Bad (if b then NoEnd else NameTooLong))
+Reads-short_name o k true e h t n = IsFault-NoEnd o k h t n (ltb-true (length o) 268 e)
+Reads-short_name o k false e h t n = IsFault-NameTooLong o k h t n (ltb-false (length o) 268 e)
 
 Reads-message_taken : (o : List ℕ) (k : Kind) → HasHead o → kind_of (octet_at o 0) ≡ Some k → (name : Option (List ℕ)) → EndsAtNul (name_room o) name → (body : Option Body) → ReadsBody o k body → Reads o (message_taken o k name body)
-Reads-message_taken o k h t None n body b = Reads-short_name o k (nat_lt (length o) 76) refl h t n
+Reads-message_taken o k h t None n body b = Reads-short_name o k (nat_lt (length o) 268) refl h t n
 Reads-message_taken o k h t (Some name) n None b = IsFault-Time o k h t (rw n.1.1 (Contains-append name n.1.0)) b.0 b.1
 Reads-message_taken o k h t (Some name) n (Some body) b = record { head = h; kind = t; number = refl; body = b; name = SpellsName-room o name n }
 

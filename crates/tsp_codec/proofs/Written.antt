@@ -1,8 +1,8 @@
 -- The written spelling spells its datagram.
-use Rattle.std.proofs.Common.{◌≡◌, ℕ, ◌-◌, ◌^◌, ◌<◌, List, ◌∷◌, ◌++◌, suc, length, drop, refl, ap, sym, ◌∙◌, arith, true, false}
+use Rattle.std.proofs.Common.{◌≡◌, ℕ, ◌+◌, ◌-◌, ◌^◌, ◌<◌, ◌≤◌, Bool, nat_le, if◌then◌else◌, List, ◌∷◌, ◌++◌, suc, length, drop, refl, ap, sym, ◌∙◌, arith, true, false}
 use Rattle.std.specs.Prelude.{replicate}
 use Rattle.std.specs.Int.{w32, w64, from_be_bytes, to_be_bytes}
-use Rattle.std.proofs.lemmas.Bool.{and_parts, not-true}
+use Rattle.std.proofs.lemmas.Bool.{and_parts, not-true, leb-true}
 use Rattle.std.proofs.lemmas.Nat.{from_be_bytes-to_be_bytes_2, from_be_bytes-to_be_bytes_4, from_be_bytes-to_be_bytes_8}
 use Rattle.std.proofs.lemmas.Grind.{common_steps}
 use Rattle.std.proofs.lemmas.Int.{ints, to_z-of_z}
@@ -24,7 +24,7 @@ use Rattle.tsp_base.specs.declared.datagram.Datagram.TheVariants.{Message, Stamp
 use Rattle.tsp_base.specs.Stamps.{ReplyValue, IsReply}
 use Rattle.tsp_base.specs.declared.stamp.Stamp.TheVariants.{Request, Reply}
 use Rattle.tsp_codec.specs.Spelling.{Spells, SpellsMessage, SpellsName, SpellsRequest, SpellsReply}
-use Rattle.tsp_codec.specs.Canon.{IsWritable, IsWritableBody, message_octets, stamp_octets, name_octets, canon, written_size}
+use Rattle.tsp_codec.specs.Canon.{IsWritable, IsWritableBody, message_octets, stamp_octets, name_octets, room_for, canon, written_size}
 
 -- a kind with hops has no time
 carries_time-hops : (k : Kind) → carries_hops k ≡ true → carries_time k ≡ false
@@ -69,12 +69,30 @@ body_fits-nothing k e = let p = and_parts _ _ e in (not-true _ p.0, not-true _ p
 replicate-suc : (n m : ℕ) → n ≡ suc m → replicate {A = ℕ} n 0 ≡ 0 ∷ replicate m 0
 replicate-suc n m e = rw e refl
 
-length-name_octets : (name : List ℕ) → IsName name → length (name_octets name) ≡ 64
-length-name_octets name p = let s = p.short in grind (arith, common_steps)
+-- a name's room has a place for its NUL, and is no longer than a datagram allows
+room_by : (n : ℕ) (b : Bool) → nat_le n 63 ≡ b → n ≤ 255 → (n < (if b then 64 else 256)) × ((if b then 64 else 256) ≤ 256)
+room_by n true e h = let le : n ≤ 63 = leb-true n 63 e in (omega (arith, le), omega arith)
+room_by n false e h = (omega (arith, h), omega arith)
 
--- a name's 64 octets are the name, a NUL and a rest
-name_octets-split : (name : List ℕ) → IsName name → name_octets name ≡ name ++ 0 ∷ replicate (63 - length name) 0
-name_octets-split name p = let s = p.short in ap (λ z. name ++ z) (replicate-suc (64 - length name) (63 - length name) (omega arith))
+pub room_for-above : (n : ℕ) → n ≤ 255 → (n < room_for n) × (room_for n ≤ 256)
+room_for-above n h = room_by n (nat_le n 63) refl h
+
+length-filled : (name : List ℕ) (room : ℕ) → length name < room → length (name ++ replicate (room - length name) 0) ≡ room
+length-filled name room h = grind (arith, common_steps)
+
+length-name_octets : (name : List ℕ) → IsName name → length (name_octets name) ≡ room_for (length name)
+length-name_octets name p = length-filled name (room_for (length name)) (room_for-above (length name) p.short).0
+
+-- the fill after a name begins with its NUL
+abbrev pub fill_after : List ℕ → List ℕ
+fill_after name = replicate (room_for (length name) - length name - 1) 0
+
+replicate-below : (room n : ℕ) → n < room → replicate {A = ℕ} (room - n) 0 ≡ 0 ∷ replicate (room - n - 1) 0
+replicate-below room n h = replicate-suc (room - n) (room - n - 1) (omega (arith, h))
+
+-- a written name is the name, a NUL and a rest
+name_octets-split : (name : List ℕ) → IsName name → name_octets name ≡ name ++ 0 ∷ fill_after name
+name_octets-split name p = ap (λ z. name ++ z) (replicate-below (room_for (length name)) (length name) (room_for-above (length name) p.short).0)
 
 -- seconds and microseconds give the time back
 int_div_euclid-int_rem_euclid : (t : ℤ) → (int_div_euclid t (pos 1000000) *ℤ pos 1000000) +ℤ int_rem_euclid t (pos 1000000) ≡ t
@@ -108,12 +126,12 @@ abbrev message : Kind → ℕ → Body → List ℕ → MessageValue
 message k n b name = record { kind = k; number = n; body = b; name = name }
 
 SpellsName-octets : (k : Kind) (n : ℕ) (b : Body) (name : List ℕ) → IsName name → drop 12 (message_octets (message k n b name)) ≡ name_octets name → SpellsName (message_octets (message k n b name)) name
-SpellsName-octets k n b name p e = (p, (replicate (63 - length name) 0, e ∙ name_octets-split name p))
+SpellsName-octets k n b name p e = (p, (fill_after name, e ∙ name_octets-split name p))
 
 SpellsMessage-hops : (k : Kind) (n h : ℕ) (name : List ℕ) → n < 2 ^ 16 → body_fits k (Hops h) ≡ true → IsName name
     → SpellsMessage (message_octets (message k n (Hops h) name)) (message k n (Hops h) name)
 SpellsMessage-hops k n h name small fits p = record {
-  head = let z = length-name_octets name p in record { low = omega arith; high = omega arith; version = refl };
+  head = let z = length-name_octets name p in let s = room_for-above (length name) p.short in record { low = omega arith; high = omega arith; version = refl };
   kind = kind_of-kind_number k;
   number = sym (from_be_bytes-to_be_bytes_2 n small);
   body = let f = body_fits-hops k h fits in (carries_time-hops k f, f, refl);
@@ -123,7 +141,7 @@ SpellsMessage-hops k n h name small fits p = record {
 SpellsMessage-nothing : (k : Kind) (n : ℕ) (name : List ℕ) → n < 2 ^ 16 → body_fits k Nothing ≡ true → IsName name
     → SpellsMessage (message_octets (message k n Nothing name)) (message k n Nothing name)
 SpellsMessage-nothing k n name small fits p = record {
-  head = let z = length-name_octets name p in record { low = omega arith; high = omega arith; version = refl };
+  head = let z = length-name_octets name p in let s = room_for-above (length name) p.short in record { low = omega arith; high = omega arith; version = refl };
   kind = kind_of-kind_number k;
   number = sym (from_be_bytes-to_be_bytes_2 n small);
   body = body_fits-nothing k fits;
@@ -135,7 +153,7 @@ SpellsMessage-time : (k : Kind) (n : ℕ) (t : ℤ) (name : List ℕ) → n < 2 
 SpellsMessage-time k n t name small fits m p =
     let s = cast_signed-octets_4 (int_div_euclid t (pos 1000000)) (SFits-int_div_euclid t m) in
     let u = cast_signed-octets_4 (int_rem_euclid t (pos 1000000)) (SFits-int_rem_euclid t) in record {
-      head = let z = length-name_octets name p in record { low = omega arith; high = omega arith; version = refl };
+      head = let z = length-name_octets name p in let s = room_for-above (length name) p.short in record { low = omega arith; high = omega arith; version = refl };
       kind = kind_of-kind_number k;
       number = sym (from_be_bytes-to_be_bytes_2 n small);
       body = (
@@ -178,7 +196,7 @@ Spells-canon (Message m) w = SpellsMessage-octets m.kind m.number m.body m.name 
 Spells-canon (StampOf (Request a b)) w = SpellsRequest-octets a b w.0 w.1
 Spells-canon (StampOf (Reply r)) w = SpellsReply-octets r w.0 w.1 w.2
 
-length-message_octets : (k : Kind) (n : ℕ) (b : Body) (name : List ℕ) → IsName name → length (message_octets (message k n b name)) ≡ 76
+length-message_octets : (k : Kind) (n : ℕ) (b : Body) (name : List ℕ) → IsName name → length (message_octets (message k n b name)) ≡ 12 + room_for (length name)
 length-message_octets k n Nothing name p = let z = length-name_octets name p in omega arith
 length-message_octets k n (Hops h) name p = let z = length-name_octets name p in omega arith
 length-message_octets k n (TimeBody t) name p = let z = length-name_octets name p in omega arith

@@ -1,5 +1,5 @@
 -- The written spelling of a datagram.
-use Rattle.std.specs.Prelude.{◌≡◌, ℕ, ◌-◌, ◌^◌, ◌<◌, ℤ, pos, List, [], ◌∷◌, ◌++◌, length, replicate, true}
+use Rattle.std.specs.Prelude.{◌≡◌, ℕ, ◌+◌, ◌-◌, ◌^◌, ◌<◌, nat_le, if◌then◌else◌, ℤ, pos, List, [], ◌∷◌, ◌++◌, length, replicate, true}
 use Rattle.std.specs.Int.{w16, w32, w64, to_be_bytes, cast_unsigned, int_div_euclid, int_rem_euclid}
 use Rattle.tsp_base.specs.Kinds.{kind_number}
 use Rattle.tsp_base.specs.Messages.{MessageValue, body_fits}
@@ -27,11 +27,15 @@ body_octets Nothing = replicate 8 0
 body_octets (Hops h) = h ∷ replicate 7 0
 body_octets (TimeBody t) = time_octets t
 
--- a name, and zeros up to 64 octets
-abbrev pub name_octets : List ℕ → List ℕ
-name_octets name = name ++ replicate (64 - length name) 0
+-- how many octets are written for a name of so many, its NUL and the fill included
+abbrev pub room_for : ℕ → ℕ
+room_for n = if nat_le n 63 then 64 else 256
 
--- the 76 octets of a message
+-- a name, and zeros up to its room's end
+abbrev pub name_octets : List ℕ → List ℕ
+name_octets name = name ++ replicate (room_for (length name) - length name) 0
+
+-- the octets of a message: 76 where its name has at most 63 octets, else 268
 abbrev pub message_octets : MessageValue → List ℕ
 message_octets m = (((kind_number m.kind ∷ 1 ∷ []) ++ to_be_bytes w16 m.number) ++ body_octets m.body) ++ name_octets m.name
 
@@ -47,7 +51,7 @@ canon (StampOf stamp) = stamp_octets stamp
 
 -- how many octets are written
 abbrev pub written_size : Datagram → ℕ
-written_size (Message message) = 76
+written_size (Message message) = 12 + room_for (length message.name)
 written_size (StampOf stamp) = 28
 
 -- a body's number is in its range

@@ -9,9 +9,9 @@ use Rattle.tsp_base.specs.declared.datagram.Taken.TheVariants.{Good, Bad}
 use Rattle.tsp_codec.specs.Numbers.{octet_at, be16_at, be64_at}
 use Rattle.tsp_codec.specs.Spelling.{Spells, IsTime, reading_field}
 
--- the first 64 octets of the name's place
+-- the first 256 octets of the name's place
 abbrev pub name_room : List ℕ → List ℕ
-name_room octets = take 64 (drop 12 octets)
+name_room octets = take 256 (drop 12 octets)
 
 -- the type is a message's
 abbrev pub HasKind : List ℕ → Type 0
@@ -37,8 +37,8 @@ Applies octets Long = 268 < length octets
 Applies octets Version = octet_at octets 1 ≢ 1
 Applies octets BadKind = (kind_of (octet_at octets 0) ≡ None) × (octet_at octets 0 ≢ 128) × (octet_at octets 0 ≢ 129)
 Applies octets StampLength = HasStampType octets × (length octets ≢ 28)
-Applies octets NoEnd = HasKind octets × (length (drop 12 octets) < 64) × ¬ Contains (name_room octets) 0
-Applies octets NameTooLong = HasKind octets × (64 ≤ length (drop 12 octets)) × ¬ Contains (name_room octets) 0
+Applies octets NoEnd = HasKind octets × (length (drop 12 octets) < 256) × ¬ Contains (name_room octets) 0
+Applies octets NameTooLong = HasKind octets × (256 ≤ length (drop 12 octets)) × ¬ Contains (name_room octets) 0
 Applies octets Reserved = ((octet_at octets 0 ≡ 128) × ((be16_at octets 2 ≢ 0) ⊎ (be64_at octets 20 ≢ 0))) ⊎ ((octet_at octets 0 ≡ 129) × (32767 < be16_at octets 2))
 Applies octets Time = (HasTimedKind octets × ¬ IsTime octets) ⊎ ((octet_at octets 0 ≡ 129) × ¬ IsReading (reading_field octets))
 

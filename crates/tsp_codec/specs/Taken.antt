@@ -32,7 +32,7 @@ body_of o k = if carries_time k then (if is_time o then Some (TimeBody (time_fie
 
 -- a message of this kind, with this name and this body
 abbrev pub message_taken : List ℕ → Kind → Option (List ℕ) → Option Body → Taken
-message_taken o k None body = Bad (if nat_lt (length o) 76 then NoEnd else NameTooLong)
+message_taken o k None body = Bad (if nat_lt (length o) 268 then NoEnd else NameTooLong)
 message_taken o k (Some name) None = Bad Time
 message_taken o k (Some name) (Some body) = Good (Message (record { kind = k; number = be16_at o 2; body = body; name = name }))
 

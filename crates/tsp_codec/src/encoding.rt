@@ -5,16 +5,19 @@ ghost use Rattle.arrayvec.specs.ArrayVec.{array_vec_len};
 ghost use Rattle.tsp_base.specs.Names.{IsName};
 ghost use Rattle.tsp_base.specs.Times.{IsMicros};
 ghost use Rattle.tsp_codec.specs.Spelling.{Spells};
-ghost use Rattle.tsp_codec.specs.Canon.{int_octets, time_octets, body_octets, name_octets, message_octets, stamp_octets, canon, IsWritableBody, IsWritable};
+ghost use Rattle.tsp_codec.specs.Canon.{int_octets, time_octets, body_octets, name_octets, room_for, message_octets, stamp_octets, canon, IsWritableBody, IsWritable};
 ghost use Rattle.tsp_base.specs.declared.datagram.Datagram.{Datagram};
 
-use crate::layout::{NAME_ROOM, REPLY, REQUEST, SECOND, VERSION};
+use crate::layout::{NAME_ROOM, REPLY, REQUEST, SECOND, SHORT_NAME, SHORT_ROOM, VERSION};
 use arrayvec::ArrayVec;
 use tsp_base::datagram::Datagram;
 use tsp_base::message::{Body, Message};
 use tsp_base::micros::Micros;
 use tsp_base::name::Name;
 use tsp_base::stamp::Stamp;
+
+/// What fills a spelling where it has nothing.
+static ZEROS: [u8; 256] = [0; 256];
 
 /// Appends octets for which there is room.
 fn append(out: &mut ArrayVec<u8, 268>, piece: &[u8])
@@ -26,12 +29,11 @@ fn append(out: &mut ArrayVec<u8, 268>, piece: &[u8])
 
 /// Appends this many zeros.
 fn append_zeros(out: &mut ArrayVec<u8, 268>, count: usize)
-    requires { array_vec_len out.old + count ≤ 268 }
+    requires room { array_vec_len out.old + count ≤ 268 }
+    requires few { count ≤ 256 }
     ensures { out.new.items ≡ out.old.items ++ replicate count 0 }
 {
-    for _ in 0..count {
-        out.push(0);
-    }
+    append(out, &ZEROS[..count]);
 }
 
 /// Appends four octets in two's complement.
@@ -81,18 +83,29 @@ fn append_body(out: &mut ArrayVec<u8, 268>, body: &Body)
     }
 }
 
-/// Appends a name, and zeros up to 64 octets.
+/// The octets that a name of so many is written in.
+fn room_for(len: usize) -> usize
+    ensures { result ≡ room_for len }
+{
+    if len <= SHORT_NAME {
+        SHORT_ROOM
+    } else {
+        NAME_ROOM
+    }
+}
+
+/// Appends a name, and zeros up to the end of its room.
 fn append_name(out: &mut ArrayVec<u8, 268>, name: &Name)
-    requires { array_vec_len out.old + 64 ≤ 268 }
+    requires { array_vec_len out.old + 256 ≤ 268 }
     ensures octets { out.new.items ≡ out.old.items ++ name_octets name.now }
     ensures valid { IsName name.now }
 {
     let octets = name.octets();
     append(out, octets);
-    append_zeros(out, NAME_ROOM - octets.len());
+    append_zeros(out, room_for(octets.len()) - octets.len());
 }
 
-/// The 76 octets of a message.
+/// The octets of a message.
 fn message_spelling(message: &Message) -> ArrayVec<u8, 268>
     ensures octets { result.items ≡ message_octets message.now }
     ensures ranges { IsWritable (Datagram.Message message.now) }
@@ -129,8 +142,8 @@ fn stamp_spelling(stamp: &Stamp) -> ArrayVec<u8, 268>
     out
 }
 
-/// The one written spelling: 76 octets for a message, zeros where it has nothing and after its name,
-/// and 28 octets for a stamp. A reader takes it as the same datagram.
+/// The one written spelling: 28 octets for a stamp, 76 for a message whose name has at most 63 octets,
+/// else 268, with zeros where it has nothing and after its name. A reader takes it as the same datagram.
 pub fn encode(datagram: &Datagram) -> ArrayVec<u8, 268>
     ensures octets { result.items ≡ canon datagram.now }
     ensures ranges { IsWritable datagram.now }

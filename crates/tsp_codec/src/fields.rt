@@ -3,7 +3,6 @@ ghost use Rattle.std.specs.Prelude.{◌≡◌, ◌+◌, ◌≤◌, ◌<◌, leng
 ghost use Rattle.std.specs.Int.{cast_signed, w32, w64};
 ghost use Rattle.tsp_base.specs.Kinds.{carries_time};
 ghost use Rattle.tsp_base.specs.Messages.{body_fits};
-ghost use Rattle.tsp_base.specs.Names.{IsName};
 ghost use Rattle.tsp_codec.specs.Numbers.{be16_at, be32_at, be64_at};
 ghost use Rattle.tsp_codec.specs.Spelling.{time_field, IsTime, SpellsBody, SpellsName};
 ghost use Rattle.tsp_codec.specs.Faults.{name_room};
@@ -107,7 +106,7 @@ fn front_of(octets: &[u8], count: usize) -> &[u8]
     }
 }
 
-/// The first 64 octets of the name's place.
+/// The first 256 octets of the name's place.
 fn room_of(octets: &[u8]) -> &[u8]
     requires { 12 ≤ length octets.now }
     ensures { result.now ≡ name_room octets.now }
@@ -124,18 +123,7 @@ fn nul_in(room: &[u8]) -> Option<usize>
     room.iter().position(|octet| *octet == 0)
 }
 
-/// The name of octets that are known to be one.
-fn known_name(octets: &[u8]) -> Name
-    requires { IsName octets.now }
-    ensures { result ≡ octets.now }
-{
-    match Name::of(octets) {
-        Ok(name) => name,
-        Err(_) => unreachable!(),
-    }
-}
-
-/// The name, which the first NUL from octet 12 on ends; None where the first 64 octets have none.
+/// The name, which the first NUL from octet 12 on ends; None where the first 256 octets have none.
 pub fn name_at(octets: &[u8]) -> Option<Name>
     requires { 12 ≤ length octets.now }
     ensures { MatchOption result (¬ Contains (name_room octets.now) 0)
@@ -143,7 +131,7 @@ pub fn name_at(octets: &[u8]) -> Option<Name>
 {
     let room = room_of(octets);
     match nul_in(room) {
-        Some(end) => Some(known_name(&room[..end])),
+        Some(end) => Some(Name::new(&room[..end])),
         None => None,
     }
 }

@@ -33,7 +33,7 @@ pub fn written_spells()
     ensures { (d : Datagram) → IsWritable d → Spells (canon d) d }
 {}
 
-/// A message is written in 76 octets, a stamp in 28.
+/// A message is written in 76 octets where its name has at most 63, else in 268; a stamp in 28.
 pub fn written_has_its_size()
     ensures { (d : Datagram) → IsWritable d → length (canon d) ≡ written_size d }
 {}

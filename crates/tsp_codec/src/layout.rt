@@ -21,8 +21,14 @@ pub const STAMP: usize = 28;
 /// Where the name stands in a message.
 pub const NAME_AT: usize = 12;
 
-/// The octets that a written name takes, its NUL and the fill included. A longer name is refused.
-pub const NAME_ROOM: usize = 64;
+/// The longest name that is written in `SHORT_ROOM` octets.
+pub const SHORT_NAME: usize = 63;
+
+/// The octets that a name of at most `SHORT_NAME` octets is written in, its NUL and the fill included.
+pub const SHORT_ROOM: usize = 64;
+
+/// The octets that a longer name is written in. A name that doesn't end in them is refused.
+pub const NAME_ROOM: usize = 256;
 
 /// The greatest ticket of a reply.
 pub const LAST_TICKET: u16 = 32_767;

@@ -80,6 +80,28 @@ fn what_follows_the_name_is_passed_over(rt: HostRuntime) {
     assert_eq!(rt; fault_of(longer.as_slice()), Some(DecodeFault::Long));
 }
 
+/// Names on both sides of the lengths at which their spelling changes.
+#[test]
+fn long_names_have_long_spellings(rt: HostRuntime) {
+    let head = [1, 1, 0, 7, 0, 0, 0, 0, 0, 0, 4, 0xd2];
+    let name = [b'a'; 255];
+    for (count, size) in [(63, 76), (64, 268), (255, 268)] {
+        let octets = octets_of(&head, &name[..count], 0, 1);
+        assert!(rt;
+            spell_message(
+                octets.as_slice(),
+                Kind::AdjTime,
+                7,
+                &time_of(1234),
+                &name[..count]
+            )
+        );
+        let written = octets_of(&head, &name[..count], 0, size - 12 - count);
+        assert_eq!(rt; written.len(), size);
+        assert!(rt; is_written_as(octets.as_slice(), written.as_slice()));
+    }
+}
+
 /// Seconds and microseconds at the ends of their ranges.
 #[test]
 fn times_have_their_range(rt: HostRuntime) {
@@ -143,7 +165,10 @@ fn refuses_by_the_first_fault(rt: HostRuntime) {
     for (count, end, fault) in [
         (63, 1, None),
         (63, 0, Some(DecodeFault::NoEnd)),
-        (64, 0, Some(DecodeFault::NameTooLong)),
+        (64, 0, Some(DecodeFault::NoEnd)),
+        (255, 1, None),
+        (255, 0, Some(DecodeFault::NoEnd)),
+        (256, 0, Some(DecodeFault::NameTooLong)),
     ] {
         let mut octets = octets_of(&head, b"", b'a', count);
         for _ in 0..end {

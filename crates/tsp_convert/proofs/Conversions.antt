@@ -22,6 +22,13 @@ AllZip-more R [] (b ∷ ys) x y h r = absurd h
 AllZip-more R (a ∷ xs) [] x y h r = absurd h
 AllZip-more R (a ∷ xs) (b ∷ ys) x y h r = (h.0, AllZip-more R xs ys x y h.1 r)
 
+AllZip-before : {A B : Type 0} (R : A → B → Type 0) (xs : List A) (x : A) (ys : List B) → AllZip R (xs ++ x ∷ []) ys → (front : List B) × (y : B) × AllZip R xs front × R x y × (ys ≡ front ++ y ∷ [])
+AllZip-before R [] x [] h = absurd h
+AllZip-before R [] x (y ∷ []) h = ([], y, tt, h.0, refl)
+AllZip-before R [] x (y ∷ z ∷ ys) h = absurd h.1
+AllZip-before R (a ∷ xs) x [] h = absurd h
+AllZip-before R (a ∷ xs) x (b ∷ ys) h = let t = AllZip-before R xs x ys h.1 in (b ∷ t.0, t.1, (h.0, t.2), t.3, ap (λ l. b ∷ l) t.4)
+
 -- the lines of one value more
 closed-more : {A : Type 0} (f : A → List ℕ) (xs : List A) (x : A) → closed (map f xs) ++ close (f x) ≡ closed (map f (xs ++ x ∷ []))
 closed-more f xs x = sym (ap closed (map-append f xs (x ∷ [])) ∙ flat_map-append close (map f xs) (f x ∷ []) ∙ ap (λ l. closed (map f xs) ++ l) (append-nil (close (f x))))
@@ -55,3 +62,12 @@ AllZip-one R one (x ∷ xs) (y ∷ ys) (z ∷ zs) h k = rw (one x y z h.0 k.0, A
 pub Converts-one : {A : Type 0} (Is : List ℕ → A → Type 0) (write : A → List ℕ) (one : (line : List ℕ) (x y : A) → Is line x → Is line y → x ≡ y)
     (lines : List (List ℕ)) (text other : List ℕ) → Converts Is write lines text → Converts Is write lines other → text ≡ other
 Converts-one Is write one lines text other c d = c.2 ∙ ap (λ xs. closed (map write xs)) (AllZip-one Is one lines c.0 d.0 c.1 d.1) ∙ sym d.2
+
+-- a line stands after lines with their output, and is a value
+pub Converts-before : {A : Type 0} (Is : List ℕ → A → Type 0) (write : A → List ℕ) (lines : List (List ℕ)) (line text : List ℕ) → Converts Is write (lines ++ line ∷ []) text
+    → ((front : List ℕ) × (more : List ℕ) × Converts Is write lines front × (text ≡ front ++ more)) × ((x : A) × Is line x)
+Converts-before Is write lines line text c =
+    let t = AllZip-before Is lines line c.0 c.1 in (
+      (closed (map write t.0), close (write t.1), (t.0, t.2, refl), c.2 ∙ ap (λ v. closed (map write v)) t.4 ∙ sym (closed-more write t.0 t.1)),
+      (t.1, t.3),
+    )

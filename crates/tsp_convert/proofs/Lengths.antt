@@ -33,7 +33,7 @@ octets_length : (name : List ℕ) → length (flat_map escaped name) ≤ 3 * len
 octets_length [] = omega arith
 octets_length (c ∷ cs) = omega (arith, length-append (escaped c) (flat_map escaped cs), octet_length (is_plain c) c, octets_length cs)
 
-name_length : (name : List ℕ) → IsName name → length (name_text name) ≤ 189
+name_length : (name : List ℕ) → IsName name → length (name_text name) ≤ 765
 name_length [] h = omega arith
 name_length (c ∷ cs) h = omega (arith, octets_length (c ∷ cs), h.short)
 
@@ -47,7 +47,7 @@ body_length Nothing h = omega arith
 body_length (Time t) h = omega (arith, length-append (signed_decimal t) space, time_length t h.low h.high)
 body_length (Hops n) h = omega (arith, length-append (decimal n) space, number_length n (omega (arith, h)))
 
-message_length : (m : MessageValue) → IsMessage m → length (message_line m) ≤ 242
+message_length : (m : MessageValue) → IsMessage m → length (message_line m) ≤ 818
 message_length m h = omega (
   arith,
   length-append (((((kind_word m.kind ++ space) ++ decimal m.number) ++ space) ++ body_text m.body)) (name_text m.name),
@@ -61,7 +61,7 @@ message_length m h = omega (
   name_length m.name h.name,
 )
 
-request_length : (word counter : ℕ) → word < 2 ^ 64 → counter < 2 ^ 64 → length (stamp_text (Request word counter)) ≤ 242
+request_length : (word counter : ℕ) → word < 2 ^ 64 → counter < 2 ^ 64 → length (stamp_text (Request word counter)) ≤ 818
 request_length word counter w c = omega (
   arith,
   length-append ((codes "request " ++ decimal word) ++ space) (decimal counter),
@@ -71,7 +71,7 @@ request_length word counter w c = omega (
   number_length counter c,
 )
 
-reply_length : (r : ReplyValue) → r.word < 2 ^ 64 → r.counter < 2 ^ 64 → IsReply r.ticket r.reading → length (reply_text r) ≤ 242
+reply_length : (r : ReplyValue) → r.word < 2 ^ 64 → r.counter < 2 ^ 64 → IsReply r.ticket r.reading → length (reply_text r) ≤ 818
 reply_length r w c v = omega (
   arith,
   length-append ((((((codes "reply " ++ decimal r.ticket) ++ space) ++ decimal r.word) ++ space) ++ decimal r.counter) ++ space) (signed_decimal r.reading),
@@ -87,8 +87,8 @@ reply_length r w c v = omega (
   time_length r.reading (omega (arith, ints, v.low)) v.high,
 )
 
--- a message line has at most 242 octets
-pub length-message_text : (d : Datagram) → IsDatagram d → length (message_text d) ≤ 242
+-- a message line has at most 818 octets
+pub length-message_text : (d : Datagram) → IsDatagram d → length (message_text d) ≤ 818
 length-message_text (Message m) h = message_length m h
 length-message_text (Stamp (Request word counter)) h = request_length word counter h.0 h.1
 length-message_text (Stamp (Reply r)) h = reply_length r h.0 h.1 h.2

@@ -4,4 +4,6 @@ mod NamesApart
 mod LinesApart
 mod InRanges
 mod Hexes
-mod Unrefusals
+mod Definites
+mod Feedless
+mod Returns

@@ -27,6 +27,7 @@ pack_meaning = record {
   accepts = λ lines text. (datagrams : List Datagram) × AllZip IsLineOf lines datagrams × (text ≡ packed datagrams);
   refuses = λ lines line cause. RefusesMessage line cause;
   limits = λ lines line. ⊥;
+  full = λ lines. ⊥;
   ends = λ lines more. more ≡ [];
   lacks = λ lines cause. ⊥;
 }

@@ -38,6 +38,7 @@ show_meaning = record {
   accepts = λ lines text. (datagrams : List Datagram) × AllZip IsHexOf lines datagrams × (text ≡ shown datagrams);
   refuses = λ lines line cause. RefusesHex line cause;
   limits = λ lines line. ⊥;
+  full = λ lines. ⊥;
   ends = λ lines more. more ≡ [];
   lacks = λ lines cause. ⊥;
 }

@@ -1,5 +1,5 @@
 //! The output of a line.
-ghost use Rattle.std.specs.Prelude.{◌≡◌, ℕ, ◌≤◌, ◌<◌, [], length, OnOk, OnErr, IfErr, Err};
+ghost use Rattle.std.specs.Prelude.{◌≡◌, ◌≢◌, ℕ, ◌≤◌, ◌<◌, [], length, OnOk, OnErr, IfErr, Err};
 ghost use Rattle.tsp_io.specs.Counts.{Rose};
 ghost use Rattle.tsp_lines.specs.Meanings.{stop_of};
 ghost use Rattle.tsp_lines.specs.Outputs.{Hands};
@@ -17,6 +17,7 @@ pub(crate) fn hand_over<K: Sink>(text: &[u8], output: &mut Output, sink: &mut K)
     ensures stop { IfErr result (λ stop. (fault : Unwritten) × (stop ≡ stop_of fault)) }
     ensures later { K.faults sink.old ≤ K.faults sink.new }
     ensures cause { result ≡ Err Stop.WriteFault → Rose (K.faults sink.old) (K.faults sink.new) × (0 < length output.new) }
+    ensures still { result ≢ Err Stop.WriteFault → K.faults sink.new ≡ K.faults sink.old }
 {
     match output.put(sink, text) {
         Ok(()) => Ok(()),

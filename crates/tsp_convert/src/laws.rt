@@ -1,8 +1,11 @@
 //! Laws of the two conversions.
-ghost use Rattle.std.specs.Prelude.{◌≡◌, ℕ, List};
+ghost use Rattle.std.specs.Prelude.{◌≡◌, ◌≤◌, ℕ, List, length};
 ghost use Rattle.std.specs.List.{All};
 ghost use Rattle.tsp_base.specs.declared.datagram.Datagram.{Datagram};
-ghost use Rattle.tsp_lines.specs.Lines.{closed};
+ghost use Rattle.tsp_lines.specs.Answers.{IsAnswer};
+ghost use Rattle.tsp_lines.specs.Definite.{IsDefinite};
+ghost use Rattle.tsp_lines.specs.Lines.{NoFeed, closed};
+ghost use Rattle.tsp_lines.specs.declared.treat.Outcome.{Outcome};
 ghost use Rattle.tsp_convert.specs.Shows.{IsHexOf, RefusesHex, show_meaning};
 ghost use Rattle.tsp_convert.specs.Packs.{IsLineOf, pack_meaning};
 ghost use Rattle.tsp_convert.specs.Returns.{IsWritten};
@@ -32,8 +35,25 @@ pub fn one_output_of_pack()
     ensures { (lines : List (List ℕ)) (text other : List ℕ) → pack_meaning.accepts lines text → pack_meaning.accepts lines other → text ≡ other }
 {}
 
+/// At each place of the lines one thing at most may follow, for `show`.
+pub fn definite_show()
+    ensures { IsDefinite show_meaning }
+{}
+
+/// At each place of the lines one thing at most may follow, for `pack`.
+pub fn definite_pack()
+    ensures { IsDefinite pack_meaning }
+{}
+
 /// What `show` makes of written octets in lower case are lines of which `pack` makes these octets again.
 pub fn packs_what_was_shown()
     ensures { (lines : List (List ℕ)) (text : List ℕ) → All IsWritten lines → show_meaning.accepts lines text
-        → (back : List (List ℕ)) × (text ≡ closed back) × pack_meaning.accepts back (closed lines) }
+        → (back : List (List ℕ)) × All NoFeed back × (text ≡ closed back) × pack_meaning.accepts back (closed lines) }
+{}
+
+/// Where the answer of `show` to written lines in lower case, each with its line feed, is `Ok` with some
+/// output, the answer of `pack` to that output is `Ok` with these lines.
+pub fn answer_to_what_was_shown()
+    ensures { (limit : ℕ) (lines : List (List ℕ)) (output : List ℕ) → All NoFeed lines → All IsWritten lines → IsAnswer show_meaning limit (closed lines) Outcome.Ok output → length output ≤ limit
+        → IsAnswer pack_meaning limit output Outcome.Ok (closed lines) }
 {}

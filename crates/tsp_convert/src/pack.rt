@@ -47,6 +47,10 @@ impl Treatment for Pack {
 
     ghost stands = { λ _ _. ⊤ };
 
+    fn is_full(&self) -> bool {
+        false
+    }
+
     fn treat<K: Sink>(
         &mut self,
         line: &[u8],

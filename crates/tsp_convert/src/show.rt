@@ -51,6 +51,10 @@ impl Treatment for Show {
 
     ghost stands = { λ _ _. ⊤ };
 
+    fn is_full(&self) -> bool {
+        false
+    }
+
     fn treat<K: Sink>(
         &mut self,
         line: &[u8],

@@ -120,7 +120,9 @@ fn shows_what_octets_spell(rt: HostRuntime) {
         ("0001", "00", 13, Outcome::Bad, "bad 1 kind\n"),
         ("1901", "00", 13, Outcome::Bad, "bad 1 kind\n"),
         ("8201", "00", 13, Outcome::Bad, "bad 1 kind\n"),
-        (letters, "61", 76, Outcome::Bad, "bad 1 name-too-long\n"),
+        (letters, "61", 268, Outcome::Bad, "bad 1 name-too-long\n"),
+        (letters, "61", 267, Outcome::Bad, "bad 1 no-end\n"),
+        (letters, "61", 76, Outcome::Bad, "bad 1 no-end\n"),
         (letters, "61", 75, Outcome::Bad, "bad 1 no-end\n"),
         ("8001", "00", 27, Outcome::Bad, "bad 1 stamp-length\n"),
         ("80010001", "00", 28, Outcome::Bad, "bad 1 reserved\n"),
@@ -188,6 +190,29 @@ fn packs_lines_in_turn(rt: HostRuntime) {
     let empty_name = filled("13010003", "00", 76);
     assert_eq!(rt; empty_name.len(), 153);
     assert!(rt; packs(alloc, b"msite 3 %", Outcome::Ok, empty_name.as_slice()));
+}
+
+/// Names on both sides of the length from which a spelling has 268 octets.
+#[test]
+fn converts_long_names(rt: HostRuntime) {
+    let alloc = rt.alloc();
+    for (count, size) in [(63, 76), (64, 268), (255, 268)] {
+        let mut line = ArrayVec::<u8, 512>::new();
+        let mut hex = ArrayVec::<u8, 1024>::new();
+        let _ = line.try_extend_from_slice(b"adjtime 7 1234 ");
+        let _ = hex.try_extend_from_slice(b"0101000700000000000004d2");
+        for _ in 0..count {
+            let _ = line.try_push(b'a');
+            let _ = hex.try_extend_from_slice(b"61");
+        }
+        for _ in 12 + count..size {
+            let _ = hex.try_extend_from_slice(b"00");
+        }
+        let _ = line.try_push(b'\n');
+        let _ = hex.try_push(b'\n');
+        assert!(rt; shows(alloc, hex.as_slice(), Outcome::Ok, line.as_slice()));
+        assert!(rt; packs(alloc, line.as_slice(), Outcome::Ok, hex.as_slice()));
+    }
 }
 
 /// Each type of message and both stamps, in their written octets and as lines.

@@ -8,8 +8,9 @@ use Rattle.hex.proofs.HexLemmas.{decode_of-ok}
 use Rattle.tsp_base.specs.declared.event.Event.{Event}
 use Rattle.tsp_base.specs.declared.event.Event.TheVariants.{Boot, Turn, Take, Bytes}
 use Rattle.tsp_base.specs.declared.place.Place.{Place}
+use Rattle.tsp_base.specs.declared.place.Port.{Port}
 use Rattle.tsp_base.specs.declared.place.Place.TheVariants.{Peer, Stranger}
-use Rattle.tsp_script.specs.Schedules.{event_text, IsHexOf, IsPlace, IsTrueTime, IsEvent, SpellsRest}
+use Rattle.tsp_script.specs.Schedules.{event_text, port_text, IsHexOf, IsPlace, IsTrueTime, IsEvent, SpellsRest}
 use Rattle.tsp_script.specs.Traces.{place_text}
 use Rattle.tsp_script.specs.Words.{after_word}
 use Rattle.tsp_script.proofs.Cuts.{cut_front, no_space-decimal}
@@ -32,9 +33,9 @@ pub short_hex : (hex octets : List ℕ) → decode_of hex ≡ Ok octets → leng
 short_hex hex octets e h = omega (arith, (decode_of-ok hex octets e).2)
 
 -- octets handed by equal parts
-pub bytes_of_parts : (at node other : ℕ) (from place : Place) (octets handed : List ℕ) → node ≡ other → from ≡ place → octets ≡ handed
-    → Bytes at node (record { 0 = 0 }) from octets ≡ Bytes at other (record { 0 = 0 }) place handed
-bytes_of_parts at node other from place octets handed n p o = rw (n, p, o) refl
+pub bytes_of_parts : (at node other : ℕ) (port stroke : Port) (from place : Place) (octets handed : List ℕ) → node ≡ other → port ≡ stroke → from ≡ place → octets ≡ handed
+    → Bytes at node port from octets ≡ Bytes at other stroke place handed
+bytes_of_parts at node other port stroke from place octets handed n q p o = rw (n, q, p, o) refl
 
 -- the time, the word and what follows it in an event's line
 abbrev pub at_of : Event → ℕ
@@ -53,7 +54,7 @@ abbrev pub rest_of : Event → List ℕ → List ℕ
 rest_of (Boot at node word) hex = decimal node ++ 32 ∷ decimal word
 rest_of (Turn at node) hex = decimal node
 rest_of (Take at datagram) hex = decimal datagram
-rest_of (Bytes at node port from octets) hex = decimal node ++ 32 ∷ (place_text from ++ 32 ∷ hex)
+rest_of (Bytes at node port from octets) hex = (decimal node ++ port_text port) ++ 32 ∷ (place_text from ++ 32 ∷ hex)
 
 event_parts : (e : Event) (hex : List ℕ) → event_text e hex ≡ codes "at" ++ 32 ∷ (decimal (at_of e) ++ 32 ∷ (verb_of e ++ 32 ∷ rest_of e hex))
 event_parts (Boot at node word) hex = simp append_assoc
@@ -80,18 +81,16 @@ no_space-verb_of (Bytes at node port from octets) = no_space-spaceless (codes "b
 -- a line with `bytes` hands octets
 pub bytes_reads : (Holds : Event → List ℕ → Type 0) (at : ℕ) (line hex : List ℕ) (e : Event) → IsEvent e → IsHexOf hex e → at ≡ at_of e
     → codes "bytes" ≡ verb_of e → line ≡ rest_of e hex
-    → ((node : ℕ) (from : Place) (octets : List ℕ) → node < 2 ^ 32 → IsPlace from → 1 ≤ length octets → length octets ≤ 300 → decode_of hex ≡ Ok octets
-    → line ≡ decimal node ++ 32 ∷ (place_text from ++ 32 ∷ hex) → Holds (Bytes at node (record { 0 = 0 }) from octets) hex)
+    → ((node : ℕ) (port : Port) (from : Place) (octets : List ℕ) → node < 2 ^ 32 → port.0 < 2 ^ 8 → IsPlace from → 1 ≤ length octets → length octets ≤ 300 → decode_of hex ≡ Ok octets
+    → line ≡ (decimal node ++ port_text port) ++ 32 ∷ (place_text from ++ 32 ∷ hex) → Holds (Bytes at node port from octets) hex)
     → Holds e hex
 bytes_reads Holds at line hex (Boot t node word) h x a v l reads = absurd (cc)
 bytes_reads Holds at line hex (Turn t node) h x a v l reads = absurd (cc)
 bytes_reads Holds at line hex (Take t datagram) h x a v l reads = absurd (cc)
 bytes_reads Holds at line hex (Bytes t node port from octets) h x a v l reads =
-    let made = reads node from octets h.1 h.3 h.4 h.5 x l in
+    let made = reads node port from octets h.1 h.2 h.3 h.4 h.5 x l in
     let here : at ≡ t = a in
-    let first : 0 ≡ port.0 = sym h.2 in
-    let P : ℕ → ℕ → Type 0 = λ (y : ℕ) (p : ℕ). Holds (Bytes y node (record { 0 = p }) from octets) hex in
-    rw (here, first) at made
+    rw here at made
 
 -- every other line has numbers alone
 pub numbers_read : (at : ℕ) (verb line hex : List ℕ) (e : Event) → IsHexOf hex e → at ≡ at_of e → verb ≡ verb_of e → line ≡ rest_of e hex → (verb ≡ codes "bytes" → ⊥)

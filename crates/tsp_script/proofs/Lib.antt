@@ -5,7 +5,9 @@ pub mod HeadLines
 pub mod KindWords
 pub mod MessageLines
 pub mod NameTexts
+pub mod NetLines
 pub mod Outcomes
+pub mod Ports
 pub mod Apart
 pub mod Lengths
 pub mod OneEvent

@@ -1,5 +1,5 @@
 -- A line behind the header is one event's, or the last.
-use Rattle.std.proofs.Common.{◌≡◌, ◌≢◌, ℕ, List, ◌∷◌, ◌++◌, refl, sym, ap, ◌∙◌, arith, slice_index_or}
+use Rattle.std.proofs.Common.{◌≡◌, ◌≢◌, ℕ, ◌<◌, ◌^◌, List, ◌∷◌, ◌++◌, refl, sym, ap, ◌∙◌, arith, slice_index_or}
 use Rattle.std.specs.Prelude.{decimal, codes}
 use Rattle.std.proofs.lemmas.Fmt.{decimal_is_IsNumeral, decimal_injective}
 use Rattle.hex.proofs.HexLemmas.{decode_of-same}
@@ -9,8 +9,9 @@ use Rattle.tsp_base.specs.declared.place.Place.{Place}
 use Rattle.tsp_base.specs.declared.place.Place.TheVariants.{Peer, Stranger}
 use Rattle.tsp_script.specs.declared.event_line.EventItem.{EventItem}
 use Rattle.tsp_script.specs.declared.event_line.EventItem.TheVariants.{Event as EventOf, End}
-use Rattle.tsp_script.specs.Schedules.{event_text, IsHexOf, IsPlace, IsEvent, SpellsEvent}
+use Rattle.tsp_script.specs.Schedules.{event_text, port_text, IsHexOf, IsPlace, IsEvent, SpellsEvent}
 use Rattle.tsp_script.specs.Traces.{place_text}
+use Rattle.tsp_script.proofs.Ports.{ports_apart, no_space-port}
 use Rattle.tsp_script.proofs.Apart.{words_apart, numbers_apart}
 use Rattle.tsp_script.proofs.EventLines.{at_of, verb_of, rest_of, after_at, IsTrueTime-at_of, no_space-verb_of, no_space-place, dash_no_number}
 
@@ -34,12 +35,16 @@ rests_apart (Boot at node word) (Boot t n w) hex other h k x y a v r =
 rests_apart (Turn at node) (Turn t n) hex other h k x y a v r = let q = decimal_injective node n (omega (arith, h.1)) (omega (arith, k.1)) r in rw (a, q) refl
 rests_apart (Take at datagram) (Take t d) hex other h k x y a v r = let q = decimal_injective datagram d h.1 k.1 r in rw (a, q) refl
 rests_apart (Bytes at node port from octets) (Bytes t n q place handed) hex other h k x y a v r =
-    let p = numbers_apart node n (place_text from ++ 32 ∷ hex) (place_text place ++ 32 ∷ other) (omega (arith, h.1)) (omega (arith, k.1)) r in
-    let w = words_apart (place_text from) (place_text place) hex other (no_space-place from h.3) (no_space-place place k.3) p.1 in
+    let a64 : node < 2 ^ 64 = omega (arith, h.1) in
+    let b64 : n < 2 ^ 64 = omega (arith, k.1) in
+    let p64 : port.0 < 2 ^ 64 = omega (arith, h.2) in
+    let q64 : q.0 < 2 ^ 64 = omega (arith, k.2) in
+    let v = words_apart (decimal node ++ port_text port) (decimal n ++ port_text q) (place_text from ++ 32 ∷ hex) (place_text place ++ 32 ∷ other) (no_space-port node port a64 p64) (no_space-port n q b64 q64) r in
+    let p = ports_apart node n port q a64 b64 p64 q64 v.0 in
+    let w = words_apart (place_text from) (place_text place) hex other (no_space-place from h.3) (no_space-place place k.3) v.1 in
     let o = decode_of-same hex octets handed x (rw w.1 y) in
     let s = place_text-injective from place h.3 k.3 w.0 in
-    let i : port.0 ≡ q.0 = h.2 ∙ sym k.2 in
-    rw (a, p.0, i, s, o) refl
+    rw (a, p.0, p.1, s, o) refl
 rests_apart (Boot at node word) (Turn t n) hex other h k x y a v r = absurd (words_differ (codes "boot") (codes "turn") v (omega arith))
 rests_apart (Boot at node word) (Take t d) hex other h k x y a v r = absurd (words_differ (codes "boot") (codes "take") v (omega arith))
 rests_apart (Boot at node word) (Bytes t n q place handed) hex other h k x y a v r = absurd (words_differ (codes "boot") (codes "bytes") v (omega arith))

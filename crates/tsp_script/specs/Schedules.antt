@@ -1,6 +1,7 @@
 -- The lines of a schedule.
-use Rattle.std.specs.Prelude.{◌≡◌, ℕ, ◌^◌, ◌<◌, ◌≤◌, List, [], ◌∷◌, ◌++◌, Bool, true, false, ◌&&◌, ◌||◌, ◌==◌, nat_le, length, decimal, codes, nat_abs}
-use Rattle.std.specs.List.{AllPass}
+use Rattle.std.specs.Prelude.{◌≡◌, ◌⊎◌, ℕ, ◌^◌, ◌<◌, ◌≤◌, List, [], ◌∷◌, ◌++◌, Bool, true, false, ◌&&◌, ◌||◌, ◌==◌, nat_le, if◌then◌else◌, length, flat_map, decimal, codes, nat_abs}
+use Rattle.std.specs.List.{All, AllPass}
+use Rattle.std.specs.List.Sorted.{IsStrictlyIncreasing}
 use Rattle.std.specs.Fmt.{signed_decimal}
 use Rattle.std.specs.declared.result.Result.{Result}
 use Rattle.std.specs.declared.result.Result.TheVariants.{Ok, Err}
@@ -10,22 +11,31 @@ use Rattle.tsp_base.specs.declared.event.Event.{Event}
 use Rattle.tsp_base.specs.declared.event.Event.TheVariants.{Boot, Turn, Take, Bytes}
 use Rattle.tsp_base.specs.declared.header.NodeLine.{NodeLine}
 use Rattle.tsp_base.specs.declared.place.Place.{Place}
+use Rattle.tsp_base.specs.declared.place.Port.{Port}
 use Rattle.tsp_base.specs.declared.place.Place.TheVariants.{Peer, Stranger}
 use Rattle.tsp_script.specs.Texts.{space}
 use Rattle.tsp_script.specs.Traces.{place_text}
 use Rattle.tsp_script.specs.declared.event_line.EventItem.{EventItem}
 use Rattle.tsp_script.specs.declared.event_line.EventItem.TheVariants.{Event as EventOf, End}
 use Rattle.tsp_script.specs.declared.head_line.HeadItem.{HeadItem}
-use Rattle.tsp_script.specs.declared.head_line.HeadItem.TheVariants.{Title, Drift, Node, NotHead}
+use Rattle.tsp_script.specs.declared.head_line.HeadItem.TheVariants.{Title, Drift, Strict, Node, Net, NotHead}
 use Rattle.tsp_script.specs.declared.line_fault.LineFault.{LineFault}
 use Rattle.tsp_script.specs.declared.line_fault.LineFault.TheVariants.{Bad}
+
+-- the port behind a node's number: nothing for port 0
+abbrev pub port_text : Port → List ℕ
+port_text port = if port.0 == 0 then [] else 47 ∷ decimal port.0
+
+-- a word behind a node's stroke is this port's: its number, or nothing for port 0
+abbrev pub NamesPort : List ℕ → Port → Type 0
+NamesPort word port = ((port ≡ record { 0 = 0 }) × (word ≡ [])) ⊎ (word ≡ decimal port.0)
 
 -- the line of an event, in which `hex` is the hexadecimal of the octets that a node is handed
 abbrev pub event_text : Event → List ℕ → List ℕ
 event_text (Boot at node word) hex = codes "at " ++ decimal at ++ codes " boot " ++ decimal node ++ space ++ decimal word
 event_text (Turn at node) hex = codes "at " ++ decimal at ++ codes " turn " ++ decimal node
 event_text (Take at datagram) hex = codes "at " ++ decimal at ++ codes " take " ++ decimal datagram
-event_text (Bytes at node port from octets) hex = codes "at " ++ decimal at ++ codes " bytes " ++ decimal node ++ space ++ place_text from ++ space ++ hex
+event_text (Bytes at node port from octets) hex = codes "at " ++ decimal at ++ codes " bytes " ++ decimal node ++ port_text port ++ space ++ place_text from ++ space ++ hex
 
 -- the octets that a node is handed are what the hexadecimal spells, in either case; other events have none
 abbrev pub IsHexOf : List ℕ → Event → Type 0
@@ -41,12 +51,12 @@ IsPlace Stranger = Unit {0}
 abbrev pub IsTrueTime : ℕ → Type 0
 IsTrueTime at = at ≤ 1000000000000000
 
--- an event whose numbers are in their ranges, and which hands 1 to 300 octets, on port 0
+-- an event whose numbers are in their ranges, and which hands 1 to 300 octets
 abbrev pub IsEvent : Event → Type 0
 IsEvent (Boot at node word) = IsTrueTime at × (node < 2 ^ 32) × (word < 2 ^ 64)
 IsEvent (Turn at node) = IsTrueTime at × (node < 2 ^ 32)
 IsEvent (Take at datagram) = IsTrueTime at × (datagram < 2 ^ 64)
-IsEvent (Bytes at node port from octets) = IsTrueTime at × (node < 2 ^ 32) × (port.0 ≡ 0) × IsPlace from × (1 ≤ length octets) × (length octets ≤ 300)
+IsEvent (Bytes at node port from octets) = IsTrueTime at × (node < 2 ^ 32) × (port.0 < 2 ^ 8) × IsPlace from × (1 ≤ length octets) × (length octets ≤ 300)
 
 -- a line behind the header is an event's, or the last
 abbrev pub SpellsEvent : List ℕ → EventItem → Type 0
@@ -78,7 +88,7 @@ flag_text false = codes "s"
 abbrev pub node_text : NodeLine → List ℕ
 node_text n = codes "node " ++ n.name ++ space ++ signed_decimal n.rate ++ space ++ signed_decimal n.wall ++ space ++ flag_text n.may
 
--- 1 to 63 octets that may stand in a schedule's name
+-- 1 to 255 octets that may stand in a schedule's name
 pub record IsHost (octets : List ℕ) : Type 0 where
   pub some : 1 ≤ length octets
   pub name : IsName octets
@@ -90,12 +100,44 @@ pub record IsNodeLine (n : NodeLine) : Type 0 where
   pub rate : nat_abs n.rate ≤ 1000
   pub wall : nat_abs n.wall ≤ 1000000000000000
 
--- the line at a place of the header is this item's, places counted from 1: the title, the drift, and then nodes up to the first other line
+-- numbers, a space before each
+abbrev pub numbers_text : List ℕ → List ℕ
+numbers_text ns = flat_map (λ n. 32 ∷ decimal n) ns
+
+-- the same with no space before the first
+abbrev pub joined_text : List ℕ → List ℕ
+joined_text [] = []
+joined_text (n ∷ ns) = decimal n ++ numbers_text ns
+
+-- the line of a network
+abbrev pub net_text : List ℕ → List ℕ
+net_text members = codes "net" ++ numbers_text members
+
+-- 1 to 64 numbers in ascending order, whatever the nodes are
+pub record IsNetLine (members : List ℕ) : Type 0 where
+  pub some : 1 ≤ length members
+  pub few : length members ≤ 64
+  pub ascending : IsStrictlyIncreasing members
+  pub small : All (λ n. n < 2 ^ 32) members
+
+-- the title of a schedule of version 1, or of version 2, whose elections are strict
+abbrev pub IsTitle : List ℕ → ℕ → Type 0
+IsTitle line version = ((version ≡ 1) × (line ≡ codes "tsp-schedule 1")) ⊎ ((version ≡ 2) × (line ≡ codes "tsp-schedule 2"))
+
+-- a line from the third on is no longer the header's: it begins as no node's and no network's, and isn't the third line `strict`
+pub record IsNotHead (place : ℕ) (line : List ℕ) : Type 0 where
+  pub no_node : (rest : List ℕ) → line ≡ codes "node " ++ rest → ⊥
+  pub no_net : (rest : List ℕ) → line ≡ codes "net " ++ rest → ⊥
+  pub not_strict : place ≡ 3 → line ≡ codes "strict" → ⊥
+
+-- the line at a place of the header is this item's, places counted from 1: the title, the drift, and then `strict`, nodes and networks up to the first other line
 abbrev pub SpellsHead : ℕ → List ℕ → HeadItem → Type 0
-SpellsHead place line Title = (place ≡ 1) × (line ≡ codes "tsp-schedule 1")
+SpellsHead place line (Title version) = (place ≡ 1) × IsTitle line version
 SpellsHead place line (Drift p) = (place ≡ 2) × (p ≤ 1000) × (line ≡ codes "drift " ++ decimal p)
+SpellsHead place line Strict = (place ≡ 3) × (line ≡ codes "strict")
 SpellsHead place line (Node n) = (3 ≤ place) × IsNodeLine n × (line ≡ node_text n)
-SpellsHead place line NotHead = (3 ≤ place) × ((rest : List ℕ) → line ≡ codes "node " ++ rest → ⊥)
+SpellsHead place line (Net members) = (3 ≤ place) × IsNetLine members × (line ≡ net_text members)
+SpellsHead place line NotHead = (3 ≤ place) × IsNotHead place line
 
 -- what reading a line of the header gives: what it spells, or that it spells nothing
 abbrev pub ReadsHead : ℕ → List ℕ → Result HeadItem LineFault → Type 0

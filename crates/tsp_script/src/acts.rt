@@ -78,7 +78,7 @@ pub fn append_place(out: &mut ArrayVec<u8, 1024>, place: Place)
 }
 
 fn append_taken(out: &mut ArrayVec<u8, 1024>, from: Place, taken: &Taken)
-    requires { array_vec_len out.old + 268 ≤ 1024 }
+    requires { array_vec_len out.old + 844 ≤ 1024 }
     ensures { out.new.items ≡ out.old.items ++ (codes "took " ++ place_text from ++ space ++ taken_text taken.now) }
 {
     append(out, b"took ");
@@ -94,7 +94,7 @@ fn append_taken(out: &mut ArrayVec<u8, 1024>, from: Place, taken: &Taken)
 }
 
 fn append_post(out: &mut ArrayVec<u8, 1024>, number: u64, to: Place, datagram: &Datagram)
-    requires { array_vec_len out.old + 289 ≤ 1024 }
+    requires { array_vec_len out.old + 865 ≤ 1024 }
     ensures { out.new.items ≡ out.old.items ++ (codes "post " ++ decimal number ++ space ++ place_text to ++ space ++ message_text datagram.now) }
 {
     append(out, b"post ");
@@ -172,9 +172,9 @@ fn append_correct(out: &mut ArrayVec<u8, 1024>, amount: i64, stepped: bool, show
     append_signed(out, shown);
 }
 
-/// Writes an act, in at most 289 octets; the number is the posted datagram's, and read for a post alone.
+/// Writes an act, in at most 865 octets; the number is the posted datagram's, and read for a post alone.
 pub fn append_act(out: &mut ArrayVec<u8, 1024>, number: u64, act: &Act)
-    requires { array_vec_len out.old + 289 ≤ 1024 }
+    requires { array_vec_len out.old + 865 ≤ 1024 }
     ensures { out.new.items ≡ out.old.items ++ act_text number act.now }
 {
     match act {

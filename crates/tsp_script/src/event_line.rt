@@ -4,8 +4,9 @@ ghost use Rattle.arrayvec.specs.ArrayVec.{array_vec_len};
 ghost use Rattle.hex.specs.Hex.{decode_of};
 ghost use Rattle.tsp_base.specs.declared.event.Event.{Event};
 ghost use Rattle.tsp_base.specs.declared.place.Place.{Place};
+ghost use Rattle.tsp_base.specs.declared.place.Port.{Port};
 ghost use Rattle.tsp_script.specs.declared.event_line.EventItem.{EventItem};
-ghost use Rattle.tsp_script.specs.Schedules.{event_text, IsHexOf, IsPlace, IsEvent, SpellsEvent, SpellsRest, ReadsEvent};
+ghost use Rattle.tsp_script.specs.Schedules.{event_text, port_text, NamesPort, IsHexOf, IsPlace, IsEvent, SpellsEvent, SpellsRest, ReadsEvent};
 ghost use Rattle.tsp_script.specs.Traces.{place_text};
 
 use crate::acts::append_place;
@@ -13,7 +14,7 @@ use crate::line_fault::LineFault;
 use crate::numbers::{
     append, append_next_number, append_number, long_of, next_number, number_of, octets_of,
 };
-use crate::words::{cut, is_same};
+use crate::words::{cut, is_same, part};
 use arrayvec::ArrayVec;
 use tsp_base::constants::SCHEDULE_END;
 use tsp_base::event::Event;
@@ -42,8 +43,15 @@ fn event_text(event: &Event, hex: &[u8]) -> ArrayVec<u8, 1024>
         }
         Event::Turn { at, node } => append_at(&mut out, *at, b" turn ", *node as u64),
         Event::Take { at, datagram } => append_at(&mut out, *at, b" take ", *datagram),
-        Event::Bytes { at, node, from, .. } => {
+        Event::Bytes {
+            at,
+            node,
+            port,
+            from,
+            ..
+        } => {
             append_at(&mut out, *at, b" bytes ", *node as u64);
+            append_port(&mut out, *port);
             append(&mut out, b" ");
             append_place(&mut out, *from);
             append(&mut out, b" ");
@@ -63,6 +71,45 @@ fn append_at(out: &mut ArrayVec<u8, 1024>, at: u64, verb: &[u8], number: u64)
     append_number(out, at);
     append(out, verb);
     append_number(out, number);
+}
+
+/// Writes the port behind a node's number: nothing for port 0.
+fn append_port(out: &mut ArrayVec<u8, 1024>, port: Port)
+    requires { array_vec_len out.old + 21 ≤ 1024 }
+    ensures text { out.new.items ≡ out.old.items ++ port_text port }
+    ensures short { array_vec_len out.new ≤ array_vec_len out.old + 21 }
+{
+    if port.0 != 0 {
+        append(out, b"/");
+        append_number(out, port.0 as u64);
+    }
+}
+
+/// The node and its port that a word names: `N` is port 0, `N/Q` port Q. A word that ends with a stroke
+/// may be read too.
+fn node_of(word: &[u8]) -> Option<(u32, Port)>
+    ensures reads { (node : ℕ) (port : Port) → node < 2 ^ 32 → port.0 < 2 ^ 8 → word.now ≡ decimal node ++ port_text port
+        → IsSomeAnd result (λ r. (r.0 ≡ node) × (r.1 ≡ port)) }
+    ensures range { IfSome result (λ r. (r.0 < 2 ^ 32) × (r.1.0 < 2 ^ 8)) }
+{
+    let (node, port) = part(word, b'/');
+    let node = number_of(node)?;
+    let node = long_of(node)?;
+    let port = port_of(port)?;
+    Some((node, port))
+}
+
+/// The port that a number names, or port 0 where there is none.
+fn port_of(word: &[u8]) -> Option<Port>
+    ensures reads { (port : Port) → port.0 < 2 ^ 8 → NamesPort word.now port → result ≡ Some port }
+    ensures range { IfSome result (λ port. port.0 < 2 ^ 8) }
+{
+    if word.is_empty() {
+        return Some(Port(0));
+    }
+    let number = number_of(word)?;
+    let port = u8::try_from(number).ok()?;
+    Some(Port(port))
 }
 
 /// The place that a word names: a peer's number, or a dash for somebody else.
@@ -115,17 +162,17 @@ fn read_take(at: u64, line: &[u8]) -> Option<Event>
 /// Reads what follows `bytes`, and gives the hexadecimal too.
 fn read_bytes(at: u64, line: &[u8]) -> Option<(Event, &[u8])>
     requires { at ≤ 1000000000000000 }
-    ensures reads { (node : ℕ) (from : Place) (octets hex : List ℕ) → node < 2 ^ 32 → IsPlace from → 1 ≤ length octets → length octets ≤ 300
-        → decode_of hex ≡ Ok octets → line.now ≡ decimal node ++ 32 ∷ (place_text from ++ 32 ∷ hex)
-        → IsSomeAnd result (λ r. (r.0 ≡ Event.Bytes at node (record { 0 = 0 }) from octets) × (r.1.now ≡ hex)) }
+    ensures reads { (node : ℕ) (port : Port) (from : Place) (octets hex : List ℕ) → node < 2 ^ 32 → port.0 < 2 ^ 8 → IsPlace from
+        → 1 ≤ length octets → length octets ≤ 300 → decode_of hex ≡ Ok octets
+        → line.now ≡ (decimal node ++ port_text port) ++ 32 ∷ (place_text from ++ 32 ∷ hex)
+        → IsSomeAnd result (λ r. (r.0 ≡ Event.Bytes at node port from octets) × (r.1.now ≡ hex)) }
     ensures range { IfSome result (λ r. IsEvent r.0 × IsHexOf r.1.now r.0 × (length r.1.now ≤ 600)) }
 {
-    let (node, line) = next_number(line)?;
-    let node = long_of(node)?;
+    let (node, line) = cut(line);
+    let (node, port) = node_of(node)?;
     let (from, hex) = cut(line);
     let from = place_of(from)?;
     let octets = handed_of(hex)?;
-    let port = Port(0);
     Some((
         Event::Bytes {
             at,

@@ -9,22 +9,28 @@ ghost use Rattle.tsp_script.specs.declared.head_line.HeadItem.{HeadItem};
 ghost use Rattle.tsp_script.specs.Schedules.{is_host, flag_text, node_text, IsHost, IsNodeLine, SpellsHead, ReadsHead};
 
 use crate::line_fault::LineFault;
+use crate::net_line::net_line;
 use crate::numbers::{append, append_next_signed, append_number, next_signed, number_of};
 use crate::words::{cut, is_same};
 use arrayvec::ArrayVec;
 use tsp_base::constants::SCHEDULE_END;
 use tsp_base::header::NodeLine;
+use tsp_base::members::Members;
 use tsp_base::name::Name;
 
 /// What a line of the header is.
 #[derive(Drop)]
 pub enum HeadItem {
-    /// The first line.
-    Title,
+    /// The first line, with the version of the form: 1, or 2 where the third line is `strict`.
+    Title(u32),
     /// The second line, with the drift in parts in a million, at most 1,000.
     Drift(u32),
+    /// The third line `strict`: a candidate wins only with a majority of its network.
+    Strict,
     /// A node's line.
     Node(NodeLine),
+    /// A network's line.
+    Net(Members),
     /// The line is no longer the header's.
     NotHead,
 }
@@ -36,9 +42,10 @@ fn is_host(octet: u8) -> bool
     matches!(octet, b'a'..=b'z' | b'A'..=b'Z' | b'0'..=b'9' | b'.' | b'-' | b'_')
 }
 
-/// The name that a word of 1 to 63 letters, digits, dots, dashes and low lines is.
-fn host_of(word: &[u8]) -> Option<Name>
+/// The name that a word of 1 to 255 letters, digits, dots, dashes and low lines is.
+pub fn host_of(word: &[u8]) -> Option<Name>
     ensures reads { IsHost word.now → result ≡ Some word.now }
+    ensures same { IfSome result (λ name. name ≡ word.now) }
     ensures range { IfSome result IsHost }
 {
     if word.is_empty() || !word.iter().all(|octet| is_host(*octet)) {
@@ -115,15 +122,15 @@ fn node_text(node: &NodeLine) -> ArrayVec<u8, 1024>
     out
 }
 
-/// What follows `node ` in a line that begins with it.
-fn after_node(line: &[u8]) -> Option<&[u8]>
-    ensures { MatchOption result ((rest : List ℕ) → line.now ≡ codes "node " ++ rest → ⊥) (λ r. line.now ≡ codes "node " ++ r.now) }
+/// What follows this beginning in a line that has it.
+fn after<'a>(line: &'a [u8], front: &[u8]) -> Option<&'a [u8]>
+    ensures { MatchOption result ((rest : List ℕ) → line.now ≡ front.now ++ rest → ⊥) (λ r. line.now ≡ front.now ++ r.now) }
 {
-    if line.len() < 5 {
+    if line.len() < front.len() {
         return None;
     }
-    let (front, rest) = line.split_at(5);
-    if is_same(front, b"node ") {
+    let (start, rest) = line.split_at(front.len());
+    if is_same(start, front) {
         Some(rest)
     } else {
         None
@@ -153,14 +160,12 @@ fn is_drift(line: &[u8], drift: u64) -> bool
     is_same(line, out.as_slice())
 }
 
-/// What a line from the third on is.
-fn node_line(line: &[u8]) -> Result<HeadItem, LineFault>
-    ensures reads { ReadsHead 3 line.now result }
-    ensures one { (item : HeadItem) → SpellsHead 3 line.now item → result ≡ Ok item }
+/// What a line is that begins as a node's.
+fn node_line(line: &[u8], rest: &[u8]) -> Result<HeadItem, LineFault>
+    requires { line.now ≡ codes "node " ++ rest.now }
+    ensures reads { ReadsHead 4 line.now result }
+    ensures one { (item : HeadItem) → SpellsHead 4 line.now item → result ≡ Ok item }
 {
-    let Some(rest) = after_node(line) else {
-        return Ok(HeadItem::NotHead);
-    };
     let Some(node) = read_node(rest) else {
         return Err(LineFault::Bad);
     };
@@ -171,8 +176,34 @@ fn node_line(line: &[u8]) -> Result<HeadItem, LineFault>
     }
 }
 
+/// What a line from the fourth on is.
+fn later_line(line: &[u8]) -> Result<HeadItem, LineFault>
+    ensures reads { ReadsHead 4 line.now result }
+    ensures one { (item : HeadItem) → SpellsHead 4 line.now item → result ≡ Ok item }
+{
+    if let Some(rest) = after(line, b"node ") {
+        return node_line(line, rest);
+    }
+    if let Some(rest) = after(line, b"net ") {
+        return net_line(line, rest);
+    }
+    Ok(HeadItem::NotHead)
+}
+
+/// What the third line is.
+fn third_line(line: &[u8]) -> Result<HeadItem, LineFault>
+    ensures reads { ReadsHead 3 line.now result }
+    ensures one { (item : HeadItem) → SpellsHead 3 line.now item → result ≡ Ok item }
+{
+    if is_same(line, b"strict") {
+        return Ok(HeadItem::Strict);
+    }
+    later_line(line)
+}
+
 /// What a line of the header is; `place` is its number, from 1. `Bad` exactly where the line isn't in
-/// the grammar of its place; a line from the third on that doesn't begin with `node ` is `NotHead`.
+/// the grammar of its place. A line from the third on that begins with neither `node ` nor `net `, and
+/// isn't `strict` in the third place, is `NotHead`.
 pub fn head_line(line: &[u8], place: u32) -> Result<HeadItem, LineFault>
     ensures reads { ReadsHead place line.now result }
     ensures one { (item : HeadItem) → SpellsHead place line.now item → result ≡ Ok item }
@@ -184,7 +215,8 @@ pub fn head_line(line: &[u8], place: u32) -> Result<HeadItem, LineFault>
             Some(drift) => Ok(HeadItem::Drift(drift)),
             None => Err(LineFault::Bad),
         },
-        _ => node_line(line),
+        3 => third_line(line),
+        _ => later_line(line),
     }
 }
 
@@ -194,8 +226,10 @@ fn title(line: &[u8]) -> Result<HeadItem, LineFault>
     ensures one { (item : HeadItem) → SpellsHead 1 line.now item → result ≡ Ok item }
 {
     if is_same(line, b"tsp-schedule 1") {
-        Ok(HeadItem::Title)
-    } else {
-        Err(LineFault::Bad)
+        return Ok(HeadItem::Title(1));
     }
+    if is_same(line, b"tsp-schedule 2") {
+        return Ok(HeadItem::Title(2));
+    }
+    Err(LineFault::Bad)
 }

@@ -9,7 +9,10 @@ pub mod line_fault;
 pub mod message_reader;
 pub mod messages;
 pub mod names;
+mod net_line;
 pub mod numbers;
+#[cfg(test)]
+mod schedule_tests;
 #[cfg(test)]
 mod tests;
 pub mod trace;

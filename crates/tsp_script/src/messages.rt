@@ -33,11 +33,11 @@ fn append_body(out: &mut ArrayVec<u8, 1024>, body: &Body)
     }
 }
 
-/// Writes a message's line, in at most 230 octets.
+/// Writes a message's line, in at most 818 octets.
 fn append_message(out: &mut ArrayVec<u8, 1024>, message: &Message)
-    requires { array_vec_len out.old + 242 ≤ 1024 }
+    requires { array_vec_len out.old + 818 ≤ 1024 }
     ensures text { out.new.items ≡ out.old.items ++ message_line message.now }
-    ensures short { array_vec_len out.new ≤ array_vec_len out.old + 242 }
+    ensures short { array_vec_len out.new ≤ array_vec_len out.old + 818 }
     ensures range { IsMessage message.now }
 {
     append(out, message.kind().word());
@@ -49,9 +49,9 @@ fn append_message(out: &mut ArrayVec<u8, 1024>, message: &Message)
 
 /// Writes a stamp's line.
 fn append_stamp(out: &mut ArrayVec<u8, 1024>, stamp: &Stamp)
-    requires { array_vec_len out.old + 242 ≤ 1024 }
+    requires { array_vec_len out.old + 818 ≤ 1024 }
     ensures text { out.new.items ≡ out.old.items ++ stamp_text stamp.now }
-    ensures short { array_vec_len out.new ≤ array_vec_len out.old + 242 }
+    ensures short { array_vec_len out.new ≤ array_vec_len out.old + 818 }
     ensures range { IsStamp stamp.now }
 {
     match stamp {
@@ -66,9 +66,9 @@ fn append_stamp(out: &mut ArrayVec<u8, 1024>, stamp: &Stamp)
 
 /// Writes a reply's line.
 fn append_reply(out: &mut ArrayVec<u8, 1024>, reply: &StampReply)
-    requires { array_vec_len out.old + 242 ≤ 1024 }
+    requires { array_vec_len out.old + 818 ≤ 1024 }
     ensures text { out.new.items ≡ out.old.items ++ reply_text reply.now }
-    ensures short { array_vec_len out.new ≤ array_vec_len out.old + 242 }
+    ensures short { array_vec_len out.new ≤ array_vec_len out.old + 818 }
     ensures range { IsStamp (Stamp.Reply reply.now) }
 {
     append(out, b"reply ");
@@ -80,9 +80,9 @@ fn append_reply(out: &mut ArrayVec<u8, 1024>, reply: &StampReply)
 
 /// Writes a datagram's line.
 pub fn append_datagram(out: &mut ArrayVec<u8, 1024>, datagram: &Datagram)
-    requires { array_vec_len out.old + 242 ≤ 1024 }
+    requires { array_vec_len out.old + 818 ≤ 1024 }
     ensures text { out.new.items ≡ out.old.items ++ message_text datagram.now }
-    ensures short { array_vec_len out.new ≤ array_vec_len out.old + 242 }
+    ensures short { array_vec_len out.new ≤ array_vec_len out.old + 818 }
     ensures range { IsDatagram datagram.now }
 {
     match datagram {
@@ -94,7 +94,7 @@ pub fn append_datagram(out: &mut ArrayVec<u8, 1024>, datagram: &Datagram)
 /// The line of a datagram, without a line end.
 pub fn message_text(datagram: &Datagram) -> ArrayVec<u8, 1024>
     ensures text { result.items ≡ message_text datagram.now }
-    ensures short { array_vec_len result ≤ 242 }
+    ensures short { array_vec_len result ≤ 818 }
     ensures range { IsDatagram datagram.now }
 {
     let mut out = ArrayVec::new();

@@ -41,11 +41,11 @@ fn append_octets(out: &mut ArrayVec<u8, 1024>, octets: &[u8])
     }
 }
 
-/// Writes a name's text, in at most 189 octets.
+/// Writes a name's text, in at most 765 octets.
 pub fn append_name(out: &mut ArrayVec<u8, 1024>, name: &Name)
-    requires { array_vec_len out.old + 189 ≤ 1024 }
+    requires { array_vec_len out.old + 765 ≤ 1024 }
     ensures text { out.new.items ≡ out.old.items ++ name_text name.now }
-    ensures short { array_vec_len out.new ≤ array_vec_len out.old + 189 }
+    ensures short { array_vec_len out.new ≤ array_vec_len out.old + 765 }
     ensures range { IsName name.now × IsBytes name.now }
 {
     match name.octets() {
@@ -88,9 +88,9 @@ pub(crate) fn name_of(text: &[u8]) -> Option<Name>
     ensures { (name : List ℕ) → IsName name → IsBytes name → text.now ≡ name_text name → result ≡ Some name }
 {
     if is_same(text, b"%") {
-        return Name::of(&[]).ok();
+        return Some(Name::empty());
     }
-    let mut octets = ArrayVec::<u8, 63>::new();
+    let mut octets = ArrayVec::<u8, 255>::new();
     let mut rest = text;
     while !rest.is_empty() {
         let (octet, after) = first_octet(rest)?;

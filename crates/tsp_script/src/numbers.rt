@@ -50,6 +50,17 @@ pub fn append_next_number(out: &mut ArrayVec<u8, 1024>, number: u64)
     append_number(out, number);
 }
 
+/// Writes a space and a number of 32 bits, in at most 11 octets.
+pub fn append_next_long(out: &mut ArrayVec<u8, 1024>, number: u32)
+    requires { array_vec_len out.old + 11 ≤ 1024 }
+    ensures text { out.new.items ≡ out.old.items ++ space ++ decimal number }
+    ensures short { array_vec_len out.new ≤ array_vec_len out.old + 11 }
+{
+    let mut buffer = Buffer::new();
+    append(out, b" ");
+    append(out, buffer.format(number).as_bytes());
+}
+
 /// Writes a space and a number with its sign.
 pub fn append_next_signed(out: &mut ArrayVec<u8, 1024>, number: i64)
     requires { array_vec_len out.old + 21 ≤ 1024 }

@@ -1,7 +1,5 @@
 //! Lines of the protocol's description and of recorded runs: what they say, and that no other spelling is read.
 
-use crate::event_line::{EventItem, event_line};
-use crate::head_line::{HeadItem, head_line};
 use crate::laws::{comes_back, one_line_one_datagram};
 use crate::message_reader::message_of;
 use crate::messages::message_text;
@@ -12,7 +10,6 @@ use std::process::Abort;
 use tsp_base::act::{Act, Placed};
 use tsp_base::alarm::Alarm;
 use tsp_base::datagram::{Datagram, DecodeFault, Taken};
-use tsp_base::event::Event;
 use tsp_base::kind::Kind;
 use tsp_base::message::Body;
 use tsp_base::micros::Micros;
@@ -167,71 +164,6 @@ fn writes_acts(rt: HostRuntime) {
     writes(&rt, post, "post 141 0 request 17392 4");
     let took = Act::Took(Place::Stranger, Taken::Bad(DecodeFault::NameTooLong));
     writes(&rt, took, "took - refused name-too-long");
-}
-
-/// The lines of a schedule, and lines that differ from one in one point.
-#[test]
-fn reads_schedules(rt: HostRuntime) {
-    assert!(rt; matches!(head_line(b"tsp-schedule 1", 1), Ok(HeadItem::Title)));
-    assert!(rt; matches!(head_line(b"drift 1000", 2), Ok(HeadItem::Drift(1000))));
-    assert!(rt; head_line(b"drift 1001", 2).is_err());
-    assert!(rt; matches!(head_line(b"at 0 boot 0 5", 3), Ok(HeadItem::NotHead)));
-    match head_line(b"node b.example -100 10000 s", 4) {
-        Ok(HeadItem::Node(node)) => {
-            assert_eq!(rt; node.name.octets(), b"b.example".as_slice());
-            assert!(rt; node.rate == -100 && node.wall == 10000 && !node.may);
-        }
-        _ => panic!(rt; "no node"),
-    }
-    for line in [
-        "node a 1001 0 m",
-        "node a 0 0 x",
-        "node a% 0 0 m",
-        "node  0 0 m",
-    ] {
-        assert!(rt; head_line(line.as_bytes(), 3).is_err(), "read {line}");
-    }
-}
-
-/// The lines of events, and lines that differ from one in one point.
-#[test]
-fn reads_events(rt: HostRuntime) {
-    assert!(rt; matches!(event_line(b"end"), Ok(EventItem::End)));
-    match event_line(b"at 82000000 bytes 0 1 06010000Ff") {
-        Ok(
-            EventItem::Event(
-                Event::Bytes {
-                    at,
-                    node,
-                    port,
-                    from,
-                    octets,
-                },
-            ),
-        ) => {
-            assert!(rt; at == 82000000 && node == 0 && port == Port(0));
-            assert!(rt; from == Place::Peer(PeerId(1)));
-            assert_eq!(rt; octets.octets(), [6, 1, 0, 0, 255].as_slice());
-        }
-        _ => panic!(rt; "no bytes"),
-    }
-    for line in [
-        "at 0 boot 0 5",
-        "at 10 turn 0",
-        "at 1000000000000000 take 7",
-        "at 5 bytes 0 - 00",
-    ] {
-        assert!(rt; event_line(line.as_bytes()).is_ok(), "refused {line}");
-    }
-    for line in [
-        "at 1000000000000001 turn 0",
-        "at 1 turn 4294967296",
-        "at 1 bytes 0 - 0",
-        "at 1 bytes 0 - ",
-        "end ",
-    ] {
-        assert!(rt; event_line(line.as_bytes()).is_err(), "read {line}");
-    }
 }
 
 /// Hexadecimal in both cases.

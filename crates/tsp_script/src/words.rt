@@ -1,13 +1,24 @@
 //! Words of a line.
 ghost use Rattle.std.specs.Prelude.{◌≡◌, ℕ, ◌<◌, ◌++◌, ◌∷◌, length, take, Contains, MatchBool, MatchOption, slice_index_or};
-ghost use Rattle.tsp_script.specs.Words.{first_word, after_word};
+ghost use Rattle.tsp_script.specs.Words.{before_mark, after_mark, first_word, after_word};
 
-/// The place of the first space.
-fn space_at(line: &[u8]) -> Option<usize>
-    ensures { MatchOption result (¬ Contains line.now 32)
-        (λ i. (i < length line.now) × ¬ Contains (take i line.now) 32 × (slice_index_or line.now i 0 ≡ 32)) }
+/// The place of the first octet of this value.
+fn mark_at(line: &[u8], mark: u8) -> Option<usize>
+    ensures { MatchOption result (¬ Contains line.now mark)
+        (λ i. (i < length line.now) × ¬ Contains (take i line.now) mark × (slice_index_or line.now i 0 ≡ mark)) }
 {
-    line.iter().position(|x| *x == b' ')
+    line.iter().position(|x| *x == mark)
+}
+
+/// What stands before the first octet of this value, and behind it: all and nothing where there is none.
+pub fn part(line: &[u8], mark: u8) -> (&[u8], &[u8])
+    ensures front { result.0.now ≡ before_mark mark line.now }
+    ensures rest { result.1.now ≡ after_mark mark line.now }
+{
+    match mark_at(line, mark) {
+        Some(i) => (line.split_at(i).0, line.split_at(i + 1).1),
+        None => (line, &[]),
+    }
 }
 
 /// The first word, and what stands behind the space after it: nothing where there is no space.
@@ -15,10 +26,7 @@ pub fn cut(line: &[u8]) -> (&[u8], &[u8])
     ensures word { result.0.now ≡ first_word line.now }
     ensures rest { result.1.now ≡ after_word line.now }
 {
-    match space_at(line) {
-        Some(i) => (line.split_at(i).0, line.split_at(i + 1).1),
-        None => (line, &[]),
-    }
+    part(line, b' ')
 }
 
 /// Whether two texts are the same.

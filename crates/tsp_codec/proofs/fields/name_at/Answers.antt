@@ -1,9 +1,9 @@
 use Rattle.tsp_codec.proofs.Lists.{IsName-take, split_at_nul}
 use Rattle.tsp_codec.proofs.fields.name_at.Goals as goal
 
-pub known_name-requires : goal.known_name-requires
-known_name-requires c = rw c.room_of-room.ensures (let e = rw c.room_of-room.ensures at c.in-Some.ensures in IsName-take _ _ e.0 e.1)
+pub new-requires : goal.new-requires
+new-requires c = rw c.room_of-room.ensures (let e = rw c.room_of-room.ensures at c.in-Some.ensures in IsName-take _ _ e.0 e.1)
 
 pub returns-in-Some : goal.returns-in-Some
-returns-in-Some c = rw (c.known_name.ensures, c.room_of-room.ensures) (let e = rw c.room_of-room.ensures at c.in-Some.ensures in
-    ((IsName-take _ _ e.0 e.1, split_at_nul _ 64 c.in-Some.end e.0 e.2), (c.in-Some.end, e.0, e.2)))
+returns-in-Some c = rw (c.new.ensures, c.room_of-room.ensures) (let e = rw c.room_of-room.ensures at c.in-Some.ensures in
+    ((IsName-take _ _ e.0 e.1, split_at_nul _ 256 c.in-Some.end e.0 e.2), (c.in-Some.end, e.0, e.2)))

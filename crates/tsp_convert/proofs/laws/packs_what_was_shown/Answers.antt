@@ -1,4 +1,4 @@
-use Rattle.tsp_convert.proofs.Hexes.{shown-packs}
+use Rattle.tsp_convert.proofs.Returns.{shown-packs}
 use Rattle.tsp_convert.proofs.laws.packs_what_was_shown.Goals as goal
 
 pub returns : goal.returns

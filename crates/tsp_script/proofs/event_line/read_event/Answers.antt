@@ -11,7 +11,7 @@ returns-then-is_same-clause-reads c = λ e hex h x l.
     let v = cut_front c.in_ok-at.line.now (verb_of e) (rest_of e hex) (no_space-verb_of e) a.1 in
     bytes_reads (λ f y. IsSomeAnd c.read_bytes.result (λ r. (r.0 ≡ f) × (r.1.now ≡ y))) c.in_ok-at.at c.cut-2.result.1.now hex e h x a.0
     (sym c.if-is_same.ensures ∙ (c.cut-2.ensures.word ∙ v.0)) (c.cut-2.ensures.rest ∙ v.1)
-    (λ node from octets n p low high d f. c.read_bytes.ensures.reads node from octets hex n p low high d f)
+    (λ node port from octets n q p low high d f. c.read_bytes.ensures.reads node port from octets hex n q p low high d f)
 
 pub returns-clause-reads : goal.returns-clause-reads
 returns-clause-reads c = λ e hex h x l.

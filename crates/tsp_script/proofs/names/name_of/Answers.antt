@@ -1,10 +1,10 @@
-use Rattle.std.proofs.Common.{◌∙◌, sym, refl, rules}
+use Rattle.std.proofs.Common.{◌∙◌, sym, ap, Some, refl, rules}
 use Rattle.tsp_script.proofs.NameTexts.{name_begins, name_empty, one_more, can_read, all_read, name_made}
 use Rattle.tsp_script.proofs.names.name_of.Goals as goal
 
 pub returns-then-is_same : goal.returns-then-is_same
 returns-then-is_same c = λ name n b e.
-    c.ok.ensures.value ∙ name_made c.of.result _ name n (name_empty name (sym c.if-is_same.ensures ∙ e)) c.of.ensures
+    ap Some (c.empty.ensures ∙ sym (name_empty name (sym c.if-is_same.ensures ∙ e)))
 
 pub loop-rest-init : goal.loop-rest-init
 loop-rest-init c = λ name n b e. (name, rw c.new-octets.ensures refl, name_begins c.args.text.now name c.if-is_same.ensures e)
@@ -21,4 +21,4 @@ loop-rest-preserved c = λ name n b e.
 
 pub returns : goal.returns
 returns c = λ name n b e.
-    c.ok-2.ensures.value ∙ name_made c.of-2.result _ name n (all_read name c.loop-rest.octets.items c.loop-rest.rest.now (search rules) (c.loop-rest.invariant name n b e) ∙ sym c.as_slice.ensures.value) c.of-2.ensures
+    c.ok.ensures.value ∙ name_made c.of.result _ name n (all_read name c.loop-rest.octets.items c.loop-rest.rest.now (search rules) (c.loop-rest.invariant name n b e) ∙ sym c.as_slice.ensures.value) c.of.ensures

@@ -3,4 +3,4 @@ use Rattle.tsp_convert.proofs.Lengths.{length-message_text}
 use Rattle.tsp_convert.proofs.pack.PackTreatment.refuse_long.Goals as goal
 
 pub returns : goal.returns
-returns c = λ lines text line s a f long start. ((λ d is. omega (arith, long, ap length is.1, length-message_text d is.0)), c.of.ensures)
+returns c = λ lines text line s a room f long start. ((λ d is. omega (arith, long, ap length is.1, length-message_text d is.0)), c.of.ensures)

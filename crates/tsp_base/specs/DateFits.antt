@@ -1,0 +1,41 @@
+-- What the posts of dates owe to their port's past: those that are passed on, and their answers.
+use Rattle.std.specs.Prelude.{◌≡◌, ◌≤◌, ◌<◌, ◌⊎◌, ℕ, ◌+◌, true, List, Some}
+use Rattle.tsp_base.specs.declared.constants.TheConstants.{DATEHOLD, QUIET, REUSE}
+use Rattle.tsp_base.specs.declared.datagram.Datagram.TheVariants.{Message}
+use Rattle.tsp_base.specs.declared.kind.Kind.TheVariants.{Date, SetDate}
+use Rattle.tsp_base.specs.declared.place.PeerId.{PeerId}
+use Rattle.tsp_base.specs.declared.place.Place.{Place}
+use Rattle.tsp_base.specs.declared.place.Place.TheVariants.{Peer, Stranger}
+use Rattle.tsp_base.specs.History.{Did, Seen, plain}
+use Rattle.tsp_base.specs.Messages.{MessageValue}
+use Rattle.tsp_base.specs.NodeFacts.{boot_tick}
+use Rattle.tsp_base.specs.SendFacts.{Dating, is_date_request, last_asked, last_date}
+use Rattle.tsp_base.specs.Takings.{Receives, TakesFrom}
+
+-- a date begins to be passed on QUIET after the boot, and REUSE after the port last began that
+pub record PassOnFits (here : Did) (before : List Seen) : Type 0 where
+  pub rested : boot_tick (plain before) + QUIET ≤ here.tick
+  pub seldom : (x : ℕ) → last_asked before ≡ Some x → x + REUSE ≤ here.tick
+
+-- a client's date, with this number, was taken from there in this step
+pub record AnswersClient (to : Place) (before : List Seen) (number : ℕ) : Type 0 where
+  pub message : MessageValue
+  pub took : TakesFrom before to (Message message)
+  pub kind : (message.kind ≡ Date) ⊎ (message.kind ≡ SetDate)
+  pub number_is : message.number ≡ number
+
+-- a date that p passes on, with this number, was taken in this step, and it was set less than DATEHOLD ago
+pub record AnswersPassedOn (here : Did) (before : List Seen) (p : PeerId) (number : ℕ) : Type 0 where
+  pub message : MessageValue
+  pub took : Receives before p (Message message)
+  pub kind : is_date_request message.kind ≡ true
+  pub number_is : message.number ≡ number
+  pub last : Dating
+  pub last_is : last_date p before ≡ Some last
+  pub same : last.number ≡ number
+  pub fresh : here.tick < last.at + DATEHOLD
+
+-- what a DATEACK owes
+abbrev pub DateAckFits : Place → Did → List Seen → ℕ → Type 0
+DateAckFits (Peer p) here before number = AnswersClient (Peer p) before number ⊎ AnswersPassedOn here before p number
+DateAckFits Stranger here before number = AnswersClient Stranger before number

@@ -1,0 +1,12 @@
+-- What calls share that put acts at a tick.
+use Rattle.std.specs.Prelude.{◌≤◌, ℕ, ◌+◌, ◌^◌, List, length}
+use Rattle.tsp_base.specs.declared.act.Placed.{Placed}
+
+-- a tick that a node may be handed: sums with the protocol's times stay far below 2^64
+abbrev pub IsTick : ℕ → Type 0
+IsTick x = x ≤ 2 ^ 61
+
+-- a call puts at most n acts, and takes no more than that of the desk's room
+pub record PutsAtMost (n : ℕ) (room left : ℕ) (old new : List Placed) : Type 0 where
+  pub spare : room ≤ left + n
+  pub few : length new ≤ length old + n

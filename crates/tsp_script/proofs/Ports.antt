@@ -1,0 +1,59 @@
+-- Laws of a node's number with its port.
+use Rattle.std.proofs.Common.{◌≡◌, ℕ, ◌<◌, ◌^◌, List, [], ◌∷◌, ◌++◌, Bool, true, false, ◌==◌, if◌then◌else◌, length, refl, sym, ap, ◌∙◌, inl, inr, arith}
+use Rattle.std.specs.Prelude.{decimal, Contains}
+use Rattle.std.proofs.lemmas.Bool.{eqb-true}
+use Rattle.std.proofs.lemmas.Fmt.{decimal_is_IsNumeral, decimal_injective}
+use Rattle.std.proofs.lemmas.List.{append-nil}
+use Rattle.std.proofs.lemmas.List.Elements.{Contains-append_cases}
+use Rattle.tsp_base.specs.declared.place.Port.{Port}
+use Rattle.tsp_script.specs.Schedules.{port_text, NamesPort}
+use Rattle.tsp_script.specs.Words.{before_mark, after_mark}
+use Rattle.tsp_script.proofs.Cuts.{mark_front, before_mark-alone, after_mark-alone, no_slash-decimal, no_space-decimal, no_space-later}
+
+parts_by : (node : ℕ) (port : Port) (word : List ℕ) → node < 2 ^ 64 → (b : Bool) → (port.0 == 0) ≡ b → word ≡ decimal node ++ (if b then [] else 47 ∷ decimal port.0)
+    → (before_mark 47 word ≡ decimal node) × NamesPort (after_mark 47 word) port
+parts_by node port word h true z e =
+    let w : word ≡ decimal node = e ∙ append-nil (decimal node) in
+    let p : port ≡ record { 0 = 0 } = ap (λ n. record { 0 = n }) (eqb-true port.0 0 z) in
+    rw w (before_mark-alone 47 (decimal node) (no_slash-decimal node h), inl (p, after_mark-alone 47 (decimal node) (no_slash-decimal node h)))
+parts_by node port word h false z e =
+    let p = mark_front 47 word (decimal node) (decimal port.0) (no_slash-decimal node h) e in
+    (p.0, inr p.1)
+
+-- a node's number and its port are parted by the first stroke
+pub port_parts : (node : ℕ) (port : Port) (word : List ℕ) → node < 2 ^ 64 → word ≡ decimal node ++ port_text port
+    → (before_mark 47 word ≡ decimal node) × NamesPort (after_mark 47 word) port
+port_parts node port word h e = parts_by node port word h (port.0 == 0) refl e
+
+-- a number has a digit
+decimal_some : (n : ℕ) → n < 2 ^ 64 → [] ≡ decimal n → ⊥
+decimal_some n h e = let z : 0 ≡ length (decimal n) = ap length e in omega (arith, z, (decimal_is_IsNumeral n h).0.0)
+
+-- an empty word is port 0
+pub port_none : (word : List ℕ) (port : Port) → length word ≡ 0 → port.0 < 2 ^ 8 → NamesPort word port → record { 0 = 0 } ≡ port
+port_none word port e h (inl a) = sym a.0
+port_none word port e h (inr a) = absurd (let z : length word ≡ length (decimal port.0) = ap length a in omega (arith, z, e, (decimal_is_IsNumeral port.0 (omega (arith, h))).0.0))
+
+-- a word is one port's
+one_port : (p q : Port) (word : List ℕ) → p.0 < 2 ^ 64 → q.0 < 2 ^ 64 → NamesPort word p → NamesPort word q → p ≡ q
+one_port p q word h k (inl a) (inl b) = a.0 ∙ sym b.0
+one_port p q word h k (inl a) (inr b) = absurd (decimal_some q.0 k (sym a.1 ∙ b))
+one_port p q word h k (inr a) (inl b) = absurd (decimal_some p.0 h (sym b.1 ∙ a))
+one_port p q word h k (inr a) (inr b) = ap (λ n. record { 0 = n }) (decimal_injective p.0 q.0 h k (sym a ∙ b))
+
+-- a node's number with its port is one node's and one port's
+pub ports_apart : (m n : ℕ) (p q : Port) → m < 2 ^ 64 → n < 2 ^ 64 → p.0 < 2 ^ 64 → q.0 < 2 ^ 64 → decimal m ++ port_text p ≡ decimal n ++ port_text q → (m ≡ n) × (p ≡ q)
+ports_apart m n p q h k i j e =
+    let a = port_parts m p (decimal m ++ port_text p) h refl in
+    let b = port_parts n q (decimal m ++ port_text p) k e in
+    (decimal_injective m n h k (sym a.0 ∙ b.0), one_port p q (after_mark 47 (decimal m ++ port_text p)) i j a.1 b.1)
+
+no_space-by : (node : ℕ) (port : Port) (b : Bool) → node < 2 ^ 64 → port.0 < 2 ^ 64 → ¬ Contains (decimal node ++ (if b then [] else 47 ∷ decimal port.0)) 32
+no_space-by node port true h k c = no_space-decimal node h (rw (append-nil (decimal node)) at c)
+no_space-by node port false h k c = elim (Contains-append_cases (decimal node) (47 ∷ decimal port.0) 32 c) [
+  | inl i ↦ no_space-decimal node h i
+  | inr i ↦ no_space-later 47 (decimal port.0) (omega arith) (no_space-decimal port.0 k) i
+]
+
+pub no_space-port : (node : ℕ) (port : Port) → node < 2 ^ 64 → port.0 < 2 ^ 64 → ¬ Contains (decimal node ++ port_text port) 32
+no_space-port node port h k = no_space-by node port (port.0 == 0) h k
