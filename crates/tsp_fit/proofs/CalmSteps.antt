@@ -1,149 +1,234 @@
--- A whole step takes nothing but what it is given, and puts few acts.
-use Rattle.std.specs.Prelude.{◌≡◌, ◌≤◌, ℕ, ◌+◌, ◌*◌, ◌==◌, Bool, true, false, if◌then◌else◌, List, [], ◌∷◌, ◌++◌, length, refl}
-use Rattle.std.proofs.Common.{sym, arith, append_assoc, length-append}
+-- A whole step takes nothing but what it is given, puts few acts, and posts to a stranger only where it is given a stranger's datagram.
+use Rattle.std.specs.Prelude.{◌≡◌, ◌≤◌, ℕ, ◌+◌, ◌*◌, ◌==◌, ℤ, Bool, true, false, if◌then◌else◌, List, [], ◌∷◌, ◌++◌, length, Option, None, Some, All, refl}
+use Rattle.std.proofs.Common.{sym, subst, ap, arith, true≢false, append_assoc, append-nil, length-append, ◌∙◌}
+use Rattle.std.proofs.lemmas.List.Elements.{All-nil, All-cons, All-append}
 use Rattle.tsp_base.specs.declared.act.Act.{Act}
-use Rattle.tsp_base.specs.declared.act.Act.TheVariants.{Took, Post, Backer, Join, Rival, Acked, Trace}
-use Rattle.tsp_base.specs.declared.alarm.Alarm.TheVariants.{Resolve as ResolveAlarm}
-use Rattle.tsp_base.specs.declared.constants.TheConstants.{WINDOW}
+use Rattle.tsp_base.specs.declared.act.Act.TheVariants.{Took, Post, Acked, Leave, Abandon, Trace}
 use Rattle.tsp_base.specs.declared.datagram.Datagram.TheVariants.{Message, Stamp}
 use Rattle.tsp_base.specs.declared.datagram.Taken.{Taken}
 use Rattle.tsp_base.specs.declared.datagram.Taken.TheVariants.{Good, Bad}
 use Rattle.tsp_base.specs.declared.kind.Kind.{Kind}
-use Rattle.tsp_base.specs.declared.kind.Kind.TheVariants.{Ack, MasterReq, MasterAck, MasterUp, SlaveUp, Election, Accept, Refuse, Conflict, Resolve, Quit, TraceOn, TraceOff, Msite, MsiteReq, Test}
+use Rattle.tsp_base.specs.declared.kind.Kind.TheVariants.{Ack, MasterUp, TraceOn, TraceOff, Msite, MsiteReq, Test, Date, DateReq, DateAck, SetDate, SetDateReq, Loop}
 use Rattle.tsp_base.specs.declared.place.PeerId.{PeerId}
 use Rattle.tsp_base.specs.declared.place.Place.{Place}
 use Rattle.tsp_base.specs.declared.place.Place.TheVariants.{Peer, Stranger}
 use Rattle.tsp_base.specs.declared.role.Role.{Role}
 use Rattle.tsp_base.specs.declared.role.Role.TheVariants.{Starting, Loose, Follow, Candidate, Master}
 use Rattle.tsp_base.specs.declared.stamp.Stamp.TheVariants.{Request, Reply}
-use Rattle.tsp_base.specs.History.{Past, Seen}
+use Rattle.tsp_base.specs.History.{Past}
 use Rattle.tsp_base.specs.Messages.{MessageValue}
-use Rattle.tsp_base.specs.RoundFacts.{word_asked, target_there}
-use Rattle.tsp_base.specs.Rows.{Row, grown, nothing, puts, ◌followed_by◌, either_by, reading, arms, bare, posts, posts_to_others, posts_back}
+use Rattle.tsp_base.specs.PortFacts.{in_table}
+use Rattle.tsp_base.specs.RoundFacts.{OpenRequest}
+use Rattle.tsp_base.specs.Rows.{Row, grown, nothing, puts, ◌followed_by◌, either_by, reading, bare, posts, posts_to_others, posts_back, posts_time}
 use Rattle.tsp_base.specs.Stamps.{ReplyValue}
-use Rattle.tsp_rules.specs.Answers.{due_alarms, says_in, peer_says, replies_in, peer_replies, from_peer, treats_kind, treats, takes, Turn, Got, input_row, answers}
-use Rattle.tsp_rules.specs.CandidateRows.{yields, accepted_by, refused_by, candidate_takes_kind, candidate_takes}
+use Rattle.tsp_base.specs.Takings.{time_in}
+use Rattle.tsp_rules.specs.Answers.{due_alarms, says_in, peer_says, replies_in, peer_replies, from_peer, treats_kind, is_left, treats, takes, Turn, Got, input_row, answers}
+use Rattle.tsp_rules.specs.CandidateRows.{candidate_takes}
 use Rattle.tsp_rules.specs.CommonRows.{stand_row, posts_reply, replies, master_name, names_master, says_master, traces, may_be_asked, is_awake, tests}
-use Rattle.tsp_rules.specs.MasterRows.{may_join, joins, sends_away, master_takes_kind, master_takes}
-use Rattle.tsp_rules.specs.ResolveRows.{resolves, is_new_rival, finds_rival}
-use Rattle.tsp_rules.specs.RoundRows.{exchange_at, sample_of, samples_exchange, samples}
-use Rattle.tsp_rules.specs.SendRows.{begins, begins_settime, has_election, has_quit, due_sends}
+use Rattle.tsp_rules.specs.DateRows.{may_pass_on, passes_on, may_date, leaves, leaves_all, new_date, sets_date_where, date_in, date_of, is_dated, sets_in_charge, date_request_in, date_request_of, has_date, date_acked_in, date_acked}
+use Rattle.tsp_rules.specs.ClockRows.{sets}
+use Rattle.tsp_rules.specs.MasterRows.{master_takes}
+use Rattle.tsp_rules.specs.RoundRows.{request_at, sample_of, samples_request, samples, corrects, abandons, abandons_going, upsetting}
+use Rattle.tsp_rules.specs.SendRows.{begins_timed, next_number, due_sends}
 use Rattle.tsp_rules.specs.SlaveRows.{slave_takes}
-use Rattle.tsp_rules.specs.Tests.{role_at, target_at, is_in_range, is_armed, is_master_at, is_own, is_heard}
-use Rattle.tsp_fit.proofs.FewActs.{Calm, is_calm, calm_append, calm_nothing, calm_puts, calm_then, calm_either, calm_reading, calm_more, calm_arms, calm_posts, calm_posts_back, calm_posts_to_others}
-use Rattle.tsp_fit.proofs.CalmRows.{five, none, calm_due_sends, calm_due_alarms, calm_slave, calm-begins, calm-ends, calm-follow, calm-quits, calm-settime, calm-stand, calm-yields}
+use Rattle.tsp_rules.specs.Tests.{role_at, target_at, table_at, is_going_at, is_in_range, is_master_at, is_own, is_heard}
+use Rattle.tsp_fit.specs.Strangers.{is_stranger, IsKnown, StrangersAreAnswered}
+use Rattle.tsp_fit.proofs.FewActs.{Calm, is_calm_act, is_calm, calm_append, calm_back, calm_nothing, calm_puts, calm_then, calm_either, calm_reading, calm_more, calm_posts, calm_posts_back, calm_posts_time, calm_posts_to_others, calm_each, filter_few}
+use Rattle.tsp_fit.proofs.CalmRows.{sum, none, calm_due_sends, calm-stand, calm-sets}
+use Rattle.tsp_fit.proofs.CalmAlarms.{calm_due_alarms}
+use Rattle.tsp_fit.proofs.CalmTaken.{five, calm_slave, calm_candidate, calm_master}
+use Rattle.tsp_fit.proofs.TestFacts.{and-cases}
 
-calm-accepted : (p : PeerId) (number : ℕ) → Calm 0 2 (accepted_by p number)
-unfolding accepted_by
-calm-accepted p number = calm_either 0 2 (has_election p number) (puts (Acked p) followed_by puts (Backer p)) nothing
-    (calm_then 0 1 0 1 (puts (Acked p)) (puts (Backer p)) (calm_puts (Acked p) refl) (calm_puts (Backer p) refl)) (none 0 2)
+module _ {strange : Bool} where
+  pub calm-says : (p : PeerId) (m : MessageValue) (r : Role) → Calm strange true 1 5 (says_in p m r)
+  unfolding says_in slave_takes candidate_takes master_takes
+  calm-says p m Starting = none 1 5
+  calm-says p m Loose = calm_slave p m m.kind
+  calm-says p m (Follow q) = calm_slave p m m.kind
+  calm-says p m Candidate = calm_candidate p m m.kind
+  calm-says p m Master = calm_master p m m.kind
 
-calm-refused : (p : PeerId) (number : ℕ) → Calm 0 3 (refused_by p number)
-unfolding refused_by
-calm-refused p number = calm_either 0 3 (has_election p number) (puts (Acked p) followed_by yields) nothing
-    (calm_then 0 1 0 2 (puts (Acked p)) yields (calm_puts (Acked p) refl) calm-yields) (none 0 3)
+  pub calm_peer_says : (m : MessageValue) (p : PeerId) → Calm strange true 1 5 (peer_says m p)
+  unfolding peer_says
+  calm_peer_says m p = calm_reading 1 5 role_at (says_in p m) (calm-says p m)
 
-pub calm-candidate : (p : PeerId) (m : MessageValue) (k : Kind) → Calm 1 5 (candidate_takes_kind p m k)
-unfolding candidate_takes_kind
-calm-candidate p m MasterUp = five 3 _ (omega arith) (calm-follow p)
-calm-candidate p m MasterAck = five 3 _ (omega arith) (calm-follow p)
-calm-candidate p m Election = five 1 _ (omega arith) (calm_posts p Refuse m.number)
-calm-candidate p m Accept = five 2 _ (omega arith) (calm-accepted p m.number)
-calm-candidate p m Refuse = five 3 _ (omega arith) (calm-refused p m.number)
-calm-candidate p m Quit = five 5 _ (omega arith) (calm-quits p m.number)
-calm-candidate p m Ack = five 1 _ (omega arith) (calm-ends p m.number)
-calm-candidate p m _ = none 1 5
+module _ {strange moving : Bool} where
+  calm-request : (p : PeerId) (r : ReplyValue) (o : Option OpenRequest) → Calm strange moving 0 1 (samples_request p r o)
+  unfolding samples_request
+  calm-request p r None = none 0 1
+  calm-request p r (Some q) = by_case (q.word == r.word) where
+    by_case : (b : Bool) → Calm strange moving 0 1 (if b then reading target_at (λ d. puts (sample_of p r q.target d)) else nothing)
+    by_case true = calm_reading 0 1 target_at (λ d. puts (sample_of p r q.target d)) (λ d. calm_puts (sample_of p r q.target d) refl)
+    by_case false = none 0 1
 
-calm-joins : (p : PeerId) (number : ℕ) → Calm 0 2 (joins p number)
-unfolding joins
-calm-joins p number = calm_either 0 2 (may_join p number) (puts (Join p) followed_by begins_settime p number) nothing
-    (calm_then 0 1 0 1 (puts (Join p)) (begins_settime p number) (calm_puts (Join p) refl) (calm-settime p number)) (none 0 2)
+  pub calm-replies-in : (p : PeerId) (r : ReplyValue) (a : Role) → Calm strange moving 1 5 (replies_in p r a)
+  unfolding replies_in samples
+  calm-replies-in p r Master = five 1 _ (omega arith) (calm_reading 0 1 (request_at p r.counter) (samples_request p r) (calm-request p r))
+  calm-replies-in p r _ = none 1 5
 
-calm-away : (p : PeerId) → Calm 0 1 (sends_away p)
-unfolding sends_away
-calm-away p = calm_either 0 1 (has_quit p) nothing (begins Quit p) (none 0 1) (calm-begins Quit p)
+  pub calm_peer_replies : (r : ReplyValue) (p : PeerId) → Calm strange moving 1 5 (peer_replies r p)
+  unfolding peer_replies
+  calm_peer_replies r p = calm_reading 1 5 role_at (replies_in p r) (calm-replies-in p r)
 
-calm-resolves : Calm 1 1 resolves
-unfolding resolves
-calm-resolves = calm_either 1 1 (is_armed ResolveAlarm) nothing (arms ResolveAlarm WINDOW followed_by posts_to_others Resolve 0) (none 1 1)
-    (calm_more (0 + 1) (1 + 0) 1 1 (arms ResolveAlarm WINDOW followed_by posts_to_others Resolve 0) (omega arith) (omega arith) (calm_then 0 1 1 0 (arms ResolveAlarm WINDOW) (posts_to_others Resolve 0) (calm_arms ResolveAlarm WINDOW) (calm_posts_to_others Resolve 0)))
+  calm-leaves-all : Calm strange moving 1 0 leaves_all
+  unfolding leaves_all leaves
+  calm-leaves-all = calm_each 1 table_at leaves (λ x past. filter_few (λ p. in_table p past.seen) past.peers) (λ p. calm_puts (Leave p) refl)
 
-calm-rival : (p : PeerId) → Calm 0 1 (finds_rival p)
-unfolding finds_rival
-calm-rival p = calm_either 0 1 (is_new_rival p) (puts (Rival p)) nothing (calm_puts (Rival p) refl) (none 0 1)
+  pub calm-date-acked : (m : MessageValue) (p : PeerId) → Calm strange moving 0 1 (date_acked m p)
+  unfolding date_acked date_acked_in
+  calm-date-acked m p = calm_reading 0 1 role_at (date_acked_in m p) by_role where
+    by_role : (r : Role) → Calm strange moving 0 1 (date_acked_in m p r)
+    by_role (Follow q) = calm_either 0 1 (has_date p m.number) (puts (Acked p)) nothing (calm_puts (Acked p) refl) (none 0 1)
+    by_role _ = none 0 1
 
-calm-master : (p : PeerId) (m : MessageValue) (k : Kind) → Calm 1 5 (master_takes_kind p m k)
-unfolding master_takes_kind
-calm-master p m MasterReq = five 1 _ (omega arith) (calm_posts p MasterAck m.number)
-calm-master p m Resolve = five 1 _ (omega arith) (calm_posts p MasterAck m.number)
-calm-master p m SlaveUp = five 2 _ (omega arith) (calm-joins p m.number)
-calm-master p m Election = five 1 _ (omega arith) (calm-away p)
-calm-master p m MasterUp = calm_more 1 1 1 5 resolves (omega arith) (omega arith) calm-resolves
-calm-master p m Conflict = calm_more (0 + 1) (1 + 1) 1 5 (posts p Ack m.number followed_by resolves) (omega arith) (omega arith) (calm_then 0 1 1 1 (posts p Ack m.number) resolves (calm_posts p Ack m.number) calm-resolves)
-calm-master p m MasterAck = five 1 _ (omega arith) (calm-rival p)
-calm-master p m Quit = five 5 _ (omega arith) (calm-quits p m.number)
-calm-master p m Ack = five 1 _ (omega arith) (calm-ends p m.number)
-calm-master p m _ = none 1 5
+  pub calm-abandons-going : Calm strange moving 0 1 abandons_going
+  unfolding abandons_going abandons
+  calm-abandons-going = calm_either 0 1 is_going_at (puts Abandon) nothing (calm_puts Abandon refl) (none 0 1)
 
-calm-says : (p : PeerId) (m : MessageValue) (r : Role) → Calm 1 5 (says_in p m r)
-unfolding says_in slave_takes candidate_takes master_takes
-calm-says p m Starting = none 1 5
-calm-says p m Loose = calm_slave p m m.kind
-calm-says p m (Follow q) = calm_slave p m m.kind
-calm-says p m Candidate = calm-candidate p m m.kind
-calm-says p m Master = calm-master p m m.kind
+  pub two : (k n : ℕ) (row : Row) → k ≤ 2 → n ≤ 5 → Calm strange moving k n row → Calm strange moving 2 5 row
+  two k n row le few p = calm_more k n 2 5 row le few p
 
-calm-peer-says : (m : MessageValue) (p : PeerId) → Calm 1 5 (peer_says m p)
-unfolding peer_says
-calm-peer-says m p = calm_reading 1 5 role_at (says_in p m) (calm-says p m)
+-- dates
+calm-passes-on : (from : Place) (q : PeerId) (number : ℕ) (time : ℤ) → Calm (is_stranger from) true 0 2 (passes_on from q number time)
+unfolding passes_on begins_timed
+calm-passes-on from q number time = calm_either 0 2 (may_pass_on q) (posts_back from Ack number followed_by reading next_number (λ n. posts_time q SetDateReq n time)) nothing
+    (calm_then 0 1 0 1 (posts_back from Ack number) (reading next_number (λ n. posts_time q SetDateReq n time)) (calm_posts_back from Ack number)
+    (calm_reading 0 1 next_number (λ n. posts_time q SetDateReq n time) (λ n. calm_posts_time q SetDateReq n time)))
+    (none 0 2)
 
-calm-exchange : (p : PeerId) (r : ReplyValue) (place : List Seen) → Calm 0 1 (samples_exchange p r place)
-unfolding samples_exchange
-calm-exchange p r [] = none 0 1
-calm-exchange p r (s ∷ before) = by_case (word_asked (s ∷ before) == r.word) where
-  by_case : (b : Bool) → Calm 0 1 (if b then reading target_at (λ d. puts (sample_of p r (target_there (s ∷ before)) d)) else nothing)
-  by_case true = calm_reading 0 1 target_at (λ d. puts (sample_of p r (target_there (s ∷ before)) d)) (λ d. calm_puts (sample_of p r (target_there (s ∷ before)) d) refl)
-  by_case false = none 0 1
+calm-sets-date : (from : Place) (number : ℕ) (time : ℤ) → Calm (is_stranger from) true 2 2 (sets_date_where from number time)
+unfolding sets_date_where new_date
+calm-sets-date from number time = calm_either 2 2 (may_date time) (sets time followed_by (posts_back from DateAck number followed_by (leaves_all followed_by posts_to_others MasterUp 0))) nothing
+    (sum 0 1 2 1 2 2 (sets time) (posts_back from DateAck number followed_by (leaves_all followed_by posts_to_others MasterUp 0)) (calm-sets time)
+    (sum 0 1 2 0 2 1 (posts_back from DateAck number) (leaves_all followed_by posts_to_others MasterUp 0) (calm_posts_back from DateAck number)
+    (calm_then 1 0 1 0 leaves_all (posts_to_others MasterUp 0) calm-leaves-all (calm_posts_to_others MasterUp 0)) (omega arith) (omega arith)) (omega arith) (omega arith))
+    (none 2 2)
 
-calm-replies-in : (p : PeerId) (r : ReplyValue) (a : Role) → Calm 1 5 (replies_in p r a)
-unfolding replies_in samples
-calm-replies-in p r Master = five 1 _ (omega arith) (calm_reading 0 1 (exchange_at p r.counter) (samples_exchange p r) (calm-exchange p r))
-calm-replies-in p r _ = none 1 5
+pub calm-date : (charge : Bool) (from : Place) (m : MessageValue) → Calm (is_stranger from) true 2 5 (date_of charge from m)
+unfolding date_of date_in
+calm-date true from m = calm_reading 2 5 role_at (date_in from m.number (time_in m.body)) by_role where
+  by_role : (r : Role) → Calm (is_stranger from) true 2 5 (date_in from m.number (time_in m.body) r)
+  by_role (Follow q) = two 0 2 _ (omega arith) (omega arith) (calm-passes-on from q m.number (time_in m.body))
+  by_role Master = two 2 2 _ (omega arith) (omega arith) (calm-sets-date from m.number (time_in m.body))
+  by_role _ = none 2 5
+calm-date false from m = none 2 5
 
-calm-peer-replies : (r : ReplyValue) (p : PeerId) → Calm 1 5 (peer_replies r p)
-unfolding peer_replies
-calm-peer-replies r p = calm_reading 1 5 role_at (replies_in p r) (calm-replies-in p r)
+calm-charge : (charge : Bool) (p : PeerId) (m : MessageValue) → Calm false true 2 5 (sets_in_charge charge p m)
+unfolding sets_in_charge
+calm-charge true p m = two 2 2 _ (omega arith) (omega arith) (calm-sets-date (Peer p) m.number (time_in m.body))
+calm-charge false p m = none 2 5
 
-pub calm-from-peer : (from : Place) (row : PeerId → Row) → ((p : PeerId) → Calm 1 5 (row p)) → Calm 1 5 (from_peer from row)
+pub calm-date-request : (charge : Bool) (m : MessageValue) (p : PeerId) → Calm false true 2 5 (date_request_of charge m p)
+unfolding date_request_of date_request_in
+calm-date-request charge m p = calm_reading 2 5 role_at (date_request_in charge m p) by_role where
+  by_role : (r : Role) → Calm false true 2 5 (date_request_in charge m p r)
+  by_role Master = calm_either 2 5 (is_dated p m.number) (posts p DateAck m.number) (sets_in_charge charge p m) (two 0 1 _ (omega arith) (omega arith) (calm_posts p DateAck m.number)) (calm-charge charge p m)
+  by_role _ = none 2 5
+
+-- what was taken
+pub calm_from_peer : {moving : Bool} (from : Place) (row : PeerId → Row) → ((p : PeerId) → Calm false moving 2 5 (row p)) → Calm (is_stranger from) moving 2 5 (from_peer from row)
 unfolding from_peer
-calm-from-peer (Peer p) row k = calm_either 1 5 (is_heard p) (row p) nothing (k p) (none 1 5)
-calm-from-peer Stranger row k = none 1 5
+calm_from_peer (Peer p) row k = calm_either 2 5 (is_heard p) (row p) nothing (k p) (none 2 5)
+calm_from_peer Stranger row k = none 2 5
 
-pub calm-reply : (from : Place) (word counter : ℕ) → Calm 0 1 (replies from word counter)
+pub calm_replies : {moving : Bool} (from : Place) (word counter : ℕ) → Calm (is_stranger from) moving 0 1 (replies from word counter)
 unfolding replies posts_reply
-calm-reply from word counter = calm_either 0 1 is_in_range (posts_reply from word counter) nothing (record { few = λ x past. omega arith; calm = λ x past. refl }) (none 0 1)
+calm_replies {moving = moving} from word counter = calm_either 0 1 is_in_range (posts_reply from word counter) nothing (record { few = λ x past. omega arith; calm = λ x past. calm_back moving from _ }) (none 0 1)
 
-calm-kind : (from : Place) (m : MessageValue) (k : Kind) → Calm 1 5 (treats_kind from m k)
-unfolding treats_kind names_master says_master traces tests
-calm-kind from m Msite = five 1 _ (omega arith) (calm_reading 0 1 master_name (λ name. puts (Post from (Message (bare Ack m.number name)))) (λ name. calm_puts (Post from (Message (bare Ack m.number name))) refl))
-calm-kind from m MsiteReq = five 1 _ (omega arith) (calm_either 0 1 is_master_at (posts_back from Ack m.number) nothing (calm_posts_back from Ack m.number) (none 0 1))
-calm-kind from m TraceOn = five 2 _ (omega arith) (calm_then 0 1 0 1 (puts (Trace true)) (posts_back from Ack m.number) (calm_puts (Trace true) refl) (calm_posts_back from Ack m.number))
-calm-kind from m TraceOff = five 2 _ (omega arith) (calm_then 0 1 0 1 (puts (Trace false)) (posts_back from Ack m.number) (calm_puts (Trace false) refl) (calm_posts_back from Ack m.number))
-calm-kind from m Test = calm_either 1 5 is_awake (posts_back from Ack m.number followed_by either_by may_be_asked stand_row nothing) nothing
-    (calm_more (0 + 1) (1 + 3) 1 5 (posts_back from Ack m.number followed_by either_by may_be_asked stand_row nothing) (omega arith) (omega arith)
-    (calm_then 0 1 1 3 (posts_back from Ack m.number) (either_by may_be_asked stand_row nothing) (calm_posts_back from Ack m.number) (calm_either 1 3 may_be_asked stand_row nothing calm-stand (none 1 3))))
-    (none 1 5)
-calm-kind from m _ = calm-from-peer from (peer_says m) (calm-peer-says m)
+pub calm-names : (from : Place) (number : ℕ) → Calm (is_stranger from) true 0 1 (names_master from number)
+unfolding names_master puts
+calm-names from number = calm_reading 0 1 master_name (λ name. puts (Post from (Message (bare Ack number name)))) (λ name. record { few = λ x past. omega arith; calm = λ x past. calm_back true from (Message (bare Ack number name)) })
 
-pub calm_treats : (from : Place) (t : Taken) → Calm 1 5 (treats from t)
+pub calm-traces : (from : Place) (number : ℕ) (on : Bool) → Calm (is_stranger from) true 0 2 (traces from number on)
+unfolding traces
+calm-traces from number on = calm_then 0 1 0 1 (puts (Trace on)) (posts_back from Ack number) (calm_puts (Trace on) refl) (calm_posts_back from Ack number)
+
+pub calm-tests : (from : Place) (number : ℕ) → Calm (is_stranger from) true 1 4 (tests from number)
+unfolding tests
+calm-tests from number = calm_either 1 4 is_awake (posts_back from Ack number followed_by either_by may_be_asked stand_row nothing) nothing
+    (calm_then 0 1 1 3 (posts_back from Ack number) (either_by may_be_asked stand_row nothing) (calm_posts_back from Ack number) (calm_either 1 3 may_be_asked stand_row nothing calm-stand (none 1 3)))
+    (none 1 4)
+
+pub calm-says-master : (from : Place) (number : ℕ) → Calm (is_stranger from) true 0 1 (says_master from number)
+unfolding says_master
+calm-says-master from number = calm_either 0 1 is_master_at (posts_back from Ack number) nothing (calm_posts_back from Ack number) (none 0 1)
+
+pub calm_treats_kind : (charge : Bool) (from : Place) (m : MessageValue) (k : Kind) → Calm (is_stranger from) true 2 5 (treats_kind charge from m k)
+unfolding treats_kind
+calm_treats_kind charge from m Msite = two 0 1 _ (omega arith) (omega arith) (calm-names from m.number)
+calm_treats_kind charge from m MsiteReq = two 0 1 _ (omega arith) (omega arith) (calm-says-master from m.number)
+calm_treats_kind charge from m TraceOn = two 0 2 _ (omega arith) (omega arith) (calm-traces from m.number true)
+calm_treats_kind charge from m TraceOff = two 0 2 _ (omega arith) (omega arith) (calm-traces from m.number false)
+calm_treats_kind charge from m Test = two 1 4 _ (omega arith) (omega arith) (calm-tests from m.number)
+calm_treats_kind charge from m Date = calm-date charge from m
+calm_treats_kind charge from m SetDate = calm-date charge from m
+calm_treats_kind charge from m DateReq = calm_from_peer from (date_request_of charge m) (calm-date-request charge m)
+calm_treats_kind charge from m SetDateReq = calm_from_peer from (date_request_of charge m) (calm-date-request charge m)
+calm_treats_kind charge from m DateAck = calm_from_peer from (date_acked m) (λ p. two 0 1 _ (omega arith) (omega arith) (calm-date-acked m p))
+calm_treats_kind charge from m Loop = none 2 5
+calm_treats_kind charge from m _ = calm_from_peer from (peer_says m) (λ p. two 1 5 _ (omega arith) (omega arith) (calm_peer_says m p))
+
+-- whether what was taken is a message
+abbrev pub is_message : Taken → Bool
+is_message (Good (Message m)) = true
+is_message _ = false
+
+pub calm_treats : (steer charge : Bool) (from : Place) (t : Taken) → Calm (is_stranger from) true 2 5 (treats steer charge from t)
 unfolding treats
-calm_treats from (Bad fault) = none 1 5
-calm_treats from (Good (Message m)) = calm-kind from m m.kind
-calm_treats from (Good (Stamp (Request word counter))) = five 1 _ (omega arith) (calm-reply from word counter)
-calm_treats from (Good (Stamp (Reply r))) = calm-from-peer from (peer_replies r) (calm-peer-replies r)
+calm_treats steer charge from (Bad fault) = none 2 5
+calm_treats steer charge from (Good (Message m)) = calm_either 2 5 (is_left steer m.kind) nothing (treats_kind charge from m m.kind) (none 2 5) (calm_treats_kind charge from m m.kind)
+calm_treats steer charge from (Good (Stamp (Request word counter))) = two 0 1 _ (omega arith) (omega arith) (calm_replies from word counter)
+calm_treats steer charge from (Good (Stamp (Reply r))) = calm_from_peer from (peer_replies r) (λ p. two 1 5 _ (omega arith) (omega arith) (calm_peer_replies r p))
+
+-- stamps, and octets that are no datagram, never move the clock
+pub calm_stamps : (steer charge : Bool) (from : Place) (t : Taken) → is_message t ≡ false → Calm (is_stranger from) false 2 5 (treats steer charge from t)
+unfolding treats
+calm_stamps steer charge from (Bad fault) e = none 2 5
+calm_stamps steer charge from (Good (Message m)) e = absurd (true≢false e)
+calm_stamps steer charge from (Good (Stamp (Request word counter))) e = two 0 1 _ (omega arith) (omega arith) (calm_replies from word counter)
+calm_stamps steer charge from (Good (Stamp (Reply r))) e = calm_from_peer from (peer_replies r) (λ p. two 1 5 _ (omega arith) (omega arith) (calm_peer_replies r p))
+
+-- acts that begin with the taking, and are calm after it
+pub record TakesFirst (moving : Bool) (from : Place) (t : Taken) (most : ℕ) (acts : List Act) : Type 0 where
+  pub after : List Act
+  pub is : acts ≡ Took from t ∷ after
+  pub calm : is_calm (is_stranger from) moving after ≡ true
+  pub few : length after ≤ most
+
+-- a row that takes first, and puts at most k acts for each peer and c besides after that
+pub record Taking (moving : Bool) (from : Place) (t : Taken) (k c : ℕ) (row : Row) : Type 0 where
+  pub run : (x : ℕ) (past : Past) → TakesFirst moving from t (k * length past.peers + c) (row x past)
+
+pub taking : {moving : Bool} (from : Place) (t : Taken) (k c : ℕ) (treated : Row) → Calm (is_stranger from) moving k c treated → Taking moving from t k c (puts (Took from t) followed_by either_by (is_own from) nothing treated)
+unfolding ◌followed_by◌ puts
+taking from t k c treated p = record {
+  run = λ x past.
+      let row = calm_either k c (is_own from) nothing treated (none k c) p in
+      record { after = _; is = refl; calm = row.calm x (grown x past (Took from t ∷ [])); few = row.few x (grown x past (Took from t ∷ [])) };
+}
+
+-- the round may be given up after it
+pub taking_upsetting : (from : Place) (t : Taken) (k c : ℕ) (row : Row) → Taking true from t k c row → Taking true from t k (c + 1) (upsetting row)
+unfolding upsetting
+taking_upsetting from t k c row p = record { run = λ x past. ended x past (p.run x past) (corrects (row x past)) } where
+  ended : (x : ℕ) (past : Past) → TakesFirst true from t (k * length past.peers + c) (row x past) → (b : Bool) → TakesFirst true from t (k * length past.peers + (c + 1)) (row x past ++ (if b then abandons_going x (grown x past (row x past)) else []))
+  ended x past f false = record { after = f.after; is = append-nil (row x past) ∙ f.is; calm = f.calm; few = (let few = f.few in omega (arith, few)) }
+  ended x past f true =
+      let more = calm-abandons-going {strange = is_stranger from} {moving = true} in
+      let acts = abandons_going x (grown x past (row x past)) in
+      let one = more.few x (grown x past (row x past)) in
+      let whole = length-append f.after acts in
+      let few = f.few in
+      let zero : 0 * length past.peers ≡ 0 = grind arith in
+      record {
+        after = f.after ++ acts;
+        is = subst (λ z. row x past ++ acts ≡ z ++ acts) f.is refl;
+        calm = calm_append (is_stranger from) true f.after acts f.calm (more.calm x (grown x past (row x past)));
+        few = omega (arith, one, whole, few, zero);
+      }
 
 -- a step in which nothing is given takes nothing
-pub calm_turn : Calm 18 32 (answers Turn)
+pub calm_turn : {strange : Bool} → Calm strange true 18 32 (answers Turn)
 unfolding answers input_row
 calm_turn = calm_more (2 + (16 + 0)) (0 + (32 + 0)) 18 32 (due_sends followed_by (due_alarms followed_by nothing)) (omega arith) (omega arith)
     (calm_then 2 0 16 32 due_sends (due_alarms followed_by nothing) calm_due_sends (calm_then 16 32 0 0 due_alarms nothing calm_due_alarms calm_nothing))
@@ -153,37 +238,58 @@ pub record TakesOnce (from : Place) (t : Taken) (peers : ℕ) (acts : List Act) 
   pub before : List Act
   pub after : List Act
   pub is : acts ≡ before ++ Took from t ∷ after
-  pub calm_before : is_calm before ≡ true
-  pub calm_after : is_calm after ≡ true
-  pub few : length acts ≤ 19 * peers + 38
+  pub calm_before : is_calm (is_stranger from) true before ≡ true
+  pub calm_after : is_calm (is_stranger from) true after ≡ true
+  pub few : length acts ≤ 20 * peers + 39
 
--- a step that takes between calm rows
-pub takes_between : (from : Place) (t : Taken) (sends alarms treated : Row) → Calm 2 0 sends → Calm 16 32 alarms → Calm 1 5 treated → (x : ℕ) (past : Past) →
-    TakesOnce from t (length past.peers) ((sends followed_by (alarms followed_by (puts (Took from t) followed_by either_by (is_own from) nothing treated))) x past)
-unfolding ◌followed_by◌ puts
-takes_between from t sends alarms treated send_calm alarm_calm treat_calm x past =
+-- a step that takes after calm rows
+pub takes_between : (from : Place) (t : Taken) (sends alarms input : Row) → Calm (is_stranger from) true 2 0 sends → Calm (is_stranger from) true 16 32 alarms → Taking true from t 2 6 input → (x : ℕ) (past : Past) →
+    TakesOnce from t (length past.peers) ((sends followed_by (alarms followed_by input)) x past)
+unfolding ◌followed_by◌
+takes_between from t sends alarms input send_calm alarm_calm taken x past =
     let sent = sends x past in
     let first = grown x past sent in
     let rung = alarms x first in
     let second = grown x first rung in
-    let third = grown x second (Took from t ∷ []) in
-    let row = either_by (is_own from) nothing treated in
-    let row_calm = calm_either 1 5 (is_own from) nothing treated (none 1 5) treat_calm in
-    let rest = row x third in
+    let rest = input x second in
+    let f = taken.run x second in
     let n = send_calm.few x past in
     let k = alarm_calm.few x first in
-    let j = row_calm.few x third in
-    let one = length-append rung ((Took from t ∷ []) ++ rest) in
-    let two = length-append sent (rung ++ ((Took from t ∷ []) ++ rest)) in
+    let j = f.few in
+    let one = length-append rung rest in
+    let two = length-append sent (rung ++ rest) in
+    let same : length rest ≡ length (Took from t ∷ f.after) = ap length f.is in
     record {
       before = sent ++ rung;
-      after = rest;
-      is = sym (append_assoc sent rung (Took from t ∷ rest));
-      calm_before = calm_append sent rung (send_calm.calm x past) (alarm_calm.calm x first);
-      calm_after = row_calm.calm x third;
-      few = omega (arith, n, k, j, one, two);
+      after = f.after;
+      is = subst (λ z. sent ++ (rung ++ rest) ≡ sent ++ (rung ++ z)) f.is refl ∙ sym (append_assoc sent rung (Took from t ∷ f.after));
+      calm_before = calm_append (is_stranger from) true sent rung (send_calm.calm x past) (alarm_calm.calm x first);
+      calm_after = f.calm;
+      few = omega (arith, n, k, j, one, two, same);
     }
 
 pub takes_once : (from : Place) (t : Taken) (x : ℕ) (past : Past) → TakesOnce from t (length past.peers) (answers (Got from t) x past)
 unfolding answers input_row takes
-takes_once from t = takes_between from t due_sends due_alarms (treats from t) calm_due_sends calm_due_alarms (calm_treats from t)
+takes_once from t = takes_between from t due_sends due_alarms (upsetting (puts (Took from t) followed_by either_by (is_own from) nothing (treats true true from t))) calm_due_sends calm_due_alarms
+    (taking_upsetting from t 2 5 _ (taking from t 2 5 (treats true true from t) (calm_treats true true from t)))
+
+-- calm acts are known
+known_act : (strange moving : Bool) (a : Act) → is_calm_act strange moving a ≡ true → IsKnown strange a
+known_act strange moving (Post Stranger datagram) e = e
+known_act strange moving (Post (Peer p) datagram) e = tt
+known_act strange moving _ e = tt
+
+pub known_calm : (strange moving : Bool) (acts : List Act) → is_calm strange moving acts ≡ true → All (IsKnown strange) acts
+known_calm strange moving [] e = All-nil (IsKnown strange)
+known_calm strange moving (a ∷ acts) e = let both = and-cases (is_calm_act strange moving a) (is_calm strange moving acts) e in All-cons (IsKnown strange) a acts (known_act strange moving a both.0) (known_calm strange moving acts both.1)
+
+-- what a step takes once is known
+pub known_once : (from : Place) (t : Taken) (peers : ℕ) (acts : List Act) → TakesOnce from t peers acts → All (IsKnown (is_stranger from)) acts
+known_once from t peers acts o =
+    let known = IsKnown (is_stranger from) in
+    subst (λ z. All known z) (sym o.is) (All-append known o.before (Took from t ∷ o.after) (known_calm (is_stranger from) true o.before o.calm_before)
+    (All-cons known (Took from t) o.after tt (known_calm (is_stranger from) true o.after o.calm_after)))
+
+pub strangers-answered : StrangersAreAnswered
+strangers-answered Turn x past = known_calm false true (answers Turn x past) (calm_turn.calm x past)
+strangers-answered (Got from t) x past = known_once from t (length past.peers) (answers (Got from t) x past) (takes_once from t x past)

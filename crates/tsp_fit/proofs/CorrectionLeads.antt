@@ -5,7 +5,7 @@ use Rattle.tsp_base.specs.declared.act.Act.TheVariants.{Boot, Post, Become, Acke
 use Rattle.tsp_base.specs.declared.constants.TheConstants.{LAST, REUSE, TRIES}
 use Rattle.tsp_base.specs.declared.datagram.Datagram.TheVariants.{Message}
 use Rattle.tsp_base.specs.declared.kind.Kind.{Kind}
-use Rattle.tsp_base.specs.declared.kind.Kind.TheVariants.{AdjTime, SetTime, Election, Conflict, Quit}
+use Rattle.tsp_base.specs.declared.kind.Kind.TheVariants.{AdjTime, SetTime, Election, Conflict, Quit, SetDateReq}
 use Rattle.tsp_base.specs.declared.place.PeerId.{PeerId}
 use Rattle.tsp_base.specs.declared.place.Place.TheVariants.{Peer}
 use Rattle.tsp_base.specs.CorrectionFits.{RepeatFits, Rests, Follows}
@@ -16,14 +16,17 @@ use Rattle.tsp_base.specs.Leads.{Leads}
 use Rattle.tsp_base.specs.Messages.{MessageValue}
 use Rattle.tsp_base.specs.PortFacts.{role, acting}
 use Rattle.tsp_base.specs.Rows.{nothing, puts, ◌followed_by◌, either_by, for_each}
-use Rattle.tsp_base.specs.SendFacts.{is_correction, is_numbered, Sending, open_send, open_to, open_to_after, message_at, message_of, corrects_by, last_to, last_to_after, last_number, number_of, last_post, is_acknowledged, is_acknowledged_after}
+use Rattle.tsp_base.specs.SendFacts.{is_correction, is_numbered, Sending, open_send, open_to, open_to_after, posts_of, sending_at, message_at, message_of, corrects_by, last_to, last_to_after, last_number, number_of, last_post, is_acknowledged, is_acknowledged_after}
+use Rattle.tsp_base.specs.Setup.{Setup}
 use Rattle.tsp_base.specs.StepFacts.{is_unbacked}
-use Rattle.tsp_base.proofs.LeadsLemmas.{Leads_then, Leads_either, Leads_reading, Leads_nothing, Leads_puts, Leads_each, Leads_from}
-use Rattle.tsp_rules.specs.SendRows.{may_correct, open_at, leaves_after, gives_up, repeats, treats_send, due_send, peers_at, due_sends, is_send_due, is_spent}
+use Rattle.tsp_base.proofs.LeadsLemmas.{Leads_then, Leads_either, Leads_reading, Leads_nothing, Leads_puts, Leads_each, Leads_from, Leads_to}
+use Rattle.tsp_rules.specs.SendRows.{may_correct, open_at, leaves_after, gives_up, repeats, treats_send, due_send, treats_bare_send, bare_send, peers_at, due_sends, is_send_due, is_spent}
 use Rattle.tsp_rules.specs.Tests.{is_slave_at}
-use Rattle.tsp_fit.specs.PortFits.{PortFits}
-use Rattle.tsp_fit.proofs.Known.{During, Untaken}
-use Rattle.tsp_fit.proofs.Leaves.{now, post_message, gave, leave}
+use Rattle.tsp_fit.specs.PortFits.{PortFits, setup_in}
+use Rattle.tsp_fit.proofs.Known.{During, Fresh, Untaken}
+use Rattle.tsp_fit.proofs.Leaves.{now, none-some, gave, leave}
+use Rattle.tsp_fit.proofs.PostLeaves.{post_again}
+use Rattle.tsp_fit.proofs.Rings.{wake, forget}
 use Rattle.tsp_fit.proofs.SendFits.{OpenIs, open_is}
 use Rattle.tsp_fit.proofs.TestFacts.{and-cases, or-cases, past_is, same_peer}
 
@@ -127,8 +130,8 @@ may_fits p number x past d m tick_is number_is e = elim (or-cases (is_past (last
 ]
 
 -- a repeat of the open send, no later than LAST after its beginning
-repeat_of : (p : PeerId) (seen : List Seen) (d : Did) (s : Sending) → OpenIs p seen s → d.tick ≤ s.began + LAST → RepeatFits d seen p s.message
-repeat_of p seen d s o soon = record {
+repeat_of : (setup : Setup) (p : PeerId) (seen : List Seen) (d : Did) (s : Sending) → OpenIs setup p seen s → d.tick ≤ s.began + LAST → RepeatFits d seen p s.message
+repeat_of setup p seen d s o soon = record {
   first = o.began.first;
   older = o.began.older;
   is = o.began.is;
@@ -136,34 +139,44 @@ repeat_of p seen d s o soon = record {
   soon = (let e = o.tick_is in omega (arith, e, soon));
 }
 
-fits_kind : (k : Kind) (p : PeerId) (seen : List Seen) (d first : Did) (older : List Seen) (m : MessageValue) → is_numbered k ≡ true → MessageFits k first older p m → role seen ≡ role older → is_unbacked seen ≡ false → acting seen ≡ false →
-    RepeatFits d seen p m → MessageFits k d seen p m
-fits_kind AdjTime p seen d first older m n f r u a again = record { leads = r ∙ f.leads; begins = λ b. absurd (true≢false (sym b ∙ a)); repeats = λ i. again }
-fits_kind SetTime p seen d first older m n f r u a again = record { leads = r ∙ f.leads; begins = λ b. absurd (true≢false (sym b ∙ a)); repeats = λ i. again }
-fits_kind Election p seen d first older m n f r u a again = record { numbered = record { number = f.numbered.number; repeats = λ i. again }; backs = u }
-fits_kind Conflict p seen d first older m n f r u a again = record { number = f.number; repeats = λ i. again }
-fits_kind Quit p seen d first older m n f r u a again = record { number = f.number; repeats = λ i. again }
-fits_kind _ p seen d first older m n f r u a again = absurd (true≢false (sym n))
+fits_kind : (setup : Setup) (k : Kind) (p : PeerId) (seen : List Seen) (d first : Did) (older : List Seen) (m : MessageValue) → is_numbered k ≡ true → MessageFits setup k first older p m → role seen ≡ role older → is_unbacked seen ≡ false → acting seen ≡ false →
+    RepeatFits d seen p m → MessageFits setup k d seen p m
+fits_kind setup AdjTime p seen d first older m n f r u a again = record { leads = r ∙ f.leads; begins = λ b. absurd (true≢false (sym b ∙ a)); repeats = λ i. again }
+fits_kind setup SetTime p seen d first older m n f r u a again = record { leads = r ∙ f.leads; begins = λ b. absurd (true≢false (sym b ∙ a)); repeats = λ i. again }
+fits_kind setup Election p seen d first older m n f r u a again = record { numbered = record { number = f.numbered.number; next = λ b. absurd (true≢false (sym b ∙ a)); repeats = λ i. again }; backs = u }
+fits_kind setup Conflict p seen d first older m n f r u a again = record { number = f.number; next = λ b. absurd (true≢false (sym b ∙ a)); repeats = λ i. again }
+fits_kind setup Quit p seen d first older m n f r u a again = record { number = f.number; next = λ b. absurd (true≢false (sym b ∙ a)); repeats = λ i. again }
+fits_kind setup SetDateReq p seen d first older m n f r u a again = record {
+  numbered = record { number = f.numbered.number; next = λ b. absurd (true≢false (sym b ∙ a)); repeats = λ i. again };
+  begins = λ b. absurd (true≢false (sym b ∙ a));
+}
+fits_kind setup _ p seen d first older m n f r u a again = absurd (true≢false (sym n))
 
-repeat_fits : (p : PeerId) (seen : List Seen) (d : Did) (s : Sending) → PortFits seen → open_send p seen ≡ Some s → is_unbacked seen ≡ false → acting seen ≡ false → d.tick ≤ s.began + LAST → MessageFits s.message.kind d seen p s.message
-repeat_fits p seen d s f e u a soon =
-    let o = open_is p seen s f e in
+repeat_fits : (setup : Setup) (p : PeerId) (seen : List Seen) (d : Did) (s : Sending) → PortFits setup seen → open_send p seen ≡ Some s → is_unbacked seen ≡ false → acting seen ≡ false → d.tick ≤ s.began + LAST → MessageFits setup s.message.kind d seen p s.message
+repeat_fits setup p seen d s f e u a soon =
+    let o = open_is setup p seen s f e in
     let m = o.message_is in
-    fits_kind s.message.kind p seen d o.began.first o.began.older s.message
+    fits_kind setup s.message.kind p seen d o.began.first o.began.older s.message
     (subst (λ t. is_numbered t.kind ≡ true) (sym m) o.began.numbered)
-    (subst (λ t. MessageFits t.kind o.began.first o.began.older p t) (sym m) o.began.fits)
-    o.began.role_is u a (repeat_of p seen d s o soon)
+    (subst (λ t. MessageFits setup t.kind o.began.first o.began.older p t) (sym m) o.began.fits)
+    o.began.role_is u a (repeat_of setup p seen d s o soon)
 
--- a step before its first alarm
-abbrev pub Fresh : ℕ → Past → Type 0
-Fresh = During false None false Untaken
+-- the same port, which has a send open, so its quiet time is over
+abbrev Sending_on : ℕ → Past → Type 0
+Sending_on = During false true false None false Untaken
 
-leaves_fresh : (p : PeerId) (k : Kind) → Leads Fresh (leaves_after p k) Fresh
+awake_open : (p : PeerId) (s : Sending) (x : ℕ) (past : Past) → Fresh x past → open_send p past.seen ≡ Some s → Sending_on x past
+awake_open p s x past h e = wake (elim h.knows.quiet.rested [
+  | inl z ↦ none-some s (sym (ap (λ place. sending_at place (posts_of p past.seen)) (z.unsent p)) ∙ e)
+  | inr r ↦ r
+]) h
+
+leaves_fresh : (p : PeerId) (k : Kind) → Leads Sending_on (leaves_after p k) Fresh
 unfolding leaves_after
 leaves_fresh p k = by_case (is_correction k) where
-  by_case : (b : Bool) → Leads Fresh (if b then either_by (is_slave_at p) (puts (Leave p)) nothing else nothing) Fresh
-  by_case true = Leads_either (is_slave_at p) (puts (Leave p)) nothing (Leads_puts (Leave p) (λ x past h. leave p h.0)) (Leads_from (λ x past h. h.0) Leads_nothing)
-  by_case false = Leads_nothing
+  by_case : (b : Bool) → Leads Sending_on (if b then either_by (is_slave_at p) (puts (Leave p)) nothing else nothing) Fresh
+  by_case true = Leads_either (is_slave_at p) (puts (Leave p)) nothing (Leads_puts (Leave p) (λ x past h. forget (leave p h.0))) (Leads_from (λ x past h. forget h.0) Leads_nothing)
+  by_case false = Leads_from (λ x past h. forget h) Leads_nothing
 
 soon_of : (s : Sending) (x : ℕ) (past : Past) → is_spent s x past ≡ false → x ≤ s.began + LAST
 soon_of s x past e = ltb-false (s.began + LAST) x (or-false (nat_lt (s.began + LAST) x) (nat_le TRIES s.posts) e) where
@@ -176,21 +189,39 @@ pub repeats_lead : (p : PeerId) (s : Sending) → Leads (λ x past. ((Fresh x pa
 unfolding repeats
 repeats_lead p s = Leads_puts (Post (Peer p) (Message s.message)) (λ x past h.
     let f = h.0.0.0 in
-    post_message p s.message (repeat_fits p past.seen (now x past (Post (Peer p) (Message s.message))) s f.fits h.0.0.1 f.backs f.acting_is (soon_of s x past h.1)) f)
+    forget (post_again p s.message (repeat_fits (setup_in past) p past.seen (now x past (Post (Peer p) (Message s.message))) s f.fits h.0.0.1 f.backs f.acting_is (soon_of s x past h.1)) (awake_open p s x past f h.0.0.1)))
+
+-- an open send that is due and spent is given up
+gives_up_leads : (p : PeerId) (s : Sending) → Leads (λ x past. ((Fresh x past × (open_at p x past ≡ Some s)) × (is_send_due s x past ≡ true)) × (is_spent s x past ≡ true)) (puts (Gave p)) Sending_on
+gives_up_leads p s = Leads_puts (Gave p) (λ x past h. gave p (awake_open p s x past h.0.0.0 h.0.0.1))
 
 treats_leads : (p : PeerId) (o : Option Sending) → Leads (λ x past. Fresh x past × (open_at p x past ≡ o)) (treats_send p o) Fresh
 unfolding treats_send gives_up
 treats_leads p None = Leads_from (λ x past h. h.0) Leads_nothing
 treats_leads p (Some s) = Leads_either (is_send_due s) (either_by (is_spent s) (puts (Gave p) followed_by leaves_after p s.message.kind) (repeats p s.message)) nothing
     (Leads_either (is_spent s) (puts (Gave p) followed_by leaves_after p s.message.kind) (repeats p s.message)
-    (Leads_then {Q = Fresh} (puts (Gave p)) (leaves_after p s.message.kind)
-    (Leads_puts (Gave p) (λ x past h. gave p h.0.0.0))
-    (leaves_fresh p s.message.kind))
+    (Leads_then {Q = Sending_on} (puts (Gave p)) (leaves_after p s.message.kind) (gives_up_leads p s) (leaves_fresh p s.message.kind))
     (repeats_lead p s))
     (Leads_from (λ x past h. h.0.0) Leads_nothing)
 
--- the due sends keep what is known of a port
+treats_bare_leads : (p : PeerId) (o : Option Sending) → Leads (λ x past. Fresh x past × (open_at p x past ≡ o)) (treats_bare_send p o) Fresh
+unfolding treats_bare_send
+treats_bare_leads p None = Leads_from (λ x past h. h.0) Leads_nothing
+treats_bare_leads p (Some s) = Leads_either (is_send_due s) (either_by (is_spent s) (puts (Gave p)) (repeats p s.message)) nothing
+    (Leads_either (is_spent s) (puts (Gave p)) (repeats p s.message) (Leads_to (λ x past h. forget h) (gives_up_leads p s)) (repeats_lead p s))
+    (Leads_from (λ x past h. h.0.0) Leads_nothing)
+
+-- an open send that is due keeps what is known of a port
+pub due_send_leads : (p : PeerId) → Leads Fresh (due_send p) Fresh
+unfolding due_send
+due_send_leads p = Leads_reading (open_at p) (treats_send p) (treats_leads p)
+
+-- so it does without a slave table
+pub bare_send_leads : (p : PeerId) → Leads Fresh (bare_send p) Fresh
+unfolding bare_send
+bare_send_leads p = Leads_reading (open_at p) (treats_bare_send p) (treats_bare_leads p)
+
+-- and so do all sends
 pub due_sends_lead : Leads Fresh due_sends Fresh
-unfolding due_sends due_send
-due_sends_lead = Leads_reading peers_at (for_each due_send) (λ ps. Leads_from (λ x past h. h.0) (Leads_each due_send ps (λ p.
-    Leads_reading (open_at p) (treats_send p) (treats_leads p))))
+unfolding due_sends
+due_sends_lead = Leads_reading peers_at (for_each due_send) (λ ps. Leads_from (λ x past h. h.0) (Leads_each due_send ps due_send_leads))

@@ -1,5 +1,5 @@
 -- The rows of a port that is Loose or follows keep what is known of it.
-use Rattle.std.specs.Prelude.{◌≡◌, ◌⊎◌, ◌≤◌, ℕ, ◌+◌, ◌==◌, ℤ, ◌-ℤ◌, Bool, true, false, if◌then◌else◌, List, [], ◌∷◌, Option, None, Some, refl}
+use Rattle.std.specs.Prelude.{◌≡◌, ◌≢◌, ◌⊎◌, ◌≤◌, ℕ, ◌+◌, ◌==◌, ℤ, ◌-ℤ◌, Bool, true, false, if◌then◌else◌, List, [], ◌∷◌, Option, None, Some, refl}
 use Rattle.std.proofs.Common.{sym, subst, inl, inr, ap, arith, true≢false, eqb-true, ◌∙◌}
 use Rattle.tsp_base.specs.declared.act.Act.TheVariants.{Boot, Back, Correct, Quit}
 use Rattle.tsp_base.specs.declared.alarm.Alarm.TheVariants.{Search}
@@ -7,10 +7,11 @@ use Rattle.tsp_base.specs.declared.constants.TheConstants.{QUIET, GAP}
 use Rattle.tsp_base.specs.declared.datagram.Datagram.TheVariants.{Message}
 use Rattle.tsp_base.specs.declared.datagram.Taken.TheVariants.{Good}
 use Rattle.tsp_base.specs.declared.kind.Kind.{Kind}
-use Rattle.tsp_base.specs.declared.kind.Kind.TheVariants.{AdjTime, Ack, SetTime, Accept, Refuse, Conflict, Quit as QuitKind}
+use Rattle.tsp_base.specs.declared.kind.Kind.TheVariants.{AdjTime, Ack, SetTime, Election, Accept, Refuse, Conflict, Quit as QuitKind}
 use Rattle.tsp_base.specs.declared.place.PeerId.{PeerId}
+use Rattle.tsp_base.specs.declared.place.Place.TheVariants.{Peer}
 use Rattle.tsp_base.specs.declared.role.Role.{Role}
-use Rattle.tsp_base.specs.declared.role.Role.TheVariants.{Loose, Follow}
+use Rattle.tsp_base.specs.declared.role.Role.TheVariants.{Loose, Follow, Candidate}
 use Rattle.tsp_base.specs.AckFits.{Answers}
 use Rattle.tsp_base.specs.CorrectFits.{ByMaster, amount_of}
 use Rattle.tsp_base.specs.History.{Deed, Acts, Did, Seen, Past, plain}
@@ -30,8 +31,9 @@ use Rattle.tsp_rules.specs.SendRows.{begins, is_free}
 use Rattle.tsp_rules.specs.SlaveRows.{reports_conflict, masterup_in, masterack_in, election_of, is_next, is_by, is_repeated, acks_repeat, confirms, takes_amount, adjtime_of, takes_value, settime_of, from_master}
 use Rattle.tsp_rules.specs.Tests.{role_at, is_armed, is_clock_value, may_back_at}
 use Rattle.tsp_fit.proofs.Known.{Free, Rests}
-use Rattle.tsp_fit.proofs.Leaves.{made, post_message, correct, arm_elect}
-use Rattle.tsp_fit.proofs.Changes.{FreeIn, quitting_of, rested_of, back_other}
+use Rattle.tsp_fit.proofs.Leaves.{correct, arm_elect}
+use Rattle.tsp_fit.proofs.PostLeaves.{post_message}
+use Rattle.tsp_fit.proofs.Changes.{FreeIn, quitting_of, back_other, quit_other}
 use Rattle.tsp_fit.proofs.LeadsLeaves.{Leads_posts}
 use Rattle.tsp_fit.proofs.TestFacts.{and-cases, past_is, back_is, same_peer}
 use Rattle.tsp_fit.proofs.CommonLeads.{arms_elect_keeps, arms_elect_during, tells_ticket_during, follow_leads, begins_conflict}
@@ -42,13 +44,13 @@ module _ {p : PeerId} {m : MessageValue} where
   heard_free x past h = h.just.free
 
   pub follow_heard : Leads (Heard p (Good (Message m))) (follow_row p) Rests
-  follow_heard = Leads_from (λ x past h. quitting_of h.awake h.just.free) (Leads_to (λ x past h. rests_of h.free) (follow_leads p))
+  follow_heard = Leads_from (λ x past h. quitting_of h.just.free) (Leads_to (λ x past h. rests_of h.free) (follow_leads p))
 
   -- nothing is done
   pub idle_heard : {P : ℕ → Past → Type 0} → ((x : ℕ) (past : Past) → P x past → Heard p (Good (Message m)) x past) → Leads P nothing Rests
   idle_heard k = Leads_from (λ x past h. rests_of (k x past h).just.free) Leads_nothing
 
-  reports_heard : (q : PeerId) → Leads (Heard p (Good (Message m))) (reports_conflict q) Rests
+  pub reports_heard : (q : PeerId) → Leads (Heard p (Good (Message m))) (reports_conflict q) Rests
   unfolding reports_conflict
   reports_heard q = Leads_either (is_free q) (begins Conflict q) nothing
       (Leads_from (λ x past h. h.0.just.free) (Leads_to (λ x past h. rests_of h) (begins_conflict q)))
@@ -76,30 +78,31 @@ module _ {p : PeerId} {m : MessageValue} where
   masterack_leads _ = idle_heard (λ x past h. h)
 
 -- a port that has backed p in this step
-record Backing (p : PeerId) (T : Option Received → Type 0) (x : ℕ) (past : Past) : Type 0 where
+record Backing (p : PeerId) (T : Option Received → Option Received → Type 0) (x : ℕ) (past : Past) : Type 0 where
   pub free : Free T x past
   pub backed_is : backed past.seen ≡ Some p
 
 -- a port whose node's last correction took this number from p
-record Obeyed (p : PeerId) (number : ℕ) (T : Option Received → Type 0) (x : ℕ) (past : Past) : Type 0 where
+pub record Obeyed (p : PeerId) (number : ℕ) (T : Option Received → Option Received → Type 0) (x : ℕ) (past : Past) : Type 0 where
   pub free : Free T x past
   pub taken_is : last_taken past.seen ≡ Some (record { from = p; number = number })
 
-pub election_leads : (p : PeerId) (m : MessageValue) → Leads (Heard p (Good (Message m))) (election_of p m.number) Rests
+-- an election is answered by a port that isn't a candidate itself
+pub election_leads : {r : Role} (p : PeerId) (m : MessageValue) → m.kind ≡ Election → r ≢ Candidate → Leads (HeardIn p m r) (election_of p m.number) Rests
 unfolding election_of
-election_leads p m = Leads_either (may_back_at p) (puts (Back p) followed_by (arms_elect followed_by posts p Accept m.number)) (posts p Refuse m.number)
+election_leads p m kind other = Leads_either (may_back_at p) (puts (Back p) followed_by (arms_elect followed_by posts p Accept m.number)) (posts p Refuse m.number)
     (Leads_then {Q = Backing p (Says p m)} (puts (Back p)) (arms_elect followed_by posts p Accept m.number)
     (Leads_puts (Back p) (λ x past h. record {
-      free = back_other p (record {
-        rested = rested_of x (boot_tick (plain past.seen)) (role past.seen) h.0.just.free.knows.rested h.0.awake;
+      free = back_other p (λ c. other (sym h.0.1 ∙ c)) (record {
+        rested = h.0.0.just.free.rested refl;
         holds = λ y q e. back_is (held past.seen).back x p h.1 (y, q) e;
-      }) h.0.just.free;
+      }) h.0.0.just.free;
       backed_is = refl;
     }))
     (Leads_then {Q = Backing p (Says p m)} arms_elect (posts p Accept m.number)
     (arms_elect_keeps (λ x past at h. record { free = arm_elect at h.free; backed_is = h.backed_is }))
-    (Leads_posts p Accept m.number (λ x past h. rests_of (post_message p (bare Accept m.number past.name) h.backed_is h.free)))))
-    (Leads_posts p Refuse m.number (λ x past h. rests_of (post_message p (bare Refuse m.number past.name) tt h.0.just.free)))
+    (Leads_posts p Accept m.number (λ x past h. rests_of (post_message p (bare Accept m.number past.name) refl (record { backs = h.backed_is; message = m; took = h.free.took; kind = kind; number_is = refl }) h.free)))))
+    (Leads_posts p Refuse m.number (λ x past h. rests_of (post_message p (bare Refuse m.number past.name) refl tt h.0.0.just.free)))
 
 -- the last correction's tick, where there was one since the boot
 correct-cases : (ds : List Did) → ((correct_tick ds ≡ None) × (last_correct ds ≡ boot_tick ds)) ⊎ (correct_tick ds ≡ Some (last_correct ds))
@@ -112,16 +115,16 @@ correct-cases (d ∷ before) = by_deed d.deed (correct-cases before) where
   by_deed (Acts (Correct amount stepped shown)) h = inr refl
   by_deed _ h = h
 
-gap_of : (x : ℕ) (past : Past) → is_past (correct_tick (plain past.seen)) GAP x ≡ true → boot_tick (plain past.seen) + QUIET ≤ x → last_correct (plain past.seen) + GAP ≤ x
+pub gap_of : (x : ℕ) (past : Past) → is_past (correct_tick (plain past.seen)) GAP x ≡ true → boot_tick (plain past.seen) + QUIET ≤ x → last_correct (plain past.seen) + GAP ≤ x
 gap_of x past e rested = elim (correct-cases (plain past.seen)) [
   | inl h ↦ let same = h.1 in omega (arith, same, rested)
   | inr h ↦ past_is (correct_tick (plain past.seen)) GAP x e (last_correct (plain past.seen)) h
 ]
 
 -- a follower has no round
-no_close : (x : ℕ) (past : Past) (q : PeerId) → role past.seen ≡ Follow q → {T : Option Received → Type 0} → Free T x past → (o : Option ℕ) → (armed past.seen).close ≡ o → (armed past.seen).close ≡ None
+no_close : (x : ℕ) (past : Past) (q : PeerId) → role past.seen ≡ Follow q → {T : Option Received → Option Received → Type 0} → Free T x past → (o : Option ℕ) → (armed past.seen).close ≡ o → (armed past.seen).close ≡ None
 no_close x past q r h None e = e
-no_close x past q r h (Some at) e = let leads = (h.knows.closes at e).leads in let bad : ⊥ = cc in absurd bad
+no_close x past q r h (Some at) e = let leads = (h.knows.round.closes refl at e).leads in let bad : ⊥ = cc in absurd bad
 
 is_by-is : (p : PeerId) (number : ℕ) (o : Option Correcting) → is_by p number o ≡ true → o ≡ Some (record { from = p; number = number })
 is_by-is p number None e = absurd (true≢false (sym e))
@@ -135,20 +138,20 @@ module _ {p : PeerId} {m : MessageValue} where
   -- the ACK of a correction
   obeyed_ack : (kind : is_correction m.kind ≡ true) → Leads (Obeyed p m.number (Says p m)) (posts p Ack m.number) Rests
   obeyed_ack kind = Leads_posts p Ack m.number (λ x past h.
-      rests_of (post_message p (bare Ack m.number past.name) (ack_fits p m past.seen h.free.took (answer m.kind kind past.seen h.taken_is)) h.free))
+      rests_of (post_message p (bare Ack m.number past.name) refl (ack_fits (Peer p) m past.seen h.free.took (answer m.kind kind past.seen h.taken_is)) h.free))
     where
-      answer : (k : Kind) → is_correction k ≡ true → (seen : List Seen) → last_taken seen ≡ Some (record { from = p; number = m.number }) → Answers k seen p m.number
+      answer : (k : Kind) → is_correction k ≡ true → (seen : List Seen) → last_taken seen ≡ Some (record { from = p; number = m.number }) → Answers k (Peer p) seen m.number
       answer AdjTime c seen t = t
       answer SetTime c seen t = t
       answer _ c seen t = absurd (true≢false (sym c))
 
-  confirms_lead : is_correction m.kind ≡ true → Leads (Obeyed p m.number (Says p m)) (confirms p m.number) Rests
+  pub confirms_lead : is_correction m.kind ≡ true → Leads (Obeyed p m.number (Says p m)) (confirms p m.number) Rests
   unfolding confirms
   confirms_lead kind = Leads_then {Q = Obeyed p m.number (Says p m)} arms_elect (posts p Ack m.number)
       (arms_elect_keeps (λ x past at h. record { free = arm_elect at h.free; taken_is = h.taken_is }))
       (obeyed_ack kind)
 
-  acks_repeat_leads : is_correction m.kind ≡ true → {P : ℕ → Past → Type 0} → ((x : ℕ) (past : Past) → P x past → Heard p (Good (Message m)) x past) → Leads P (acks_repeat p m.number) Rests
+  pub acks_repeat_leads : is_correction m.kind ≡ true → {P : ℕ → Past → Type 0} → ((x : ℕ) (past : Past) → P x past → Heard p (Good (Message m)) x past) → Leads P (acks_repeat p m.number) Rests
   unfolding acks_repeat
   acks_repeat_leads kind k = Leads_either (is_repeated p m.number) (posts p Ack m.number) nothing
       (Leads_from (λ x past h. record { free = (k x past h.0).just.free; taken_is = is_by-is p m.number (last_taken past.seen) h.1 }) (obeyed_ack kind))
@@ -161,7 +164,7 @@ module _ {p : PeerId} {m : MessageValue} where
       let free = h.0.just.free in
       let just = h.0.just in
       let both = and-cases (m.number == ticket (plain past.seen)) (is_past (correct_tick (plain past.seen)) GAP x) next in
-      let rested = rested_of x (boot_tick (plain past.seen)) (role past.seen) free.knows.rested h.0.awake in
+      let rested = free.rested refl in
       record {
         free = correct amount stepped shown (no_close x past p h.1 free _ refl) (record {
           gap = gap_of x past both.1 rested;
@@ -179,7 +182,7 @@ module _ {p : PeerId} {m : MessageValue} where
             follows = h.1;
           });
         }) free;
-        taken_is = ap (λ o. correcting_of (said o)) free.took;
+        taken_is = ap (λ o. correcting_of (said o)) free.took ∙ ap (λ b. if b then Some (record { from = p; number = m.number }) else None) kind;
       }
 
   pub adjtime_leads : m.kind ≡ AdjTime → Leads (HeardIn p m (Follow p)) (adjtime_of p m.number (time_in m.body)) Rests
@@ -226,27 +229,13 @@ module _ {p : PeerId} {m : MessageValue} where
   pub quit_follower : (q : PeerId) → m.kind ≡ QuitKind → Leads (HeardIn p m (Follow q)) (quits p m.number) Rests
   unfolding quits
   quit_follower q k = Leads_then {Q = FreeIn None (Says p m) (Follow q)} (puts (Quit p)) (posts p Ack m.number followed_by reading role_at (follows_unless p))
-      (Leads_puts (Quit p) (λ x past h. let f = h.0.just.free in let k = f.knows in record {
-        free = made (Quit p) f.own tt f.fits
-            (record {
-              boot_le = k.boot_le;
-              last_le = k.last_le;
-              boot_is = k.boot_is;
-              rested = k.rested;
-              silent = k.silent;
-              stands = λ e. let r = h.1 in let bad : ⊥ = cc in absurd bad;
-              windows = k.windows;
-              rounds = k.rounds;
-              probing = k.probing;
-              closes = k.closes;
-              exchanges = k.exchanges;
-            })
-            f.backs (ap (λ i. owes_after (Acts (Quit p)) i (owes past.seen)) h.1 ∙ f.owed) f.acting_is f.took;
+      (Leads_puts (Quit p) (λ x past h. let f = h.0.just.free in record {
+        free = quit_other p (λ c. let r = h.1 in let bad : ⊥ = cc in absurd bad) (ap (λ i. owes_after (Acts (Quit p)) i (owes past.seen)) h.1 ∙ f.owed) f;
         role_is = h.1;
       }))
       (Leads_then {Q = FreeIn None (Says p m) (Follow q)} (posts p Ack m.number) (reading role_at (follows_unless p))
       (Leads_posts p Ack m.number (λ x past h. record {
-        free = post_message p (bare Ack m.number past.name) (ack_fits p m past.seen h.free.took (subst (λ i. Answers i past.seen p m.number) (sym k) tt)) h.free;
+        free = post_message p (bare Ack m.number past.name) refl (ack_fits (Peer p) m past.seen h.free.took (subst (λ i. Answers i (Peer p) past.seen m.number) (sym k) tt)) h.free;
         role_is = h.role_is;
       }))
       (Leads_reading role_at (follows_unless p) (λ a. record {

@@ -1,14 +1,19 @@
 -- What the tests that rows make tell.
-use Rattle.std.specs.Prelude.{◌≡◌, ◌≢◌, ◌⊎◌, ◌≤◌, ℕ, ◌+◌, ◌==◌, ◌&&◌, ◌||◌, not, nat_le, Bool, true, false, Option, None, Some, refl}
-use Rattle.std.proofs.Common.{sym, subst, inl, inr, true≢false, eqb-true, ap, ◌∙◌}
+use Rattle.std.specs.Prelude.{◌≡◌, ◌≢◌, ◌⊎◌, ◌≤◌, ℕ, ◌+◌, ℤ, neg_ℤ, ◌<ℤ◌, ◌==◌, ◌&&◌, ◌||◌, not, nat_le, Bool, true, false, Option, None, Some, refl}
+use Rattle.std.proofs.Common.{sym, subst, inl, inr, arith, true≢false, eqb-true, ap, ◌∙◌}
 use Rattle.std.proofs.lemmas.Bool.{leb-true}
-use Rattle.tsp_base.specs.declared.constants.TheConstants.{HOLD, ELECT_MIN, SLACK}
+use Rattle.std.proofs.lemmas.Int.{ints}
+use Rattle.tsp_base.specs.declared.constants.TheConstants.{HOLD, ELECT_MIN, LIMIT, SLACK}
 use Rattle.tsp_base.specs.declared.place.PeerId.{PeerId}
 use Rattle.tsp_base.specs.declared.role.Role.{Role}
-use Rattle.tsp_base.specs.declared.role.Role.TheVariants.{Starting}
+use Rattle.tsp_base.specs.declared.role.Role.TheVariants.{Starting, Master}
+use Rattle.tsp_base.specs.CorrectionFits.{SetsTarget}
+use Rattle.tsp_base.specs.History.{Did, Past, plain}
 use Rattle.tsp_base.specs.Hold.{Held, is_past, may_back, may_back_after, may_stand}
-use Rattle.tsp_base.specs.Takings.{peer_of}
-use Rattle.tsp_rules.specs.Tests.{is_over, is_met, is_starting_role, is_follow}
+use Rattle.tsp_base.specs.Messages.{MessageValue}
+use Rattle.tsp_base.specs.NodeFacts.{target}
+use Rattle.tsp_base.specs.Takings.{peer_of, time_in}
+use Rattle.tsp_rules.specs.Tests.{is_clock_value, is_in_range, target_at, is_over, is_met, is_starting_role, is_master}
 
 pub and-cases : (a b : Bool) → (a && b) ≡ true → (a ≡ true) × (b ≡ true)
 and-cases true b e = (refl, e)
@@ -62,5 +67,21 @@ stand_is h x own e =
 pub awake_is : (r : Role) → is_starting_role r ≡ false → r ≢ Starting
 awake_is r e is = true≢false (sym (subst (λ k. is_starting_role k ≡ true) (sym is) refl) ∙ e)
 
-pub follow_awake : (r : Role) → is_follow r ≡ true → r ≢ Starting
-follow_awake r e is = true≢false (sym e ∙ subst (λ k. is_follow k ≡ false) (sym is) refl)
+pub master_is : (r : Role) → is_master r ≡ true → r ≡ Master
+master_is Master e = refl
+master_is _ e = absurd (true≢false (sym e))
+
+-- the ends of a clock's range
+clock_low : (z : ℤ) → is_clock_value z ≡ true → neg_ℤ LIMIT <ℤ z
+clock_low z e = grind (arith, ints)
+
+clock_high : (z : ℤ) → is_clock_value z ≡ true → z <ℤ LIMIT
+clock_high z e = grind (arith, ints)
+
+-- a SETTIME carries the target, which is in a clock's range
+pub sets_target : (x : ℕ) (past : Past) (d : Did) (m : MessageValue) → d.tick ≡ x → time_in m.body ≡ target_at x past → is_in_range x past ≡ true → SetsTarget d past.seen m
+sets_target x past d m tick time e = record {
+  time = time ∙ ap (λ y. target (plain past.seen) y) (sym tick);
+  low = subst (λ y. neg_ℤ LIMIT <ℤ target (plain past.seen) y) (sym tick) (clock_low (target_at x past) e);
+  high = subst (λ y. target (plain past.seen) y <ℤ LIMIT) (sym tick) (clock_high (target_at x past) e);
+}

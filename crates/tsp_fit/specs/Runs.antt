@@ -5,7 +5,7 @@ use Rattle.tsp_base.specs.Rows.{Row, grown, in_step}
 use Rattle.tsp_base.specs.StepFacts.{StepEnds}
 use Rattle.tsp_rules.specs.Answers.{Given, answers}
 use Rattle.tsp_rules.specs.CommonRows.{boots}
-use Rattle.tsp_fit.specs.PortFits.{PortFits}
+use Rattle.tsp_fit.specs.PortFits.{PortFits, setup_in}
 
 -- what a step is made of: a boot, or an answer to what is given
 pub data Makes : Type 0 where
@@ -42,6 +42,6 @@ abbrev pub Ordered : ℕ → List Happening → Type 0
 Ordered n [] = Unit {0}
 Ordered n (h ∷ before) = (last_tick before ≤ h.tick) × (h.step.node ≡ n) × Ordered n before
 
--- a port that has done nothing yet runs by the rules: each deed fits, and each step ends well
+-- a port that has done nothing yet runs by the rules: each deed fits what the port is set up with, and each step ends well
 abbrev pub RulesFit : Type 0
-RulesFit = (past : Past) (hs : List Happening) → past.seen ≡ [] → Ordered past.own.0 hs → PortFits (ran hs past).seen × StepEnds (ran hs past).seen
+RulesFit = (past : Past) (hs : List Happening) → past.seen ≡ [] → Ordered past.own.0 hs → PortFits (setup_in past) (ran hs past).seen × StepEnds (ran hs past).seen

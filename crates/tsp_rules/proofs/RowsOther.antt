@@ -1,7 +1,7 @@
 -- What rows that are written by cases do in the cases that are left.
-use Rattle.std.specs.Prelude.{◌≡◌, ◌≢◌, false, refl}
+use Rattle.std.specs.Prelude.{◌≡◌, ◌≢◌, Bool, false, refl}
 use Rattle.tsp_base.specs.declared.kind.Kind.{Kind}
-use Rattle.tsp_base.specs.declared.kind.Kind.TheVariants.{AdjTime, Ack, MasterReq, MasterAck, SetTime, MasterUp, SlaveUp, Election, Accept, Refuse, Conflict, Resolve, Quit, TraceOn, TraceOff, Msite, MsiteReq, Test}
+use Rattle.tsp_base.specs.declared.kind.Kind.TheVariants.{AdjTime, Ack, MasterReq, MasterAck, SetTime, MasterUp, SlaveUp, Election, Accept, Refuse, Conflict, Resolve, Quit, Date, DateReq, DateAck, TraceOn, TraceOff, Msite, MsiteReq, Test, SetDate, SetDateReq, Loop}
 use Rattle.tsp_base.specs.declared.place.PeerId.{PeerId}
 use Rattle.tsp_base.specs.declared.place.Place.{Place}
 use Rattle.tsp_base.specs.declared.role.Role.{Role}
@@ -90,12 +90,19 @@ unfolding replies_in
 replies_in-other p r Master n = absurd (n refl)
 replies_in-other p r _ n = refl
 
-pub treats_kind-other : (from : Place) (m : MessageValue) (k : Kind) →
-    k ≢ Msite → k ≢ MsiteReq → k ≢ TraceOn → k ≢ TraceOff → k ≢ Test → treats_kind from m k ≡ from_peer from (peer_says m)
+pub treats_kind-other : (charge : Bool) (from : Place) (m : MessageValue) (k : Kind) →
+    k ≢ Msite → k ≢ MsiteReq → k ≢ TraceOn → k ≢ TraceOff → k ≢ Test → k ≢ Date → k ≢ SetDate → k ≢ DateReq → k ≢ SetDateReq → k ≢ DateAck → k ≢ Loop →
+    treats_kind charge from m k ≡ from_peer from (peer_says m)
 unfolding treats_kind
-treats_kind-other from m Msite a b c d e = absurd (a refl)
-treats_kind-other from m MsiteReq a b c d e = absurd (b refl)
-treats_kind-other from m TraceOn a b c d e = absurd (c refl)
-treats_kind-other from m TraceOff a b c d e = absurd (d refl)
-treats_kind-other from m Test a b c d e = absurd (e refl)
-treats_kind-other from m _ a b c d e = refl
+treats_kind-other charge from m Msite a b c d e f g h i j l = absurd (a refl)
+treats_kind-other charge from m MsiteReq a b c d e f g h i j l = absurd (b refl)
+treats_kind-other charge from m TraceOn a b c d e f g h i j l = absurd (c refl)
+treats_kind-other charge from m TraceOff a b c d e f g h i j l = absurd (d refl)
+treats_kind-other charge from m Test a b c d e f g h i j l = absurd (e refl)
+treats_kind-other charge from m Date a b c d e f g h i j l = absurd (f refl)
+treats_kind-other charge from m SetDate a b c d e f g h i j l = absurd (g refl)
+treats_kind-other charge from m DateReq a b c d e f g h i j l = absurd (h refl)
+treats_kind-other charge from m SetDateReq a b c d e f g h i j l = absurd (i refl)
+treats_kind-other charge from m DateAck a b c d e f g h i j l = absurd (j refl)
+treats_kind-other charge from m Loop a b c d e f g h i j l = absurd (l refl)
+treats_kind-other charge from m _ a b c d e f g h i j l = refl

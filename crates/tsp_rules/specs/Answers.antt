@@ -1,5 +1,5 @@
 -- What a port answers in a step: its due sends, its due alarms, and then what it is given.
-use Rattle.std.specs.Prelude.{true, false}
+use Rattle.std.specs.Prelude.{ℕ, Bool, true, false, not, ◌&&◌}
 use Rattle.tsp_base.specs.declared.act.Act.TheVariants.{Took}
 use Rattle.tsp_base.specs.declared.alarm.Alarm.{Alarm}
 use Rattle.tsp_base.specs.declared.alarm.Alarm.TheVariants.{Quiet, Search, Elect, Window, Probe, Close, Resolve, Round}
@@ -7,45 +7,52 @@ use Rattle.tsp_base.specs.declared.datagram.Datagram.TheVariants.{Message, Stamp
 use Rattle.tsp_base.specs.declared.datagram.Taken.{Taken}
 use Rattle.tsp_base.specs.declared.datagram.Taken.TheVariants.{Good, Bad}
 use Rattle.tsp_base.specs.declared.kind.Kind.{Kind}
-use Rattle.tsp_base.specs.declared.kind.Kind.TheVariants.{TraceOn, TraceOff, Msite, MsiteReq, Test}
+use Rattle.tsp_base.specs.declared.kind.Kind.TheVariants.{Date, DateReq, DateAck, TraceOn, TraceOff, Msite, MsiteReq, Test, SetDate, SetDateReq, Loop}
 use Rattle.tsp_base.specs.declared.place.PeerId.{PeerId}
 use Rattle.tsp_base.specs.declared.place.Place.{Place}
 use Rattle.tsp_base.specs.declared.place.Place.TheVariants.{Peer, Stranger}
 use Rattle.tsp_base.specs.declared.role.Role.{Role}
 use Rattle.tsp_base.specs.declared.role.Role.TheVariants.{Starting, Loose, Follow, Candidate, Master}
 use Rattle.tsp_base.specs.declared.stamp.Stamp.TheVariants.{Request, Reply}
+use Rattle.tsp_base.specs.History.{Past}
 use Rattle.tsp_base.specs.Messages.{MessageValue}
 use Rattle.tsp_base.specs.Rows.{Row, nothing, puts, ◌followed_by◌, either_by, reading}
+use Rattle.tsp_base.specs.SendFacts.{is_correction}
 use Rattle.tsp_base.specs.Stamps.{ReplyValue}
 use Rattle.tsp_rules.specs.CandidateRows.{window_rings, candidate_takes}
 use Rattle.tsp_rules.specs.CommonRows.{replies, names_master, says_master, traces, tests}
+use Rattle.tsp_rules.specs.DateRows.{date_acked, date_of, date_request_of}
 use Rattle.tsp_rules.specs.MasterRows.{master_takes}
 use Rattle.tsp_rules.specs.ResolveRows.{resolve_rings}
-use Rattle.tsp_rules.specs.RoundRows.{round_rings, probe_rings, close_rings, samples}
+use Rattle.tsp_rules.specs.RoundRows.{round_rings, probe_rings, close_rings, samples, upsetting}
 use Rattle.tsp_rules.specs.SendRows.{due_sends}
 use Rattle.tsp_rules.specs.SlaveRows.{quiet_rings, search_rings, elect_rings, slave_takes}
-use Rattle.tsp_rules.specs.Tests.{role_at, is_due, is_own, is_heard}
+use Rattle.tsp_rules.specs.Tests.{role_at, follows_at, is_due, is_own, is_heard}
 
--- what a port does where this alarm is due
-unfoldable pub alarm_rings : Alarm → Row
-alarm_rings Quiet = quiet_rings
-alarm_rings Search = search_rings
-alarm_rings Elect = elect_rings
-alarm_rings Window = window_rings
-alarm_rings Probe = probe_rings
-alarm_rings Close = close_rings
-alarm_rings Resolve = resolve_rings
-alarm_rings Round = round_rings
+-- what a port does where this alarm is due; its close moves the clock where the port leads it, and its round waits for another port's
+unfoldable pub alarm_rings : Bool → Bool → Alarm → Row
+alarm_rings own wait Quiet = quiet_rings
+alarm_rings own wait Search = search_rings
+alarm_rings own wait Elect = elect_rings
+alarm_rings own wait Window = window_rings
+alarm_rings own wait Probe = probe_rings
+alarm_rings own wait Close = close_rings own
+alarm_rings own wait Resolve = resolve_rings
+alarm_rings own wait Round = round_rings wait
 
 -- an alarm, where it is due when its turn comes
-unfoldable pub rings : Alarm → Row
-rings alarm = either_by (is_due alarm) (alarm_rings alarm) nothing
+unfoldable pub rings : Bool → Bool → Alarm → Row
+rings own wait alarm = either_by (is_due alarm) (alarm_rings own wait alarm) nothing
+
+-- an alarm of a node's only port
+unfoldable pub rings_alone : Alarm → Row
+rings_alone = rings true false
 
 -- every due alarm, in this order
 unfoldable pub due_alarms : Row
 due_alarms =
-    rings Quiet followed_by (rings Search followed_by (rings Elect followed_by (rings Window followed_by
-    (rings Probe followed_by (rings Close followed_by (rings Resolve followed_by rings Round))))))
+    rings_alone Quiet followed_by (rings_alone Search followed_by (rings_alone Elect followed_by (rings_alone Window followed_by
+    (rings_alone Probe followed_by (rings_alone Close followed_by (rings_alone Resolve followed_by rings_alone Round))))))
 
 -- what the port's role does with a peer's message
 unfoldable pub says_in : PeerId → MessageValue → Role → Row
@@ -70,35 +77,46 @@ unfoldable pub from_peer : Place → (PeerId → Row) → Row
 from_peer (Peer p) row = either_by (is_heard p) (row p) nothing
 from_peer Stranger row = nothing
 
--- what is done with this kind of message: some are answered to anybody
-unfoldable pub treats_kind : Place → MessageValue → Kind → Row
-treats_kind from m Msite = names_master from m.number
-treats_kind from m MsiteReq = says_master from m.number
-treats_kind from m TraceOn = traces from m.number true
-treats_kind from m TraceOff = traces from m.number false
-treats_kind from m Test = tests from m.number
-treats_kind from m _ = from_peer from (peer_says m)
+-- what is done with this kind of message: some are answered to anybody; a LOOP is its node's matter
+unfoldable pub treats_kind : Bool → Place → MessageValue → Kind → Row
+treats_kind charge from m Msite = names_master from m.number
+treats_kind charge from m MsiteReq = says_master from m.number
+treats_kind charge from m TraceOn = traces from m.number true
+treats_kind charge from m TraceOff = traces from m.number false
+treats_kind charge from m Test = tests from m.number
+treats_kind charge from m Date = date_of charge from m
+treats_kind charge from m SetDate = date_of charge from m
+treats_kind charge from m DateReq = from_peer from (date_request_of charge m)
+treats_kind charge from m SetDateReq = from_peer from (date_request_of charge m)
+treats_kind charge from m DateAck = from_peer from (date_acked m)
+treats_kind charge from m Loop = nothing
+treats_kind charge from m _ = from_peer from (peer_says m)
 
--- what is done with a datagram that was taken
-unfoldable pub treats : Place → Taken → Row
-treats from (Bad fault) = nothing
-treats from (Good (Message m)) = treats_kind from m m.kind
-treats from (Good (Stamp (Request word counter))) = replies from word counter
-treats from (Good (Stamp (Reply r))) = from_peer from (peer_replies r)
+-- whether a follower passes a correction over, since another port of its node steers the clock
+abbrev pub is_left : Bool → Kind → ℕ → Past → Bool
+is_left steer kind x past = not steer && (is_correction kind && follows_at x past)
+
+-- what is done with a datagram that was taken, by a port that steers the clock or doesn't, and is in charge of the date or isn't
+unfoldable pub treats : Bool → Bool → Place → Taken → Row
+treats steer charge from (Bad fault) = nothing
+treats steer charge from (Good (Message m)) = either_by (is_left steer m.kind) nothing (treats_kind charge from m m.kind)
+treats steer charge from (Good (Stamp (Request word counter))) = replies from word counter
+treats steer charge from (Good (Stamp (Reply r))) = from_peer from (peer_replies r)
 
 -- a datagram is taken; what seems to come from the port itself is passed over
-unfoldable pub takes : Place → Taken → Row
-takes from t = puts (Took from t) followed_by either_by (is_own from) nothing (treats from t)
+unfoldable pub takes : Bool → Bool → Place → Taken → Row
+takes steer charge from t = puts (Took from t) followed_by either_by (is_own from) nothing (treats steer charge from t)
 
 -- what a step is given: nothing but the time, or octets from a sender as they were read
 pub data Given : Type 0 where
   Turn : Given
   Got : (from : Place) → (taken : Taken) → Given
 
+-- the input of a node's only port, which steers and is in charge; a date that it sets ends its round
 unfoldable pub input_row : Given → Row
 input_row Turn = nothing
-input_row (Got from t) = takes from t
+input_row (Got from t) = upsetting (takes true true from t)
 
--- what a port answers
+-- what a node's only port answers
 unfoldable pub answers : Given → Row
 answers g = due_sends followed_by (due_alarms followed_by input_row g)

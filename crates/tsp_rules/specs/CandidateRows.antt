@@ -1,5 +1,5 @@
 -- What a port does that stands for election.
-use Rattle.std.specs.Prelude.{ℕ}
+use Rattle.std.specs.Prelude.{ℕ, ◌+◌, ◌*◌, nat_lt, Bool, not, ◌||◌, length}
 use Rattle.tsp_base.specs.declared.act.Act.TheVariants.{Become, Backer, Ring, Late, Acked}
 use Rattle.tsp_base.specs.declared.alarm.Alarm.TheVariants.{Window, Round}
 use Rattle.tsp_base.specs.declared.constants.TheConstants.{ROUND}
@@ -7,7 +7,9 @@ use Rattle.tsp_base.specs.declared.kind.Kind.{Kind}
 use Rattle.tsp_base.specs.declared.kind.Kind.TheVariants.{Ack, MasterAck, MasterUp, Election, Accept, Refuse, Quit}
 use Rattle.tsp_base.specs.declared.place.PeerId.{PeerId}
 use Rattle.tsp_base.specs.declared.role.Role.TheVariants.{Loose, Master}
+use Rattle.tsp_base.specs.History.{Past}
 use Rattle.tsp_base.specs.Messages.{MessageValue}
+use Rattle.tsp_base.specs.PortFacts.{backers}
 use Rattle.tsp_base.specs.Rows.{Row, nothing, puts, ◌followed_by◌, either_by, arms, posts, posts_to_others}
 use Rattle.tsp_rules.specs.CommonRows.{arms_elect, follow_row, quits}
 use Rattle.tsp_rules.specs.SendRows.{has_election, acknowledges}
@@ -21,9 +23,13 @@ lead_row = puts (Become Master) followed_by (arms Round ROUND followed_by posts_
 unfoldable pub yields : Row
 yields = puts (Become Loose) followed_by arms_elect
 
--- nobody refused in time, or nobody looked in time
+-- whether the election is won: nobody refused, and where elections are strict more than half of the peers back the candidate, itself counted
+abbrev pub has_won : ℕ → Past → Bool
+has_won x past = not past.strict || nat_lt (length past.peers) (2 * length (backers past.seen) + 2)
+
+-- the window ends: the election is won or lost, or nobody looked in time
 unfoldable pub window_rings : Row
-window_rings = either_by (is_in_time Window) (puts (Ring Window) followed_by lead_row) (puts (Late Window) followed_by yields)
+window_rings = either_by (is_in_time Window) (puts (Ring Window) followed_by either_by has_won lead_row yields) (puts (Late Window) followed_by yields)
 
 -- p backs this candidature
 unfoldable pub accepted_by : PeerId → ℕ → Row

@@ -1,9 +1,9 @@
 -- A master's rounds: what it asks, what it learns, and how it closes.
-use Rattle.std.specs.Prelude.{ℕ, ◌%◌, ◌^◌, ◌==◌, nat_lt, nat_abs, ℤ, pos, ◌-ℤ◌, int_lt, Bool, if◌then◌else◌, List, [], ◌∷◌, map, filter, Option, None, Some}
+use Rattle.std.specs.Prelude.{ℕ, ◌%◌, ◌^◌, ◌==◌, nat_lt, nat_abs, ℤ, pos, ◌-ℤ◌, int_lt, Bool, true, false, ◌||◌, if◌then◌else◌, List, [], ◌∷◌, ◌++◌, map, filter, Option, None, Some}
 use Rattle.tsp_base.specs.declared.act.Act.{Act}
-use Rattle.tsp_base.specs.declared.act.Act.TheVariants.{Post, Ring, Late, Leave, Sample, Close as CloseAct, Abandon}
+use Rattle.tsp_base.specs.declared.act.Act.TheVariants.{Post, Ring, Late, Leave, Sample, Close as CloseAct, Correct, Abandon}
 use Rattle.tsp_base.specs.declared.alarm.Alarm.TheVariants.{Probe, Close, Round}
-use Rattle.tsp_base.specs.declared.constants.TheConstants.{FAR, SPAN, ROUND, PROBE, CLOSE}
+use Rattle.tsp_base.specs.declared.constants.TheConstants.{FAR, SPAN, ROUND, PROBE, CLOSE, WAIT}
 use Rattle.tsp_base.specs.declared.datagram.Datagram.TheVariants.{Stamp}
 use Rattle.tsp_base.specs.declared.kind.Kind.TheVariants.{MasterUp}
 use Rattle.tsp_base.specs.declared.place.PeerId.{PeerId}
@@ -11,15 +11,15 @@ use Rattle.tsp_base.specs.declared.place.Place.TheVariants.{Peer}
 use Rattle.tsp_base.specs.declared.stamp.Stamp.TheVariants.{Request}
 use Rattle.tsp_base.specs.History.{Past, Seen, plain}
 use Rattle.tsp_base.specs.NodeFacts.{word}
-use Rattle.tsp_base.specs.RoundFacts.{is_measured, asked, exchange, word_asked, probes, target_there, Sampled, best}
-use Rattle.tsp_base.specs.Rows.{Row, nothing, puts, ◌followed_by◌, either_by, reading, for_each, arms, posts_to_others}
+use Rattle.tsp_base.specs.RoundFacts.{Estimate, OpenRequest, asked, estimate, is_measured, probes, request_open}
+use Rattle.tsp_base.specs.Rows.{Row, grown, nothing, puts, ◌followed_by◌, either_by, reading, for_each, arms, posts_to_others}
 use Rattle.tsp_base.specs.Stamps.{ReplyValue}
 use Rattle.tsp_rules.specs.ClockRows.{can_adjust, adjusts}
 use Rattle.tsp_group.specs.Groups.{group_of, mean_of}
 use Rattle.tsp_group.specs.declared.group.Group.{Group}
 use Rattle.tsp_base.specs.Samples.{sample_diff, sample_err}
 use Rattle.tsp_rules.specs.SendRows.{begins_adjtime, begins_settime}
-use Rattle.tsp_rules.specs.Tests.{is_in_time, target_at, table_at}
+use Rattle.tsp_rules.specs.Tests.{is_going_at, is_in_time, target_at, table_at}
 
 -- a stamp request to p: the node's word, and a counter that counts the port's requests
 unfoldable pub asks : PeerId → Row
@@ -33,8 +33,13 @@ asks_slaves = reading table_at (for_each asks)
 unfoldable pub round_begins : Row
 round_begins = arms Round ROUND followed_by (arms Probe PROBE followed_by (arms Close CLOSE followed_by (posts_to_others MasterUp 0 followed_by asks_slaves)))
 
-unfoldable pub round_rings : Row
-round_rings = either_by (is_in_time Round) (puts (Ring Round) followed_by round_begins) (puts (Late Round) followed_by arms Round ROUND)
+-- a round begins, unless it waits for that of another port of the node
+unfoldable pub begins_or_waits : Bool → Row
+begins_or_waits true = arms Round WAIT
+begins_or_waits false = round_begins
+
+unfoldable pub round_rings : Bool → Row
+round_rings wait = either_by (is_in_time Round) (puts (Ring Round) followed_by begins_or_waits wait) (puts (Late Round) followed_by arms Round ROUND)
 
 -- the measured peers, ascending
 abbrev pub measured_at : ℕ → Past → List PeerId
@@ -58,29 +63,28 @@ abandons = puts Abandon
 unfoldable pub probe_rings : Row
 probe_rings = either_by (is_in_time Probe) (puts (Ring Probe) followed_by (asks_measured followed_by arms_next)) (puts (Late Probe) followed_by abandons)
 
-abbrev pub exchange_at : PeerId → ℕ → ℕ → Past → List Seen
-exchange_at p counter x past = exchange p counter past.seen
+abbrev pub request_at : PeerId → ℕ → ℕ → Past → Option OpenRequest
+request_at p counter x past = request_open p counter past.seen
 
 -- what a reply says of the peer's clock, where its request was posted at this target and the clock's is that one now
 abbrev pub sample_of : PeerId → ReplyValue → ℤ → ℤ → Act
 sample_of p r a d = Sample p r.counter (sample_diff a r.reading d) (sample_err a d) r.ticket
 
-unfoldable pub samples_exchange : PeerId → ReplyValue → List Seen → Row
-samples_exchange p r [] = nothing
-samples_exchange p r (s ∷ before) =
-    if word_asked (s ∷ before) == r.word then reading target_at (λ d. puts (sample_of p r (target_there (s ∷ before)) d)) else nothing
+unfoldable pub samples_request : PeerId → ReplyValue → Option OpenRequest → Row
+samples_request p r None = nothing
+samples_request p r (Some q) = if q.word == r.word then reading target_at (λ d. puts (sample_of p r q.target d)) else nothing
 
 -- a stamp reply of p gives a sample, where it answers an open exchange
 unfoldable pub samples : PeerId → ReplyValue → Row
-samples p r = reading (exchange_at p r.counter) (samples_exchange p r)
+samples p r = reading (request_at p r.counter) (samples_request p r)
 
--- a measured peer and its best sample
+-- a measured peer and what its best sample says
 pub record Standing : Type 0 where
   pub peer : PeerId
-  pub best : Option Sampled
+  pub best : Option Estimate
 
 abbrev pub standing : List Seen → PeerId → Standing
-standing seen p = record { peer = p; best = best p seen }
+standing seen p = record { peer = p; best = estimate p seen }
 
 -- what a round has come to: each measured peer with its best sample, ascending
 abbrev pub round_at : ℕ → Past → List Standing
@@ -90,7 +94,7 @@ round_at x past = map (standing past.seen) (measured_at x past)
 abbrev pub is_near : ℤ → Bool
 is_near diff = int_lt (pos (nat_abs diff)) FAR
 
-abbrev pub diff_before : Option Sampled → List ℤ → List ℤ
+abbrev pub diff_before : Option Estimate → List ℤ → List ℤ
 diff_before None diffs = diffs
 diff_before (Some b) diffs = if is_near b.diff then b.diff ∷ diffs else diffs
 
@@ -103,7 +107,7 @@ near_diffs (s ∷ rest) = diff_before s.best (near_diffs rest)
 abbrev pub estimates : List Standing → List ℤ
 estimates round = pos 0 ∷ near_diffs round
 
-unfoldable pub corrects_by : ℤ → PeerId → Option Sampled → Row
+unfoldable pub corrects_by : ℤ → PeerId → Option Estimate → Row
 corrects_by mean p None = puts (Leave p)
 corrects_by mean p (Some b) = if is_near b.diff then begins_adjtime p b.ticket (mean -ℤ b.diff) else begins_settime p b.ticket
 
@@ -111,19 +115,46 @@ corrects_by mean p (Some b) = if is_near b.diff then begins_adjtime p b.ticket (
 unfoldable pub corrects_peer : ℤ → Standing → Row
 corrects_peer mean s = corrects_by mean s.peer s.best
 
--- the group's act
-abbrev pub close_act : Group → Act
-close_act g = CloseAct g.count g.lo g.width (mean_of g)
+-- the mean by which a close corrects: the group's, or 0 where another port of the node leads its clock
+abbrev pub mean_by : Bool → Group → ℤ
+mean_by true g = mean_of g
+mean_by false g = pos 0
 
--- the round closes with this group: the own clock is moved by its mean, and then each measured peer is treated, ascending
-unfoldable pub closes_with : Group → List Standing → Row
-closes_with g round = either_by (can_adjust (mean_of g))
-    (puts (close_act g) followed_by (adjusts (mean_of g) followed_by for_each (corrects_peer (mean_of g)) round))
+-- the group's act, with that mean
+abbrev pub close_act : Bool → Group → Act
+close_act own g = CloseAct g.count g.lo g.width (mean_by own g)
+
+-- the own clock is moved, where this port leads it
+unfoldable pub moves : Bool → ℤ → Row
+moves true mean = adjusts mean
+moves false mean = nothing
+
+-- the round closes with this group: the own clock is moved by the mean, and then each measured peer is treated, ascending
+unfoldable pub closes_with : Bool → Group → List Standing → Row
+closes_with own g round = either_by (can_adjust (mean_by own g))
+    (puts (close_act own g) followed_by (moves own (mean_by own g) followed_by for_each (corrects_peer (mean_by own g)) round))
     abandons
 
-unfoldable pub closes : List Standing → Row
-closes round = puts (Ring Close) followed_by closes_with (group_of SPAN (estimates round)) round
+unfoldable pub closes : Bool → List Standing → Row
+closes own round = puts (Ring Close) followed_by closes_with own (group_of SPAN (estimates round)) round
 
 -- the round is read once, before its first act
-unfoldable pub close_rings : Row
-close_rings = either_by (is_in_time Close) (reading round_at closes) (puts (Late Close) followed_by abandons)
+unfoldable pub close_rings : Bool → Row
+close_rings own = either_by (is_in_time Close) (reading round_at (closes own)) (puts (Late Close) followed_by abandons)
+
+-- the round is given up, where one goes on
+unfoldable pub abandons_going : Row
+abandons_going = either_by is_going_at abandons nothing
+
+abbrev pub is_correct : Act → Bool
+is_correct (Correct amount stepped shown) = true
+is_correct _ = false
+
+-- whether acts correct the clock
+abbrev pub corrects : List Act → Bool
+corrects [] = false
+corrects (a ∷ rest) = is_correct a || corrects rest
+
+-- a row, after which the port's own round is given up where it has corrected the clock
+unfoldable pub upsetting : Row → Row
+upsetting r x past = r x past ++ (if corrects (r x past) then abandons_going x (grown x past (r x past)) else [])

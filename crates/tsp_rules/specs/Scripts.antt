@@ -1,13 +1,19 @@
 -- Runs of one node, written out: what it is given, and the acts that are claimed of it.
-use Rattle.std.specs.Prelude.{◌≡◌, ℕ, ℤ, Bool, List, [], ◌∷◌, codes}
+use Rattle.std.specs.Prelude.{◌≡◌, ℕ, ℤ, Bool, false, List, [], ◌∷◌, ◌++◌, codes}
 use Rattle.tsp_base.specs.declared.act.Act.{Act}
+use Rattle.tsp_base.specs.declared.act.Act.TheVariants.{Took}
+use Rattle.tsp_base.specs.declared.datagram.Datagram.{Datagram}
+use Rattle.tsp_base.specs.declared.datagram.Taken.TheVariants.{Good}
 use Rattle.tsp_base.specs.declared.place.PeerId.{PeerId}
+use Rattle.tsp_base.specs.declared.place.Place.{Place}
 use Rattle.tsp_base.specs.declared.role.Role.{Role}
-use Rattle.tsp_base.specs.History.{Cause, Turned, Step, Past, plain}
+use Rattle.tsp_base.specs.History.{Cause, Booted, Turned, Handed, Step, Past, plain}
 use Rattle.tsp_base.specs.NodeFacts.{ticket, target, shown}
 use Rattle.tsp_base.specs.PortFacts.{role}
 use Rattle.tsp_base.specs.Rows.{Row, grown, in_step}
 use Rattle.tsp_base.specs.Takings.{peer_of}
+use Rattle.tsp_rules.specs.Answers.{Turn, Got, answers}
+use Rattle.tsp_rules.specs.CommonRows.{boots}
 
 -- a step of node n at this true time
 abbrev pub step : ℕ → ℕ → Cause → Step
@@ -46,7 +52,7 @@ Answered (e ∷ later) past = (e.row e.tick (begun e past) ≡ e.acts) × Answer
 
 -- a node that has done nothing yet: its number, its name, whether it may be master, its peers
 abbrev pub fresh : ℕ → List ℕ → Bool → List PeerId → Past
-fresh n name may peers = record { own = peer_of n; name = name; may = may; peers = peers; step = step 0 n Turned; seen = [] }
+fresh n name may peers = record { own = peer_of n; name = name; may = may; strict = false; port = record { 0 = 0 }; peers = peers; step = step 0 n Turned; seen = [] }
 
 -- a past with this role, ticket, target and shown value at a tick
 pub record Is (past : Past) (r : Role) (number tick : ℕ) (aim display : ℤ) : Type 0 where
@@ -54,3 +60,22 @@ pub record Is (past : Past) (r : Role) (number tick : ℕ) (aim display : ℤ) :
   pub ticket_is : ticket (plain past.seen) ≡ number
   pub target_is : target (plain past.seen) tick ≡ aim
   pub shown_is : shown (plain past.seen) tick ≡ display
+
+abbrev pub x_name : List ℕ
+x_name = codes "x"
+
+-- node n boots at this time, which is its tick, with this word and at this wall clock
+abbrev pub boots_at : ℕ → ℕ → ℕ → ℤ → List Act → Event
+boots_at n at word wall acts = record { step = step at n (Booted word wall); tick = at; row = boots; acts = acts }
+
+-- its timers are looked at
+abbrev pub turn_at : ℕ → ℕ → List Act → Event
+turn_at n at acts = record { step = step at n Turned; tick = at; row = answers Turn; acts = acts }
+
+-- it is handed this datagram as from there, after such acts as are due
+abbrev pub hands_late : ℕ → ℕ → List Act → Place → Datagram → List Act → Event
+hands_late n at due from d acts = record { step = step at n Handed; tick = at; row = answers (Got from (Good d)); acts = due ++ Took from (Good d) ∷ acts }
+
+-- the same where nothing is due
+abbrev pub hands : ℕ → ℕ → Place → Datagram → List Act → Event
+hands n at from d acts = hands_late n at [] from d acts

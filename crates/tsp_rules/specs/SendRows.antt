@@ -4,7 +4,7 @@ use Rattle.tsp_base.specs.declared.act.Act.TheVariants.{Post, Acked, Gave, Leave
 use Rattle.tsp_base.specs.declared.constants.TheConstants.{REUSE}
 use Rattle.tsp_base.specs.declared.datagram.Datagram.TheVariants.{Message}
 use Rattle.tsp_base.specs.declared.kind.Kind.{Kind}
-use Rattle.tsp_base.specs.declared.kind.Kind.TheVariants.{AdjTime, SetTime, Election, Quit}
+use Rattle.tsp_base.specs.declared.kind.Kind.TheVariants.{AdjTime, SetTime, Election, Quit, SetDateReq}
 use Rattle.tsp_base.specs.declared.place.PeerId.{PeerId}
 use Rattle.tsp_base.specs.declared.place.Place.TheVariants.{Peer}
 use Rattle.tsp_base.specs.History.{Past, plain}
@@ -25,6 +25,10 @@ begins kind p = reading next_number (posts p kind)
 
 abbrev pub others_at : ℕ → Past → List PeerId
 others_at x past = others past.own past.peers
+
+-- a send with a time and the port's next own number begins
+unfoldable pub begins_timed : Kind → PeerId → ℤ → Row
+begins_timed kind p time = reading next_number (λ n. posts_time p kind n time)
 
 -- the same to each other peer, ascending, each with a number of its own
 unfoldable pub begins_to_others : Kind → Row
@@ -70,11 +74,17 @@ answers_election number (Some s) = is_kind_election s.message.kind && (s.message
 abbrev pub has_election : PeerId → ℕ → ℕ → Past → Bool
 has_election p number x past = answers_election number (open_at p x past)
 
+-- whether an ACK ends sends of this kind: an ELECTION is ended by its own answers, and so is a date that is passed on
+abbrev pub ends_by_ack : Kind → Bool
+ends_by_ack Election = false
+ends_by_ack SetDateReq = false
+ends_by_ack _ = true
+
 abbrev pub answers_other : ℕ → Option Sending → Bool
 answers_other number None = false
-answers_other number (Some s) = not (is_kind_election s.message.kind) && (s.message.number == number)
+answers_other number (Some s) = ends_by_ack s.message.kind && (s.message.number == number)
 
--- whether a send with this number, and no ELECTION, is open to p
+-- whether a send with this number that an ACK ends is open to p
 abbrev pub has_other : PeerId → ℕ → ℕ → Past → Bool
 has_other p number x past = answers_other number (open_at p x past)
 
@@ -110,11 +120,20 @@ gives_up p kind = puts (Gave p) followed_by leaves_after p kind
 unfoldable pub repeats : PeerId → MessageValue → Row
 repeats p m = puts (Post (Peer p) (Message m))
 
+-- a send that is due, without what its end does to the slave table
+unfoldable pub treats_bare_send : PeerId → Option Sending → Row
+treats_bare_send p None = nothing
+treats_bare_send p (Some s) = either_by (is_send_due s) (either_by (is_spent s) (puts (Gave p)) (repeats p s.message)) nothing
+
+-- the open send to p, where it is due: it is posted again or given up
+unfoldable pub bare_send : PeerId → Row
+bare_send p = reading (open_at p) (treats_bare_send p)
+
 unfoldable pub treats_send : PeerId → Option Sending → Row
 treats_send p None = nothing
 treats_send p (Some s) = either_by (is_send_due s) (either_by (is_spent s) (gives_up p s.message.kind) (repeats p s.message)) nothing
 
--- the open send to p, where it is due: it is posted again or given up
+-- the same, and a slave whose correction is given up leaves
 unfoldable pub due_send : PeerId → Row
 due_send p = reading (open_at p) (treats_send p)
 

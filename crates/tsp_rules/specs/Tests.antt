@@ -1,5 +1,5 @@
 -- What rows read of a past at a tick.
-use Rattle.std.specs.Prelude.{ℕ, ◌+◌, ◌%◌, ◌==◌, nat_le, ℤ, neg_ℤ, int_lt, Bool, true, false, not, ◌&&◌, ◌||◌, List, [], ◌∷◌, filter, Option, None, Some, is_some}
+use Rattle.std.specs.Prelude.{ℕ, ◌+◌, ◌%◌, ◌==◌, nat_le, ℤ, neg_ℤ, int_lt, Bool, true, false, not, ◌&&◌, List, filter, Option, None, Some, is_some}
 use Rattle.tsp_base.specs.declared.alarm.Alarm.{Alarm}
 use Rattle.tsp_base.specs.declared.constants.TheConstants.{LIMIT, SLACK, ELECT_MIN, ELECT_SPREAD}
 use Rattle.tsp_base.specs.declared.place.PeerId.{PeerId}
@@ -11,7 +11,9 @@ use Rattle.tsp_base.specs.Alarms.{deadline}
 use Rattle.tsp_base.specs.History.{Past, plain}
 use Rattle.tsp_base.specs.Hold.{may_back, may_stand}
 use Rattle.tsp_base.specs.NodeFacts.{word, ticket, target}
+use Rattle.tsp_base.specs.Peers.{is_among}
 use Rattle.tsp_base.specs.PortFacts.{role, armed, held, in_table, is_rival}
+use Rattle.tsp_base.specs.RoundFacts.{is_going}
 
 -- the role
 abbrev pub role_at : ℕ → Past → Role
@@ -104,11 +106,6 @@ follows_at x past = is_follow (role past.seen)
 abbrev pub is_master_at : ℕ → Past → Bool
 is_master_at x past = is_master (role past.seen)
 
--- whether p is one of these peers
-abbrev pub is_among : PeerId → List PeerId → Bool
-is_among p [] = false
-is_among p (q ∷ rest) = (q.0 == p.0) || is_among p rest
-
 -- whether a sender is the port's own number
 abbrev pub is_own : Place → ℕ → Past → Bool
 is_own (Peer p) x past = p.0 == past.own.0
@@ -117,3 +114,7 @@ is_own Stranger x past = false
 -- whether what p says is heard: it is a peer, and the port isn't Starting
 abbrev pub is_heard : PeerId → ℕ → Past → Bool
 is_heard p x past = is_among p past.peers && not (is_starting_role (role past.seen))
+
+-- whether the port has a round going
+abbrev pub is_going_at : ℕ → Past → Bool
+is_going_at x past = is_going past.seen

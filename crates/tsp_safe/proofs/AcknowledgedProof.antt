@@ -9,8 +9,7 @@ use Rattle.tsp_base.specs.History.{Acts, Deed, Did, Seen, Here, Elsewhere}
 use Rattle.tsp_base.specs.Places.{Within}
 use Rattle.tsp_base.specs.PortFacts.{acting}
 use Rattle.tsp_base.specs.SendFacts.{is_correction, is_numbered, open_to, open_to_after, last_to, last_to_after, is_acknowledged, is_acknowledged_after, corrects_by, message_at, message_of}
-use Rattle.tsp_safe.proofs.LateProof.{numbered}
-use Rattle.tsp_safe.proofs.SendProof.{and-true, peer-same}
+use Rattle.tsp_safe.proofs.SendProof.{and-true, numbered, peer-same}
 
 last-of-post : (peer number correct begins : Bool) (d : Did) (before now last : List Seen) → (correct ≡ true → number ≡ true) → (corrects_by (message_at (Here d ∷ before)) ≡ correct) →
     (corrects_by (message_at now) ≡ true → last ≡ now) → corrects_by (message_at (cond (peer && (number && begins)) (Here d ∷ before) now)) ≡ true →

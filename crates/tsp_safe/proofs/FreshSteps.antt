@@ -1,11 +1,8 @@
 -- The induction over corrections to one peer.
 use Rattle.std.specs.Prelude.{◌≡◌, true, ℕ, ◌+◌, ◌%◌, ◌≤◌, ◌⊎◌, List, [], ◌∷◌, refl}
 use Rattle.std.proofs.Common.{sym, ap, arith, subst, subst₂, inl, inr, ◌∙◌}
-use Rattle.tsp_base.specs.declared.act.Act.TheVariants.{Post, Acked}
+use Rattle.tsp_base.specs.declared.act.Act.TheVariants.{Acked}
 use Rattle.tsp_base.specs.declared.constants.TheConstants.{QUIET}
-use Rattle.tsp_base.specs.declared.datagram.Datagram.TheVariants.{Message}
-use Rattle.tsp_base.specs.declared.place.PeerId.{PeerId}
-use Rattle.tsp_base.specs.declared.place.Place.TheVariants.{Peer}
 use Rattle.tsp_base.specs.declared.place.Port.{Port}
 use Rattle.tsp_base.specs.CorrectionFits.{Follows}
 use Rattle.tsp_base.specs.Fits.{Fits}
@@ -30,7 +27,8 @@ use Rattle.tsp_safe.proofs.Locating.{line_on, locate, seen_in}
 use Rattle.tsp_safe.proofs.OwnFitsProof.{own_fits}
 use Rattle.tsp_safe.proofs.PortFits.{own_tick}
 use Rattle.tsp_safe.proofs.SeenPlaces.{seen_before, seen_same}
-use Rattle.tsp_safe.proofs.SendPlaces.{CorrectsTo, post_fits}
+use Rattle.tsp_safe.proofs.SendPlaces.{post_fits}
+use Rattle.tsp_safe.proofs.SendProof.{CorrectsTo, one-message}
 use Rattle.tsp_safe.proofs.SinceProof.{since}
 
 -- the Correct that the acknowledgment confirms stands between f and t
@@ -40,10 +38,7 @@ counts-between : (setting : Setting) (m k : ℕ) (q : Port) (t f acked : Did) (w
 counts-between setting m k q t f acked wb fw aw mf w h f_node f_in c a_in a_node deed is =
     let d = Everywhere-at ConfirmedAt (line_on q acked) aw wb h a_in in
     let z = d (peer_of k) f (view q (of m fw)) mf deed (subst (λ n. open_to (peer_of k) (view q (of n aw)) ≡ Here f ∷ view q (of m fw)) (sym a_node) is) c.deed c.kind in
-    acked-counts setting m k q f t z.correct z.post fw wb aw z.past z.older w f_node f_in (Within-tail (line_on q acked) aw wb a_in) z.place z.node z.acts (z.from ∙ a_node) z.is
-
-one-message : (j k : PeerId) (m n : MessageValue) → Acts (Post (Peer j) (Message m)) ≡ Acts (Post (Peer k) (Message n)) → m ≡ n
-one-message j k m n e = cc
+    acked-counts setting m k q f t z.correct z.post fw wb aw z.past z.older w f_node f_in (Within-tail (line_on q acked) aw wb a_in) z.place z.node z.acts (z.from ∙ a_node) z.of_send
 
 -- t begins because the last correction f was acknowledged
 fresh-follows : (setting : Setting) (m k : ℕ) (q : Port) (t s f acked : Did) (wb ws fw aw : List Line) (mt ms mf : MessageValue) → Fits setting (line_on q t ∷ wb) → OnceConfirmed wb → Fresh m k q wb → s.step.node ≡ m →

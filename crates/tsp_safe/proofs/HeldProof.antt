@@ -6,12 +6,13 @@ use Rattle.tsp_base.specs.declared.constants.TheConstants.{HOLD}
 use Rattle.tsp_base.specs.declared.place.PeerId.{PeerId}
 use Rattle.tsp_base.specs.declared.place.Port.{Port}
 use Rattle.tsp_base.specs.DeedFits.{DeedFits}
-use Rattle.tsp_base.specs.Fits.{Sees}
+use Rattle.tsp_base.specs.Fits.{Sees, node_of}
 use Rattle.tsp_base.specs.History.{Did, Deed, Acts, Line, Seen, Here, dids, view, is_shared, seen_as}
 use Rattle.tsp_base.specs.NodeFacts.{lives, lives_after, tick_of}
 use Rattle.tsp_base.specs.Places.{Within}
 use Rattle.tsp_base.specs.PortFacts.{held}
-use Rattle.tsp_base.specs.Setting.{Setting}
+use Rattle.tsp_base.specs.Setting.{Setting, setup_of}
+use Rattle.tsp_base.specs.Setup.{Setup}
 use Rattle.tsp_base.proofs.PlaceLemmas.{Within-none}
 use Rattle.tsp_safe.specs.OwnFits.{OwnFits}
 use Rattle.tsp_safe.proofs.SinceProof.{since}
@@ -31,10 +32,10 @@ pub record QuitLate (seen : List Seen) (x : ℕ) : Type 0 where
   pub is : (held seen).quit ≡ Some at
   pub by : x ≤ at
 
-back-deed : (d : Did) (deed : Deed) (seen : List Seen) (x y n : ℕ) (c : PeerId) → DeedFits deed d seen → lives_after deed n ≡ n → y ≤ d.tick → BackedLate seen x y c →
+back-deed : (setup : Setup) (d : Did) (deed : Deed) (seen : List Seen) (x y n : ℕ) (c : PeerId) → DeedFits setup deed d seen → lives_after deed n ≡ n → y ≤ d.tick → BackedLate seen x y c →
     BackedLate (Here (record { step = d.step; tick = d.tick; deed = deed }) ∷ seen) x d.tick c
-back-deed d (Acts Boot) seen x y n c f v by h = absurd (omega arith)
-back-deed d (Acts (Back p)) seen x y n c f v by h = record {
+back-deed setup d (Acts Boot) seen x y n c f v by h = absurd (omega arith)
+back-deed setup d (Acts (Back p)) seen x y n c f v by h = record {
   at = d.tick;
   last = p;
   is = refl;
@@ -45,7 +46,7 @@ back-deed d (Acts (Back p)) seen x y n c f v by h = record {
     | inr long ↦ inr (omega (arith, h.by))
   ];
 }
-back-deed d _ seen x y n c f v by h = record { at = h.at; last = h.last; is = h.is; by = h.by; upto = omega (arith, h.upto); holds = h.holds }
+back-deed setup d _ seen x y n c f v by h = record { at = h.at; last = h.last; is = h.is; by = h.by; upto = omega (arith, h.upto); holds = h.holds }
 
 quit-deed : (d : Did) (deed : Deed) (seen : List Seen) (x n : ℕ) → lives_after deed n ≡ n → x ≤ d.tick → QuitLate seen x →
     QuitLate (Here (record { step = d.step; tick = d.tick; deed = deed }) ∷ seen) x
@@ -80,7 +81,7 @@ back_late setting q c x rest (l ∷ t) f deed sees (inr w) v =
   where
     more : (b : Bool) → ((l.port.0 == q.0) || is_shared l.did.deed) ≡ b → lives_after l.did.deed (lives (dids t)) ≡ lives (dids t) → BackedLate (view q t) x.did.tick (tick_of (dids t)) c →
         BackedLate (seen_as b l.did ∷ view q t) x.did.tick l.did.tick c
-    more true e k h = back-deed l.did l.did.deed (view q t) x.did.tick (tick_of (dids t)) (lives (dids t)) c (f.0.deeds q e) k f.0.tick h
+    more true e k h = back-deed (setup_of setting (node_of l) q) l.did l.did.deed (view q t) x.did.tick (tick_of (dids t)) (lives (dids t)) c (f.0.deeds q e) k f.0.tick h
     more false e k h = record { at = h.at; last = h.last; is = h.is; by = h.by; upto = omega (arith, h.upto, f.0.tick); holds = h.holds }
 
 pub quit_late : (setting : Setting) (q : Port) (c : PeerId) (x : Line) (rest t : List Line) → OwnFits setting t → x.did.deed ≡ Acts (Quit c) → Sees q x → Within (x ∷ rest) t →

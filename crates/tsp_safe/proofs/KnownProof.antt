@@ -17,6 +17,7 @@ use Rattle.tsp_base.specs.PortFacts.{Received, taken, taken_after}
 use Rattle.tsp_base.specs.Premises.{Honest, HonestAt}
 use Rattle.tsp_base.specs.Setting.{Setting}
 use Rattle.tsp_base.specs.Takings.{Receives, peer_of, posted}
+use Rattle.std.proofs.Math.Bool.{or-true}
 use Rattle.tsp_base.proofs.EverywhereLemmas.{Everywhere-at}
 use Rattle.tsp_base.proofs.PlaceLemmas.{Within-through, Within-tail}
 use Rattle.tsp_base.proofs.ViewPlaces.{port-same, or-false}
@@ -39,11 +40,16 @@ pub record TookAt (q : Port) (t : List Line) (r : Received) : Type 0 where
   pub step : (s : Step) → InStep t s → did.step ≡ s
 
 -- of an act, the line before is of its step
-in-step : (a : Act) (s : Step) (t : List Line) → SameStep (Acts a) s (dids t) → InStep t s
+pub in-step : (a : Act) (s : Step) (t : List Line) → SameStep (Acts a) s (dids t) → InStep t s
 in-step a s [] e = e
 in-step a s (x ∷ t) e = e
 
-line-is : (l : Line) (q : Port) → l.port ≡ q → line_on q l.did ≡ l
+-- and so is the line before of its node
+pub own-in-step : (n : ℕ) (s : Step) (world : List Line) → s.node ≡ n → InStep world s → InStep (of n world) s
+own-in-step n s [] same e = absurd e
+own-in-step n s (x ∷ world) same e = rw (of-own n x world (ap (λ (k : Step). k.node) e ∙ same)) e
+
+pub line-is : (l : Line) (q : Port) → l.port ≡ q → line_on q l.did ≡ l
 line-is l q e = subst (λ p. line_on p l.did ≡ l) e refl
 
 received-from : (from : Place) (t : Taken) (r : Received) → Some (record { from = from; taken = t }) ≡ Some r → (from ≡ r.from) × (t ≡ r.taken)
@@ -70,10 +76,7 @@ took-here q l t r (Acts (Took from x)) is b same o e =
 took-here q l t r (Acts a) is b same o e = later-took q l t r a same (o e)
 
 not-shared : (deed : Deed) (s : Step) (q : Port) (l : Line) (t : List Line) (r : Received) → ((l.port.0 == q.0) || is_shared deed) ≡ false → s ≡ l.did.step → SameStep deed s (dids t) → TookAt q t r → TookAt q (l ∷ t) r
-not-shared Begins s q l t r b e same o = absurd (true≢false (sym (or-true (l.port.0 == q.0)) ∙ b)) where
-  or-true : (c : Bool) → (c || true) ≡ true
-  or-true true = refl
-  or-true false = refl
+not-shared Begins s q l t r b e same o = absurd (true≢false (sym (or-true (l.port.0 == q.0)) ∙ b))
 not-shared (Acts a) s q l t r b e same o = later-took q l t r a (subst (λ k. SameStep (Acts a) k (dids t)) e same) o
 
 took-more : (q : Port) (l : Line) (t : List Line) (r : Received) (b : Bool) → ((l.port.0 == q.0) || is_shared l.did.deed) ≡ b → SameStep l.did.deed l.did.step (dids t) →
@@ -133,7 +136,3 @@ known setting l world a from datagram f h act e =
     let fits = fits_in setting (line_on l.port t.did) x.world world f.1 x.place in
     known-by setting l world from datagram (line_on l.port t.did) x.world t.did.step.cause step refl (ap (λ (s : Step). s.cause) step) x.place
     (Everywhere-at HonestAt (line_on l.port t.did) x.world world h.1 x.place) t.deed (fits.took (Peer from) (Good datagram) t.deed)
-  where
-    own-in-step : (n : ℕ) (s : Step) (world : List Line) → s.node ≡ n → InStep world s → InStep (of n world) s
-    own-in-step n s [] same e = absurd e
-    own-in-step n s (x ∷ world) same e = rw (of-own n x world (ap (λ (k : Step). k.node) e ∙ same)) e

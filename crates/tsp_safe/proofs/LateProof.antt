@@ -1,10 +1,8 @@
--- The open send and the last correction to a peer aren't older than a send that has begun.
+-- The last send and the last correction to a peer aren't older than a send that has begun.
 use Rattle.std.specs.Prelude.{◌≡◌, ◌==◌, ◌&&◌, cond, Bool, true, false, ℕ, ◌≤◌, ◌⊎◌, List, [], ◌∷◌, refl}
-use Rattle.std.proofs.Common.{sym, ap, arith, subst, inl, inr, eq-eqb, true≢false, ◌∙◌}
+use Rattle.std.proofs.Common.{sym, ap, arith, subst, inl, inr, eq-eqb, ◌∙◌}
 use Rattle.tsp_base.specs.declared.act.Act.TheVariants.{Boot, Post}
 use Rattle.tsp_base.specs.declared.datagram.Datagram.TheVariants.{Message}
-use Rattle.tsp_base.specs.declared.kind.Kind.{Kind}
-use Rattle.tsp_base.specs.declared.kind.Kind.TheVariants.{AdjTime, SetTime}
 use Rattle.tsp_base.specs.declared.place.PeerId.{PeerId}
 use Rattle.tsp_base.specs.declared.place.Place.TheVariants.{Peer}
 use Rattle.tsp_base.specs.History.{Acts, Deed, Did, Seen, Here, Elsewhere, plain, did_of}
@@ -12,32 +10,20 @@ use Rattle.tsp_base.specs.Messages.{MessageValue}
 use Rattle.tsp_base.specs.NodeFacts.{lives, lives_after}
 use Rattle.tsp_base.specs.Places.{Within}
 use Rattle.tsp_base.specs.PortFacts.{acting}
-use Rattle.tsp_base.specs.SendFacts.{is_correction, is_numbered, open_to, last_to, last_to_after}
-use Rattle.tsp_safe.proofs.SendPlaces.{CorrectsTo}
-use Rattle.tsp_safe.proofs.SendProof.{and-true, open-here, peer-same, not-nil}
+use Rattle.tsp_base.specs.SendFacts.{begun_to, is_correction, last_to, last_to_after}
+use Rattle.tsp_safe.proofs.SendProof.{BeginsSend, CorrectsTo, and-true, begun-begins, begun-here, peer-same, not-nil}
 
-pub numbered : (k : Kind) → is_correction k ≡ true → is_numbered k ≡ true
-numbered AdjTime e = refl
-numbered SetTime e = refl
-numbered _ e = absurd (true≢false (sym e))
-
--- the open send isn't older than a correction that has begun
-open-begins : (p : PeerId) (m : MessageValue) (t : Did) (b : List Seen) → CorrectsTo p m t b → open_to p (Here t ∷ b) ≡ Here t ∷ b
-open-begins p m t b c =
-    let e : (p.0 == p.0) ≡ true = eq-eqb p.0 p.0 refl in
-    let n = numbered m.kind c.kind in
-    rw c.deed (rw (e, n, c.begins) refl)
-
-pub open_late : (p : PeerId) (m : MessageValue) (t : Did) (b x : List Seen) (first : Did) (older : List Seen) → CorrectsTo p m t b → Within (Here t ∷ b) x → open_to p x ≡ Here first ∷ older → Within (Here t ∷ b) (Here first ∷ older)
-open_late p m t b [] first older c w e = not-nil (Here first) older e
-open_late p m t b (Elsewhere d ∷ x) first older c (inl s) e = let bad : ⊥ = cc in absurd bad
-open_late p m t b (Elsewhere d ∷ x) first older c (inr w) e = open_late p m t b x first older c w e
-open_late p m t b (Here d ∷ x) first older c (inl s) e =
-    let o : Here t ∷ b ≡ Here first ∷ older = sym (open-begins p m t b c) ∙ (ap (open_to p) s ∙ e) in
+-- the last send to a peer isn't older than one that has begun
+pub begun_late : (p : PeerId) (m : MessageValue) (t : Did) (b x : List Seen) (first : Did) (older : List Seen) → BeginsSend p m t b → Within (Here t ∷ b) x → begun_to p x ≡ Here first ∷ older → Within (Here t ∷ b) (Here first ∷ older)
+begun_late p m t b [] first older c w e = not-nil (Here first) older e
+begun_late p m t b (Elsewhere d ∷ x) first older c (inl s) e = let bad : ⊥ = cc in absurd bad
+begun_late p m t b (Elsewhere d ∷ x) first older c (inr w) e = begun_late p m t b x first older c w e
+begun_late p m t b (Here d ∷ x) first older c (inl s) e =
+    let o : Here t ∷ b ≡ Here first ∷ older = sym (begun-begins p m t b c) ∙ (ap (begun_to p) s ∙ e) in
     inl o
-open_late p m t b (Here d ∷ x) first older c (inr w) e = elim (open-here p d x first older e) [
+begun_late p m t b (Here d ∷ x) first older c (inr w) e = elim (begun-here p d x first older e) [
   | inl h ↦ inr (subst (λ k. Within (Here t ∷ b) k) h.rest w)
-  | inr h ↦ open_late p m t b x first older c w h
+  | inr h ↦ begun_late p m t b x first older c w h
 ]
 
 -- the last correction begins at the newest deed

@@ -1,20 +1,35 @@
+mod BackedProof
+mod ElectionFacts
+mod Elections
+mod OneWinnerProof
+mod Pigeons
+mod VoteProof
 pub mod AcknowledgedProof
 pub mod AgreedProof
 pub mod AgreedSums
 pub mod AskedProof
 pub mod BecameProof
 pub mod BestProof
-pub mod BrokenPeers
-pub mod BrokenProof
+pub mod BrokenClocks
+pub mod BrokenRoles
+pub mod BrokenSends
+pub mod CastBy
+pub mod CastProof
 pub mod ClockProof
 pub mod Clocks
+pub mod ClosedProof
 pub mod ConfirmedProof
 pub mod Correcting
 pub mod FreshProof
 pub mod FreshSteps
+pub mod Given
+pub mod HeardProof
 pub mod HeldProof
+pub mod Histories
+pub mod HistoriesFit
 pub mod HistoryPlaces
 pub mod KnownProof
+pub mod LastDateProof
 pub mod LastPostProof
 pub mod LastTakenProof
 pub mod LateProof
@@ -22,6 +37,8 @@ pub mod Locating
 pub mod MasterMoved
 pub mod Matching
 pub mod MeasuredProof
+pub mod NextAct
+pub mod OnceDatedProof
 pub mod OnceObeyedProof
 pub mod OnceSpacedProof
 pub mod OnceTakenProof
@@ -29,6 +46,7 @@ pub mod OneBackProof
 pub mod OnlyMasterProof
 pub mod OwnFitsProof
 pub mod PortFits
+pub mod PremiseChecks
 pub mod ReadingProof
 pub mod RelayedProof
 pub mod ResolvedProof
@@ -41,9 +59,17 @@ pub mod SendProof
 pub mod SinceProof
 pub mod SourceProof
 pub mod SpacedProof
+pub mod StepChecks
+pub mod StepProof
 pub mod StopsProof
 pub mod TripProof
-pub mod Witness
+pub mod WitnessCasts
+pub mod WitnessDates
+pub mod WitnessDebts
+pub mod WitnessLead
+pub mod WitnessLife
+pub mod WitnessRelay
 pub mod WitnessRivals
+pub mod WitnessStrict
 pub mod WitnessUse
 pub mod WordsProof

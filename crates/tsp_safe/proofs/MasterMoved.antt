@@ -5,7 +5,7 @@ use Rattle.std.proofs.lemmas.Int.{ints}
 use Rattle.tsp_base.specs.declared.act.Act.TheVariants.{Close, Correct}
 use Rattle.tsp_base.specs.declared.place.Port.{Port}
 use Rattle.tsp_base.specs.Agreed.{RightAfter, UnchangedBut}
-use Rattle.tsp_base.specs.CorrectFits.{WhyCorrect, ByRound, ByMaster}
+use Rattle.tsp_base.specs.CorrectFits.{WhyCorrect, ByRound, ByMaster, ByDate}
 use Rattle.tsp_base.specs.CorrectionFits.{FollowedBy}
 use Rattle.tsp_base.specs.Fits.{Fits, node_of}
 use Rattle.tsp_base.specs.History.{Acts, Did, Line, Seen, Here, of, dids, view, plain, seen_as, is_shared}
@@ -18,7 +18,8 @@ use Rattle.tsp_base.proofs.Views.{plain_view}
 use Rattle.tsp_safe.proofs.HistoryPlaces.{of-own, Within-of}
 use Rattle.tsp_safe.proofs.Locating.{line_on, locate, fits_in}
 use Rattle.tsp_safe.proofs.Matching.{kept_by}
-use Rattle.tsp_safe.proofs.OwnFitsProof.{own_fits}
+use Rattle.tsp_safe.proofs.NextAct.{right_after}
+use Rattle.tsp_safe.proofs.OwnFitsProof.{own_fits, fits_at}
 use Rattle.tsp_safe.proofs.PortFits.{deed_fits}
 use Rattle.tsp_safe.proofs.SinceProof.{since}
 
@@ -43,7 +44,7 @@ pub record CorrectMoves (next : Did) (before : List Did) (amount : ℤ) : Type 0
 pub correct-moves : (next : Did) (before : List Did) (amount : ℤ) (stepped : Bool) (shown : ℤ) → next.deed ≡ Acts (Correct amount stepped shown) → CorrectMoves next before amount
 correct-moves next before amount stepped shown e = record { moved_is = rw e refl; corrects = rw e refl; lives = rw e refl }
 
-same-mean : (count c : ℕ) (lo l size s mean amount : ℤ) → Acts (Close count lo size mean) ≡ Acts (Close c l s amount) → amount ≡ mean
+pub same-mean : (count c : ℕ) (lo l size s mean amount : ℤ) → Acts (Close count lo size mean) ≡ Acts (Close c l s amount) → amount ≡ mean
 same-mean count c lo l size s mean amount e = cc
 
 -- right after a Close a Correct moves the clock by the mean
@@ -55,6 +56,11 @@ mean-is here close vs true count lo size mean amount e (ByMaster t) =
     let same : close ≡ t.took = (let k = t.is in cc) in
     let deeds = sym e ∙ (ap (λ (d : Did). d.deed) same ∙ t.deed) in
     let bad : ⊥ = cc in absurd bad
+mean-is here close vs true count lo size mean amount e (ByDate t) =
+    let same : close ≡ t.took = (let k = t.is in cc) in
+    let deeds = sym e ∙ (ap (λ (d : Did). d.deed) same ∙ t.deed) in
+    let bad : ⊥ = cc in absurd bad
+mean-is here close vs false count lo size mean amount e (ByDate t) = let bad : ⊥ = (let k = t.is in cc) in absurd bad
 mean-is here close vs false count lo size mean amount e (ByRound r) = let bad : ⊥ = (let k = r.is in cc) in absurd bad
 mean-is here close vs false count lo size mean amount e (ByMaster t) = let bad : ⊥ = (let k = t.is in cc) in absurd bad
 
@@ -62,20 +68,29 @@ plus-none : (a b mean : ℤ) → a ≡ b → mean ≡ pos 0 → a ≡ b +ℤ mea
 plus-none a b mean e z = omega (arith, ints)
 
 -- the line right after the Close was m's last Correct
-moved-right-after : (setting : Setting) (m : ℕ) (close : Line) (cpast h : List Line) (count : ℕ) (lo size mean : ℤ) → Fits setting h → close.did.deed ≡ Acts (Close count lo size mean) → node_of close ≡ m →
-    lives (dids (of m (close ∷ cpast))) ≡ lives (dids (of m h)) → RightAfter m close cpast h → moved (dids (of m h)) ≡ moved (dids (of m cpast)) +ℤ mean
-moved-right-after setting m close cpast h count lo size mean f deed node lives_is n =
+moved-right-after : (setting : Setting) (m : ℕ) (close next : Line) (cpast h : List Line) (count : ℕ) (lo size mean amount : ℤ) (stepped : Bool) (shown : ℤ) → Fits setting h → close.did.deed ≡ Acts (Close count lo size mean) → node_of close ≡ m →
+    lives (dids (of m (close ∷ cpast))) ≡ lives (dids (of m h)) → Within (next ∷ (close ∷ cpast)) h → node_of next ≡ m → next.did.deed ≡ Acts (Correct amount stepped shown) →
+    all_corrects (dids (of m (next ∷ (close ∷ cpast)))) ≡ all_corrects (dids (of m h)) → moved (dids (of m h)) ≡ moved (dids (of m cpast)) +ℤ mean
+moved-right-after setting m close next cpast h count lo size mean amount stepped shown f deed node lives_is place next_node next_deed all =
     let own_c : of m (close ∷ cpast) ≡ close ∷ of m cpast = of-own m close cpast node in
-    let own_n : dids (of m (n.next ∷ (close ∷ cpast))) ≡ n.next.did ∷ dids (of m (close ∷ cpast)) = ap dids (of-own m n.next (close ∷ cpast) n.node) in
-    let fits = deed_fits setting n.next (close ∷ cpast) (Acts (Correct n.amount n.stepped n.shown)) n.deed (fits_in setting n.next (close ∷ cpast) h f n.place) in
-    let why : WhyCorrect n.next.did (view n.next.port (close ∷ of m cpast)) n.amount =
-    subst (λ w. WhyCorrect n.next.did (view n.next.port w) n.amount) own_c (subst (λ k. WhyCorrect n.next.did (view n.next.port (of k (close ∷ cpast))) n.amount) n.node fits.why) in
-    let amount_is = mean-is n.next.did close.did (view n.next.port (of m cpast)) ((close.port.0 == n.next.port.0) || is_shared close.did.deed) count lo size mean n.amount deed why in
+    let own_n : dids (of m (next ∷ (close ∷ cpast))) ≡ next.did ∷ dids (of m (close ∷ cpast)) = ap dids (of-own m next (close ∷ cpast) next_node) in
+    let fits = deed_fits setting next (close ∷ cpast) (Acts (Correct amount stepped shown)) next_deed (fits_in setting next (close ∷ cpast) h f place) in
+    let why : WhyCorrect next.did (view next.port (close ∷ of m cpast)) amount =
+    subst (λ w. WhyCorrect next.did (view next.port w) amount) own_c (subst (λ k. WhyCorrect next.did (view next.port (of k (close ∷ cpast))) amount) next_node fits.why) in
+    let amount_is = mean-is next.did close.did (view next.port (of m cpast)) ((close.port.0 == next.port.0) || is_shared close.did.deed) count lo size mean amount deed why in
     let keeps = close-keeps close.did (dids (of m cpast)) count lo size mean deed in
-    let moves = correct-moves n.next.did (dids (of m (close ∷ cpast))) n.amount n.stepped n.shown n.deed in
-    let still = unmoved setting m (n.next ∷ (close ∷ cpast)) h f n.place (record { corrects = n.corrects; lives = (ap lives own_n ∙ moves.lives) ∙ lives_is }) in
+    let moves = correct-moves next.did (dids (of m (close ∷ cpast))) amount stepped shown next_deed in
+    let still = unmoved setting m (next ∷ (close ∷ cpast)) h f place (record { corrects = all; lives = (ap lives own_n ∙ moves.lives) ∙ lives_is }) in
     let closed : moved (dids (of m (close ∷ cpast))) ≡ moved (dids (of m cpast)) = ap (λ w. moved (dids w)) own_c ∙ keeps.moved_is in
-    sym still ∙ (ap moved own_n ∙ (moves.moved_is ∙ subst₂ (λ x y. moved (dids (of m (close ∷ cpast))) +ℤ n.amount ≡ x +ℤ y) closed amount_is refl))
+    sym still ∙ (ap moved own_n ∙ (moves.moved_is ∙ subst₂ (λ x y. moved (dids (of m (close ∷ cpast))) +ℤ amount ≡ x +ℤ y) closed amount_is refl))
+
+-- m's last Correct was the next act after its Close
+moved-next : (setting : Setting) (m : ℕ) (close : Line) (cpast h : List Line) (count : ℕ) (lo size mean : ℤ) → Fits setting h → close.did.deed ≡ Acts (Close count lo size mean) → node_of close ≡ m →
+    lives (dids (of m (close ∷ cpast))) ≡ lives (dids (of m h)) → RightAfter m close cpast h → moved (dids (of m h)) ≡ moved (dids (of m cpast)) +ℤ mean
+moved-next setting m close cpast h count lo size mean f deed node lives_is n =
+    let same = right_after setting n.next n.before close cpast n.amount n.stepped n.shown (fits_at setting (n.next ∷ n.before) h f n.place) n.deed n.is in
+    moved-right-after setting m close n.next cpast h count lo size mean n.amount n.stepped n.shown f deed node lives_is (subst (λ w. Within (n.next ∷ w) h) same n.place) n.node n.deed
+    (subst (λ w. all_corrects (dids (of m (n.next ∷ w))) ≡ all_corrects (dids (of m h))) same n.corrects)
 
 -- m made no Correct since its Close: so the mean is 0
 moved-none : (setting : Setting) (m : ℕ) (q : Port) (close : Line) (cpast fw h : List Line) (count : ℕ) (lo size mean : ℤ) → Fits setting h → close.did.deed ≡ Acts (Close count lo size mean) → node_of close ≡ m → Within (close ∷ cpast) h →
@@ -101,5 +116,5 @@ pub master_moved : (setting : Setting) (m : ℕ) (q : Port) (close : Line) (cpas
     UnchangedBut m close cpast h → Within fw h → (mean ≡ pos 0) ⊎ FollowedBy close.did (view q (of m cpast)) (view q (of m fw)) mean → moved (dids (of m h)) ≡ moved (dids (of m cpast)) +ℤ mean
 master_moved setting m q close cpast fw h count lo size mean f deed node close_in u fw_in followed = elim u.corrects [
   | inl none ↦ moved-none setting m q close cpast fw h count lo size mean f deed node close_in u.lives none fw_in followed
-  | inr n ↦ moved-right-after setting m close cpast h count lo size mean f deed node u.lives n
+  | inr n ↦ moved-next setting m close cpast h count lo size mean f deed node u.lives n
 ]

@@ -37,9 +37,10 @@ use Rattle.tsp_safe.proofs.Locating.{Located, line_on, locate, fits_in, tick_in,
 use Rattle.tsp_safe.proofs.OwnFitsProof.{own_fits, fits_at, place-time}
 use Rattle.tsp_safe.proofs.PortFits.{deed_fits}
 use Rattle.tsp_safe.proofs.RoundPlaces.{started_at, exchange_at}
-use Rattle.tsp_safe.proofs.SendPlaces.{post_unique}
+use Rattle.tsp_safe.proofs.SendPlaces.{post_unique, same-number}
 use Rattle.tsp_safe.proofs.SinceProof.{since}
 use Rattle.tsp_safe.proofs.WordsProof.{word_moves}
+use Rattle.tsp_safe.proofs.SendProof.{number-same}
 
 -- a request of node n to p on a port, with this word and counter
 pub record Asks (n : ℕ) (line : Line) (p : PeerId) (w c : ℕ) : Type 0 where
@@ -47,7 +48,7 @@ pub record Asks (n : ℕ) (line : Line) (p : PeerId) (w c : ℕ) : Type 0 where
   pub deed : line.did.deed ≡ Acts (Post (Peer p) (Stamp (Request w c)))
 
 request-fits : (setting : Setting) (n : ℕ) (q : Line) (a : List Line) (p : PeerId) (w c : ℕ) → Asks n q p w c → LineFits setting q a → RequestFits (view q.port (of n a)) w c
-request-fits setting n q a p w c s f = subst (λ k. RequestFits (view q.port (of k a)) w c) s.node (deed_fits setting q a (Acts (Post (Peer p) (Stamp (Request w c)))) s.deed f)
+request-fits setting n q a p w c s f = subst (λ k. RequestFits (view q.port (of k a)) w c) s.node (deed_fits setting q a (Acts (Post (Peer p) (Stamp (Request w c)))) s.deed f).fits
 
 asks-up : (setting : Setting) (n : ℕ) (q : Line) (a : List Line) (p : PeerId) (w c : ℕ) → Asks n q p w c → LineFits setting q a → up (dids (of n a)) ≡ true
 asks-up setting n q a p w c s f = subst (λ k. up (dids (of k a)) ≡ true) s.node (post_up setting q a (Peer p) (Stamp (Request w c)) f s.deed)
@@ -158,7 +159,7 @@ exchange w wt wn mt mm mn s diff err clock_k clock_n a d bt bn tt tr tl e1 e2 e3
 -- with the request t, at its place in the history, and the start of the round
 reading-t : (setting : Setting) (l r t : Line) (world older tw : List Line) (p : PeerId) (k counter number : ℕ) (diff err : ℤ) (w : ℕ) → Fits setting (l ∷ world) → (f : SampleFits l.did (view l.port (of (node_of l) world)) p counter diff err number) →
     up (dids (of (node_of l) world)) ≡ true → Within (r ∷ older) world → r.did.deed ≡ Acts (Post (Peer (peer_of (node_of l))) (Stamp (Reply f.reply))) → node_of r ≡ k → l.did.step.cause ≡ Came (posted (dids older)) →
-    ReplyFits r.did (view r.port (of k older)) (peer_of (node_of l)) f.reply → Within (t ∷ tw) older → Asks (node_of l) t p w counter → t.did ≡ f.post → view l.port (of (node_of l) tw) ≡ f.older →
+    ReplyFits r.did (view r.port (of k older)) (Peer (peer_of (node_of l))) f.reply → Within (t ∷ tw) older → Asks (node_of l) t p w counter → t.did ≡ f.post → view l.port (of (node_of l) tw) ≡ f.older →
     Located (node_of l) l.port tw f.start f.idle → Reading setting l world k diff err f.start f.idle f.reply
 reading-t setting l r t world older tw p k counter number diff err w f s l_up r_in r_deed r_node takes g t_in asks t_is seen_t sl =
     let n = node_of l in
@@ -209,9 +210,6 @@ reading-t setting l r t world older tw p k counter number diff err w f s l_up r_
       after = (let q = place-time setting (line_on l.port s.start ∷ sl.older) tw ft.1 start_in in omega (arith, ft.0.order));
     }
 
-number-same : (m n : ℕ) → peer_of m ≡ peer_of n → m ≡ n
-number-same m n e = ap (λ (p : PeerId). p.0) e
-
 pub first-now : (q : Port) (now first : List Line) (idle : List Seen) → view q first ≡ idle → Undisturbed (plain idle) (plain (view q now)) → Undisturbed (dids first) (dids now)
 first-now q now first idle before u = subst₂ (λ x y. Undisturbed x y) (ap plain (sym before) ∙ plain_view q first) (plain_view q now) u
 
@@ -230,7 +228,7 @@ word-now setting n t start tw sw world p w c f t_in s_in asks u =
 -- with the request q that the reply r answers
 reading-q : (setting : Setting) (l r q : Line) (world older a : List Line) (p : PeerId) (counter number : ℕ) (diff err : ℤ) → Fits setting (l ∷ world) → Words (l ∷ world) →
     (f : SampleFits l.did (view l.port (of (node_of l) world)) p counter diff err number) → up (dids (of (node_of l) world)) ≡ true → Within (r ∷ older) world →
-    r.did.deed ≡ Acts (Post (Peer (peer_of (node_of l))) (Stamp (Reply f.reply))) → l.did.step.cause ≡ Came (posted (dids older)) → ReplyFits r.did (view r.port (of (node_of r) older)) (peer_of (node_of l)) f.reply →
+    r.did.deed ≡ Acts (Post (Peer (peer_of (node_of l))) (Stamp (Reply f.reply))) → l.did.step.cause ≡ Came (posted (dids older)) → ReplyFits r.did (view r.port (of (node_of r) older)) (Peer (peer_of (node_of l))) f.reply →
     Within (q ∷ a) older → q.did.deed ≡ Acts (Post (Peer (peer_of (node_of r))) (Stamp (Request f.reply.word f.reply.counter))) → node_of q ≡ node_of l → q.port ≡ l.port →
     Reading setting l world (node_of r) diff err f.start f.idle f.reply
 reading-q setting l r q world older a p counter number diff err w words s l_up r_in r_deed takes g q_in q_deed q_node q_port =
@@ -260,7 +258,7 @@ reading_at setting l world p counter number diff err f h words is s =
     let r = known setting l world (Sample p counter diff err number) p (Stamp (Reply s.reply)) f h is s.took in
     let fr = fits_at setting (r.post ∷ r.older) world f.1 r.place in
     let hr = Everywhere-within HonestAt (r.post ∷ r.older) world h.1 r.place in
-    let g : ReplyFits r.post.did (view r.post.port (of (node_of r.post) r.older)) (peer_of n) s.reply = deed_fits setting r.post r.older (Acts (Post (Peer (peer_of n)) (Stamp (Reply s.reply)))) r.deed fr.0 in
+    let g : ReplyFits r.post.did (view r.post.port (of (node_of r.post) r.older)) (Peer (peer_of n)) s.reply = (deed_fits setting r.post r.older (Acts (Post (Peer (peer_of n)) (Stamp (Reply s.reply)))) r.deed fr.0).fits in
     let q = known setting r.post r.older (Post (Peer (peer_of n)) (Stamp (Reply s.reply))) (peer_of n) (Stamp (Request s.reply.word s.reply.counter)) fr hr r.deed g.took in
     let q_node : node_of q.post ≡ n = number-same (node_of q.post) n q.node in
     let net : setting.net n q.post.port ≡ setting.net n l.port = subst (λ k. setting.net k q.post.port ≡ setting.net n l.port) {x = node_of q.post} q_node (◌∙◌ {a = setting.net (node_of q.post) q.post.port} q.net r.net) in
@@ -273,16 +271,12 @@ pub reading_is : (setting : Setting) (l : Line) (world : List Line) (k : ℕ) (d
     (r : Reading setting l world k diff err start idle reply) → Within (post ∷ older) world → post.did.deed ≡ Acts (Post to datagram) → l.did.step.cause ≡ Came (posted (dids older)) → r.post ∷ r.older ≡ post ∷ older
 reading_is setting l world k diff err start idle reply post older to datagram r w deed takes =
     post_unique world r.post post r.older older (Peer (peer_of (node_of l))) to (Stamp (Reply reply)) datagram r.place w r.deed deed (same-number (posted (dids r.older)) (posted (dids older)) (sym r.takes ∙ takes))
-  where
-    same-number : (j k : ℕ) → Came j ≡ Came k → j ≡ k
-    same-number j k e = cc
 
 measured_at : (setting : Setting) (l : Line) (world : List Line) → Fits setting (l ∷ world) → Honest (l ∷ world) → Words (l ∷ world) → MeasuredAt setting l world
-measured_at setting l world f h words p counter diff err number post older to datagram is w deed takes =
+measured_at setting l world f h words p counter diff err number is =
     let s = sample_fits setting l world p counter number diff err f.0 is in
     let r = reading_at setting l world p counter number diff err f h words is s in
-    let same = reading_is setting l world p.0 diff err s.start s.idle s.reply post older to datagram r w deed takes in
-    subst (λ x. pos (nat_abs (diff -ℤ (clock setting p.0 x -ℤ clock setting (node_of l) x))) ≤ℤ err) same r.error
+    record { post = r.post; older = r.older; place = r.place; takes = r.takes; from = ap peer_of r.node; reply = s.reply; deed = r.deed; near = r.error }
 
 pub measured : (setting : Setting) (world : List Line) → Fits setting world → Honest world → Words world → Measured setting world
 measured setting world f h words = Everywhere-from (MeasuredAt setting) world (λ l s w.

@@ -7,7 +7,7 @@ use Rattle.tsp_base.specs.declared.place.PeerId.{PeerId}
 use Rattle.tsp_base.specs.declared.place.Port.{Port}
 use Rattle.tsp_base.specs.declared.role.Role.TheVariants.{Follow, Master}
 use Rattle.tsp_base.specs.ClockAt.{clock_at}
-use Rattle.tsp_base.specs.CorrectFits.{WhyCorrect, ByRound, ByMaster, EndsRound, amount_of}
+use Rattle.tsp_base.specs.CorrectFits.{WhyCorrect, ByRound, ByMaster, ByDate, EndsRound, amount_of}
 use Rattle.tsp_base.specs.Fits.{Fits, LineFits, Alive, node_of}
 use Rattle.tsp_base.specs.History.{Acts, Line, Here, of, dids, view, plain, is_shared}
 use Rattle.tsp_base.specs.NodeFacts.{target, up}
@@ -16,7 +16,7 @@ use Rattle.tsp_base.specs.Places.{Within}
 use Rattle.tsp_base.specs.PortFacts.{role}
 use Rattle.tsp_base.specs.Premises.{Honest, HonestAt}
 use Rattle.tsp_base.specs.Setting.{Setting}
-use Rattle.tsp_base.specs.Takings.{Receives, time_in}
+use Rattle.tsp_base.specs.Takings.{time_in}
 use Rattle.tsp_base.proofs.EverywhereLemmas.{Everywhere-from, Everywhere-within}
 use Rattle.tsp_base.proofs.Views.{plain_view}
 use Rattle.tsp_safe.proofs.ClockProof.{target_is}
@@ -43,6 +43,7 @@ obeys-by : (setting : Setting) (l : Line) (world : List Line) (q : PeerId) (amou
 obeys-by setting l world q amount stepped shown f h is follows (ByRound r) =
     let leads = round-leads setting (node_of l) l.port world amount f.1 r in
     let bad : ⊥ = (let k : Follow q ≡ Master = sym follows ∙ leads in cc) in absurd bad
+obeys-by setting l world q amount stepped shown f h is follows (ByDate t) = let bad : ⊥ = (let k : Follow q ≡ Master = sym follows ∙ t.leads in cc) in absurd bad
 obeys-by setting l world q amount stepped shown f h is follows (ByMaster t) =
     let seen = view l.port (of (node_of l) world) in
     let took = taken-of l.did seen amount t in
@@ -53,17 +54,7 @@ obeys-by setting l world q amount stepped shown f h is follows (ByMaster t) =
     record {
       post = k.post;
       older = k.older;
-      acts = record {
-        amount = amount;
-        stepped = stepped;
-        shown = shown;
-        correct = is;
-        place = k.place;
-        datagram = k.takes;
-        message = t.message;
-        deed = k.deed;
-        took = subst (λ p. Receives seen p (Message t.message)) (sym k.node) took;
-      };
+      brings = record { place = k.place; cause = k.takes; message = t.message; deed = k.deed };
       from = k.node ∙ from;
       kind = t.kind;
       amount_is = t.amount_is ∙ ap (λ z. amount_of t.message.kind (time_in t.message.body) z) clock;

@@ -6,7 +6,7 @@ use Rattle.tsp_base.specs.declared.constants.TheConstants.{GAP}
 use Rattle.tsp_base.specs.Fits.{Fits, node_of}
 use Rattle.tsp_base.specs.History.{Acts, Line, of, dids}
 use Rattle.tsp_base.specs.NodeFacts.{last_correct}
-use Rattle.tsp_base.specs.Once.{SpacedAt, OnceSpaced}
+use Rattle.tsp_base.specs.Once.{SpacedAt, SpacedOverLivesAt, OnceSpaced, OnceSpacedOverLives}
 use Rattle.tsp_base.specs.Setting.{Setting}
 use Rattle.tsp_base.proofs.EverywhereLemmas.{Everywhere-from}
 use Rattle.tsp_base.proofs.Views.{plain_view}
@@ -15,8 +15,8 @@ use Rattle.tsp_safe.proofs.OwnFitsProof.{own_fits, fits_at}
 use Rattle.tsp_safe.proofs.PortFits.{deed_fits}
 use Rattle.tsp_safe.proofs.SinceProof.{since}
 
-spaced_at : (setting : Setting) (l : Line) (world : List Line) → Fits setting (l ∷ world) → SpacedAt l world
-spaced_at setting l world f other older a b s t x y is w node other_is =
+spaced_over_at : (setting : Setting) (l : Line) (world : List Line) → Fits setting (l ∷ world) → SpacedOverLivesAt l world
+spaced_over_at setting l world f other older a b s t x y is w node other_is =
     let n = node_of l in
     let i = since setting (other ∷ of n older) (of n world) (own_fits setting n world f.1) (own_in n other older world node w) in
     let fits = deed_fits setting l world (Acts (Correct a s x)) is f.0 in
@@ -25,5 +25,9 @@ spaced_at setting l world f other older a b s t x y is w node other_is =
     omega (arith, i.lasts)
 
 -- every two Corrects of a node
+pub once_spaced_over_lives : (setting : Setting) (world : List Line) → Fits setting world → OnceSpacedOverLives world
+once_spaced_over_lives setting world f = Everywhere-from SpacedOverLivesAt world (λ l s w. spaced_over_at setting l s (fits_at setting (l ∷ s) world f w))
+
+-- and so in one life
 pub once_spaced : (setting : Setting) (world : List Line) → Fits setting world → OnceSpaced world
-once_spaced setting world f = Everywhere-from SpacedAt world (λ l s w. spaced_at setting l s (fits_at setting (l ∷ s) world f w))
+once_spaced setting world f = Everywhere-from SpacedAt world (λ l s w other older a b r t x y is i node other_is lives. spaced_over_at setting l s (fits_at setting (l ∷ s) world f w) other older a b r t x y is i node other_is)

@@ -1,16 +1,24 @@
 -- No node backs two candidates within the hold.
-use Rattle.std.specs.Prelude.{◌≤◌, ◌+◌, List, ◌∷◌}
+use Rattle.std.specs.Prelude.{◌≡◌, ◌≤◌, ◌+◌, false, List, ◌∷◌}
 use Rattle.std.proofs.Common.{arith, subst, inl, inr, ◌∙◌}
 use Rattle.tsp_base.specs.declared.act.Act.TheVariants.{Back, Post}
 use Rattle.tsp_base.specs.declared.constants.TheConstants.{QUIET}
 use Rattle.tsp_base.specs.declared.datagram.Datagram.TheVariants.{Message}
-use Rattle.tsp_base.specs.declared.place.Place.TheVariants.{Peer}
-use Rattle.tsp_base.specs.DeedFits.{MessageFits}
+use Rattle.tsp_base.specs.declared.kind.Kind.{Kind}
+use Rattle.tsp_base.specs.declared.kind.Kind.TheVariants.{Accept, Election}
+use Rattle.tsp_base.specs.declared.place.PeerId.{PeerId}
+use Rattle.tsp_base.specs.declared.place.Place.{Place}
+use Rattle.tsp_base.specs.declared.place.Place.TheVariants.{Peer, Stranger}
+use Rattle.tsp_base.specs.DeedFits.{MessageFits, PostFits, StrangerFits}
 use Rattle.tsp_base.specs.Fits.{Fits, Finished, Sees, node_of}
-use Rattle.tsp_base.specs.History.{Acts, Line, of, dids, view, is_shared}
+use Rattle.tsp_base.specs.History.{Acts, Did, Line, Seen, of, dids, view, is_shared}
+use Rattle.tsp_base.specs.HoldFits.{AcceptFits}
+use Rattle.tsp_base.specs.Messages.{MessageValue}
 use Rattle.tsp_base.specs.NodeFacts.{boot_tick}
 use Rattle.tsp_base.specs.OneBack.{HoldsAt, BacksAt, OneBack}
-use Rattle.tsp_base.specs.Setting.{Setting}
+use Rattle.tsp_base.specs.Setting.{Setting, setup_of}
+use Rattle.tsp_base.specs.Setup.{Setup}
+use Rattle.tsp_base.specs.StepFacts.{is_unbacked}
 use Rattle.tsp_base.proofs.EverywhereLemmas.{Everywhere-from}
 use Rattle.tsp_base.proofs.ViewPlaces.{sees-own}
 use Rattle.tsp_base.proofs.Views.{plain_view}
@@ -20,7 +28,7 @@ use Rattle.tsp_safe.proofs.OwnFitsProof.{own_fits, fits_at}
 use Rattle.tsp_safe.proofs.PortFits.{deed_fits, mark_fits, own_tick}
 use Rattle.tsp_safe.proofs.SinceProof.{since}
 
-holds_at : (setting : Setting) (l : Line) (world : List Line) → Fits setting (l ∷ world) → HoldsAt l world
+pub holds_at : (setting : Setting) (l : Line) (world : List Line) → Fits setting (l ∷ world) → HoldsAt l world
 holds_at setting l world f p q other older is w node port other_is =
     let n = node_of l in
     let own = own_fits setting n world f.1 in
@@ -39,10 +47,19 @@ holds_at setting l world f p q other older is w node port other_is =
           ]
     ]
 
+-- what an ACCEPT owes
+accept_fits : (setup : Setup) (k : Kind) (here : Did) (seen : List Seen) (p : PeerId) (m : MessageValue) → k ≡ Accept → MessageFits setup k here seen p m → AcceptFits seen p m.number
+accept_fits setup k here seen p m kind f = subst (λ z. MessageFits setup z here seen p m) kind f
+
+-- an ELECTION goes to peers alone, after the port has backed itself
+asks-backed : (setup : Setup) (to : Place) (m : MessageValue) (here : Did) (seen : List Seen) → m.kind ≡ Election → PostFits setup to (Message m) here seen → is_unbacked seen ≡ false
+asks-backed setup (Peer p) m here seen kind f = (subst (λ z. MessageFits setup z here seen p m) kind f).backs
+asks-backed setup Stranger m here seen kind f = absurd (subst (λ z. StrangerFits z here seen m.number) kind f)
+
 backs_at : (setting : Setting) (l : Line) (world : List Line) → Fits setting (l ∷ world) → BacksAt l world
 backs_at setting l world f = record {
-  accepts = λ p m is kind. subst (λ k. MessageFits k l.did (view l.port (of (node_of l) world)) p m) kind (deed_fits setting l world (Acts (Post (Peer p) (Message m))) is f.0);
-  asks = λ p m is kind. (subst (λ k. MessageFits k l.did (view l.port (of (node_of l) world)) p m) kind (deed_fits setting l world (Acts (Post (Peer p) (Message m))) is f.0)).backs;
+  accepts = λ p m is kind. (accept_fits (setup_of setting (node_of l) l.port) m.kind l.did (view l.port (of (node_of l) world)) p m kind (deed_fits setting l world (Acts (Post (Peer p) (Message m))) is f.0).fits).backs;
+  asks = λ to m is kind. asks-backed (setup_of setting (node_of l) l.port) to m l.did (view l.port (of (node_of l) world)) kind (deed_fits setting l world (Acts (Post to (Message m))) is f.0).fits;
   ends = λ is q. (mark_fits setting l world is f.0 q).backs;
 }
 

@@ -1,38 +1,46 @@
 -- Only masters correct.
 use Rattle.std.specs.Prelude.{◌≡◌, ◌==◌, ◌||◌, ℕ, ℤ, Bool, true, false, List, ◌∷◌, refl}
-use Rattle.std.proofs.Common.{sym, ap, subst, true≢false, ◌∙◌}
+use Rattle.std.proofs.Common.{sym, ap, subst, true≢false}
 use Rattle.tsp_base.specs.declared.act.Act.TheVariants.{Post, Close, Correct}
 use Rattle.tsp_base.specs.declared.datagram.Datagram.TheVariants.{Message}
 use Rattle.tsp_base.specs.declared.kind.Kind.{Kind}
-use Rattle.tsp_base.specs.declared.kind.Kind.TheVariants.{AdjTime, SetTime}
+use Rattle.tsp_base.specs.declared.kind.Kind.TheVariants.{Ack, AdjTime, DateAck, SetTime}
 use Rattle.tsp_base.specs.declared.place.PeerId.{PeerId}
 use Rattle.tsp_base.specs.declared.place.Place.{Place}
 use Rattle.tsp_base.specs.declared.place.Place.TheVariants.{Peer, Stranger}
 use Rattle.tsp_base.specs.declared.role.Role.TheVariants.{Master}
-use Rattle.tsp_base.specs.CorrectFits.{WhyCorrect, ByRound, ByMaster}
+use Rattle.tsp_base.specs.CorrectFits.{WhyCorrect, ByRound, ByMaster, ByDate}
 use Rattle.tsp_base.specs.CorrectionFits.{CorrectionFits}
-use Rattle.tsp_base.specs.DeedFits.{DeedFits, PostFits, MessageFits}
+use Rattle.tsp_base.specs.DeedFits.{DeedFits, PostFits, MessageFits, StrangerFits}
 use Rattle.tsp_base.specs.Fits.{Fits, LineFits, SameStep, node_of}
-use Rattle.tsp_base.specs.History.{Acts, Did, Line, Step, Seen, of, dids, view, seen_as, is_shared}
+use Rattle.tsp_base.specs.History.{Acts, Did, Line, Step, Seen, from_act, of, dids, view, seen_as, is_shared}
 use Rattle.tsp_base.specs.Messages.{MessageValue}
 use Rattle.tsp_base.specs.OnlyMaster.{Leads, LeadsAt, OnlyMaster}
 use Rattle.tsp_base.specs.PortFacts.{role}
 use Rattle.tsp_base.specs.SendFacts.{is_correction}
-use Rattle.tsp_base.specs.Setting.{Setting}
+use Rattle.tsp_base.specs.Setting.{Setting, setup_of}
+use Rattle.tsp_base.specs.Setup.{Setup}
 use Rattle.tsp_base.proofs.EverywhereLemmas.{Everywhere-from}
 use Rattle.tsp_safe.proofs.HistoryPlaces.{of-own}
 use Rattle.tsp_safe.proofs.OwnFitsProof.{fits_at}
+use Rattle.tsp_safe.proofs.NextAct.{right_after}
 use Rattle.tsp_safe.proofs.PortFits.{deed_fits}
 
 -- what the post of a correction to a peer owes
-pub correction_fits : (k : Kind) (here : Did) (seen : List Seen) (p : PeerId) (m : MessageValue) → is_correction k ≡ true → MessageFits k here seen p m → CorrectionFits here seen p m
-correction_fits AdjTime here seen p m e f = f
-correction_fits SetTime here seen p m e f = f
-correction_fits _ here seen p m e f = absurd (true≢false (sym e))
+pub correction_fits : (setup : Setup) (k : Kind) (here : Did) (seen : List Seen) (p : PeerId) (m : MessageValue) → is_correction k ≡ true → MessageFits setup k here seen p m → CorrectionFits here seen p m
+correction_fits setup AdjTime here seen p m e f = f
+correction_fits setup SetTime here seen p m e f = f
+correction_fits setup _ here seen p m e f = absurd (true≢false (sym e))
 
-posts-lead : (to : Place) (m : MessageValue) (here : Did) (seen : List Seen) → is_correction m.kind ≡ true → PostFits to (Message m) here seen → role seen ≡ Master
-posts-lead (Peer p) m here seen e f = (correction_fits m.kind here seen p m e f).leads
-posts-lead Stranger m here seen e f = absurd (true≢false (sym e ∙ ap is_correction f))
+-- strangers get no corrections
+strangers : (k : Kind) (here : Did) (seen : List Seen) (number : ℕ) → is_correction k ≡ true → StrangerFits k here seen number → ⊥
+strangers Ack here seen number e f = true≢false (sym e)
+strangers DateAck here seen number e f = true≢false (sym e)
+strangers _ here seen number e f = f
+
+posts-lead : (setup : Setup) (to : Place) (m : MessageValue) (here : Did) (seen : List Seen) → is_correction m.kind ≡ true → PostFits setup to (Message m) here seen → role seen ≡ Master
+posts-lead setup (Peer p) m here seen e f = (correction_fits setup m.kind here seen p m e f).leads
+posts-lead setup Stranger m here seen e f = absurd (strangers m.kind here seen m.number e f)
 
 -- a Correct right after a Close
 correct-leads : (setting : Setting) (l close : Line) (older : List Line) (count : ℕ) (lo size mean amount : ℤ) → node_of close ≡ node_of l → LineFits setting close older → close.did.deed ≡ Acts (Close count lo size mean) →
@@ -40,20 +48,22 @@ correct-leads : (setting : Setting) (l close : Line) (older : List Line) (count 
     role (seen_as b close.did ∷ view l.port (of (node_of l) older)) ≡ Master
 correct-leads setting l close older count lo size mean amount node f is true e why =
     let leads : role (view l.port (of (node_of l) older)) ≡ Master =
-    subst (λ n. role (view l.port (of n older)) ≡ Master) node (subst (λ k. DeedFits k close.did (view l.port (of (node_of close) older))) is (f.deeds l.port e)) in
+    subst (λ n. role (view l.port (of n older)) ≡ Master) node (subst (λ k. DeedFits (setup_of setting (node_of close) l.port) k close.did (view l.port (of (node_of close) older))) is (f.deeds l.port e)) in
     rw is leads
 correct-leads setting l close older count lo size mean amount node f is false e (ByRound r) = let bad : ⊥ = (let k = r.is in cc) in absurd bad
 correct-leads setting l close older count lo size mean amount node f is false e (ByMaster t) = let bad : ⊥ = (let k = t.is in cc) in absurd bad
+correct-leads setting l close older count lo size mean amount node f is false e (ByDate t) = let bad : ⊥ = (let k = t.is in cc) in absurd bad
 
 leads_at : (setting : Setting) (l : Line) (world : List Line) → Fits setting (l ∷ world) → LeadsAt l world
 leads_at setting l world f = record {
-  posts = λ to m is kind. posts-lead to m l.did (view l.port (of (node_of l) world)) kind (deed_fits setting l world (Acts (Post to (Message m))) is f.0);
+  posts = λ to m is kind. posts-lead (setup_of setting (node_of l) l.port) to m l.did (view l.port (of (node_of l) world)) kind (deed_fits setting l world (Acts (Post to (Message m))) is f.0).fits;
   closes = λ count lo size mean is. deed_fits setting l world (Acts (Close count lo size mean)) is f.0;
   corrects = λ close older count lo size mean amount stepped shown at close_is is. corrects_at setting l world f close older count lo size mean amount stepped shown at close_is is;
 } where
-  corrects_at : (setting : Setting) (l : Line) (world : List Line) → Fits setting (l ∷ world) → (close : Line) (older : List Line) (count : ℕ) (lo size mean amount : ℤ) (stepped : Bool) (shown : ℤ) → world ≡ close ∷ older →
+  corrects_at : (setting : Setting) (l : Line) (world : List Line) → Fits setting (l ∷ world) → (close : Line) (older : List Line) (count : ℕ) (lo size mean amount : ℤ) (stepped : Bool) (shown : ℤ) → from_act world ≡ close ∷ older →
       close.did.deed ≡ Acts (Close count lo size mean) → l.did.deed ≡ Acts (Correct amount stepped shown) → Leads l world
-  corrects_at setting l world f close older count lo size mean amount stepped shown at close_is is =
+  corrects_at setting l world f close older count lo size mean amount stepped shown from close_is is =
+      let at = right_after setting l world close older amount stepped shown f is from in
       let g : Fits setting (l ∷ (close ∷ older)) = subst (λ w. Fits setting (l ∷ w)) at f in
       let step : close.did.step ≡ l.did.step = subst (λ k. SameStep k l.did.step (dids (close ∷ older))) is g.0.step in
       let node : node_of close ≡ node_of l = ap (λ (s : Step). s.node) step in

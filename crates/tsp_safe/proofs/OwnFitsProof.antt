@@ -6,7 +6,7 @@ use Rattle.tsp_base.specs.Fits.{Fits, LineFits, Alive, SameStep, node_of}
 use Rattle.tsp_base.specs.History.{Line, Deed, Begins, Acts, Step, of, dids, view}
 use Rattle.tsp_base.specs.NodeFacts.{time_of, tick_of, up}
 use Rattle.tsp_base.specs.Places.{Within}
-use Rattle.tsp_base.specs.Setting.{Setting}
+use Rattle.tsp_base.specs.Setting.{Setting, setup_of}
 use Rattle.tsp_base.specs.Ticks.{tick_at}
 use Rattle.tsp_base.proofs.EverywhereLemmas.{Everywhere-within}
 use Rattle.tsp_safe.specs.OwnFits.{OwnFits, OwnLineFits}
@@ -18,7 +18,7 @@ pub tick_is : (setting : Setting) (n : ℕ) (l : Line) (world : List Line) → n
 tick_is setting n l world same f = subst (λ k. l.did.tick ≡ tick_at (setting.rate k) l.did.step.at) same f.tick
 
 -- the line before in the history is the line before of the node
-own-step : (deed : Deed) (step : Step) (n : ℕ) (world : List Line) → step.node ≡ n → SameStep deed step (dids world) → SameStep deed step (dids (of n world))
+pub own-step : (deed : Deed) (step : Step) (n : ℕ) (world : List Line) → step.node ≡ n → SameStep deed step (dids world) → SameStep deed step (dids (of n world))
 own-step Begins step n world same e = tt
 own-step (Acts a) step n [] same e = e
 own-step (Acts a) step n (x ∷ world) same e =
@@ -32,7 +32,7 @@ own-line-fits setting n l world same f time tick = record {
   tick = omega (arith, tick-mono setting n (time_of (dids world)) l.did.step.at f.order, tick_is setting n l world same f);
   step = own-step l.did.deed l.did.step n world same f.step;
   alive = subst (λ k. Alive setting l.did.deed l.did (up (dids (of k world)))) same f.alive;
-  deeds = λ q s. subst (λ k. DeedFits l.did.deed l.did (view q (of k world))) same (f.deeds q s);
+  deeds = λ q s. subst (λ k. DeedFits (setup_of setting (node_of l) q) l.did.deed l.did (view q (of k world))) same (f.deeds q s);
 }
 
 -- the last line of a node isn't later than the history

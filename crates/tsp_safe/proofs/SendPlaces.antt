@@ -1,33 +1,31 @@
 -- Where the send of a post begins in the history, and what its posts have in common.
 use Rattle.std.specs.Prelude.{◌≡◌, ◌+◌, ◌*◌, ◌≤◌, true, false, ℕ, List, [], ◌∷◌, refl}
-use Rattle.std.proofs.Common.{sym, ap, arith, subst, subst₂, inl, inr, ◌∙◌}
+use Rattle.std.proofs.Common.{sym, ap, arith, subst, subst₂, inl, inr, true≢false, ◌∙◌}
 use Rattle.tsp_base.specs.declared.act.Act.TheVariants.{Post}
 use Rattle.tsp_base.specs.declared.datagram.Datagram.{Datagram}
 use Rattle.tsp_base.specs.declared.datagram.Datagram.TheVariants.{Message}
+use Rattle.tsp_base.specs.declared.kind.Kind.{Kind}
+use Rattle.tsp_base.specs.declared.kind.Kind.TheVariants.{AdjTime, Conflict, Election, Quit, SetDateReq, SetTime}
 use Rattle.tsp_base.specs.declared.place.PeerId.{PeerId}
 use Rattle.tsp_base.specs.declared.place.Place.{Place}
 use Rattle.tsp_base.specs.declared.place.Place.TheVariants.{Peer}
-use Rattle.tsp_base.specs.CorrectionFits.{CorrectionFits}
+use Rattle.tsp_base.specs.CorrectionFits.{CorrectionFits, RepeatFits}
+use Rattle.tsp_base.specs.DeedFits.{MessageFits}
 use Rattle.tsp_base.specs.Fits.{Fits, LineFits, node_of}
-use Rattle.tsp_base.specs.History.{Acts, Deed, Did, Line, Seen, Here, of, dids, view, is_shared}
+use Rattle.tsp_base.specs.History.{Acts, Came, Deed, Did, Line, Seen, Here, of, dids, view, is_shared}
 use Rattle.tsp_base.specs.Messages.{MessageValue}
 use Rattle.tsp_base.specs.Places.{Within}
 use Rattle.tsp_base.specs.PortFacts.{acting}
-use Rattle.tsp_base.specs.SendFacts.{is_correction, send_of}
-use Rattle.tsp_base.specs.Setting.{Setting}
+use Rattle.tsp_base.specs.SendFacts.{begun_to, is_correction, is_numbered}
+use Rattle.tsp_base.specs.Setting.{Setting, setup_of}
+use Rattle.tsp_base.specs.Setup.{Setup}
 use Rattle.tsp_base.specs.Takings.{peer_of, posted, posted_after}
 use Rattle.tsp_safe.proofs.Clocks.{near}
 use Rattle.tsp_safe.proofs.Locating.{line_on, locate, view-line, tick_in}
 use Rattle.tsp_safe.proofs.OnlyMasterProof.{correction_fits}
 use Rattle.tsp_safe.proofs.OwnFitsProof.{place-time}
 use Rattle.tsp_safe.proofs.PortFits.{deed_fits}
-use Rattle.tsp_safe.proofs.SendProof.{send_is}
-
--- a correction to p with this message begins here
-pub record CorrectsTo (p : PeerId) (m : MessageValue) (first : Did) (older : List Seen) : Type 0 where
-  pub deed : first.deed ≡ Acts (Post (Peer p) (Message m))
-  pub kind : is_correction m.kind ≡ true
-  pub begins : acting older ≡ true
+use Rattle.tsp_safe.proofs.SendProof.{BeginsSend, send_is}
 
 -- where the send of the post p of node m to k begins
 pub record SendPlace (m k : ℕ) (p : Line) (o : List Line) (msg : MessageValue) : Type 0 where
@@ -35,8 +33,8 @@ pub record SendPlace (m k : ℕ) (p : Line) (o : List Line) (msg : MessageValue)
   pub fw : List Line
   pub place : Within (line_on p.port first ∷ fw) (p ∷ o)
   pub node : first.step.node ≡ m
-  pub corrects : CorrectsTo (peer_of k) msg first (view p.port (of m fw))
-  pub is : send_of (peer_of k) (Here p.did ∷ view p.port (of m o)) ≡ Here first ∷ view p.port (of m fw)
+  pub sends : BeginsSend (peer_of k) msg first (view p.port (of m fw))
+  pub is : begun_to (peer_of k) (Here p.did ∷ view p.port (of m o)) ≡ Here first ∷ view p.port (of m fw)
   pub after : first.step.at ≤ p.did.step.at
   pub soon : p.did.step.at ≤ first.step.at + 4004007
 
@@ -45,16 +43,31 @@ pub post_fits : (setting : Setting) (m : ℕ) (p : Line) (o : List Line) (k : Pe
     CorrectionFits p.did (view p.port (of m o)) k msg
 post_fits setting m p o k msg f node deed kind =
     subst (λ n. CorrectionFits p.did (view p.port (of n o)) k msg) node
-    (correction_fits msg.kind p.did (view p.port (of (node_of p) o)) k msg kind (deed_fits setting p o (Acts (Post (Peer k) (Message msg))) deed f))
+    (correction_fits (setup_of setting (node_of p) p.port) msg.kind p.did (view p.port (of (node_of p) o)) k msg kind (deed_fits setting p o (Acts (Post (Peer k) (Message msg))) deed f).fits)
+
+-- a numbered post that begins no send repeats the open one
+repeats-of : (setup : Setup) (kind : Kind) (here : Did) (seen : List Seen) (p : PeerId) (m : MessageValue) → is_numbered kind ≡ true → MessageFits setup kind here seen p m → acting seen ≡ false → RepeatFits here seen p m
+repeats-of setup AdjTime here seen p m n f = f.repeats
+repeats-of setup SetTime here seen p m n f = f.repeats
+repeats-of setup Election here seen p m n f = f.numbered.repeats
+repeats-of setup Conflict here seen p m n f = f.repeats
+repeats-of setup Quit here seen p m n f = f.repeats
+repeats-of setup SetDateReq here seen p m n f = f.numbered.repeats
+repeats-of setup _ here seen p m n f = absurd (true≢false (sym n))
+
+pub repeats_in : (setting : Setting) (m : ℕ) (p : Line) (o : List Line) (k : PeerId) (msg : MessageValue) → LineFits setting p o → node_of p ≡ m → p.did.deed ≡ Acts (Post (Peer k) (Message msg)) → is_numbered msg.kind ≡ true →
+    acting (view p.port (of m o)) ≡ false → RepeatFits p.did (view p.port (of m o)) k msg
+repeats_in setting m p o k msg f node deed kind =
+    subst (λ n. acting (view p.port (of n o)) ≡ false → RepeatFits p.did (view p.port (of n o)) k msg) node
+    (repeats-of (setup_of setting (node_of p) p.port) msg.kind p.did (view p.port (of (node_of p) o)) k msg kind (deed_fits setting p o (Acts (Post (Peer k) (Message msg))) deed f).fits)
 
 not-shared : (d : Did) (to : Place) (datagram : Datagram) → d.deed ≡ Acts (Post to datagram) → is_shared d.deed ≡ false
 not-shared d to datagram e = rw e refl
 
-pub send_place : (setting : Setting) (m k : ℕ) (p : Line) (o : List Line) (msg : MessageValue) → Fits setting (p ∷ o) → node_of p ≡ m → p.did.deed ≡ Acts (Post (Peer (peer_of k)) (Message msg)) → is_correction msg.kind ≡ true →
+pub send_place : (setting : Setting) (m k : ℕ) (p : Line) (o : List Line) (msg : MessageValue) → Fits setting (p ∷ o) → node_of p ≡ m → p.did.deed ≡ Acts (Post (Peer (peer_of k)) (Message msg)) → is_numbered msg.kind ≡ true →
     SendPlace m k p o msg
 send_place setting m k p o msg f node deed kind =
-    let fits = post_fits setting m p o (peer_of k) msg f.0 node deed kind in
-    let d = send_is (peer_of k) p.did (view p.port (of m o)) msg deed fits.repeats in
+    let d = send_is (peer_of k) p.did (view p.port (of m o)) msg deed kind (repeats_in setting m p o (peer_of k) msg f.0 node deed kind) in
     let at : Within (Here d.first ∷ d.older) (view p.port (of m (p ∷ o))) = subst (λ s. Within (Here d.first ∷ d.older) s) (sym (view-line m p o node)) d.place in
     let l = locate m p.port (p ∷ o) d.first d.older (not-shared d.first (Peer (peer_of k)) (Message msg) d.same) at in
     let after : d.first.step.at ≤ p.did.step.at = place-time setting (line_on p.port d.first ∷ l.older) (p ∷ o) f l.place in
@@ -67,7 +80,7 @@ send_place setting m k p o msg f node deed kind =
       fw = l.older;
       place = l.place;
       node = l.node;
-      corrects = record { deed = d.same; kind = kind; begins = subst (λ s. acting s ≡ true) (sym l.before) d.begins };
+      sends = record { deed = d.same; kind = kind; begins = subst (λ s. acting s ≡ true) (sym l.before) d.begins };
       is = d.is ∙ ap (λ s. Here d.first ∷ s) (sym l.before);
       after = after;
       soon = omega (arith, d.soon);
@@ -83,8 +96,12 @@ posted-mono s [] e = subst (λ w. posted (dids w) ≤ 0) (sym e) (omega arith)
 posted-mono s (l ∷ t) (inl e) = subst (λ w. posted (dids w) ≤ posted (dids (l ∷ t))) (sym e) (omega arith)
 posted-mono s (l ∷ t) (inr p) = omega (arith, posted-mono s t p, posted-deed l.did.deed (posted (dids t)))
 
-posted-post : (q : Line) (b : List Line) (to : Place) (datagram : Datagram) → q.did.deed ≡ Acts (Post to datagram) → posted (dids (q ∷ b)) ≡ posted (dids b) + 1
+pub posted-post : (q : Line) (b : List Line) (to : Place) (datagram : Datagram) → q.did.deed ≡ Acts (Post to datagram) → posted (dids (q ∷ b)) ≡ posted (dids b) + 1
 posted-post q b to datagram e = rw e refl
+
+-- a step comes by one datagram
+pub same-number : (j k : ℕ) → Came j ≡ Came k → j ≡ k
+same-number j k e = cc
 
 pub post_unique : (t : List Line) (p q : Line) (a b : List Line) (to for : Place) (m n : Datagram) → Within (p ∷ a) t → Within (q ∷ b) t →
     p.did.deed ≡ Acts (Post to m) → q.did.deed ≡ Acts (Post for n) → posted (dids a) ≡ posted (dids b) → p ∷ a ≡ q ∷ b

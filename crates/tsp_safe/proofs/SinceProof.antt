@@ -9,7 +9,9 @@ use Rattle.tsp_base.specs.DeedFits.{DeedFits}
 use Rattle.tsp_base.specs.History.{Did, Deed, Acts, Line, dids, view, is_shared}
 use Rattle.tsp_base.specs.NodeFacts.{all_corrects, boot_tick, last_correct, last_correct_after, time_of, tick_of}
 use Rattle.tsp_base.specs.Places.{Within}
-use Rattle.tsp_base.specs.Setting.{Setting}
+use Rattle.tsp_base.specs.Setting.{Setting, setup_of}
+use Rattle.tsp_base.specs.Setup.{Setup}
+use Rattle.tsp_base.specs.Fits.{node_of}
 use Rattle.tsp_base.proofs.ViewPlaces.{sees-own}
 use Rattle.tsp_base.proofs.Views.{plain_view}
 use Rattle.tsp_safe.specs.OwnFits.{OwnFits, OwnLineFits}
@@ -24,17 +26,17 @@ abbrev pub ApartIf : Deed → Did → List Did → Type 0
 ApartIf (Acts (Correct amount stepped shown)) here before = Apart here before
 ApartIf _ here before = Unit {0}
 
-apart-deed : (deed : Deed) (here : Did) (q : Port) (own : List Line) → DeedFits deed here (view q own) → ApartIf deed here (dids own)
-apart-deed (Acts (Correct amount stepped shown)) here q own f =
+apart-deed : (setup : Setup) (deed : Deed) (here : Did) (q : Port) (own : List Line) → DeedFits setup deed here (view q own) → ApartIf deed here (dids own)
+apart-deed setup (Acts (Correct amount stepped shown)) here q own f =
     let e = plain_view q own in
     record {
       gap = subst (λ w. last_correct w + GAP ≤ here.tick) e f.gap;
       rested = subst (λ w. boot_tick w + QUIET ≤ here.tick) e f.rested;
     }
-apart-deed _ here q own f = tt
+apart-deed setup _ here q own f = tt
 
 pub apart_if : (setting : Setting) (l : Line) (before : List Line) → OwnLineFits setting l before → ApartIf l.did.deed l.did (dids before)
-apart_if setting l before f = apart-deed l.did.deed l.did l.port before (f.deeds l.port (sees-own l.port (is_shared l.did.deed)))
+apart_if setting l before f = apart-deed (setup_of setting (node_of l) l.port) l.did.deed l.did l.port before (f.deeds l.port (sees-own l.port (is_shared l.did.deed)))
 
 last-deed : (deed : Deed) (last x y : ℕ) → last ≤ x → x ≤ y → last_correct_after deed y last ≤ y
 last-deed (Acts Boot) last x y h k = omega arith

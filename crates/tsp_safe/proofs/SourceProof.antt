@@ -4,7 +4,6 @@ use Rattle.std.proofs.Common.{sym, ap, arith, subst, inl, inr, ◌∙◌}
 use Rattle.tsp_base.specs.declared.act.Act.TheVariants.{Post}
 use Rattle.tsp_base.specs.declared.datagram.Datagram.{Datagram}
 use Rattle.tsp_base.specs.declared.datagram.Datagram.TheVariants.{Message, Stamp}
-use Rattle.tsp_base.specs.declared.place.PeerId.{PeerId}
 use Rattle.tsp_base.specs.declared.place.Place.{Place}
 use Rattle.tsp_base.specs.declared.place.Place.TheVariants.{Peer}
 use Rattle.tsp_base.specs.declared.place.Port.{Port}
@@ -17,19 +16,22 @@ use Rattle.tsp_base.specs.Messages.{MessageValue}
 use Rattle.tsp_base.specs.NodeFacts.{ticket}
 use Rattle.tsp_base.specs.Places.{Within}
 use Rattle.tsp_base.specs.RoundFacts.{Sampled, started}
-use Rattle.tsp_base.specs.Setting.{Setting}
+use Rattle.tsp_base.specs.Setting.{Setting, setup_of}
 use Rattle.tsp_base.specs.Stamps.{ReplyValue}
 use Rattle.tsp_base.specs.Takings.{Receives, peer_of}
 use Rattle.tsp_base.proofs.PlaceLemmas.{Within-all, Within-through, Within-tail}
 use Rattle.tsp_base.proofs.Views.{plain_view}
-use Rattle.tsp_safe.proofs.AgreedProof.{Given, given_at, round-soon}
+use Rattle.tsp_safe.proofs.CastProof.{round-soon}
+use Rattle.tsp_safe.proofs.Given.{Given, given_at}
+use Rattle.tsp_safe.proofs.ClosedProof.{closed_at}
 use Rattle.tsp_safe.proofs.BestProof.{best_at}
 use Rattle.tsp_safe.proofs.KnownProof.{known}
 use Rattle.tsp_safe.proofs.Locating.{line_on, locate}
 use Rattle.tsp_safe.proofs.MeasuredProof.{Reading, reading_at, sample_fits}
 use Rattle.tsp_safe.proofs.PortFits.{deed_fits}
 use Rattle.tsp_safe.proofs.RoundPlaces.{same-start}
-use Rattle.tsp_safe.proofs.SendPlaces.{CorrectsTo, post_fits}
+use Rattle.tsp_safe.proofs.SendPlaces.{post_fits}
+use Rattle.tsp_safe.proofs.SendProof.{CorrectsTo, number-same}
 
 -- k posted its ticket at most 30 s before the correction f began with it
 pub record Source (k : ℕ) (f : Did) (fw : List Line) (number : ℕ) : Type 0 where
@@ -43,9 +45,6 @@ pub record Source (k : ℕ) (f : Did) (fw : List Line) (number : ℕ) : Type 0 w
   pub is : number ≡ ticket (dids (of k ro))
   pub soon : f.step.at ≤ r.did.step.at + 30000000
 
-number-same : (m n : ℕ) → peer_of m ≡ peer_of n → m ≡ n
-number-same m n e = ap (λ (p : PeerId). p.0) e
-
 from-slaveup : (setting : Setting) (m k : ℕ) (q : Port) (f : Did) (fw : List Line) (mf : MessageValue) → Given setting (line_on q f ∷ fw) → f.step.node ≡ m → f.deed ≡ Acts (Post (Peer (peer_of k)) (Message mf)) →
     AnswersSlaveUp (view q (of m fw)) (peer_of k) mf → Source k f fw mf.number
 from-slaveup setting m k q f fw mf g f_node deed s =
@@ -54,7 +53,7 @@ from-slaveup setting m k q f fw mf g f_node deed s =
     let node : node_of r.post ≡ k = number-same (node_of r.post) k r.node in
     let gr = given_at setting (r.post ∷ r.older) fw (given_at setting fw (line_on q f ∷ fw) g (inr (Within-all fw))) r.place in
     let fits = deed_fits setting r.post r.older (Acts (Post (Peer (peer_of f.step.node)) (Message s.message))) r.deed gr.fits.0 in
-    let up : s.message.number ≡ ticket (plain (view r.post.port (of (node_of r.post) r.older))) = subst (λ kd. MessageFits kd r.post.did (view r.post.port (of (node_of r.post) r.older)) (peer_of f.step.node) s.message) s.kind fits in
+    let up : s.message.number ≡ ticket (plain (view r.post.port (of (node_of r.post) r.older))) = subst (λ kd. MessageFits (setup_of setting (node_of r.post) r.post.port) kd r.post.did (view r.post.port (of (node_of r.post) r.older)) (peer_of f.step.node) s.message) s.kind fits.fits in
     let is : s.message.number ≡ ticket (dids (of k r.older)) = subst (λ n. s.message.number ≡ ticket (dids (of n r.older))) node (up ∙ ap ticket (plain_view r.post.port (of (node_of r.post) r.older))) in
     record {
       r = r.post;
@@ -91,7 +90,7 @@ from-close : (setting : Setting) (m k : ℕ) (q : Port) (f : Did) (fw : List Lin
 from-close setting m k q f fw mf g f_node a =
     let u = a.is in
     let gf = given_at setting fw (line_on q f ∷ fw) g (inr (Within-all fw)) in
-    let c = locate m q fw a.close a.past (rw u.deed refl) u.place in
+    let c = locate m q fw a.close a.past (rw u.deed refl) (closed_at (view q (of m fw)) a.close a.past u.is) in
     let b = best_at (peer_of k) a.past a.sample u.best_is in
     let b_place : Within (Here b.did ∷ b.rest) (view q (of m c.older)) = subst (λ z. Within (Here b.did ∷ b.rest) z) (sym c.before) b.place in
     let s = locate m q c.older b.did b.rest (rw b.deed refl) b_place in

@@ -1,260 +1,195 @@
--- The history of ordinary use keeps every premise.
-use Rattle.std.specs.Prelude.{◌≡◌, ◌==◌, ◌≤◌, Bool, true, false, ℕ, ◌+◌, ℤ, pos, negsuc, List, [], ◌∷◌, refl}
-use Rattle.std.proofs.Common.{sym, arith, subst, inl, inr, ◌∙◌}
-use Rattle.tsp_base.specs.declared.act.Act.TheVariants.{Boot, Took, Post, Become, Arm, Ring, Acked, Sample, Close, Correct}
-use Rattle.tsp_base.specs.declared.alarm.Alarm.TheVariants.{Round, Close as AlarmClose}
-use Rattle.tsp_base.specs.declared.datagram.Datagram.{Datagram}
+-- A history of ordinary use: two nodes follow a third, are set by a SETTIME each and acknowledge it; then comes a whole round.
+use Rattle.std.specs.Prelude.{true, false, pos, negsuc, List, [], ◌∷◌, refl}
+use Rattle.std.proofs.Common.{arith, inl, inr}
+use Rattle.std.proofs.lemmas.Int.{ints}
+use Rattle.tsp_base.specs.declared.act.Act.TheVariants.{Took, Post, Become, Arm, Ring, Sample, Close, Correct, Acked}
+use Rattle.tsp_base.specs.declared.act.Placed.{Placed}
+use Rattle.tsp_base.specs.declared.alarm.Alarm.TheVariants.{Close as AlarmClose, Round}
 use Rattle.tsp_base.specs.declared.datagram.Datagram.TheVariants.{Message, Stamp}
 use Rattle.tsp_base.specs.declared.datagram.Taken.TheVariants.{Good}
-use Rattle.tsp_base.specs.declared.kind.Kind.TheVariants.{AdjTime, SetTime, SlaveUp, Ack}
+use Rattle.tsp_base.specs.declared.kind.Kind.TheVariants.{AdjTime, Ack, SetTime, SlaveUp}
 use Rattle.tsp_base.specs.declared.message.Body.TheVariants.{Nothing, Time}
-use Rattle.tsp_base.specs.declared.place.Place.{Place}
 use Rattle.tsp_base.specs.declared.place.Place.TheVariants.{Peer}
-use Rattle.tsp_base.specs.declared.role.Role.TheVariants.{Follow, Master}
+use Rattle.tsp_base.specs.declared.role.Role.TheVariants.{Follow}
 use Rattle.tsp_base.specs.declared.stamp.Stamp.TheVariants.{Request, Reply}
-use Rattle.tsp_base.specs.Everywhere.{Everywhere}
-use Rattle.tsp_base.specs.History.{Cause, Booted, Turned, Came, Handed, Deed, Begins, Acts, Line, of, dids, view}
-use Rattle.tsp_base.specs.Places.{Within}
-use Rattle.tsp_base.specs.Takings.{peer_of, posted}
-use Rattle.tsp_base.specs.declared.constants.TheConstants.{LIFE}
-use Rattle.tsp_base.specs.Agreed.{Cast}
-use Rattle.tsp_base.specs.Fits.{Finished, node_of}
-use Rattle.tsp_base.specs.Premises.{Honest, HonestAt, Life, TakenWithinAt, Words, WordsAt}
-use Rattle.tsp_base.proofs.EverywhereLemmas.{Everywhere-at}
-use Rattle.tsp_safe.specs.OrdinaryUse.{OrdinaryUse, Confirms, Closes}
-use Rattle.tsp_safe.proofs.SendPlaces.{post_unique}
-use Rattle.tsp_safe.proofs.Witness.{Calm, calm, still, port0, did, line, msg, fits41, w1, w2, w3, w4, w5, w6, w7, w8, w9, w10, w11, w12, w13, w14, w15, w16, w17, w18, w19, w20, w21, w22, w23, w24, w25, w26, w27, w28, w29, w30, w31, w32, w33, w34, w35, w36, w37, w38, w39, w40, w41}
+use Rattle.tsp_base.specs.CorrectFits.{ByRound}
+use Rattle.tsp_base.specs.Fits.{Fits}
+use Rattle.tsp_base.specs.History.{Came, Turned, Line}
+use Rattle.tsp_base.specs.Stamps.{ReplyValue}
+use Rattle.tsp_base.specs.Takings.{peer_of}
+use Rattle.tsp_safe.proofs.Histories.{msg, on, step_at, still, then_step}
+use Rattle.tsp_safe.proofs.HistoriesFit.{came, step-fits}
+use Rattle.tsp_safe.proofs.StepChecks.{port0}
+use Rattle.tsp_safe.proofs.WitnessDebts.{acked-fits, adjusts-by, corrects-by, samples-by, sets-up}
+use Rattle.tsp_safe.proofs.WitnessLead.{led, w5}
 
-calm-of : (n : ℕ) (world : List Line) → Everywhere (λ (l : Line) (before : List Line). Calm l.did.deed) world → Everywhere (λ (l : Line) (before : List Line). Calm l.did.deed) (of n world)
-calm-of n [] c = tt
-calm-of n (l ∷ world) c = more (node_of l == n) refl (calm-of n world c.1) where
-  more : (b : Bool) → (node_of l == n) ≡ b → Everywhere (λ (l : Line) (before : List Line). Calm l.did.deed) (of n world) → Everywhere (λ (l : Line) (before : List Line). Calm l.did.deed) (of n (l ∷ world))
-  more true e h = rw e (c.0, h)
-  more false e h = rw e h
+abbrev pub reply1 : ReplyValue
+reply1 = record { ticket = 10; word = 7; counter = 0; reading = pos 400000299 }
 
-abbrev NotHanded : Cause → Type 0
-NotHanded Handed = ⊥
-NotHanded _ = Unit {0}
+abbrev pub reply2 : ReplyValue
+reply2 = record { ticket = 12; word = 7; counter = 1; reading = pos 400000299 }
 
-not-handed : (l : Line) (world : List Line) → NotHanded l.did.step.cause → HonestAt l world
-not-handed l world n e p taken deed = absurd (subst (λ k. NotHanded k) e n)
+abbrev pub aw6 : List Placed
+aw6 = on port0 (Become (Follow (peer_of 0))) ∷ (on port0 (Post (Peer (peer_of 0)) (Message (msg SlaveUp 9 Nothing))) ∷ [])
 
-abbrev NotCame : Cause → Type 0
-NotCame (Came k) = ⊥
-NotCame _ = Unit {0}
+abbrev pub w6 : List Line
+w6 = then_step (step_at 305000000 1 Turned) aw6 w5
 
-pub not-came : (l : Line) (world : List Line) → NotCame l.did.step.cause → TakenWithinAt LIFE l world
-not-came l world n post older to datagram w deed e = absurd (subst (λ k. NotCame k) e n)
+f6 : Fits (still false) w6
+f6 = step-fits false (step_at 305000000 1 Turned) aw6 w5 led refl ((refl, tt), ((refl, record { rested = inl (omega arith); fits = refl }), tt))
 
-same-number : (j k : ℕ) → Came j ≡ Came k → j ≡ k
-same-number j k e = cc
+abbrev pub aw7 : List Placed
+aw7 = on port0 (Become (Follow (peer_of 0))) ∷ (on port0 (Post (Peer (peer_of 0)) (Message (msg SlaveUp 11 Nothing))) ∷ [])
 
-pub life-came : (l : Line) (world : List Line) (k : ℕ) (sent : Line) (before : List Line) (whom : Place) (what : Datagram) → Within (sent ∷ before) world → sent.did.deed ≡ Acts (Post whom what) → posted (dids before) ≡ k → l.did.step.cause ≡ Came k →
-    l.did.step.at ≤ sent.did.step.at + LIFE → TakenWithinAt LIFE l world
-life-came l world k sent before whom what place deed number cause soon post older to datagram w post_deed e =
-    let n : posted (dids before) ≡ posted (dids older) = number ∙ same-number k (posted (dids older)) (sym cause ∙ e) in
-    let same = post_unique world sent post before older whom to what datagram place w deed post_deed n in
-    let line : sent ≡ post = cc in
-    subst (λ (z : Line). l.did.step.at ≤ z.did.step.at + LIFE) line soon
+abbrev pub w7 : List Line
+w7 = then_step (step_at 305000000 2 Turned) aw7 w6
 
-abbrev NotBoot : Deed → Type 0
-NotBoot (Acts Boot) = ⊥
-NotBoot _ = Unit {0}
+f7 : Fits (still false) w7
+f7 = step-fits false (step_at 305000000 2 Turned) aw7 w6 f6 refl ((refl, tt), ((refl, record { rested = inl (omega arith); fits = refl }), tt))
 
-not-boot : (l : Line) (world : List Line) → NotBoot l.did.deed → WordsAt l world
-not-boot l world n other older v w x y p deed o a b = absurd (subst (λ k. NotBoot k) deed n)
+abbrev pub aw8 : List Placed
+aw8 = on port0 (Took (Peer (peer_of 1)) (Good (Message (msg SlaveUp 9 Nothing)))) ∷ (on port0 (Post (Peer (peer_of 1)) (Message (msg SetTime 9 (Time (pos 305000001))))) ∷ [])
 
-none-before : (s : List Line) (other : Line) (older : List Line) → Everywhere (λ (l : Line) (before : List Line). NotBoot l.did.deed) s → Within (other ∷ older) s → other.did.deed ≡ Acts Boot → ⊥
-none-before s other older n p deed = subst (λ k. NotBoot k) deed (Everywhere-at (λ (l : Line) (before : List Line). NotBoot l.did.deed) other older s n p)
+abbrev pub w8 : List Line
+w8 = then_step (step_at 305000001 0 (Came 0)) aw8 w7
 
-booted-word : (v w : ℕ) (x y : ℤ) → Booted v x ≡ Booted w y → v ≡ w
-booted-word v w x y e = cc
+f8 : Fits (still false) w8
+f8 = step-fits false (step_at 305000001 0 (Came 0)) aw8 w7 f7 refl ((refl, (refl, came refl refl refl refl refl)), ((refl, record { rested = inl (omega arith); fits = sets-up (msg SlaveUp 9 Nothing) (omega arith) refl refl refl refl refl refl refl refl (omega (arith, ints)) (omega (arith, ints)) }), tt))
 
-first-boot : WordsAt (line 0 0 (Booted 7 (pos 0)) (Acts Boot)) w1
-first-boot other older v w x y p deed o a b = absurd (none-before w1 other older (tt, tt) p o)
+abbrev pub aw9 : List Placed
+aw9 = on port0 (Took (Peer (peer_of 0)) (Good (Message (msg SetTime 9 (Time (pos 305000001)))))) ∷ (on port0 (Correct (negsuc 0) true (pos 305000001)) ∷ (on port0 (Post (Peer (peer_of 0)) (Message (msg Ack 9 Nothing))) ∷ []))
 
-second-boot : WordsAt (line 0 1 (Booted 9 (pos 0)) (Acts Boot)) w3
-second-boot other older v w x y (inl e) deed o a b same =
-    let l : other ≡ line 0 1 (Booted 9 (pos 0)) Begins = cc in
-    subst (λ k. NotBoot k) o (subst (λ (z : Line). NotBoot z.did.deed) (sym l) tt)
-second-boot other older v w x y (inr (inl e)) deed o a b same =
-    let l : other ≡ line 0 0 (Booted 7 (pos 0)) (Acts Boot) = cc in
-    let seven : 7 ≡ v = booted-word 7 v (pos 0) y (subst (λ (z : Line). z.did.step.cause ≡ Booted v y) l b) in
-    let nine : 9 ≡ w = booted-word 9 w (pos 0) x a in
-    omega arith
-second-boot other older v w x y (inr (inr p)) deed o a b same = none-before w1 other older (tt, tt) p o
+abbrev pub w9 : List Line
+w9 = then_step (step_at 305000002 1 (Came 2)) aw9 w8
 
-finished : Finished w41
-finished = λ n q. calm q (of n w41) (calm-of n w41 (tt, (tt, (tt, (tt, (tt, (tt, (tt, (tt, (tt, (tt, (tt, (tt, (tt, (tt, (tt, (tt, (tt, (tt, (tt, (tt, (tt, (tt, (tt, (tt, (tt, (tt, (tt, (tt, (tt, (tt, (tt, (tt, (tt, (tt, (tt, (tt, (tt, (tt, (tt, (tt, (tt, tt))))))))))))))))))))))))))))))))))))))))))
+f9 : Fits (still false) w9
+f9 = step-fits false (step_at 305000002 1 (Came 2)) aw9 w8 f8 refl ((refl, (refl, came refl refl refl refl refl)), ((refl, corrects-by (peer_of 0) (msg SetTime 9 (Time (pos 305000001))) (omega arith) (omega arith) refl refl refl refl refl refl), ((refl, record { rested = inl (omega arith); fits = record { message = (msg SetTime 9 (Time (pos 305000001))); took = refl; number_is = refl; answers = refl } }), tt)))
 
-honest : Honest w41
-honest = (not-handed (line 408000700 0 (Came 6) (Acts (Acked (peer_of 1)))) w40 tt, (not-handed (line 408000700 0 (Came 6) (Acts (Took (Peer (peer_of 1)) (Good (Message (msg Ack 10 Nothing)))))) w39 tt, (not-handed (line 408000700 0 (Came 6) Begins) w38 tt, (not-handed (line 408000400 1 (Came 5) (Acts (Post (Peer (peer_of 0)) (Message (msg Ack 10 Nothing))))) w37 tt, (not-handed (line 408000400 1 (Came 5) (Acts (Correct (pos 1) false (pos 408000498)))) w36 tt, (not-handed (line 408000400 1 (Came 5) (Acts (Took (Peer (peer_of 0)) (Good (Message (msg AdjTime 10 (Time (pos 1)))))))) w35 tt, (not-handed (line 408000400 1 (Came 5) Begins) w34 tt, (not-handed (line 408000000 0 Turned (Acts (Post (Peer (peer_of 1)) (Message (msg AdjTime 10 (Time (pos 1))))))) w33 tt, (not-handed (line 408000000 0 Turned (Acts (Correct (negsuc 0) false (pos 408000000)))) w32 tt, (not-handed (line 408000000 0 Turned (Acts (Close 2 (negsuc 1) (pos 2) (negsuc 0)))) w31 tt, (not-handed (line 408000000 0 Turned (Acts (Ring AlarmClose))) w30 tt, (not-handed (line 408000000 0 Turned Begins) w29 tt, (not-handed (line 400000801 0 (Came 4) (Acts (Sample (peer_of 1) 0 (negsuc 1) (pos 401) 10))) w28 tt, (not-handed (line 400000801 0 (Came 4) (Acts (Took (Peer (peer_of 1)) (Good (Stamp (Reply (record { ticket = 10; word = 7; counter = 0; reading = pos 400000398 }))))))) w27 tt, (not-handed (line 400000801 0 (Came 4) Begins) w26 tt, (not-handed (line 400000300 1 (Came 3) (Acts (Post (Peer (peer_of 0)) (Stamp (Reply (record { ticket = 10; word = 7; counter = 0; reading = pos 400000398 })))))) w25 tt, (not-handed (line 400000300 1 (Came 3) (Acts (Took (Peer (peer_of 0)) (Good (Stamp (Request 7 0)))))) w24 tt, (not-handed (line 400000300 1 (Came 3) Begins) w23 tt, (not-handed (line 400000000 0 Turned (Acts (Post (Peer (peer_of 1)) (Stamp (Request 7 0))))) w22 tt, (not-handed (line 400000000 0 Turned (Acts (Arm AlarmClose 408000000))) w21 tt, (not-handed (line 400000000 0 Turned (Acts (Ring Round))) w20 tt, (not-handed (line 400000000 0 Turned Begins) w19 tt, (not-handed (line 300000003 0 (Came 2) (Acts (Acked (peer_of 1)))) w18 tt, (not-handed (line 300000003 0 (Came 2) (Acts (Took (Peer (peer_of 1)) (Good (Message (msg Ack 9 Nothing)))))) w17 tt, (not-handed (line 300000003 0 (Came 2) Begins) w16 tt, (not-handed (line 300000002 1 (Came 1) (Acts (Post (Peer (peer_of 0)) (Message (msg Ack 9 Nothing))))) w15 tt, (not-handed (line 300000002 1 (Came 1) (Acts (Correct (pos 98) true (pos 300000100)))) w14 tt, (not-handed (line 300000002 1 (Came 1) (Acts (Took (Peer (peer_of 0)) (Good (Message (msg SetTime 9 (Time (pos 300000100)))))))) w13 tt, (not-handed (line 300000002 1 (Came 1) Begins) w12 tt, (not-handed (line 300000001 0 (Came 0) (Acts (Post (Peer (peer_of 1)) (Message (msg SetTime 9 (Time (pos 300000100))))))) w11 tt, (not-handed (line 300000001 0 (Came 0) (Acts (Took (Peer (peer_of 1)) (Good (Message (msg SlaveUp 9 Nothing)))))) w10 tt, (not-handed (line 300000001 0 (Came 0) Begins) w9 tt, (not-handed (line 300000000 1 Turned (Acts (Post (Peer (peer_of 0)) (Message (msg SlaveUp 9 Nothing))))) w8 tt, (not-handed (line 300000000 1 Turned (Acts (Become (Follow (peer_of 0))))) w7 tt, (not-handed (line 300000000 1 Turned Begins) w6 tt, (not-handed (line 300000000 0 Turned (Acts (Become Master))) w5 tt, (not-handed (line 300000000 0 Turned Begins) w4 tt, (not-handed (line 0 1 (Booted 9 (pos 0)) (Acts Boot)) w3 tt, (not-handed (line 0 1 (Booted 9 (pos 0)) Begins) w2 tt, (not-handed (line 0 0 (Booted 7 (pos 0)) (Acts Boot)) w1 tt, (not-handed (line 0 0 (Booted 7 (pos 0)) Begins) [] tt, tt)))))))))))))))))))))))))))))))))))))))))
+abbrev pub aw10 : List Placed
+aw10 = on port0 (Took (Peer (peer_of 1)) (Good (Message (msg Ack 9 Nothing)))) ∷ (on port0 (Acked (peer_of 1)) ∷ [])
 
-life1 : Life w1
-life1 = (not-came (line 0 0 (Booted 7 (pos 0)) Begins) [] tt, tt)
+abbrev pub w10 : List Line
+w10 = then_step (step_at 305000003 0 (Came 3)) aw10 w9
 
-life2 : Life w2
-life2 = (not-came (line 0 0 (Booted 7 (pos 0)) (Acts Boot)) w1 tt, life1)
+f10 : Fits (still false) w10
+f10 = step-fits false (step_at 305000003 0 (Came 3)) aw10 w9 f9 refl ((refl, (refl, came refl refl refl refl refl)), ((refl, acked-fits _ (msg SetTime 9 (Time (pos 305000001))) (msg Ack 9 Nothing) (peer_of 1) _ _ refl refl refl refl refl refl), tt))
 
-life3 : Life w3
-life3 = (not-came (line 0 1 (Booted 9 (pos 0)) Begins) w2 tt, life2)
+abbrev pub aw11 : List Placed
+aw11 = on port0 (Took (Peer (peer_of 2)) (Good (Message (msg SlaveUp 11 Nothing)))) ∷ (on port0 (Post (Peer (peer_of 2)) (Message (msg SetTime 11 (Time (pos 305000004))))) ∷ [])
 
-life4 : Life w4
-life4 = (not-came (line 0 1 (Booted 9 (pos 0)) (Acts Boot)) w3 tt, life3)
+abbrev pub w11 : List Line
+w11 = then_step (step_at 305000004 0 (Came 1)) aw11 w10
 
-life5 : Life w5
-life5 = (not-came (line 300000000 0 Turned Begins) w4 tt, life4)
+f11 : Fits (still false) w11
+f11 = step-fits false (step_at 305000004 0 (Came 1)) aw11 w10 f10 refl ((refl, (refl, came refl refl refl refl refl)), ((refl, record { rested = inl (omega arith); fits = sets-up (msg SlaveUp 11 Nothing) (omega arith) refl refl refl refl refl refl refl refl (omega (arith, ints)) (omega (arith, ints)) }), tt))
 
-life6 : Life w6
-life6 = (not-came (line 300000000 0 Turned (Acts (Become Master))) w5 tt, life5)
+abbrev pub aw12 : List Placed
+aw12 = on port0 (Took (Peer (peer_of 0)) (Good (Message (msg SetTime 11 (Time (pos 305000004)))))) ∷ (on port0 (Correct (negsuc 0) true (pos 305000004)) ∷ (on port0 (Post (Peer (peer_of 0)) (Message (msg Ack 11 Nothing))) ∷ []))
 
-life7 : Life w7
-life7 = (not-came (line 300000000 1 Turned Begins) w6 tt, life6)
+abbrev pub w12 : List Line
+w12 = then_step (step_at 305000005 2 (Came 4)) aw12 w11
 
-life8 : Life w8
-life8 = (not-came (line 300000000 1 Turned (Acts (Become (Follow (peer_of 0))))) w7 tt, life7)
+f12 : Fits (still false) w12
+f12 = step-fits false (step_at 305000005 2 (Came 4)) aw12 w11 f11 refl ((refl, (refl, came refl refl refl refl refl)), ((refl, corrects-by (peer_of 0) (msg SetTime 11 (Time (pos 305000004))) (omega arith) (omega arith) refl refl refl refl refl refl), ((refl, record { rested = inl (omega arith); fits = record { message = (msg SetTime 11 (Time (pos 305000004))); took = refl; number_is = refl; answers = refl } }), tt)))
 
-life9 : Life w9
-life9 = (not-came (line 300000000 1 Turned (Acts (Post (Peer (peer_of 0)) (Message (msg SlaveUp 9 Nothing))))) w8 tt, life8)
+abbrev pub aw13 : List Placed
+aw13 = on port0 (Took (Peer (peer_of 2)) (Good (Message (msg Ack 11 Nothing)))) ∷ (on port0 (Acked (peer_of 2)) ∷ [])
 
-life10 : Life w10
-life10 = (life-came (line 300000001 0 (Came 0) Begins) w9 0 (line 300000000 1 Turned (Acts (Post (Peer (peer_of 0)) (Message (msg SlaveUp 9 Nothing))))) w8 _ _ (inl refl) refl refl refl (omega arith), life9)
+abbrev pub w13 : List Line
+w13 = then_step (step_at 305000006 0 (Came 5)) aw13 w12
 
-life11 : Life w11
-life11 = (life-came (line 300000001 0 (Came 0) (Acts (Took (Peer (peer_of 1)) (Good (Message (msg SlaveUp 9 Nothing)))))) w10 0 (line 300000000 1 Turned (Acts (Post (Peer (peer_of 0)) (Message (msg SlaveUp 9 Nothing))))) w8 _ _ ((inr (inl refl))) refl refl refl (omega arith), life10)
+f13 : Fits (still false) w13
+f13 = step-fits false (step_at 305000006 0 (Came 5)) aw13 w12 f12 refl ((refl, (refl, came refl refl refl refl refl)), ((refl, acked-fits _ (msg SetTime 11 (Time (pos 305000004))) (msg Ack 11 Nothing) (peer_of 2) _ _ refl refl refl refl refl refl), tt))
 
-life12 : Life w12
-life12 = (life-came (line 300000001 0 (Came 0) (Acts (Post (Peer (peer_of 1)) (Message (msg SetTime 9 (Time (pos 300000100))))))) w11 0 (line 300000000 1 Turned (Acts (Post (Peer (peer_of 0)) (Message (msg SlaveUp 9 Nothing))))) w8 _ _ ((inr (inr (inl refl)))) refl refl refl (omega arith), life11)
+abbrev pub aw14 : List Placed
+aw14 = on port0 (Ring Round) ∷ (on port0 (Arm AlarmClose 408000000) ∷ (on port0 (Post (Peer (peer_of 1)) (Stamp (Request 7 0))) ∷ (on port0 (Post (Peer (peer_of 2)) (Stamp (Request 7 1))) ∷ [])))
 
-life13 : Life w13
-life13 = (life-came (line 300000002 1 (Came 1) Begins) w12 1 (line 300000001 0 (Came 0) (Acts (Post (Peer (peer_of 1)) (Message (msg SetTime 9 (Time (pos 300000100))))))) w11 _ _ (inl refl) refl refl refl (omega arith), life12)
+abbrev pub w14 : List Line
+w14 = then_step (step_at 400000000 0 Turned) aw14 w13
 
-life14 : Life w14
-life14 = (life-came (line 300000002 1 (Came 1) (Acts (Took (Peer (peer_of 0)) (Good (Message (msg SetTime 9 (Time (pos 300000100)))))))) w13 1 (line 300000001 0 (Came 0) (Acts (Post (Peer (peer_of 1)) (Message (msg SetTime 9 (Time (pos 300000100))))))) w11 _ _ ((inr (inl refl))) refl refl refl (omega arith), life13)
+f14 : Fits (still false) w14
+f14 = step-fits false (step_at 400000000 0 Turned) aw14 w13 f13 refl ((refl, tt), ((refl, tt), ((refl, record { rested = inl (omega arith); fits = record { word_is = refl; counter_is = refl } }), ((refl, record { rested = inl (omega arith); fits = record { word_is = refl; counter_is = refl } }), tt))))
 
-life15 : Life w15
-life15 = (life-came (line 300000002 1 (Came 1) (Acts (Correct (pos 98) true (pos 300000100)))) w14 1 (line 300000001 0 (Came 0) (Acts (Post (Peer (peer_of 1)) (Message (msg SetTime 9 (Time (pos 300000100))))))) w11 _ _ ((inr (inr (inl refl)))) refl refl refl (omega arith), life14)
+abbrev pub aw15 : List Placed
+aw15 = on port0 (Took (Peer (peer_of 0)) (Good (Stamp (Request 7 0)))) ∷ (on port0 (Post (Peer (peer_of 0)) (Stamp (Reply reply1))) ∷ [])
 
-life16 : Life w16
-life16 = (life-came (line 300000002 1 (Came 1) (Acts (Post (Peer (peer_of 0)) (Message (msg Ack 9 Nothing))))) w15 1 (line 300000001 0 (Came 0) (Acts (Post (Peer (peer_of 1)) (Message (msg SetTime 9 (Time (pos 300000100))))))) w11 _ _ ((inr (inr (inr (inl refl))))) refl refl refl (omega arith), life15)
+abbrev pub w15 : List Line
+w15 = then_step (step_at 400000300 1 (Came 6)) aw15 w14
 
-life17 : Life w17
-life17 = (life-came (line 300000003 0 (Came 2) Begins) w16 2 (line 300000002 1 (Came 1) (Acts (Post (Peer (peer_of 0)) (Message (msg Ack 9 Nothing))))) w15 _ _ (inl refl) refl refl refl (omega arith), life16)
+f15 : Fits (still false) w15
+f15 = step-fits false (step_at 400000300 1 (Came 6)) aw15 w14 f14 refl ((refl, (refl, came refl refl refl refl refl)), ((refl, record { rested = inl (omega arith); fits = record { took = refl; ticket_is = refl; reading_is = refl } }), tt))
 
-life18 : Life w18
-life18 = (life-came (line 300000003 0 (Came 2) (Acts (Took (Peer (peer_of 1)) (Good (Message (msg Ack 9 Nothing)))))) w17 2 (line 300000002 1 (Came 1) (Acts (Post (Peer (peer_of 0)) (Message (msg Ack 9 Nothing))))) w15 _ _ ((inr (inl refl))) refl refl refl (omega arith), life17)
+abbrev pub aw16 : List Placed
+aw16 = on port0 (Took (Peer (peer_of 0)) (Good (Stamp (Request 7 1)))) ∷ (on port0 (Post (Peer (peer_of 0)) (Stamp (Reply reply2))) ∷ [])
 
-life19 : Life w19
-life19 = (life-came (line 300000003 0 (Came 2) (Acts (Acked (peer_of 1)))) w18 2 (line 300000002 1 (Came 1) (Acts (Post (Peer (peer_of 0)) (Message (msg Ack 9 Nothing))))) w15 _ _ ((inr (inr (inl refl)))) refl refl refl (omega arith), life18)
+abbrev pub w16 : List Line
+w16 = then_step (step_at 400000300 2 (Came 7)) aw16 w15
 
-life20 : Life w20
-life20 = (not-came (line 400000000 0 Turned Begins) w19 tt, life19)
+f16 : Fits (still false) w16
+f16 = step-fits false (step_at 400000300 2 (Came 7)) aw16 w15 f15 refl ((refl, (refl, came refl refl refl refl refl)), ((refl, record { rested = inl (omega arith); fits = record { took = refl; ticket_is = refl; reading_is = refl } }), tt))
 
-life21 : Life w21
-life21 = (not-came (line 400000000 0 Turned (Acts (Ring Round))) w20 tt, life20)
+abbrev pub aw17 : List Placed
+aw17 = on port0 (Took (Peer (peer_of 1)) (Good (Stamp (Reply reply1)))) ∷ (on port0 (Sample (peer_of 1) 0 (negsuc 100) (pos 401) 10) ∷ [])
 
-life22 : Life w22
-life22 = (not-came (line 400000000 0 Turned (Acts (Arm AlarmClose 408000000))) w21 tt, life21)
+abbrev pub w17 : List Line
+w17 = then_step (step_at 400000801 0 (Came 8)) aw17 w16
 
-life23 : Life w23
-life23 = (not-came (line 400000000 0 Turned (Acts (Post (Peer (peer_of 1)) (Stamp (Request 7 0))))) w22 tt, life22)
+f17 : Fits (still false) w17
+f17 = step-fits false (step_at 400000801 0 (Came 8)) aw17 w16 f16 refl ((refl, (refl, came refl refl refl refl refl)), ((refl, samples-by reply1 refl (record { corrects = refl; lives = refl }) refl refl refl refl refl refl refl refl), tt))
 
-life24 : Life w24
-life24 = (life-came (line 400000300 1 (Came 3) Begins) w23 3 (line 400000000 0 Turned (Acts (Post (Peer (peer_of 1)) (Stamp (Request 7 0))))) w22 _ _ (inl refl) refl refl refl (omega arith), life23)
+abbrev pub aw18 : List Placed
+aw18 = on port0 (Took (Peer (peer_of 2)) (Good (Stamp (Reply reply2)))) ∷ (on port0 (Sample (peer_of 2) 1 (negsuc 150) (pos 450) 12) ∷ [])
 
-life25 : Life w25
-life25 = (life-came (line 400000300 1 (Came 3) (Acts (Took (Peer (peer_of 0)) (Good (Stamp (Request 7 0)))))) w24 3 (line 400000000 0 Turned (Acts (Post (Peer (peer_of 1)) (Stamp (Request 7 0))))) w22 _ _ ((inr (inl refl))) refl refl refl (omega arith), life24)
+abbrev pub w18 : List Line
+w18 = then_step (step_at 400000900 0 (Came 9)) aw18 w17
 
-life26 : Life w26
-life26 = (life-came (line 400000300 1 (Came 3) (Acts (Post (Peer (peer_of 0)) (Stamp (Reply (record { ticket = 10; word = 7; counter = 0; reading = pos 400000398 })))))) w25 3 (line 400000000 0 Turned (Acts (Post (Peer (peer_of 1)) (Stamp (Request 7 0))))) w22 _ _ ((inr (inr (inl refl)))) refl refl refl (omega arith), life25)
+f18 : Fits (still false) w18
+f18 = step-fits false (step_at 400000900 0 (Came 9)) aw18 w17 f17 refl ((refl, (refl, came refl refl refl refl refl)), ((refl, samples-by reply2 refl (record { corrects = refl; lives = refl }) refl refl refl refl refl refl refl refl), tt))
 
-life27 : Life w27
-life27 = (life-came (line 400000801 0 (Came 4) Begins) w26 4 (line 400000300 1 (Came 3) (Acts (Post (Peer (peer_of 0)) (Stamp (Reply (record { ticket = 10; word = 7; counter = 0; reading = pos 400000398 })))))) w25 _ _ (inl refl) refl refl refl (omega arith), life26)
+abbrev pub aw19 : List Placed
+aw19 = on port0 (Ring AlarmClose) ∷ (on port0 (Close 3 (negsuc 150) (pos 151) (negsuc 83)) ∷ (on port0 (Correct (negsuc 83) false (pos 408000000)) ∷ (on port0 (Post (Peer (peer_of 1)) (Message (msg AdjTime 10 (Time (pos 17))))) ∷ (on port0 (Post (Peer (peer_of 2)) (Message (msg AdjTime 12 (Time (pos 67))))) ∷ []))))
 
-life28 : Life w28
-life28 = (life-came (line 400000801 0 (Came 4) (Acts (Took (Peer (peer_of 1)) (Good (Stamp (Reply (record { ticket = 10; word = 7; counter = 0; reading = pos 400000398 }))))))) w27 4 (line 400000300 1 (Came 3) (Acts (Post (Peer (peer_of 0)) (Stamp (Reply (record { ticket = 10; word = 7; counter = 0; reading = pos 400000398 })))))) w25 _ _ ((inr (inl refl))) refl refl refl (omega arith), life27)
+abbrev pub w19 : List Line
+w19 = then_step (step_at 408000000 0 Turned) aw19 w18
 
-life29 : Life w29
-life29 = (life-came (line 400000801 0 (Came 4) (Acts (Sample (peer_of 1) 0 (negsuc 1) (pos 401) 10))) w28 4 (line 400000300 1 (Came 3) (Acts (Post (Peer (peer_of 0)) (Stamp (Reply (record { ticket = 10; word = 7; counter = 0; reading = pos 400000398 })))))) w25 _ _ ((inr (inr (inl refl)))) refl refl refl (omega arith), life28)
+f19 : Fits (still false) w19
+f19 = step-fits false (step_at 408000000 0 Turned) aw19 w18 f18 refl ((refl, tt), ((refl, refl), ((refl, record { gap = omega arith; rested = omega arith; why = ByRound (record { close = _; past = _; is = refl; count = 3; lo = negsuc 150; size = pos 151; deed = refl; untaken = refl }) }), ((refl, record { rested = inl (omega arith); fits = adjusts-by (negsuc 83) (msg SetTime 9 (Time (pos 305000001))) (omega arith) refl refl refl refl refl refl refl (omega arith) (record { corrects = refl; lives = refl }) refl refl refl (inr (record { next = _; place = inl refl; stepped = false; shown = pos 408000000; deed = refl })) refl refl refl refl }), ((refl, record { rested = inl (omega arith); fits = adjusts-by (negsuc 83) (msg SetTime 11 (Time (pos 305000004))) (omega arith) refl refl refl refl refl refl refl (omega arith) (record { corrects = refl; lives = refl }) refl refl refl (inr (record { next = _; place = inr (inl refl); stepped = false; shown = pos 408000000; deed = refl })) refl refl refl refl }), tt)))))
 
-life30 : Life w30
-life30 = (not-came (line 408000000 0 Turned Begins) w29 tt, life29)
+abbrev pub aw20 : List Placed
+aw20 = on port0 (Took (Peer (peer_of 0)) (Good (Message (msg AdjTime 10 (Time (pos 17)))))) ∷ (on port0 (Correct (pos 17) false (pos 408000399)) ∷ (on port0 (Post (Peer (peer_of 0)) (Message (msg Ack 10 Nothing))) ∷ []))
 
-life31 : Life w31
-life31 = (not-came (line 408000000 0 Turned (Acts (Ring AlarmClose))) w30 tt, life30)
+abbrev pub w20 : List Line
+w20 = then_step (step_at 408000400 1 (Came 10)) aw20 w19
 
-life32 : Life w32
-life32 = (not-came (line 408000000 0 Turned (Acts (Close 2 (negsuc 1) (pos 2) (negsuc 0)))) w31 tt, life31)
+f20 : Fits (still false) w20
+f20 = step-fits false (step_at 408000400 1 (Came 10)) aw20 w19 f19 refl ((refl, (refl, came refl refl refl refl refl)), ((refl, corrects-by (peer_of 0) (msg AdjTime 10 (Time (pos 17))) (omega arith) (omega arith) refl refl refl refl refl refl), ((refl, record { rested = inl (omega arith); fits = record { message = (msg AdjTime 10 (Time (pos 17))); took = refl; number_is = refl; answers = refl } }), tt)))
 
-life33 : Life w33
-life33 = (not-came (line 408000000 0 Turned (Acts (Correct (negsuc 0) false (pos 408000000)))) w32 tt, life32)
+abbrev pub aw21 : List Placed
+aw21 = on port0 (Took (Peer (peer_of 0)) (Good (Message (msg AdjTime 12 (Time (pos 67)))))) ∷ (on port0 (Correct (pos 67) false (pos 408000499)) ∷ (on port0 (Post (Peer (peer_of 0)) (Message (msg Ack 12 Nothing))) ∷ []))
 
-life34 : Life w34
-life34 = (not-came (line 408000000 0 Turned (Acts (Post (Peer (peer_of 1)) (Message (msg AdjTime 10 (Time (pos 1))))))) w33 tt, life33)
+abbrev pub w21 : List Line
+w21 = then_step (step_at 408000500 2 (Came 11)) aw21 w20
 
-life35 : Life w35
-life35 = (life-came (line 408000400 1 (Came 5) Begins) w34 5 (line 408000000 0 Turned (Acts (Post (Peer (peer_of 1)) (Message (msg AdjTime 10 (Time (pos 1))))))) w33 _ _ (inl refl) refl refl refl (omega arith), life34)
+f21 : Fits (still false) w21
+f21 = step-fits false (step_at 408000500 2 (Came 11)) aw21 w20 f20 refl ((refl, (refl, came refl refl refl refl refl)), ((refl, corrects-by (peer_of 0) (msg AdjTime 12 (Time (pos 67))) (omega arith) (omega arith) refl refl refl refl refl refl), ((refl, record { rested = inl (omega arith); fits = record { message = (msg AdjTime 12 (Time (pos 67))); took = refl; number_is = refl; answers = refl } }), tt)))
 
-life36 : Life w36
-life36 = (life-came (line 408000400 1 (Came 5) (Acts (Took (Peer (peer_of 0)) (Good (Message (msg AdjTime 10 (Time (pos 1)))))))) w35 5 (line 408000000 0 Turned (Acts (Post (Peer (peer_of 1)) (Message (msg AdjTime 10 (Time (pos 1))))))) w33 _ _ ((inr (inl refl))) refl refl refl (omega arith), life35)
+abbrev pub aw22 : List Placed
+aw22 = on port0 (Took (Peer (peer_of 1)) (Good (Message (msg Ack 10 Nothing)))) ∷ (on port0 (Acked (peer_of 1)) ∷ [])
 
-life37 : Life w37
-life37 = (life-came (line 408000400 1 (Came 5) (Acts (Correct (pos 1) false (pos 408000498)))) w36 5 (line 408000000 0 Turned (Acts (Post (Peer (peer_of 1)) (Message (msg AdjTime 10 (Time (pos 1))))))) w33 _ _ ((inr (inr (inl refl)))) refl refl refl (omega arith), life36)
+abbrev pub w22 : List Line
+w22 = then_step (step_at 408000700 0 (Came 12)) aw22 w21
 
-life38 : Life w38
-life38 = (life-came (line 408000400 1 (Came 5) (Acts (Post (Peer (peer_of 0)) (Message (msg Ack 10 Nothing))))) w37 5 (line 408000000 0 Turned (Acts (Post (Peer (peer_of 1)) (Message (msg AdjTime 10 (Time (pos 1))))))) w33 _ _ ((inr (inr (inr (inl refl))))) refl refl refl (omega arith), life37)
+f22 : Fits (still false) w22
+f22 = step-fits false (step_at 408000700 0 (Came 12)) aw22 w21 f21 refl ((refl, (refl, came refl refl refl refl refl)), ((refl, acked-fits _ (msg AdjTime 10 (Time (pos 17))) (msg Ack 10 Nothing) (peer_of 1) _ _ refl refl refl refl refl refl), tt))
 
-life39 : Life w39
-life39 = (life-came (line 408000700 0 (Came 6) Begins) w38 6 (line 408000400 1 (Came 5) (Acts (Post (Peer (peer_of 0)) (Message (msg Ack 10 Nothing))))) w37 _ _ (inl refl) refl refl refl (omega arith), life38)
+abbrev pub aw23 : List Placed
+aw23 = on port0 (Took (Peer (peer_of 2)) (Good (Message (msg Ack 12 Nothing)))) ∷ (on port0 (Acked (peer_of 2)) ∷ [])
 
-life40 : Life w40
-life40 = (life-came (line 408000700 0 (Came 6) (Acts (Took (Peer (peer_of 1)) (Good (Message (msg Ack 10 Nothing)))))) w39 6 (line 408000400 1 (Came 5) (Acts (Post (Peer (peer_of 0)) (Message (msg Ack 10 Nothing))))) w37 _ _ ((inr (inl refl))) refl refl refl (omega arith), life39)
+abbrev pub w23 : List Line
+w23 = then_step (step_at 408000800 0 (Came 13)) aw23 w22
 
-life41 : Life w41
-life41 = (life-came (line 408000700 0 (Came 6) (Acts (Acked (peer_of 1)))) w40 6 (line 408000400 1 (Came 5) (Acts (Post (Peer (peer_of 0)) (Message (msg Ack 10 Nothing))))) w37 _ _ ((inr (inr (inl refl)))) refl refl refl (omega arith), life40)
+f23 : Fits (still false) w23
+f23 = step-fits false (step_at 408000800 0 (Came 13)) aw23 w22 f22 refl ((refl, (refl, came refl refl refl refl refl)), ((refl, acked-fits _ (msg AdjTime 12 (Time (pos 67))) (msg Ack 12 Nothing) (peer_of 2) _ _ refl refl refl refl refl refl), tt))
 
-words : Words w41
-words = (not-boot (line 408000700 0 (Came 6) (Acts (Acked (peer_of 1)))) w40 tt, (not-boot (line 408000700 0 (Came 6) (Acts (Took (Peer (peer_of 1)) (Good (Message (msg Ack 10 Nothing)))))) w39 tt, (not-boot (line 408000700 0 (Came 6) Begins) w38 tt, (not-boot (line 408000400 1 (Came 5) (Acts (Post (Peer (peer_of 0)) (Message (msg Ack 10 Nothing))))) w37 tt, (not-boot (line 408000400 1 (Came 5) (Acts (Correct (pos 1) false (pos 408000498)))) w36 tt, (not-boot (line 408000400 1 (Came 5) (Acts (Took (Peer (peer_of 0)) (Good (Message (msg AdjTime 10 (Time (pos 1)))))))) w35 tt, (not-boot (line 408000400 1 (Came 5) Begins) w34 tt, (not-boot (line 408000000 0 Turned (Acts (Post (Peer (peer_of 1)) (Message (msg AdjTime 10 (Time (pos 1))))))) w33 tt, (not-boot (line 408000000 0 Turned (Acts (Correct (negsuc 0) false (pos 408000000)))) w32 tt, (not-boot (line 408000000 0 Turned (Acts (Close 2 (negsuc 1) (pos 2) (negsuc 0)))) w31 tt, (not-boot (line 408000000 0 Turned (Acts (Ring AlarmClose))) w30 tt, (not-boot (line 408000000 0 Turned Begins) w29 tt, (not-boot (line 400000801 0 (Came 4) (Acts (Sample (peer_of 1) 0 (negsuc 1) (pos 401) 10))) w28 tt, (not-boot (line 400000801 0 (Came 4) (Acts (Took (Peer (peer_of 1)) (Good (Stamp (Reply (record { ticket = 10; word = 7; counter = 0; reading = pos 400000398 }))))))) w27 tt, (not-boot (line 400000801 0 (Came 4) Begins) w26 tt, (not-boot (line 400000300 1 (Came 3) (Acts (Post (Peer (peer_of 0)) (Stamp (Reply (record { ticket = 10; word = 7; counter = 0; reading = pos 400000398 })))))) w25 tt, (not-boot (line 400000300 1 (Came 3) (Acts (Took (Peer (peer_of 0)) (Good (Stamp (Request 7 0)))))) w24 tt, (not-boot (line 400000300 1 (Came 3) Begins) w23 tt, (not-boot (line 400000000 0 Turned (Acts (Post (Peer (peer_of 1)) (Stamp (Request 7 0))))) w22 tt, (not-boot (line 400000000 0 Turned (Acts (Arm AlarmClose 408000000))) w21 tt, (not-boot (line 400000000 0 Turned (Acts (Ring Round))) w20 tt, (not-boot (line 400000000 0 Turned Begins) w19 tt, (not-boot (line 300000003 0 (Came 2) (Acts (Acked (peer_of 1)))) w18 tt, (not-boot (line 300000003 0 (Came 2) (Acts (Took (Peer (peer_of 1)) (Good (Message (msg Ack 9 Nothing)))))) w17 tt, (not-boot (line 300000003 0 (Came 2) Begins) w16 tt, (not-boot (line 300000002 1 (Came 1) (Acts (Post (Peer (peer_of 0)) (Message (msg Ack 9 Nothing))))) w15 tt, (not-boot (line 300000002 1 (Came 1) (Acts (Correct (pos 98) true (pos 300000100)))) w14 tt, (not-boot (line 300000002 1 (Came 1) (Acts (Took (Peer (peer_of 0)) (Good (Message (msg SetTime 9 (Time (pos 300000100)))))))) w13 tt, (not-boot (line 300000002 1 (Came 1) Begins) w12 tt, (not-boot (line 300000001 0 (Came 0) (Acts (Post (Peer (peer_of 1)) (Message (msg SetTime 9 (Time (pos 300000100))))))) w11 tt, (not-boot (line 300000001 0 (Came 0) (Acts (Took (Peer (peer_of 1)) (Good (Message (msg SlaveUp 9 Nothing)))))) w10 tt, (not-boot (line 300000001 0 (Came 0) Begins) w9 tt, (not-boot (line 300000000 1 Turned (Acts (Post (Peer (peer_of 0)) (Message (msg SlaveUp 9 Nothing))))) w8 tt, (not-boot (line 300000000 1 Turned (Acts (Become (Follow (peer_of 0))))) w7 tt, (not-boot (line 300000000 1 Turned Begins) w6 tt, (not-boot (line 300000000 0 Turned (Acts (Become Master))) w5 tt, (not-boot (line 300000000 0 Turned Begins) w4 tt, (second-boot, (not-boot (line 0 1 (Booted 9 (pos 0)) Begins) w2 tt, (first-boot, (not-boot (line 0 0 (Booted 7 (pos 0)) Begins) [] tt, tt)))))))))))))))))))))))))))))))))))))))))
-
--- the Correct that takes the ADJTIME of the Close, by whatever amount
-pub cast-of : (amount : ℤ) (stepped : Bool) (shown : ℤ) → Cast 0 (line 408000000 0 Turned (Acts (Close 2 (negsuc 1) (pos 2) (negsuc 0)))) w31 (negsuc 0) (line 408000400 1 (Came 5) (Acts (Correct amount stepped shown))) w36 (line 400000300 1 (Came 3) (Acts (Post (Peer (peer_of 0)) (Stamp (Reply (record { ticket = 10; word = 7; counter = 0; reading = pos 400000398 })))))) w25 (pos 401)
-cast-of amount stepped shown = record {
-  post = line 408000000 0 Turned (Acts (Post (Peer (peer_of 1)) (Message (msg AdjTime 10 (Time (pos 1))))));
-  before = w33;
-  acts = record { amount = amount; stepped = stepped; shown = shown; correct = refl; place = (inr (inr (inl refl))); datagram = refl; message = (msg AdjTime 10 (Time (pos 1))); deed = refl; took = refl };
-  kind = refl;
-  node = refl;
-  first = did 408000000 0 Turned (Acts (Post (Peer (peer_of 1)) (Message (msg AdjTime 10 (Time (pos 1))))));
-  begun = view port0 (of 0 w33);
-  begins = refl;
-  closes = (inr (inr (inr (inr (inl refl)))));
-  close_node = refl;
-  close_port = refl;
-  sample = (record { counter = 0; diff = negsuc 1; err = pos 401; ticket = 10; trip = pos 801; place = view port0 (of 0 w29) });
-  used = record { place = inr (inl refl); count = 2; lo = negsuc 1; size = pos 2; deed = refl; at = refl; start = _; idle = _; start_is = refl; soon = omega arith; undisturbed = record { corrects = refl; lives = refl }; best_is = refl; number = refl; value = λ k. refl; followed = inr (record { next = _; place = inl refl; stepped = false; shown = pos 408000000; deed = refl }) };
-  err_is = refl;
-  reading = record { line = line 400000801 0 (Came 4) (Acts (Sample (peer_of 1) 0 (negsuc 1) (pos 401) 10)); before = w28; at = (inr (inr (inr (inr (inr (inr (inr (inl refl)))))))); node = refl; port = refl; is = refl; reads = (inr (inr (inl refl))); takes = refl; to = Peer (peer_of 0); datagram = Stamp (Reply (record { ticket = 10; word = 7; counter = 0; reading = pos 400000398 })); deed = refl };
-}
-
-confirms : Confirms w41
-confirms = record { line = line 408000700 0 (Came 6) (Acts (Acked (peer_of 1))); before = w40; place = inl refl; peer = peer_of 1; deed = refl; first = did 408000000 0 Turned (Acts (Post (Peer (peer_of 1)) (Message (msg AdjTime 10 (Time (pos 1)))))); older = view port0 (of 0 w33); is = refl; message = (msg AdjTime 10 (Time (pos 1))); posts = refl; kind = refl }
-
-closes : Closes w41
-closes = record {
-  master = 0;
-  close = line 408000000 0 Turned (Acts (Close 2 (negsuc 1) (pos 2) (negsuc 0)));
-  cpast = w31;
-  mean = negsuc 0;
-  correct = line 408000400 1 (Came 5) (Acts (Correct (pos 1) false (pos 408000498)));
-  past = w36;
-  reading = line 400000300 1 (Came 3) (Acts (Post (Peer (peer_of 0)) (Stamp (Reply (record { ticket = 10; word = 7; counter = 0; reading = pos 400000398 })))));
-  older = w25;
-  err = pos 401;
-  cast = cast-of (pos 1) false (pos 408000498);
-  unchanged = record { within = (inr (inr (inr (inr (inl refl))))); since = record { corrects = refl; lives = refl } };
-  unchanged_but = record { lives = refl; corrects = inr (record { next = line 408000000 0 Turned (Acts (Correct (negsuc 0) false (pos 408000000))); amount = negsuc 0; stepped = false; shown = pos 408000000; place = (inr (inr (inr (inr (inr (inr (inr (inr (inl refl))))))))); node = refl; deed = refl; corrects = refl }) };
-}
-
--- the promises aren't empty
-pub ordinary_use : OrdinaryUse
-ordinary_use = record { setting = still; world = w41; fits = fits41; finished = finished; honest = honest; life = life41; words = words; confirms = confirms; closes = closes }
+pub fits : Fits (still false) w23
+fits = f23

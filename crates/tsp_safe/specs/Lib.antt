@@ -1,6 +1,11 @@
 pub mod Became
 pub mod Broken
+pub mod DateUse
+pub mod Kept
+pub mod LateReply
 pub mod OrdinaryUse
 pub mod OwnFits
+pub mod Relays
 pub mod RivalsMeet
 pub mod Since
+pub mod StrictElections

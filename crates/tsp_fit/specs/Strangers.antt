@@ -1,0 +1,27 @@
+-- Posts to strangers: only what answers one goes to one.
+use Rattle.std.specs.Prelude.{◌≡◌, ℕ, Bool, true, false, All}
+use Rattle.tsp_base.specs.declared.act.Act.{Act}
+use Rattle.tsp_base.specs.declared.act.Act.TheVariants.{Post}
+use Rattle.tsp_base.specs.declared.place.Place.{Place}
+use Rattle.tsp_base.specs.declared.place.Place.TheVariants.{Peer, Stranger}
+use Rattle.tsp_base.specs.History.{Past}
+use Rattle.tsp_rules.specs.Answers.{Given, Turn, Got, answers}
+
+-- whether a datagram comes from, or goes to, somebody who isn't among the peers
+abbrev pub is_stranger : Place → Bool
+is_stranger (Peer p) = false
+is_stranger Stranger = true
+
+-- whether what a step is given comes from a stranger
+abbrev pub is_strange : Given → Bool
+is_strange Turn = false
+is_strange (Got from t) = is_stranger from
+
+-- an act posts to a stranger only where this holds
+abbrev pub IsKnown : Bool → Act → Type 0
+IsKnown strange (Post Stranger datagram) = strange ≡ true
+IsKnown strange _ = Unit {0}
+
+-- a step posts to strangers only where it is given a stranger's datagram
+abbrev pub StrangersAreAnswered : Type 0
+StrangersAreAnswered = (g : Given) (x : ℕ) (past : Past) → All (IsKnown (is_strange g)) (answers g x past)

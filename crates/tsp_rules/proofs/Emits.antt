@@ -1,0 +1,249 @@
+-- Which sorts of acts a row puts, and what rows of such acts leave alone.
+use Rattle.std.specs.Prelude.{◌≡◌, ℕ, ◌==◌, ◌||◌, ◌&&◌, Bool, true, false, if◌then◌else◌, ℤ, List, [], ◌∷◌, ◌++◌, map, refl}
+use Rattle.std.proofs.Common.{sym, ap, true≢false, eqb-true, ◌∙◌}
+use Rattle.tsp_base.specs.declared.act.Act.{Act}
+use Rattle.tsp_base.specs.declared.act.Act.TheVariants.{Boot, Took, Post, Become, Back, Backer, Quit, Arm, Ring, Late, Join, Leave, Rival, Acked, Gave, Sample, Close as CloseAct, Correct, Abandon, Trace}
+use Rattle.tsp_base.specs.declared.alarm.Alarm.{Alarm}
+use Rattle.tsp_base.specs.declared.alarm.Alarm.TheVariants.{Probe, Close}
+use Rattle.tsp_base.specs.declared.datagram.Datagram.{Datagram}
+use Rattle.tsp_base.specs.declared.datagram.Datagram.TheVariants.{Message, Stamp}
+use Rattle.tsp_base.specs.declared.kind.Kind.{Kind}
+use Rattle.tsp_base.specs.declared.kind.Kind.TheVariants.{AdjTime, SetTime, Election, Conflict, Quit as QuitKind, SetDateReq}
+use Rattle.tsp_base.specs.declared.place.PeerId.{PeerId}
+use Rattle.tsp_base.specs.declared.place.Place.{Place}
+use Rattle.tsp_base.specs.declared.role.Role.{Role}
+use Rattle.tsp_base.specs.declared.role.Role.TheVariants.{Follow, Master}
+use Rattle.tsp_base.specs.declared.stamp.Stamp.TheVariants.{Request, Reply}
+use Rattle.tsp_base.specs.History.{Past}
+use Rattle.tsp_base.specs.Performs.{Keeps}
+use Rattle.tsp_base.specs.Rows.{Row, grown, nothing, puts, ◌followed_by◌, either_by, reading, for_each, arms, posts, posts_to_others, posts_back, posts_time, post_of, others}
+use Rattle.tsp_rules.specs.ClockRows.{adjusts, sets}
+
+-- acts that facts tell apart
+pub data Sort : Type 0 where
+  -- Boot, and Took
+  Booting : Sort
+  Taking : Sort
+  -- posts: stamp requests, corrections, sends with an own number, and all others
+  Asking : Sort
+  Correcting : Sort
+  Numbering : Sort
+  Posting : Sort
+  -- changes of the role: to master, to a follower, to another
+  Leading : Sort
+  Following : Sort
+  Changing : Sort
+  -- Back and Quit, and Backer
+  Backing : Sort
+  Counting : Sort
+  -- alarms of a round, and all others
+  Rounding : Sort
+  Alarming : Sort
+  -- Join and Leave, and Rival
+  Tabling : Sort
+  Rivalling : Sort
+  -- Acked, and Gave
+  Acking : Sort
+  Giving : Sort
+  -- Sample, Close, Correct, and Trace
+  Sampling : Sort
+  Closing : Sort
+  Moving : Sort
+  Tracing : Sort
+
+abbrev pub code : Sort → ℕ
+code Booting = 0
+code Taking = 1
+code Asking = 2
+code Correcting = 3
+code Numbering = 4
+code Posting = 5
+code Leading = 6
+code Following = 7
+code Changing = 8
+code Backing = 9
+code Counting = 10
+code Alarming = 11
+code Rounding = 12
+code Tabling = 13
+code Rivalling = 14
+code Acking = 15
+code Giving = 16
+code Sampling = 17
+code Closing = 18
+code Moving = 19
+code Tracing = 20
+
+abbrev pub is_in : Sort → List Sort → Bool
+is_in s [] = false
+is_in s (t ∷ rest) = (code s == code t) || is_in s rest
+
+abbrev pub sort_of_kind : Kind → Sort
+sort_of_kind AdjTime = Correcting
+sort_of_kind SetTime = Correcting
+sort_of_kind Election = Numbering
+sort_of_kind Conflict = Numbering
+sort_of_kind QuitKind = Numbering
+sort_of_kind SetDateReq = Numbering
+sort_of_kind _ = Posting
+
+abbrev pub sort_of_alarm : Alarm → Sort
+sort_of_alarm Probe = Rounding
+sort_of_alarm Close = Rounding
+sort_of_alarm _ = Alarming
+
+abbrev pub sort_of_post : Datagram → Sort
+sort_of_post (Message m) = sort_of_kind m.kind
+sort_of_post (Stamp (Request word counter)) = Asking
+sort_of_post (Stamp (Reply r)) = Posting
+
+abbrev pub sort_of_role : Role → Sort
+sort_of_role Master = Leading
+sort_of_role (Follow p) = Following
+sort_of_role _ = Changing
+
+abbrev pub sort_of : Act → Sort
+sort_of Boot = Booting
+sort_of (Took from t) = Taking
+sort_of (Post to d) = sort_of_post d
+sort_of (Become r) = sort_of_role r
+sort_of (Back p) = Backing
+sort_of (Quit p) = Backing
+sort_of (Backer p) = Counting
+sort_of (Arm a at) = sort_of_alarm a
+sort_of (Ring a) = sort_of_alarm a
+sort_of (Late a) = sort_of_alarm a
+sort_of Abandon = Rounding
+sort_of (Join p) = Tabling
+sort_of (Leave p) = Tabling
+sort_of (Rival p) = Rivalling
+sort_of (Acked p) = Acking
+sort_of (Gave p) = Giving
+sort_of (Sample p counter diff err ticket) = Sampling
+sort_of (CloseAct count lo width mean) = Closing
+sort_of (Correct amount stepped shown) = Moving
+sort_of (Trace on) = Tracing
+
+-- all acts are of these sorts
+abbrev pub AllOf : List Sort → List Act → Type 0
+AllOf sorts [] = Unit {0}
+AllOf sorts (a ∷ rest) = (is_in (sort_of a) sorts ≡ true) × AllOf sorts rest
+
+-- a row puts acts of these sorts alone
+pub record Emits (sorts : List Sort) (row : Row) : Type 0 where
+  pub only : (x : ℕ) (past : Past) → AllOf sorts (row x past)
+
+pub all_append : (sorts : List Sort) (xs ys : List Act) → AllOf sorts xs → AllOf sorts ys → AllOf sorts (xs ++ ys)
+all_append sorts [] ys a b = b
+all_append sorts (x ∷ xs) ys a b = (a.0, all_append sorts xs ys a.1 b)
+
+pub Emits_nothing : {sorts : List Sort} → Emits sorts nothing
+unfolding nothing
+Emits_nothing = record { only = λ x past. tt }
+
+pub Emits_puts : {sorts : List Sort} (a : Act) → is_in (sort_of a) sorts ≡ true → Emits sorts (puts a)
+unfolding puts
+Emits_puts a e = record { only = λ x past. (e, tt) }
+
+pub Emits_then : {sorts : List Sort} (r s : Row) → Emits sorts r → Emits sorts s → Emits sorts (r followed_by s)
+unfolding ◌followed_by◌
+Emits_then {sorts} r s p q = record { only = λ x past. all_append sorts (r x past) (s x (grown x past (r x past))) (p.only x past) (q.only x (grown x past (r x past))) }
+
+pub Emits_either : {sorts : List Sort} (test : ℕ → Past → Bool) (r s : Row) → Emits sorts r → Emits sorts s → Emits sorts (either_by test r s)
+unfolding either_by
+Emits_either {sorts} test r s p q = record { only = λ x past. elim (test x past) as (λ b. AllOf sorts (if b then r x past else s x past)) [ true ↦ p.only x past | false ↦ q.only x past ] }
+
+pub Emits_reading : {sorts : List Sort} {A : Type 0} (fact : ℕ → Past → A) (rows : A → Row) → ((a : A) → Emits sorts (rows a)) → Emits sorts (reading fact rows)
+unfolding reading
+Emits_reading fact rows k = record { only = λ x past. (k (fact x past)).only x past }
+
+pub Emits_each : {sorts : List Sort} {A : Type 0} (r : A → Row) (ps : List A) → ((p : A) → Emits sorts (r p)) → Emits sorts (for_each r ps)
+unfolding for_each
+Emits_each r [] k = Emits_nothing
+Emits_each r (p ∷ ps) k = Emits_then (r p) (for_each r ps) (k p) (Emits_each r ps k)
+
+pub Emits_arms : {sorts : List Sort} (alarm : Alarm) (long : ℕ) → is_in (sort_of_alarm alarm) sorts ≡ true → Emits sorts (arms alarm long)
+unfolding arms
+Emits_arms alarm long e = record { only = λ x past. (e, tt) }
+
+pub Emits_posts : {sorts : List Sort} (p : PeerId) (kind : Kind) (number : ℕ) → is_in (sort_of_kind kind) sorts ≡ true → Emits sorts (posts p kind number)
+unfolding posts
+Emits_posts p kind number e = record { only = λ x past. (e, tt) }
+
+all-map : (sorts : List Sort) (kind : Kind) (number : ℕ) (name : List ℕ) (ps : List PeerId) → is_in (sort_of_kind kind) sorts ≡ true → AllOf sorts (map (post_of kind number name) ps)
+all-map sorts kind number name [] e = tt
+all-map sorts kind number name (p ∷ ps) e = (e, all-map sorts kind number name ps e)
+
+pub Emits_posts_to_others : {sorts : List Sort} (kind : Kind) (number : ℕ) → is_in (sort_of_kind kind) sorts ≡ true → Emits sorts (posts_to_others kind number)
+unfolding posts_to_others
+Emits_posts_to_others {sorts} kind number e = record { only = λ x past. all-map sorts kind number past.name (others past.own past.peers) e }
+
+-- fewer sorts are among more
+abbrev pub is_part : List Sort → List Sort → Bool
+is_part [] all = true
+is_part (s ∷ rest) all = is_in s all && is_part rest all
+
+-- what each act of these sorts keeps a row of them keeps
+keeps-all : {T : Type 0} (sorts : List Sort) (also : Past → T → Type 0) → ((a : Act) → is_in (sort_of a) sorts ≡ true → Keeps also (puts a)) → (acts : List Act) → AllOf sorts acts → (x : ℕ) (past : Past) (state : T) → also past state → also (grown x past acts) state
+unfolding puts
+keeps-all sorts also k [] a x past state h = h
+keeps-all sorts also k (c ∷ rest) a x past state h = keeps-all sorts also k rest a.1 x (grown x past (c ∷ [])) state (k c a.0 x past state h)
+
+pub Keeps_by : {T : Type 0} (sorts : List Sort) (also : Past → T → Type 0) (row : Row) → ((a : Act) → is_in (sort_of a) sorts ≡ true → Keeps also (puts a)) → Emits sorts row → Keeps also row
+Keeps_by sorts also row k e = λ x past state h. keeps-all sorts also k (row x past) (e.only x past) x past state h
+
+pub Emits_posts_back : {sorts : List Sort} (from : Place) (kind : Kind) (number : ℕ) → is_in (sort_of_kind kind) sorts ≡ true → Emits sorts (posts_back from kind number)
+unfolding posts_back
+Emits_posts_back from kind number e = record { only = λ x past. (e, tt) }
+
+pub Emits_posts_time : {sorts : List Sort} (p : PeerId) (kind : Kind) (number : ℕ) (time : ℤ) → is_in (sort_of_kind kind) sorts ≡ true → Emits sorts (posts_time p kind number time)
+unfolding posts_time
+Emits_posts_time p kind number time e = record { only = λ x past. (e, tt) }
+
+pub Emits_adjusts : {sorts : List Sort} (amount : ℤ) → is_in Moving sorts ≡ true → Emits sorts (adjusts amount)
+unfolding adjusts
+Emits_adjusts amount e = record { only = λ x past. (e, tt) }
+
+pub Emits_sets : {sorts : List Sort} (value : ℤ) → is_in Moving sorts ≡ true → Emits sorts (sets value)
+unfolding sets
+Emits_sets value e = record { only = λ x past. (e, tt) }
+
+pub Emits_if : {sorts : List Sort} (b : Bool) (r s : Row) → Emits sorts r → Emits sorts s → Emits sorts (if b then r else s)
+Emits_if true r s p q = p
+Emits_if false r s p q = q
+
+or-false : (a b : Bool) → (a || b) ≡ true → a ≡ false → b ≡ true
+or-false true b h e = absurd (true≢false e)
+or-false false b h e = h
+
+and-left : (a b : Bool) → (a && b) ≡ true → a ≡ true
+and-left true b h = refl
+and-left false b h = absurd (true≢false (sym h))
+
+and-right : (a b : Bool) → (a && b) ≡ true → b ≡ true
+and-right true b h = h
+and-right false b h = absurd (true≢false (sym h))
+
+is_in-code : (s t : Sort) (all : List Sort) → code s ≡ code t → is_in t all ≡ true → is_in s all ≡ true
+is_in-code s t [] e h = h
+is_in-code s t (u ∷ all) e h = by-head (code t == code u) refl (λ k. is_in-code s t all e k) where
+  by-head : (b : Bool) → (code t == code u) ≡ b → (is_in t all ≡ true → is_in s all ≡ true) → ((code s == code u) || is_in s all) ≡ true
+  by-head true k f = (let same : (code s == code u) ≡ true = ap (λ c. c == code u) e ∙ k in rw same refl)
+  by-head false k f =
+      let same : (code s == code u) ≡ false = ap (λ c. c == code u) e ∙ k in
+      rw same (f (or-false (code t == code u) (is_in t all) h k))
+
+is_in-part : (s : Sort) (few all : List Sort) → is_part few all ≡ true → is_in s few ≡ true → is_in s all ≡ true
+is_in-part s [] all p h = absurd (true≢false (sym h))
+is_in-part s (t ∷ few) all p h = by-head (code s == code t) refl (λ k. is_in-part s few all (and-right (is_in t all) (is_part few all) p) k) where
+  by-head : (b : Bool) → (code s == code t) ≡ b → (is_in s few ≡ true → is_in s all ≡ true) → is_in s all ≡ true
+  by-head true k f = is_in-code s t all (eqb-true (code s) (code t) k) (and-left (is_in t all) (is_part few all) p)
+  by-head false k f = f (or-false (code s == code t) (is_in s few) h k)
+
+all-more : (few all : List Sort) (acts : List Act) → is_part few all ≡ true → AllOf few acts → AllOf all acts
+all-more few all [] p h = tt
+all-more few all (a ∷ rest) p h = (is_in-part (sort_of a) few all p h.0, all-more few all rest p h.1)
+
+-- a row of few sorts is one of more
+pub Emits_more : (few : List Sort) {all : List Sort} {row : Row} → is_part few all ≡ true → Emits few row → Emits all row
+Emits_more few {all} {row} p e = record { only = λ x past. all-more few all (row x past) p (e.only x past) }

@@ -1,0 +1,5 @@
+use Rattle.tsp_rules.proofs.ClientsScriptAnswered.{clients-answered}
+use Rattle.tsp_rules.proofs.worked.answers_clients.Goals as goal
+
+pub returns : goal.returns
+returns c = record { clients = clients-answered }

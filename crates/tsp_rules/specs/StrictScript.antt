@@ -1,0 +1,22 @@
+-- Strict elections: a majority wins, half of the peers doesn't.
+use Rattle.std.specs.Prelude.{true, List, [], ◌∷◌, ◌++◌, take}
+use Rattle.tsp_base.specs.declared.act.Act.TheVariants.{Become, Arm, Ring, Gave}
+use Rattle.tsp_base.specs.declared.alarm.Alarm.TheVariants.{Elect, Window}
+use Rattle.tsp_base.specs.declared.role.Role.TheVariants.{Loose}
+use Rattle.tsp_base.specs.Takings.{peer_of as peer}
+use Rattle.tsp_rules.specs.LateClose.{late_close_in_time, fresh_alone}
+use Rattle.tsp_rules.specs.OrdinaryUse.{ordinary_use_a, fresh_a}
+use Rattle.tsp_rules.specs.RivalsScript.{rivals_a, fresh_rival}
+use Rattle.tsp_rules.specs.Scripts.{Event, turn_at, Answered}
+
+-- the window of a candidate ends that nobody of two backs but itself
+abbrev pub outvoted_a : List Event
+outvoted_a =
+    turn_at 0 390000000 (Gave (peer 1) ∷ Ring Window ∷ Become Loose ∷ Arm Elect 690000000 ∷ []) ∷
+    []
+
+-- the rules give the claimed acts at each event
+pub record WinsByMajority : Type 0 where
+  pub wins : Answered (ordinary_use_a) (record fresh_a { strict = true })
+  pub outvoted : Answered (take 4 rivals_a ++ outvoted_a) (record fresh_rival { strict = true })
+  pub alone : Answered (late_close_in_time) (record fresh_alone { strict = true })
