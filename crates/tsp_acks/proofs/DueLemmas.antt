@@ -1,5 +1,5 @@
 -- What the treatment of a due send makes of a station.
-use Rattle.std.specs.Prelude.{◌≡◌, ℕ, ◌+◌, ◌%◌, ◌==◌, ◌&&◌, Bool, true, false, if◌then◌else◌, List, [], ◌∷◌, ◌++◌, Option, Some, None, refl}
+use Rattle.std.specs.Prelude.{◌≡◌, ℕ, ◌<◌, ◌+◌, ◌%◌, ◌==◌, ◌&&◌, Bool, true, false, if◌then◌else◌, List, [], ◌∷◌, ◌++◌, Option, Some, None, refl}
 use Rattle.std.specs.List.{Contains}
 use Rattle.std.proofs.Common.{sym, ◌∙◌, ap, arith, eqb-true}
 use Rattle.std.proofs.Math.Bool.{and-false}
@@ -19,15 +19,15 @@ use Rattle.tsp_base.specs.Rows.{grown, nothing, puts}
 use Rattle.tsp_base.specs.SendFacts.{again, begun, has_own_number, is_given_up, is_numbered, message_at, message_of, open_send, open_to, open_to_after, posts_of, Sending, sending_at, sending_of}
 use Rattle.tsp_base.proofs.PerformsLemmas.{Performs_else_part, Performs_nothing, Performs_reading, Performs_then_part}
 use Rattle.tsp_base.proofs.SendLemmas.{seen_act, open_send-gave, open_send-repeats}
-use Rattle.tsp_rules.specs.SendRows.{is_send_due, is_spent, open_at, repeats}
-use Rattle.tsp_rules.specs.SoFar.{due_send_so_far, treats_send_so_far}
+use Rattle.tsp_rules.specs.SendRows.{bare_send, is_send_due, is_spent, open_at, repeats, treats_bare_send}
 use Rattle.tsp_sends.specs.declared.due.Due.{Due}
 use Rattle.tsp_sends.specs.declared.due.Due.TheVariants.{Again, Gave}
 use Rattle.tsp_sends.specs.declared.slot.Slot.{Slot}
 use Rattle.tsp_sends.specs.Slots.{peers_of, sending_to, SetsOnly}
-use Rattle.tsp_sends.specs.Treating.{IsAfter, is_due_send, treated, TreatsNext}
+use Rattle.tsp_sends.specs.Treating.{IsAfter, is_due_send, peer_of, treated, TreatsNext}
 use Rattle.tsp_sends.proofs.SlotLemmas.{sending_to-found}
 use Rattle.tsp_acks.specs.declared.station.Station.{Station}
+use Rattle.tsp_acks.specs.Changes.{ChangesSends}
 use Rattle.tsp_acks.specs.Stands.{StandsStill}
 
 -- no message, or one that is a numbered send
@@ -71,29 +71,22 @@ open_send-numbered p seen s e = at_place (open_to p seen) (posts_of p seen) (IsN
   at_place (Here d ∷ before) n k e = of_message (message_of d.deed) d.tick n k e
   at_place (Elsewhere d ∷ before) n k e = of_message (message_of d.deed) d.tick n k e
 
--- all but the sends is the same
-pub record KeepsRest (before after : Station) : Type 0 where
-  pub me : after.me ≡ before.me
-  pub role : after.role ≡ before.role
-  pub hold : after.hold ≡ before.hold
-  pub alarms : after.alarms ≡ before.alarms
-  pub peers : after.peers ≡ before.peers
-  pub begun : after.begun ≡ before.begun
-
 -- a send is given up
-pub StandsStill_gave : (p : PeerId) (x : ℕ) (past : Past) (before after : Station) → KeepsRest before after → SetsOnly p None before.sends after.sends → StandsStill past (before, tt) → StandsStill (grown x past (GaveAct p ∷ [])) (after, tt)
-StandsStill_gave p x past before after t only h = record {
+pub StandsStill_gave : (p : PeerId) (x : ℕ) (past : Past) (before after : Station) → ChangesSends before after → after.begun ≡ before.begun → SetsOnly p None before.sends after.sends → StandsStill past (before, tt) → StandsStill (grown x past (GaveAct p ∷ [])) (after, tt)
+StandsStill_gave p x past before after t count only h = record {
   first = record {
     own = ap (λ i. i.own) t.me ∙ h.first.own;
     name = ap (λ i. i.name) t.me ∙ h.first.name;
     may = ap (λ i. i.may) t.me ∙ h.first.may;
+    strict = ap (λ i. i.strict) t.me ∙ h.first.strict;
     peers = t.peers ∙ h.first.peers;
     word = ap (λ i. i.word) t.me ∙ h.first.word;
     role = t.role ∙ h.first.role;
     alarms = t.alarms ∙ h.first.alarms;
     hold = t.hold ∙ h.first.hold;
     sends = λ q. only q ∙ ap (λ o. if p.0 == q.0 then None else o) (h.first.sends q) ∙ sym (open_send-gave past.step x q p past.seen);
-    begun = t.begun ∙ h.first.begun;
+    begun = count ∙ h.first.begun;
+    backers = t.backers ∙ h.first.backers;
   };
   second = h.second;
 }
@@ -110,15 +103,16 @@ again-only p q s keep true e k =
 again-only p q s keep false e k = refl
 
 -- a send is posted again
-pub StandsStill_repeats : (p : PeerId) (s : Sending) (x : ℕ) (past : Past) (before after : Station) → sending_to before.sends p ≡ Some s → KeepsRest before after
+pub StandsStill_repeats : (p : PeerId) (s : Sending) (x : ℕ) (past : Past) (before after : Station) → sending_to before.sends p ≡ Some s → ChangesSends before after → after.begun ≡ before.begun
     → SetsOnly p (Some (record s { posts = s.posts + 1 })) before.sends after.sends → StandsStill past (before, tt) → StandsStill (grown x past (Post (Peer p) (Message s.message) ∷ [])) (after, tt)
-StandsStill_repeats p s x past before after is t only h =
+StandsStill_repeats p s x past before after is t count only h =
     let open_is : open_send p past.seen ≡ Some s = sym (h.first.sends p) ∙ is in
     record {
       first = record {
         own = ap (λ i. i.own) t.me ∙ h.first.own;
         name = ap (λ i. i.name) t.me ∙ h.first.name;
         may = ap (λ i. i.may) t.me ∙ h.first.may;
+        strict = ap (λ i. i.strict) t.me ∙ h.first.strict;
         peers = t.peers ∙ h.first.peers;
         word = ap (λ i. i.word) t.me ∙ h.first.word;
         role = t.role ∙ h.first.role;
@@ -128,15 +122,11 @@ StandsStill_repeats p s x past before after is t only h =
             only q ∙ again-only p q s (sending_to before.sends q) (p.0 == q.0) refl (λ same. ap (sending_to before.sends) (sym same) ∙ is)
             ∙ ap (λ o. if p.0 == q.0 then again o else o) (h.first.sends q)
             ∙ sym (open_send-repeats past.step x q p s.message past.seen (open_send-numbered p past.seen s open_is) h.second);
-        begun = t.begun ∙ h.first.begun ∙ ap (λ n. n % 32768) (sym (begun-repeats past.step x p s.message past.seen h.second));
+        backers = t.backers ∙ h.first.backers;
+        begun = count ∙ h.first.begun ∙ ap (λ n. n % 32768) (sym (begun-repeats past.step x p s.message past.seen h.second));
       };
       second = h.second;
     }
-
--- whom a due send is to
-abbrev pub peer_of : Due → PeerId
-peer_of (Again p m) = p
-peer_of (Gave p k) = p
 
 -- what is put for a due send
 abbrev pub act_of : Due → Act
@@ -162,42 +152,48 @@ next_peer after x slots new due peers t slots_are =
     rw (is, ← slots_are) (has_slot slots t.0 t.1 t.2.sending, t.2.later)
 
 -- a due send is given up
-gives_row : (p : PeerId) (s : Sending) (x : ℕ) (port : Port) (before after : Station) (old new : List Placed) → sending_to before.sends p ≡ Some s → is_due_send x (Some s) ≡ true → is_given_up s x ≡ true → KeepsRest before after
-    → SetsOnly p None before.sends after.sends → new ≡ old ++ record { port = port; act = GaveAct p } ∷ [] → Performs StandsStill StandsStill (due_send_so_far p) x port (before, tt) (after, tt) old new
-unfolding due_send_so_far treats_send_so_far puts
-gives_row p s x port before after old new is due spent t only put =
-    Performs_reading (open_at p) (treats_send_so_far p) (Some s) (λ past h. sym (h.first.sends p) ∙ is)
+gives_row : (p : PeerId) (s : Sending) (x : ℕ) (port : Port) (before after : Station) (old new : List Placed) → sending_to before.sends p ≡ Some s → is_due_send x (Some s) ≡ true → is_given_up s x ≡ true → ChangesSends before after → after.begun ≡ before.begun
+    → SetsOnly p None before.sends after.sends → new ≡ old ++ record { port = port; act = GaveAct p } ∷ [] → Performs StandsStill StandsStill (bare_send p) x port (before, tt) (after, tt) old new
+unfolding bare_send treats_bare_send puts
+gives_row p s x port before after old new is due spent t count only put =
+    Performs_reading (open_at p) (treats_bare_send p) (Some s) (λ past h. sym (h.first.sends p) ∙ is)
     (Performs_then_part (is_send_due s) nothing (λ past h. due)
     (Performs_then_part (is_spent s) (repeats p s.message) (λ past h. spent)
-    (record { acts = λ past h. put; stands = λ past h. StandsStill_gave p x past before after t only h })))
+    (record { acts = λ past h. put; stands = λ past h. StandsStill_gave p x past before after t count only h })))
 
 -- a due send is posted again
-repeats_row : (p : PeerId) (s : Sending) (x : ℕ) (port : Port) (before after : Station) (old new : List Placed) → sending_to before.sends p ≡ Some s → is_due_send x (Some s) ≡ true → is_given_up s x ≡ false → KeepsRest before after
+repeats_row : (p : PeerId) (s : Sending) (x : ℕ) (port : Port) (before after : Station) (old new : List Placed) → sending_to before.sends p ≡ Some s → is_due_send x (Some s) ≡ true → is_given_up s x ≡ false → ChangesSends before after → after.begun ≡ before.begun
     → SetsOnly p (Some (record s { posts = s.posts + 1 })) before.sends after.sends → new ≡ old ++ record { port = port; act = Post (Peer p) (Message s.message) } ∷ []
-    → Performs StandsStill StandsStill (due_send_so_far p) x port (before, tt) (after, tt) old new
-unfolding due_send_so_far treats_send_so_far repeats puts
-repeats_row p s x port before after old new is due fresh t only put =
-    Performs_reading (open_at p) (treats_send_so_far p) (Some s) (λ past h. sym (h.first.sends p) ∙ is)
+    → Performs StandsStill StandsStill (bare_send p) x port (before, tt) (after, tt) old new
+unfolding bare_send treats_bare_send repeats puts
+repeats_row p s x port before after old new is due fresh t count only put =
+    Performs_reading (open_at p) (treats_bare_send p) (Some s) (λ past h. sym (h.first.sends p) ∙ is)
     (Performs_then_part (is_send_due s) nothing (λ past h. due)
     (Performs_else_part (is_spent s) (puts (GaveAct p)) (λ past h. fresh)
-    (record { acts = λ past h. put; stands = λ past h. StandsStill_repeats p s x past before after is t only h })))
+    (record { acts = λ past h. put; stands = λ past h. StandsStill_repeats p s x past before after is t count only h })))
 
 -- the next due send is treated as the row of its peer says
-pub Performs_due : (last : Option PeerId) (x : ℕ) (port : Port) (due : Due) (before after : Station) (old new : List Placed) → TreatsNext last x before.sends after.sends (Some due) → KeepsRest before after
-    → new ≡ old ++ record { port = port; act = act_of due } ∷ [] → Performs StandsStill StandsStill (due_send_so_far (peer_of due)) x port (before, tt) (after, tt) old new
-Performs_due last x port due before after old new t rest put = rw is (by_test (is_given_up t.1 x) refl t.3 t.4) where
+pub Performs_due : (last : Option PeerId) (x : ℕ) (port : Port) (due : Due) (before after : Station) (old new : List Placed) → TreatsNext last x before.sends after.sends (Some due) → ChangesSends before after → after.begun ≡ before.begun
+    → new ≡ old ++ record { port = port; act = act_of due } ∷ [] → Performs StandsStill StandsStill (bare_send (peer_of due)) x port (before, tt) (after, tt) old new
+Performs_due last x port due before after old new t rest count put = rw is (by_test (is_given_up t.1 x) refl t.3 t.4) where
   is : peer_of due ≡ t.0
   is = ap peer_of t.3 ∙ peer_of-treated t.0 x t.1
 
   by_test : (b : Bool) → is_given_up t.1 x ≡ b → due ≡ (if b then Gave t.0 t.1.message.kind else Again t.0 t.1.message)
-      → SetsOnly t.0 (if b then None else Some (record t.1 { posts = t.1.posts + 1 })) before.sends after.sends → Performs StandsStill StandsStill (due_send_so_far t.0) x port (before, tt) (after, tt) old new
-  by_test true b e only = gives_row t.0 t.1 x port before after old new t.2.sending t.2.due b rest only (put ∙ ap (λ d. old ++ record { port = port; act = act_of d } ∷ []) e)
-  by_test false b e only = repeats_row t.0 t.1 x port before after old new t.2.sending t.2.due b rest only (put ∙ ap (λ d. old ++ record { port = port; act = act_of d } ∷ []) e)
+      → SetsOnly t.0 (if b then None else Some (record t.1 { posts = t.1.posts + 1 })) before.sends after.sends → Performs StandsStill StandsStill (bare_send t.0) x port (before, tt) (after, tt) old new
+  by_test true b e only = gives_row t.0 t.1 x port before after old new t.2.sending t.2.due b rest count only (put ∙ ap (λ d. old ++ record { port = port; act = act_of d } ∷ []) e)
+  by_test false b e only = repeats_row t.0 t.1 x port before after old new t.2.sending t.2.due b rest count only (put ∙ ap (λ d. old ++ record { port = port; act = act_of d } ∷ []) e)
+
+-- no peer before the next one with a due send has one, and none has where there is no next one
+pub none_before : (after : Option PeerId) (x : ℕ) (slots new : List Slot) (due : Due) → TreatsNext after x slots new (Some due) → (q : PeerId) → IsAfter after q → q.0 < (peer_of due).0 → is_due_send x (sending_to slots q) ≡ false
+none_before after x slots new due t q later below =
+    let is : peer_of due ≡ t.0 = ap peer_of t.3 ∙ peer_of-treated t.0 x t.1 in
+    t.2.first q later (rw (← is) below)
 
 -- nothing is done for a send that isn't due
-pub Performs_not_due : (p : PeerId) (x : ℕ) (port : Port) (station : Station) (old : List Placed) → is_due_send x (sending_to station.sends p) ≡ false → Performs StandsStill StandsStill (due_send_so_far p) x port (station, tt) (station, tt) old old
-unfolding due_send_so_far treats_send_so_far
-Performs_not_due p x port station old late = Performs_reading (open_at p) (treats_send_so_far p) (sending_to station.sends p) (λ past h. sym (h.first.sends p)) (by_send (sending_to station.sends p) late) where
-  by_send : (o : Option Sending) → is_due_send x o ≡ false → Performs StandsStill StandsStill (treats_send_so_far p o) x port (station, tt) (station, tt) old old
+pub Performs_not_due : (p : PeerId) (x : ℕ) (port : Port) (station : Station) (old : List Placed) → is_due_send x (sending_to station.sends p) ≡ false → Performs StandsStill StandsStill (bare_send p) x port (station, tt) (station, tt) old old
+unfolding bare_send treats_bare_send
+Performs_not_due p x port station old late = Performs_reading (open_at p) (treats_bare_send p) (sending_to station.sends p) (λ past h. sym (h.first.sends p)) (by_send (sending_to station.sends p) late) where
+  by_send : (o : Option Sending) → is_due_send x o ≡ false → Performs StandsStill StandsStill (treats_bare_send p o) x port (station, tt) (station, tt) old old
   by_send None e = Performs_nothing
   by_send (Some s) e = Performs_else_part (is_send_due s) _ (λ past h. e) Performs_nothing

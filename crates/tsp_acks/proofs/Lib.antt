@@ -1,5 +1,8 @@
+pub mod ActingLemmas
 pub mod BeyondLemmas
+pub mod ChangeLemmas
 pub mod DueLemmas
+pub mod EndingLemmas
 pub mod PeerLemmas
 pub mod PostLemmas
 pub mod SendingLemmas

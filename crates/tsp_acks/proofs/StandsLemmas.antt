@@ -3,10 +3,10 @@ use Rattle.std.specs.Prelude.{◌≡◌, ℕ, ◌%◌, Bool, true, false, List, 
 use Rattle.std.proofs.Common.{sym, ◌∙◌, ap}
 use Rattle.std.proofs.lemmas.Bool.{false≢true}
 use Rattle.tsp_base.specs.declared.act.Act.{Act}
-use Rattle.tsp_base.specs.declared.act.Act.TheVariants.{Took, Post, Backer, Join, Leave, Rival, Sample, Close, Correct, Trace}
+use Rattle.tsp_base.specs.declared.act.Act.TheVariants.{Took, Post, Join, Leave, Rival, Sample, Close, Correct, Trace}
 use Rattle.tsp_base.specs.declared.datagram.Datagram.TheVariants.{Message, Stamp as StampOf}
 use Rattle.tsp_base.specs.declared.kind.Kind.{Kind}
-use Rattle.tsp_base.specs.declared.kind.Kind.TheVariants.{Election, Conflict, Quit}
+use Rattle.tsp_base.specs.declared.kind.Kind.TheVariants.{Election, Conflict, Quit, SetDateReq}
 use Rattle.tsp_base.specs.declared.place.PeerId.{PeerId}
 use Rattle.tsp_base.specs.declared.place.Place.{Place}
 use Rattle.tsp_base.specs.declared.place.Place.TheVariants.{Peer, Stranger}
@@ -25,6 +25,7 @@ own-unnumbered : (k : Kind) → is_numbered k ≡ false → has_own_number k ≡
 own-unnumbered Election n = absurd (false≢true (sym n))
 own-unnumbered Conflict n = absurd (false≢true (sym n))
 own-unnumbered Quit n = absurd (false≢true (sym n))
+own-unnumbered SetDateReq n = absurd (false≢true (sym n))
 own-unnumbered _ n = refl
 
 begun-unnumbered : (step : Step) (x : ℕ) (to : Place) (m : MessageValue) (seen : List Seen) → is_numbered m.kind ≡ false → begun (seen_act step x (Post to (Message m)) ∷ seen) ≡ begun seen
@@ -36,6 +37,7 @@ Stands_post to m x past station n s = record {
   own = s.own;
   name = s.name;
   may = s.may;
+  strict = s.strict;
   peers = s.peers;
   word = s.word;
   role = s.role;
@@ -43,12 +45,13 @@ Stands_post to m x past station n s = record {
   hold = s.hold;
   sends = λ p. s.sends p ∙ sym (open_send-unnumbered past.step x p to m past.seen n);
   begun = s.begun ∙ ap (λ n. n % 32768) (sym (begun-unnumbered past.step x to m past.seen n));
+  backers = s.backers;
 }
 
 -- the post of a stamp
 pub Stands_stamp : (to : Place) (stamp : Stamp) (x : ℕ) (past : Past) (station : Station) → Stands past station → Stands (grown x past (Post to (StampOf stamp) ∷ [])) station
-Stands_stamp (Peer q) stamp x past station s = record { own = s.own; name = s.name; may = s.may; peers = s.peers; word = s.word; role = s.role; alarms = s.alarms; hold = s.hold; sends = s.sends; begun = s.begun }
-Stands_stamp Stranger stamp x past station s = record { own = s.own; name = s.name; may = s.may; peers = s.peers; word = s.word; role = s.role; alarms = s.alarms; hold = s.hold; sends = s.sends; begun = s.begun }
+Stands_stamp (Peer q) stamp x past station s = record { own = s.own; name = s.name; may = s.may; strict = s.strict; peers = s.peers; word = s.word; role = s.role; alarms = s.alarms; hold = s.hold; sends = s.sends; begun = s.begun; backers = s.backers }
+Stands_stamp Stranger stamp x past station s = record { own = s.own; name = s.name; may = s.may; strict = s.strict; peers = s.peers; word = s.word; role = s.role; alarms = s.alarms; hold = s.hold; sends = s.sends; begun = s.begun; backers = s.backers }
 
 -- posts of a message that is no numbered send
 pub Stands-posts : (kind : Kind) (number : ℕ) (name : List ℕ) (ps : List PeerId) (x : ℕ) (past : Past) (station : Station) →
@@ -60,7 +63,6 @@ Stands-posts kind number name (p ∷ ps) x past station n s =
 -- acts of other parts of a port
 abbrev pub is_idle : Act → Bool
 is_idle (Took from taken) = true
-is_idle (Backer p) = true
 is_idle (Join p) = true
 is_idle (Leave p) = true
 is_idle (Rival p) = true
@@ -72,13 +74,12 @@ is_idle _ = false
 
 pub Stands_idle : (a : Act) → is_idle a ≡ true → Keeps Stands (puts a)
 unfolding puts
-Stands_idle (Took from taken) i x past station s = record { own = s.own; name = s.name; may = s.may; peers = s.peers; word = s.word; role = s.role; alarms = s.alarms; hold = s.hold; sends = s.sends; begun = s.begun }
-Stands_idle (Backer p) i x past station s = record { own = s.own; name = s.name; may = s.may; peers = s.peers; word = s.word; role = s.role; alarms = s.alarms; hold = s.hold; sends = s.sends; begun = s.begun }
-Stands_idle (Join p) i x past station s = record { own = s.own; name = s.name; may = s.may; peers = s.peers; word = s.word; role = s.role; alarms = s.alarms; hold = s.hold; sends = s.sends; begun = s.begun }
-Stands_idle (Leave p) i x past station s = record { own = s.own; name = s.name; may = s.may; peers = s.peers; word = s.word; role = s.role; alarms = s.alarms; hold = s.hold; sends = s.sends; begun = s.begun }
-Stands_idle (Rival p) i x past station s = record { own = s.own; name = s.name; may = s.may; peers = s.peers; word = s.word; role = s.role; alarms = s.alarms; hold = s.hold; sends = s.sends; begun = s.begun }
-Stands_idle (Sample peer counter diff err ticket) i x past station s = record { own = s.own; name = s.name; may = s.may; peers = s.peers; word = s.word; role = s.role; alarms = s.alarms; hold = s.hold; sends = s.sends; begun = s.begun }
-Stands_idle (Close count lo width mean) i x past station s = record { own = s.own; name = s.name; may = s.may; peers = s.peers; word = s.word; role = s.role; alarms = s.alarms; hold = s.hold; sends = s.sends; begun = s.begun }
-Stands_idle (Correct amount stepped shown) i x past station s = record { own = s.own; name = s.name; may = s.may; peers = s.peers; word = s.word; role = s.role; alarms = s.alarms; hold = s.hold; sends = s.sends; begun = s.begun }
-Stands_idle (Trace on) i x past station s = record { own = s.own; name = s.name; may = s.may; peers = s.peers; word = s.word; role = s.role; alarms = s.alarms; hold = s.hold; sends = s.sends; begun = s.begun }
+Stands_idle (Took from taken) i x past station s = record { own = s.own; name = s.name; may = s.may; strict = s.strict; peers = s.peers; word = s.word; role = s.role; alarms = s.alarms; hold = s.hold; sends = s.sends; begun = s.begun; backers = s.backers }
+Stands_idle (Join p) i x past station s = record { own = s.own; name = s.name; may = s.may; strict = s.strict; peers = s.peers; word = s.word; role = s.role; alarms = s.alarms; hold = s.hold; sends = s.sends; begun = s.begun; backers = s.backers }
+Stands_idle (Leave p) i x past station s = record { own = s.own; name = s.name; may = s.may; strict = s.strict; peers = s.peers; word = s.word; role = s.role; alarms = s.alarms; hold = s.hold; sends = s.sends; begun = s.begun; backers = s.backers }
+Stands_idle (Rival p) i x past station s = record { own = s.own; name = s.name; may = s.may; strict = s.strict; peers = s.peers; word = s.word; role = s.role; alarms = s.alarms; hold = s.hold; sends = s.sends; begun = s.begun; backers = s.backers }
+Stands_idle (Sample peer counter diff err ticket) i x past station s = record { own = s.own; name = s.name; may = s.may; strict = s.strict; peers = s.peers; word = s.word; role = s.role; alarms = s.alarms; hold = s.hold; sends = s.sends; begun = s.begun; backers = s.backers }
+Stands_idle (Close count lo width mean) i x past station s = record { own = s.own; name = s.name; may = s.may; strict = s.strict; peers = s.peers; word = s.word; role = s.role; alarms = s.alarms; hold = s.hold; sends = s.sends; begun = s.begun; backers = s.backers }
+Stands_idle (Correct amount stepped shown) i x past station s = record { own = s.own; name = s.name; may = s.may; strict = s.strict; peers = s.peers; word = s.word; role = s.role; alarms = s.alarms; hold = s.hold; sends = s.sends; begun = s.begun; backers = s.backers }
+Stands_idle (Trace on) i x past station s = record { own = s.own; name = s.name; may = s.may; strict = s.strict; peers = s.peers; word = s.word; role = s.role; alarms = s.alarms; hold = s.hold; sends = s.sends; begun = s.begun; backers = s.backers }
 Stands_idle _ i x past station s = absurd (false≢true i)

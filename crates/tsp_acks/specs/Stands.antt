@@ -1,12 +1,12 @@
 -- What a station stands for.
-use Rattle.std.specs.Prelude.{◌≡◌, ℕ, ◌%◌, true, false, None, List}
+use Rattle.std.specs.Prelude.{◌≡◌, ℕ, ◌+◌, ◌%◌, min, true, false, None, List, length}
 use Rattle.tsp_base.specs.declared.place.PeerId.{PeerId}
 use Rattle.tsp_base.specs.declared.role.Role.TheVariants.{Starting}
 use Rattle.tsp_base.specs.Alarms.{none_armed}
 use Rattle.tsp_base.specs.History.{Past, plain}
 use Rattle.tsp_base.specs.NodeFacts.{word}
 use Rattle.tsp_base.specs.Performs.{Beside}
-use Rattle.tsp_base.specs.PortFacts.{role, armed, held, acting}
+use Rattle.tsp_base.specs.PortFacts.{role, armed, held, backers, acting}
 use Rattle.tsp_base.specs.SendFacts.{open_send, begun}
 use Rattle.tsp_sends.specs.Slots.{sending_to}
 use Rattle.tsp_acks.specs.declared.me.Me.{Me}
@@ -17,6 +17,7 @@ pub record Stands (past : Past) (station : Station) : Type 0 where
   pub own : station.me.own ≡ past.own
   pub name : station.me.name ≡ past.name
   pub may : station.me.may ≡ past.may
+  pub strict : station.me.strict ≡ past.strict
   pub peers : station.peers ≡ past.peers
   pub word : station.me.word ≡ word (plain past.seen)
   pub role : station.role ≡ role past.seen
@@ -24,6 +25,11 @@ pub record Stands (past : Past) (station : Station) : Type 0 where
   pub hold : station.hold ≡ held past.seen
   pub sends : (p : PeerId) → sending_to station.sends p ≡ open_send p past.seen
   pub begun : station.begun ≡ begun past.seen % 32768
+  pub backers : station.backers ≡ min (length (backers past.seen)) 4294967295
+
+-- the number of the station's next send with a number of the port's own
+abbrev pub own_number : Station → ℕ
+own_number station = 32768 + (station.me.word + station.begun) % 32768
 
 -- this step has rung an alarm, found one late or taken a datagram: a numbered message that is posted now begins a send
 abbrev pub HasActed : Past → Unit {0} → Type 0
@@ -46,6 +52,7 @@ pub record IsPortOf (me : Me) (peers : List PeerId) (past : Past) : Type 0 where
   pub own : me.own ≡ past.own
   pub name : me.name ≡ past.name
   pub may : me.may ≡ past.may
+  pub strict : me.strict ≡ past.strict
   pub peers_are : peers ≡ past.peers
 
 -- the station of a node that has just booted at a tick
@@ -56,4 +63,5 @@ pub record IsFresh (me : Me) (peers : List PeerId) (tick : ℕ) (station : Stati
   pub sends_are : (p : PeerId) → sending_to station.sends p ≡ None
   pub alarms_are : station.alarms ≡ none_armed
   pub begun_is : station.begun ≡ 0
+  pub backers_is : station.backers ≡ 0
   pub peers_are : station.peers ≡ peers

@@ -1,9 +1,10 @@
 //! The acts that change a station: each puts its act and makes the change, in one place.
-ghost use Rattle.std.specs.Prelude.{◌≡◌, ℕ, ◌+◌, ◌≤◌, ◌<◌, ◌^◌, length, Some, None};
-ghost use Rattle.tsp_base.specs.declared.act.Act.TheVariants.{Become, Ring, Late, Back, Quit, Abandon};
+ghost use Rattle.std.specs.Prelude.{◌≡◌, ℕ, ◌+◌, ◌≤◌, ◌<◌, ◌^◌, min, Some, None};
+ghost use Rattle.tsp_base.specs.declared.act.Act.TheVariants.{Become, Ring, Late, Back, Backer, Quit, Abandon};
 ghost use Rattle.tsp_base.specs.declared.alarm.Alarm.TheVariants.{Probe, Close, Elect};
 ghost use Rattle.tsp_base.specs.declared.place.PeerId.{PeerId};
 ghost use Rattle.tsp_base.specs.Alarms.{with_deadline, none_armed};
+ghost use Rattle.tsp_base.specs.Frames.{IsTick, PutsAtMost};
 ghost use Rattle.tsp_base.specs.Performs.{Performs};
 ghost use Rattle.tsp_base.specs.Rows.{puts, arms};
 ghost use Rattle.tsp_rules.specs.CommonRows.{arms_elect};
@@ -28,8 +29,7 @@ impl Station {
         requires end { tick + long < 2 ^ 64 }
         ensures row { Performs Stands Stands (arms alarm long) tick port self.old self.new (D.acts desk.old) (D.acts desk.new) }
         ensures station { self.new ≡ record self.old { alarms = with_deadline self.old.alarms alarm (Some (tick + long)) } }
-        ensures spare { D.spare desk.new + 1 ≡ D.spare desk.old }
-        ensures few { length (D.acts desk.new) ≡ length (D.acts desk.old) + 1 }
+        ensures room { PutsAtMost 1 (D.spare desk.old) (D.spare desk.new) (D.acts desk.old) (D.acts desk.new) }
     {
         let at = tick + long;
         desk.put(port, Act::Arm(alarm, at));
@@ -41,8 +41,7 @@ impl Station {
         requires room { 1 ≤ D.spare desk.old }
         ensures row { (x : ℕ) → Performs Stands Stands (puts (Ring alarm)) x port self.old self.new (D.acts desk.old) (D.acts desk.new) }
         ensures station { self.new ≡ record self.old { alarms = with_deadline self.old.alarms alarm None } }
-        ensures spare { D.spare desk.new + 1 ≡ D.spare desk.old }
-        ensures few { length (D.acts desk.new) ≡ length (D.acts desk.old) + 1 }
+        ensures room { PutsAtMost 1 (D.spare desk.old) (D.spare desk.new) (D.acts desk.old) (D.acts desk.new) }
     {
         desk.put(port, Act::Ring(alarm));
         self.alarms.off(alarm);
@@ -53,8 +52,7 @@ impl Station {
         requires room { 1 ≤ D.spare desk.old }
         ensures row { (x : ℕ) → Performs Stands Stands (puts (Late alarm)) x port self.old self.new (D.acts desk.old) (D.acts desk.new) }
         ensures station { self.new ≡ record self.old { alarms = with_deadline self.old.alarms alarm None } }
-        ensures spare { D.spare desk.new + 1 ≡ D.spare desk.old }
-        ensures few { length (D.acts desk.new) ≡ length (D.acts desk.old) + 1 }
+        ensures room { PutsAtMost 1 (D.spare desk.old) (D.spare desk.new) (D.acts desk.old) (D.acts desk.new) }
     {
         desk.put(port, Act::Late(alarm));
         self.alarms.off(alarm);
@@ -65,8 +63,7 @@ impl Station {
         requires room { 1 ≤ D.spare desk.old }
         ensures row { (x : ℕ) → Performs Stands Stands (puts Abandon) x port self.old self.new (D.acts desk.old) (D.acts desk.new) }
         ensures station { self.new ≡ record self.old { alarms = with_deadline (with_deadline self.old.alarms Probe None) Close None } }
-        ensures spare { D.spare desk.new + 1 ≡ D.spare desk.old }
-        ensures few { length (D.acts desk.new) ≡ length (D.acts desk.old) + 1 }
+        ensures room { PutsAtMost 1 (D.spare desk.old) (D.spare desk.new) (D.acts desk.old) (D.acts desk.new) }
     {
         desk.put(port, Act::Abandon);
         self.alarms.off(Alarm::Probe);
@@ -81,14 +78,15 @@ impl Station {
         ensures hold { self.new.hold ≡ self.old.hold }
         ensures begun { self.new.begun ≡ self.old.begun }
         ensures peers { self.new.peers ≡ self.old.peers }
+        ensures backers { self.new.backers ≡ 0 }
         ensures role { self.new.role ≡ role }
         ensures alarms { self.new.alarms ≡ none_armed }
         ensures sends { (p : PeerId) → sending_to self.new.sends p ≡ None }
-        ensures spare { D.spare desk.new + 1 ≡ D.spare desk.old }
-        ensures few { length (D.acts desk.new) ≡ length (D.acts desk.old) + 1 }
+        ensures room { PutsAtMost 1 (D.spare desk.old) (D.spare desk.new) (D.acts desk.old) (D.acts desk.new) }
     {
         desk.put(port, Act::Become(role));
         self.role = role;
+        self.backers = 0;
         self.sends.clear();
         self.alarms.clear();
     }
@@ -98,11 +96,21 @@ impl Station {
         requires room { 1 ≤ D.spare desk.old }
         ensures row { Performs Stands Stands (puts (Back p)) tick port self.old self.new (D.acts desk.old) (D.acts desk.new) }
         ensures station { self.new ≡ record self.old { hold = record self.old.hold { back = Some (tick, p) } } }
-        ensures spare { D.spare desk.new + 1 ≡ D.spare desk.old }
-        ensures few { length (D.acts desk.new) ≡ length (D.acts desk.old) + 1 }
+        ensures room { PutsAtMost 1 (D.spare desk.old) (D.spare desk.new) (D.acts desk.old) (D.acts desk.new) }
     {
         desk.put(port, Act::Back(p));
         self.hold.back(tick, p);
+    }
+
+    /// Counts a peer among those that back this candidature.
+    pub fn count_backer<D: Desk>(&mut self, p: PeerId, port: Port, desk: &mut D)
+        requires room { 1 ≤ D.spare desk.old }
+        ensures row { (x : ℕ) → Performs Stands Stands (puts (Backer p)) x port self.old self.new (D.acts desk.old) (D.acts desk.new) }
+        ensures station { self.new ≡ record self.old { backers = min (self.old.backers + 1) 4294967295 } }
+        ensures room { PutsAtMost 1 (D.spare desk.old) (D.spare desk.new) (D.acts desk.old) (D.acts desk.new) }
+    {
+        desk.put(port, Act::Backer(p));
+        self.backers = self.backers.saturating_add(1);
     }
 
     /// Notes that a peer asked this node to stop leading.
@@ -110,8 +118,7 @@ impl Station {
         requires room { 1 ≤ D.spare desk.old }
         ensures row { Performs Stands Stands (puts (Quit p)) tick port self.old self.new (D.acts desk.old) (D.acts desk.new) }
         ensures station { self.new ≡ record self.old { hold = record self.old.hold { quit = Some tick } } }
-        ensures spare { D.spare desk.new + 1 ≡ D.spare desk.old }
-        ensures few { length (D.acts desk.new) ≡ length (D.acts desk.old) + 1 }
+        ensures room { PutsAtMost 1 (D.spare desk.old) (D.spare desk.new) (D.acts desk.old) (D.acts desk.new) }
     {
         desk.put(port, Act::Quit(p));
         self.hold.quit(tick);
@@ -127,11 +134,10 @@ impl Station {
     /// Arms the election alarm anew.
     pub fn arm_elect<D: Desk>(&mut self, tick: u64, port: Port, desk: &mut D)
         requires room { 1 ≤ D.spare desk.old }
-        requires tick { tick ≤ 2 ^ 61 }
+        requires tick { IsTick tick }
         ensures row { Performs Stands Stands arms_elect tick port self.old self.new (D.acts desk.old) (D.acts desk.new) }
         ensures station { self.new ≡ record self.old { alarms = with_deadline self.old.alarms Elect (Some (tick + delay self.old.me.word)) } }
-        ensures spare { D.spare desk.new + 1 ≡ D.spare desk.old }
-        ensures few { length (D.acts desk.new) ≡ length (D.acts desk.old) + 1 }
+        ensures room { PutsAtMost 1 (D.spare desk.old) (D.spare desk.new) (D.acts desk.old) (D.acts desk.new) }
     {
         let delay = self.delay();
         self.arm(Alarm::Elect, tick, delay, port, desk);

@@ -14,4 +14,6 @@ pub struct Me {
     pub word: u64,
     /// Whether it may be master.
     pub may: bool,
+    /// Whether a candidate needs more than half of the peers to win.
+    pub strict: bool,
 }

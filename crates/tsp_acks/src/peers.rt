@@ -1,6 +1,6 @@
 //! The peers of a port.
 ghost use Rattle.std.specs.Prelude.{◌≡◌, ◌≤◌, length, IfOk};
-ghost use Rattle.tsp_rules.specs.Tests.{is_among};
+ghost use Rattle.tsp_base.specs.Peers.{is_among};
 ghost use Rattle.tsp_acks.specs.Peers.{IsPeers};
 
 use std::alloc::{AllocError, Global};
@@ -26,7 +26,7 @@ impl Model for Peers {
 }
 
 impl Peers {
-    /// These peers. The answer is an error only where memory is wanting.
+    /// These peers. Fails only where memory is refused.
     pub fn new(alloc: Global, peers: &[PeerId]) -> Result<Peers, AllocError>
         requires { IsPeers peers.now }
         ensures { IfOk result (λ p. p ≡ peers.now) }
@@ -47,6 +47,9 @@ impl Peers {
     pub fn has(&self, p: PeerId) -> bool
         ensures { result ≡ is_among p self.now }
     {
-        self.items.as_slice().contains(&p)
+        self.items
+            .as_slice()
+            .binary_search_by_key(&p.0, |q| q.0)
+            .is_ok()
     }
 }

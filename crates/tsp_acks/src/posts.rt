@@ -1,5 +1,6 @@
 //! The posts of a station: messages in its node's own name that carry nothing but a number.
-ghost use Rattle.std.specs.Prelude.{◌≡◌, ℕ, ◌+◌, ◌≤◌, true, length, [], ◌∷◌, ◌++◌};
+ghost use Rattle.std.specs.Prelude.{◌≡◌, ℕ, ◌≤◌, true, length, [], ◌∷◌, ◌++◌};
+ghost use Rattle.tsp_base.specs.Frames.{PutsAtMost};
 ghost use Rattle.tsp_base.specs.Performs.{Performs};
 ghost use Rattle.tsp_base.specs.Rows.{posts, posts_back, posts_to_others, post_of, placed};
 ghost use Rattle.tsp_acks.specs.Posts.{is_plain};
@@ -22,8 +23,7 @@ impl Station {
         requires room { 1 ≤ D.spare desk.old }
         requires plain { is_plain kind ≡ true }
         ensures row { (x : ℕ) → Performs Stands Stands (posts_back to kind number) x port self.now self.now (D.acts desk.old) (D.acts desk.new) }
-        ensures spare { D.spare desk.new + 1 ≡ D.spare desk.old }
-        ensures few { length (D.acts desk.new) ≡ length (D.acts desk.old) + 1 }
+        ensures room { PutsAtMost 1 (D.spare desk.old) (D.spare desk.new) (D.acts desk.old) (D.acts desk.new) }
     {
         let message = Message::new(kind, number, Body::Nothing, self.me.name.copy());
         desk.put(port, Act::Post(to, Datagram::Message(message)));
@@ -35,8 +35,7 @@ impl Station {
         requires plain { is_plain kind ≡ true }
         ensures acts { D.acts desk.new ≡ D.acts desk.old ++ placed port (post_of kind number self.now.me.name p ∷ []) }
         ensures row { (x : ℕ) → Performs Stands Stands (posts p kind number) x port self.now self.now (D.acts desk.old) (D.acts desk.new) }
-        ensures spare { D.spare desk.new + 1 ≡ D.spare desk.old }
-        ensures few { length (D.acts desk.new) ≡ length (D.acts desk.old) + 1 }
+        ensures room { PutsAtMost 1 (D.spare desk.old) (D.spare desk.new) (D.acts desk.old) (D.acts desk.new) }
     {
         let message = Message::new(kind, number, Body::Nothing, self.me.name.copy());
         desk.put(port, Act::Post(Place::Peer(p), Datagram::Message(message)));
@@ -47,8 +46,7 @@ impl Station {
         requires room { length self.now.peers ≤ D.spare desk.old }
         requires plain { is_plain kind ≡ true }
         ensures row { (x : ℕ) → Performs Stands Stands (posts_to_others kind number) x port self.now self.now (D.acts desk.old) (D.acts desk.new) }
-        ensures spare { D.spare desk.old ≤ D.spare desk.new + length self.now.peers }
-        ensures few { length (D.acts desk.new) ≤ length (D.acts desk.old) + length self.now.peers }
+        ensures room { PutsAtMost (length self.now.peers) (D.spare desk.old) (D.spare desk.new) (D.acts desk.old) (D.acts desk.new) }
     {
         for p in self.peers.as_slice() {
             if p.0 != self.me.own.0 {

@@ -4,7 +4,8 @@ ghost use Rattle.tsp_base.specs.declared.act.Act.TheVariants.{Boot};
 ghost use Rattle.tsp_base.specs.Alarms.{deadline};
 ghost use Rattle.tsp_base.specs.History.{Past, Booted};
 ghost use Rattle.tsp_base.specs.Rows.{grown};
-ghost use Rattle.tsp_rules.specs.Tests.{is_over, is_met, is_among, is_starting_role};
+ghost use Rattle.tsp_base.specs.Peers.{is_among};
+ghost use Rattle.tsp_rules.specs.Tests.{is_over, is_met, is_starting_role};
 ghost use Rattle.tsp_sends.specs.Slots.{peers_of};
 ghost use Rattle.tsp_acks.specs.Peers.{IsPeers};
 
@@ -34,16 +35,19 @@ pub struct Station {
     pub alarms: Alarms,
     /// How many sends with the port's own numbers began since the boot, modulo 32,768.
     pub begun: u16,
+    /// How many have backed this candidature, or the greatest number of 32 bits where there are more.
+    pub backers: u32,
     /// All peers, itself among them.
     pub peers: Peers,
     ghost slots: { peers_of sends ≡ peers },
-    ghost turns: { begun < 32768 },
+    ghost count: { begun < 32768 },
 }
 
 impl Station {
     ghost use Rattle.tsp_acks.specs.Stands.{Stands, IsFresh, IsPortOf};
 
-    /// A station of a node that boots at this tick. The answer is an error only where memory is wanting.
+    /// A station of a node that boots at this tick. Fails only where memory is
+    /// refused.
     pub fn new(alloc: Global, me: Me, peers: &[PeerId], tick: u64) -> Result<Station, AllocError>
         requires { IsPeers peers.now }
         ensures station { IfOk result (λ s. IsFresh me peers.now tick s) }
@@ -58,6 +62,7 @@ impl Station {
             sends,
             alarms: Alarms::new(),
             begun: 0,
+            backers: 0,
             peers,
         })
     }
@@ -75,8 +80,8 @@ impl Station {
     pub fn next_number(&self) -> u16
         ensures { result ≡ 32768 + (self.now.me.word + self.now.begun) % 32768 }
     {
-        let turn = (self.me.word % 32768 + self.begun as u64) % 32768;
-        32768 + turn as u16
+        let place = (self.me.word % 32768 + self.begun as u64) % 32768;
+        32768 + place as u16
     }
 
     /// Whether an alarm is armed for this tick or an earlier one.

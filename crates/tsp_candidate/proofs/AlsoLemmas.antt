@@ -1,49 +1,35 @@
--- What a candidate's acts leave as it is: what is remembered, the clock, and what was taken.
-use Rattle.std.specs.Prelude.{ℕ}
+-- What a candidate's answers leave as it is: what is remembered, the clock, and what was taken.
+use Rattle.std.specs.Prelude.{ℕ, refl}
 use Rattle.tsp_base.specs.declared.act.Act.TheVariants.{Become, Backer, Acked}
 use Rattle.tsp_base.specs.declared.place.PeerId.{PeerId}
 use Rattle.tsp_base.specs.declared.role.Role.TheVariants.{Loose}
 use Rattle.tsp_base.specs.Performs.{Keeps}
 use Rattle.tsp_base.specs.Rows.{nothing, puts, ◌followed_by◌}
-use Rattle.tsp_base.proofs.PerformsLemmas.{Keeps_nothing, Keeps_then, Keeps_either}
 use Rattle.tsp_rules.specs.CandidateRows.{accepted_by, refused_by, yields}
 use Rattle.tsp_rules.specs.CommonRows.{arms_elect}
 use Rattle.tsp_rules.specs.SendRows.{has_election}
+use Rattle.tsp_rules.proofs.Emits.{Emits, Emits_either, Emits_more, Emits_nothing, Emits_puts, Emits_then}
+use Rattle.tsp_rules.proofs.EmitsSlave.{silent_sorts, silent_elect}
 use Rattle.tsp_slave.specs.SlaveStands.{AlsoStands}
-use Rattle.tsp_slave.proofs.SlaveLemmas.{AlsoStands_acked, AlsoStands_arms_elect}
+use Rattle.tsp_slave.proofs.BesideLemmas.{AlsoStands_by, beside_sorts}
 
-AlsoStands_backer : (p : PeerId) → Keeps AlsoStands (puts (Backer p))
-unfolding puts
-AlsoStands_backer p x past state h = record {
-  first = record { tick_is = h.first.tick_is; taken_is = h.first.taken_is; name_is = h.first.name_is };
-  second = record {
-    first = record { offset_is = h.second.first.offset_is; rest_is = h.second.first.rest_is; at_is = h.second.first.at_is; ticket_is = h.second.first.ticket_is };
-    second = h.second.second;
-  };
-}
-
-AlsoStands_loose : Keeps AlsoStands (puts (Become Loose))
-unfolding puts
-AlsoStands_loose x past state h = record {
-  first = record { tick_is = h.first.tick_is; taken_is = h.first.taken_is; name_is = h.first.name_is };
-  second = record {
-    first = record { offset_is = h.second.first.offset_is; rest_is = h.second.first.rest_is; at_is = h.second.first.at_is; ticket_is = h.second.first.ticket_is };
-    second = h.second.second;
-  };
-}
-
-AlsoStands_yields : Keeps AlsoStands yields
+yields-emits : Emits beside_sorts yields
 unfolding yields
-AlsoStands_yields = Keeps_then AlsoStands (puts (Become Loose)) arms_elect AlsoStands_loose AlsoStands_arms_elect
+yields-emits = Emits_then (puts (Become Loose)) arms_elect (Emits_puts (Become Loose) refl) (Emits_more silent_sorts refl silent_elect)
+
+accepted-emits : (p : PeerId) (number : ℕ) → Emits beside_sorts (accepted_by p number)
+unfolding accepted_by
+accepted-emits p number =
+    Emits_either (has_election p number) (puts (Acked p) followed_by puts (Backer p)) nothing
+    (Emits_then (puts (Acked p)) (puts (Backer p)) (Emits_puts (Acked p) refl) (Emits_puts (Backer p) refl)) Emits_nothing
+
+refused-emits : (p : PeerId) (number : ℕ) → Emits beside_sorts (refused_by p number)
+unfolding refused_by
+refused-emits p number =
+    Emits_either (has_election p number) (puts (Acked p) followed_by yields) nothing (Emits_then (puts (Acked p)) yields (Emits_puts (Acked p) refl) yields-emits) Emits_nothing
 
 pub AlsoStands_accepted_by : (p : PeerId) (number : ℕ) → Keeps AlsoStands (accepted_by p number)
-unfolding accepted_by
-AlsoStands_accepted_by p number =
-    Keeps_either AlsoStands (has_election p number) (puts (Acked p) followed_by puts (Backer p)) nothing
-    (Keeps_then AlsoStands (puts (Acked p)) (puts (Backer p)) (AlsoStands_acked p) (AlsoStands_backer p)) (Keeps_nothing AlsoStands)
+AlsoStands_accepted_by p number = AlsoStands_by (accepted_by p number) (accepted-emits p number)
 
 pub AlsoStands_refused_by : (p : PeerId) (number : ℕ) → Keeps AlsoStands (refused_by p number)
-unfolding refused_by
-AlsoStands_refused_by p number =
-    Keeps_either AlsoStands (has_election p number) (puts (Acked p) followed_by yields) nothing
-    (Keeps_then AlsoStands (puts (Acked p)) yields (AlsoStands_acked p) AlsoStands_yields) (Keeps_nothing AlsoStands)
+AlsoStands_refused_by p number = AlsoStands_by (refused_by p number) (refused-emits p number)

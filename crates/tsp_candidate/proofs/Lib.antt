@@ -1,4 +1,4 @@
-pub mod ActingLemmas
 pub mod AlsoLemmas
 pub mod AnswerLemmas
 pub mod RowCases
+pub mod WinLemmas

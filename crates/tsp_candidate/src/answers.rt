@@ -1,12 +1,13 @@
 //! What the answers of peers to a candidate's ELECTIONs do.
-ghost use Rattle.std.specs.Prelude.{◌≡◌, ℕ, ◌+◌, ◌≤◌, ◌^◌, length};
+ghost use Rattle.std.specs.Prelude.{ℕ, ◌≤◌};
+ghost use Rattle.tsp_base.specs.Frames.{IsTick, PutsAtMost};
 ghost use Rattle.tsp_base.specs.Performs.{Performs};
 ghost use Rattle.tsp_rules.specs.CandidateRows.{accepted_by, refused_by};
+ghost use Rattle.tsp_acks.specs.Changes.{IsSamePort};
 ghost use Rattle.tsp_acks.specs.Stands.{Stands};
 
 use crate::ring::give_way;
 use tsp_acks::station::Station;
-use tsp_base::act::Act;
 use tsp_base::desk::Desk;
 use tsp_base::place::{PeerId, Port};
 
@@ -21,13 +22,11 @@ pub(crate) fn take_accept<D: Desk>(
 )
     requires room { 2 ≤ D.spare desk.old }
     ensures row { (x : ℕ) → Performs Stands Stands (accepted_by from number) x port station.old station.new (D.acts desk.old) (D.acts desk.new) }
-    ensures spare { D.spare desk.old ≤ D.spare desk.new + 2 }
-    ensures few { length (D.acts desk.new) ≤ length (D.acts desk.old) + 2 }
-    ensures me { station.new.me ≡ station.old.me }
-    ensures peers { station.new.peers ≡ station.old.peers }
+    ensures room { PutsAtMost 2 (D.spare desk.old) (D.spare desk.new) (D.acts desk.old) (D.acts desk.new) }
+    ensures port { IsSamePort station.old station.new }
 {
     if station.answered(from, number, port, desk) {
-        desk.put(port, Act::Backer(from));
+        station.count_backer(from, port, desk);
     }
 }
 
@@ -41,13 +40,11 @@ pub(crate) fn take_refuse<D: Desk>(
     port: Port,
     desk: &mut D,
 )
-    requires tick { tick ≤ 2 ^ 61 }
+    requires tick { IsTick tick }
     requires room { 3 ≤ D.spare desk.old }
     ensures row { Performs Stands Stands (refused_by from number) tick port station.old station.new (D.acts desk.old) (D.acts desk.new) }
-    ensures spare { D.spare desk.old ≤ D.spare desk.new + 3 }
-    ensures few { length (D.acts desk.new) ≤ length (D.acts desk.old) + 3 }
-    ensures me { station.new.me ≡ station.old.me }
-    ensures peers { station.new.peers ≡ station.old.peers }
+    ensures room { PutsAtMost 3 (D.spare desk.old) (D.spare desk.new) (D.acts desk.old) (D.acts desk.new) }
+    ensures port { IsSamePort station.old station.new }
 {
     if station.answered(from, number, port, desk) {
         give_way(station, tick, port, desk);

@@ -5,5 +5,3 @@ mod answers;
 pub mod ring;
 pub mod stand;
 pub mod take;
-#[cfg(test)]
-mod tests;

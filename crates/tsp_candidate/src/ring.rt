@@ -1,7 +1,11 @@
 //! How the time of a candidature ends: the port leads, or it gives way.
-ghost use Rattle.std.specs.Prelude.{◌≡◌, ◌+◌, ◌≤◌, ◌^◌, length};
+ghost use Rattle.std.specs.Prelude.{◌≡◌, ℕ, ◌+◌, ◌≤◌, length};
+ghost use Rattle.tsp_base.specs.Frames.{IsTick, PutsAtMost};
+ghost use Rattle.tsp_base.specs.History.{Past};
 ghost use Rattle.tsp_base.specs.Performs.{Performs};
-ghost use Rattle.tsp_rules.specs.CandidateRows.{lead_row, window_rings, yields};
+ghost use Rattle.tsp_base.specs.Rows.{either_by};
+ghost use Rattle.tsp_rules.specs.CandidateRows.{has_won, lead_row, window_rings, yields};
+ghost use Rattle.tsp_acks.specs.Changes.{IsSamePort};
 ghost use Rattle.tsp_acks.specs.Stands.{Stands};
 
 use tsp_acks::station::Station;
@@ -12,35 +16,54 @@ use tsp_base::kind::Kind;
 use tsp_base::place::Port;
 use tsp_base::role::Role;
 
-/// Treats the Window of a candidate that is due: the port leads where it is in time, since nobody refused;
-/// else the candidature ends. At most three acts, and one more for each peer.
+/// Treats the Window of a candidate that is due: where it is in time, nobody has refused, and the port leads
+/// if enough peers back it; else the candidature ends. At most three acts, and one more for each peer.
 pub fn candidate_ring<D: Desk>(station: &mut Station, tick: u64, port: Port, desk: &mut D)
-    requires tick { tick ≤ 2 ^ 61 }
+    requires tick { IsTick tick }
     requires room { length station.old.peers + 3 ≤ D.spare desk.old }
     ensures row { Performs Stands Stands window_rings tick port station.old station.new (D.acts desk.old) (D.acts desk.new) }
-    ensures spare { D.spare desk.old ≤ D.spare desk.new + (length station.old.peers + 3) }
-    ensures few { length (D.acts desk.new) ≤ length (D.acts desk.old) + (length station.old.peers + 3) }
-    ensures me { station.new.me ≡ station.old.me }
-    ensures peers { station.new.peers ≡ station.old.peers }
+    ensures room { PutsAtMost (length station.old.peers + 3) (D.spare desk.old) (D.spare desk.new) (D.acts desk.old) (D.acts desk.new) }
+    ensures port { IsSamePort station.old station.new }
 {
     if station.is_in_time(Alarm::Window, tick) {
         station.ring(Alarm::Window, port, desk);
-        lead(station, tick, port, desk);
+        lead_or_give_way(station, tick, port, desk);
     } else {
         station.late(Alarm::Window, port, desk);
         give_way(station, tick, port, desk);
     }
 }
 
+/// Leads where the election is won, else ends the candidature.
+fn lead_or_give_way<D: Desk>(station: &mut Station, tick: u64, port: Port, desk: &mut D)
+    requires tick { IsTick tick }
+    requires room { length station.old.peers + 2 ≤ D.spare desk.old }
+    ensures row { Performs Stands Stands (either_by has_won lead_row yields) tick port station.old station.new (D.acts desk.old) (D.acts desk.new) }
+    ensures room { PutsAtMost (length station.old.peers + 2) (D.spare desk.old) (D.spare desk.new) (D.acts desk.old) (D.acts desk.new) }
+    ensures port { IsSamePort station.old station.new }
+{
+    if has_won(station) {
+        lead(station, tick, port, desk);
+    } else {
+        give_way(station, tick, port, desk);
+    }
+}
+
+/// Whether the election is won: where elections are strict, more than half of the peers back the candidate,
+/// itself among them; else it is enough that nobody has refused.
+fn has_won(station: &Station) -> bool
+    ensures { (x : ℕ) (past : Past) → Stands past station.now → has_won x past ≡ result }
+{
+    !station.me.strict || station.peers().len() < 2 * station.backers as usize + 2
+}
+
 /// Becomes a master and says so to each other peer; its first round is due `ROUND` ticks from now.
 fn lead<D: Desk>(station: &mut Station, tick: u64, port: Port, desk: &mut D)
-    requires tick { tick ≤ 2 ^ 61 }
+    requires tick { IsTick tick }
     requires room { length station.old.peers + 2 ≤ D.spare desk.old }
     ensures row { Performs Stands Stands lead_row tick port station.old station.new (D.acts desk.old) (D.acts desk.new) }
-    ensures spare { D.spare desk.old ≤ D.spare desk.new + (length station.old.peers + 2) }
-    ensures few { length (D.acts desk.new) ≤ length (D.acts desk.old) + (length station.old.peers + 2) }
-    ensures me { station.new.me ≡ station.old.me }
-    ensures peers { station.new.peers ≡ station.old.peers }
+    ensures room { PutsAtMost (length station.old.peers + 2) (D.spare desk.old) (D.spare desk.new) (D.acts desk.old) (D.acts desk.new) }
+    ensures port { IsSamePort station.old station.new }
 {
     station.become_role(Role::Master, port, desk);
     station.arm(Alarm::Round, tick, ROUND, port, desk);
@@ -49,13 +72,11 @@ fn lead<D: Desk>(station: &mut Station, tick: u64, port: Port, desk: &mut D)
 
 /// Ends the candidature: the port follows nobody, and waits for a master anew.
 pub(crate) fn give_way<D: Desk>(station: &mut Station, tick: u64, port: Port, desk: &mut D)
-    requires tick { tick ≤ 2 ^ 61 }
+    requires tick { IsTick tick }
     requires room { 2 ≤ D.spare desk.old }
     ensures row { Performs Stands Stands yields tick port station.old station.new (D.acts desk.old) (D.acts desk.new) }
-    ensures spare { D.spare desk.old ≡ D.spare desk.new + 2 }
-    ensures few { length (D.acts desk.new) ≡ length (D.acts desk.old) + 2 }
-    ensures me { station.new.me ≡ station.old.me }
-    ensures peers { station.new.peers ≡ station.old.peers }
+    ensures room { PutsAtMost 2 (D.spare desk.old) (D.spare desk.new) (D.acts desk.old) (D.acts desk.new) }
+    ensures port { IsSamePort station.old station.new }
 {
     station.become_role(Role::Loose, port, desk);
     station.arm_elect(tick, port, desk);

@@ -1,7 +1,9 @@
 //! How a candidature begins.
-ghost use Rattle.std.specs.Prelude.{◌≡◌, ◌+◌, ◌≤◌, ◌^◌, length};
+ghost use Rattle.std.specs.Prelude.{◌+◌, ◌≤◌, length};
+ghost use Rattle.tsp_base.specs.Frames.{IsTick, PutsAtMost};
 ghost use Rattle.tsp_base.specs.Performs.{Performs};
 ghost use Rattle.tsp_rules.specs.CommonRows.{stand_row};
+ghost use Rattle.tsp_acks.specs.Changes.{IsSamePort};
 ghost use Rattle.tsp_acks.specs.Stands.{StandsActing};
 
 use tsp_acks::station::Station;
@@ -16,13 +18,11 @@ use tsp_base::role::Role;
 /// own, and waits `WINDOW` ticks for refusals. In this step an alarm has rung or come late, or a datagram
 /// was taken. At most three acts, and one more for each peer.
 pub fn stand<D: Desk>(station: &mut Station, tick: u64, port: Port, desk: &mut D)
-    requires tick { tick ≤ 2 ^ 61 }
+    requires tick { IsTick tick }
     requires room { length station.old.peers + 3 ≤ D.spare desk.old }
     ensures row { Performs StandsActing StandsActing stand_row tick port (station.old, tt) (station.new, tt) (D.acts desk.old) (D.acts desk.new) }
-    ensures spare { D.spare desk.old ≤ D.spare desk.new + (length station.old.peers + 3) }
-    ensures few { length (D.acts desk.new) ≤ length (D.acts desk.old) + (length station.old.peers + 3) }
-    ensures me { station.new.me ≡ station.old.me }
-    ensures peers { station.new.peers ≡ station.old.peers }
+    ensures room { PutsAtMost (length station.old.peers + 3) (D.spare desk.old) (D.spare desk.new) (D.acts desk.old) (D.acts desk.new) }
+    ensures port { IsSamePort station.old station.new }
 {
     station.become_role(Role::Candidate, port, desk);
     let own = station.me.own;

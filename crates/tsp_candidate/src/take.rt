@@ -1,11 +1,13 @@
 //! What a candidate does with a message of a peer.
-ghost use Rattle.std.specs.Prelude.{◌≡◌, ◌+◌, ◌*◌, ◌≤◌, ◌^◌, length, Option, Some};
+ghost use Rattle.std.specs.Prelude.{◌≡◌, ◌≤◌, Option, Some};
 ghost use Rattle.tsp_base.specs.declared.datagram.Datagram.TheVariants.{Message as MessageOf};
 ghost use Rattle.tsp_base.specs.declared.datagram.Taken.TheVariants.{Good};
 ghost use Rattle.tsp_base.specs.declared.place.Place.TheVariants.{Peer};
+ghost use Rattle.tsp_base.specs.Frames.{IsTick, PutsAtMost};
 ghost use Rattle.tsp_base.specs.Performs.{Performs};
 ghost use Rattle.tsp_base.specs.PortFacts.{Received};
-ghost use Rattle.tsp_rules.specs.SoFar.{candidate_takes_so_far};
+ghost use Rattle.tsp_candidate.specs.CandidateTakes.{candidate_takes_in_force};
+ghost use Rattle.tsp_acks.specs.Changes.{IsSamePort};
 ghost use Rattle.tsp_slave.specs.SlaveStands.{SlaveStands};
 
 use crate::answers::{take_accept, take_refuse};
@@ -31,14 +33,12 @@ pub fn candidate_take<D: Desk>(
     port: Port,
     desk: &mut D,
 )
-    requires tick { tick ≤ 2 ^ 61 }
-    requires room { 2 * length station.old.peers + 16 ≤ D.spare desk.old }
-    ensures row { (took : Option Received) → took ≡ Some (record { from = Peer from; taken = Good (MessageOf m.now) }) → Performs SlaveStands SlaveStands (candidate_takes_so_far from m.now) tick port
+    requires tick { IsTick tick }
+    requires room { 3 ≤ D.spare desk.old }
+    ensures row { (took : Option Received) → took ≡ Some (record { from = Peer from; taken = Good (MessageOf m.now) }) → Performs SlaveStands SlaveStands (candidate_takes_in_force from m.now) tick port
         (station.old, (last.old, (clock.now, took))) (station.new, (last.new, (clock.now, took))) (D.acts desk.old) (D.acts desk.new) }
-    ensures spare { D.spare desk.old ≤ D.spare desk.new + 3 }
-    ensures few { length (D.acts desk.new) ≤ length (D.acts desk.old) + 3 }
-    ensures me { station.new.me ≡ station.old.me }
-    ensures peers { station.new.peers ≡ station.old.peers }
+    ensures room { PutsAtMost 3 (D.spare desk.old) (D.spare desk.new) (D.acts desk.old) (D.acts desk.new) }
+    ensures port { IsSamePort station.old station.new }
 {
     match m.kind() {
         Kind::MasterUp | Kind::MasterAck => {
@@ -47,7 +47,9 @@ pub fn candidate_take<D: Desk>(
         Kind::Election => station.post(from, Kind::Refuse, m.number(), port, desk),
         Kind::Accept => take_accept(station, from, m.number(), port, desk),
         Kind::Refuse => take_refuse(station, tick, from, m.number(), port, desk),
-        Kind::Ack => station.acknowledge(from, m.number(), port, desk),
+        Kind::Ack => {
+            let _ = station.acknowledge(from, m.number(), port, desk);
+        }
         _ => {}
     }
 }

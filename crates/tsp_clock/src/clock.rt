@@ -1,6 +1,7 @@
 //! The corrected clock of a node.
-ghost use Rattle.std.specs.Prelude.{◌≡◌, ℕ, ◌+◌, ◌%◌, ◌≤◌, ◌<◌, ◌^◌, ℤ, pos, negsuc, nat_abs, ◌+ℤ◌, ◌-ℤ◌, ◌<ℤ◌, ◌≤ℤ◌, true, false, if◌then◌else◌, IfOk, IfErr, [], ◌∷◌};
+ghost use Rattle.std.specs.Prelude.{◌≡◌, ◌+◌, ◌%◌, ◌≤◌, ◌<◌, ◌^◌, ℤ, pos, negsuc, nat_abs, ◌+ℤ◌, ◌-ℤ◌, ◌<ℤ◌, ◌≤ℤ◌, true, false, if◌then◌else◌, IfOk, IfErr, [], ◌∷◌};
 ghost use Rattle.tsp_base.specs.declared.act.Act.TheVariants.{Boot};
+ghost use Rattle.tsp_base.specs.Frames.{IsTick};
 ghost use Rattle.tsp_base.specs.History.{Past, Booted};
 ghost use Rattle.tsp_base.specs.Rows.{grown};
 ghost use Rattle.tsp_rules.specs.ClockRows.{is_step};
@@ -46,7 +47,7 @@ impl Clock {
     /// A clock that shows `wall` at a tick, of a node that boots with a word. `Range` exactly where the wall
     /// doesn't lie strictly between -`LIMIT` and `LIMIT`.
     pub fn boot(tick: u64, wall: i64, word: u64) -> Result<Clock, ClockFault>
-        requires tick { tick ≤ 2 ^ 61 }
+        requires tick { IsTick tick }
         ensures ok { IfOk result (λ c. (is_clock_value wall ≡ true) × (c ≡ record { offset = wall -ℤ pos tick; rest = pos 0; at = tick; ticket = word % 32768 })) }
         ensures err { IfErr result (λ e. is_clock_value wall ≡ false) }
         ensures stands { IfOk result (λ c. (past : Past) → past.step.cause ≡ Booted word wall → ClockStands (grown tick past (Boot ∷ [])) c) }
@@ -73,7 +74,7 @@ impl Clock {
 
     /// The target at a tick, which isn't before the last correction.
     pub fn target(&self, tick: u64) -> i64
-        requires tick { tick ≤ 2 ^ 61 }
+        requires tick { IsTick tick }
         requires later { self.now.at ≤ tick }
         ensures value { result ≡ target_of self.now tick }
         ensures low { negsuc 2147483647999999 <ℤ result }
@@ -84,7 +85,7 @@ impl Clock {
 
     /// The value shown at a tick, which isn't before the last correction.
     pub fn shown(&self, tick: u64) -> i64
-        requires tick { tick ≤ 2 ^ 61 }
+        requires tick { IsTick tick }
         requires later { self.now.at ≤ tick }
         ensures { result ≡ shown_of self.now tick }
     {
@@ -93,7 +94,7 @@ impl Clock {
 
     /// What is still to be slewed at a tick.
     fn rest(&self, tick: u64) -> i64
-        requires tick { tick ≤ 2 ^ 61 }
+        requires tick { IsTick tick }
         requires later { self.now.at ≤ tick }
         ensures value { result ≡ rest_of self.now tick }
         ensures low { negsuc 2147483647999999 <ℤ shown_of self.now tick }
@@ -106,7 +107,7 @@ impl Clock {
     /// steps to the target; false where the shown value stays at this tick. `Range` exactly where the target
     /// wouldn't lie strictly between -`LIMIT` and `LIMIT`; then nothing changes.
     pub fn adjust(&mut self, tick: u64, amount: i64) -> Result<bool, ClockFault>
-        requires tick { tick ≤ 2 ^ 61 }
+        requires tick { IsTick tick }
         requires later { self.old.at ≤ tick }
         ensures ok { IfOk result (λ stepped. (is_clock_value (target_of self.old tick +ℤ amount) ≡ true) × ((stepped ≡ is_step amount) × (self.new ≡ adjusted self.old tick amount))) }
         ensures err { IfErr result (λ e. (is_clock_value (target_of self.old tick +ℤ amount) ≡ false) × (self.new ≡ self.old)) }
@@ -123,7 +124,7 @@ impl Clock {
 
     /// What is to be slewed right after an adjustment by an amount.
     fn rest_after(&self, tick: u64, amount: i64) -> i64
-        requires tick { tick ≤ 2 ^ 61 }
+        requires tick { IsTick tick }
         requires later { self.now.at ≤ tick }
         requires range { is_clock_value (target_of self.now tick +ℤ amount) ≡ true }
         ensures value { result ≡ (if is_step amount then pos 0 else rest_of self.now tick +ℤ amount) }
@@ -139,7 +140,7 @@ impl Clock {
 
     /// Takes a target and a rest at a tick.
     fn correct(&mut self, tick: u64, target: i64, rest: i64)
-        requires tick { tick ≤ 2 ^ 61 }
+        requires tick { IsTick tick }
         requires target { is_clock_value target ≡ true }
         requires shown_low { negsuc 2147483647999999 <ℤ (target -ℤ rest) }
         requires shown_high { (target -ℤ rest) ≤ℤ pos (2147483648000000 + tick) }
@@ -156,7 +157,7 @@ impl Clock {
     /// Sets the target and the shown value, and gives the amount by which the target moved. `Range` exactly
     /// where the value doesn't lie strictly between -`LIMIT` and `LIMIT`; then nothing changes.
     pub fn set(&mut self, tick: u64, value: i64) -> Result<i64, ClockFault>
-        requires tick { tick ≤ 2 ^ 61 }
+        requires tick { IsTick tick }
         requires later { self.old.at ≤ tick }
         ensures ok { IfOk result (λ amount. (is_clock_value value ≡ true) × ((amount ≡ value -ℤ target_of self.old tick) × (self.new ≡ set_to self.old tick value))) }
         ensures err { IfErr result (λ e. (is_clock_value value ≡ false) × (self.new ≡ self.old)) }
@@ -172,7 +173,7 @@ impl Clock {
 
 /// How far a target stands ahead of the ticks.
 fn offset_at(target: i64, tick: u64) -> i64
-    requires tick { tick ≤ 2 ^ 61 }
+    requires tick { IsTick tick }
     requires range { is_clock_value target ≡ true }
     ensures value { result ≡ target -ℤ pos tick }
     ensures small { nat_abs result < 2 ^ 62 }

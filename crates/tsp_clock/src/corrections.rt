@@ -1,5 +1,6 @@
 //! Corrections as acts: each puts its Correct and moves the clock, in one place.
-ghost use Rattle.std.specs.Prelude.{◌≡◌, ◌+◌, ◌≤◌, ◌^◌, ◌+ℤ◌, ◌-ℤ◌, true, length};
+ghost use Rattle.std.specs.Prelude.{◌≡◌, ◌+◌, ◌≤◌, ◌+ℤ◌, ◌-ℤ◌, true};
+ghost use Rattle.tsp_base.specs.Frames.{IsTick, PutsAtMost};
 ghost use Rattle.tsp_base.specs.Performs.{Performs};
 ghost use Rattle.tsp_rules.specs.ClockRows.{adjusts, sets, is_step};
 ghost use Rattle.tsp_rules.specs.Tests.{is_clock_value};
@@ -14,7 +15,7 @@ use tsp_base::place::Port;
 impl Clock {
     /// Whether the clock can be moved by an amount: the target stays in its range.
     pub fn can_adjust(&self, tick: u64, amount: i64) -> bool
-        requires tick { tick ≤ 2 ^ 61 }
+        requires tick { IsTick tick }
         requires later { self.now.at ≤ tick }
         ensures { result ≡ is_clock_value (target_of self.now tick +ℤ amount) }
     {
@@ -26,14 +27,13 @@ impl Clock {
 
     /// Corrects the clock by an amount that it can be moved by.
     pub fn correct_by<D: Desk>(&mut self, tick: u64, amount: i64, port: Port, desk: &mut D)
-        requires tick { tick ≤ 2 ^ 61 }
+        requires tick { IsTick tick }
         requires later { self.old.at ≤ tick }
         requires range { is_clock_value (target_of self.old tick +ℤ amount) ≡ true }
         requires room { 1 ≤ D.spare desk.old }
         ensures row { Performs ClockStands ClockStands (adjusts amount) tick port self.old self.new (D.acts desk.old) (D.acts desk.new) }
         ensures clock { self.new ≡ adjusted self.old tick amount }
-        ensures spare { D.spare desk.new + 1 ≡ D.spare desk.old }
-        ensures few { length (D.acts desk.new) ≡ length (D.acts desk.old) + 1 }
+        ensures room { PutsAtMost 1 (D.spare desk.old) (D.spare desk.new) (D.acts desk.old) (D.acts desk.new) }
     {
         let stepped = self.adjust_in_range(tick, amount);
         let shown = self.shown(tick);
@@ -49,14 +49,13 @@ impl Clock {
 
     /// Sets the clock to a value in its range.
     pub fn correct_to<D: Desk>(&mut self, tick: u64, value: i64, port: Port, desk: &mut D)
-        requires tick { tick ≤ 2 ^ 61 }
+        requires tick { IsTick tick }
         requires later { self.old.at ≤ tick }
         requires range { is_clock_value value ≡ true }
         requires room { 1 ≤ D.spare desk.old }
         ensures row { Performs ClockStands ClockStands (sets value) tick port self.old self.new (D.acts desk.old) (D.acts desk.new) }
         ensures clock { self.new ≡ set_to self.old tick value }
-        ensures spare { D.spare desk.new + 1 ≡ D.spare desk.old }
-        ensures few { length (D.acts desk.new) ≡ length (D.acts desk.old) + 1 }
+        ensures room { PutsAtMost 1 (D.spare desk.old) (D.spare desk.new) (D.acts desk.old) (D.acts desk.new) }
     {
         let amount = self.set_in_range(tick, value);
         desk.put(
@@ -71,7 +70,7 @@ impl Clock {
 
     /// Adjusts a clock that can be adjusted; the answer is whether it stepped.
     fn adjust_in_range(&mut self, tick: u64, amount: i64) -> bool
-        requires tick { tick ≤ 2 ^ 61 }
+        requires tick { IsTick tick }
         requires later { self.old.at ≤ tick }
         requires range { is_clock_value (target_of self.old tick +ℤ amount) ≡ true }
         ensures stepped { result ≡ is_step amount }
@@ -85,7 +84,7 @@ impl Clock {
 
     /// Sets a clock to a value in its range; the answer is the amount by which its target moved.
     fn set_in_range(&mut self, tick: u64, value: i64) -> i64
-        requires tick { tick ≤ 2 ^ 61 }
+        requires tick { IsTick tick }
         requires later { self.old.at ≤ tick }
         requires range { is_clock_value value ≡ true }
         ensures amount { result ≡ value -ℤ target_of self.old tick }

@@ -5,5 +5,3 @@ pub mod clock;
 pub mod corrections;
 pub mod laws;
 pub mod slew;
-#[cfg(test)]
-mod tests;

@@ -1,6 +1,7 @@
 pub mod ConfigLemmas
 pub mod DueLemmas
+pub mod EmitsInForce
 pub mod HearLemmas
 pub mod NodeLemmas
 pub mod RingLemmas
-pub mod SilentRows
+pub mod WorkedAnswered

@@ -1,50 +1,46 @@
 -- How the alarms' calls meet their rows.
-use Rattle.std.specs.Prelude.{◌≡◌, ◌≢◌, ℕ, ◌&&◌, Bool, true, false, if◌then◌else◌, List, refl}
+use Rattle.std.specs.Prelude.{◌≡◌, ◌≢◌, ℕ, ◌&&◌, Bool, true, false, List, refl}
 use Rattle.std.proofs.lemmas.Bool.{false≢true}
 use Rattle.tsp_base.specs.declared.act.Act.TheVariants.{Ring, Late}
 use Rattle.tsp_base.specs.declared.alarm.Alarm.{Alarm}
 use Rattle.tsp_base.specs.declared.alarm.Alarm.TheVariants.{Quiet, Search, Elect, Window}
 use Rattle.tsp_base.specs.declared.act.Placed.{Placed}
 use Rattle.tsp_base.specs.declared.place.Port.{Port}
-use Rattle.tsp_base.specs.Alarms.{deadline}
 use Rattle.tsp_base.specs.History.{Past}
-use Rattle.tsp_base.specs.Hold.{may_stand}
 use Rattle.tsp_base.specs.Performs.{Performs}
-use Rattle.tsp_base.specs.Rows.{puts, ◌followed_by◌, either_by}
+use Rattle.tsp_base.specs.Rows.{puts, ◌followed_by◌}
 use Rattle.tsp_base.proofs.PerformsLemmas.{Performs_then, Performs_then_part, Performs_from, Performs_to}
 use Rattle.tsp_rules.specs.Answers.{alarm_rings}
 use Rattle.tsp_rules.specs.CommonRows.{arms_elect, searches, stand_row}
 use Rattle.tsp_rules.specs.SlaveRows.{loosens, elect_rings}
-use Rattle.tsp_rules.specs.Tests.{is_met, is_in_time, may_stand_at}
+use Rattle.tsp_rules.specs.Tests.{is_in_time, may_stand_at}
 use Rattle.tsp_acks.specs.declared.station.Station.{Station}
 use Rattle.tsp_acks.specs.Stands.{Stands, StandsActing}
-use Rattle.tsp_slave.specs.SlaveAlarms.{elect_searches, slave_rings}
-use Rattle.tsp_node.specs.Ringing.{is_built}
-use Rattle.tsp_node.proofs.ConfigLemmas.{first_true, second_true}
+use Rattle.tsp_slave.specs.SlaveAlarms.{slave_rings, is_to_be_candidate}
+use Rattle.tsp_node.specs.InForce.{is_in_force}
+
+-- of two tests that hold both, the first and the second
+first_true : (a b : Bool) → (a && b) ≡ true → a ≡ true
+first_true true b h = refl
+first_true false b h = absurd (false≢true h)
+
+second_true : (a b : Bool) → (a && b) ≡ true → b ≡ true
+second_true true b h = h
+second_true false b h = absurd (false≢true h)
 
 -- an alarm that is a slave's alone
-pub slave_rings-is : (alarm : Alarm) → is_built alarm ≡ true → alarm ≢ Elect → alarm ≢ Window → slave_rings alarm ≡ alarm_rings alarm
+pub slave_rings-is : (own wait : Bool) (alarm : Alarm) → is_in_force alarm ≡ true → alarm ≢ Elect → alarm ≢ Window → slave_rings alarm ≡ alarm_rings own wait alarm
 unfolding slave_rings alarm_rings
-slave_rings-is Quiet b e w = refl
-slave_rings-is Search b e w = refl
-slave_rings-is Elect b e w = absurd (e refl)
-slave_rings-is Window b e w = absurd (w refl)
-slave_rings-is _ b e w = absurd (false≢true b)
-
--- a node that doesn't stand, too late or since it may not, searches
-pub elect_searches-is : (x : ℕ) (past : Past) → (is_in_time Elect x past && may_stand_at x past) ≡ false → elect_searches x past ≡ elect_rings x past
-unfolding elect_searches elect_rings ◌followed_by◌ either_by puts
-elect_searches-is x past e = by_time (is_in_time Elect x past) e where
-  by_time : (t : Bool) → (t && may_stand_at x past) ≡ false →
-      (if t then (puts (Ring Elect) followed_by (loosens followed_by searches)) x past else (puts (Late Elect) followed_by arms_elect) x past)
-      ≡ (if t then (puts (Ring Elect) followed_by either_by may_stand_at stand_row (loosens followed_by searches)) x past else (puts (Late Elect) followed_by arms_elect) x past)
-  by_time true e = rw e refl
-  by_time false e = refl
+slave_rings-is own wait Quiet b e w = refl
+slave_rings-is own wait Search b e w = refl
+slave_rings-is own wait Elect b e w = absurd (e refl)
+slave_rings-is own wait Window b e w = absurd (w refl)
+slave_rings-is own wait _ b e w = absurd (false≢true b)
 
 -- whether a node stands, as its station has it
-pub stands_at : (x : ℕ) (past : Past) (station : Station) → Stands past station →
-    (is_in_time Elect x past && may_stand_at x past) ≡ (is_met (deadline station.alarms Elect) x && (station.me.may && may_stand station.hold x station.me.own))
-stands_at x past station s = rw (s.alarms, s.may, s.hold, s.own) refl
+pub to_be_candidate-is : (x : ℕ) (past : Past) (station : Station) → Stands past station →
+    (is_in_time Elect x past && may_stand_at x past) ≡ is_to_be_candidate x station
+to_be_candidate-is x past station s = rw (s.alarms, s.may, s.hold, s.own) refl
 
 -- a station whose Elect has rung in this step, of a node that may stand
 record Ready (x : ℕ) (past : Past) (station : Station) : Type 0 where

@@ -1,5 +1,5 @@
 pub mod Configs
+pub mod InForce
 pub mod Inputs
 pub mod NodeStands
-pub mod Ringing
-pub mod Takings
+pub mod WorkedInForce

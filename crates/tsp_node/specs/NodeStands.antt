@@ -1,9 +1,9 @@
 -- What a node stands for, and how much room a step of it takes.
-use Rattle.std.specs.Prelude.{◌≡◌, ℕ, ◌+◌, ◌-◌, ◌*◌, ◌^◌, ◌≤◌, ℤ, false, List, Option, None, Some}
+use Rattle.std.specs.Prelude.{◌≡◌, ℕ, ◌+◌, ◌-◌, ◌*◌, ◌^◌, ℤ, Bool, false, List, ◌∷◌, Option, None, Some}
+use Rattle.tsp_base.specs.declared.act.Act.TheVariants.{Correct}
 use Rattle.tsp_base.specs.declared.place.PeerId.{PeerId}
-use Rattle.tsp_base.specs.History.{Booted, Past, Seen}
+use Rattle.tsp_base.specs.History.{Acts, Booted, Elsewhere, Past, Step}
 use Rattle.tsp_base.specs.PortFacts.{Received, acting}
-use Rattle.tsp_base.specs.SendFacts.{Sending, deadline_of, open_send}
 use Rattle.tsp_acks.specs.Stands.{Stands}
 use Rattle.tsp_clock.specs.Clocks.{ClockValue}
 use Rattle.tsp_clock.specs.ClockStands.{ClockStands}
@@ -27,6 +27,10 @@ pub record PartBegun (past : Past) (both : Part × ClockValue) : Type 0 where
 -- a port whose step has taken this
 abbrev pub PartTook : Received → Past → Part × ClockValue → Type 0
 PartTook r past both = SlaveStands past (both.0.station, (both.0.last, (both.1, Some r)))
+
+-- a port's past after a correction on another port of its node, in this step and at this tick
+abbrev pub corrected_elsewhere : Step → ℕ → ℤ → Bool → ℤ → Past → Past
+corrected_elsewhere step x amount stepped shown past = record past { seen = Elsewhere (record { step = step; tick = x; deed = Acts (Correct amount stepped shown) }) ∷ past.seen }
 
 -- what a node stands for between its steps
 abbrev pub NodeStands : Past → Node → Type 0
@@ -52,16 +56,6 @@ clock_at node = node.clock.at
 -- how many acts a step of a node with so many peers may take
 abbrev pub room_of : ℕ → ℕ
 room_of peers = 24 * peers + 256
-
--- the deadline of an open send of a port, of which none has an earlier one
-pub record IsEarliestAt (seen : List Seen) (t : ℕ) : Type 0 where
-  pub of : (p : PeerId) × (s : Sending) × (open_send p seen ≡ Some s) × (deadline_of s ≡ t)
-  pub first : (p : PeerId) (s : Sending) → open_send p seen ≡ Some s → t ≤ deadline_of s
-
--- the earliest deadline of an open send, if one is open
-abbrev pub IsEarliestOpen : List Seen → Option ℕ → Type 0
-IsEarliestOpen seen None = (p : PeerId) → open_send p seen ≡ None
-IsEarliestOpen seen (Some t) = IsEarliestAt seen t
 
 -- the tick at which a node is to be looked at next; the greatest number of 64 bits where nothing is armed
 abbrev pub due_of : Option ℕ → ℕ

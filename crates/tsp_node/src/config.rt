@@ -1,7 +1,7 @@
 //! How a node is set up.
-ghost use Rattle.std.specs.Prelude.{◌≡◌, IfOk};
-ghost use Rattle.tsp_rules.specs.Tests.{is_among};
-ghost use Rattle.tsp_node.specs.Configs.{is_ascending, is_port};
+ghost use Rattle.std.specs.Prelude.{◌≡◌, ◌↔◌, true, IfOk};
+ghost use Rattle.tsp_sends.specs.Slots.{IsAscending};
+ghost use Rattle.tsp_node.specs.Configs.{IsPort};
 
 use std::alloc::{AllocError, Global};
 use std::marker::Model;
@@ -9,14 +9,15 @@ use tsp_acks::me::Me;
 use tsp_base::name::Name;
 use tsp_base::place::PeerId;
 
-/// How a node is set up, for all its lives: its host name, its own number, all peers, and whether it may be
-/// master.
+/// How a node is set up, for all its lives: its host name, its own number, all peers, whether it may be
+/// master, and whether a candidate needs more than half of the peers.
 #[derive(Drop)]
 pub struct Config {
     name: Name,
     own: PeerId,
     peers: Vec<PeerId>,
     may: bool,
+    strict: bool,
 }
 
 impl Model for Config {
@@ -24,20 +25,21 @@ impl Model for Config {
 
     ghost Value = { ConfigValue };
 
-    ghost view = { λ c. record { name = c.name; own = c.own; peers = c.peers.items; may = c.may } };
+    ghost view = { λ c. record { name = c.name; own = c.own; peers = c.peers.items; may = c.may; strict = c.strict } };
 }
 
 impl Config {
-    /// A node that is set up so; whether it can have these peers is known at its boot. The answer is an error
-    /// only where memory is wanting.
+    /// A node that is set up so; whether it can have these peers is known at its boot. Fails only where
+    /// memory is refused.
     pub fn new(
         alloc: Global,
         name: Name,
         own: PeerId,
         peers: &[PeerId],
         may: bool,
+        strict: bool,
     ) -> Result<Config, AllocError>
-        ensures { IfOk result (λ c. c ≡ record { name = name; own = own; peers = peers.now; may = may }) }
+        ensures { IfOk result (λ c. c ≡ record { name = name; own = own; peers = peers.now; may = may; strict = strict }) }
     {
         let peers = Vec::from_slice(alloc, peers)?;
         Ok(Config {
@@ -45,6 +47,7 @@ impl Config {
             own,
             peers,
             may,
+            strict,
         })
     }
 
@@ -57,35 +60,32 @@ impl Config {
 
     /// Whether a node can have these peers: at most 1,000, strictly ascending, its own number among them.
     pub(crate) fn is_port(&self) -> bool
-        ensures { result ≡ is_port self.now }
+        ensures { (result ≡ true) ↔ IsPort self.now }
     {
         let peers = self.peers.as_slice();
-        peers.len() <= 1000 && is_ascending(peers) && is_among(self.own, peers)
+        if peers.len() > 1000 || !is_ascending(peers) {
+            return false;
+        }
+        peers.contains(&self.own)
     }
 
     /// Who the node is in a life that begins with a word.
     pub(crate) fn me(&self, word: u64) -> Me
-        ensures { result ≡ record { own = self.now.own; name = self.now.name; word = word; may = self.now.may } }
+        ensures { result ≡ record { own = self.now.own; name = self.now.name; word = word; may = self.now.may; strict = self.now.strict } }
     {
         Me {
             own: self.own,
             name: self.name.copy(),
             word,
             may: self.may,
+            strict: self.strict,
         }
     }
 }
 
 /// Whether peers are strictly ascending.
 fn is_ascending(peers: &[PeerId]) -> bool
-    ensures { result ≡ is_ascending peers.now }
+    ensures { (result ≡ true) ↔ IsAscending peers.now }
 {
     peers.is_sorted_by(|p, q| p.0 < q.0)
-}
-
-/// Whether p is one of these peers.
-fn is_among(p: PeerId, peers: &[PeerId]) -> bool
-    ensures { result ≡ is_among p peers.now }
-{
-    peers.contains(&p)
 }

@@ -1,12 +1,14 @@
 //! What a port does with a message, by who sent it and what the port is.
-ghost use Rattle.std.specs.Prelude.{◌≡◌, ℕ, ◌+◌, ◌*◌, ◌≤◌, ◌^◌, length};
+ghost use Rattle.std.specs.Prelude.{◌≡◌, ℕ, ◌≤◌, ◌&&◌, not};
 ghost use Rattle.tsp_base.specs.declared.datagram.Datagram.TheVariants.{Message as MessageOf};
 ghost use Rattle.tsp_base.specs.declared.datagram.Taken.TheVariants.{Good};
-ghost use Rattle.tsp_base.specs.declared.place.Place.TheVariants.{Peer};
+ghost use Rattle.tsp_base.specs.Frames.{IsTick, PutsAtMost};
 ghost use Rattle.tsp_base.specs.Performs.{Performs};
-ghost use Rattle.tsp_rules.specs.Answers.{from_peer};
-ghost use Rattle.tsp_rules.specs.SoFar.{peer_says_so_far, master_takes_so_far};
+ghost use Rattle.tsp_base.specs.SendFacts.{is_correction};
+ghost use Rattle.tsp_rules.specs.Tests.{is_follow};
+ghost use Rattle.tsp_acks.specs.Changes.{IsSamePort};
 ghost use Rattle.tsp_acks.specs.Stands.{Stands};
+ghost use Rattle.tsp_node.specs.InForce.{hears_in_force, master_takes_in_force};
 ghost use Rattle.tsp_node.specs.NodeStands.{PartStands, PartTook};
 
 use crate::part::Part;
@@ -21,55 +23,36 @@ use tsp_clock::clock::Clock;
 use tsp_slave::take::slave_take;
 
 impl Part {
-    /// Hears a message of a peer, once the quiet time is over; strangers' messages are passed over.
+    /// Hears a message of a peer, once the quiet time is over, and treats it by the port's role. Strangers'
+    /// messages are passed over, and so are a master's corrections where the port doesn't steer.
     pub(crate) fn hear<D: Desk>(
         &mut self,
         clock: &mut Clock,
+        steer: bool,
         tick: u64,
         from: Place,
         m: &Message,
         port: Port,
         desk: &mut D,
     )
-        requires room { 2 * length self.old.station.peers + 16 ≤ D.spare desk.old }
-        requires tick { tick ≤ 2 ^ 61 }
+        requires room { 3 ≤ D.spare desk.old }
+        requires tick { IsTick tick }
         requires later { clock.old.at ≤ tick }
-        ensures row { Performs (PartTook (record { from = from; taken = Good (MessageOf m.now) })) PartStands (from_peer from (peer_says_so_far m.now)) tick port (self.old, clock.old) (self.new, clock.new) (D.acts desk.old) (D.acts desk.new) }
+        ensures row { Performs (PartTook (record { from = from; taken = Good (MessageOf m.now) })) PartStands (hears_in_force steer from m.now) tick port (self.old, clock.old) (self.new, clock.new) (D.acts desk.old) (D.acts desk.new) }
         ensures peers { self.new.station.peers ≡ self.old.station.peers }
         ensures clock { clock.new.at ≤ tick }
-        ensures spare { D.spare desk.old ≤ D.spare desk.new + 3 }
-        ensures few { length (D.acts desk.new) ≤ length (D.acts desk.old) + 3 }
+        ensures room { PutsAtMost 3 (D.spare desk.old) (D.spare desk.new) (D.acts desk.old) (D.acts desk.new) }
     {
-        match from {
-            Place::Peer(p) => {
-                if self.station.hears(p) {
-                    self.hear_peer(clock, tick, p, m, port, desk);
-                }
-            }
-            Place::Stranger => {}
-        }
-    }
-
-    /// Treats a message of a peer by the port's role.
-    fn hear_peer<D: Desk>(
-        &mut self,
-        clock: &mut Clock,
-        tick: u64,
-        p: PeerId,
-        m: &Message,
-        port: Port,
-        desk: &mut D,
-    )
-        requires room { 2 * length self.old.station.peers + 16 ≤ D.spare desk.old }
-        requires tick { tick ≤ 2 ^ 61 }
-        requires later { clock.old.at ≤ tick }
-        ensures row { Performs (PartTook (record { from = Peer p; taken = Good (MessageOf m.now) })) PartStands (peer_says_so_far m.now p) tick port (self.old, clock.old) (self.new, clock.new) (D.acts desk.old) (D.acts desk.new) }
-        ensures peers { self.new.station.peers ≡ self.old.station.peers }
-        ensures clock { clock.new.at ≤ tick }
-        ensures spare { D.spare desk.old ≤ D.spare desk.new + 3 }
-        ensures few { length (D.acts desk.new) ≤ length (D.acts desk.old) + 3 }
-    {
+        let Place::Peer(p) = from else {
+            return;
+        };
         let station = &mut self.station;
+        if leaves(station.role, steer, m.kind()) {
+            return;
+        }
+        if !station.hears(p) {
+            return;
+        }
         let last = &mut self.last;
         match station.role {
             Role::Starting => {}
@@ -81,16 +64,25 @@ impl Part {
     }
 }
 
+/// Whether a port of this role passes this kind of message over since it doesn't steer: a correction by the
+/// master that it follows.
+fn leaves(role: Role, steer: bool, kind: Kind) -> bool
+    ensures { result ≡ (not steer && (is_correction kind && is_follow role)) }
+{
+    !steer && matches!(kind, Kind::AdjTime | Kind::SetTime) && matches!(role, Role::Follow(_))
+}
+
 /// Treats a message of a peer at a master: only an ACK of one of its sends has a rule yet.
 fn master_take<D: Desk>(station: &mut Station, p: PeerId, m: &Message, port: Port, desk: &mut D)
     requires room { 1 ≤ D.spare desk.old }
-    ensures row { (x : ℕ) → Performs Stands Stands (master_takes_so_far p m.now) x port station.old station.new (D.acts desk.old) (D.acts desk.new) }
-    ensures peers { station.new.peers ≡ station.old.peers }
-    ensures spare { D.spare desk.old ≤ D.spare desk.new + 1 }
-    ensures few { length (D.acts desk.new) ≤ length (D.acts desk.old) + 1 }
+    ensures row { (x : ℕ) → Performs Stands Stands (master_takes_in_force p m.now) x port station.old station.new (D.acts desk.old) (D.acts desk.new) }
+    ensures room { PutsAtMost 1 (D.spare desk.old) (D.spare desk.new) (D.acts desk.old) (D.acts desk.new) }
+    ensures port { IsSamePort station.old station.new }
 {
     match m.kind() {
-        Kind::Ack => station.acknowledge(p, m.number(), port, desk),
+        Kind::Ack => {
+            let _ = station.acknowledge(p, m.number(), port, desk);
+        }
         _ => {}
     }
 }

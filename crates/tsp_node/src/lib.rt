@@ -12,8 +12,7 @@ mod reply;
 mod ringing;
 mod stepping;
 mod taking;
-#[cfg(test)]
-mod tests;
+pub mod worked;
 
 pub use config::Config;
 pub use fault::BootFault;

@@ -1,6 +1,7 @@
 //! A node with one port.
-ghost use Rattle.std.specs.Prelude.{◌≡◌, ◌+◌, ◌≤◌, ◌^◌, true, [], ◌∷◌, IfOk, IfErr, OnErr, length};
+ghost use Rattle.std.specs.Prelude.{◌≡◌, ◌≤◌, true, [], ◌∷◌, IfOk, IfErr, OnErr};
 ghost use Rattle.tsp_base.specs.declared.act.Act.TheVariants.{Boot};
+ghost use Rattle.tsp_base.specs.Frames.{IsTick, PutsAtMost};
 ghost use Rattle.tsp_base.specs.History.{Past};
 ghost use Rattle.tsp_base.specs.Performs.{Performs};
 ghost use Rattle.tsp_base.specs.Rows.{grown};
@@ -32,7 +33,7 @@ impl Node {
 
     /// Boots a node with a word, at a tick and a wall clock (microseconds): puts Boot, Become(Starting) and
     /// Arm(Quiet). `Peers` exactly where the node can't have its peers, else `Range` exactly where the wall
-    /// doesn't lie strictly between -2^31 and 2^31 seconds, else `OutOfMemory` only where memory is wanting;
+    /// doesn't lie strictly between -2^31 and 2^31 seconds, else `OutOfMemory` only where memory is refused;
     /// then nothing is put.
     pub fn boot<D: Desk>(
         alloc: Global,
@@ -43,13 +44,12 @@ impl Node {
         desk: &mut D,
     ) -> Result<Node, BootFault>
         requires room { 3 ≤ D.spare desk.old }
-        requires tick { tick ≤ 2 ^ 61 }
+        requires tick { IsTick tick }
         ensures row { IfOk result (λ node. Performs (Unbooted config.now word wall) NodeStands boots tick (record { 0 = 0 }) tt node (D.acts desk.old) (D.acts desk.new)) }
         ensures ok { IfOk result (λ node. IsPort config.now × (is_clock_value wall ≡ true) × (peers_in node ≡ config.now.peers) × (clock_at node ≡ tick)) }
         ensures err { IfErr result (λ fault. BootsNot config.now wall fault) }
         ensures refused { OnErr result (D.acts desk.new ≡ D.acts desk.old) }
-        ensures spare { D.spare desk.old ≤ D.spare desk.new + 3 }
-        ensures few { length (D.acts desk.new) ≤ length (D.acts desk.old) + 3 }
+        ensures room { PutsAtMost 3 (D.spare desk.old) (D.spare desk.new) (D.acts desk.old) (D.acts desk.new) }
     {
         let mut node = Node::new(alloc, config, tick, wall, word)?;
         desk.put(PORT, Act::Boot);
@@ -65,7 +65,7 @@ impl Node {
         wall: i64,
         word: u64,
     ) -> Result<Node, BootFault>
-        requires { tick ≤ 2 ^ 61 }
+        requires { IsTick tick }
         ensures stands { IfOk result (λ node. (past : Past) → Unbooted config.now word wall past tt → NodeStands (grown tick past (Boot ∷ [])) node) }
         ensures ok { IfOk result (λ node. IsPort config.now × (is_clock_value wall ≡ true) × (peers_in node ≡ config.now.peers) × (clock_at node ≡ tick)) }
         ensures err { IfErr result (λ fault. BootsNot config.now wall fault) }

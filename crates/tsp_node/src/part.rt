@@ -1,10 +1,11 @@
 //! What a node is on a port.
-ghost use Rattle.std.specs.Prelude.{◌≡◌, ◌+◌, ◌≤◌, ◌^◌, ℤ, Some, None, [], ◌∷◌, IfOk, length};
+ghost use Rattle.std.specs.Prelude.{◌≡◌, ◌≤◌, ℤ, Bool, Some, None, [], ◌∷◌, IfOk};
 ghost use Rattle.tsp_base.specs.declared.act.Act.TheVariants.{Boot, Become};
 ghost use Rattle.tsp_base.specs.declared.alarm.Alarm.TheVariants.{Quiet};
 ghost use Rattle.tsp_base.specs.declared.constants.TheConstants.{QUIET};
 ghost use Rattle.tsp_base.specs.declared.role.Role.TheVariants.{Starting};
-ghost use Rattle.tsp_base.specs.History.{Past, Booted};
+ghost use Rattle.tsp_base.specs.Frames.{IsTick, PutsAtMost};
+ghost use Rattle.tsp_base.specs.History.{Past, Booted, Step};
 ghost use Rattle.tsp_base.specs.Performs.{Performs};
 ghost use Rattle.tsp_base.specs.Rows.{grown, puts, arms, ◌followed_by◌};
 ghost use Rattle.tsp_acks.specs.Peers.{IsPeers};
@@ -30,9 +31,10 @@ pub struct Part {
 }
 
 impl Part {
-    ghost use Rattle.tsp_node.specs.NodeStands.{PartStands};
+    ghost use Rattle.tsp_node.specs.NodeStands.{PartStands, corrected_elsewhere};
 
-    /// A port of a node that boots at this tick. The answer is an error only where memory is wanting.
+    /// A port of a node that boots at this tick. Fails only where memory is
+    /// refused.
     pub fn new(alloc: Global, me: Me, peers: &[PeerId], tick: u64) -> Result<Part, AllocError>
         requires { IsPeers peers.now }
         ensures peers { IfOk result (λ part. part.station.peers ≡ peers.now) }
@@ -49,18 +51,19 @@ impl Part {
     /// Begins a life right after its boot, at that tick: Starting, until the quiet time ends.
     pub fn begin<D: Desk>(&mut self, tick: u64, port: Port, desk: &mut D)
         requires room { 2 ≤ D.spare desk.old }
-        requires tick { tick ≤ 2 ^ 61 }
+        requires tick { IsTick tick }
         ensures row { (clock : ClockValue) → Performs PartStands PartStands (puts (Become Starting) followed_by arms Quiet QUIET) tick port (self.old, clock) (self.new, clock) (D.acts desk.old) (D.acts desk.new) }
         ensures peers { self.new.station.peers ≡ self.old.station.peers }
-        ensures spare { D.spare desk.new + 2 ≡ D.spare desk.old }
-        ensures few { length (D.acts desk.new) ≡ length (D.acts desk.old) + 2 }
+        ensures room { PutsAtMost 2 (D.spare desk.old) (D.spare desk.new) (D.acts desk.old) (D.acts desk.new) }
     {
         self.station.become_role(Role::Starting, port, desk);
         self.station.arm(Alarm::Quiet, tick, QUIET, port, desk);
     }
 
-    /// Notes a correction that no message of a master to this port made.
+    /// Notes a correction that another port of its node made.
     pub fn moved(&mut self, tick: u64)
+        ensures stands { (past : Past) (step : Step) (amount shown : ℤ) (stepped : Bool) (before after : ClockValue) → PartStands past (self.old, before) →
+            ClockStands (corrected_elsewhere step tick amount stepped shown past) after → PartStands (corrected_elsewhere step tick amount stepped shown past) (self.new, after) }
         ensures station { self.new.station ≡ self.old.station }
         ensures last { self.new.last ≡ record { tick = Some tick; taken = None; name = self.old.last.name } }
     {

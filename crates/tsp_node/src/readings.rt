@@ -1,10 +1,13 @@
 //! What is read of a node from outside.
-ghost use Rattle.std.specs.Prelude.{◌≡◌, ℕ, ◌≤◌, ◌^◌, Option};
+ghost use Rattle.std.specs.Prelude.{◌≡◌, ℕ, ◌≤◌, Option};
 ghost use Rattle.tsp_base.specs.Alarms.{earlier, least_deadline};
+ghost use Rattle.tsp_base.specs.Frames.{IsTick};
 ghost use Rattle.tsp_base.specs.History.{Past, plain};
 ghost use Rattle.tsp_base.specs.NodeFacts.{shown};
 ghost use Rattle.tsp_base.specs.PortFacts.{role, armed};
+ghost use Rattle.tsp_base.specs.SendFacts.{open_send};
 ghost use Rattle.tsp_clock.specs.Clocks.{shown_of};
+ghost use Rattle.tsp_sends.specs.Slots.{sending_to};
 ghost use Rattle.tsp_sends.specs.Treating.{IsEarliest};
 
 use crate::node::Node;
@@ -12,13 +15,13 @@ use tsp_base::alarms::earlier;
 use tsp_base::role::Role;
 
 impl Node {
-    ghost use Rattle.tsp_node.specs.NodeStands.{NodeStands, IsEarliestOpen, clock_at, due_of};
+    ghost use Rattle.tsp_node.specs.NodeStands.{NodeStands, clock_at, due_of};
 
     /// When it is to be looked at next, in its own ticks: the earliest deadline of an armed alarm or an open
-    /// send. `u64::MAX` exactly where there is none, which no node that booted comes to, or where one is that.
+    /// send, which may lie in the past; `u64::MAX` where there is none.
     pub fn due(&self) -> u64
-        ensures value { (o : Option ℕ) × IsEarliest self.now.part.station.sends o × (result ≡ due_of (earlier (least_deadline self.now.part.station.alarms) o)) }
-        ensures past { (past : Past) → NodeStands past self.now → (o : Option ℕ) × IsEarliestOpen past.seen o × (result ≡ due_of (earlier (least_deadline (armed past.seen)) o)) }
+        ensures value { (o : Option ℕ) × IsEarliest (sending_to self.now.part.station.sends) o × (result ≡ due_of (earlier (least_deadline self.now.part.station.alarms) o)) }
+        ensures past { (past : Past) → NodeStands past self.now → (o : Option ℕ) × IsEarliest (λ p. open_send p past.seen) o × (result ≡ due_of (earlier (least_deadline (armed past.seen)) o)) }
     {
         let station = self.part.station();
         match earlier(station.alarms.least(), station.sends.least()) {
@@ -37,7 +40,7 @@ impl Node {
 
     /// What its clock shows at a tick, in microseconds.
     pub fn shown(&self, tick: u64) -> i64
-        requires tick { tick ≤ 2 ^ 61 }
+        requires tick { IsTick tick }
         requires later { clock_at self.now ≤ tick }
         ensures value { result ≡ shown_of self.now.clock tick }
         ensures past { (past : Past) → NodeStands past self.now → result ≡ shown (plain past.seen) tick }

@@ -1,5 +1,6 @@
 //! How a stamp request is answered.
-ghost use Rattle.std.specs.Prelude.{◌≡◌, ◌+◌, ◌≤◌, ◌^◌, true, false, IfSome, IfNone, length};
+ghost use Rattle.std.specs.Prelude.{◌≡◌, ◌≤◌, true, false, IfSome, IfNone};
+ghost use Rattle.tsp_base.specs.Frames.{IsTick, PutsAtMost};
 ghost use Rattle.tsp_base.specs.Performs.{Performs};
 ghost use Rattle.tsp_rules.specs.CommonRows.{replies};
 ghost use Rattle.tsp_rules.specs.Tests.{is_clock_value};
@@ -25,11 +26,10 @@ pub(crate) fn reply<D: Desk>(
     desk: &mut D,
 )
     requires room { 1 ≤ D.spare desk.old }
-    requires tick { tick ≤ 2 ^ 61 }
+    requires tick { IsTick tick }
     requires later { clock.now.at ≤ tick }
     ensures row { (part : Part) → Performs PartStands PartStands (replies from word counter) tick port (part, clock.now) (part, clock.now) (D.acts desk.old) (D.acts desk.new) }
-    ensures spare { D.spare desk.old ≤ D.spare desk.new + 1 }
-    ensures few { length (D.acts desk.new) ≤ length (D.acts desk.old) + 1 }
+    ensures room { PutsAtMost 1 (D.spare desk.old) (D.spare desk.new) (D.acts desk.old) (D.acts desk.new) }
 {
     match stamp_at(clock, tick, word, counter) {
         Some(stamp) => desk.put(port, Act::Post(from, Datagram::Stamp(stamp))),
@@ -39,7 +39,7 @@ pub(crate) fn reply<D: Desk>(
 
 /// The reply to a request at a tick; None exactly where the target isn't a clock's value.
 fn stamp_at(clock: &Clock, tick: u64, word: u64, counter: u64) -> Option<Stamp>
-    requires tick { tick ≤ 2 ^ 61 }
+    requires tick { IsTick tick }
     requires later { clock.now.at ≤ tick }
     ensures there { IfSome result (λ s. (is_clock_value (target_of clock.now tick) ≡ true) × (s ≡ Stamp.Reply (record { ticket = clock.now.ticket; word = word; counter = counter; reading = target_of clock.now tick }))) }
     ensures none { IfNone result (is_clock_value (target_of clock.now tick) ≡ false) }

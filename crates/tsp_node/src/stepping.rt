@@ -1,10 +1,10 @@
 //! The steps of a node that is up.
-ghost use Rattle.std.specs.Prelude.{◌≡◌, ◌+◌, ◌*◌, ◌≤◌, ◌^◌, length};
+ghost use Rattle.std.specs.Prelude.{◌≡◌, ◌+◌, ◌*◌, ◌≤◌, true, false, length};
+ghost use Rattle.tsp_base.specs.Frames.{IsTick, PutsAtMost};
 ghost use Rattle.tsp_base.specs.Performs.{Performs};
 ghost use Rattle.tsp_rules.specs.Answers.{Turn, Got};
-ghost use Rattle.tsp_rules.specs.SoFar.{answers_so_far, due_alarms_so_far};
+ghost use Rattle.tsp_node.specs.InForce.{answers_in_force, due_alarms_in_force, rings_in_force};
 ghost use Rattle.tsp_node.specs.Inputs.{given};
-ghost use Rattle.tsp_node.specs.Ringing.{rings_so_far};
 
 use crate::node::{Node, PORT};
 use tsp_base::alarm::Alarm;
@@ -27,13 +27,12 @@ impl Node {
     /// A step with an input: its timers are looked at, and what octets it brings are read and taken.
     pub fn step<D: Desk>(&mut self, tick: u64, input: &Input, desk: &mut D)
         requires room { room_of (length (peers_in self.old)) ≤ D.spare desk.old }
-        requires tick { tick ≤ 2 ^ 61 }
+        requires tick { IsTick tick }
         requires later { clock_at self.old ≤ tick }
-        ensures row { Performs Begun NodeStands (answers_so_far (given input.now)) tick (record { 0 = 0 }) self.old self.new (D.acts desk.old) (D.acts desk.new) }
+        ensures row { Performs Begun NodeStands (answers_in_force (given input.now)) tick (record { 0 = 0 }) self.old self.new (D.acts desk.old) (D.acts desk.new) }
         ensures peers { peers_in self.new ≡ peers_in self.old }
         ensures clock { clock_at self.new ≤ tick }
-        ensures spare { D.spare desk.old ≤ D.spare desk.new + room_of (length (peers_in self.old)) }
-        ensures few { length (D.acts desk.new) ≤ length (D.acts desk.old) + room_of (length (peers_in self.old)) }
+        ensures room { PutsAtMost (room_of (length (peers_in self.old))) (D.spare desk.old) (D.spare desk.new) (D.acts desk.old) (D.acts desk.new) }
     {
         match input {
             Input::Turn => self.turn(tick, desk),
@@ -44,13 +43,12 @@ impl Node {
     /// A step in which only its timers are looked at.
     pub fn turn<D: Desk>(&mut self, tick: u64, desk: &mut D)
         requires room { room_of (length (peers_in self.old)) ≤ D.spare desk.old }
-        requires tick { tick ≤ 2 ^ 61 }
+        requires tick { IsTick tick }
         requires later { clock_at self.old ≤ tick }
-        ensures row { Performs Begun NodeStands (answers_so_far Turn) tick (record { 0 = 0 }) self.old self.new (D.acts desk.old) (D.acts desk.new) }
+        ensures row { Performs Begun NodeStands (answers_in_force Turn) tick (record { 0 = 0 }) self.old self.new (D.acts desk.old) (D.acts desk.new) }
         ensures peers { peers_in self.new ≡ peers_in self.old }
         ensures clock { clock_at self.new ≤ tick }
-        ensures spare { D.spare desk.old ≤ D.spare desk.new + room_of (length (peers_in self.old)) }
-        ensures few { length (D.acts desk.new) ≤ length (D.acts desk.old) + room_of (length (peers_in self.old)) }
+        ensures room { PutsAtMost (room_of (length (peers_in self.old))) (D.spare desk.old) (D.spare desk.new) (D.acts desk.old) (D.acts desk.new) }
     {
         self.part.sends(tick, PORT, desk);
         self.ring_alarms(tick, desk);
@@ -59,13 +57,12 @@ impl Node {
     /// A step that takes octets from somebody, as they were read.
     pub fn take<D: Desk>(&mut self, tick: u64, from: Place, taken: &Taken, desk: &mut D)
         requires room { room_of (length (peers_in self.old)) ≤ D.spare desk.old }
-        requires tick { tick ≤ 2 ^ 61 }
+        requires tick { IsTick tick }
         requires later { clock_at self.old ≤ tick }
-        ensures row { Performs Begun NodeStands (answers_so_far (Got from taken.now)) tick (record { 0 = 0 }) self.old self.new (D.acts desk.old) (D.acts desk.new) }
+        ensures row { Performs Begun NodeStands (answers_in_force (Got from taken.now)) tick (record { 0 = 0 }) self.old self.new (D.acts desk.old) (D.acts desk.new) }
         ensures peers { peers_in self.new ≡ peers_in self.old }
         ensures clock { clock_at self.new ≤ tick }
-        ensures spare { D.spare desk.old ≤ D.spare desk.new + room_of (length (peers_in self.old)) }
-        ensures few { length (D.acts desk.new) ≤ length (D.acts desk.old) + room_of (length (peers_in self.old)) }
+        ensures room { PutsAtMost (room_of (length (peers_in self.old))) (D.spare desk.old) (D.spare desk.new) (D.acts desk.old) (D.acts desk.new) }
     {
         self.part.sends(tick, PORT, desk);
         self.ring_alarms(tick, desk);
@@ -74,15 +71,14 @@ impl Node {
     }
 
     /// Treats the due alarms, each when its turn comes. The alarms of a master, which come behind these, have
-    /// no rules yet.
+    /// no rules in force yet.
     fn ring_alarms<D: Desk>(&mut self, tick: u64, desk: &mut D)
-        requires tick { tick ≤ 2 ^ 61 }
-        requires room { 10 * length (peers_in self.old) + 80 ≤ D.spare desk.old }
-        ensures row { Performs NodeStands NodeStands due_alarms_so_far tick (record { 0 = 0 }) self.old self.new (D.acts desk.old) (D.acts desk.new) }
+        requires tick { IsTick tick }
+        requires room { 8 * length (peers_in self.old) + 64 ≤ D.spare desk.old }
+        ensures row { Performs NodeStands NodeStands due_alarms_in_force tick (record { 0 = 0 }) self.old self.new (D.acts desk.old) (D.acts desk.new) }
         ensures peers { peers_in self.new ≡ peers_in self.old }
         ensures clock { clock_at self.new ≡ clock_at self.old }
-        ensures spare { D.spare desk.old ≤ D.spare desk.new + (8 * length (peers_in self.old) + 64) }
-        ensures few { length (D.acts desk.new) ≤ length (D.acts desk.old) + (8 * length (peers_in self.old) + 64) }
+        ensures room { PutsAtMost (4 * length (peers_in self.old) + 16) (D.spare desk.old) (D.spare desk.new) (D.acts desk.old) (D.acts desk.new) }
     {
         self.ring(Alarm::Quiet, tick, desk);
         self.ring(Alarm::Search, tick, desk);
@@ -92,13 +88,12 @@ impl Node {
 
     /// Treats one alarm where it is due.
     fn ring<D: Desk>(&mut self, alarm: Alarm, tick: u64, desk: &mut D)
-        requires tick { tick ≤ 2 ^ 61 }
+        requires tick { IsTick tick }
         requires room { 2 * length (peers_in self.old) + 16 ≤ D.spare desk.old }
-        ensures row { Performs NodeStands NodeStands (rings_so_far alarm) tick (record { 0 = 0 }) self.old self.new (D.acts desk.old) (D.acts desk.new) }
+        ensures row { Performs NodeStands NodeStands (rings_in_force true false alarm) tick (record { 0 = 0 }) self.old self.new (D.acts desk.old) (D.acts desk.new) }
         ensures peers { peers_in self.new ≡ peers_in self.old }
         ensures clock { clock_at self.new ≡ clock_at self.old }
-        ensures spare { D.spare desk.old ≤ D.spare desk.new + (2 * length (peers_in self.old) + 16) }
-        ensures few { length (D.acts desk.new) ≤ length (D.acts desk.old) + (2 * length (peers_in self.old) + 16) }
+        ensures room { PutsAtMost (length (peers_in self.old) + 4) (D.spare desk.old) (D.spare desk.new) (D.acts desk.old) (D.acts desk.new) }
     {
         self.part
             .ring(&mut self.clock, alarm, true, false, tick, PORT, desk);

@@ -88,7 +88,7 @@ TreatsNext-found after tick slots deadlines from i d new r s f found peer sendin
     )
 
 -- the tree's least deadline is that of an open send
-pub IsEarliest-least : (slots : List Slot) (deadlines : List (Option ℕ)) (r : Option ℕ) → IsSends slots deadlines → IsLeast deadlines r → IsEarliest slots r
+pub IsEarliest-least : (slots : List Slot) (deadlines : List (Option ℕ)) (r : Option ℕ) → IsSends slots deadlines → IsLeast deadlines r → IsEarliest (sending_to slots) r
 IsEarliest-least slots deadlines None s least = λ p. none_open p (sending_to slots p) refl where
   none_open : (p : PeerId) (o : Option Sending) → sending_to slots p ≡ o → o ≡ None
   none_open p None e = refl

@@ -22,6 +22,11 @@ is_due_send tick s = is_due tick (option_map deadline_of s)
 abbrev pub treated : PeerId → ℕ → Sending → Due
 treated p tick s = if is_given_up s tick then Gave p s.message.kind else Again p s.message
 
+-- whom a due send is to
+abbrev pub peer_of : Due → PeerId
+peer_of (Again p m) = p
+peer_of (Gave p k) = p
+
 -- what stays open of a due send
 abbrev pub kept : ℕ → Sending → Option Sending
 kept tick s = if is_given_up s tick then None else Some (record s { posts = s.posts + 1 })
@@ -38,15 +43,15 @@ abbrev pub TreatsNext : Option PeerId → ℕ → List Slot → List Slot → Op
 TreatsNext after tick old new None = ((q : PeerId) → IsAfter after q → is_due_send tick (sending_to old q) ≡ false) × (new ≡ old)
 TreatsNext after tick old new (Some due) = (p : PeerId) × (s : Sending) × IsNextDue after tick old p s × (due ≡ treated p tick s) × SetsOnly p (kept tick s) old new
 
--- t is the deadline of an open send, and none has an earlier one
-pub record IsLeastSend (slots : List Slot) (t : ℕ) : Type 0 where
-  pub of : (p : PeerId) × (s : Sending) × (sending_to slots p ≡ Some s) × (deadline_of s ≡ t)
-  pub first : (p : PeerId) (s : Sending) → sending_to slots p ≡ Some s → t ≤ deadline_of s
+-- t is the deadline of one of these open sends, and none has an earlier one
+pub record IsLeastSend (sending : PeerId → Option Sending) (t : ℕ) : Type 0 where
+  pub of : (p : PeerId) × (s : Sending) × (sending p ≡ Some s) × (deadline_of s ≡ t)
+  pub first : (p : PeerId) (s : Sending) → sending p ≡ Some s → t ≤ deadline_of s
 
--- the earliest deadline of an open send, if there is one
-abbrev pub IsEarliest : List Slot → Option ℕ → Type 0
-IsEarliest slots None = (p : PeerId) → sending_to slots p ≡ None
-IsEarliest slots (Some t) = IsLeastSend slots t
+-- the earliest deadline of the open sends to peers, if one is open
+abbrev pub IsEarliest : (PeerId → Option Sending) → Option ℕ → Type 0
+IsEarliest sending None = (p : PeerId) → sending p ≡ None
+IsEarliest sending (Some t) = IsLeastSend sending t
 
 -- where a peer's slot is, or where it would be
 abbrev pub IsPlaceOf : PeerId → List Slot → Result ℕ ℕ → Type 0

@@ -1,4 +1,6 @@
 //! What is done with a send that is due.
+ghost use Rattle.std.specs.Prelude.{◌≡◌};
+ghost use Rattle.tsp_sends.specs.Treating.{peer_of};
 
 use tsp_base::kind::Kind;
 use tsp_base::message::Message;
@@ -11,4 +13,16 @@ pub enum Due {
     Again(PeerId, Message),
     /// It is given up; this was its kind.
     Gave(PeerId, Kind),
+}
+
+impl Due {
+    /// Whom the send is to.
+    pub fn peer(&self) -> PeerId
+        ensures { result ≡ peer_of self.now }
+    {
+        match self {
+            Due::Again(p, _) => *p,
+            Due::Gave(p, _) => *p,
+        }
+    }
 }

@@ -40,7 +40,7 @@ impl Model for Sends {
 impl Sends {
     /// No open send to any of these peers.
     ///
-    /// The answer is an error only where memory is wanting; no later call takes any.
+    /// Fails only where memory is refused; no later call takes any.
     pub fn new(alloc: Global, peers: &[PeerId]) -> Result<Sends, AllocError>
         requires { IsAscending peers.now }
         ensures peers { IfOk result (λ s. peers_of s ≡ peers.now) }
@@ -105,7 +105,7 @@ impl Sends {
 
     /// The tick from which the first send is due; None exactly where no send is open.
     pub fn least(&self) -> Option<u64>
-        ensures { IsEarliest self.now result }
+        ensures { IsEarliest (sending_to self.now) result }
     {
         self.tree.least()
     }

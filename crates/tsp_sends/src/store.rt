@@ -22,7 +22,7 @@ impl Model for Store {
 }
 
 impl Store {
-    /// So many nodes without deadlines. The answer is an error only where memory is wanting.
+    /// So many nodes without deadlines. Fails only where memory is refused.
     pub(crate) fn new(alloc: Global, size: usize) -> Result<Store, AllocError>
         ensures { IfOk result (λ s. s ≡ record { nodes = replicate size None; looks = 0 }) }
     {

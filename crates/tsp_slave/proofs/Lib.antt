@@ -1,2 +1,4 @@
+pub mod BesideLemmas
+pub mod ChangeLemmas
 pub mod RowCases
 pub mod SlaveLemmas

@@ -3,10 +3,8 @@ use Rattle.std.specs.Prelude.{◌≡◌, ℕ, ℤ, Bool, true, false, Option, So
 use Rattle.std.proofs.Common.{sym, ◌∙◌, ap}
 use Rattle.std.proofs.lemmas.Bool.{false≢true}
 use Rattle.tsp_base.specs.declared.act.Act.{Act}
-use Rattle.tsp_base.specs.declared.act.Act.TheVariants.{Become, Back, Acked, Correct}
+use Rattle.tsp_base.specs.declared.act.Act.TheVariants.{Become, Back, Correct}
 use Rattle.tsp_base.specs.declared.act.Placed.{Placed}
-use Rattle.tsp_base.specs.declared.alarm.Alarm.{Alarm}
-use Rattle.tsp_base.specs.declared.alarm.Alarm.TheVariants.{Elect}
 use Rattle.tsp_base.specs.declared.kind.Kind.{Kind}
 use Rattle.tsp_base.specs.declared.kind.Kind.TheVariants.{Ack, Accept, Refuse}
 use Rattle.tsp_base.specs.declared.place.PeerId.{PeerId}
@@ -15,14 +13,16 @@ use Rattle.tsp_base.specs.declared.role.Role.TheVariants.{Follow}
 use Rattle.tsp_base.specs.History.{Past}
 use Rattle.tsp_base.specs.Performs.{Performs, Keeps}
 use Rattle.tsp_base.specs.PortFacts.{Received, said, name_in}
-use Rattle.tsp_base.specs.Rows.{grown, nothing, puts, ◌followed_by◌, arms, posts}
+use Rattle.tsp_base.specs.Rows.{grown, puts, ◌followed_by◌, posts}
 use Rattle.tsp_base.specs.SendFacts.{Correcting, correcting_of}
-use Rattle.tsp_base.proofs.PerformsLemmas.{Keeps_reading, Keeps_then, Keeps_either, Keeps_nothing}
+use Rattle.tsp_base.proofs.PerformsLemmas.{Keeps_then, Keeps_either}
 use Rattle.tsp_rules.specs.ClockRows.{adjusts, sets}
 use Rattle.tsp_rules.specs.CommonRows.{arms_elect}
-use Rattle.tsp_rules.specs.SendRows.{has_other, acknowledges}
+use Rattle.tsp_rules.specs.SendRows.{acknowledges}
 use Rattle.tsp_rules.specs.SlaveRows.{election_of, confirms}
-use Rattle.tsp_rules.specs.Tests.{delay_at, may_back_at}
+use Rattle.tsp_rules.specs.Tests.{may_back_at}
+use Rattle.tsp_rules.proofs.Emits.{Emits_more, Emits_posts, Emits_puts, is_in, sort_of_kind}
+use Rattle.tsp_rules.proofs.EmitsSlave.{silent_sorts, silent_acks, silent_elect}
 use Rattle.tsp_acks.specs.declared.station.Station.{Station}
 use Rattle.tsp_acks.specs.Stands.{Stands}
 use Rattle.tsp_acks.proofs.StandsLemmas.{Stands_idle}
@@ -30,70 +30,33 @@ use Rattle.tsp_clock.specs.Clocks.{ClockValue}
 use Rattle.tsp_clock.specs.ClockStands.{ClockStands}
 use Rattle.tsp_slave.specs.Lasts.{LastValue}
 use Rattle.tsp_slave.specs.SlaveStands.{AlsoStands, SlaveStands}
+use Rattle.tsp_slave.proofs.BesideLemmas.{AlsoStands_by, beside_sorts}
 
 abbrev pub is_correct : Act → Bool
 is_correct (Correct amount stepped shown) = true
 is_correct _ = false
 
-pub AlsoStands_arms : (alarm : Alarm) (long : ℕ) → Keeps AlsoStands (arms alarm long)
-unfolding arms
-AlsoStands_arms alarm long x past state h = record {
-  first = record { tick_is = h.first.tick_is; taken_is = h.first.taken_is; name_is = h.first.name_is };
-  second = record {
-    first = record { offset_is = h.second.first.offset_is; rest_is = h.second.first.rest_is; at_is = h.second.first.at_is; ticket_is = h.second.first.ticket_is };
-    second = h.second.second;
-  };
-}
-
-pub AlsoStands_posts : (p : PeerId) (kind : Kind) (number : ℕ) → Keeps AlsoStands (posts p kind number)
-unfolding posts
-AlsoStands_posts p kind number x past state h = record {
-  first = record { tick_is = h.first.tick_is; taken_is = h.first.taken_is; name_is = h.first.name_is };
-  second = record {
-    first = record { offset_is = h.second.first.offset_is; rest_is = h.second.first.rest_is; at_is = h.second.first.at_is; ticket_is = h.second.first.ticket_is };
-    second = h.second.second;
-  };
-}
+-- acts of the station leave it alone
+pub AlsoStands_posts : (p : PeerId) (kind : Kind) (number : ℕ) → is_in (sort_of_kind kind) beside_sorts ≡ true → Keeps AlsoStands (posts p kind number)
+AlsoStands_posts p kind number e = AlsoStands_by (posts p kind number) (Emits_posts p kind number e)
 
 pub AlsoStands_arms_elect : Keeps AlsoStands arms_elect
-unfolding arms_elect
-AlsoStands_arms_elect = Keeps_reading AlsoStands delay_at (arms Elect) (AlsoStands_arms Elect)
+AlsoStands_arms_elect = AlsoStands_by arms_elect (Emits_more silent_sorts refl silent_elect)
 
 pub AlsoStands_confirms : (p : PeerId) (number : ℕ) → Keeps AlsoStands (confirms p number)
 unfolding confirms
-AlsoStands_confirms p number = Keeps_then AlsoStands arms_elect (posts p Ack number) AlsoStands_arms_elect (AlsoStands_posts p Ack number)
-
-pub AlsoStands_backs : (p : PeerId) → Keeps AlsoStands (puts (Back p))
-unfolding puts
-AlsoStands_backs p x past state h = record {
-  first = record { tick_is = h.first.tick_is; taken_is = h.first.taken_is; name_is = h.first.name_is };
-  second = record {
-    first = record { offset_is = h.second.first.offset_is; rest_is = h.second.first.rest_is; at_is = h.second.first.at_is; ticket_is = h.second.first.ticket_is };
-    second = h.second.second;
-  };
-}
-
-pub AlsoStands_acked : (p : PeerId) → Keeps AlsoStands (puts (Acked p))
-unfolding puts
-AlsoStands_acked p x past state h = record {
-  first = record { tick_is = h.first.tick_is; taken_is = h.first.taken_is; name_is = h.first.name_is };
-  second = record {
-    first = record { offset_is = h.second.first.offset_is; rest_is = h.second.first.rest_is; at_is = h.second.first.at_is; ticket_is = h.second.first.ticket_is };
-    second = h.second.second;
-  };
-}
+AlsoStands_confirms p number = Keeps_then AlsoStands arms_elect (posts p Ack number) AlsoStands_arms_elect (AlsoStands_posts p Ack number refl)
 
 pub AlsoStands_election_of : (p : PeerId) (number : ℕ) → Keeps AlsoStands (election_of p number)
 unfolding election_of
 AlsoStands_election_of p number =
     Keeps_either AlsoStands (may_back_at p) (puts (Back p) followed_by (arms_elect followed_by posts p Accept number)) (posts p Refuse number)
-    (Keeps_then AlsoStands (puts (Back p)) (arms_elect followed_by posts p Accept number) (AlsoStands_backs p)
-    (Keeps_then AlsoStands arms_elect (posts p Accept number) AlsoStands_arms_elect (AlsoStands_posts p Accept number)))
-    (AlsoStands_posts p Refuse number)
+    (Keeps_then AlsoStands (puts (Back p)) (arms_elect followed_by posts p Accept number) (AlsoStands_by (puts (Back p)) (Emits_puts (Back p) refl))
+    (Keeps_then AlsoStands arms_elect (posts p Accept number) AlsoStands_arms_elect (AlsoStands_posts p Accept number refl)))
+    (AlsoStands_posts p Refuse number refl)
 
 pub AlsoStands_acknowledges : (p : PeerId) (number : ℕ) → Keeps AlsoStands (acknowledges p number)
-unfolding acknowledges
-AlsoStands_acknowledges p number = Keeps_either AlsoStands (has_other p number) (puts (Acked p)) nothing (AlsoStands_acked p) (Keeps_nothing AlsoStands)
+AlsoStands_acknowledges p number = AlsoStands_by (acknowledges p number) (Emits_more silent_sorts refl (silent_acks p number))
 
 -- a port that begins to follow keeps the name that was taken
 pub follow_becomes : (p : PeerId) {x : ℕ} {port : Port} {before after : Station} (first last : LastValue) (clock : ClockValue) (took : Option Received) {old new : List Placed} →

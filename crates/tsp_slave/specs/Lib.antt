@@ -1,3 +1,4 @@
+pub mod ClockChanges
 pub mod Lasts
 pub mod SlaveAlarms
 pub mod SlaveStands

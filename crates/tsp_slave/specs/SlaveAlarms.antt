@@ -1,21 +1,21 @@
--- What a port that doesn't stand for master does at its alarms.
-use Rattle.tsp_base.specs.declared.act.Act.TheVariants.{Ring, Late}
+-- What a port that is Starting, Loose or follows does at its alarms.
+use Rattle.std.specs.Prelude.{ℕ, ◌&&◌, Bool}
 use Rattle.tsp_base.specs.declared.alarm.Alarm.{Alarm}
 use Rattle.tsp_base.specs.declared.alarm.Alarm.TheVariants.{Quiet, Search, Elect}
-use Rattle.tsp_base.specs.Rows.{Row, nothing, puts, ◌followed_by◌, either_by}
-use Rattle.tsp_rules.specs.CommonRows.{arms_elect, searches}
-use Rattle.tsp_rules.specs.SlaveRows.{quiet_rings, search_rings, loosens}
-use Rattle.tsp_rules.specs.Tests.{is_in_time}
+use Rattle.tsp_base.specs.Alarms.{deadline}
+use Rattle.tsp_base.specs.Hold.{may_stand}
+use Rattle.tsp_base.specs.Rows.{Row, nothing}
+use Rattle.tsp_rules.specs.SlaveRows.{quiet_rings, search_rings, elect_rings}
+use Rattle.tsp_rules.specs.Tests.{is_met}
+use Rattle.tsp_acks.specs.declared.station.Station.{Station}
 
--- nothing was heard of a master for long: a node that doesn't stand gives up the one that it follows, and searches
-unfoldable pub elect_searches : Row
-elect_searches = either_by (is_in_time Elect)
-    (puts (Ring Elect) followed_by (loosens followed_by searches))
-    (puts (Late Elect) followed_by arms_elect)
-
--- the alarms of a port that is Starting, Loose or follows
+-- the alarms of such a port
 unfoldable pub slave_rings : Alarm → Row
 slave_rings Quiet = quiet_rings
 slave_rings Search = search_rings
-slave_rings Elect = elect_searches
+slave_rings Elect = elect_rings
 slave_rings _ = nothing
+
+-- whether a port whose Elect is due becomes a candidate: the alarm is in time, the node may be master, and the hold lets it stand
+abbrev pub is_to_be_candidate : ℕ → Station → Bool
+is_to_be_candidate x s = is_met (deadline s.alarms Elect) x && (s.me.may && may_stand s.hold x s.me.own)

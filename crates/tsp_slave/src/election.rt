@@ -1,7 +1,9 @@
 //! What a port that is Loose or follows answers to a candidate.
-ghost use Rattle.std.specs.Prelude.{◌≡◌, ◌+◌, ◌≤◌, ◌^◌, length};
+ghost use Rattle.std.specs.Prelude.{◌≤◌};
+ghost use Rattle.tsp_base.specs.Frames.{IsTick, PutsAtMost};
 ghost use Rattle.tsp_base.specs.Performs.{Performs};
 ghost use Rattle.tsp_rules.specs.SlaveRows.{election_of};
+ghost use Rattle.tsp_acks.specs.Changes.{IsSamePort};
 ghost use Rattle.tsp_acks.specs.Stands.{Stands};
 
 use tsp_acks::station::Station;
@@ -19,13 +21,11 @@ pub(crate) fn answer_candidate<D: Desk>(
     port: Port,
     desk: &mut D,
 )
-    requires tick { tick ≤ 2 ^ 61 }
+    requires tick { IsTick tick }
     requires room { 3 ≤ D.spare desk.old }
     ensures row { Performs Stands Stands (election_of from number) tick port station.old station.new (D.acts desk.old) (D.acts desk.new) }
-    ensures spare { D.spare desk.old ≤ D.spare desk.new + 3 }
-    ensures few { length (D.acts desk.new) ≤ length (D.acts desk.old) + 3 }
-    ensures me { station.new.me ≡ station.old.me }
-    ensures peers { station.new.peers ≡ station.old.peers }
+    ensures room { PutsAtMost 3 (D.spare desk.old) (D.spare desk.new) (D.acts desk.old) (D.acts desk.new) }
+    ensures port { IsSamePort station.old station.new }
 {
     if station.hold.may_back(tick, from) {
         station.back(from, tick, port, desk);

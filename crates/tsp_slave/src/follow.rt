@@ -1,9 +1,10 @@
 //! How a port begins to follow a master, and tells it so.
-ghost use Rattle.std.specs.Prelude.{◌≡◌, ℕ, ◌+◌, ◌≤◌, ◌^◌, length, Option, None, Some};
+ghost use Rattle.std.specs.Prelude.{◌≡◌, ℕ, ◌+◌, ◌≤◌, Option, None, Some};
 ghost use Rattle.tsp_base.specs.declared.alarm.Alarm.TheVariants.{Elect};
 ghost use Rattle.tsp_base.specs.declared.place.PeerId.{PeerId};
 ghost use Rattle.tsp_base.specs.declared.role.Role.TheVariants.{Follow};
 ghost use Rattle.tsp_base.specs.Alarms.{with_deadline, none_armed};
+ghost use Rattle.tsp_base.specs.Frames.{IsTick, PutsAtMost};
 ghost use Rattle.tsp_base.specs.Performs.{Performs};
 ghost use Rattle.tsp_base.specs.PortFacts.{Received, name_in};
 ghost use Rattle.tsp_rules.specs.CommonRows.{follow_row, tells_ticket};
@@ -32,7 +33,7 @@ pub fn follow<D: Desk>(
     port: Port,
     desk: &mut D,
 )
-    requires tick { tick ≤ 2 ^ 61 }
+    requires tick { IsTick tick }
     requires room { 3 ≤ D.spare desk.old }
     ensures row { (took : Option Received) → name_in took ≡ name.now → Performs SlaveStands SlaveStands (follow_row p) tick port
         (station.old, (last.old, (clock.now, took))) (station.new, (last.new, (clock.now, took))) (D.acts desk.old) (D.acts desk.new) }
@@ -44,8 +45,7 @@ pub fn follow<D: Desk>(
     ensures begun { station.new.begun ≡ station.old.begun }
     ensures peers { station.new.peers ≡ station.old.peers }
     ensures last { last.new ≡ record last.old { name = name.now } }
-    ensures spare { D.spare desk.old ≡ D.spare desk.new + 3 }
-    ensures few { length (D.acts desk.new) ≡ length (D.acts desk.old) + 3 }
+    ensures room { PutsAtMost 3 (D.spare desk.old) (D.spare desk.new) (D.acts desk.old) (D.acts desk.new) }
 {
     station.become_role(Role::Follow(p), port, desk);
     last.keep_name(name);
@@ -64,8 +64,7 @@ pub(crate) fn tell_ticket<D: Desk>(
     requires room { 1 ≤ D.spare desk.old }
     ensures row { (x : ℕ) (last : LastValue) (took : Option Received) → Performs SlaveStands SlaveStands (tells_ticket p) x port
         (station.now, (last, (clock.now, took))) (station.now, (last, (clock.now, took))) (D.acts desk.old) (D.acts desk.new) }
-    ensures spare { D.spare desk.old ≡ D.spare desk.new + 1 }
-    ensures few { length (D.acts desk.new) ≡ length (D.acts desk.old) + 1 }
+    ensures room { PutsAtMost 1 (D.spare desk.old) (D.spare desk.new) (D.acts desk.old) (D.acts desk.new) }
 {
     station.post(p, Kind::SlaveUp, clock.ticket(), port, desk);
 }

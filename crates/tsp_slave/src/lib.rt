@@ -1,11 +1,10 @@
 //! What a port does at Loose and at Follow, and how its quiet time ends.
 #![tactic(auto)]
 
+mod change;
 mod correction;
 mod election;
 pub mod follow;
 pub mod last;
 pub mod ring;
 pub mod take;
-#[cfg(test)]
-mod tests;

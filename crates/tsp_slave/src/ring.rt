@@ -1,10 +1,13 @@
 //! The alarms of a port that is Starting, Loose or follows.
-ghost use Rattle.std.specs.Prelude.{◌≡◌, ℕ, ◌+◌, ◌*◌, ◌≤◌, ◌^◌, length};
+ghost use Rattle.std.specs.Prelude.{◌≡◌, ℕ, ◌+◌, ◌≤◌, false, length};
+ghost use Rattle.tsp_base.specs.declared.alarm.Alarm.TheVariants.{Elect};
+ghost use Rattle.tsp_base.specs.Frames.{IsTick, PutsAtMost};
 ghost use Rattle.tsp_base.specs.Performs.{Performs};
 ghost use Rattle.tsp_rules.specs.CommonRows.{searches};
-ghost use Rattle.tsp_rules.specs.SlaveRows.{quiet_rings, rings_or_late, search_rings, loosens};
+ghost use Rattle.tsp_rules.specs.SlaveRows.{quiet_rings, rings_or_late, search_rings, elect_rings, loosens};
+ghost use Rattle.tsp_acks.specs.Changes.{IsSamePort};
 ghost use Rattle.tsp_acks.specs.Stands.{Stands};
-ghost use Rattle.tsp_slave.specs.SlaveAlarms.{elect_searches, slave_rings};
+ghost use Rattle.tsp_slave.specs.SlaveAlarms.{slave_rings, is_to_be_candidate};
 
 use tsp_acks::station::Station;
 use tsp_base::alarm::Alarm;
@@ -14,16 +17,24 @@ use tsp_base::kind::Kind;
 use tsp_base::place::Port;
 use tsp_base::role::Role;
 
+/// Whether an Elect that is due makes the node a candidate: it is in time, the node may be master, and the
+/// hold lets it stand.
+pub fn becomes_candidate(station: &Station, tick: u64) -> bool
+    ensures { result ≡ is_to_be_candidate tick station.now }
+{
+    station.is_in_time(Alarm::Elect, tick)
+        && (station.me.may && station.hold.may_stand(tick, station.me.own))
+}
+
 /// Treats one alarm that is due: the quiet time ends, a search ends, or no master was heard for long. Any
-/// other alarm does nothing here. An Elect at which the node stands for master isn't handed to it.
+/// other alarm does nothing here. An Elect that makes the node a candidate isn't handed to it.
 pub fn slave_ring<D: Desk>(station: &mut Station, alarm: Alarm, tick: u64, port: Port, desk: &mut D)
-    requires tick { tick ≤ 2 ^ 61 }
-    requires room { 2 * length station.old.peers + 16 ≤ D.spare desk.old }
+    requires tick { IsTick tick }
+    requires stays { alarm ≡ Elect → is_to_be_candidate tick station.old ≡ false }
+    requires room { length station.old.peers + 3 ≤ D.spare desk.old }
     ensures row { Performs Stands Stands (slave_rings alarm) tick port station.old station.new (D.acts desk.old) (D.acts desk.new) }
-    ensures spare { D.spare desk.old ≤ D.spare desk.new + (length station.old.peers + 3) }
-    ensures few { length (D.acts desk.new) ≤ length (D.acts desk.old) + (length station.old.peers + 3) }
-    ensures me { station.new.me ≡ station.old.me }
-    ensures peers { station.new.peers ≡ station.old.peers }
+    ensures room { PutsAtMost (length station.old.peers + 3) (D.spare desk.old) (D.spare desk.new) (D.acts desk.old) (D.acts desk.new) }
+    ensures port { IsSamePort station.old station.new }
 {
     match alarm {
         Alarm::Quiet => end_quiet(station, tick, port, desk),
@@ -35,13 +46,11 @@ pub fn slave_ring<D: Desk>(station: &mut Station, alarm: Alarm, tick: u64, port:
 
 /// The quiet time ends, however late.
 fn end_quiet<D: Desk>(station: &mut Station, tick: u64, port: Port, desk: &mut D)
-    requires tick { tick ≤ 2 ^ 61 }
+    requires tick { IsTick tick }
     requires room { length station.old.peers + 3 ≤ D.spare desk.old }
     ensures row { Performs Stands Stands quiet_rings tick port station.old station.new (D.acts desk.old) (D.acts desk.new) }
-    ensures spare { D.spare desk.old ≤ D.spare desk.new + (length station.old.peers + 3) }
-    ensures few { length (D.acts desk.new) ≤ length (D.acts desk.old) + (length station.old.peers + 3) }
-    ensures me { station.new.me ≡ station.old.me }
-    ensures peers { station.new.peers ≡ station.old.peers }
+    ensures room { PutsAtMost (length station.old.peers + 3) (D.spare desk.old) (D.spare desk.new) (D.acts desk.old) (D.acts desk.new) }
+    ensures port { IsSamePort station.old station.new }
 {
     station.ring(Alarm::Quiet, port, desk);
     station.become_role(Role::Loose, port, desk);
@@ -50,27 +59,24 @@ fn end_quiet<D: Desk>(station: &mut Station, tick: u64, port: Port, desk: &mut D
 
 /// No master answered a search.
 fn end_search<D: Desk>(station: &mut Station, tick: u64, port: Port, desk: &mut D)
-    requires tick { tick ≤ 2 ^ 61 }
+    requires tick { IsTick tick }
     requires room { 2 ≤ D.spare desk.old }
     ensures row { Performs Stands Stands search_rings tick port station.old station.new (D.acts desk.old) (D.acts desk.new) }
-    ensures spare { D.spare desk.old ≡ D.spare desk.new + 2 }
-    ensures few { length (D.acts desk.new) ≡ length (D.acts desk.old) + 2 }
-    ensures me { station.new.me ≡ station.old.me }
-    ensures peers { station.new.peers ≡ station.old.peers }
+    ensures room { PutsAtMost 2 (D.spare desk.old) (D.spare desk.new) (D.acts desk.old) (D.acts desk.new) }
+    ensures port { IsSamePort station.old station.new }
 {
     ring_or_late(station, Alarm::Search, tick, port, desk);
     station.arm_elect(tick, port, desk);
 }
 
-/// Nothing was heard of a master for long.
+/// Nothing was heard of a master for long, and the node doesn't stand.
 fn miss_master<D: Desk>(station: &mut Station, tick: u64, port: Port, desk: &mut D)
-    requires tick { tick ≤ 2 ^ 61 }
+    requires tick { IsTick tick }
+    requires stays { is_to_be_candidate tick station.old ≡ false }
     requires room { length station.old.peers + 3 ≤ D.spare desk.old }
-    ensures row { Performs Stands Stands elect_searches tick port station.old station.new (D.acts desk.old) (D.acts desk.new) }
-    ensures spare { D.spare desk.old ≤ D.spare desk.new + (length station.old.peers + 3) }
-    ensures few { length (D.acts desk.new) ≤ length (D.acts desk.old) + (length station.old.peers + 3) }
-    ensures me { station.new.me ≡ station.old.me }
-    ensures peers { station.new.peers ≡ station.old.peers }
+    ensures row { Performs Stands Stands elect_rings tick port station.old station.new (D.acts desk.old) (D.acts desk.new) }
+    ensures room { PutsAtMost (length station.old.peers + 3) (D.spare desk.old) (D.spare desk.new) (D.acts desk.old) (D.acts desk.new) }
+    ensures port { IsSamePort station.old station.new }
 {
     if station.is_in_time(Alarm::Elect, tick) {
         station.ring(Alarm::Elect, port, desk);
@@ -86,10 +92,8 @@ fn miss_master<D: Desk>(station: &mut Station, tick: u64, port: Port, desk: &mut
 fn ring_or_late<D: Desk>(station: &mut Station, alarm: Alarm, tick: u64, port: Port, desk: &mut D)
     requires room { 1 ≤ D.spare desk.old }
     ensures row { Performs Stands Stands (rings_or_late alarm) tick port station.old station.new (D.acts desk.old) (D.acts desk.new) }
-    ensures spare { D.spare desk.old ≡ D.spare desk.new + 1 }
-    ensures few { length (D.acts desk.new) ≡ length (D.acts desk.old) + 1 }
-    ensures me { station.new.me ≡ station.old.me }
-    ensures peers { station.new.peers ≡ station.old.peers }
+    ensures room { PutsAtMost 1 (D.spare desk.old) (D.spare desk.new) (D.acts desk.old) (D.acts desk.new) }
+    ensures port { IsSamePort station.old station.new }
 {
     if station.is_in_time(alarm, tick) {
         station.ring(alarm, port, desk);
@@ -102,10 +106,8 @@ fn ring_or_late<D: Desk>(station: &mut Station, alarm: Alarm, tick: u64, port: P
 fn loosen<D: Desk>(station: &mut Station, port: Port, desk: &mut D)
     requires room { 1 ≤ D.spare desk.old }
     ensures row { (x : ℕ) → Performs Stands Stands loosens x port station.old station.new (D.acts desk.old) (D.acts desk.new) }
-    ensures spare { D.spare desk.old ≤ D.spare desk.new + 1 }
-    ensures few { length (D.acts desk.new) ≤ length (D.acts desk.old) + 1 }
-    ensures me { station.new.me ≡ station.old.me }
-    ensures peers { station.new.peers ≡ station.old.peers }
+    ensures room { PutsAtMost 1 (D.spare desk.old) (D.spare desk.new) (D.acts desk.old) (D.acts desk.new) }
+    ensures port { IsSamePort station.old station.new }
 {
     match station.role {
         Role::Follow(_) => station.become_role(Role::Loose, port, desk),
@@ -115,13 +117,11 @@ fn loosen<D: Desk>(station: &mut Station, port: Port, desk: &mut D)
 
 /// Asks each other peer whether it is a master.
 fn search<D: Desk>(station: &mut Station, tick: u64, port: Port, desk: &mut D)
-    requires tick { tick ≤ 2 ^ 61 }
+    requires tick { IsTick tick }
     requires room { length station.old.peers + 1 ≤ D.spare desk.old }
     ensures row { Performs Stands Stands searches tick port station.old station.new (D.acts desk.old) (D.acts desk.new) }
-    ensures spare { D.spare desk.old ≤ D.spare desk.new + (length station.old.peers + 1) }
-    ensures few { length (D.acts desk.new) ≤ length (D.acts desk.old) + (length station.old.peers + 1) }
-    ensures me { station.new.me ≡ station.old.me }
-    ensures peers { station.new.peers ≡ station.old.peers }
+    ensures room { PutsAtMost (length station.old.peers + 1) (D.spare desk.old) (D.spare desk.new) (D.acts desk.old) (D.acts desk.new) }
+    ensures port { IsSamePort station.old station.new }
 {
     station.arm(Alarm::Search, tick, WINDOW, port, desk);
     station.post_to_others(Kind::MasterReq, 0, port, desk);

@@ -1,20 +1,22 @@
 //! What a port that is Loose or follows does with a message of a peer.
-ghost use Rattle.std.specs.Prelude.{◌≡◌, ℕ, ◌+◌, ◌*◌, ◌≤◌, ◌^◌, length, Option, Some};
+ghost use Rattle.std.specs.Prelude.{◌≡◌, ◌≤◌, Option, Some};
 ghost use Rattle.tsp_base.specs.declared.datagram.Datagram.TheVariants.{Message as MessageOf};
 ghost use Rattle.tsp_base.specs.declared.datagram.Taken.TheVariants.{Good};
 ghost use Rattle.tsp_base.specs.declared.place.Place.TheVariants.{Peer};
+ghost use Rattle.tsp_base.specs.Frames.{IsTick, PutsAtMost};
 ghost use Rattle.tsp_base.specs.Performs.{Performs};
 ghost use Rattle.tsp_base.specs.PortFacts.{Received, name_in, said};
 ghost use Rattle.tsp_base.specs.Rows.{reading};
 ghost use Rattle.tsp_base.specs.SendFacts.{correcting_of};
-ghost use Rattle.tsp_base.specs.Takings.{time_in};
-ghost use Rattle.tsp_rules.specs.SlaveRows.{adjtime_of, settime_of, from_master};
-ghost use Rattle.tsp_rules.specs.SoFar.{hears_master, finds_master, slave_takes_so_far};
+ghost use Rattle.tsp_rules.specs.SlaveRows.{from_master};
 ghost use Rattle.tsp_rules.specs.Tests.{role_at};
+ghost use Rattle.tsp_acks.specs.Changes.{IsSamePort};
+ghost use Rattle.tsp_slave.specs.ClockChanges.{change_in, correction_of};
 ghost use Rattle.tsp_slave.specs.SlaveStands.{SlaveStands};
-ghost use Rattle.tsp_slave.specs.SlaveTakes.{is_master_of};
+ghost use Rattle.tsp_slave.specs.SlaveTakes.{finds_master, hears_master, is_master_of, slave_takes_in_force};
 
-use crate::correction::{adjtime, settime};
+use crate::change::Change;
+use crate::correction::correct;
 use crate::election::answer_candidate;
 use crate::follow::{follow, tell_ticket};
 use crate::last::Last;
@@ -22,7 +24,7 @@ use tsp_acks::station::Station;
 use tsp_base::alarm::Alarm;
 use tsp_base::desk::Desk;
 use tsp_base::kind::Kind;
-use tsp_base::message::{Body, Message};
+use tsp_base::message::Message;
 use tsp_base::name::Name;
 use tsp_base::place::{PeerId, Port};
 use tsp_base::role::Role;
@@ -39,24 +41,25 @@ pub fn slave_take<D: Desk>(
     port: Port,
     desk: &mut D,
 )
-    requires tick { tick ≤ 2 ^ 61 }
+    requires tick { IsTick tick }
     requires later { clock.old.at ≤ tick }
-    requires room { 2 * length station.old.peers + 16 ≤ D.spare desk.old }
-    ensures row { (took : Option Received) → took ≡ Some (record { from = Peer from; taken = Good (MessageOf m.now) }) → Performs SlaveStands SlaveStands (slave_takes_so_far from m.now) tick port
+    requires room { 3 ≤ D.spare desk.old }
+    ensures row { (took : Option Received) → took ≡ Some (record { from = Peer from; taken = Good (MessageOf m.now) }) → Performs SlaveStands SlaveStands (slave_takes_in_force from m.now) tick port
         (station.old, (last.old, (clock.old, took))) (station.new, (last.new, (clock.new, took))) (D.acts desk.old) (D.acts desk.new) }
-    ensures spare { D.spare desk.old ≤ D.spare desk.new + 3 }
-    ensures few { length (D.acts desk.new) ≤ length (D.acts desk.old) + 3 }
-    ensures me { station.new.me ≡ station.old.me }
-    ensures peers { station.new.peers ≡ station.old.peers }
+    ensures room { PutsAtMost 3 (D.spare desk.old) (D.spare desk.new) (D.acts desk.old) (D.acts desk.new) }
+    ensures port { IsSamePort station.old station.new }
     ensures clock { clock.new.at ≤ tick }
 {
     match m.kind() {
         Kind::MasterUp => hear_master(station, last, clock, tick, from, m.name(), port, desk),
         Kind::MasterAck => find_master(station, last, clock, tick, from, m.name(), port, desk),
         Kind::Election => answer_candidate(station, tick, from, m.number(), port, desk),
-        Kind::AdjTime => take_adjtime(station, last, clock, tick, from, m, port, desk),
-        Kind::SetTime => take_settime(station, last, clock, tick, from, m, port, desk),
-        Kind::Ack => station.acknowledge(from, m.number(), port, desk),
+        Kind::AdjTime | Kind::SetTime => {
+            take_correction(station, last, clock, tick, from, m, port, desk)
+        }
+        Kind::Ack => {
+            let _ = station.acknowledge(from, m.number(), port, desk);
+        }
         _ => {}
     }
 }
@@ -72,14 +75,12 @@ fn hear_master<D: Desk>(
     port: Port,
     desk: &mut D,
 )
-    requires tick { tick ≤ 2 ^ 61 }
+    requires tick { IsTick tick }
     requires room { 3 ≤ D.spare desk.old }
     ensures row { (took : Option Received) → name_in took ≡ name.now → Performs SlaveStands SlaveStands (reading role_at (hears_master from)) tick port
         (station.old, (last.old, (clock.now, took))) (station.new, (last.new, (clock.now, took))) (D.acts desk.old) (D.acts desk.new) }
-    ensures spare { D.spare desk.old ≤ D.spare desk.new + 3 }
-    ensures few { length (D.acts desk.new) ≤ length (D.acts desk.old) + 3 }
-    ensures me { station.new.me ≡ station.old.me }
-    ensures peers { station.new.peers ≡ station.old.peers }
+    ensures room { PutsAtMost 3 (D.spare desk.old) (D.spare desk.new) (D.acts desk.old) (D.acts desk.new) }
+    ensures port { IsSamePort station.old station.new }
 {
     match station.role {
         Role::Loose => follow(station, last, clock, tick, from, name, port, desk),
@@ -104,14 +105,12 @@ fn find_master<D: Desk>(
     port: Port,
     desk: &mut D,
 )
-    requires tick { tick ≤ 2 ^ 61 }
+    requires tick { IsTick tick }
     requires room { 3 ≤ D.spare desk.old }
     ensures row { (took : Option Received) → name_in took ≡ name.now → Performs SlaveStands SlaveStands (reading role_at (finds_master from)) tick port
         (station.old, (last.old, (clock.now, took))) (station.new, (last.new, (clock.now, took))) (D.acts desk.old) (D.acts desk.new) }
-    ensures spare { D.spare desk.old ≤ D.spare desk.new + 3 }
-    ensures few { length (D.acts desk.new) ≤ length (D.acts desk.old) + 3 }
-    ensures me { station.new.me ≡ station.old.me }
-    ensures peers { station.new.peers ≡ station.old.peers }
+    ensures room { PutsAtMost 3 (D.spare desk.old) (D.spare desk.new) (D.acts desk.old) (D.acts desk.new) }
+    ensures port { IsSamePort station.old station.new }
 {
     match station.role {
         Role::Loose => {
@@ -123,8 +122,8 @@ fn find_master<D: Desk>(
     }
 }
 
-/// Takes an ADJTIME, where its sender is the master that is followed.
-fn take_adjtime<D: Desk>(
+/// Takes a correction, where its sender is the master that is followed.
+fn take_correction<D: Desk>(
     station: &mut Station,
     last: &mut Last,
     clock: &mut Clock,
@@ -134,63 +133,25 @@ fn take_adjtime<D: Desk>(
     port: Port,
     desk: &mut D,
 )
-    requires tick { tick ≤ 2 ^ 61 }
+    requires tick { IsTick tick }
     requires later { clock.old.at ≤ tick }
     requires room { 3 ≤ D.spare desk.old }
-    ensures row { (took : Option Received) → correcting_of (said took) ≡ Some (record { from = from; number = m.now.number }) → Performs SlaveStands SlaveStands (reading role_at (from_master from (adjtime_of from m.now.number (time_in m.now.body)))) tick port
+    ensures row { (took : Option Received) → correcting_of (said took) ≡ Some (record { from = from; number = m.now.number }) → Performs SlaveStands SlaveStands (reading role_at (from_master from (correction_of from m.now.number (change_in m.now)))) tick port
         (station.old, (last.old, (clock.old, took))) (station.new, (last.new, (clock.new, took))) (D.acts desk.old) (D.acts desk.new) }
-    ensures spare { D.spare desk.old ≤ D.spare desk.new + 3 }
-    ensures few { length (D.acts desk.new) ≤ length (D.acts desk.old) + 3 }
-    ensures me { station.new.me ≡ station.old.me }
-    ensures peers { station.new.peers ≡ station.old.peers }
+    ensures room { PutsAtMost 3 (D.spare desk.old) (D.spare desk.new) (D.acts desk.old) (D.acts desk.new) }
+    ensures port { IsSamePort station.old station.new }
     ensures clock { clock.new.at ≤ tick }
 {
     if follows(station, from) {
-        adjtime(
+        let change = Change::of(m);
+        correct(
             station,
             last,
             clock,
             tick,
             from,
             m.number(),
-            time_of(m),
-            port,
-            desk,
-        );
-    }
-}
-
-/// Takes a SETTIME, where its sender is the master that is followed.
-fn take_settime<D: Desk>(
-    station: &mut Station,
-    last: &mut Last,
-    clock: &mut Clock,
-    tick: u64,
-    from: PeerId,
-    m: &Message,
-    port: Port,
-    desk: &mut D,
-)
-    requires tick { tick ≤ 2 ^ 61 }
-    requires later { clock.old.at ≤ tick }
-    requires room { 3 ≤ D.spare desk.old }
-    ensures row { (took : Option Received) → correcting_of (said took) ≡ Some (record { from = from; number = m.now.number }) → Performs SlaveStands SlaveStands (reading role_at (from_master from (settime_of from m.now.number (time_in m.now.body)))) tick port
-        (station.old, (last.old, (clock.old, took))) (station.new, (last.new, (clock.new, took))) (D.acts desk.old) (D.acts desk.new) }
-    ensures spare { D.spare desk.old ≤ D.spare desk.new + 3 }
-    ensures few { length (D.acts desk.new) ≤ length (D.acts desk.old) + 3 }
-    ensures me { station.new.me ≡ station.old.me }
-    ensures peers { station.new.peers ≡ station.old.peers }
-    ensures clock { clock.new.at ≤ tick }
-{
-    if follows(station, from) {
-        settime(
-            station,
-            last,
-            clock,
-            tick,
-            from,
-            m.number(),
-            time_of(m),
+            change,
             port,
             desk,
         );
@@ -204,15 +165,5 @@ fn follows(station: &Station, p: PeerId) -> bool
     match station.role {
         Role::Follow(q) => q.0 == p.0,
         _ => false,
-    }
-}
-
-/// The time that a message carries, in microseconds; 0 where it carries none.
-fn time_of(m: &Message) -> i64
-    ensures { result ≡ time_in m.now.body }
-{
-    match m.body() {
-        Body::Time(t) => t.get(),
-        _ => 0,
     }
 }

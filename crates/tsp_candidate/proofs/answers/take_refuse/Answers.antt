@@ -1,5 +1,6 @@
 -- A REFUSE that answers an open ELECTION ends it, and the candidature.
 use Rattle.std.proofs.Common.{◌∙◌}
+use Rattle.std.proofs.lemmas.Bool.{MatchBool-at_false}
 use Rattle.tsp_base.specs.Rows.{nothing}
 use Rattle.tsp_base.proofs.PerformsLemmas.{Performs_then, Performs_then_part}
 use Rattle.tsp_rules.specs.CandidateRows.{refused_by}
@@ -17,4 +18,4 @@ pub returns-else-answered-clause-row : goal.returns-else-answered-clause-row
 unfolding refused_by
 returns-else-answered-clause-row g c =
     Performs_passed_over (has_election c.args.from c.args.number) _ (λ past s. c.answered.ensures.test c.args.tick past s ∙ c.if-answered.false)
-    (c.answered.ensures.same c.if-answered.false)
+    (MatchBool-at_false _ _ c.if-answered.false c.answered.ensures.sends) (c.answered.ensures.same c.if-answered.false)

@@ -4,7 +4,7 @@ use Rattle.tsp_base.specs.declared.act.Act.TheVariants.{Back}
 use Rattle.tsp_base.specs.Rows.{puts}
 use Rattle.tsp_base.proofs.PerformsLemmas.{Performs_then, Performs_reading}
 use Rattle.tsp_rules.specs.CommonRows.{stand_row, backs_own, own_at}
-use Rattle.tsp_candidate.proofs.ActingLemmas.{Performs_acting}
+use Rattle.tsp_acks.proofs.ActingLemmas.{Performs_acting}
 use Rattle.tsp_candidate.proofs.stand.stand.Goals as goal
 
 pub returns-clause-row : goal.returns-clause-row

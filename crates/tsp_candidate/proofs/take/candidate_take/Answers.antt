@@ -1,34 +1,34 @@
 -- Each kind has its row.
-use Rattle.std.proofs.Common.{◌≡◌, sym, ◌∙◌, ap}
+use Rattle.std.proofs.Common.{◌≡◌, refl, sym, ◌∙◌, ap}
 use Rattle.tsp_base.specs.declared.kind.Kind.TheVariants.{Ack, Election, Accept, Refuse}
 use Rattle.tsp_base.specs.PortFacts.{name_in}
 use Rattle.tsp_base.specs.Rows.{nothing}
 use Rattle.tsp_base.proofs.PerformsLemmas.{Performs_beside, Performs_nothing}
 use Rattle.tsp_rules.specs.CommonRows.{follow_row}
-use Rattle.tsp_rules.specs.SoFar.{candidate_takes_so_far, candidate_takes_kind_so_far}
+use Rattle.tsp_candidate.specs.CandidateTakes.{candidate_takes_in_force, candidate_takes_kind_in_force}
 use Rattle.tsp_slave.proofs.SlaveLemmas.{AlsoStands_posts, AlsoStands_acknowledges}
 use Rattle.tsp_candidate.proofs.AlsoLemmas.{AlsoStands_accepted_by, AlsoStands_refused_by}
-use Rattle.tsp_candidate.proofs.RowCases.{candidate_takes_kind_so_far-master, candidate_takes_kind_so_far-other}
+use Rattle.tsp_candidate.proofs.RowCases.{candidate_takes_kind_in_force-master, candidate_takes_kind_in_force-other}
 use Rattle.tsp_candidate.proofs.take.candidate_take.Goals as goal
 
 pub returns-in-MasterUp-clause-row : goal.returns-in-MasterUp-clause-row
-unfolding candidate_takes_so_far
+unfolding candidate_takes_in_force
 returns-in-MasterUp-clause-row g c took e =
     let m = c.args.m.now in
-    let k : candidate_takes_kind_so_far c.args.from m m.kind ≡ follow_row c.args.from =
-    ap (candidate_takes_kind_so_far c.args.from m) (sym c.kind.ensures) ∙ candidate_takes_kind_so_far-master c.args.from m c.kind.result c.in-MasterUp.is in
+    let k : candidate_takes_kind_in_force c.args.from m m.kind ≡ follow_row c.args.from =
+    ap (candidate_takes_kind_in_force c.args.from m) (sym c.kind.ensures) ∙ candidate_takes_kind_in_force-master c.args.from m c.kind.result c.in-MasterUp.is in
     rw k (c.follow.ensures.row took (ap name_in e ∙ sym c.name.ensures))
 
 pub returns-in-Election-clause-row : goal.returns-in-Election-clause-row
-unfolding candidate_takes_so_far candidate_takes_kind_so_far
+unfolding candidate_takes_in_force candidate_takes_kind_in_force
 returns-in-Election-clause-row g c took e =
     let k : c.args.m.now.kind ≡ Election = sym c.kind.ensures ∙ c.in-Election.is in
     let n : c.number.result ≡ c.args.m.now.number = c.number.ensures in
     let d = c.post.ensures.row c.args.tick in
-    rw k (Performs_beside _ (AlsoStands_posts c.args.from Refuse c.args.m.now.number) (rw n at d))
+    rw k (Performs_beside _ (AlsoStands_posts c.args.from Refuse c.args.m.now.number refl) (rw n at d))
 
 pub returns-in-Accept-clause-row : goal.returns-in-Accept-clause-row
-unfolding candidate_takes_so_far candidate_takes_kind_so_far
+unfolding candidate_takes_in_force candidate_takes_kind_in_force
 returns-in-Accept-clause-row g c took e =
     let k : c.args.m.now.kind ≡ Accept = sym c.kind.ensures ∙ c.in-Accept.is in
     let n : c.number-in-Accept.result ≡ c.args.m.now.number = c.number-in-Accept.ensures in
@@ -36,7 +36,7 @@ returns-in-Accept-clause-row g c took e =
     rw k (Performs_beside _ (AlsoStands_accepted_by c.args.from c.args.m.now.number) (rw n at d))
 
 pub returns-in-Refuse-clause-row : goal.returns-in-Refuse-clause-row
-unfolding candidate_takes_so_far candidate_takes_kind_so_far
+unfolding candidate_takes_in_force candidate_takes_kind_in_force
 returns-in-Refuse-clause-row g c took e =
     let k : c.args.m.now.kind ≡ Refuse = sym c.kind.ensures ∙ c.in-Refuse.is in
     let n : c.number-in-Refuse.result ≡ c.args.m.now.number = c.number-in-Refuse.ensures in
@@ -44,7 +44,7 @@ returns-in-Refuse-clause-row g c took e =
     rw k (Performs_beside _ (AlsoStands_refused_by c.args.from c.args.m.now.number) (rw n at d))
 
 pub returns-in-Ack-clause-row : goal.returns-in-Ack-clause-row
-unfolding candidate_takes_so_far candidate_takes_kind_so_far
+unfolding candidate_takes_in_force candidate_takes_kind_in_force
 returns-in-Ack-clause-row g c took e =
     let k : c.args.m.now.kind ≡ Ack = sym c.kind.ensures ∙ c.in-Ack.is in
     let n : c.number-in-Ack.result ≡ c.args.m.now.number = c.number-in-Ack.ensures in
@@ -52,11 +52,11 @@ returns-in-Ack-clause-row g c took e =
     rw k (Performs_beside _ (AlsoStands_acknowledges c.args.from c.args.m.now.number) (rw n at d))
 
 pub returns-in_default-clause-row : goal.returns-in_default-clause-row
-unfolding candidate_takes_so_far
+unfolding candidate_takes_in_force
 returns-in_default-clause-row g c took e =
     let m = c.args.m.now in
     let o = c.in_default in
-    let k : candidate_takes_kind_so_far c.args.from m m.kind ≡ nothing =
-    ap (candidate_takes_kind_so_far c.args.from m) (sym c.kind.ensures)
-    ∙ candidate_takes_kind_so_far-other c.args.from m c.kind.result o.not-MasterUp o.not-MasterAck o.not-Election o.not-Accept o.not-Refuse o.not-Ack in
+    let k : candidate_takes_kind_in_force c.args.from m m.kind ≡ nothing =
+    ap (candidate_takes_kind_in_force c.args.from m) (sym c.kind.ensures)
+    ∙ candidate_takes_kind_in_force-other c.args.from m c.kind.result o.not-MasterUp o.not-MasterAck o.not-Election o.not-Accept o.not-Refuse o.not-Ack in
     rw k Performs_nothing

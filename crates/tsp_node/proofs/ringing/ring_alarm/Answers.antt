@@ -7,13 +7,13 @@ use Rattle.tsp_node.proofs.ringing.ring_alarm.Goals as goal
 
 pub returns-in-Elect-clause-row : goal.returns-in-Elect-clause-row
 unfolding alarm_rings
-returns-in-Elect-clause-row g c = rw c.in-Elect.is c.ring_elect.ensures.row
+returns-in-Elect-clause-row g c own wait = rw c.in-Elect.is c.ring_elect.ensures.row
 
 pub returns-in-Window-clause-row : goal.returns-in-Window-clause-row
 unfolding alarm_rings
-returns-in-Window-clause-row g c = rw c.in-Window.is c.candidate_ring.ensures.row
+returns-in-Window-clause-row g c own wait = rw c.in-Window.is c.candidate_ring.ensures.row
 
 pub returns-in_default-clause-row : goal.returns-in_default-clause-row
-returns-in_default-clause-row g c =
-    let same : slave_rings c.args.alarm ≡ alarm_rings c.args.alarm = slave_rings-is c.args.alarm c.requires.built c.in_default.not-Elect c.in_default.not-Window in
+returns-in_default-clause-row g c own wait =
+    let same : slave_rings c.args.alarm ≡ alarm_rings own wait c.args.alarm = slave_rings-is own wait c.args.alarm c.requires.in_force c.in_default.not-Elect c.in_default.not-Window in
     rw same at c.slave_ring.ensures.row

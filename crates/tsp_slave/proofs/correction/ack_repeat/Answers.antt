@@ -1,4 +1,5 @@
 -- The row's test is the code's.
+use Rattle.std.specs.Prelude.{refl}
 use Rattle.tsp_base.specs.declared.kind.Kind.TheVariants.{Ack}
 use Rattle.tsp_base.specs.Rows.{nothing, posts}
 use Rattle.tsp_base.proofs.PerformsLemmas.{Performs_then_part, Performs_else_part, Performs_beside, Performs_nothing}
@@ -10,7 +11,7 @@ pub returns-then-is_repeat-clause-row : goal.returns-then-is_repeat-clause-row
 unfolding acks_repeat
 returns-then-is_repeat-clause-row g c x clock took =
     Performs_then_part (is_repeated c.args.from c.args.number) nothing (λ past h. let t = h.second.first.taken_is in cc)
-    (Performs_beside _ (AlsoStands_posts c.args.from Ack c.args.number) (c.post.ensures.row x))
+    (Performs_beside _ (AlsoStands_posts c.args.from Ack c.args.number refl) (c.post.ensures.row x))
 
 pub returns-else-is_repeat-clause-row : goal.returns-else-is_repeat-clause-row
 unfolding acks_repeat

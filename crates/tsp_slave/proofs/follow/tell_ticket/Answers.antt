@@ -1,4 +1,5 @@
 -- The number is the clock's ticket.
+use Rattle.std.specs.Prelude.{refl}
 use Rattle.tsp_base.specs.declared.kind.Kind.TheVariants.{SlaveUp}
 use Rattle.tsp_base.specs.Rows.{posts}
 use Rattle.tsp_base.proofs.PerformsLemmas.{Performs_beside, Performs_reading}
@@ -11,4 +12,4 @@ pub returns-clause-row : goal.returns-clause-row
 unfolding tells_ticket
 returns-clause-row g c x last took =
     Performs_reading ticket_at (posts c.args.p SlaveUp) c.ticket.result (λ past h. let t = h.second.second.first.ticket_is in let v = c.ticket.ensures.value in cc)
-    (Performs_beside _ (AlsoStands_posts c.args.p SlaveUp c.ticket.result) (c.post.ensures.row x))
+    (Performs_beside _ (AlsoStands_posts c.args.p SlaveUp c.ticket.result refl) (c.post.ensures.row x))

@@ -1,17 +1,28 @@
--- In time it searches, late it waits again.
+-- In time it searches, since it doesn't stand; late it waits again.
+use Rattle.std.specs.Prelude.{◌≡◌, ◌&&◌, false}
+use Rattle.std.proofs.Common.{sym, ◌∙◌}
+use Rattle.tsp_base.specs.declared.act.Act.TheVariants.{Ring, Late}
 use Rattle.tsp_base.specs.declared.alarm.Alarm.TheVariants.{Elect}
+use Rattle.tsp_base.specs.Hold.{may_stand}
+use Rattle.tsp_base.specs.Rows.{puts, either_by, ◌followed_by◌}
 use Rattle.tsp_base.proofs.PerformsLemmas.{Performs_then, Performs_then_part, Performs_else_part}
-use Rattle.tsp_rules.specs.Tests.{is_in_time}
-use Rattle.tsp_slave.specs.SlaveAlarms.{elect_searches}
+use Rattle.tsp_rules.specs.CommonRows.{arms_elect, searches, stand_row}
+use Rattle.tsp_rules.specs.SlaveRows.{elect_rings, loosens}
+use Rattle.tsp_rules.specs.Tests.{is_in_time, may_stand_at}
+use Rattle.tsp_slave.proofs.RowCases.{may_stand-is, stays_in_time}
 use Rattle.tsp_slave.proofs.ring.miss_master.Goals as goal
 
 pub returns-then-is_in_time-clause-row : goal.returns-then-is_in_time-clause-row
-unfolding elect_searches
+unfolding elect_rings
 returns-then-is_in_time-clause-row g c =
-    Performs_then_part (is_in_time Elect) _ (λ past s. let a = s.alarms in cc)
-    (Performs_then (c.ring.ensures.row c.args.tick) (Performs_then (c.loosen.ensures.row c.args.tick) c.search.ensures.row))
+    let st = c.args.station.now in
+    let stays : (st.me.may && may_stand st.hold c.args.tick st.me.own) ≡ false = stays_in_time c.args.tick st (sym c.is_in_time.ensures ∙ c.if-is_in_time.true) c.requires.stays in
+    Performs_then_part (is_in_time Elect) (puts (Late Elect) followed_by arms_elect) (λ past s. let a = s.alarms in cc)
+    (Performs_then (c.ring.ensures.row c.args.tick) (Performs_else_part may_stand_at stand_row (λ past s. sym (may_stand-is c.args.tick past c.ring.new.self s) ∙ rw c.ring.ensures.station stays)
+    (Performs_then (c.loosen.ensures.row c.args.tick) c.search.ensures.row)))
 
 pub returns-else-is_in_time-clause-row : goal.returns-else-is_in_time-clause-row
-unfolding elect_searches
+unfolding elect_rings
 returns-else-is_in_time-clause-row g c =
-    Performs_else_part (is_in_time Elect) _ (λ past s. let a = s.alarms in cc) (Performs_then (c.late.ensures.row c.args.tick) c.arm_elect.ensures.row)
+    Performs_else_part (is_in_time Elect) (puts (Ring Elect) followed_by either_by may_stand_at stand_row (loosens followed_by searches)) (λ past s. let a = s.alarms in cc)
+    (Performs_then (c.late.ensures.row c.args.tick) c.arm_elect.ensures.row)

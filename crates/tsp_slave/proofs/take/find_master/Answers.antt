@@ -4,7 +4,7 @@ use Rattle.tsp_base.specs.declared.role.Role.TheVariants.{Loose}
 use Rattle.tsp_base.specs.Rows.{nothing}
 use Rattle.tsp_base.proofs.PerformsLemmas.{Performs_reading, Performs_then_part, Performs_else_part, Performs_nothing}
 use Rattle.tsp_rules.specs.CommonRows.{follow_row}
-use Rattle.tsp_rules.specs.SoFar.{finds_master}
+use Rattle.tsp_slave.specs.SlaveTakes.{finds_master}
 use Rattle.tsp_rules.specs.Tests.{role_at, is_armed}
 use Rattle.tsp_slave.proofs.RowCases.{finds_master-other}
 use Rattle.tsp_slave.proofs.take.find_master.Goals as goal

@@ -3,7 +3,7 @@ use Rattle.std.proofs.Common.{◌≡◌, ◌==◌, true, false, eq-eqb}
 use Rattle.std.proofs.lemmas.Bool.{ne_eqb}
 use Rattle.tsp_base.specs.declared.role.Role.TheVariants.{Loose, Follow}
 use Rattle.tsp_base.proofs.PerformsLemmas.{Performs_then, Performs_reading, Performs_beside, Performs_nothing}
-use Rattle.tsp_rules.specs.SoFar.{hears_master}
+use Rattle.tsp_slave.specs.SlaveTakes.{hears_master}
 use Rattle.tsp_rules.specs.Tests.{role_at}
 use Rattle.tsp_slave.proofs.RowCases.{hears_master-other}
 use Rattle.tsp_slave.proofs.SlaveLemmas.{AlsoStands_arms_elect}

@@ -1,15 +1,13 @@
 -- An ACK ends the send that it names.
-use Rattle.std.specs.Prelude.{false, refl}
 use Rattle.std.proofs.Common.{sym, ◌∙◌}
-use Rattle.tsp_acks.proofs.SendingLemmas.{has_other-is, has_other-not, Performs_acknowledges}
+use Rattle.tsp_sends.specs.Slots.{sending_to}
+use Rattle.tsp_acks.proofs.EndingLemmas.{answers_other-is, Performs_acknowledges}
 use Rattle.tsp_acks.proofs.station.Station.acknowledge.Goals as goal
 
-pub returns-then-not-asks-clause-row : goal.returns-then-not-asks-clause-row
-returns-then-not-asks-clause-row g c x = Performs_acknowledges c.args.p c.args.number c.end.result
-    (λ past s. (has_other-is c.args.p c.args.number x past c.args.self.now s (cc)) ∙ sym c.end.ensures.ends)
-    (λ e. c.end.ensures.row e x) c.end.ensures.same
+pub returns-clause-test : goal.returns-clause-test
+returns-clause-test g c x past s = let e = s.sends c.args.p in let same = answers_other-is c.args.number (sending_to c.args.self.now.sends c.args.p) in cc
 
-pub returns-else-not-asks-clause-row : goal.returns-else-not-asks-clause-row
-returns-else-not-asks-clause-row g c x = Performs_acknowledges c.args.p c.args.number false
-    (λ past s. has_other-not c.args.p c.args.number x past c.args.self.now s cc)
-    (λ e. let bad : ⊥ = cc in absurd bad) (λ e. (refl, refl))
+pub returns-clause-row : goal.returns-clause-row
+returns-clause-row g c x = Performs_acknowledges c.args.p c.args.number c.end.result
+    (λ past s. let e = s.sends c.args.p in let same = answers_other-is c.args.number (sending_to c.args.self.now.sends c.args.p) in cc)
+    (λ e. c.end.ensures.row e x) c.end.ensures.sends c.end.ensures.same

@@ -9,6 +9,7 @@ use Rattle.tsp_base.specs.Rows.{for_each, others}
 use Rattle.tsp_base.proofs.PerformsLemmas.{Performs_nothing, Performs_reading}
 use Rattle.tsp_base.proofs.RowLemmas.{others-own}
 use Rattle.tsp_rules.specs.SendRows.{begins, begins_to_others, others_at}
+use Rattle.tsp_acks.proofs.ChangeLemmas.{ChangesSends_then}
 use Rattle.tsp_acks.proofs.SendingLemmas.{Performs_begun_more}
 use Rattle.tsp_acks.specs.Stands.{StandsActing}
 use Rattle.tsp_acks.proofs.station.Station.begin_to_others.Goals.{then-p-self, else-p-self}
@@ -18,13 +19,8 @@ pub loop-place-init : goal.loop-place-init
 unfolding for_each
 loop-place-init g c = record {
   row = Performs_nothing;
-  me = refl;
-  role = refl;
-  hold = refl;
-  alarms = refl;
-  peers = refl;
-  spare = omega arith;
-  few = omega arith;
+  rest = record { me = refl; role = refl; hold = refl; alarms = refl; backers = refl; peers = refl };
+  room = record { spare = omega arith; few = omega arith };
 }
 
 pub loop-place-preserved : goal.loop-place-preserved
@@ -33,31 +29,21 @@ loop-place-preserved g c =
     let peers = c.args.self.now.peers in
     let n = c.loop-place.place in
     let p : PeerId = slice_index_or c.as_slice.result.now n (record { 0 = 0 }) in
-    let there : c.as_slice.result.now ≡ peers = c.as_slice.ensures.value ∙ inv.peers in
+    let there : c.as_slice.result.now ≡ peers = c.as_slice.ensures.value ∙ inv.rest.peers in
     let inside = c.loop-place-test.true in
     let end = ap length c.as_slice-place-end.ensures.value in
     let one : n + 1 ≡ suc n = omega arith in
     let more : take (n + 1) peers ≡ take n peers ++ p ∷ [] = ap (λ k. take k peers) one ∙ take-suc peers n (record { 0 = 0 }) (omega (arith, inside, end)) ∙ ap (λ l. take n peers ++ slice_index_or l n (record { 0 = 0 }) ∷ []) (sym there) in
     elim c.if-p-self.branch [
       | then-p-self w ↦ record {
-        row = rw (w.self-is, w.desk-is, more) (Performs_begun_more c.args.kind c.args.self.now.me.own p (take n peers) (λ e. w.if-p-self.true (e ∙ ap (λ i. i.own.0) (sym inv.me))) inv.row w.begin.ensures.row);
-        me = ap (λ s. s.me) w.self-is ∙ w.begin.ensures.me ∙ inv.me;
-        role = ap (λ s. s.role) w.self-is ∙ w.begin.ensures.role ∙ inv.role;
-        hold = ap (λ s. s.hold) w.self-is ∙ w.begin.ensures.hold ∙ inv.hold;
-        alarms = ap (λ s. s.alarms) w.self-is ∙ w.begin.ensures.alarms ∙ inv.alarms;
-        peers = ap (λ s. s.peers) w.self-is ∙ w.begin.ensures.peers ∙ inv.peers;
-        spare = rw w.desk-is (omega (arith, inv.spare, w.begin.ensures.spare));
-        few = rw w.desk-is (omega (arith, inv.few, w.begin.ensures.few));
+        row = rw (w.self-is, w.desk-is, more) (Performs_begun_more c.args.kind c.args.self.now.me.own p (take n peers) (λ e. w.if-p-self.true (e ∙ ap (λ i. i.own.0) (sym inv.rest.me))) inv.row w.begin.ensures.row);
+        rest = rw w.self-is (ChangesSends_then inv.rest w.begin.ensures.rest);
+        room = rw w.desk-is (record { spare = omega (arith, inv.room.spare, w.begin.ensures.room.spare); few = omega (arith, inv.room.few, w.begin.ensures.room.few) });
       }
       | else-p-self w ↦ record {
-        row = rw (w.self-is, w.desk-is, more, others-own c.args.self.now.me.own p (take n peers) (w.if-p-self.false ∙ ap (λ i. i.own.0) inv.me)) inv.row;
-        me = ap (λ s. s.me) w.self-is ∙ inv.me;
-        role = ap (λ s. s.role) w.self-is ∙ inv.role;
-        hold = ap (λ s. s.hold) w.self-is ∙ inv.hold;
-        alarms = ap (λ s. s.alarms) w.self-is ∙ inv.alarms;
-        peers = ap (λ s. s.peers) w.self-is ∙ inv.peers;
-        spare = rw w.desk-is (omega (arith, inv.spare));
-        few = rw w.desk-is (omega (arith, inv.few));
+        row = rw (w.self-is, w.desk-is, more, others-own c.args.self.now.me.own p (take n peers) (w.if-p-self.false ∙ ap (λ i. i.own.0) inv.rest.me)) inv.row;
+        rest = rw w.self-is inv.rest;
+        room = rw w.desk-is (record { spare = omega (arith, inv.room.spare); few = omega (arith, inv.room.few) });
       }
     ]
 

@@ -1,8 +1,10 @@
 -- A send to each of the peers so far but the own one has begun.
-use Rattle.std.specs.Prelude.{◌≡◌, ◌+◌, ◌≤◌, length, take}
+use Rattle.std.specs.Prelude.{take}
+use Rattle.tsp_base.specs.Frames.{PutsAtMost}
 use Rattle.tsp_base.specs.Performs.{Performs}
 use Rattle.tsp_base.specs.Rows.{for_each, others}
 use Rattle.tsp_rules.specs.SendRows.{begins}
+use Rattle.tsp_acks.specs.Changes.{ChangesSends}
 use Rattle.tsp_acks.specs.Stands.{StandsActing}
 use Rattle.tsp_acks.proofs.station.Station.begin_to_others.Given as goal
 
@@ -10,11 +12,6 @@ abbrev pub invariant-loop-place : goal.invariant-loop-place
 invariant-loop-place g l = record {
   row : Performs StandsActing StandsActing (for_each (begins l.kind) (others l.initial.self.me.own (take l.place l.initial.self.peers))) l.tick l.port (l.initial.self, tt) (l.self, tt)
       (g.D.Desk.acts l.initial.desk) (g.D.Desk.acts l.desk);
-  me : l.self.me ≡ l.initial.self.me;
-  role : l.self.role ≡ l.initial.self.role;
-  hold : l.self.hold ≡ l.initial.self.hold;
-  alarms : l.self.alarms ≡ l.initial.self.alarms;
-  peers : l.self.peers ≡ l.initial.self.peers;
-  spare : g.D.Desk.spare l.initial.desk ≤ g.D.Desk.spare l.desk + l.place;
-  few : length (g.D.Desk.acts l.desk) ≤ length (g.D.Desk.acts l.initial.desk) + l.place;
+  rest : ChangesSends l.initial.self l.self;
+  room : PutsAtMost l.place (g.D.Desk.spare l.initial.desk) (g.D.Desk.spare l.desk) (g.D.Desk.acts l.initial.desk) (g.D.Desk.acts l.desk);
 }

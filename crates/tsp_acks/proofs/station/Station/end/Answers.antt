@@ -2,10 +2,10 @@
 use Rattle.std.specs.Prelude.{None, refl}
 use Rattle.std.proofs.lemmas.Bool.{MatchBool-at_true}
 use Rattle.tsp_sends.specs.Slots.{SetsOnly}
-use Rattle.tsp_acks.proofs.SendingLemmas.{Performs_acked}
+use Rattle.tsp_acks.proofs.EndingLemmas.{Performs_acked}
 use Rattle.tsp_acks.proofs.station.Station.end.Goals as goal
 
 pub returns-then-ends-clause-row : goal.returns-then-ends-clause-row
 returns-then-ends-clause-row g c e x =
     let only : SetsOnly c.args.p None c.args.self.now.sends c.ack-ends.new.self = MatchBool-at_true _ _ e c.ack-ends.ensures.sends in
-    Performs_acked c.args.p (record { me = refl; role = refl; hold = refl; alarms = refl; peers = refl }) refl only c.put.ensures.acts
+    Performs_acked c.args.p (record { me = refl; role = refl; hold = refl; alarms = refl; backers = refl; peers = refl }) refl only c.put.ensures.acts

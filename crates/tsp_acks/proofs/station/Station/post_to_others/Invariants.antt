@@ -1,5 +1,6 @@
 -- The peers so far but the own one were posted to.
-use Rattle.std.specs.Prelude.{◌≡◌, ◌+◌, ◌≤◌, ◌++◌, length, map, take}
+use Rattle.std.specs.Prelude.{◌≡◌, ◌++◌, map, take}
+use Rattle.tsp_base.specs.Frames.{PutsAtMost}
 use Rattle.tsp_base.specs.Rows.{post_of, others, placed}
 use Rattle.tsp_acks.proofs.station.Station.post_to_others.Given as goal
 
@@ -7,6 +8,5 @@ abbrev pub invariant-loop-p : goal.invariant-loop-p
 invariant-loop-p g l = record {
   acts : g.D.Desk.acts l.desk ≡ g.D.Desk.acts l.initial.desk ++
       placed l.port (map (post_of l.kind l.number l.self.me.name) (others l.self.me.own (take l.p-index l.self.peers)));
-  spare : g.D.Desk.spare l.initial.desk ≤ g.D.Desk.spare l.desk + l.p-index;
-  few : length (g.D.Desk.acts l.desk) ≤ length (g.D.Desk.acts l.initial.desk) + l.p-index;
+  room : PutsAtMost l.p-index (g.D.Desk.spare l.initial.desk) (g.D.Desk.spare l.desk) (g.D.Desk.acts l.initial.desk) (g.D.Desk.acts l.desk);
 }

@@ -1,24 +1,18 @@
 -- The next due send is to a peer, and what is put for it is what that peer's row says.
-use Rattle.std.proofs.Common.{refl}
-use Rattle.tsp_acks.proofs.DueLemmas.{next_peer, Performs_due}
+use Rattle.std.proofs.Common.{◌≡◌, ◌∷◌, [], ◌++◌, refl}
+use Rattle.tsp_base.specs.declared.act.Placed.{Placed}
+use Rattle.tsp_acks.proofs.DueLemmas.{act_of, next_peer, Performs_due}
+use Rattle.tsp_acks.proofs.station.Station.treat_next.Goals.{in-Again, in-Gave}
 use Rattle.tsp_acks.proofs.station.Station.treat_next.Goals as goal
 
-pub returns-in-Again-clause-next : goal.returns-in-Again-clause-next
-returns-in-Again-clause-next g c =
+pub returns-clause-next : goal.returns-clause-next
+returns-clause-next g c =
     let st = c.args.self.now in
-    rw c.in-Again.is at (next_peer c.args.after c.args.tick st.sends c.due.new.self c.in_ok-p.field-0 st.peers c.in_ok-p.ensures.sends st.slots)
+    next_peer c.args.after c.args.tick st.sends c.due.new.self c.in_ok-due.due st.peers c.in_ok-due.ensures.sends st.slots
 
-pub returns-in-Again-clause-row : goal.returns-in-Again-clause-row
-returns-in-Again-clause-row g c =
-    let t = rw c.in-Again.is at c.in_ok-p.ensures.sends in
-    Performs_due c.args.after c.args.tick c.args.port _ c.args.self.now _ _ _ t (record { me = refl; role = refl; hold = refl; alarms = refl; peers = refl; begun = refl }) c.put.ensures.acts
-
-pub returns-in-Gave-clause-next : goal.returns-in-Gave-clause-next
-returns-in-Gave-clause-next g c =
-    let st = c.args.self.now in
-    rw c.in-Gave.is at (next_peer c.args.after c.args.tick st.sends c.due.new.self c.in_ok-p.field-0 st.peers c.in_ok-p.ensures.sends st.slots)
-
-pub returns-in-Gave-clause-row : goal.returns-in-Gave-clause-row
-returns-in-Gave-clause-row g c =
-    let t = rw c.in-Gave.is at c.in_ok-p.ensures.sends in
-    Performs_due c.args.after c.args.tick c.args.port _ c.args.self.now _ _ _ t (record { me = refl; role = refl; hold = refl; alarms = refl; peers = refl; begun = refl }) c.put-in-Gave.ensures.acts
+pub returns-clause-row : goal.returns-clause-row
+returns-clause-row g c =
+    let due = c.in_ok-due.due in
+    let put : g.D.Desk.acts c.match-due.desk ≡ g.D.Desk.acts c.args.desk.now ++ record { port = c.args.port; act = act_of due } ∷ [] =
+    elim c.match-due.branch [ in-Again w ↦ rw (w.desk-is, w.in-Again.is) (rw w.copy.ensures at w.put.ensures.acts) | in-Gave w ↦ rw (w.desk-is, w.in-Gave.is) w.put-in-Gave.ensures.acts ] in
+    Performs_due c.args.after c.args.tick c.args.port due c.args.self.now _ _ _ c.in_ok-due.ensures.sends (record { me = refl; role = refl; hold = refl; alarms = refl; backers = refl; peers = refl }) refl put

@@ -1,9 +1,9 @@
 -- Sends, alarms, and nothing more.
 use Rattle.tsp_base.proofs.PerformsLemmas.{Performs_then, Performs_nothing}
-use Rattle.tsp_rules.specs.SoFar.{input_so_far, answers_so_far}
+use Rattle.tsp_node.specs.InForce.{input_in_force, answers_in_force}
 use Rattle.tsp_node.proofs.NodeLemmas.{Performs_first}
 use Rattle.tsp_node.proofs.node.Node.turn.Goals as goal
 
 pub returns-clause-row : goal.returns-clause-row
-unfolding answers_so_far input_so_far
+unfolding answers_in_force input_in_force
 returns-clause-row g c = Performs_then (Performs_first c.args.self.now _ (c.sends.ensures.row c.args.self.now.clock)) (Performs_then c.ring_alarms.ensures.row Performs_nothing)

@@ -1,0 +1,21 @@
+-- A correction begins a send.
+use Rattle.std.proofs.Common.{◌∙◌, ap}
+use Rattle.tsp_base.specs.Rows.{posts_time}
+use Rattle.tsp_base.specs.SendFacts.{has_own_number, is_numbered}
+use Rattle.tsp_acks.proofs.SendingLemmas.{is_correction-fits, is_correction-other, posts_time-is, Performs_opened}
+use Rattle.tsp_acks.proofs.station.Station.begin_correction.Goals as goal
+
+pub new-message-requires : goal.new-message-requires
+new-message-requires g c = is_correction-fits _ _ c.requires.kind
+
+pub returns-clause-row : goal.returns-clause-row
+returns-clause-row g c =
+    let own = is_correction-other c.args.kind c.requires.kind in
+    let e = c.new-message.ensures in
+    Performs_opened (posts_time c.args.p c.args.kind c.args.number c.args.time) (λ past s. posts_time-is c.args.kind c.args.p c.args.number c.args.time c.args.tick past c.args.self.now s ∙ cc) (record {
+      numbered = ap (λ m. is_numbered m.kind) e ∙ own.0;
+      rest = c.open.ensures.rest;
+      acts = c.open.ensures.acts;
+      sends = c.open.ensures.sends;
+      count = rw (ap (λ m. has_own_number m.kind) e ∙ own.1) c.open.ensures.begun;
+    })

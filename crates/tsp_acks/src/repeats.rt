@@ -1,0 +1,50 @@
+//! How a station's due sends are posted again, or given up.
+ghost use Rattle.std.specs.Prelude.{◌≡◌, ◌≤◌, IfSome, IfNone};
+ghost use Rattle.std.specs.List.{Contains};
+ghost use Rattle.tsp_base.specs.Frames.{IsTick, PutsAtMost};
+ghost use Rattle.tsp_base.specs.Performs.{Performs};
+ghost use Rattle.tsp_rules.specs.SendRows.{bare_send};
+ghost use Rattle.tsp_sends.specs.Treating.{IsAfter, TreatsNext, peer_of};
+ghost use Rattle.tsp_acks.specs.Changes.{ChangesSends};
+
+use crate::station::Station;
+use tsp_base::act::Act;
+use tsp_base::datagram::Datagram;
+use tsp_base::desk::Desk;
+use tsp_base::place::{PeerId, Place, Port};
+use tsp_sends::Due;
+
+impl Station {
+    ghost use Rattle.tsp_acks.specs.Stands.{StandsStill};
+
+    /// Treats the due send to the least peer after this one: its message is posted again, or it is given up.
+    /// None exactly where none is due. No alarm has rung or come late in this step yet, and no datagram was
+    /// taken.
+    pub fn treat_next<D: Desk>(
+        &mut self,
+        after: Option<PeerId>,
+        tick: u64,
+        port: Port,
+        desk: &mut D,
+    ) -> Option<Due>
+        requires room { 1 ≤ D.spare desk.old }
+        requires tick { IsTick tick }
+        ensures next { IfSome result (λ due. Contains self.old.peers (peer_of due) × IsAfter after (peer_of due)) }
+        ensures sends { TreatsNext after tick self.old.sends self.new.sends result }
+        ensures row { IfSome result (λ due. Performs StandsStill StandsStill (bare_send (peer_of due)) tick port (self.old, tt) (self.new, tt) (D.acts desk.old) (D.acts desk.new)) }
+        ensures same { IfNone result ((self.new ≡ self.old) × (desk.new ≡ desk.old)) }
+        ensures rest { ChangesSends self.old self.new }
+        ensures begun { self.new.begun ≡ self.old.begun }
+        ensures room { PutsAtMost 1 (D.spare desk.old) (D.spare desk.new) (D.acts desk.old) (D.acts desk.new) }
+    {
+        let due = self.sends.due(after, tick)?;
+        match &due {
+            Due::Again(p, message) => {
+                let datagram = Datagram::Message(message.copy());
+                desk.put(port, Act::Post(Place::Peer(*p), datagram));
+            }
+            Due::Gave(p, _) => desk.put(port, Act::Gave(*p)),
+        }
+        Some(due)
+    }
+}

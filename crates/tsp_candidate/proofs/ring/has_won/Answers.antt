@@ -1,0 +1,1 @@
+-- The station has what the past comes to.

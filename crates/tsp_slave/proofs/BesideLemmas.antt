@@ -1,0 +1,47 @@
+-- Rows that neither boot, take, follow nor correct leave alone what stands beside a station: what is remembered of corrections, the clock, and what was taken.
+use Rattle.std.specs.Prelude.{◌≡◌, true, List, [], ◌∷◌}
+use Rattle.std.proofs.Common.{sym, true≢false}
+use Rattle.tsp_base.specs.declared.act.Act.{Act}
+use Rattle.tsp_base.specs.declared.act.Act.TheVariants.{Boot, Took, Become, Correct}
+use Rattle.tsp_base.specs.declared.role.Role.TheVariants.{Follow}
+use Rattle.tsp_base.specs.Performs.{Keeps}
+use Rattle.tsp_base.specs.Rows.{Row, puts}
+use Rattle.tsp_rules.proofs.Emits.{Sort, Asking, Correcting, Numbering, Posting, Leading, Changing, Backing, Counting, Rounding, Alarming, Tabling, Rivalling, Acking, Giving, Sampling, Closing, Tracing, is_in, sort_of, Emits, Keeps_by}
+use Rattle.tsp_clock.specs.ClockStands.{ClockStands}
+use Rattle.tsp_slave.specs.Lasts.{Remembers}
+use Rattle.tsp_slave.specs.SlaveStands.{AlsoStands, Took as WasTaken}
+
+-- all sorts of acts but Boot, Took, to follow, and Correct
+abbrev pub beside_sorts : List Sort
+beside_sorts = Asking ∷ Correcting ∷ Numbering ∷ Posting ∷ Leading ∷ Changing ∷ Backing ∷ Counting ∷ Rounding ∷ Alarming ∷ Tabling ∷ Rivalling ∷ Acking ∷ Giving ∷ Sampling ∷ Closing ∷ Tracing ∷ []
+
+Remembers_act : (a : Act) → is_in (sort_of a) beside_sorts ≡ true → Keeps Remembers (puts a)
+unfolding puts
+Remembers_act Boot e x past last h = absurd (true≢false (sym e))
+Remembers_act (Took from t) e x past last h = absurd (true≢false (sym e))
+Remembers_act (Become (Follow p)) e x past last h = absurd (true≢false (sym e))
+Remembers_act (Correct amount stepped shown) e x past last h = absurd (true≢false (sym e))
+Remembers_act _ e x past last h = record { tick_is = h.tick_is; taken_is = h.taken_is; name_is = h.name_is }
+
+ClockStands_act : (a : Act) → is_in (sort_of a) beside_sorts ≡ true → Keeps ClockStands (puts a)
+unfolding puts
+ClockStands_act Boot e x past clock h = absurd (true≢false (sym e))
+ClockStands_act (Correct amount stepped shown) e x past clock h = absurd (true≢false (sym e))
+ClockStands_act _ e x past clock h = record { offset_is = h.offset_is; rest_is = h.rest_is; at_is = h.at_is; ticket_is = h.ticket_is }
+
+WasTaken_act : (a : Act) → is_in (sort_of a) beside_sorts ≡ true → Keeps WasTaken (puts a)
+unfolding puts
+WasTaken_act (Took from t) e x past took h = absurd (true≢false (sym e))
+WasTaken_act _ e x past took h = h
+
+pub Remembers_by : (row : Row) → Emits beside_sorts row → Keeps Remembers row
+Remembers_by row e = Keeps_by beside_sorts Remembers row Remembers_act e
+
+pub ClockStands_by : (row : Row) → Emits beside_sorts row → Keeps ClockStands row
+ClockStands_by row e = Keeps_by beside_sorts ClockStands row ClockStands_act e
+
+pub AlsoStands_by : (row : Row) → Emits beside_sorts row → Keeps AlsoStands row
+AlsoStands_by row e x past state h = record {
+  first = Remembers_by row e x past state.0 h.first;
+  second = record { first = ClockStands_by row e x past state.1.0 h.second.first; second = Keeps_by beside_sorts WasTaken row WasTaken_act e x past state.1.1 h.second.second };
+}

@@ -1,0 +1,35 @@
+-- Corrections of both kinds have one rule.
+use Rattle.std.specs.Prelude.{◌≡◌, ℕ, ◌==◌, ◌&&◌, Bool, refl}
+use Rattle.std.proofs.Common.{sym}
+use Rattle.tsp_base.specs.declared.constants.TheConstants.{GAP}
+use Rattle.tsp_base.specs.declared.kind.Kind.{Kind}
+use Rattle.tsp_base.specs.declared.kind.Kind.TheVariants.{AdjTime, SetTime}
+use Rattle.tsp_base.specs.declared.place.PeerId.{PeerId}
+use Rattle.tsp_base.specs.History.{Past}
+use Rattle.tsp_base.specs.Hold.{is_past}
+use Rattle.tsp_base.specs.Rows.{either_by, ◌followed_by◌}
+use Rattle.tsp_rules.specs.SlaveRows.{acks_repeat, adjtime_of, confirms, settime_of, takes_amount, takes_value}
+use Rattle.tsp_clock.specs.Clocks.{ClockValue}
+use Rattle.tsp_clock.specs.ClockStands.{ClockStands}
+use Rattle.tsp_slave.specs.declared.change.Change.{Change}
+use Rattle.tsp_slave.specs.declared.change.Change.TheVariants.{By, To}
+use Rattle.tsp_slave.specs.ClockChanges.{changes_clock, correction_of, fits}
+use Rattle.tsp_slave.specs.Lasts.{LastValue, Remembers}
+
+-- whether a correction acts
+abbrev pub acts_at : ℕ → Change → ℕ → Past → Bool
+acts_at number (By amount) = takes_amount number amount
+acts_at number (To value) = takes_value number value
+
+-- the next correction changes the clock, and any other may be a repeat
+pub correction_of-is : (p : PeerId) (number : ℕ) (change : Change) →
+    correction_of p number change ≡ either_by (acts_at number change) (changes_clock change followed_by confirms p number) (acks_repeat p number)
+unfolding correction_of changes_clock adjtime_of settime_of
+correction_of-is p number (By amount) = refl
+correction_of-is p number (To value) = refl
+
+-- as the port and the clock have it
+pub acts_at-is : (number : ℕ) (change : Change) (x : ℕ) (past : Past) (last : LastValue) (clock : ClockValue) → Remembers past last → ClockStands past clock →
+    acts_at number change x past ≡ (((number == clock.ticket) && is_past last.tick GAP x) && fits clock x change)
+acts_at-is number (By amount) x past last clock r c = rw (c.ticket_is, c.offset_is, r.tick_is) refl
+acts_at-is number (To value) x past last clock r c = rw (c.ticket_is, r.tick_is) refl
