@@ -1,0 +1,177 @@
+-- What a close reads, and what it does to each measured peer.
+use Rattle.std.proofs.Common.{◌≡◌, ℕ, ◌+◌, ◌<◌, ◌≤◌, ◌&&◌, ◌||◌, nat_le, Bool, true, false, if◌then◌else◌, List, [], ◌∷◌, ◌++◌, length, map, get_or, Option, Some, None, ℤ, pos, ◌-ℤ◌, refl, ◌∙◌, ap, subst, arith}
+use Rattle.std.specs.Option.{option_map}
+use Rattle.std.proofs.lemmas.List.{get_or_default, map-append}
+use Rattle.std.proofs.lemmas.Bool.{false≢true, le-leb}
+use Rattle.tsp_base.specs.declared.act.Act.{Act}
+use Rattle.tsp_base.specs.declared.act.Act.TheVariants.{Leave, Correct}
+use Rattle.tsp_base.specs.declared.act.Placed.{Placed}
+use Rattle.tsp_base.specs.declared.place.Port.{Port}
+use Rattle.tsp_base.specs.Performs.{Performs}
+use Rattle.tsp_base.specs.PortFacts.{armed}
+use Rattle.tsp_group.specs.declared.group.Group.{Group}
+use Rattle.tsp_rules.specs.ClockRows.{adjusts, can_adjust, is_step}
+use Rattle.tsp_rules.specs.SendRows.{begins_adjtime, begins_settime}
+use Rattle.tsp_rules.specs.Tests.{is_over}
+use Rattle.tsp_rules.proofs.Emits.{AllOf, Emits, Emits_each, Emits_if, Emits_puts, is_in, sort_of}
+use Rattle.tsp_rules.proofs.EmitsSends.{emits_adjtime_begins, emits_settime_begins}
+use Rattle.tsp_acks.specs.declared.station.Station.{Station}
+use Rattle.tsp_acks.proofs.StandsLemmas.{Stands_idle}
+use Rattle.tsp_clock.specs.Clocks.{ClockValue}
+use Rattle.tsp_clock.specs.ClockStands.{ClockStands}
+use Rattle.tsp_base.specs.declared.place.PeerId.{PeerId}
+use Rattle.tsp_base.specs.History.{Past}
+use Rattle.tsp_base.specs.Rows.{either_by, for_each, grown, nothing, puts, ◌followed_by◌}
+use Rattle.tsp_base.specs.RoundFacts.{Estimate, Sampled, best, estimate_of, is_going}
+use Rattle.tsp_rules.specs.RoundRows.{Standing, abandons, closes_with, corrects, corrects_by, corrects_peer, diff_before, is_correct, mean_by, moves, estimates, is_near, near_diffs, round_at, standing}
+use Rattle.tsp_acks.specs.Peers.{IsPeers}
+use Rattle.tsp_measure.specs.declared.sample.TimedSample.{TimedSample}
+use Rattle.tsp_master.specs.declared.entry.Entry.{Entry}
+use Rattle.tsp_master.specs.declared.master.Master.{Master}
+use Rattle.tsp_master.specs.Closing.{estimate_with, measured_of, round_of, standing_with, standings_of}
+use Rattle.tsp_master.specs.MasterStands.{LeadStands, MasterStands}
+use Rattle.tsp_master.specs.Rounds.{RoundsValue, estimate_in, timed_of}
+use Rattle.tsp_master.specs.Slaves.{Changes, entry_of, leaves, peers_of}
+use Rattle.tsp_master.proofs.AskLemmas.{filter-more, filter-past, measured-is, peers_apart}
+use Rattle.tsp_master.proofs.LeadLemmas.{still_sorts}
+use Rattle.tsp_master.proofs.MasterLemmas.{MasterStands_aside}
+use Rattle.tsp_master.proofs.PhaseLemmas.{over-low, over-some}
+use Rattle.tsp_master.proofs.TableLemmas.{MasterStands_changed, leaves-after}
+
+-- one estimate more
+near_diffs-more : (rs : List Standing) (s : Standing) → near_diffs (rs ++ s ∷ []) ≡ near_diffs rs ++ diff_before s.best []
+near_diffs-more [] s = refl
+near_diffs-more (r ∷ rs) s = by_best r.best (near_diffs-more rs s) where
+  by_near : (b : Bool) (z : ℤ) → near_diffs (rs ++ s ∷ []) ≡ near_diffs rs ++ diff_before s.best [] →
+      (if b then z ∷ near_diffs (rs ++ s ∷ []) else near_diffs (rs ++ s ∷ [])) ≡ (if b then z ∷ near_diffs rs else near_diffs rs) ++ diff_before s.best []
+  by_near true z e = ap (λ zs. z ∷ zs) e
+  by_near false z e = e
+
+  by_best : (o : Option Estimate) → near_diffs (rs ++ s ∷ []) ≡ near_diffs rs ++ diff_before s.best [] → diff_before o (near_diffs (rs ++ s ∷ [])) ≡ diff_before o (near_diffs rs) ++ diff_before s.best []
+  by_best None e = e
+  by_best (Some b) e = by_near (is_near b.diff) b.diff e
+
+pub standings-more : (es : List Entry) (v : RoundsValue) (ps : List PeerId) (p : PeerId) → (entry_of es p).measured ≡ true → standings_of es v (ps ++ p ∷ []) ≡ standings_of es v ps ++ standing_with v p ∷ []
+standings-more es v ps p m = ap (map (standing_with v)) (filter-more (λ (q : PeerId). (entry_of es q).measured) ps p m) ∙ map-append (standing_with v) (measured_of es ps) (p ∷ [])
+
+pub standings-past : (es : List Entry) (v : RoundsValue) (ps : List PeerId) (p : PeerId) → (entry_of es p).measured ≡ false → standings_of es v (ps ++ p ∷ []) ≡ standings_of es v ps
+standings-past es v ps p m = ap (map (standing_with v)) (filter-past (λ (q : PeerId). (entry_of es q).measured) ps p m)
+
+pub estimates-more : (es : List Entry) (v : RoundsValue) (ps : List PeerId) (p : PeerId) → (entry_of es p).measured ≡ true → estimates (standings_of es v (ps ++ p ∷ [])) ≡ estimates (standings_of es v ps) ++ diff_before (estimate_with v p) []
+estimates-more es v ps p m = ap estimates (standings-more es v ps p m) ∙ ap (λ zs. pos 0 ∷ zs) (near_diffs-more (standings_of es v ps) (standing_with v p))
+
+pub one-estimate : (o : Option Estimate) → length (diff_before o []) ≤ 1
+one-estimate None = omega arith
+one-estimate (Some b) = by_test (is_near b.diff) where
+  by_test : (t : Bool) → length (if t then b.diff ∷ [] else []) ≤ 1
+  by_test true = omega arith
+  by_test false = omega arith
+
+-- what a best sample says, as the past and the exchanges have it
+estimate-timed : (o : Option Sampled) → estimate_of o ≡ option_map (λ (t : TimedSample). estimate_in t.sample) (option_map timed_of o)
+estimate-timed None = refl
+estimate-timed (Some s) = refl
+
+pub estimate-sample : (o : Option TimedSample) → option_map (λ (t : TimedSample). estimate_in t.sample) o ≡ option_map estimate_in (option_map (λ (t : TimedSample). t.sample) o)
+estimate-sample None = refl
+estimate-sample (Some t) = refl
+
+map-same : (f g : PeerId → Standing) → ((p : PeerId) → f p ≡ g p) → (ps : List PeerId) → map f ps ≡ map g ps
+map-same f g same [] = refl
+map-same f g same (p ∷ ps) = ap (λ s. s ∷ map f ps) (same p) ∙ ap (λ ss. g p ∷ ss) (map-same f g same ps)
+
+-- what a round has come to, as the master has it
+pub round-is : (x : ℕ) (past : Past) (m : Master) → is_going past.seen ≡ true → MasterStands past m → round_at x past ≡ round_of m.slaves m.rounds
+round-is x past m goes h =
+    ap (map (standing past.seen)) (measured-is x past m h)
+    ∙ map-same (standing past.seen) (standing_with m.rounds)
+    (λ p. ap (λ o. record { peer = p; best = o }) (estimate-timed (best p past.seen) ∙ ap (option_map (λ (t : TimedSample). estimate_in t.sample)) ((h.going goes).samples p)))
+    (measured_of m.slaves (peers_of m.slaves))
+
+-- a peer leaves
+pub MasterStands_leaves : (p : PeerId) (x : ℕ) (past : Past) (old new : Master) → Changes p leaves old.slaves new.slaves → peers_of new.slaves ≡ peers_of old.slaves → new.rounds ≡ old.rounds → MasterStands past old → MasterStands (grown x past (Leave p ∷ [])) new
+MasterStands_leaves p x past old new change ps rs h = MasterStands_changed p leaves (Leave p) x past old new refl (λ e j m. (refl, refl)) (leaves-after p past x) change ps rs h
+
+-- the entries of later peers stay
+pub later-same : (ps : List PeerId) (n : ℕ) (p : PeerId) (first old new : List Entry) → IsPeers ps → get_or ps n p ≡ p → ((q : PeerId) → (q.0 ≡ p.0 → ⊥) → entry_of new q ≡ entry_of old q) →
+    ((k : ℕ) (d : PeerId) → n ≤ k → k < length ps → entry_of old (get_or ps k d) ≡ entry_of first (get_or ps k d)) → (k : ℕ) (d : PeerId) → n + 1 ≤ k → k < length ps → entry_of new (get_or ps k d) ≡ entry_of first (get_or ps k d)
+later-same ps n p first old new up here others same k d low high =
+    let apart : p.0 < (get_or ps k p).0 = omega (arith, peers_apart ps up n k p (omega arith) high, ap (λ (t : PeerId). t.0) here) in
+    let is : get_or ps k d ≡ get_or ps k p = get_or_default ps k d p high in
+    others (get_or ps k d) (λ e. omega (arith, apart, ap (λ (t : PeerId). t.0) is, e)) ∙ same k d (omega arith) high
+
+-- rows for equal values
+pub corrects_with : {S T : Type 0} {P : Past → S → Type 0} {Q : Past → T → Type 0} {x : ℕ} {port : Port} {before : S} {after : T} {old new : List Placed} (mean : ℤ) (p : PeerId) {v w : RoundsValue} → v ≡ w →
+    Performs P Q (corrects_peer mean (standing_with v p)) x port before after old new → Performs P Q (corrects_peer mean (standing_with w p)) x port before after old new
+corrects_with {P = P} {Q = Q} {x = x} {port = port} {before = before} {after = after} {old = old} {new = new} mean p e d = subst (λ r. Performs P Q (corrects_peer mean (standing_with r p)) x port before after old new) e d
+
+pub closes_same : {S T : Type 0} {P : Past → S → Type 0} {Q : Past → T → Type 0} {x : ℕ} {port : Port} {before : S} {after : T} {old new : List Placed} (own : Bool) {g h : Group} (round : List Standing) → g ≡ h →
+    Performs P Q (closes_with own g round) x port before after old new → Performs P Q (closes_with own h round) x port before after old new
+closes_same {P = P} {Q = Q} {x = x} {port = port} {before = before} {after = after} {old = old} {new = new} own round e d = subst (λ k. Performs P Q (closes_with own k round) x port before after old new) e d
+
+pub each_same : {S T : Type 0} {P : Past → S → Type 0} {Q : Past → T → Type 0} {x : ℕ} {port : Port} {before : S} {after : T} {old new : List Placed} (mean : ℤ) {es fs : List Entry} {v w : RoundsValue} → es ≡ fs → v ≡ w →
+    Performs P Q (for_each (corrects_peer mean) (round_of es v)) x port before after old new → Performs P Q (for_each (corrects_peer mean) (round_of fs w)) x port before after old new
+each_same {P = P} {Q = Q} {x = x} {port = port} {before = before} {after = after} {old = old} {new = new} mean {fs = fs} {v = v} e f d =
+    subst (λ r. Performs P Q (for_each (corrects_peer mean) (round_of fs r)) x port before after old new) f (subst (λ k. Performs P Q (for_each (corrects_peer mean) (round_of k v)) x port before after old new) e d)
+
+-- the clock is moved, or stays
+pub Performs_moves : (amount : ℤ) {x : ℕ} {port : Port} (m : Master) (st : Station) {clock moved : ClockValue} {old new : List Placed} → Performs ClockStands ClockStands (adjusts amount) x port clock moved old new →
+    Performs LeadStands LeadStands (adjusts amount) x port (m, ((st, tt), clock)) (m, ((st, tt), moved)) old new
+unfolding adjusts puts
+Performs_moves amount {x = x} m st d = record {
+  acts = λ past h. d.acts past h.second.second;
+  stands = λ past h. record {
+    first = MasterStands_aside (Correct amount (is_step amount) _) x past m m refl refl refl h.first.entries h.first.empty h.first;
+    second = record {
+      first = record { first = Stands_idle (Correct amount (is_step amount) _) refl x past st h.second.first.first; second = h.second.first.second };
+      second = d.stands past h.second.second;
+    };
+  };
+}
+
+-- where Close is due and Probe isn't, no probe is to come
+pub no_probe : (x : ℕ) (past : Past) (m : Master) → is_over (armed past.seen).probe x ≡ false → is_over (armed past.seen).close x ≡ true → MasterStands past m → (armed past.seen).probe ≡ None
+no_probe x past m off due h = by_probe (armed past.seen).probe refl off where
+  close : (at : ℕ) × ((armed past.seen).close ≡ Some at)
+  close = over-some (armed past.seen).close x due
+
+  low : close.0 ≤ x
+  low = over-low (armed past.seen).close x close.0 due close.1
+
+  by_probe : (o : Option ℕ) → (armed past.seen).probe ≡ o → is_over o x ≡ false → (armed past.seen).probe ≡ None
+  by_probe None e f = e
+  by_probe (Some at) e f =
+      let p = h.probing at e in
+      let early = p.2 close.0 close.1 in
+      let over : nat_le at x ≡ true = le-leb at x (omega (arith, early, low, p.1)) in
+      let bad : ⊥ = cc in
+      absurd bad
+
+-- acts without a Correct
+pub corrects-none : (acts : List Act) → AllOf still_sorts acts → corrects acts ≡ false
+corrects-none [] h = refl
+corrects-none (a ∷ acts) h = ap (λ b. b || corrects acts) (by_act a h.0) ∙ corrects-none acts h.1 where
+  by_act : (k : Act) → is_in (sort_of k) still_sorts ≡ true → is_correct k ≡ false
+  by_act (Correct amount stepped shown) e = absurd (false≢true e)
+  by_act _ e = refl
+
+by-still : (mean : ℤ) (p : PeerId) (o : Option Estimate) → Emits still_sorts (corrects_by mean p o)
+unfolding corrects_by
+by-still mean p None = Emits_puts (Leave p) refl
+by-still mean p (Some b) = Emits_if (is_near b.diff) (begins_adjtime p b.ticket (mean -ℤ b.diff)) (begins_settime p b.ticket) (emits_adjtime_begins p b.ticket (mean -ℤ b.diff) refl) (emits_settime_begins p b.ticket refl)
+
+peer-still : (mean : ℤ) (s : Standing) → Emits still_sorts (corrects_peer mean s)
+unfolding corrects_peer
+peer-still mean s = by-still mean s.peer s.best
+
+-- a close corrects where the clock can be moved and the port leads it
+pub corrects-closes : (own : Bool) (g : Group) (round : List Standing) (x : ℕ) (past : Past) (can : Bool) → can_adjust (mean_by own g) x past ≡ can → corrects (closes_with own g round x past) ≡ (can && own)
+unfolding closes_with either_by puts ◌followed_by◌ abandons moves adjusts nothing
+corrects-closes true g round x past true e = rw e refl
+corrects-closes false g round x past true e =
+    rw e (corrects-none (for_each (corrects_peer (pos 0)) round x _) ((Emits_each {sorts = still_sorts} (corrects_peer (pos 0)) round (peer-still (pos 0))).only x _))
+corrects-closes own g round x past false e = rw e refl
+
+-- a round goes on whose close is due
+pub goes_where : (x : ℕ) (past : Past) → is_over (armed past.seen).close x ≡ true → is_going past.seen ≡ true
+goes_where x past due = let close = over-some (armed past.seen).close x due in rw close.1 refl

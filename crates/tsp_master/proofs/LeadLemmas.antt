@@ -1,0 +1,68 @@
+-- Calls of a station and of a clock, beside a master.
+use Rattle.std.proofs.Common.{◌≡◌, ℕ, Bool, true, List, [], ◌∷◌, ◌++◌, refl}
+use Rattle.std.proofs.lemmas.Bool.{false≢true}
+use Rattle.tsp_base.specs.declared.act.Act.{Act}
+use Rattle.tsp_base.specs.declared.act.Act.TheVariants.{Boot, Correct}
+use Rattle.tsp_base.specs.declared.act.Placed.{Placed}
+use Rattle.tsp_base.specs.declared.place.Port.{Port}
+use Rattle.tsp_base.specs.History.{Past}
+use Rattle.tsp_base.specs.Performs.{Performs, Keeps}
+use Rattle.tsp_base.specs.Rows.{Row, grown, puts}
+use Rattle.tsp_rules.proofs.Emits.{Sort, Taking, Asking, Correcting, Numbering, Posting, Leading, Following, Changing, Backing, Counting, Rounding, Alarming, Tabling, Rivalling, Acking, Giving, Sampling, Closing, Tracing, is_in, sort_of, Emits, Emits_more, Keeps_by}
+use Rattle.tsp_acks.specs.declared.station.Station.{Station}
+use Rattle.tsp_acks.specs.Stands.{StandsActing}
+use Rattle.tsp_acks.proofs.ActingLemmas.{Performs_acting}
+use Rattle.tsp_acks.proofs.StandsLemmas.{Stands_idle, is_idle}
+use Rattle.tsp_clock.specs.Clocks.{ClockValue}
+use Rattle.tsp_clock.specs.ClockStands.{ClockStands}
+use Rattle.tsp_master.specs.declared.master.Master.{Master}
+use Rattle.tsp_master.specs.MasterStands.{MasterStands, LeadStands}
+use Rattle.tsp_master.proofs.TableLemmas.{quiet_sorts, MasterStands_quiet}
+
+-- an act that the station doesn't keep
+pub Performs_idle : (a : Act) → is_idle a ≡ true → {x : ℕ} {port : Port} {station : Station} {old new : List Placed} → new ≡ old ++ record { port = port; act = a } ∷ [] →
+    Performs StandsActing StandsActing (puts a) x port (station, tt) (station, tt) old new
+unfolding puts
+Performs_idle a i {x = x} {station = station} put = Performs_acting (record { acts = λ past s. put; stands = λ past s. Stands_idle a i x past station s })
+
+-- all sorts but Boot and Correct
+abbrev pub still_sorts : List Sort
+still_sorts = Taking ∷ Asking ∷ Correcting ∷ Numbering ∷ Posting ∷ Leading ∷ Following ∷ Changing ∷ Backing ∷ Counting ∷ Rounding ∷ Alarming ∷ Tabling ∷ Rivalling ∷ Acking ∷ Giving ∷ Sampling ∷ Closing ∷ Tracing ∷ []
+
+ClockStands_still : (a : Act) → is_in (sort_of a) still_sorts ≡ true → Keeps ClockStands (puts a)
+unfolding puts
+ClockStands_still Boot e x past clock h = absurd (false≢true e)
+ClockStands_still (Correct amount stepped shown) e x past clock h = absurd (false≢true e)
+ClockStands_still _ e x past clock h = record { offset_is = h.offset_is; rest_is = h.rest_is; at_is = h.at_is; ticket_is = h.ticket_is }
+
+-- a call of the station, and what it makes of the master
+pub Performs_lead : {row : Row} {x : ℕ} {port : Port} {before after : Station} (old new : Master) (clock : ClockValue) {earlier later : List Placed} → Emits still_sorts row →
+    ((past : Past) → LeadStands past (old, ((before, tt), clock)) → MasterStands (grown x past (row x past)) new) → Performs StandsActing StandsActing row x port (before, tt) (after, tt) earlier later →
+    Performs LeadStands LeadStands row x port (old, ((before, tt), clock)) (new, ((after, tt), clock)) earlier later
+Performs_lead {row = row} {x = x} old new clock e k d = record {
+  acts = λ past h. d.acts past h.second.first;
+  stands = λ past h. record {
+    first = k past h;
+    second = record { first = d.stands past h.second.first; second = Keeps_by still_sorts ClockStands row ClockStands_still e x past clock h.second.second };
+  };
+}
+
+-- the same, where more stands before or after
+pub Performs_lead_by : {P Q : Past → Master × ((Station × Unit {0}) × ClockValue) → Type 0} {row : Row} {x : ℕ} {port : Port} {before after : Station} (old new : Master) (clock : ClockValue) {earlier later : List Placed} → Emits still_sorts row →
+    ((past : Past) → P past (old, ((before, tt), clock)) → LeadStands past (old, ((before, tt), clock))) →
+    ((past : Past) → P past (old, ((before, tt), clock)) → MasterStands (grown x past (row x past)) new) →
+    ((past : Past) → P past (old, ((before, tt), clock)) → LeadStands (grown x past (row x past)) (new, ((after, tt), clock)) → Q (grown x past (row x past)) (new, ((after, tt), clock))) →
+    Performs StandsActing StandsActing row x port (before, tt) (after, tt) earlier later → Performs P Q row x port (old, ((before, tt), clock)) (new, ((after, tt), clock)) earlier later
+Performs_lead_by {row = row} {x = x} old new clock e from k to d = record {
+  acts = λ past h. d.acts past (from past h).second.first;
+  stands = λ past h. to past h (record {
+    first = k past h;
+    second = record { first = d.stands past (from past h).second.first; second = Keeps_by still_sorts ClockStands row ClockStands_still e x past clock (from past h).second.second };
+  });
+}
+
+-- a call of the station that means nothing to the master
+pub Performs_quiet : {row : Row} {x : ℕ} {port : Port} {before after : Station} (master : Master) (clock : ClockValue) {earlier later : List Placed} → Emits quiet_sorts row →
+    Performs StandsActing StandsActing row x port (before, tt) (after, tt) earlier later → Performs LeadStands LeadStands row x port (master, ((before, tt), clock)) (master, ((after, tt), clock)) earlier later
+Performs_quiet {row = row} {x = x} master clock e d =
+    Performs_lead master master clock (Emits_more quiet_sorts refl e) (λ past h. Keeps_by quiet_sorts MasterStands row MasterStands_quiet e x past master h.first) d

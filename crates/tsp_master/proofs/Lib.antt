@@ -1,0 +1,15 @@
+pub mod AskLemmas
+pub mod CloseLemmas
+pub mod ExchangeLemmas
+pub mod LeadLemmas
+pub mod MasterLemmas
+pub mod PhaseLemmas
+pub mod ReplyLemmas
+pub mod RingCases
+pub mod RoundLemmas
+pub mod SampleLemmas
+pub mod SinceLemmas
+pub mod SlavesLemmas
+pub mod StillLemmas
+pub mod TableLemmas
+pub mod TakeLemmas

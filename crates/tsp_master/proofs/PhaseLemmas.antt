@@ -1,0 +1,130 @@
+-- How a round begins and goes on.
+use Rattle.std.proofs.Common.{◌≡◌, ℕ, ◌+◌, ◌*◌, ◌<◌, ◌≤◌, nat_lt, true, false, List, [], ◌∷◌, ◌++◌, Option, Some, None, append_assoc, refl, sym, ◌∙◌, ap, arith}
+use Rattle.std.proofs.lemmas.Bool.{false≢true, leb-true}
+use Rattle.std.proofs.lemmas.Bool.Decides.{nat_tests}
+use Rattle.tsp_base.specs.declared.act.Act.{Act}
+use Rattle.tsp_base.specs.declared.act.Act.TheVariants.{Post, Become, Arm, Ring, Late}
+use Rattle.tsp_base.specs.declared.act.Placed.{Placed}
+use Rattle.tsp_base.specs.declared.alarm.Alarm.TheVariants.{Probe, Close}
+use Rattle.tsp_base.specs.declared.constants.TheConstants.{CLOSE, PROBE}
+use Rattle.tsp_base.specs.declared.place.Port.{Port}
+use Rattle.tsp_base.specs.declared.role.Role.TheVariants.{Follow, Master as MasterRole}
+use Rattle.tsp_base.specs.History.{Past}
+use Rattle.tsp_base.specs.Performs.{Performs, Keeps}
+use Rattle.tsp_base.specs.PortFacts.{armed}
+use Rattle.tsp_base.specs.RoundFacts.{is_going, is_starting, probes}
+use Rattle.tsp_base.specs.Rows.{Row, arms, grown, puts, ◌followed_by◌}
+use Rattle.tsp_base.proofs.RowLemmas.{grown_append}
+use Rattle.tsp_rules.specs.Tests.{is_met, is_over}
+use Rattle.tsp_rules.proofs.Emits.{Posting, is_in, sort_of}
+use Rattle.tsp_measure.specs.Measures.{Measured, best_of}
+use Rattle.tsp_master.specs.declared.master.Master.{Master}
+use Rattle.tsp_master.specs.MasterStands.{MasterStands, IsProbing}
+use Rattle.tsp_master.specs.Rounds.{IsNothing, pending_at}
+use Rattle.tsp_master.specs.Slaves.{ChangesAll, peers_of, unmeasures}
+
+-- a call that no past allows
+pub Performs_never : {S T : Type 0} {p : Past → S → Type 0} {q : Past → T → Type 0} {row : Row} {x : ℕ} {port : Port} {before : S} {after : T} {old new : List Placed} → ((past : Past) → p past before → ⊥) → Performs p q row x port before after old new
+Performs_never k = record { acts = λ past h. absurd (k past h); stands = λ past h. absurd (k past h) }
+
+pub then_assoc : (r s t : Row) (x : ℕ) (past : Past) → ((r followed_by s) followed_by t) x past ≡ (r followed_by (s followed_by t)) x past
+unfolding ◌followed_by◌
+then_assoc r s t x past =
+    let a = r x past in
+    let b = s x (grown x past a) in
+    ap (λ q. (a ++ b) ++ t x q) (grown_append x past a b) ∙ append_assoc a b (t x (grown x (grown x past a) b))
+
+-- a round begins
+pub MasterStands_begins_round : (x : ℕ) (past : Past) (old new : Master) → ChangesAll unmeasures old.slaves new.slaves → peers_of new.slaves ≡ peers_of old.slaves → IsNothing new.rounds → new.rounds.asked ≡ old.rounds.asked → new.rounds.probes ≡ 0 → MasterStands past old →
+    MasterStands (grown x past ((arms Probe PROBE followed_by arms Close CLOSE) x past)) new
+unfolding arms ◌followed_by◌
+MasterStands_begins_round x past old new change ps none asked_is zero h = record {
+  peers = ps ∙ h.peers;
+  entries = λ q. change q ∙ ap unmeasures (h.entries q);
+  asked_is = asked_is ∙ h.asked_is;
+  going = λ g. record {
+    requests = λ p c. ap (λ (m : Measured). pending_at c m.pending) (sym (none p.0));
+    samples = λ p. ap (λ (m : Measured). best_of m.samples) (sym (none p.0));
+    probes_is = zero;
+    opened = λ p c post older e. let bad : ⊥ = cc in absurd bad;
+    recent = λ p s e. let bad : ⊥ = cc in absurd bad;
+  };
+  idle = λ g. absurd (false≢true (sym g));
+  probing = λ at e. (refl, omega arith, λ close f. let a : x + PROBE ≡ at = cc in let b : x + CLOSE ≡ close = cc in omega (arith, a, b));
+  empty = λ other p. ((h.empty other p).0, refl);
+}
+
+-- a further probe is put off
+pub MasterStands_arms_probe : (x : ℕ) (past : Past) (m : Master) → is_going past.seen ≡ true → probes past.seen < 3 → ((close : ℕ) → (armed past.seen).close ≡ Some close → x + 8000000 ≤ close + 2000000 * probes past.seen) → MasterStands past m →
+    MasterStands (grown x past (arms Probe PROBE x past)) m
+unfolding arms
+MasterStands_arms_probe x past m goes more early h = record {
+  peers = h.peers;
+  entries = h.entries;
+  asked_is = h.asked_is;
+  going = λ g. let r = h.going g in record { requests = r.requests; samples = r.samples; probes_is = r.probes_is; opened = r.opened; recent = r.recent };
+  idle = h.idle;
+  probing = λ at e. (goes, more, λ close f. let a : x + PROBE ≡ at = cc in omega (arith, a, early close f));
+  empty = h.empty;
+}
+
+-- an alarm that is due is armed, and one that is in time is met soon enough
+pub over-some : (o : Option ℕ) (x : ℕ) → is_over o x ≡ true → (at : ℕ) × (o ≡ Some at)
+over-some None x e = absurd (false≢true e)
+over-some (Some at) x e = (at, refl)
+
+pub over-low : (o : Option ℕ) (x at : ℕ) → is_over o x ≡ true → o ≡ Some at → at ≤ x
+over-low None x at e f = absurd (false≢true e)
+over-low (Some k) x at e f = let same : k ≡ at = cc in let low = leb-true k x e in omega (arith, same, low)
+
+pub met-some : (o : Option ℕ) (x at : ℕ) → is_met o x ≡ true → o ≡ Some at → x ≤ at + 1000000
+met-some None x at e f = absurd (false≢true e)
+met-some (Some k) x at e f = let same : k ≡ at = cc in let low = leb-true x (k + 1000000) e in omega (arith, same, low)
+
+-- a probe that rings in time comes well before the close
+pub rings_early : (x at : ℕ) (past : Past) → IsProbing at past.seen → x ≤ at + 1000000 → (close : ℕ) → (armed past.seen).close ≡ Some close → x + 8000000 ≤ close + 2000000 * (probes past.seen + 1)
+rings_early x at past p low close e = omega (arith, p.2 close e)
+
+pub no_more : (n : ℕ) → 3 ≤ n → nat_lt n 3 ≡ false
+no_more n h = grind (arith, nat_tests)
+
+-- posts leave a round going that begins
+abbrev Goes : Past → Unit {0} → Type 0
+Goes past state = is_going past.seen ≡ true
+
+abbrev Begins : Past → Unit {0} → Type 0
+Begins past state = is_starting past.seen ≡ true
+
+pub goes_posting : (a : Act) → is_in (sort_of a) (Posting ∷ []) ≡ true → Keeps Goes (puts a)
+unfolding puts
+goes_posting (Post to d) e x past s h = h
+goes_posting (Become MasterRole) e x past s h = absurd (false≢true e)
+goes_posting (Become (Follow p)) e x past s h = absurd (false≢true e)
+goes_posting (Become _) e x past s h = absurd (false≢true e)
+goes_posting (Arm Probe at) e x past s h = absurd (false≢true e)
+goes_posting (Arm Close at) e x past s h = absurd (false≢true e)
+goes_posting (Arm _ at) e x past s h = absurd (false≢true e)
+goes_posting (Ring Probe) e x past s h = absurd (false≢true e)
+goes_posting (Ring Close) e x past s h = absurd (false≢true e)
+goes_posting (Ring _) e x past s h = absurd (false≢true e)
+goes_posting (Late Probe) e x past s h = absurd (false≢true e)
+goes_posting (Late Close) e x past s h = absurd (false≢true e)
+goes_posting (Late _) e x past s h = absurd (false≢true e)
+goes_posting _ e x past s h = absurd (false≢true e)
+
+pub begins_posting : (a : Act) → is_in (sort_of a) (Posting ∷ []) ≡ true → Keeps Begins (puts a)
+unfolding puts
+begins_posting (Post to d) e x past s h = h
+begins_posting (Become MasterRole) e x past s h = absurd (false≢true e)
+begins_posting (Become (Follow p)) e x past s h = absurd (false≢true e)
+begins_posting (Become _) e x past s h = absurd (false≢true e)
+begins_posting (Arm Probe at) e x past s h = absurd (false≢true e)
+begins_posting (Arm Close at) e x past s h = absurd (false≢true e)
+begins_posting (Arm _ at) e x past s h = absurd (false≢true e)
+begins_posting (Ring Probe) e x past s h = absurd (false≢true e)
+begins_posting (Ring Close) e x past s h = absurd (false≢true e)
+begins_posting (Ring _) e x past s h = absurd (false≢true e)
+begins_posting (Late Probe) e x past s h = absurd (false≢true e)
+begins_posting (Late Close) e x past s h = absurd (false≢true e)
+begins_posting (Late _) e x past s h = absurd (false≢true e)
+begins_posting _ e x past s h = absurd (false≢true e)

@@ -1,0 +1,20 @@
+-- What the station ends is noted in the table.
+use Rattle.std.proofs.Common.{◌≡◌, ◌∙◌, ap}
+use Rattle.tsp_base.specs.SendFacts.{is_correction}
+use Rattle.tsp_sends.specs.Slots.{kind_of, sending_to}
+use Rattle.tsp_acks.specs.Openings.{is_of}
+use Rattle.tsp_master.proofs.TakeLemmas.{MasterStands_acknowledges}
+use Rattle.tsp_master.proofs.master.Master.acknowledge.Goals as goal
+
+pub returns-clause-row : goal.returns-clause-row
+returns-clause-row g c x =
+    let st = c.args.station.now in
+    let corrects : c.is_correction-corrects.result ≡ is_of is_correction (kind_of (sending_to st.sends c.args.from)) = c.is_correction-corrects.ensures ∙ ap (is_of is_correction) c.kind.ensures in
+    record {
+      acts = λ past h. (c.acknowledge-ended.ensures.row x).acts past h.second;
+      stands = λ past h. record {
+        first = MasterStands_acknowledges c.args.from c.args.number x past _ _ st c.acknowledge-ended.result h.second (c.acknowledge-ended.ensures.test x past h.second)
+            (rw corrects at c.note_ack.ensures.entries) c.note_ack.ensures.peers c.note_ack.ensures.rounds h.first;
+        second = (c.acknowledge-ended.ensures.row x).stands past h.second;
+      };
+    }

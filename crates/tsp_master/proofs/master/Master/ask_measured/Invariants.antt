@@ -1,0 +1,24 @@
+-- The measured peers so far were asked.
+use Rattle.std.proofs.Common.{◌≡◌, ℕ, ◌+◌, ◌*◌, ◌<◌, ◌≤◌, length, take, get_or}
+use Rattle.tsp_base.specs.declared.place.PeerId.{PeerId}
+use Rattle.tsp_base.specs.Frames.{PutsAtMost}
+use Rattle.tsp_base.specs.Performs.{Performs}
+use Rattle.tsp_base.specs.Rows.{for_each}
+use Rattle.tsp_rules.specs.RoundRows.{asks}
+use Rattle.tsp_measure.specs.Measures.{begun}
+use Rattle.tsp_master.specs.MasterStands.{ProbesStands}
+use Rattle.tsp_master.specs.Rounds.{IsCounted, measured_with}
+use Rattle.tsp_master.specs.Slaves.{peers_of}
+use Rattle.tsp_master.specs.Closing.{measured_of}
+use Rattle.tsp_master.proofs.master.Master.ask_measured.Given as goal
+
+abbrev pub invariant-loop-place : goal.invariant-loop-place
+invariant-loop-place g l = record {
+  row : Performs (ProbesStands l.tick) (ProbesStands l.tick) (for_each asks (measured_of l.initial.self.slaves (take l.place (peers_of l.initial.self.slaves)))) l.tick l.port (l.initial.self, ((l.station, tt), l.clock)) (l.self, ((l.station, tt), l.clock))
+      (g.D.Desk.acts l.initial.desk) (g.D.Desk.acts l.desk);
+  slaves : l.self.slaves ≡ l.initial.self.slaves;
+  probes : l.self.rounds.probes ≡ l.initial.self.rounds.probes;
+  few : (k : ℕ) (d : PeerId) → l.place ≤ k → k < length (peers_of l.initial.self.slaves) → begun (measured_with l.self.rounds (get_or (peers_of l.initial.self.slaves) k d)) ≤ l.initial.self.rounds.probes;
+  counted : IsCounted l.self.rounds (1000 * l.initial.self.rounds.probes + l.place);
+  room : PutsAtMost l.place (g.D.Desk.spare l.initial.desk) (g.D.Desk.spare l.desk) (g.D.Desk.acts l.initial.desk) (g.D.Desk.acts l.desk);
+}

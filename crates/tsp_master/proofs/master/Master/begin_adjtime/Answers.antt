@@ -1,0 +1,23 @@
+-- The row's test is the entry's, and the table changes as the past does.
+use Rattle.std.proofs.Common.{sym, ◌∙◌, refl}
+use Rattle.tsp_base.specs.declared.kind.Kind.TheVariants.{AdjTime}
+use Rattle.tsp_base.specs.Rows.{nothing, posts_time, timed}
+use Rattle.tsp_base.proofs.PerformsLemmas.{Performs_then_part, Performs_else_part, Performs_nothing}
+use Rattle.tsp_rules.specs.SendRows.{begins_adjtime, may_correct}
+use Rattle.tsp_rules.proofs.Emits.{Emits_posts_time}
+use Rattle.tsp_master.proofs.LeadLemmas.{Performs_lead}
+use Rattle.tsp_master.proofs.TableLemmas.{MasterStands_begins, may_correct-is}
+use Rattle.tsp_master.proofs.master.Master.begin_adjtime.Goals as goal
+
+pub returns-then-may_correct-clause-row : goal.returns-then-may_correct-clause-row
+unfolding begins_adjtime posts_time
+returns-then-may_correct-clause-row g c =
+    Performs_then_part (may_correct c.args.peer c.args.number) nothing (λ past h. may_correct-is c.args.peer c.args.number c.args.tick past _ _ h.first c.of.ensures ∙ sym c.may_correct.ensures ∙ c.if-may_correct.true)
+    (Performs_lead _ _ c.args.clock.now (Emits_posts_time c.args.peer AdjTime c.args.number c.args.amount refl)
+    (λ past h. MasterStands_begins c.args.peer (timed AdjTime c.args.number c.args.amount past.name) c.args.tick past _ _ refl h.second.first.second c.begin.ensures.entries c.begin.ensures.peers refl h.first)
+    c.begin_correction.ensures.row)
+
+pub returns-else-may_correct-clause-row : goal.returns-else-may_correct-clause-row
+unfolding begins_adjtime
+returns-else-may_correct-clause-row g c =
+    Performs_else_part (may_correct c.args.peer c.args.number) (posts_time c.args.peer AdjTime c.args.number c.args.amount) (λ past h. may_correct-is c.args.peer c.args.number c.args.tick past _ _ h.first c.of.ensures ∙ sym c.may_correct.ensures ∙ c.if-may_correct.false) Performs_nothing

@@ -1,0 +1,27 @@
+-- The row's test is the table's; the peer joins, and then it is sent the time.
+use Rattle.std.proofs.Common.{sym, ◌∙◌, refl}
+use Rattle.tsp_base.specs.declared.act.Act.TheVariants.{Join}
+use Rattle.tsp_base.specs.Rows.{nothing, puts, ◌followed_by◌}
+use Rattle.tsp_base.proofs.PerformsLemmas.{Performs_then, Performs_then_part, Performs_else_part, Performs_nothing}
+use Rattle.tsp_rules.specs.MasterRows.{joins, may_join}
+use Rattle.tsp_rules.specs.SendRows.{begins_settime}
+use Rattle.tsp_rules.proofs.Emits.{Emits_puts}
+use Rattle.tsp_master.proofs.LeadLemmas.{Performs_idle, Performs_lead}
+use Rattle.tsp_master.proofs.TakeLemmas.{MasterStands_joins, may_join-is}
+use Rattle.tsp_master.proofs.master.Master.join.Goals as goal
+
+pub returns-then-may_join-clause-row : goal.returns-then-may_join-clause-row
+unfolding joins puts
+returns-then-may_join-clause-row g c =
+    Performs_then_part (may_join c.args.peer c.args.number) nothing (λ past h. may_join-is c.args.peer c.args.number c.args.tick past _ h.first ∙ sym c.may_join.ensures ∙ c.if-may_join.true)
+    (Performs_then
+    (Performs_lead _ _ c.args.clock.now (Emits_puts (Join c.args.peer) refl)
+    (λ past h. MasterStands_joins c.args.peer c.args.tick past _ _ c.args.station.now h.second.first.first c.requires.role c.join.ensures.entries c.join.ensures.peers refl h.first)
+    (Performs_idle (Join c.args.peer) refl c.put.ensures.acts))
+    c.begin_settime.ensures.row)
+
+pub returns-else-may_join-clause-row : goal.returns-else-may_join-clause-row
+unfolding joins
+returns-else-may_join-clause-row g c =
+    Performs_else_part (may_join c.args.peer c.args.number) (puts (Join c.args.peer) followed_by begins_settime c.args.peer c.args.number)
+    (λ past h. may_join-is c.args.peer c.args.number c.args.tick past _ h.first ∙ sym c.may_join.ensures ∙ c.if-may_join.false) Performs_nothing

@@ -1,0 +1,45 @@
+-- Each alarm has its row.
+use Rattle.std.proofs.Common.{sym, ◌∙◌, ap}
+use Rattle.tsp_base.specs.Alarms.{Deadlines}
+use Rattle.tsp_base.proofs.PerformsLemmas.{Performs_nothing}
+use Rattle.tsp_rules.specs.Tests.{is_over}
+use Rattle.tsp_master.specs.MasterAlarms.{master_rings}
+use Rattle.tsp_master.proofs.CloseLemmas.{goes_where}
+use Rattle.tsp_master.proofs.RingCases.{master_rings-other, nothing-corrects}
+use Rattle.tsp_master.proofs.SinceLemmas.{since_correct}
+use Rattle.tsp_master.proofs.StillLemmas.{probe-corrects, round-corrects}
+use Rattle.tsp_master.proofs.master.Master.ring.Goals as goal
+
+pub returns-in-Probe-clause-row : goal.returns-in-Probe-clause-row
+unfolding master_rings
+returns-in-Probe-clause-row g c = rw c.in-Probe.is c.ring_probe.ensures.row
+
+pub returns-in-Probe-clause-corrects : goal.returns-in-Probe-clause-corrects
+unfolding master_rings
+returns-in-Probe-clause-corrects g c past h = rw c.in-Probe.is (sym (probe-corrects c.args.tick past))
+
+pub returns-in-Close-clause-row : goal.returns-in-Close-clause-row
+unfolding master_rings
+returns-in-Close-clause-row g c = rw c.in-Close.is c.ring_close.ensures.row
+
+pub returns-in-Close-clause-corrects : goal.returns-in-Close-clause-corrects
+unfolding master_rings
+returns-in-Close-clause-corrects g c past h = rw c.in-Close.is (c.ring_close.ensures.corrects past h)
+
+pub returns-in-Round-clause-row : goal.returns-in-Round-clause-row
+unfolding master_rings
+returns-in-Round-clause-row g c = rw c.in-Round.is c.ring_round.ensures.row
+
+pub returns-in-Round-clause-corrects : goal.returns-in-Round-clause-corrects
+unfolding master_rings
+returns-in-Round-clause-corrects g c past h = rw c.in-Round.is (sym (round-corrects c.args.tick past))
+
+pub returns-in_default-clause-row : goal.returns-in_default-clause-row
+returns-in_default-clause-row g c = rw (master_rings-other c.args.group_mean _ c.in_default.not-Probe c.in_default.not-Close c.in_default.not-Round) Performs_nothing
+
+pub returns-in_default-clause-corrects : goal.returns-in_default-clause-corrects
+returns-in_default-clause-corrects g c past h = rw (master_rings-other c.args.group_mean _ c.in_default.not-Probe c.in_default.not-Close c.in_default.not-Round) (nothing-corrects c.args.tick past)
+
+pub returns-in-Close-clause-recent : goal.returns-in-Close-clause-recent
+returns-in-Close-clause-recent g c e past h alone p s b =
+    since_correct past c.args.self.now p s h.first (goes_where c.args.tick past (ap (λ (d : Deadlines). is_over d.close c.args.tick) (sym h.second.first.first.alarms) ∙ rw e at c.requires.due)) alone b

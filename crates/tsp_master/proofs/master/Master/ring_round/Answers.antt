@@ -1,0 +1,25 @@
+-- In time a round begins; the next one is put off in any case.
+use Rattle.std.proofs.Common.{false, refl}
+use Rattle.tsp_base.specs.declared.act.Act.TheVariants.{Ring, Late}
+use Rattle.tsp_base.specs.declared.alarm.Alarm.TheVariants.{Round}
+use Rattle.tsp_base.specs.declared.constants.TheConstants.{ROUND}
+use Rattle.tsp_base.specs.Rows.{arms, puts, ◌followed_by◌}
+use Rattle.tsp_base.proofs.PerformsLemmas.{Performs_else_part, Performs_then, Performs_then_part}
+use Rattle.tsp_rules.specs.RoundRows.{begins_or_waits, round_rings}
+use Rattle.tsp_rules.specs.Tests.{is_in_time}
+use Rattle.tsp_rules.proofs.Emits.{Emits_arms, Emits_puts}
+use Rattle.tsp_acks.proofs.ActingLemmas.{Performs_acting}
+use Rattle.tsp_master.proofs.LeadLemmas.{Performs_quiet}
+use Rattle.tsp_master.proofs.master.Master.ring_round.Goals as goal
+
+pub returns-then-is_in_time-clause-row : goal.returns-then-is_in_time-clause-row
+unfolding round_rings begins_or_waits
+returns-then-is_in_time-clause-row g c =
+    Performs_then_part (is_in_time Round) (puts (Late Round) followed_by arms Round ROUND) (λ past h. let a = h.second.first.first.alarms in cc)
+    (Performs_then (Performs_quiet _ c.args.clock.now (Emits_puts (Ring Round) refl) (Performs_acting (c.ring.ensures.row c.args.tick))) c.begin_round.ensures.row)
+
+pub returns-else-is_in_time-clause-row : goal.returns-else-is_in_time-clause-row
+unfolding round_rings
+returns-else-is_in_time-clause-row g c =
+    Performs_else_part (is_in_time Round) (puts (Ring Round) followed_by begins_or_waits false) (λ past h. let a = h.second.first.first.alarms in cc)
+    (Performs_then (Performs_quiet _ c.args.clock.now (Emits_puts (Late Round) refl) (Performs_acting (c.late.ensures.row c.args.tick))) (Performs_quiet _ c.args.clock.now (Emits_arms Round ROUND refl) (Performs_acting c.arm.ensures.row)))

@@ -1,0 +1,20 @@
+-- The row's test is the station's.
+use Rattle.std.proofs.Common.{sym, ◌∙◌, ap}
+use Rattle.tsp_base.specs.declared.kind.Kind.TheVariants.{Quit}
+use Rattle.tsp_base.specs.Rows.{nothing}
+use Rattle.tsp_base.proofs.PerformsLemmas.{Performs_then_part, Performs_else_part, Performs_nothing}
+use Rattle.tsp_rules.specs.MasterRows.{sends_away}
+use Rattle.tsp_rules.specs.SendRows.{begins, has_quit, is_kind_quit}
+use Rattle.tsp_acks.specs.Openings.{is_of}
+use Rattle.tsp_master.proofs.TakeLemmas.{has_quit-is}
+use Rattle.tsp_master.proofs.take.send_away.Goals as goal
+
+pub returns-then-not-is_quit-clause-row : goal.returns-then-not-is_quit-clause-row
+unfolding sends_away
+returns-then-not-is_quit-clause-row g c =
+    Performs_else_part (has_quit c.args.peer) nothing (λ past h. has_quit-is c.args.peer c.args.tick past c.args.station.now h.first ∙ ap (is_of is_kind_quit) (sym c.kind.ensures) ∙ sym c.is_quit.ensures ∙ c.if-not-is_quit.true) c.begin.ensures.row
+
+pub returns-else-not-is_quit-clause-row : goal.returns-else-not-is_quit-clause-row
+unfolding sends_away
+returns-else-not-is_quit-clause-row g c =
+    Performs_then_part (has_quit c.args.peer) (begins Quit c.args.peer) (λ past h. has_quit-is c.args.peer c.args.tick past c.args.station.now h.first ∙ ap (is_of is_kind_quit) (sym c.kind.ensures) ∙ sym c.is_quit.ensures ∙ c.if-not-is_quit.false) Performs_nothing

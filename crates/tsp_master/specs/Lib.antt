@@ -1,0 +1,6 @@
+pub mod Closing
+pub mod MasterAlarms
+pub mod MasterStands
+pub mod MasterTakes
+pub mod Rounds
+pub mod Slaves

@@ -1,0 +1,201 @@
+//! How a master closes a round.
+ghost use Rattle.std.specs.Prelude.{◌≡◌, ◌+ℤ◌, ◌-ℤ◌, ◌+◌, ◌≤◌, ℕ, true, false, length};
+ghost use Rattle.std.specs.List.{Contains};
+ghost use Rattle.tsp_base.specs.declared.place.PeerId.{PeerId};
+ghost use Rattle.tsp_base.specs.Frames.{IsTick, PutsAtMost};
+ghost use Rattle.tsp_base.specs.History.{Past};
+ghost use Rattle.tsp_base.specs.Performs.{Performs};
+ghost use Rattle.tsp_base.specs.Rows.{for_each};
+ghost use Rattle.tsp_group.specs.Values.{IsNear};
+ghost use Rattle.tsp_rules.specs.RoundRows.{close_rings, corrects, corrects_peer, moves};
+ghost use Rattle.tsp_acks.specs.declared.station.Station.{Station};
+ghost use Rattle.tsp_acks.specs.Changes.{IsSamePort};
+ghost use Rattle.tsp_clock.specs.Clocks.{target_of};
+ghost use Rattle.tsp_rules.specs.Tests.{is_clock_value, is_over};
+ghost use Rattle.tsp_master.specs.declared.master.Master.{Master};
+ghost use Rattle.tsp_master.specs.MasterStands.{LeadStands};
+ghost use Rattle.tsp_master.specs.Closing.{closes_here, round_of, standing_with};
+ghost use Rattle.tsp_master.specs.Slaves.{peers_of, entry_of, Changes, leaves};
+
+use crate::gathering::{is_near, mean_by};
+use crate::master::Master;
+use tsp_acks::station::Station;
+use tsp_base::act::Act;
+use tsp_base::alarm::Alarm;
+use tsp_base::desk::Desk;
+use tsp_base::micros::Micros;
+use tsp_base::place::{PeerId, Port};
+use tsp_clock::clock::Clock;
+use tsp_group::correction;
+
+impl Master {
+    /// Treats a Close that is due, after its Probe was: where it is in time the round closes, else it is given
+    /// up. The answer is whether the clock was corrected.
+    pub(crate) fn ring_close<D: Desk>(
+        &mut self,
+        station: &mut Station,
+        clock: &mut Clock,
+        own: bool,
+        tick: u64,
+        port: Port,
+        desk: &mut D,
+    ) -> bool
+        requires tick { IsTick tick }
+        requires later { clock.old.at ≤ tick }
+        requires due { is_over station.old.alarms.close tick ≡ true }
+        requires order { is_over station.old.alarms.probe tick ≡ false }
+        requires room { length (peers_of self.old.slaves) + 3 ≤ D.spare desk.old }
+        requires same { peers_of self.old.slaves ≡ station.old.peers }
+        ensures row { Performs LeadStands LeadStands (close_rings own) tick port (self.old, ((station.old, tt), clock.old)) (self.new, ((station.new, tt), clock.new)) (D.acts desk.old) (D.acts desk.new) }
+        ensures corrects { (past : Past) → LeadStands past (self.old, ((station.old, tt), clock.old)) → result ≡ corrects (close_rings own tick past) }
+        ensures room { PutsAtMost (length (peers_of self.old.slaves) + 3) (D.spare desk.old) (D.spare desk.new) (D.acts desk.old) (D.acts desk.new) }
+        ensures port { IsSamePort station.old station.new }
+        ensures peers { peers_of self.new.slaves ≡ peers_of self.old.slaves }
+        ensures clock { clock.new.at ≤ tick }
+    {
+        if !station.is_in_time(Alarm::Close, tick) {
+            station.late(Alarm::Close, port, desk);
+            station.abandon(port, desk);
+            return false;
+        }
+        station.ring(Alarm::Close, port, desk);
+        self.close(station, clock, own, tick, port, desk)
+    }
+
+    /// Closes a round with the largest group: the own clock is moved by the mean where this port leads it, and
+    /// then each measured peer is corrected. Where the clock would leave its range the round is given up.
+    fn close<D: Desk>(
+        &mut self,
+        station: &mut Station,
+        clock: &mut Clock,
+        own: bool,
+        tick: u64,
+        port: Port,
+        desk: &mut D,
+    ) -> bool
+        requires tick { IsTick tick }
+        requires later { clock.old.at ≤ tick }
+        requires room { length (peers_of self.old.slaves) + 2 ≤ D.spare desk.old }
+        requires same { peers_of self.old.slaves ≡ station.old.peers }
+        ensures row { Performs LeadStands LeadStands (closes_here own self.old) tick port (self.old, ((station.old, tt), clock.old)) (self.new, ((station.new, tt), clock.new)) (D.acts desk.old) (D.acts desk.new) }
+        ensures corrects { (past : Past) → LeadStands past (self.old, ((station.old, tt), clock.old)) → result ≡ corrects (closes_here own self.old tick past) }
+        ensures room { PutsAtMost (length (peers_of self.old.slaves) + 2) (D.spare desk.old) (D.spare desk.new) (D.acts desk.old) (D.acts desk.new) }
+        ensures port { IsSamePort station.old station.new }
+        ensures peers { peers_of self.new.slaves ≡ peers_of self.old.slaves }
+        ensures clock { clock.new.at ≤ tick }
+    {
+        let group = self.group();
+        let mean = mean_by(own, &group);
+        if !clock.can_adjust(tick, mean) {
+            station.abandon(port, desk);
+            return false;
+        }
+        desk.put(
+            port,
+            Act::Close {
+                count: group.count,
+                lo: group.lo,
+                width: group.width,
+                mean,
+            },
+        );
+        move_own(clock, own, mean, tick, port, desk);
+        self.correct_each(station, clock, tick, mean, port, desk);
+        own
+    }
+
+    /// Corrects each measured peer, ascending.
+    fn correct_each<D: Desk>(
+        &mut self,
+        station: &mut Station,
+        clock: &Clock,
+        tick: u64,
+        mean: i64,
+        port: Port,
+        desk: &mut D,
+    )
+        requires tick { IsTick tick }
+        requires later { clock.now.at ≤ tick }
+        requires near { IsNear mean }
+        requires room { length (peers_of self.old.slaves) ≤ D.spare desk.old }
+        requires same { peers_of self.old.slaves ≡ station.old.peers }
+        ensures row { Performs LeadStands LeadStands (for_each (corrects_peer mean) (round_of self.old.slaves self.old.rounds)) tick port (self.old, ((station.old, tt), clock.now)) (self.new, ((station.new, tt), clock.now)) (D.acts desk.old) (D.acts desk.new) }
+        ensures room { PutsAtMost (length (peers_of self.old.slaves)) (D.spare desk.old) (D.spare desk.new) (D.acts desk.old) (D.acts desk.new) }
+        ensures port { IsSamePort station.old station.new }
+        ensures peers { peers_of self.new.slaves ≡ peers_of self.old.slaves }
+    {
+        for place in 0..self.slaves.len() {
+            let entry = self.slaves.at(place);
+            if entry.measured {
+                self.correct_peer(station, clock, tick, entry.peer, mean, port, desk);
+            }
+        }
+    }
+
+    /// Corrects a measured peer by its best sample, or takes it out of the slaves where it never answered.
+    fn correct_peer<D: Desk>(
+        &mut self,
+        station: &mut Station,
+        clock: &Clock,
+        tick: u64,
+        peer: PeerId,
+        mean: i64,
+        port: Port,
+        desk: &mut D,
+    )
+        requires tick { IsTick tick }
+        requires later { clock.now.at ≤ tick }
+        requires near { IsNear mean }
+        requires room { 1 ≤ D.spare desk.old }
+        requires same { peers_of self.old.slaves ≡ station.old.peers }
+        requires peer { Contains station.old.peers peer }
+        ensures row { Performs LeadStands LeadStands (corrects_peer mean (standing_with self.old.rounds peer)) tick port (self.old, ((station.old, tt), clock.now)) (self.new, ((station.new, tt), clock.now)) (D.acts desk.old) (D.acts desk.new) }
+        ensures room { PutsAtMost 1 (D.spare desk.old) (D.spare desk.new) (D.acts desk.old) (D.acts desk.new) }
+        ensures port { IsSamePort station.old station.new }
+        ensures peers { peers_of self.new.slaves ≡ peers_of self.old.slaves }
+        ensures rounds { self.new.rounds ≡ self.old.rounds }
+        ensures others { (q : PeerId) → (q.0 ≡ peer.0 → ⊥) → entry_of self.new.slaves q ≡ entry_of self.old.slaves q }
+    {
+        match self.rounds.best(peer) {
+            None => {
+                desk.put(port, Act::Leave(peer));
+                self.slaves.leave(peer);
+            }
+            Some(best) => {
+                if is_near(best.diff) {
+                    let amount = amount(mean, best.diff);
+                    self.begin_adjtime(station, clock, tick, peer, best.ticket, amount, port, desk);
+                } else {
+                    self.begin_settime(station, clock, tick, peer, best.ticket, port, desk);
+                }
+            }
+        }
+    }
+}
+
+/// What brings a clock that differs by `diff` to the mean, as a message has it.
+fn amount(mean: i64, diff: i64) -> Micros
+    requires mean { IsNear mean }
+    requires diff { IsNear diff }
+    ensures { result ≡ mean -ℤ diff }
+{
+    match Micros::of(correction(mean, diff)) {
+        Some(amount) => amount,
+        None => unreachable!(),
+    }
+}
+
+/// Moves the own clock by the mean, where its port leads it.
+fn move_own<D: Desk>(clock: &mut Clock, own: bool, mean: i64, tick: u64, port: Port, desk: &mut D)
+    requires tick { IsTick tick }
+    requires later { clock.old.at ≤ tick }
+    requires range { is_clock_value (target_of clock.old tick +ℤ mean) ≡ true }
+    requires room { 1 ≤ D.spare desk.old }
+    ensures row { (master : Master) (station : Station) → Performs LeadStands LeadStands (moves own mean) tick port (master, ((station, tt), clock.old)) (master, ((station, tt), clock.new)) (D.acts desk.old) (D.acts desk.new) }
+    ensures room { PutsAtMost 1 (D.spare desk.old) (D.spare desk.new) (D.acts desk.old) (D.acts desk.new) }
+    ensures clock { clock.new.at ≤ tick }
+{
+    if own {
+        clock.correct_by(tick, mean, port, desk);
+    }
+}

@@ -1,0 +1,101 @@
+//! The corrections that a master sends.
+ghost use Rattle.std.specs.Prelude.{◌≡◌, ◌≤◌, is_some, IfSome};
+ghost use Rattle.std.specs.List.{Contains};
+ghost use Rattle.tsp_base.specs.Frames.{IsTick, PutsAtMost};
+ghost use Rattle.tsp_base.specs.Performs.{Performs};
+ghost use Rattle.tsp_rules.specs.Tests.{is_clock_value};
+ghost use Rattle.tsp_rules.specs.SendRows.{begins_adjtime, begins_settime};
+ghost use Rattle.tsp_acks.specs.Changes.{IsSamePort};
+ghost use Rattle.tsp_clock.specs.Clocks.{target_of};
+ghost use Rattle.tsp_master.specs.Slaves.{peers_of, entry_of, Changes, begins_at};
+
+use crate::master::Master;
+use tsp_acks::station::Station;
+use tsp_base::desk::Desk;
+use tsp_base::kind::Kind;
+use tsp_base::micros::Micros;
+use tsp_base::place::{PeerId, Port};
+use tsp_clock::clock::{Clock, is_clock_value};
+
+impl Master {
+    ghost use Rattle.tsp_master.specs.MasterStands.{LeadStands};
+
+    /// Begins an ADJTIME with this number and amount to a peer, where a correction may begin.
+    pub(crate) fn begin_adjtime<D: Desk>(
+        &mut self,
+        station: &mut Station,
+        clock: &Clock,
+        tick: u64,
+        peer: PeerId,
+        number: u16,
+        amount: Micros,
+        port: Port,
+        desk: &mut D,
+    )
+        requires tick { IsTick tick }
+        requires room { 1 ≤ D.spare desk.old }
+        requires same { peers_of self.old.slaves ≡ station.old.peers }
+        requires peer { Contains station.old.peers peer }
+        ensures row { Performs LeadStands LeadStands (begins_adjtime peer number amount) tick port (self.old, ((station.old, tt), clock.now)) (self.new, ((station.new, tt), clock.now)) (D.acts desk.old) (D.acts desk.new) }
+        ensures room { PutsAtMost 1 (D.spare desk.old) (D.spare desk.new) (D.acts desk.old) (D.acts desk.new) }
+        ensures port { IsSamePort station.old station.new }
+        ensures peers { peers_of self.new.slaves ≡ peers_of self.old.slaves }
+        ensures rounds { self.new.rounds ≡ self.old.rounds }
+        ensures others { (q : PeerId) → (q.0 ≡ peer.0 → ⊥) → entry_of self.new.slaves q ≡ entry_of self.old.slaves q }
+    {
+        if self.slaves.of(peer).may_correct(number, tick) {
+            station.begin_correction(Kind::AdjTime, peer, number, amount, tick, port, desk);
+            self.slaves.begin(peer, number, tick);
+        }
+    }
+
+    /// Begins a SETTIME with this number and the clock's target to a peer, where a correction may begin and the
+    /// target is in its range.
+    pub(crate) fn begin_settime<D: Desk>(
+        &mut self,
+        station: &mut Station,
+        clock: &Clock,
+        tick: u64,
+        peer: PeerId,
+        number: u16,
+        port: Port,
+        desk: &mut D,
+    )
+        requires tick { IsTick tick }
+        requires later { clock.now.at ≤ tick }
+        requires room { 1 ≤ D.spare desk.old }
+        requires same { peers_of self.old.slaves ≡ station.old.peers }
+        requires peer { Contains station.old.peers peer }
+        ensures row { Performs LeadStands LeadStands (begins_settime peer number) tick port (self.old, ((station.old, tt), clock.now)) (self.new, ((station.new, tt), clock.now)) (D.acts desk.old) (D.acts desk.new) }
+        ensures room { PutsAtMost 1 (D.spare desk.old) (D.spare desk.new) (D.acts desk.old) (D.acts desk.new) }
+        ensures port { IsSamePort station.old station.new }
+        ensures peers { peers_of self.new.slaves ≡ peers_of self.old.slaves }
+        ensures rounds { self.new.rounds ≡ self.old.rounds }
+        ensures others { (q : PeerId) → (q.0 ≡ peer.0 → ⊥) → entry_of self.new.slaves q ≡ entry_of self.old.slaves q }
+    {
+        match settable(clock, tick) {
+            None => {}
+            Some(value) => {
+                if self.slaves.of(peer).may_correct(number, tick) {
+                    station.begin_correction(Kind::SetTime, peer, number, value, tick, port, desk);
+                    self.slaves.begin(peer, number, tick);
+                }
+            }
+        }
+    }
+}
+
+/// A clock's target as a message has it; None exactly where the target isn't in a clock's range.
+fn settable(clock: &Clock, tick: u64) -> Option<Micros>
+    requires tick { IsTick tick }
+    requires later { clock.now.at ≤ tick }
+    ensures range { is_some result ≡ is_clock_value (target_of clock.now tick) }
+    ensures value { IfSome result (λ v. v ≡ target_of clock.now tick) }
+{
+    let target = clock.target(tick);
+    if is_clock_value(target) {
+        Micros::of(target)
+    } else {
+        None
+    }
+}

@@ -1,0 +1,92 @@
+//! What a master does with the replies to its requests.
+ghost use Rattle.std.specs.Prelude.{◌≡◌, ◌≤◌};
+ghost use Rattle.tsp_base.specs.Frames.{IsTick, PutsAtMost};
+ghost use Rattle.tsp_base.specs.Performs.{Performs};
+ghost use Rattle.tsp_rules.specs.RoundRows.{samples};
+ghost use Rattle.tsp_acks.specs.declared.station.Station.{Station};
+ghost use Rattle.tsp_master.specs.MasterTakes.{samples_of};
+ghost use Rattle.tsp_master.specs.Slaves.{peers_of};
+
+use crate::master::Master;
+use tsp_acks::station::Station;
+use tsp_base::act::Act;
+use tsp_base::alarm::Alarm;
+use tsp_base::desk::Desk;
+use tsp_base::place::{PeerId, Port};
+use tsp_base::stamp::{Stamp, StampReply};
+use tsp_clock::clock::Clock;
+use tsp_measure::Reply;
+
+impl Master {
+    ghost use Rattle.tsp_master.specs.MasterStands.{LeadStands, GoingStands};
+
+    /// Treats a stamp of another peer at a master: a reply that answers an open exchange of the going round
+    /// gives a sample. At most one act.
+    pub fn reply<D: Desk>(
+        &mut self,
+        station: &Station,
+        clock: &Clock,
+        tick: u64,
+        from: PeerId,
+        s: &Stamp,
+        port: Port,
+        desk: &mut D,
+    )
+        requires tick { IsTick tick }
+        requires later { clock.now.at ≤ tick }
+        requires room { 1 ≤ D.spare desk.old }
+        ensures row { Performs LeadStands LeadStands (samples_of from s.now) tick port (self.old, ((station.now, tt), clock.now)) (self.new, ((station.now, tt), clock.now)) (D.acts desk.old) (D.acts desk.new) }
+        ensures room { PutsAtMost 1 (D.spare desk.old) (D.spare desk.new) (D.acts desk.old) (D.acts desk.new) }
+        ensures peers { peers_of self.new.slaves ≡ peers_of self.old.slaves }
+    {
+        match s {
+            Stamp::Request { .. } => {}
+            Stamp::Reply(reply) => {
+                if station.alarms.at(Alarm::Close).is_some() {
+                    self.sample(clock, tick, from, reply, port, desk);
+                }
+            }
+        }
+    }
+
+    /// Takes a reply while a round goes on.
+    fn sample<D: Desk>(
+        &mut self,
+        clock: &Clock,
+        tick: u64,
+        peer: PeerId,
+        reply: &StampReply,
+        port: Port,
+        desk: &mut D,
+    )
+        requires tick { IsTick tick }
+        requires later { clock.now.at ≤ tick }
+        requires room { 1 ≤ D.spare desk.old }
+        ensures row { (station : Station) → Performs GoingStands LeadStands (samples peer reply.now) tick port (self.old, ((station, tt), clock.now)) (self.new, ((station, tt), clock.now)) (D.acts desk.old) (D.acts desk.new) }
+        ensures room { PutsAtMost 1 (D.spare desk.old) (D.spare desk.new) (D.acts desk.old) (D.acts desk.new) }
+        ensures peers { peers_of self.new.slaves ≡ peers_of self.old.slaves }
+    {
+        let target = clock.target(tick);
+        let answer = self.rounds.reply(
+            peer,
+            reply.word(),
+            reply.counter(),
+            reply.ticket(),
+            reply.reading(),
+            target,
+        );
+        match answer {
+            Reply::NotStarted => {}
+            Reply::Sample(sample) => desk.put(
+                port,
+                Act::Sample {
+                    peer,
+                    counter: sample.counter,
+                    diff: sample.diff,
+                    err: sample.err,
+                    ticket: sample.ticket,
+                },
+            ),
+        }
+    }
+}

@@ -1,0 +1,197 @@
+//! The alarms of a master: a round begins, asks again, and closes.
+ghost use Rattle.std.specs.Prelude.{◌≡◌, ◌+◌, ◌*◌, ◌≤◌, true, false, length, Some};
+ghost use Rattle.tsp_base.specs.declared.alarm.Alarm.TheVariants.{Probe as ProbeAlarm, Close as CloseAlarm};
+ghost use Rattle.tsp_base.specs.declared.constants.TheConstants.{CLOSE, PROBE};
+ghost use Rattle.tsp_base.specs.declared.place.PeerId.{PeerId};
+ghost use Rattle.tsp_base.specs.Alarms.{deadline};
+ghost use Rattle.tsp_base.specs.History.{Past};
+ghost use Rattle.tsp_base.specs.Frames.{IsTick, PutsAtMost};
+ghost use Rattle.tsp_base.specs.Performs.{Performs};
+ghost use Rattle.tsp_base.specs.RoundFacts.{Sampled, best};
+ghost use Rattle.tsp_base.specs.Rows.{◌followed_by◌, arms};
+ghost use Rattle.tsp_rules.specs.RoundRows.{arms_next, corrects, round_begins, round_rings, probe_rings};
+ghost use Rattle.tsp_rules.specs.Tests.{is_over};
+ghost use Rattle.tsp_measure.specs.Measures.{begun};
+ghost use Rattle.tsp_acks.specs.Changes.{IsSamePort};
+ghost use Rattle.tsp_clock.specs.Clocks.{ClockValue};
+ghost use Rattle.tsp_master.specs.MasterAlarms.{master_rings};
+ghost use Rattle.tsp_master.specs.MasterStands.{IsLeftAlone, IsSinceCorrect};
+ghost use Rattle.tsp_master.specs.Rounds.{IsCounted, IsNothing};
+ghost use Rattle.tsp_master.specs.Slaves.{peers_of};
+
+use crate::master::Master;
+use crate::rounds::PROBES;
+use tsp_acks::station::Station;
+use tsp_base::alarm::Alarm;
+use tsp_base::constants::{CLOSE, PROBE, ROUND};
+use tsp_base::desk::Desk;
+use tsp_base::kind::Kind;
+use tsp_base::place::Port;
+use tsp_clock::clock::Clock;
+
+impl Master {
+    ghost use Rattle.tsp_master.specs.MasterStands.{LeadStands, ProbesStands, StartsStands};
+
+    /// Treats one alarm of a round that is due: a Probe asks the measured peers again, a Close closes the
+    /// round, and a Round begins one; one that is met too late gives the round up, or puts it off. Any other
+    /// alarm does nothing here. Where this port doesn't lead the clock (`group_mean` is false), a close uses
+    /// the mean 0 and leaves the clock. A Close comes after its Probe. The answer is whether the clock was
+    /// corrected. In this step an alarm has rung or come late, or a datagram was taken, once this one has. At
+    /// most four acts, and two more for each peer.
+    pub fn ring<D: Desk>(
+        &mut self,
+        station: &mut Station,
+        clock: &mut Clock,
+        alarm: Alarm,
+        group_mean: bool,
+        tick: u64,
+        port: Port,
+        desk: &mut D,
+    ) -> bool
+        requires tick { IsTick tick }
+        requires later { clock.old.at ≤ tick }
+        requires due { is_over (deadline station.old.alarms alarm) tick ≡ true }
+        requires order { alarm ≡ CloseAlarm → is_over station.old.alarms.probe tick ≡ false }
+        requires room { 2 * length (peers_of self.old.slaves) + 4 ≤ D.spare desk.old }
+        requires same { peers_of self.old.slaves ≡ station.old.peers }
+        ensures row { Performs LeadStands LeadStands (master_rings group_mean alarm) tick port (self.old, ((station.old, tt), clock.old)) (self.new, ((station.new, tt), clock.new)) (D.acts desk.old) (D.acts desk.new) }
+        ensures corrects { (past : Past) → LeadStands past (self.old, ((station.old, tt), clock.old)) → result ≡ corrects (master_rings group_mean alarm tick past) }
+        ensures recent { alarm ≡ CloseAlarm → (past : Past) → LeadStands past (self.old, ((station.old, tt), clock.old)) → IsLeftAlone past.seen → (p : PeerId) (s : Sampled) → best p past.seen ≡ Some s → IsSinceCorrect p s past.seen }
+        ensures over { alarm ≡ ProbeAlarm → is_over station.new.alarms.probe tick ≡ false }
+        ensures room { PutsAtMost (2 * length (peers_of self.old.slaves) + 4) (D.spare desk.old) (D.spare desk.new) (D.acts desk.old) (D.acts desk.new) }
+        ensures port { IsSamePort station.old station.new }
+        ensures peers { peers_of self.new.slaves ≡ peers_of self.old.slaves }
+        ensures clock { clock.new.at ≤ tick }
+    {
+        match alarm {
+            Alarm::Probe => {
+                self.ring_probe(station, clock, tick, port, desk);
+                false
+            }
+            Alarm::Close => self.ring_close(station, clock, group_mean, tick, port, desk),
+            Alarm::Round => {
+                self.ring_round(station, clock, tick, port, desk);
+                false
+            }
+            _ => false,
+        }
+    }
+
+    /// Treats a Round that is due: where it is in time a round begins, and the next one is put off in any case.
+    pub(crate) fn ring_round<D: Desk>(
+        &mut self,
+        station: &mut Station,
+        clock: &Clock,
+        tick: u64,
+        port: Port,
+        desk: &mut D,
+    )
+        requires tick { IsTick tick }
+        requires later { clock.now.at ≤ tick }
+        requires room { 2 * length (peers_of self.old.slaves) + 4 ≤ D.spare desk.old }
+        requires same { peers_of self.old.slaves ≡ station.old.peers }
+        ensures row { Performs LeadStands LeadStands (round_rings false) tick port (self.old, ((station.old, tt), clock.now)) (self.new, ((station.new, tt), clock.now)) (D.acts desk.old) (D.acts desk.new) }
+        ensures room { PutsAtMost (2 * length (peers_of self.old.slaves) + 4) (D.spare desk.old) (D.spare desk.new) (D.acts desk.old) (D.acts desk.new) }
+        ensures port { IsSamePort station.old station.new }
+        ensures peers { peers_of self.new.slaves ≡ peers_of self.old.slaves }
+    {
+        if station.is_in_time(Alarm::Round, tick) {
+            station.ring(Alarm::Round, port, desk);
+            self.begin_round(station, clock, tick, port, desk);
+        } else {
+            station.late(Alarm::Round, port, desk);
+            station.arm(Alarm::Round, tick, ROUND, port, desk);
+        }
+    }
+
+    /// Begins a round: its probes and its close are put off, the other peers hear of the master, and the
+    /// slaves are asked.
+    fn begin_round<D: Desk>(
+        &mut self,
+        station: &mut Station,
+        clock: &Clock,
+        tick: u64,
+        port: Port,
+        desk: &mut D,
+    )
+        requires tick { IsTick tick }
+        requires later { clock.now.at ≤ tick }
+        requires room { 2 * length (peers_of self.old.slaves) + 3 ≤ D.spare desk.old }
+        requires same { peers_of self.old.slaves ≡ station.old.peers }
+        ensures row { Performs LeadStands LeadStands round_begins tick port (self.old, ((station.old, tt), clock.now)) (self.new, ((station.new, tt), clock.now)) (D.acts desk.old) (D.acts desk.new) }
+        ensures room { PutsAtMost (2 * length (peers_of self.old.slaves) + 3) (D.spare desk.old) (D.spare desk.new) (D.acts desk.old) (D.acts desk.new) }
+        ensures port { IsSamePort station.old station.new }
+        ensures peers { peers_of self.new.slaves ≡ peers_of self.old.slaves }
+    {
+        station.arm(Alarm::Round, tick, ROUND, port, desk);
+        self.arm_round(station, tick, port, desk);
+        station.post_to_others(Kind::MasterUp, 0, port, desk);
+        self.ask_slaves(station, clock, tick, port, desk);
+    }
+
+    /// Puts off the first probe and the close of a round that begins; nothing is measured in it yet.
+    fn arm_round<D: Desk>(&mut self, station: &mut Station, tick: u64, port: Port, desk: &mut D)
+        requires tick { IsTick tick }
+        requires room { 2 ≤ D.spare desk.old }
+        ensures row { (clock : ClockValue) → Performs LeadStands StartsStands (arms ProbeAlarm PROBE followed_by arms CloseAlarm CLOSE) tick port (self.old, ((station.old, tt), clock)) (self.new, ((station.new, tt), clock)) (D.acts desk.old) (D.acts desk.new) }
+        ensures room { PutsAtMost 2 (D.spare desk.old) (D.spare desk.new) (D.acts desk.old) (D.acts desk.new) }
+        ensures port { IsSamePort station.old station.new }
+        ensures peers { peers_of self.new.slaves ≡ peers_of self.old.slaves }
+        ensures probes { self.new.rounds.probes ≡ 0 }
+        ensures nothing { IsNothing self.new.rounds }
+        ensures counted { IsCounted self.new.rounds 0 }
+    {
+        station.arm(Alarm::Probe, tick, PROBE, port, desk);
+        station.arm(Alarm::Close, tick, CLOSE, port, desk);
+        self.slaves.unmeasure_all();
+        self.rounds.begin();
+    }
+
+    /// Treats a Probe that is due: where it is in time the measured peers are asked again, and a further probe
+    /// is put off unless this was the third; else the round is given up.
+    pub(crate) fn ring_probe<D: Desk>(
+        &mut self,
+        station: &mut Station,
+        clock: &Clock,
+        tick: u64,
+        port: Port,
+        desk: &mut D,
+    )
+        requires tick { IsTick tick }
+        requires later { clock.now.at ≤ tick }
+        requires due { is_over station.old.alarms.probe tick ≡ true }
+        requires room { length (peers_of self.old.slaves) + 2 ≤ D.spare desk.old }
+        requires same { peers_of self.old.slaves ≡ station.old.peers }
+        ensures row { Performs LeadStands LeadStands probe_rings tick port (self.old, ((station.old, tt), clock.now)) (self.new, ((station.new, tt), clock.now)) (D.acts desk.old) (D.acts desk.new) }
+        ensures room { PutsAtMost (length (peers_of self.old.slaves) + 2) (D.spare desk.old) (D.spare desk.new) (D.acts desk.old) (D.acts desk.new) }
+        ensures port { IsSamePort station.old station.new }
+        ensures peers { peers_of self.new.slaves ≡ peers_of self.old.slaves }
+        ensures over { is_over station.new.alarms.probe tick ≡ false }
+    {
+        if !station.is_in_time(Alarm::Probe, tick) {
+            station.late(Alarm::Probe, port, desk);
+            station.abandon(port, desk);
+            return;
+        }
+        station.ring(Alarm::Probe, port, desk);
+        if self.rounds.count_probe() {
+            self.ask_measured(station, clock, tick, port, desk);
+            self.arm_next(station, tick, port, desk);
+        }
+    }
+
+    /// Puts off a further probe, unless the round has had its last one.
+    fn arm_next<D: Desk>(&self, station: &mut Station, tick: u64, port: Port, desk: &mut D)
+        requires tick { IsTick tick }
+        requires room { 1 ≤ D.spare desk.old }
+        requires off { is_over station.old.alarms.probe tick ≡ false }
+        ensures row { (clock : ClockValue) → Performs (ProbesStands tick) LeadStands arms_next tick port (self.now, ((station.old, tt), clock)) (self.now, ((station.new, tt), clock)) (D.acts desk.old) (D.acts desk.new) }
+        ensures room { PutsAtMost 1 (D.spare desk.old) (D.spare desk.new) (D.acts desk.old) (D.acts desk.new) }
+        ensures port { IsSamePort station.old station.new }
+        ensures over { is_over station.new.alarms.probe tick ≡ false }
+    {
+        if self.rounds.probes() < PROBES {
+            station.arm(Alarm::Probe, tick, PROBE, port, desk);
+        }
+    }
+}

@@ -1,0 +1,133 @@
+//! The exchanges of a master's rounds.
+ghost use Rattle.std.specs.Prelude.{◌≡◌, ◌≢◌, ℕ, ◌+◌, ◌*◌, ◌≤◌, ◌<◌, true, false, map, IfOk, MatchBool};
+ghost use Rattle.std.specs.List.{Contains};
+ghost use Rattle.std.specs.Option.{option_map};
+ghost use Rattle.tsp_base.specs.declared.place.PeerId.{PeerId};
+ghost use Rattle.tsp_measure.specs.Measures.{IsReading, IsStamp, Replies, begun, best_of};
+ghost use Rattle.tsp_measure.specs.Peers.{with_peer};
+ghost use Rattle.tsp_acks.specs.Peers.{IsPeers};
+ghost use Rattle.tsp_master.specs.Rounds.{RoundsValue, measured_with, IsCounted, IsNothing, AreApart, Starts};
+
+use std::alloc::{AllocError, Global};
+use std::marker::Model;
+use tsp_base::place::PeerId;
+use tsp_measure::{Exchanges, Reply, Sample};
+
+/// How often a round probes its slaves after its first requests.
+pub(crate) const PROBES: u8 = 3;
+
+/// What the last round has asked and learned, and how many requests were posted since the boot.
+#[derive(Drop)]
+pub struct Rounds {
+    exchanges: Exchanges,
+    asked: u64,
+    probes: u8,
+}
+
+impl Model for Rounds {
+    ghost use Rattle.tsp_master.specs.Rounds.{RoundsValue, IsRounds};
+
+    ghost Value = { RoundsValue };
+
+    ghost view = { λ r. record { exchanges = r.exchanges; asked = r.asked; probes = r.probes } };
+
+    ghost invariant = { λ r. IsRounds (record { exchanges = r.exchanges; asked = r.asked; probes = r.probes }) };
+}
+
+impl Rounds {
+    /// No request was posted to any of these peers.
+    ///
+    /// The answer is an error only where memory is wanting; no later call takes any.
+    pub(crate) fn new(alloc: Global, peers: &[PeerId]) -> Result<Rounds, AllocError>
+        requires { IsPeers peers.now }
+        ensures peers { IfOk result (λ r. r.exchanges.peers ≡ map (λ p. p.0) peers.now) }
+        ensures asked { IfOk result (λ r. r.asked ≡ 0) }
+    {
+        let exchanges = Exchanges::new(alloc, peers)?;
+        Ok(Rounds {
+            exchanges,
+            asked: 0,
+            probes: 0,
+        })
+    }
+
+    /// How often the going round has probed.
+    pub(crate) fn probes(&self) -> u8
+        ensures { result ≡ self.now.probes }
+    {
+        self.probes
+    }
+
+    /// A round begins.
+    pub(crate) fn begin(&mut self)
+        ensures asked { self.new.asked ≡ self.old.asked }
+        ensures probes { self.new.probes ≡ 0 }
+        ensures peers { self.new.exchanges.peers ≡ self.old.exchanges.peers }
+        ensures nothing { IsNothing self.new }
+        ensures counted { IsCounted self.new 0 }
+    {
+        self.exchanges.clear();
+        self.probes = 0;
+    }
+
+    /// Counts a probe of the going round; false where it has probed [`PROBES`] times, and then nothing changes.
+    pub(crate) fn count_probe(&mut self) -> bool
+        ensures counts { MatchBool result (self.new ≡ record self.old { probes = self.old.probes + 1 }) (self.new ≡ self.old) }
+        ensures more { result ≡ true → self.old.probes < 3 }
+        ensures less { result ≡ false → 3 ≤ self.old.probes }
+        ensures few { result ≡ true → (p : ℕ) → begun (with_peer self.new.exchanges p) ≤ self.new.probes }
+        ensures counted { result ≡ true → IsCounted self.new (1000 * self.new.probes) }
+    {
+        let more = self.probes < PROBES;
+        if more {
+            self.probes += 1;
+        }
+        more
+    }
+
+    /// Begins an exchange: a request of this word goes off at `a`, in microseconds by the own clock. The answer
+    /// is the request's counter.
+    pub(crate) fn start(&mut self, peer: PeerId, word: u64, a: i64) -> u64
+        requires peer { Contains self.old.exchanges.peers peer.0 }
+        requires few { begun (measured_with self.old peer) ≤ self.old.probes }
+        requires counted { IsCounted self.old (1000 * self.old.probes + 999) }
+        requires reading { IsReading a }
+        ensures counter { result ≡ self.old.asked }
+        ensures starts { Starts peer word a self.old self.new }
+        ensures counted { (most : ℕ) → most < 4000 → IsCounted self.old most → IsCounted self.new (most + 1) }
+    {
+        let counter = self.asked;
+        self.exchanges.start(peer, word, counter, a);
+        self.asked = self.asked.wrapping_add(1);
+        counter
+    }
+
+    /// Takes an answer: the other clock read `s` and the own one `d` when it came, in microseconds.
+    pub(crate) fn reply(
+        &mut self,
+        peer: PeerId,
+        word: u64,
+        counter: u64,
+        ticket: u16,
+        s: i64,
+        d: i64,
+    ) -> Reply
+        requires s { IsStamp s }
+        requires d { IsReading d }
+        ensures asked { self.new.asked ≡ self.old.asked }
+        ensures probes { self.new.probes ≡ self.old.probes }
+        ensures peers { self.new.exchanges.peers ≡ self.old.exchanges.peers }
+        ensures apart { AreApart (measured_with self.old peer).pending }
+        ensures replies { Replies word counter ticket s d (measured_with self.old peer) (measured_with self.new peer) result }
+        ensures others { (q : PeerId) → (q.0 ≡ peer.0 → ⊥) → measured_with self.new q ≡ measured_with self.old q }
+    {
+        self.exchanges.reply(peer, word, counter, ticket, s, d)
+    }
+
+    /// The first of a peer's samples of least round trip; none where it has none.
+    pub(crate) fn best(&self, peer: PeerId) -> Option<Sample>
+        ensures { result ≡ option_map (λ t. t.sample) (best_of (measured_with self.now peer).samples) }
+    {
+        self.exchanges.best(peer)
+    }
+}

@@ -1,0 +1,160 @@
+//! What a master does with messages of its peers.
+ghost use Rattle.std.specs.Prelude.{◌≡◌, ℕ, ◌≤◌, ◌&&◌, not, nat_lt};
+ghost use Rattle.std.specs.List.{Contains};
+ghost use Rattle.tsp_base.specs.declared.role.Role.TheVariants.{Master as MasterRole};
+ghost use Rattle.tsp_base.specs.Frames.{IsTick, PutsAtMost};
+ghost use Rattle.tsp_base.specs.Performs.{Performs, Beside};
+ghost use Rattle.tsp_base.specs.SendFacts.{is_correction};
+ghost use Rattle.tsp_rules.specs.MasterRows.{joins, sends_away};
+ghost use Rattle.tsp_rules.specs.SendRows.{acknowledges, is_kind_quit};
+ghost use Rattle.tsp_acks.specs.Changes.{IsSamePort};
+ghost use Rattle.tsp_acks.specs.Openings.{is_of};
+ghost use Rattle.tsp_acks.specs.Stands.{Stands, StandsActing};
+ghost use Rattle.tsp_master.specs.MasterTakes.{master_takes_here};
+ghost use Rattle.tsp_master.specs.Slaves.{peers_of, entry_of, Changes, acks_where};
+
+use crate::master::Master;
+use tsp_acks::station::Station;
+use tsp_base::act::Act;
+use tsp_base::desk::Desk;
+use tsp_base::kind::Kind;
+use tsp_base::message::Message;
+use tsp_base::place::{PeerId, Port};
+use tsp_clock::clock::Clock;
+
+impl Master {
+    ghost use Rattle.tsp_master.specs.MasterStands.{MasterStands, LeadStands};
+
+    /// Treats a message of another peer at a master: who looks for a master or resolves a conflict is
+    /// answered, a slave joins and is sent the time, and a candidate is sent away. Other messages are passed
+    /// over here. In this step a datagram was taken. At most two acts.
+    pub fn take<D: Desk>(
+        &mut self,
+        station: &mut Station,
+        clock: &Clock,
+        tick: u64,
+        from: PeerId,
+        m: &Message,
+        port: Port,
+        desk: &mut D,
+    )
+        requires tick { IsTick tick }
+        requires later { clock.now.at ≤ tick }
+        requires room { 2 ≤ D.spare desk.old }
+        requires same { peers_of self.old.slaves ≡ station.old.peers }
+        requires peer { Contains station.old.peers from }
+        requires role { station.old.role ≡ MasterRole }
+        ensures row { Performs LeadStands LeadStands (master_takes_here from m.now) tick port (self.old, ((station.old, tt), clock.now)) (self.new, ((station.new, tt), clock.now)) (D.acts desk.old) (D.acts desk.new) }
+        ensures room { PutsAtMost 2 (D.spare desk.old) (D.spare desk.new) (D.acts desk.old) (D.acts desk.new) }
+        ensures port { IsSamePort station.old station.new }
+        ensures peers { peers_of self.new.slaves ≡ peers_of self.old.slaves }
+    {
+        match m.kind() {
+            Kind::MasterReq | Kind::Resolve => {
+                station.post(from, Kind::MasterAck, m.number(), port, desk)
+            }
+            Kind::SlaveUp => self.join(station, clock, tick, from, m.number(), port, desk),
+            Kind::Election => send_away(station, tick, from, port, desk),
+            _ => {}
+        }
+    }
+
+    /// Makes a peer a slave that isn't one yet and tells a ticket, and sends it the time under that number.
+    fn join<D: Desk>(
+        &mut self,
+        station: &mut Station,
+        clock: &Clock,
+        tick: u64,
+        peer: PeerId,
+        number: u16,
+        port: Port,
+        desk: &mut D,
+    )
+        requires tick { IsTick tick }
+        requires later { clock.now.at ≤ tick }
+        requires room { 2 ≤ D.spare desk.old }
+        requires same { peers_of self.old.slaves ≡ station.old.peers }
+        requires peer { Contains station.old.peers peer }
+        requires role { station.old.role ≡ MasterRole }
+        ensures row { Performs LeadStands LeadStands (joins peer number) tick port (self.old, ((station.old, tt), clock.now)) (self.new, ((station.new, tt), clock.now)) (D.acts desk.old) (D.acts desk.new) }
+        ensures room { PutsAtMost 2 (D.spare desk.old) (D.spare desk.new) (D.acts desk.old) (D.acts desk.new) }
+        ensures port { IsSamePort station.old station.new }
+        ensures peers { peers_of self.new.slaves ≡ peers_of self.old.slaves }
+    {
+        if self.may_join(peer, number) {
+            desk.put(port, Act::Join(peer));
+            self.slaves.join(peer);
+            self.begin_settime(station, clock, tick, peer, number, port, desk);
+        }
+    }
+
+    /// Whether a number is a ticket, and its sender no slave yet.
+    fn may_join(&self, peer: PeerId, number: u16) -> bool
+        ensures { result ≡ (nat_lt number 32768 && not (entry_of self.now.slaves peer).joined) }
+    {
+        number < 32768 && !self.slaves.of(peer).joined
+    }
+
+    /// Ends the open send to a peer that an ACK with this number names, whatever the role. A correction that
+    /// it ends counts as acknowledged. At most one act.
+    pub fn acknowledge<D: Desk>(
+        &mut self,
+        station: &mut Station,
+        from: PeerId,
+        number: u16,
+        port: Port,
+        desk: &mut D,
+    )
+        requires room { 1 ≤ D.spare desk.old }
+        requires same { peers_of self.old.slaves ≡ station.old.peers }
+        requires peer { Contains station.old.peers from }
+        ensures row { (x : ℕ) → Performs (Beside MasterStands Stands) (Beside MasterStands Stands) (acknowledges from number) x port (self.old, station.old) (self.new, station.new) (D.acts desk.old) (D.acts desk.new) }
+        ensures room { PutsAtMost 1 (D.spare desk.old) (D.spare desk.new) (D.acts desk.old) (D.acts desk.new) }
+        ensures port { IsSamePort station.old station.new }
+        ensures peers { peers_of self.new.slaves ≡ peers_of self.old.slaves }
+    {
+        let corrects = is_correction(station.sends.kind(from));
+        let ended = station.acknowledge(from, number, port, desk);
+        self.note_ack(ended, corrects, from);
+    }
+
+    /// Notes that a peer acknowledged the last correction, where a send was ended that corrects.
+    fn note_ack(&mut self, ended: bool, corrects: bool, peer: PeerId)
+        requires { Contains (peers_of self.old.slaves) peer }
+        ensures entries { Changes peer (acks_where (ended && corrects)) self.old.slaves self.new.slaves }
+        ensures peers { peers_of self.new.slaves ≡ peers_of self.old.slaves }
+        ensures rounds { self.new.rounds ≡ self.old.rounds }
+    {
+        if ended && corrects {
+            self.slaves.ack(peer);
+        }
+    }
+}
+
+/// Sends a candidate away by a QUIT, unless one is open to it.
+fn send_away<D: Desk>(station: &mut Station, tick: u64, peer: PeerId, port: Port, desk: &mut D)
+    requires tick { IsTick tick }
+    requires room { 1 ≤ D.spare desk.old }
+    requires peer { Contains station.old.peers peer }
+    ensures row { Performs StandsActing StandsActing (sends_away peer) tick port (station.old, tt) (station.new, tt) (D.acts desk.old) (D.acts desk.new) }
+    ensures room { PutsAtMost 1 (D.spare desk.old) (D.spare desk.new) (D.acts desk.old) (D.acts desk.new) }
+    ensures port { IsSamePort station.old station.new }
+{
+    if !is_quit(station.sends.kind(peer)) {
+        station.begin(Kind::Quit, peer, tick, port, desk);
+    }
+}
+
+/// Whether the open send is a QUIT.
+fn is_quit(kind: Option<Kind>) -> bool
+    ensures { result ≡ is_of is_kind_quit kind }
+{
+    matches!(kind, Some(Kind::Quit))
+}
+
+/// Whether the open send corrects.
+fn is_correction(kind: Option<Kind>) -> bool
+    ensures { result ≡ is_of is_correction kind }
+{
+    matches!(kind, Some(Kind::AdjTime) | Some(Kind::SetTime))
+}
