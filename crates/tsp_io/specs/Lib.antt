@@ -1,2 +1,6 @@
+pub mod Clocks
 pub mod Counts
+pub mod FailingCalls
+pub mod Links
+pub mod MemoryLinks
 pub mod Streams

@@ -1,49 +1,23 @@
 //! A source and a sink in memory, whose calls fail where that is asked for.
-ghost use Rattle.std.specs.Prelude.{◌≡◌, ◌↔◌, ◌⊎◌, ℕ, ◌≤◌, ◌<◌, ◌+◌, ◌-◌, ◌^◌, [], ◌++◌, length, drop, None, Some, false, IfOk, IsTrue, Contains, true, vec_len, min, take};
+ghost use Rattle.std.specs.Prelude.{◌≡◌, ◌≢◌, ◌↔◌, ◌⊎◌, ℕ, ◌≤◌, ◌<◌, ◌+◌, ◌-◌, ◌^◌, [], ◌++◌, length, drop, None, Some, false, IfOk, IsTrue, Contains, true, vec_len, min, take};
 ghost use Rattle.tsp_io.specs.Counts.{Rose};
+ghost use Rattle.tsp_io.specs.FailingCalls.{FailsNext, CountsCall};
 ghost use Rattle.tsp_io.specs.Streams.{Reads, Writes};
 
+use crate::failing::Failing;
 use crate::sink::{Sink, Wrote};
 use crate::source::{Got, Source};
 use std::alloc::{AllocError, Global};
 
 /// Copies as many octets as fit to the front of the buffer, at most so many, and counts them.
-fn copy_front(octets: &[u8], buf: &mut [u8], most: usize) -> usize
+pub(crate) fn copy_front(octets: &[u8], buf: &mut [u8], most: usize) -> usize
     ensures count { result ≡ min (length octets.now) (min (length buf.old) most) }
     ensures split { octets.now ≡ take result buf.new ++ drop result octets.now }
+    ensures front { take result buf.new ≡ take (min (length buf.old) most) octets.now }
 {
     let count = octets.len().min(buf.len().min(most));
     buf[..count].copy_from_slice(&octets[..count]);
     count
-}
-
-/// Calls that fail: each call has a number, from 0 on, and those listed fail.
-#[derive(Drop)]
-struct Failing {
-    calls: Vec<u32>,
-    next: u32,
-}
-
-impl Failing {
-    fn new(alloc: Global, calls: &[u32]) -> Result<Failing, AllocError>
-        ensures { IfOk result (λ f. (f.calls.items ≡ calls.now) × (f.next ≡ 0)) }
-    {
-        Ok(Failing {
-            calls: Vec::from_slice(alloc, calls)?,
-            next: 0,
-        })
-    }
-
-    /// Counts a call, and says whether it fails; the count stands still at 2^32 - 1.
-    fn fails(&mut self) -> bool
-        ensures listed { IsTrue result ↔ Contains self.old.calls.items self.old.next }
-        ensures counted { self.new.next ≡ min (self.old.next + 1) (2 ^ 32 - 1) }
-        ensures kept { self.new.calls ≡ self.old.calls }
-    {
-        let fails = self.calls.contains(&self.next);
-        self.next = self.next.saturating_add(1);
-        fails
-    }
 }
 
 /// Octets to be read, and the reads that fail.
@@ -100,9 +74,10 @@ impl Source for MemorySource {
         ensures reads { Reads (Some (drop self.old.at self.old.octets.items)) (Some (drop self.new.at self.new.octets.items)) self.old.ended self.new.ended result buf.new }
         ensures later { self.old.faults ≤ self.new.faults }
         ensures cause { result ≡ Got.Failed → Rose self.old.faults self.new.faults }
-        ensures fails { Contains self.old.failing.calls.items self.old.failing.next → result ≡ Got.Failed }
-        ensures gives { ¬ Contains self.old.failing.calls.items self.old.failing.next → result ≡ Got.Got (min (length (drop self.old.at self.old.octets.items)) (min (length buf.old) self.old.most)) }
-        ensures counted { (self.new.failing.next ≡ min (self.old.failing.next + 1) (2 ^ 32 - 1)) × (self.new.failing.calls ≡ self.old.failing.calls) × (self.new.most ≡ self.old.most) }
+        ensures still { result ≢ Got.Failed → self.new.faults ≡ self.old.faults }
+        ensures fails { FailsNext self.old.failing → result ≡ Got.Failed }
+        ensures gives { ¬ FailsNext self.old.failing → result ≡ Got.Got (min (length (drop self.old.at self.old.octets.items)) (min (length buf.old) self.old.most)) }
+        ensures counted { CountsCall self.old.failing self.new.failing × (self.new.most ≡ self.old.most) }
     {
         if self.failing.fails() {
             self.faults = self.faults.saturating_add(1);
@@ -155,9 +130,10 @@ impl Sink for MemorySink {
         ensures writes { Writes (Some self.old.octets.items) (Some self.new.octets.items) result piece.now }
         ensures later { self.old.faults ≤ self.new.faults }
         ensures cause { result ≡ Wrote.Failed → Rose self.old.faults self.new.faults }
-        ensures fails { (result ≡ Wrote.Failed) ↔ Contains self.old.failing.calls.items self.old.failing.next }
+        ensures still { result ≢ Wrote.Failed → self.new.faults ≡ self.old.faults }
+        ensures fails { (result ≡ Wrote.Failed) ↔ FailsNext self.old.failing }
         ensures whole { result ≡ Wrote.Failed ⊎ (result ≡ Wrote.OutOfMemory ⊎ result ≡ Wrote.Took (length piece.now)) }
-        ensures counted { (self.new.failing.next ≡ min (self.old.failing.next + 1) (2 ^ 32 - 1)) × (self.new.failing.calls ≡ self.old.failing.calls) }
+        ensures counted { CountsCall self.old.failing self.new.failing }
     {
         if self.failing.fails() {
             self.faults = self.faults.saturating_add(1);

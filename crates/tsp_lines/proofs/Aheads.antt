@@ -1,25 +1,25 @@
 -- Laws of what a reader gives of an input of which some lines were accepted.
-use Rattle.std.proofs.Common.{◌≡◌, ℕ, ◌<◌, ◌+◌, inl, inr, List, [], ◌∷◌, ◌++◌, None, Some, refl, sym, ap, ◌∙◌, append-nil, append_assoc, subst, length, length-append, arith}
+use Rattle.std.proofs.Common.{◌≡◌, ℕ, ◌<◌, ◌≤◌, ◌+◌, inl, inr, List, [], ◌∷◌, ◌++◌, None, Some, refl, sym, ap, ◌∙◌, append-nil, append_assoc, subst, length, length-append, arith}
 use Rattle.std.proofs.lemmas.Grind.{common_steps}
+use Rattle.std.specs.Prelude.{IfSome}
 use Rattle.std.specs.declared.option.Option.{Option}
 use Rattle.tsp_io.specs.Streams.{Gives}
-use Rattle.tsp_lines.specs.Lines.{NoFeed, close, closed, Begins, IsInput, IsOver, HasNext, IsPast}
-use Rattle.tsp_lines.specs.Outcomes.{GoesOn}
+use Rattle.tsp_lines.specs.Lines.{NoFeed, close, closed, Begins, IsInput, IsOver, HasLines, HasNext, HasMore, IsPast}
 use Rattle.tsp_lines.specs.Readings.{ReaderValue, IsNext}
-use Rattle.tsp_lines.specs.declared.reader.Next.TheVariants.{Limit}
+use Rattle.tsp_lines.specs.declared.next.Next.TheVariants.{Limit}
 use Rattle.tsp_lines.proofs.Streams.{Gives-trans}
 
 -- an input that gave octets begins with the first of them
-pub Begins-Gives : (a b : Option (List ℕ)) (octets front rest : List ℕ) → Gives a b octets → octets ≡ front ++ rest → Begins a front
-Begins-Gives None b octets front rest g e = tt
-Begins-Gives (Some x) None octets front rest g e = cc
-Begins-Gives (Some x) (Some y) octets front rest g e = let f : x ≡ octets ++ y = cc in (rest ++ y, f ∙ ap (λ l. l ++ y) e ∙ append_assoc front rest y)
+pub begins : (a b : Option (List ℕ)) (octets front rest : List ℕ) → Gives a b octets → octets ≡ front ++ rest → IfSome a (λ xs. (more : List ℕ) × (xs ≡ front ++ more))
+begins None b octets front rest g e = tt
+begins (Some x) None octets front rest g e = cc
+begins (Some x) (Some y) octets front rest g e = let f : x ≡ octets ++ y = cc in (rest ++ y, f ∙ ap (λ l. l ++ y) e ∙ append_assoc front rest y)
 
 -- an input that gave octets and is over is these octets
-pub IsInput-Gives : (a b : Option (List ℕ)) (octets : List ℕ) → Gives a b octets → IsOver b → IsInput a octets
-IsInput-Gives None b octets g o = tt
-IsInput-Gives (Some x) None octets g o = cc
-IsInput-Gives (Some x) (Some y) octets g o = let f : x ≡ octets ++ y = cc in f ∙ ap (λ l. octets ++ l) o ∙ append-nil octets
+is_input : (a b : Option (List ℕ)) (octets : List ℕ) → Gives a b octets → IsOver b → IfSome a (λ xs. xs ≡ octets)
+is_input None b octets g o = tt
+is_input (Some x) None octets g o = cc
+is_input (Some x) (Some y) octets g o = let f : x ≡ octets ++ y = cc in f ∙ ap (λ l. octets ++ l) o ∙ append-nil octets
 
 -- the octets ahead of a reader, behind the lines that were accepted
 pub record Ahead (input left : Option (List ℕ)) (lines : List (List ℕ)) (r : ReaderValue) (ahead : List ℕ) : Type 0 where
@@ -37,17 +37,33 @@ Ahead-next input left rest lines old new octets more g e c h f = record {
   count = omega (arith, c, f, length-append octets more);
 }
 
-pub HasNext-line : (input left : Option (List ℕ)) (lines : List (List ℕ)) (r : ReaderValue) (ahead line rest : List ℕ) → Ahead input left lines r ahead → NoFeed line → ahead ≡ close line ++ rest → HasNext input lines line
-HasNext-line input left lines r ahead line rest a n e = (n, inl (Begins-Gives input left a.octets (closed lines ++ close line) rest a.given (a.are ∙ ap (λ l. closed lines ++ l) e ∙ sym (append_assoc (closed lines) (close line) rest))))
+-- the first octets that were got, and those behind them
+module _ (input left : Option (List ℕ)) (lines : List (List ℕ)) (r : ReaderValue) (ahead : List ℕ) (a : Ahead input left lines r ahead) where
+  pub Begins-got : (limit : ℕ) (front rest : List ℕ) → a.octets ≡ front ++ rest → r.got ≤ limit + length rest → Begins limit input front
+  Begins-got limit front rest e w = let n : length a.octets ≡ length (front ++ rest) = ap length e in (omega (arith, n, length-append front rest, a.count, w), begins input left a.octets front rest a.given e)
 
-pub HasNext-last : (input left : Option (List ℕ)) (lines : List (List ℕ)) (r : ReaderValue) (ahead : List ℕ) → Ahead input left lines r ahead → NoFeed ahead → 0 < length ahead → IsOver left → HasNext input lines ahead
-HasNext-last input left lines r ahead a n p o = (n, inr (p, subst (IsInput input) a.are (IsInput-Gives input left a.octets a.given o)))
+  pub HasLines-got : (limit : ℕ) → r.got ≤ limit + length ahead → HasLines limit input lines
+  HasLines-got limit w = inl (Begins-got limit (closed lines) ahead a.are w)
 
-pub IsPast-limit : (input left : Option (List ℕ)) (lines : List (List ℕ)) (r : ReaderValue) (ahead : List ℕ) → Ahead input left lines r ahead → IsNext r ahead Limit → IsPast r.limit input lines
-IsPast-limit input left lines r ahead a p =
-    let e : a.octets ≡ closed lines ++ (p.1.0 ++ p.1.1 ∷ []) = a.are ∙ ap (λ l. closed lines ++ l) p.1.3 in
-    let n : length a.octets ≡ length (closed lines) + (length p.1.0 + 1) = ap length e ∙ grind (arith, common_steps) in
-    (p.1.0, p.1.1, p.1.2, omega (arith, length-append (closed lines) p.1.0, n, p.0, a.count), Begins-Gives input left a.octets (closed lines ++ (p.1.0 ++ p.1.1 ∷ [])) [] a.given (e ∙ sym (append-nil (closed lines ++ (p.1.0 ++ p.1.1 ∷ [])))))
+  pub HasNext-line : (line rest : List ℕ) → NoFeed line → ahead ≡ close line ++ rest → r.got ≤ r.limit + length rest → HasNext r.limit input lines line
+  HasNext-line line rest n e w = (n, inl (Begins-got r.limit (closed lines ++ close line) rest (a.are ∙ ap (λ l. closed lines ++ l) e ∙ sym (append_assoc (closed lines) (close line) rest)) w))
 
-pub GoesOn-Ahead : (input left : Option (List ℕ)) (lines : List (List ℕ)) (r : ReaderValue) (ahead : List ℕ) → Ahead input left lines r ahead → GoesOn input lines []
-GoesOn-Ahead input left lines r ahead a = ((closed lines, inl refl, Begins-Gives input left a.octets (closed lines) ahead a.given a.are), refl)
+  pub IsInput-got : (limit : ℕ) (octets : List ℕ) → a.octets ≡ octets → r.got ≤ limit → IsOver left → IsInput limit input octets
+  IsInput-got limit octets e w o = let n : length a.octets ≡ length octets = ap length e in (omega (arith, n, a.count, w), subst (λ l. IfSome input (λ xs. xs ≡ l)) e (is_input input left a.octets a.given o))
+
+  pub HasNext-last : NoFeed ahead → 0 < length ahead → r.got ≤ r.limit → IsOver left → HasNext r.limit input lines ahead
+  HasNext-last n p w o = (n, inr (p, IsInput-got r.limit (closed lines ++ ahead) a.are w o))
+
+  pub HasMore-got : (limit : ℕ) → r.got ≤ limit + length ahead → 0 < length ahead → HasMore limit input lines
+  HasMore-got limit w some = first ahead refl some where
+    first : (octets : List ℕ) → ahead ≡ octets → 0 < length octets → HasMore limit input lines
+    first [] e s = absurd (omega (arith, s))
+    first (x ∷ rest) e s =
+        let n : length ahead ≡ length (x ∷ rest) = ap length e in
+        (x, Begins-got (limit + 1) (closed lines ++ x ∷ []) rest (a.are ∙ ap (λ l. closed lines ++ l) e ∙ sym (append_assoc (closed lines) (x ∷ []) rest)) (omega (arith, w, n)))
+
+  pub IsPast-limit : IsNext r ahead Limit → IsPast r.limit input lines
+  IsPast-limit p =
+      let e : a.octets ≡ closed lines ++ (p.1.0 ++ p.1.1 ∷ []) = a.are ∙ ap (λ l. closed lines ++ l) p.1.3 in
+      let n : length a.octets ≡ length (closed lines) + (length p.1.0 + 1) = ap length e ∙ grind (arith, common_steps) in
+      (p.1.0, p.1.1, p.1.2, omega (arith, length-append (closed lines) p.1.0, n, p.0, a.count), Begins-got (r.limit + 1) (closed lines ++ (p.1.0 ++ p.1.1 ∷ [])) [] (e ∙ sym (append-nil (closed lines ++ (p.1.0 ++ p.1.1 ∷ [])))) (omega (arith, p.0)))

@@ -1,13 +1,13 @@
 -- Laws of what the treatment of an input comes to.
-use Rattle.std.proofs.Common.{◌≡◌, ℕ, ◌<◌, ◌+◌, inl, inr, List, [], ◌∷◌, ◌++◌, None, Some, refl, sym, ap, ◌∙◌, append-nil, append_assoc, subst, length, length-append, arith}
-use Rattle.std.specs.Prelude.{All}
+use Rattle.std.proofs.Common.{◌≡◌, ℕ, ◌<◌, ◌+◌, inl, inr, List, [], ◌∷◌, ◌++◌, refl, sym, ap, ◌∙◌, append-nil, append_assoc, subst, length, length-append, arith}
+use Rattle.std.specs.Prelude.{All, ◌⊎◌}
 use Rattle.std.proofs.lemmas.List.Elements.{All-push}
 use Rattle.std.specs.declared.option.Option.{Option}
 use Rattle.tsp_io.specs.Streams.{Grows}
-use Rattle.tsp_lines.specs.Lines.{NoFeed, close, closed, Begins, IsInput, IsOver, AreLines, HasNext, IsPast}
+use Rattle.tsp_lines.specs.Lines.{NoFeed, close, closed, Begins, IsOver, IsWhole, HasLines, HasNext, HasMore, IsPast}
 use Rattle.tsp_lines.specs.Meanings.{Meaning, Breaks}
 use Rattle.tsp_lines.specs.Outputs.{Hands}
-use Rattle.tsp_lines.specs.Outcomes.{bad_line, limit_line, IsBad, IsLimited, IsDone, GoesOn, Follows, WritesPart, Comes}
+use Rattle.tsp_lines.specs.Outcomes.{bad_line, limit_line, IsBad, IsLimited, IsDone, Follows, WritesPart, Comes}
 use Rattle.tsp_lines.specs.Turns.{Sayings, IsSaying, only_limited, line_sayings, end_sayings, Ends}
 use Rattle.tsp_lines.specs.declared.treat.Outcome.{Outcome}
 use Rattle.tsp_lines.specs.declared.treat.Outcome.TheVariants.{Ok as Done, Bad, ReadFault, WriteFault, Limit, OutOfMemory}
@@ -21,11 +21,11 @@ Grows-handed a c text h = subst (Grows a c) (sym (h.2 ∙ append-nil h.0)) h.1
 pub record Place (m : Meaning) (limit : ℕ) (input : Option (List ℕ)) (lines : List (List ℕ)) (text : List ℕ) (s : Sayings) : Type 0 where
   pub feedless : All NoFeed lines
   pub accepted : m.accepts lines text
-  pub on : GoesOn input lines []
-  pub done : (w : List ℕ) → s.done w → IsDone m input lines w
-  pub bad : (w : List ℕ) → s.bad w → IsBad m input lines w
+  pub on : HasLines limit input lines
+  pub done : (w : List ℕ) → s.done w → IsDone m limit input lines w
+  pub bad : (w : List ℕ) → s.bad w → IsBad m limit input lines w
   pub limited : (w : List ℕ) → s.limited w → IsLimited m limit input lines w
-  pub more : (w : List ℕ) → s.more w → (longer : List (List ℕ)) × All NoFeed longer × m.accepts longer (text ++ w) × GoesOn input longer []
+  pub more : (w : List ℕ) → s.more w → (longer : List (List ℕ)) × All NoFeed longer × m.accepts longer (text ++ w) × HasLines limit input longer
 
 whole : (m : Meaning) (limit : ℕ) (input : Option (List ℕ)) (lines : List (List ℕ)) (text : List ℕ) (s : Sayings) → Place m limit input lines text s → (w : List ℕ) → IsSaying s w
     → (ls : List (List ℕ)) × (t : List ℕ) × (said : List ℕ) × All NoFeed ls × m.accepts ls t × Follows m limit input ls said × (text ++ w ≡ t ++ said)
@@ -35,7 +35,7 @@ whole m limit input lines text s p w q = elim q [
     | inl b ↦ (lines, text, w, p.feedless, p.accepted, inr (inl (p.bad w b)), refl)
     | inr q ↦ elim q [
       | inl l ↦ (lines, text, w, p.feedless, p.accepted, inr (inr (inl (p.limited w l))), refl)
-      | inr o ↦ let r = p.more w o in (r.0, text ++ w, [], r.1, r.2, inl r.3, sym (append-nil (text ++ w)))
+      | inr o ↦ let r = p.more w o in (r.0, text ++ w, [], r.1, r.2, inl (r.3, refl), sym (append-nil (text ++ w)))
     ]
   ]
 ]
@@ -47,7 +47,7 @@ pub WritesPart-Breaks : (m : Meaning) (limit : ℕ) (input : Option (List ℕ)) 
 WritesPart-Breaks m limit input lines text s a b c held keeps p h k =
     let t = Hands-trans a b c [] held keeps text k.0 h k.1 in
     elim k.2 [
-      | inl e ↦ (keeps, omega arith, (lines, text, [], t.0, p.feedless, p.accepted, inl p.on, ap (λ x. text ++ x) (sym e) ∙ t.2, t.1))
+      | inl e ↦ (keeps, omega arith, (lines, text, [], t.0, p.feedless, p.accepted, inl (p.on, refl), ap (λ x. text ++ x) (sym e) ∙ t.2, t.1))
       | inr r ↦
           let w = whole m limit input lines text s p (k.0 ++ r.0) r.1 in
           let e : w.1 ++ w.2 ≡ t.0 ++ (keeps ++ r.0) = sym w.6 ∙ sym (append_assoc text k.0 r.0) ∙ ap (λ x. x ++ r.0) t.2 ∙ append_assoc t.0 keeps r.0 in
@@ -68,48 +68,43 @@ pub closed-push : (lines : List (List ℕ)) (line : List ℕ) → closed (lines 
 closed-push [] line = append-nil (close line)
 closed-push (x ∷ xs) line = ap (λ l. close x ++ l) (closed-push xs line) ∙ sym (append_assoc (close x) (closed xs) (close line))
 
--- an input that is these octets begins with them
-Begins-IsInput : (input : Option (List ℕ)) (octets : List ℕ) → IsInput input octets → Begins input octets
-Begins-IsInput None octets p = tt
-Begins-IsInput (Some x) octets p = ([], p ∙ sym (append-nil octets))
-
--- the input goes on behind a line that it has
-pub GoesOn-HasNext : (input : Option (List ℕ)) (lines : List (List ℕ)) (line : List ℕ) → HasNext input lines line → GoesOn input (lines ++ line ∷ []) []
-GoesOn-HasNext input lines line h = elim h.1 [
-  | inl b ↦ ((closed lines ++ close line, inl (sym (closed-push lines line)), b), refl)
-  | inr l ↦ ((closed lines ++ line, inr (lines, line, refl, l.0, refl), Begins-IsInput input (closed lines ++ line) l.1), refl)
+-- the input has a line more where that line is next
+pub HasLines-next : (limit : ℕ) (input : Option (List ℕ)) (lines : List (List ℕ)) (line : List ℕ) → HasNext limit input lines line → HasLines limit input (lines ++ line ∷ [])
+HasLines-next limit input lines line h = elim h.1 [
+  | inl b ↦ inl (subst (Begins limit input) (sym (closed-push lines line)) b)
+  | inr l ↦ inr (closed lines ++ line, inr (lines, line, refl, l.0, refl), l.1)
 ]
 
 -- the place of a line
 pub Place-line : (m : Meaning) (limit : ℕ) (input : Option (List ℕ)) (lines : List (List ℕ)) (text line : List ℕ) (number : ℕ)
-    → All NoFeed lines → m.accepts lines text → GoesOn input lines [] → HasNext input lines line → number ≡ length lines + 1 → Place m limit input lines text (line_sayings m lines text number line)
-Place-line m limit input lines text line number f a on h e = record {
+    → All NoFeed lines → m.accepts lines text → ¬ m.full lines → HasLines limit input lines → HasNext limit input lines line → number ≡ length lines + 1 → Place m limit input lines text (line_sayings m lines text number line)
+Place-line m limit input lines text line number f a room on h e = record {
   feedless = f;
   accepted = a;
   on = on;
   done = λ w d. absurd d;
-  bad = λ w b. inl (line, b.0, h, b.1, b.2 ∙ ap (λ n. bad_line n b.0) e);
+  bad = λ w b. inl (line, b.0, h, room, b.1, b.2 ∙ ap (λ n. bad_line n b.0) e);
   limited = λ w l. (inl (line, h, l.0), l.1 ∙ ap limit_line e);
-  more = λ w o. (lines ++ line ∷ [], All-push NoFeed lines line f h.0, o, GoesOn-HasNext input lines line h);
+  more = λ w o. (lines ++ line ∷ [], All-push NoFeed lines line f h.0, o, HasLines-next limit input lines line h);
 }
 
 -- the place of the input's end
-pub Place-end : (m : Meaning) (limit : ℕ) (input : Option (List ℕ)) (lines : List (List ℕ)) (text octets : List ℕ) (number : ℕ)
-    → All NoFeed lines → m.accepts lines text → AreLines octets lines → IsInput input octets → number ≡ length lines + 1 → Place m limit input lines text (end_sayings m lines number)
-Place-end m limit input lines text octets number f a l i e = record {
+pub Place-end : (m : Meaning) (limit : ℕ) (input : Option (List ℕ)) (lines : List (List ℕ)) (text : List ℕ) (number : ℕ)
+    → All NoFeed lines → m.accepts lines text → IsWhole limit input lines → number ≡ length lines + 1 → Place m limit input lines text (end_sayings m lines number)
+Place-end m limit input lines text number f a whole e = record {
   feedless = f;
   accepted = a;
-  on = ((octets, l, Begins-IsInput input octets i), refl);
-  done = λ w d. (octets, l, i, d);
-  bad = λ w b. inr (octets, b.0, l, i, b.1, b.2 ∙ ap (λ n. bad_line n b.0) e);
+  on = inr whole;
+  done = λ w d. (whole, d);
+  bad = λ w b. inr (b.0, whole, b.1, b.2 ∙ ap (λ n. bad_line n b.0) e);
   limited = λ w l. absurd l;
   more = λ w o. absurd o;
 }
 
--- the place of the octet past the limit
-pub Place-past : (m : Meaning) (limit : ℕ) (input : Option (List ℕ)) (lines : List (List ℕ)) (text : List ℕ) (number : ℕ)
-    → All NoFeed lines → m.accepts lines text → GoesOn input lines [] → IsPast limit input lines → number ≡ length lines + 1 → Place m limit input lines text (only_limited (limit_line number))
-Place-past m limit input lines text number f a on p e = record {
+-- the place of a limit
+pub Place-limit : (m : Meaning) (limit : ℕ) (input : Option (List ℕ)) (lines : List (List ℕ)) (text : List ℕ) (number : ℕ)
+    → All NoFeed lines → m.accepts lines text → HasLines limit input lines → IsPast limit input lines ⊎ (m.full lines × HasMore limit input lines) → number ≡ length lines + 1 → Place m limit input lines text (only_limited (limit_line number))
+Place-limit m limit input lines text number f a on p e = record {
   feedless = f;
   accepted = a;
   on = on;
@@ -124,7 +119,7 @@ abbrev pub no_sayings : Sayings
 no_sayings = record { done = λ w. ⊥; bad = λ w. ⊥; limited = λ w. ⊥; more = λ w. ⊥ }
 
 -- any place of the input
-pub Place-any : (m : Meaning) (limit : ℕ) (input : Option (List ℕ)) (lines : List (List ℕ)) (text : List ℕ) → All NoFeed lines → m.accepts lines text → GoesOn input lines [] → Place m limit input lines text no_sayings
+pub Place-any : (m : Meaning) (limit : ℕ) (input : Option (List ℕ)) (lines : List (List ℕ)) (text : List ℕ) → All NoFeed lines → m.accepts lines text → HasLines limit input lines → Place m limit input lines text no_sayings
 Place-any m limit input lines text f a on = record {
   feedless = f;
   accepted = a;

@@ -1,5 +1,5 @@
 -- Laws of the first line feed.
-use Rattle.std.proofs.Common.{◌≡◌, ℕ, ◌<◌, ◌≤◌, ◌+◌, ◌-◌, List, [], ◌∷◌, ◌++◌, None, Some, refl, sym, ap, ◌∙◌, take, drop, length, get_or, append_assoc, take-append-drop, arith, eq-eqb, eqb-true, length-take-le, add_assoc, zero, suc, subst}
+use Rattle.std.proofs.Common.{◌≡◌, ℕ, ◌<◌, ◌≤◌, ◌+◌, ◌-◌, List, [], ◌∷◌, ◌++◌, None, Some, refl, sym, ap, ◌∙◌, take, drop, length, get_or, append_assoc, take-append-drop, length-drop, arith, eq-eqb, eqb-true, length-take-le, add_assoc, zero, suc, subst}
 use Rattle.std.specs.Prelude.{MatchOption, slice_range}
 use Rattle.std.specs.declared.option.Option.{Option}
 use Rattle.std.proofs.lemmas.List.{drop_more, drop-take, drop-drop}
@@ -57,14 +57,20 @@ take-take xs (suc n) zero h = absurd (omega (arith, h))
 take-take [] (suc n) (suc m) h = refl
 take-take (x ∷ xs) (suc n) (suc m) h = ap (λ l. x ∷ l) (take-take xs n m (omega (arith, h)))
 
--- a line that is given, and one that is too long
-pub given_line : (held : List ℕ) (place : ℕ) → place < length held → NoFeed (take place held) → held ≡ close (take place held) ++ drop (place + 1) held → place ≤ 1024
-    → NoFeed (take place held) × (length (take place held) ≤ 1024) × (held ≡ close (take place held) ++ drop (place + 1) held)
-given_line held place h n s short = (n, omega (arith, length-take-le place held (omega (arith, h)), short), s)
+-- what is used where a line ends at a place of what is held
+used : (held : List ℕ) (place got limit : ℕ) → place < length held → (limit < got → place + 1 < length held) → got ≤ limit + 1 → length held ≤ 65536 → (got ≤ limit + length (drop (place + 1) held)) × (length (drop (place + 1) held) < 65536)
+used held place got limit h before most room =
+    let l : length (drop (place + 1) held) ≡ length held - (place + 1) = length-drop (place + 1) held in
+    (grind (arith, l, h, before, most), omega (arith, l, h, room))
 
-pub given_long : (held : List ℕ) (place : ℕ) → place < length held → NoFeed (take place held) → held ≡ close (take place held) ++ drop (place + 1) held → 1024 < place
-    → (line : List ℕ) × NoFeed line × (1024 < length line) × (held ≡ close line ++ drop (place + 1) held) × (take 8 held ≡ take 8 line)
-given_long held place h n s long = (take place held, n, omega (arith, length-take-le place held (omega (arith, h)), long), s, sym (take-take held 8 place (omega (arith, long))))
+-- a line that is given, and one that is too long
+pub given_line : (held : List ℕ) (place got limit : ℕ) → place < length held → NoFeed (take place held) → held ≡ close (take place held) ++ drop (place + 1) held → (limit < got → place + 1 < length held) → (got ≤ limit + 1) × (length held ≤ 65536) → place ≤ 1024
+    → NoFeed (take place held) × (length (take place held) ≤ 1024) × (held ≡ close (take place held) ++ drop (place + 1) held) × ((got ≤ limit + length (drop (place + 1) held)) × (length (drop (place + 1) held) < 65536))
+given_line held place got limit h n s before most short = (n, omega (arith, length-take-le place held (omega (arith, h)), short), s, used held place got limit h before most.0 most.1)
+
+pub given_long : (held : List ℕ) (place got limit : ℕ) → place < length held → NoFeed (take place held) → held ≡ close (take place held) ++ drop (place + 1) held → (limit < got → place + 1 < length held) → (got ≤ limit + 1) × (length held ≤ 65536) → 1024 < place
+    → (line : List ℕ) × NoFeed line × (1024 < length line) × (held ≡ close line ++ drop (place + 1) held) × (take 8 held ≡ take 8 line) × ((got ≤ limit + length (drop (place + 1) held)) × (length (drop (place + 1) held) < 65536))
+given_long held place got limit h n s before most long = (take place held, n, omega (arith, length-take-le place held (omega (arith, h)), long), s, sym (take-take held 8 place (omega (arith, long))), used held place got limit h before most.0 most.1)
 
 split_end : (xs : List ℕ) → 0 < length xs → (part : List ℕ) × (x : ℕ) × (xs ≡ part ++ x ∷ [])
 split_end [] h = absurd (omega arith)

@@ -10,4 +10,5 @@ pub mod Passes
 pub mod Streams
 pub mod Buffers
 pub mod OneCut
-pub mod Unrefusals
+pub mod OneAnswer
+pub mod KeepingUp

@@ -1,8 +1,8 @@
 -- Octets are cut into lines in one way.
-use Rattle.std.proofs.Common.{◌≡◌, ℕ, ◌<◌, inl, inr, List, [], ◌∷◌, ◌++◌, Some, refl, sym, ap, ◌∙◌, append_assoc, length, suc, arith}
+use Rattle.std.proofs.Common.{◌≡◌, ℕ, ◌<◌, inl, inr, List, [], ◌∷◌, ◌++◌, refl, sym, ap, ◌∙◌, append_assoc, length, zero, suc, arith, Bool, true, false, ◌==◌, eqb-true, eq-eqb, subst, slice_index_or}
 use Rattle.std.specs.Prelude.{All, Contains, ◌⊎◌}
-use Rattle.std.proofs.lemmas.List.Elements.{All-head, All-tail}
-use Rattle.tsp_lines.specs.Lines.{NoFeed, close, closed, AreLines, HasNext}
+use Rattle.std.proofs.lemmas.List.Elements.{All-cons, All-head, All-tail}
+use Rattle.tsp_lines.specs.Lines.{NoFeed, close, closed, AreLines}
 
 Contains-feed : (line rest : List ℕ) → Contains (line ++ 10 ∷ rest) 10
 Contains-feed [] rest = (0, omega arith, refl)
@@ -33,7 +33,7 @@ close-append line rest = append_assoc line (10 ∷ []) rest
 abbrev IsBehind : List ℕ → List ℕ → (List ℕ → Type 0) → Type 0
 IsBehind octets line P = (rest : List ℕ) × (octets ≡ line ++ 10 ∷ rest) × P rest
 
-AreLines-none : (octets : List ℕ) → AreLines octets [] → octets ≡ []
+pub AreLines-none : (octets : List ℕ) → AreLines octets [] → octets ≡ []
 AreLines-none octets (inl e) = e
 AreLines-none octets (inr ([], last, e, p, o)) = cc
 AreLines-none octets (inr (x ∷ front, last, e, p, o)) = cc
@@ -81,55 +81,59 @@ AreLines-one octets (x ∷ ls) (y ∷ ms) n m a b =
       ]
     ]
 
--- what stands in front of the next line stands in front of it line by line
-HasNext-first : (octets line next : List ℕ) (lines : List (List ℕ)) → HasNext (Some octets) (line ∷ lines) next → IsBehind octets line (λ rest. HasNext (Some rest) lines next)
-HasNext-first octets line next lines (n, inl b) = (
-  (closed lines ++ close next) ++ b.0,
-  b.1 ∙ ap (λ l. l ++ b.0) (append_assoc (close line) (closed lines) (close next)) ∙ append_assoc (close line) (closed lines ++ close next) b.0 ∙ close-append line ((closed lines ++ close next) ++ b.0),
-  (n, inl (b.0, refl)),
-)
-HasNext-first octets line next lines (n, inr b) = (
-  closed lines ++ next,
-  b.1 ∙ append_assoc (close line) (closed lines) next ∙ close-append line (closed lines ++ next),
-  (n, inr (b.0, refl)),
-)
+-- an octet in front of a line
+NoFeed-cons : (x : ℕ) (xs : List ℕ) → (x ≡ 10 → ⊥) → NoFeed xs → NoFeed (x ∷ xs)
+NoFeed-cons x xs d n = λ c. at c.0 c.1 c.2 where
+  at : (k : ℕ) → k < length (x ∷ xs) → slice_index_or (x ∷ xs) k 10 ≡ 10 → ⊥
+  at zero h e = d e
+  at (suc k) h e = n (k, omega (arith, h), e)
 
--- the next line ends at a line feed, or is the last
-HasNext-end : (octets next : List ℕ) → HasNext (Some octets) [] next → IsBehind octets next (λ rest. Unit {0}) ⊎ ((0 < length next) × (octets ≡ next))
-HasNext-end octets next (n, inl b) = inl (b.0, b.1 ∙ close-append next b.0, tt)
-HasNext-end octets next (n, inr b) = inr b
+-- an octet more in front of lines: a line feed makes a line of its own
+cut_feed : (xs : List ℕ) (lines : List (List ℕ)) → AreLines xs lines → AreLines (10 ∷ xs) ([] ∷ lines)
+cut_feed xs lines (inl e) = inl (ap (λ l. 10 ∷ l) e)
+cut_feed xs lines (inr (front, last, e, p, o)) = inr ([] ∷ front, last, ap (λ l. [] ∷ l) e, p, ap (λ l. 10 ∷ l) o)
 
--- the next line isn't where the octets end
-HasNext-nil : (next : List ℕ) (lines : List (List ℕ)) → HasNext (Some []) lines next → ⊥
-HasNext-nil next [] h = elim (HasNext-end [] next h) [
-  | inl r ↦ NoFeed-no_line [] next r.0 (λ c. omega (arith, c.1)) r.1
-  | inr r ↦ let w : 0 ≡ length next = ap length r.1 in omega (arith, r.0, w)
-]
-HasNext-nil next (x ∷ lines) h = let r = HasNext-first [] x next lines h in NoFeed-no_line [] x r.0 (λ c. omega (arith, c.1)) r.1
+-- and another octet stands in the first line
+cut_octet : (x : ℕ) (xs : List ℕ) (lines : List (List ℕ)) → (x ≡ 10 → ⊥) → All NoFeed lines → AreLines xs lines → (more : List (List ℕ)) × All NoFeed more × AreLines (x ∷ xs) more
+cut_octet x xs [] d n a = ((x ∷ []) ∷ [], All-cons NoFeed (x ∷ []) [] (NoFeed-cons x [] d (λ c. omega (arith, c.1))) n, inr ([], x ∷ [], refl, omega arith, ap (λ l. x ∷ l) (AreLines-none xs a)))
+cut_octet x xs (line ∷ lines) d n a = ((x ∷ line) ∷ lines, All-cons NoFeed (x ∷ line) lines (NoFeed-cons x line d (All-head NoFeed line lines n)) (All-tail NoFeed line lines n), are a) where
+  are : AreLines xs (line ∷ lines) → AreLines (x ∷ xs) ((x ∷ line) ∷ lines)
+  are (inl e) = inl (ap (λ l. x ∷ l) e)
+  are (inr ([], last, e, p, o)) =
+      let h : line ≡ last = cc in
+      let t : lines ≡ [] = cc in
+      inr ([], x ∷ last, rw (h, t) refl, omega arith, ap (λ l. x ∷ l) o)
+  are (inr (y ∷ front, last, e, p, o)) =
+      let h : y ≡ line = cc in
+      let t : lines ≡ front ++ last ∷ [] = cc in
+      inr ((x ∷ line) ∷ front, last, ap (λ l. (x ∷ line) ∷ l) t, p, ap (λ l. x ∷ l) (o ∙ ap (λ l. (close l ++ closed front) ++ last) h))
 
--- the line that follows some lines is the one behind them in the list of all lines
-pub HasNext-one : (octets line : List ℕ) (front lines : List (List ℕ)) → All NoFeed front → All NoFeed lines → AreLines octets lines → HasNext (Some octets) front line → (rest : List (List ℕ)) × (lines ≡ front ++ line ∷ rest)
-HasNext-one octets line front [] n m a h = absurd (HasNext-nil line front (rw (AreLines-none octets a) at h))
-HasNext-one octets line [] (y ∷ lines) n m a h =
-    let q = All-head NoFeed y lines m in
-    elim (AreLines-first octets y lines a) [
-      | inl s ↦ elim (HasNext-end octets line h) [
-        | inl r ↦ (lines, ap (λ l. l ∷ lines) (feeds_apart y line s.0 r.0 q h.0 (sym s.1 ∙ r.1)).0)
-        | inr r ↦ absurd (NoFeed-no_line line y s.0 h.0 (sym r.1 ∙ s.1))
-      ]
-      | inr s ↦ elim (HasNext-end octets line h) [
-        | inl r ↦ absurd (NoFeed-no_line y line r.0 q (sym s.2 ∙ r.1))
-        | inr r ↦ (lines, ap (λ l. l ∷ lines) (sym s.2 ∙ r.1))
-      ]
-    ]
-HasNext-one octets line (x ∷ front) (y ∷ lines) n m a h =
-    let p = All-head NoFeed x front n in
-    let q = All-head NoFeed y lines m in
-    let r = HasNext-first octets x line front h in
+-- octets are lines
+pub cut : (octets : List ℕ) → (lines : List (List ℕ)) × All NoFeed lines × AreLines octets lines
+cut [] = ([], λ k d h. absurd (omega (arith, h)), inl refl)
+cut (x ∷ xs) = let c = cut xs in by (x == 10) refl c where
+  by : (b : Bool) → (x == 10) ≡ b → (c : (lines : List (List ℕ)) × All NoFeed lines × AreLines xs lines) → (lines : List (List ℕ)) × All NoFeed lines × AreLines (x ∷ xs) lines
+  by true e c = let f : x ≡ 10 = eqb-true x 10 e in ([] ∷ c.0, All-cons NoFeed [] c.0 (λ k. omega (arith, k.1)) c.1, subst (λ y. AreLines (y ∷ xs) ([] ∷ c.0)) (sym f) (cut_feed xs c.0 c.2))
+  by false e c = cut_octet x xs c.0 (λ f. let t : (x == 10) ≡ true = eq-eqb x 10 f in cc) c.1 c.2
+
+-- lines at the front of octets are the first of all their lines
+pub front_of : (octets rest : List ℕ) (front lines : List (List ℕ)) → All NoFeed front → All NoFeed lines → octets ≡ closed front ++ rest → AreLines octets lines → (more : List (List ℕ)) × (lines ≡ front ++ more) × AreLines rest more
+front_of octets rest [] lines n m e a = (lines, refl, subst (λ o. AreLines o lines) e a)
+front_of octets rest (x ∷ front) [] n m e a =
+    let f : [] ≡ x ++ 10 ∷ (closed front ++ rest) = sym (AreLines-none octets a) ∙ e ∙ append_assoc (close x) (closed front) rest ∙ close-append x (closed front ++ rest) in
+    absurd (NoFeed-no_line [] x (closed front ++ rest) (λ c. omega (arith, c.1)) f)
+front_of octets rest (x ∷ front) (y ∷ lines) n m e a =
+    let f : octets ≡ x ++ 10 ∷ (closed front ++ rest) = e ∙ append_assoc (close x) (closed front) rest ∙ close-append x (closed front ++ rest) in
     elim (AreLines-first octets y lines a) [
       | inl s ↦
-          let e = feeds_apart x y r.0 s.0 p q (sym r.1 ∙ s.1) in
-          let t = HasNext-one r.0 line front lines (All-tail NoFeed x front n) (All-tail NoFeed y lines m) (rw e.1 s.2) r.2 in
-          (t.0, conses y x lines (front ++ line ∷ t.0) (sym e.0) t.1)
-      | inr s ↦ absurd (NoFeed-no_line y x r.0 q (sym s.2 ∙ r.1))
+          let p = feeds_apart x y (closed front ++ rest) s.0 (All-head NoFeed x front n) (All-head NoFeed y lines m) (sym f ∙ s.1) in
+          let t = front_of s.0 rest front lines (All-tail NoFeed x front n) (All-tail NoFeed y lines m) (sym p.1) s.2 in
+          (t.0, conses y x lines (front ++ t.0) (sym p.0) t.1, t.2)
+      | inr s ↦ absurd (NoFeed-no_line y x (closed front ++ rest) (All-head NoFeed y lines m) (sym s.2 ∙ f))
     ]
+
+-- a line feed behind fewer octets than are without one
+pub feed_within : (part line s r : List ℕ) → NoFeed part → part ++ s ≡ line ++ 10 ∷ r → length line < length part → ⊥
+feed_within [] line s r n e l = omega (arith, l)
+feed_within (x ∷ part) [] s r n e l = n (0, omega arith, cc)
+feed_within (x ∷ part) (y ∷ line) s r n e l = let t : part ++ s ≡ line ++ 10 ∷ r = cc in feed_within part line s r (NoFeed-tail x part n) t (omega (arith, l))

@@ -6,8 +6,8 @@ use Rattle.std.specs.declared.option.Option.{Option}
 use Rattle.tsp_io.specs.Streams.{Gives}
 use Rattle.tsp_lines.specs.Lines.{NoFeed, close}
 use Rattle.tsp_lines.specs.Readings.{ReaderValue, IsNext, IsPassed, is_over, long_of}
-use Rattle.tsp_lines.specs.declared.reader.Next.{Next}
-use Rattle.tsp_lines.specs.declared.reader.Next.TheVariants.{Line, Last, Long, LongLast, End, Limit, Failed}
+use Rattle.tsp_lines.specs.declared.next.Next.{Next}
+use Rattle.tsp_lines.specs.declared.next.Next.TheVariants.{Line, Last, Long, LongLast, End, Limit, Failed}
 use Rattle.tsp_lines.proofs.Streams.{Gives-trans}
 
 -- no line feed in two lists, none in both
@@ -16,9 +16,9 @@ NoFeed-append xs ys p q = λ c. elim (Contains-append_cases xs ys 10 c) [ inl a 
 
 -- the next line's end ends the long line
 pub IsPassed-long_of : (r : ReaderValue) (octets : List ℕ) (n : Next) → IsNext r octets n → is_over n ≡ false → n ≢ Failed → IsPassed r octets (long_of n)
-IsPassed-long_of r octets Line p o f = (r.line, p.0, p.2)
+IsPassed-long_of r octets Line p o f = (r.line, p.0, p.2, p.3)
 IsPassed-long_of r octets Last p o f = cc
-IsPassed-long_of r octets Long p o f = (p.0, p.1, p.3)
+IsPassed-long_of r octets Long p o f = (p.0, p.1, p.3, p.5)
 IsPassed-long_of r octets LongLast p o f = cc
 IsPassed-long_of r octets End p o f = cc
 IsPassed-long_of r octets Limit p o f = p
@@ -32,11 +32,11 @@ keeping r start = record r { start = start }
 pub IsNext-passed : (r : ReaderValue) (front octets start : List ℕ) (n : Next) → NoFeed front → 1024 < length front → start ≡ take 8 front → IsPassed r octets n → IsNext (keeping r start) (front ++ octets) n
 IsNext-passed r front octets start Line f l s p = absurd p
 IsNext-passed r front octets start Last f l s p = absurd p
-IsNext-passed r front octets start Long f l s p = (front ++ p.0, NoFeed-append front p.0 f p.1, omega (arith, length-append front p.0, l), ap (λ o. front ++ o) p.2 ∙ rw (append_assoc front p.0 (10 ∷ [])) (sym (append_assoc front (close p.0) r.held)), s ∙ sym (take-append-le 8 front p.0 (omega (arith, l))))
-IsNext-passed r front octets start LongLast f l s p = rw (p.0, append-nil front) (f, l, p.1, s)
+IsNext-passed r front octets start Long f l s p = (front ++ p.0, NoFeed-append front p.0 f p.1, omega (arith, length-append front p.0, l), ap (λ o. front ++ o) p.2 ∙ rw (append_assoc front p.0 (10 ∷ [])) (sym (append_assoc front (close p.0) r.held)), s ∙ sym (take-append-le 8 front p.0 (omega (arith, l))), p.3)
+IsNext-passed r front octets start LongLast f l s p = rw (p.0, append-nil front) (f, l, p.1, s, p.2)
 IsNext-passed r front octets start End f l s p = absurd p
 IsNext-passed r front octets start Limit f l s p = (p.0, (front ++ p.1.0, p.1.1, NoFeed-append front p.1.0 f p.1.2, ap (λ o. front ++ o) p.1.3 ∙ sym (append_assoc front p.1.0 (p.1.1 ∷ []))))
-IsNext-passed r front octets start Failed f l s p = rw (p, append-nil front) f
+IsNext-passed r front octets start Failed f l s p = rw (p.0, append-nil front) (f, p.1)
 
 -- more of a long line was read
 pub passed : (a b c : Option (List ℕ)) (r : ReaderValue) (held octets more start : List ℕ) (got : ℕ) (n : Next) → 1024 < length held → start ≡ take 8 held

@@ -3,5 +3,6 @@ pub mod Outputs
 pub mod Meanings
 pub mod Readings
 pub mod Outcomes
+pub mod Answers
+pub mod Definite
 pub mod Turns
-pub mod Unrefused

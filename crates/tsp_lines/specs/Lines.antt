@@ -1,5 +1,5 @@
--- Lines of octets, and an input that is told or not.
-use Rattle.std.specs.Prelude.{◌≡◌, ℕ, ◌<◌, ◌⊎◌, List, [], ◌∷◌, ◌++◌, length, Contains, flat_map, IfSome}
+-- Lines of octets, and an input that is told or not. What counts of an input lies within its limit.
+use Rattle.std.specs.Prelude.{◌≡◌, ℕ, ◌<◌, ◌≤◌, ◌+◌, ◌⊎◌, List, [], ◌∷◌, ◌++◌, length, Contains, flat_map, IfSome}
 use Rattle.std.specs.declared.option.Option.{Option}
 
 -- no octet is a line feed
@@ -14,13 +14,13 @@ close line = line ++ 10 ∷ []
 abbrev pub closed : List (List ℕ) → List ℕ
 closed lines = flat_map close lines
 
--- the input begins with these octets, if it is told
-abbrev pub Begins : Option (List ℕ) → List ℕ → Type 0
-Begins input octets = IfSome input (λ xs. (rest : List ℕ) × (xs ≡ octets ++ rest))
+-- these octets lie within the limit, and the input begins with them, if it is told
+abbrev pub Begins : ℕ → Option (List ℕ) → List ℕ → Type 0
+Begins limit input octets = (length octets ≤ limit) × IfSome input (λ xs. (rest : List ℕ) × (xs ≡ octets ++ rest))
 
--- the input is these octets, if it is told
-abbrev pub IsInput : Option (List ℕ) → List ℕ → Type 0
-IsInput input octets = IfSome input (λ xs. xs ≡ octets)
+-- these octets lie within the limit, and the input is them, if it is told
+abbrev pub IsInput : ℕ → Option (List ℕ) → List ℕ → Type 0
+IsInput limit input octets = (length octets ≤ limit) × IfSome input (λ xs. xs ≡ octets)
 
 -- nothing is left of the input, if it is told
 abbrev pub IsOver : Option (List ℕ) → Type 0
@@ -30,10 +30,22 @@ IsOver input = IfSome input (λ xs. xs ≡ [])
 abbrev pub AreLines : List ℕ → List (List ℕ) → Type 0
 AreLines octets lines = (octets ≡ closed lines) ⊎ ((front : List (List ℕ)) × (last : List ℕ) × (lines ≡ front ++ last ∷ []) × (0 < length last) × (octets ≡ closed front ++ last))
 
--- the input begins with these lines and then has this one, ended by a line feed or by the input's end
-abbrev pub HasNext : Option (List ℕ) → List (List ℕ) → List ℕ → Type 0
-HasNext input lines line = NoFeed line × (Begins input (closed lines ++ close line) ⊎ ((0 < length line) × IsInput input (closed lines ++ line)))
+-- the input is these lines and no more
+abbrev pub IsWhole : ℕ → Option (List ℕ) → List (List ℕ) → Type 0
+IsWhole limit input lines = (octets : List ℕ) × AreLines octets lines × IsInput limit input octets
 
--- the octet after the limit stands in the line that follows these lines
+-- the input begins with these lines, each with its line feed, or is these lines and no more
+abbrev pub HasLines : ℕ → Option (List ℕ) → List (List ℕ) → Type 0
+HasLines limit input lines = Begins limit input (closed lines) ⊎ IsWhole limit input lines
+
+-- the input begins with these lines and then has this one, ended by a line feed or by the input's end
+abbrev pub HasNext : ℕ → Option (List ℕ) → List (List ℕ) → List ℕ → Type 0
+HasNext limit input lines line = NoFeed line × (Begins limit input (closed lines ++ close line) ⊎ ((0 < length line) × IsInput limit input (closed lines ++ line)))
+
+-- the input begins with these lines, and another octet follows them
+abbrev pub HasMore : ℕ → Option (List ℕ) → List (List ℕ) → Type 0
+HasMore limit input lines = (x : ℕ) × Begins (limit + 1) input (closed lines ++ x ∷ [])
+
+-- the first octet past the limit stands in the line that follows these lines
 abbrev pub IsPast : ℕ → Option (List ℕ) → List (List ℕ) → Type 0
-IsPast limit input lines = (part : List ℕ) × (x : ℕ) × NoFeed part × (length (closed lines ++ part) ≡ limit) × Begins input (closed lines ++ (part ++ x ∷ []))
+IsPast limit input lines = (part : List ℕ) × (x : ℕ) × NoFeed part × (length (closed lines ++ part) ≡ limit) × Begins (limit + 1) input (closed lines ++ (part ++ x ∷ []))

@@ -20,6 +20,8 @@ pub record Meaning : Type 1 where
   pub refuses : List (List ℕ) → List ℕ → List ℕ → Type 0
   -- after these lines this line is past a limit of the treatment's own
   pub limits : List (List ℕ) → List ℕ → Type 0
+  -- after these lines any line is past a limit of the treatment's own, from its first octet on
+  pub full : List (List ℕ) → Type 0
   -- the input may end after these lines, and this is then the output besides
   pub ends : List (List ℕ) → List ℕ → Type 0
   -- the input may not end after these lines, with this cause

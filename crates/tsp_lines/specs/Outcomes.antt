@@ -1,9 +1,9 @@
 -- What the treatment of a whole input comes to.
-use Rattle.std.specs.Prelude.{◌≡◌, ℕ, ◌<◌, ◌+◌, ◌⊎◌, List, [], ◌∷◌, ◌++◌, length, codes, All}
+use Rattle.std.specs.Prelude.{◌≡◌, ℕ, ◌<◌, ◌≤◌, ◌+◌, ◌⊎◌, List, [], ◌∷◌, ◌++◌, length, codes, All}
 use Rattle.std.specs.Fmt.{decimal}
 use Rattle.std.specs.declared.option.Option.{Option}
 use Rattle.tsp_io.specs.Streams.{Gives, Grows}
-use Rattle.tsp_lines.specs.Lines.{NoFeed, closed, Begins, IsInput, IsOver, AreLines, HasNext, IsPast}
+use Rattle.tsp_lines.specs.Lines.{NoFeed, closed, IsOver, IsWhole, HasLines, HasNext, HasMore, IsPast}
 use Rattle.tsp_lines.specs.Meanings.{Meaning}
 use Rattle.tsp_lines.specs.declared.treat.Outcome.{Outcome}
 use Rattle.tsp_lines.specs.declared.treat.Outcome.TheVariants.{Ok as Done, Bad, ReadFault, WriteFault, Limit, OutOfMemory}
@@ -17,27 +17,27 @@ abbrev pub limit_line : ℕ → List ℕ
 limit_line number = (codes "limit " ++ decimal number) ++ 10 ∷ []
 
 -- after these lines the input is refused with these words: for its next line, or since it ends there
-abbrev pub IsBad : Meaning → Option (List ℕ) → List (List ℕ) → List ℕ → Type 0
-IsBad m input lines said =
-    ((line : List ℕ) × (cause : List ℕ) × HasNext input lines line × m.refuses lines line cause × (said ≡ bad_line (length lines + 1) cause))
-    ⊎ ((octets : List ℕ) × (cause : List ℕ) × AreLines octets lines × IsInput input octets × m.lacks lines cause × (said ≡ bad_line (length lines + 1) cause))
+abbrev pub IsBad : Meaning → ℕ → Option (List ℕ) → List (List ℕ) → List ℕ → Type 0
+IsBad m limit input lines said =
+    ((line : List ℕ) × (cause : List ℕ) × HasNext limit input lines line × (¬ m.full lines) × m.refuses lines line cause × (said ≡ bad_line (length lines + 1) cause))
+    ⊎ ((cause : List ℕ) × IsWhole limit input lines × m.lacks lines cause × (said ≡ bad_line (length lines + 1) cause))
 
--- after these lines a limit is passed, with these words: by the next line, or by an octet that stands in it
+-- after these lines a limit is passed, with these words: by the next line, by an octet that stands in it, or since no line may follow
 abbrev pub IsLimited : Meaning → ℕ → Option (List ℕ) → List (List ℕ) → List ℕ → Type 0
 IsLimited m limit input lines said =
-    (((line : List ℕ) × HasNext input lines line × m.limits lines line) ⊎ IsPast limit input lines) × (said ≡ limit_line (length lines + 1))
+    (((line : List ℕ) × HasNext limit input lines line × m.limits lines line) ⊎ (IsPast limit input lines ⊎ (m.full lines × HasMore limit input lines))) × (said ≡ limit_line (length lines + 1))
 
 -- the input is these lines, and may end with these octets besides
-abbrev pub IsDone : Meaning → Option (List ℕ) → List (List ℕ) → List ℕ → Type 0
-IsDone m input lines said = (octets : List ℕ) × AreLines octets lines × IsInput input octets × m.ends lines said
+abbrev pub IsDone : Meaning → ℕ → Option (List ℕ) → List (List ℕ) → List ℕ → Type 0
+IsDone m limit input lines said = IsWhole limit input lines × m.ends lines said
 
--- the input begins with these lines, and nothing is written besides
-abbrev pub GoesOn : Option (List ℕ) → List (List ℕ) → List ℕ → Type 0
-GoesOn input lines said = ((octets : List ℕ) × AreLines octets lines × Begins input octets) × (said ≡ [])
+-- the input has these lines, and nothing is written besides
+abbrev pub GoesOn : ℕ → Option (List ℕ) → List (List ℕ) → List ℕ → Type 0
+GoesOn limit input lines said = HasLines limit input lines × (said ≡ [])
 
 -- what may be written behind the output of these lines
 abbrev pub Follows : Meaning → ℕ → Option (List ℕ) → List (List ℕ) → List ℕ → Type 0
-Follows m limit input lines said = GoesOn input lines said ⊎ (IsBad m input lines said ⊎ (IsLimited m limit input lines said ⊎ IsDone m input lines said))
+Follows m limit input lines said = GoesOn limit input lines said ⊎ (IsBad m limit input lines said ⊎ (IsLimited m limit input lines said ⊎ IsDone m limit input lines said))
 
 -- these lines were accepted, and what was written is their output and then what follows it
 abbrev pub WritesAll : Meaning → (List (List ℕ) → List ℕ → Type 0) → Option (List ℕ) → Option (List ℕ) → Type 0
@@ -47,15 +47,23 @@ WritesAll m FollowsIt written now = (lines : List (List ℕ)) × (text : List �
 abbrev pub WritesPart : Meaning → ℕ → Option (List ℕ) → Option (List ℕ) → Option (List ℕ) → List ℕ → Type 0
 WritesPart m limit input written now rest = (lines : List (List ℕ)) × (text : List ℕ) × (said : List ℕ) × (part : List ℕ) × All NoFeed lines × m.accepts lines text × Follows m limit input lines said × (text ++ said ≡ part ++ rest) × Grows written now part
 
--- exactly the lines whose line feed was got were accepted, and what was written is exactly their output
-abbrev pub WritesGot : Meaning → Option (List ℕ) → Option (List ℕ) → Option (List ℕ) → Option (List ℕ) → Type 0
-WritesGot m input left written now = (lines : List (List ℕ)) × (text : List ℕ) × (part : List ℕ) × All NoFeed lines × m.accepts lines text × NoFeed part × Gives input left (closed lines ++ part) × Grows written now text
+-- exactly the lines whose line feed was got were accepted, and what was written is exactly their output; no octet past a limit was got
+abbrev pub WritesGot : Meaning → ℕ → Option (List ℕ) → Option (List ℕ) → Option (List ℕ) → Option (List ℕ) → Type 0
+WritesGot m limit input left written now =
+    (lines : List (List ℕ)) × (text : List ℕ) × (part : List ℕ) × All NoFeed lines × m.accepts lines text × NoFeed part × (length (closed lines ++ part) ≤ limit) × (m.full lines → part ≡ [])
+    × Gives input left (closed lines ++ part) × Grows written now text
 
 -- what an outcome says of the input, of what is left of it, and of what was written
 abbrev pub Comes : Meaning → ℕ → Option (List ℕ) → Option (List ℕ) → Option (List ℕ) → Option (List ℕ) → Outcome → Type 0
-Comes m limit input left written now Done = WritesAll m (IsDone m input) written now × IsOver left
-Comes m limit input left written now Bad = WritesAll m (IsBad m input) written now
-Comes m limit input left written now ReadFault = WritesGot m input left written now
+Comes m limit input left written now Done = WritesAll m (IsDone m limit input) written now × IsOver left
+Comes m limit input left written now Bad = WritesAll m (IsBad m limit input) written now
+Comes m limit input left written now ReadFault = WritesGot m limit input left written now
 Comes m limit input left written now WriteFault = (rest : List ℕ) × (0 < length rest) × WritesPart m limit input written now rest
 Comes m limit input left written now Limit = WritesAll m (IsLimited m limit input) written now
 Comes m limit input left written now OutOfMemory = (rest : List ℕ) × WritesPart m limit input written now rest
+
+-- output keeps up with what was read: of all that was read the lines that stand in front of a line's beginning and of at most 64 KiB behind it were accepted, and their output was written; at most one octet past the limit was read
+abbrev pub KeepsUp : Meaning → ℕ → Option (List ℕ) → Option (List ℕ) → Option (List ℕ) → Option (List ℕ) → Type 0
+KeepsUp m limit input left written now =
+    (lines : List (List ℕ)) × (text : List ℕ) × (part : List ℕ) × (last : List ℕ) × (more : List ℕ) × All NoFeed lines × m.accepts lines text × NoFeed part × (length last ≤ 65536)
+    × (length ((closed lines ++ part) ++ last) ≤ limit + 1) × Gives input left ((closed lines ++ part) ++ last) × Grows written now (text ++ more)

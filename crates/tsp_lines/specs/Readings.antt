@@ -3,10 +3,10 @@ use Rattle.std.specs.Prelude.{◌≡◌, ℕ, ◌<◌, ◌≤◌, ◌+◌, List,
 use Rattle.tsp_io.specs.declared.source.Got.{Got}
 use Rattle.tsp_io.specs.declared.source.Got.TheVariants.{Got as Gave, Failed as NotGot}
 use Rattle.tsp_lines.specs.Lines.{NoFeed, close}
-use Rattle.tsp_lines.specs.declared.reader.Next.{Next}
-use Rattle.tsp_lines.specs.declared.reader.Next.TheVariants.{Line, Last, Long, LongLast, End, Limit, Failed}
-use Rattle.tsp_lines.specs.declared.reader.Fill.{Fill}
-use Rattle.tsp_lines.specs.declared.reader.Fill.TheVariants.{More, Over, NotRead}
+use Rattle.tsp_lines.specs.declared.next.Next.{Next}
+use Rattle.tsp_lines.specs.declared.next.Next.TheVariants.{Line, Last, Long, LongLast, End, Limit, Failed}
+use Rattle.tsp_lines.specs.declared.next.Fill.{Fill}
+use Rattle.tsp_lines.specs.declared.next.Fill.TheVariants.{More, Over, NotRead}
 
 -- a reader: the line last given, the first octets of the long line last given, the octets read and not used yet, how many were got in all, and how many may be
 pub record ReaderValue : Type 0 where
@@ -16,25 +16,29 @@ pub record ReaderValue : Type 0 where
   pub got : ℕ
   pub limit : ℕ
 
+-- the octets that were used lie within the limit, and those that are held fill less than the buffer of 64 KiB
+abbrev pub IsUsed : ReaderValue → Type 0
+IsUsed r = (r.got ≤ r.limit + length r.held) × (length r.held < 65536)
+
 -- what a reader gives of the octets ahead, which it held or read
 abbrev pub IsNext : ReaderValue → List ℕ → Next → Type 0
-IsNext r ahead Line = NoFeed r.line × (length r.line ≤ 1024) × (ahead ≡ close r.line ++ r.held)
-IsNext r ahead Last = NoFeed r.line × (0 < length r.line) × (length r.line ≤ 1024) × (ahead ≡ r.line) × (r.held ≡ [])
-IsNext r ahead Long = (line : List ℕ) × NoFeed line × (1024 < length line) × (ahead ≡ close line ++ r.held) × (r.start ≡ take 8 line)
-IsNext r ahead LongLast = NoFeed ahead × (1024 < length ahead) × (r.held ≡ []) × (r.start ≡ take 8 ahead)
-IsNext r ahead End = (ahead ≡ []) × (r.held ≡ [])
+IsNext r ahead Line = NoFeed r.line × (length r.line ≤ 1024) × (ahead ≡ close r.line ++ r.held) × IsUsed r
+IsNext r ahead Last = NoFeed r.line × (0 < length r.line) × (length r.line ≤ 1024) × (ahead ≡ r.line) × (r.held ≡ []) × IsUsed r
+IsNext r ahead Long = (line : List ℕ) × NoFeed line × (1024 < length line) × (ahead ≡ close line ++ r.held) × (r.start ≡ take 8 line) × IsUsed r
+IsNext r ahead LongLast = NoFeed ahead × (1024 < length ahead) × (r.held ≡ []) × (r.start ≡ take 8 ahead) × IsUsed r
+IsNext r ahead End = (ahead ≡ []) × (r.held ≡ []) × IsUsed r
 IsNext r ahead Limit = (r.got ≡ r.limit + 1) × ((part : List ℕ) × (x : ℕ) × NoFeed part × (ahead ≡ part ++ x ∷ []))
-IsNext r ahead Failed = NoFeed ahead
+IsNext r ahead Failed = NoFeed ahead × (r.got ≤ r.limit)
 
 -- what is given where these octets were read behind a part of a long line
 abbrev pub IsPassed : ReaderValue → List ℕ → Next → Type 0
 IsPassed r octets Line = ⊥
 IsPassed r octets Last = ⊥
-IsPassed r octets Long = (line : List ℕ) × NoFeed line × (octets ≡ close line ++ r.held)
-IsPassed r octets LongLast = (octets ≡ []) × (r.held ≡ [])
+IsPassed r octets Long = (line : List ℕ) × NoFeed line × (octets ≡ close line ++ r.held) × IsUsed r
+IsPassed r octets LongLast = (octets ≡ []) × (r.held ≡ []) × IsUsed r
 IsPassed r octets End = ⊥
 IsPassed r octets Limit = (r.got ≡ r.limit + 1) × ((part : List ℕ) × (x : ℕ) × NoFeed part × (octets ≡ part ++ x ∷ []))
-IsPassed r octets Failed = octets ≡ []
+IsPassed r octets Failed = (octets ≡ []) × (r.got ≤ r.limit)
 
 -- what is given where a long line goes on to this
 abbrev pub long_of : Next → Next

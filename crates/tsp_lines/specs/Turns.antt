@@ -1,5 +1,5 @@
 -- The turns of a treatment: how far it has come, and how it ends.
-use Rattle.std.specs.Prelude.{◌≡◌, ℕ, ◌<◌, ◌+◌, ◌⊎◌, List, [], ◌∷◌, ◌++◌, length, All}
+use Rattle.std.specs.Prelude.{◌≡◌, ℕ, ◌<◌, ◌≤◌, ◌+◌, ◌⊎◌, List, [], ◌∷◌, ◌++◌, length, All}
 use Rattle.std.specs.declared.option.Option.{Option}
 use Rattle.tsp_io.specs.Streams.{Gives}
 use Rattle.tsp_lines.specs.Lines.{NoFeed, closed}
@@ -75,5 +75,6 @@ pub record IsAt (m : Meaning) (Stands : List (List ℕ) → Type 0) (input left 
   pub accepted : m.accepts lines text
   pub stands : Stands lines
   pub got : (octets : List ℕ) × Gives input left octets × (octets ≡ closed lines ++ reader.held) × (reader.got ≡ length octets)
+  pub within : reader.got ≤ reader.limit + length reader.held
   pub handed : Hands written [] now held text
   pub counted : number ≡ length lines + 1

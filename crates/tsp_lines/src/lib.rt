@@ -2,8 +2,13 @@
 //! before more of the input is read.
 #![tactic(auto)]
 
+mod buffer;
 pub mod cause;
+pub mod laws;
+pub mod limits;
+pub mod next;
 pub mod output;
+mod progress;
 pub mod reader;
 pub mod refusal;
 #[cfg(test)]

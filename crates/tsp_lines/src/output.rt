@@ -1,5 +1,5 @@
 //! Output that is gathered before it is written.
-ghost use Rattle.std.specs.Prelude.{◌≡◌, ℕ, ◌≤◌, ◌<◌, [], length, take, drop, vec_len, IfOk, IfErr, OnOk, OnErr};
+ghost use Rattle.std.specs.Prelude.{◌≡◌, ◌≢◌, ℕ, ◌≤◌, ◌<◌, [], length, take, drop, vec_len, IfOk, IfErr, OnOk, OnErr, MatchResult};
 ghost use Rattle.tsp_io.specs.Counts.{Rose};
 ghost use Rattle.tsp_io.specs.Streams.{Grows};
 ghost use Rattle.tsp_lines.specs.Outputs.{Hands};
@@ -35,6 +35,7 @@ pub fn write_all<K: Sink>(sink: &mut K, octets: &[u8]) -> Result<(), Cut>
     ensures cut { IfErr result (λ cut. (cut.at < length octets.now) × Grows (K.written sink.old) (K.written sink.new) (take cut.at octets.now)) }
     ensures later { K.faults sink.old ≤ K.faults sink.new }
     ensures cause { IfErr result (λ cut. cut.fault ≡ Unwritten.WriteFault → Rose (K.faults sink.old) (K.faults sink.new)) }
+    ensures still { MatchResult result (λ _. K.faults sink.new ≡ K.faults sink.old) (λ cut. cut.fault ≢ Unwritten.WriteFault → K.faults sink.new ≡ K.faults sink.old) }
 {
     let mut at = 0;
     while at < octets.len() {
@@ -96,6 +97,7 @@ impl Output {
         ensures err { OnErr result (Hands (K.written sink.old) self.old (K.written sink.new) self.new []) }
         ensures later { K.faults sink.old ≤ K.faults sink.new }
         ensures cause { result ≡ Err Unwritten.WriteFault → Rose (K.faults sink.old) (K.faults sink.new) × (0 < length self.new) }
+        ensures still { result ≢ Err Unwritten.WriteFault → K.faults sink.new ≡ K.faults sink.old }
     {
         if self.octets.len() + piece.len() > ROOM {
             self.flush(sink)?;
@@ -114,6 +116,7 @@ impl Output {
         ensures hands { Hands (K.written sink.old) self.old (K.written sink.new) self.new [] }
         ensures later { K.faults sink.old ≤ K.faults sink.new }
         ensures cause { result ≡ Err Unwritten.WriteFault → Rose (K.faults sink.old) (K.faults sink.new) × (0 < length self.new) }
+        ensures still { result ≢ Err Unwritten.WriteFault → K.faults sink.new ≡ K.faults sink.old }
     {
         match write_all(sink, &self.octets) {
             Ok(()) => {

@@ -5,6 +5,8 @@ ghost use Rattle.tsp_io.specs.Streams.{Gives};
 ghost use Rattle.tsp_lines.specs.Lines.{NoFeed, close, IsOver};
 ghost use Rattle.tsp_lines.specs.Readings.{IsNext, IsPassed, long_of, is_over, IsFill, meets_end, count_of, is_end};
 
+use crate::buffer::refill;
+use crate::next::{Fill, Next};
 use arrayvec::ArrayVec;
 use memchr::memchr;
 use std::alloc::{AllocError, Global};
@@ -19,74 +21,6 @@ const LONGEST: usize = 1024;
 
 /// How many octets of a long line are kept.
 const START: usize = 8;
-
-/// What a reader of lines gives.
-#[derive(Clone, Copy, PartialEq, Eq, Debug)]
-pub enum Next {
-    /// A line that a line feed ended.
-    Line,
-    /// A line that the end of the input ended.
-    Last,
-    /// A line of more than 1,024 octets, which was passed over to its line feed.
-    Long,
-    /// A line of more than 1,024 octets, which was passed over to the end of the input.
-    LongLast,
-    /// The end of the input.
-    End,
-    /// The line in which the first octet past the limit stands.
-    Limit,
-    /// A read failed.
-    Failed,
-}
-
-/// What one read gave.
-#[derive(Clone, Copy, PartialEq, Eq, Debug)]
-enum Fill {
-    More,
-    Over,
-    NotRead,
-}
-
-/// Moves the octets from one place up to another to the front.
-fn move_front(buf: &mut [u8], from: usize, to: usize)
-    requires ordered { from ≤ to }
-    requires within { to ≤ length buf.old }
-    ensures { take (to - from) buf.new ≡ slice_range buf.old from to }
-{
-    buf.copy_within(from..to, 0);
-}
-
-/// Reads octets, at most so many, behind those that are held at the front.
-fn read_behind<S: Source>(source: &mut S, buf: &mut [u8], held: usize, most: usize) -> Got
-    requires some { 0 < most }
-    requires room { held + most ≤ length buf.old }
-    ensures read { Gives (S.left source.old) (S.left source.new) (slice_range buf.new held (held + count_of result)) }
-    ensures held { take held buf.new ≡ take held buf.old }
-    ensures most { count_of result ≤ most }
-    ensures later { S.faults source.old ≤ S.faults source.new }
-    ensures cause { result ≡ Got.Failed → Rose (S.faults source.old) (S.faults source.new) }
-    ensures over { result ≡ Got.Got 0 → IsOver (S.left source.new) }
-    ensures ended { S.ended source.new ≡ (if is_end result then true else S.ended source.old) }
-{
-    source.read(&mut buf[held..held + most])
-}
-
-/// Moves the octets from one place up to another to the front, and reads more behind them, at most so many.
-fn refill<S: Source>(source: &mut S, buf: &mut [u8], from: usize, to: usize, most: usize) -> Got
-    requires ordered { from ≤ to }
-    requires within { to ≤ length buf.old }
-    requires some { 0 < most }
-    requires room { to - from + most ≤ length buf.old }
-    ensures read { (octets : List ℕ) × Gives (S.left source.old) (S.left source.new) octets × (length octets ≡ count_of result) × (take (to - from + count_of result) buf.new ≡ slice_range buf.old from to ++ octets) }
-    ensures most { count_of result ≤ most }
-    ensures later { S.faults source.old ≤ S.faults source.new }
-    ensures cause { result ≡ Got.Failed → Rose (S.faults source.old) (S.faults source.new) }
-    ensures over { result ≡ Got.Got 0 → IsOver (S.left source.new) }
-    ensures ended { S.ended source.new ≡ (if is_end result then true else S.ended source.old) }
-{
-    move_front(buf, from, to);
-    read_behind(source, buf, to - from, most)
-}
 
 /// What is given where a long line goes on to this.
 fn long_of(next: Next) -> Next
@@ -197,6 +131,7 @@ impl LineReader {
         requires line { NoFeed (take place self.old.held) }
         requires feed { self.old.held ≡ close (take place self.old.held) ++ drop (place + 1) self.old.held }
         requires before { self.old.limit < self.old.got → place + 1 < length self.old.held }
+        requires most { (self.old.got ≤ self.old.limit + 1) × (length self.old.held ≤ 65536) }
         ensures next { IsNext self.new self.old.held result }
         ensures same { (self.new.got ≡ self.old.got) × (self.new.limit ≡ self.old.limit) × (is_over result ≡ false) × (result ≢ Next.Failed) }
     {
@@ -233,9 +168,10 @@ impl LineReader {
         requires room { length self.old.held ≤ 1024 }
         requires within { self.old.got ≤ self.old.limit }
         ensures fills { (octets : List ℕ) × Gives (S.left source.old) (S.left source.new) octets × (self.new.held ≡ self.old.held ++ octets) × (self.new.got ≡ self.old.got + length octets) × IsFill result octets }
-        ensures limit { (self.new.limit ≡ self.old.limit) × (self.new.got ≤ self.new.limit + 1) }
+        ensures limit { (self.new.limit ≡ self.old.limit) × (self.new.got ≤ self.new.limit + 1) × (length self.new.held ≤ 65536) }
         ensures later { S.faults source.old ≤ S.faults source.new }
         ensures cause { result ≡ Fill.NotRead → Rose (S.faults source.old) (S.faults source.new) }
+        ensures still { result ≢ Fill.NotRead → S.faults source.new ≡ S.faults source.old }
         ensures over { result ≡ Fill.Over → IsOver (S.left source.new) }
         ensures ended { S.ended source.new ≡ (if meets_end result then true else S.ended source.old) }
     {
@@ -298,6 +234,7 @@ impl LineReader {
         ensures limit { (self.new.limit ≡ self.old.limit) × (self.new.got ≤ self.new.limit + 1) }
         ensures later { S.faults source.old ≤ S.faults source.new }
         ensures cause { result ≡ Some Next.Failed → Rose (S.faults source.old) (S.faults source.new) }
+        ensures still { MatchOption result (S.faults source.new ≡ S.faults source.old) (λ next. next ≢ Next.Failed → S.faults source.new ≡ S.faults source.old) }
         ensures over { IfSome result (λ next. is_over next ≡ true → IsOver (S.left source.new)) }
         ensures ended { MatchOption result (S.ended source.new ≡ false) (λ next. S.ended source.new ≡ is_over next) }
     {
@@ -323,6 +260,7 @@ impl LineReader {
         ensures limit { (self.new.limit ≡ self.old.limit) × (self.new.got ≤ self.new.limit + 1) }
         ensures later { S.faults source.old ≤ S.faults source.new }
         ensures cause { result ≡ Next.Failed → Rose (S.faults source.old) (S.faults source.new) }
+        ensures still { result ≢ Next.Failed → S.faults source.new ≡ S.faults source.old }
         ensures over { is_over result ≡ true → IsOver (S.left source.new) }
         ensures ended { S.ended source.new ≡ is_over result }
     {
@@ -335,6 +273,24 @@ impl LineReader {
         }
     }
 
+    /// Whether an octet is there that isn't used yet. Reads where none is held.
+    pub fn peek<S: Source>(&mut self, source: &mut S) -> Fill
+        requires open { S.ended source.old ≡ false }
+        ensures fills { (octets : List ℕ) × Gives (S.left source.old) (S.left source.new) octets × (self.new.held ≡ self.old.held ++ octets) × (self.new.got ≡ self.old.got + length octets) }
+        ensures there { IsFill result self.new.held }
+        ensures limit { (self.new.limit ≡ self.old.limit) × (self.new.got ≤ self.new.limit + 1) × (length self.new.held ≤ 65536) }
+        ensures later { S.faults source.old ≤ S.faults source.new }
+        ensures cause { result ≡ Fill.NotRead → Rose (S.faults source.old) (S.faults source.new) }
+        ensures still { result ≢ Fill.NotRead → S.faults source.new ≡ S.faults source.old }
+        ensures over { result ≡ Fill.Over → IsOver (S.left source.new) }
+        ensures ended { S.ended source.new ≡ meets_end result }
+    {
+        if self.at < self.end {
+            return Fill::More;
+        }
+        self.fill(source)
+    }
+
     /// The next line, which may need reads.
     pub fn next<S: Source>(&mut self, source: &mut S) -> Next
         requires open { S.ended source.old ≡ false }
@@ -342,6 +298,7 @@ impl LineReader {
         ensures limit { (self.new.limit ≡ self.old.limit) × (self.new.got ≤ self.new.limit + 1) }
         ensures later { S.faults source.old ≤ S.faults source.new }
         ensures cause { result ≡ Next.Failed → Rose (S.faults source.old) (S.faults source.new) }
+        ensures still { result ≢ Next.Failed → S.faults source.new ≡ S.faults source.old }
         ensures over { is_over result ≡ true → IsOver (S.left source.new) }
         ensures ended { S.ended source.new ≡ is_over result }
     {

@@ -1,4 +1,6 @@
 //! What no clause says: that the outcomes come.
+ghost use Rattle.std.specs.Prelude.{◌≡◌, ◌≤◌, length};
+
 use crate::cause::Cause;
 use crate::output::Output;
 use crate::treat::{Outcome, treat_all};
@@ -8,10 +10,10 @@ use std::alloc::{AllocError, Global};
 use tsp_io::memory::{MemorySink, MemorySource};
 use tsp_io::sink::Sink;
 
-/// Gives each line back; refuses the line `!`, a long line and an empty input, and passes a limit at `#`.
+/// Gives up to three lines back; refuses the line `!`, a long line and an empty input, and passes a limit at `#`.
 #[derive(Drop)]
 struct Echo {
-    seen: bool,
+    lines: u32,
 }
 
 impl Treatment for Echo {
@@ -19,11 +21,16 @@ impl Treatment for Echo {
       accepts = λ lines text. Unit {0};
       refuses = λ lines line cause. Unit {0};
       limits = λ lines line. Unit {0};
+      full = λ lines. 3 ≤ length lines;
       ends = λ lines more. Unit {0};
       lacks = λ lines cause. Unit {0};
     } };
 
-    ghost stands = { λ _ _. Unit {0} };
+    ghost stands = { λ echo lines. echo.lines ≡ length lines };
+
+    fn is_full(&self) -> bool {
+        self.lines >= 3
+    }
 
     fn treat<K: Sink>(
         &mut self,
@@ -35,7 +42,7 @@ impl Treatment for Echo {
             [b'!'] => Err(Stop::Bad(Cause::of(b"mark"))),
             [b'#'] => Err(Stop::Limit),
             _ => {
-                self.seen = true;
+                self.lines = self.lines.saturating_add(1);
                 let mut text = ArrayVec::<u8, 1025>::new();
                 let _ = text.try_extend_from_slice(line);
                 let _ = text.try_push(b'\n');
@@ -50,7 +57,7 @@ impl Treatment for Echo {
     }
 
     fn end<K: Sink>(&mut self, _output: &mut Output, _sink: &mut K) -> Result<(), Stop> {
-        if self.seen {
+        if self.lines > 0 {
             Ok(())
         } else {
             let mut words = ArrayVec::new();
@@ -76,7 +83,7 @@ fn comes(alloc: Global, row: &Row) -> Result<bool, AllocError> {
     let source = MemorySource::new(alloc, row.input, row.reads)?;
     let mut source = source.in_pieces(2);
     let mut sink = MemorySink::new(alloc, row.writes)?;
-    let mut echo = Echo { seen: false };
+    let mut echo = Echo { lines: 0 };
     let outcome = treat_all(
         alloc,
         u64::from(row.limit),
@@ -185,6 +192,40 @@ fn outcomes_come(rt: HostRuntime) {
     }
 }
 
+/// Where no line may follow, the first octet of another one passes a limit.
+#[test]
+fn full_treatments_take_no_octet(rt: HostRuntime) {
+    let rows = [
+        Row {
+            limit: 100,
+            input: b"a\nb\nc\n",
+            reads: &[],
+            writes: &[],
+            outcome: Outcome::Ok,
+            written: b"a\nb\nc\n",
+        },
+        Row {
+            limit: 100,
+            input: b"a\nb\nc\nd",
+            reads: &[],
+            writes: &[],
+            outcome: Outcome::Limit,
+            written: b"a\nb\nc\nlimit 4\n",
+        },
+        Row {
+            limit: 100,
+            input: b"a\nb\nc\nd",
+            reads: &[3],
+            writes: &[],
+            outcome: Outcome::ReadFault,
+            written: b"a\nb\nc\n",
+        },
+    ];
+    for row in &rows {
+        assert!(rt; comes(rt.alloc(), row) == Ok(true));
+    }
+}
+
 /// A line of 1,024 octets is accepted, and one of 1,025 is refused where it ends.
 #[test]
 fn long_lines_are_refused(rt: HostRuntime) -> Result<(), AllocError> {
@@ -194,7 +235,7 @@ fn long_lines_are_refused(rt: HostRuntime) -> Result<(), AllocError> {
         input.push(b'\n')?;
         let mut source = MemorySource::new(alloc, input.as_slice(), &[])?;
         let mut sink = MemorySink::new(alloc, &[])?;
-        let mut echo = Echo { seen: false };
+        let mut echo = Echo { lines: 0 };
         assert!(rt; treat_all(alloc, 2048, &mut source, &mut sink, &mut echo) == outcome);
     }
     Ok(())

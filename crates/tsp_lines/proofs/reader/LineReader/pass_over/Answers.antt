@@ -1,4 +1,4 @@
-use Rattle.std.proofs.Common.{arith, refl, [], append-nil}
+use Rattle.std.proofs.Common.{arith, refl, ◌∙◌, [], append-nil}
 use Rattle.tsp_lines.proofs.Streams.{Gives-nil}
 use Rattle.tsp_lines.proofs.Passes.{passed, passed_more}
 use Rattle.tsp_lines.proofs.reader.LineReader.pass_over.Goals as goal
@@ -18,7 +18,7 @@ loop-next-preserved g c =
       omega (arith, i.1, e.limit.0),
       p.3.2,
       e.ended,
-      omega (arith, i.4, e.later),
+      e.still ∙ i.4,
     )
 
 pub loop-next-init : goal.loop-next-init

@@ -1,14 +1,15 @@
-use Rattle.std.proofs.Common.{[], inl, refl}
+use Rattle.std.proofs.Common.{◌≤◌, [], inl, refl, length}
 use Rattle.tsp_lines.specs.Meanings.{Meaning}
 use Rattle.tsp_lines.proofs.Stops.{MatchResult-line}
 use Rattle.tsp_lines.proofs.tests.EchoTreatment.treat.Goals as goal
 
 pub returns-in_err-put-in_default-clause-treats : goal.returns-in_err-put-in_default-clause-treats
-returns-in_err-put-in_default-clause-treats g c = λ lines text s a.
+returns-in_err-put-in_default-clause-treats g c = λ lines text s a room.
     let m : Meaning = record {
       accepts = λ lines text. Unit {0};
       refuses = λ lines line cause. Unit {0};
       limits = λ lines line. Unit {0};
+      full = λ lines. 3 ≤ length lines;
       ends = λ lines more. Unit {0};
       lacks = λ lines cause. Unit {0};
     } in

@@ -1,0 +1,18 @@
+-- What clocks answer.
+use Rattle.std.specs.Prelude.{◌≡◌, ℕ, ◌^◌, Bool, true, ◌&&◌, nat_le, List, [], ◌∷◌, None, Some, Option, ℤ, pos, negsuc, ◌≤ℤ◌}
+
+-- the answer is the next reading, and the last one again once they are used up; what isn't told before isn't told after
+abbrev pub TakesReading : Option (List ℕ) → Option (List ℕ) → ℕ → ℕ → Type 0
+TakesReading None rest last tick = rest ≡ None
+TakesReading (Some []) rest last tick = (rest ≡ Some []) × (tick ≡ last)
+TakesReading (Some (x ∷ xs)) rest last tick = (rest ≡ Some xs) × (tick ≡ x)
+
+-- whether readings never fall, from this one on, and are at most 2 ^ 61
+abbrev pub climbs : ℕ → List ℕ → Bool
+climbs last [] = true
+climbs last (x ∷ xs) = nat_le last x && (nat_le x (2 ^ 61) && climbs x xs)
+
+-- a wall clock's time in microseconds, from -2 ^ 62 to 2 ^ 62
+pub record IsWall (x : ℤ) : Type 0 where
+  pub low : negsuc 4611686018427387903 ≤ℤ x
+  pub high : x ≤ℤ pos 4611686018427387904

@@ -1,0 +1,49 @@
+-- What a link receives and sends.
+use Rattle.std.specs.Prelude.{◌≡◌, ℕ, ◌≤◌, List, [], ◌∷◌, ◌++◌, take, Bool, true, false, None, Some, Option}
+use Rattle.std.specs.Option.{option_map}
+use Rattle.tsp_base.specs.declared.place.Place.{Place}
+use Rattle.tsp_base.specs.declared.place.Place.TheVariants.{Peer, Stranger}
+use Rattle.tsp_io.specs.declared.link.Recv.{Recv}
+use Rattle.tsp_io.specs.declared.link.Recv.TheVariants.{Datagram, Nothing, Failed}
+use Rattle.tsp_io.specs.declared.link.Sent.{Sent}
+use Rattle.tsp_io.specs.declared.link.Sent.TheVariants.{Sent as Went, Failed as Lost, OutOfMemory}
+
+-- what comes within a wait: a datagram with its sender, or nothing
+abbrev pub Arrival : Type 0
+Arrival = Option (Place × List ℕ)
+
+-- a send that was tried: to whom, and the octets
+abbrev pub Tried : Type 0
+Tried = Place × List ℕ
+
+-- whether a datagram came from an address that is no peer's
+abbrev pub is_stranger : Place → Bool
+is_stranger Stranger = true
+is_stranger (Peer p) = false
+
+-- these octets are the next arrival's, cut to 512, and it came from there; what isn't told before isn't told after
+abbrev pub TakesDatagram : Option (List Arrival) → Option (List Arrival) → Place → List ℕ → Type 0
+TakesDatagram None rest from octets = rest ≡ None
+TakesDatagram (Some left) rest from octets = (whole : List ℕ) × (after : List Arrival) × (left ≡ Some (from, whole) ∷ after) × (rest ≡ Some after) × (octets ≡ take 512 whole)
+
+-- the next arrival is nothing, or none is left; what isn't told before isn't told after
+abbrev pub TakesNothing : Option (List Arrival) → Option (List Arrival) → Type 0
+TakesNothing None rest = rest ≡ None
+TakesNothing (Some []) rest = rest ≡ Some []
+TakesNothing (Some (a ∷ after)) rest = (a ≡ None) × (rest ≡ Some after)
+
+-- what a receive gives, and whether the last datagram that came was a stranger's
+abbrev pub Receives : Option (List Arrival) → Option (List Arrival) → Bool → Bool → Recv → List ℕ → Type 0
+Receives left rest stranger now_stranger (Datagram from count) buf = (count ≤ 512) × TakesDatagram left rest from (take count buf) × (now_stranger ≡ is_stranger from)
+Receives left rest stranger now_stranger Nothing buf = TakesNothing left rest × (now_stranger ≡ stranger)
+Receives left rest stranger now_stranger Failed buf = (rest ≡ left) × (now_stranger ≡ stranger)
+
+-- one send more was tried; what isn't told before isn't told after
+abbrev pub Adds : Option (List Tried) → Option (List Tried) → Tried → Type 0
+Adds tried more t = more ≡ option_map (λ ts. ts ++ t ∷ []) tried
+
+-- what a send does to the list of tried sends: a lost datagram was tried too
+abbrev pub Sends : Option (List Tried) → Option (List Tried) → Sent → Tried → Type 0
+Sends tried more Went t = Adds tried more t
+Sends tried more Lost t = Adds tried more t
+Sends tried more OutOfMemory t = more ≡ tried

@@ -1,0 +1,15 @@
+-- What a link in memory holds.
+use Rattle.std.specs.Prelude.{Some, None}
+use Rattle.tsp_io.specs.Links.{Arrival, Tried}
+use Rattle.tsp_io.specs.declared.arrivals.Coming.{Coming}
+use Rattle.tsp_io.specs.declared.arrivals.Coming.TheVariants.{Datagram, Nothing}
+use Rattle.tsp_io.specs.declared.tried_sends.TriedSend.{TriedSend}
+
+-- what comes, without where it lies in memory
+abbrev pub arrival_of : Coming → Arrival
+arrival_of (Datagram from octets) = Some (from, octets.items)
+arrival_of Nothing = None
+
+-- a send that was tried, without where it lies in memory
+abbrev pub tried_of : TriedSend → Tried
+tried_of t = (t.to, t.octets.items)

@@ -1,0 +1,91 @@
+//! The machine's clocks.
+ghost use Rattle.std.specs.Prelude.{◌≡◌, ◌≤◌, ◌^◌, None};
+
+use crate::ticker::Ticker;
+use std::rt::Clock;
+use std::time::{Instant, SystemTime};
+
+/// The last tick: 2^61 microseconds, some 73,000 years.
+const LAST_TICK: u64 = 1 << 61;
+
+/// The last time of the wall clock: 2^62 microseconds.
+const LAST_WALL: u64 = 1 << 62;
+
+/// The machine's monotonic clock as a tick counter, and its wall clock. They tell nothing of what they will answer.
+///
+/// The counter begins at 0 with its first reading. The wall clock is read once; that reading is the word too. Where
+/// the machine gives no reading, the counter answers its last one, and wall and word are 0.
+#[derive(Drop)]
+pub struct MachineTicker<R> {
+    rt: R,
+    start: Option<Instant>,
+    wall: Option<u64>,
+    last: u64,
+    ghost bounded: { last ≤ 2 ^ 61 },
+}
+
+impl<R: Clock> MachineTicker<R> {
+    /// Clocks that weren't read yet.
+    pub fn new(rt: R) -> MachineTicker<R>
+        ensures { (result.start ≡ None) × (result.wall ≡ None) × (result.last ≡ 0) }
+    {
+        MachineTicker {
+            rt,
+            start: None,
+            wall: None,
+            last: 0,
+        }
+    }
+}
+
+/// The microseconds since the first reading.
+fn since_start(rt: &impl Clock, start: &mut Option<Instant>) -> Option<u64> {
+    let now = Instant::now(rt).ok()?;
+    let start = *start.get_or_insert(now);
+    let passed = now.checked_duration_since(start)?;
+    u64::try_from(passed.as_micros()).ok()
+}
+
+/// The wall clock in microseconds since 1970.
+fn wall_now(rt: &impl Clock) -> Option<u64> {
+    let now = SystemTime::now(rt).ok()?;
+    let since = now.duration_since(SystemTime::UNIX_EPOCH).ok()?;
+    u64::try_from(since.as_micros()).ok()
+}
+
+/// The wall clock as it was at the first call.
+fn wall_once(rt: &impl Clock, wall: &mut Option<u64>) -> u64
+    ensures { result ≤ 2 ^ 62 }
+{
+    let read = match *wall {
+        Some(read) => read,
+        None => wall_now(rt).unwrap_or(0),
+    };
+    *wall = Some(read);
+    read.min(LAST_WALL)
+}
+
+impl<R: Clock> Ticker for MachineTicker<R> {
+    ghost readings = { λ _. None };
+
+    ghost wall_is = { λ _. None };
+
+    ghost word_is = { λ _. None };
+
+    ghost last = { λ s. s.last };
+
+    fn tick(&mut self) -> u64 {
+        let passed = since_start(&self.rt, &mut self.start).unwrap_or(self.last);
+        let tick = passed.max(self.last).min(LAST_TICK);
+        self.last = tick;
+        tick
+    }
+
+    fn wall(&mut self) -> i64 {
+        wall_once(&self.rt, &mut self.wall) as i64
+    }
+
+    fn word(&mut self) -> u64 {
+        wall_once(&self.rt, &mut self.wall)
+    }
+}

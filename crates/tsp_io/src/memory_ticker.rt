@@ -1,0 +1,78 @@
+//! A tick counter in memory.
+ghost use Rattle.std.specs.Prelude.{◌≡◌, ℕ, ◌≤◌, ◌<◌, ◌^◌, length, true, drop, IfOk, Some, vec_len};
+ghost use Rattle.tsp_io.specs.Clocks.{climbs, IsWall};
+
+use crate::ticker::Ticker;
+use std::alloc::{AllocError, Global};
+
+/// The readings to come, and what the wall clock and the word are.
+#[derive(Drop)]
+pub struct MemoryTicker {
+    ticks: Vec<u64>,
+    at: usize,
+    wall: i64,
+    word: u64,
+    last: u64,
+    ghost within: { at ≤ vec_len ticks },
+    ghost climbs: { climbs last (drop at ticks.items) ≡ true },
+    ghost last_small: { last ≤ 2 ^ 61 },
+    ghost wall_range: { IsWall wall },
+}
+
+impl MemoryTicker {
+    /// A counter that gives these readings, and then the last one again and again.
+    pub fn new(
+        alloc: Global,
+        ticks: &[u64],
+        wall: i64,
+        word: u64,
+    ) -> Result<MemoryTicker, AllocError>
+        requires some { 0 < length ticks.now }
+        requires climbs { climbs 0 ticks.now ≡ true }
+        requires wall { IsWall wall }
+        ensures readings { IfOk result (λ s. drop s.at s.ticks.items ≡ ticks.now) }
+        ensures rest { IfOk result (λ s. (s.wall ≡ wall) × (s.word ≡ word) × (s.last ≡ 0)) }
+    {
+        Ok(MemoryTicker {
+            ticks: Vec::from_slice(alloc, ticks)?,
+            at: 0,
+            wall,
+            word,
+            last: 0,
+        })
+    }
+
+    /// How many readings weren't used yet.
+    pub fn left(&self) -> usize
+        ensures { result ≡ length (drop self.now.at self.now.ticks.items) }
+    {
+        self.ticks.len() - self.at
+    }
+}
+
+impl Ticker for MemoryTicker {
+    ghost readings = { λ s. Some (drop s.at s.ticks.items) };
+
+    ghost wall_is = { λ s. Some s.wall };
+
+    ghost word_is = { λ s. Some s.word };
+
+    ghost last = { λ s. s.last };
+
+    fn tick(&mut self) -> u64 {
+        if self.at < self.ticks.len() {
+            let at = self.at;
+            self.at += 1;
+            self.last = self.ticks[at];
+        }
+        self.last
+    }
+
+    fn wall(&mut self) -> i64 {
+        self.wall
+    }
+
+    fn word(&mut self) -> u64 {
+        self.word
+    }
+}

@@ -1,0 +1,90 @@
+//! A UDP socket that waits so long for a datagram as it is told.
+ghost use Rattle.std.specs.Prelude.{◌≡◌, ◌≤◌, length, IfOk, IfSome};
+
+use crate::addr::Addr;
+use std::io;
+use std::io::ErrorKind;
+use std::net::{IpAddr, Ipv4Addr, Net, SocketAddr, UdpSocket};
+use std::time::Duration;
+
+/// A bound socket, and the wait in microseconds that the system knows of it; 0 where it waits for ever.
+#[derive(Drop)]
+pub(crate) struct Socket {
+    udp: UdpSocket,
+    wait: u64,
+}
+
+impl Socket {
+    /// A socket at this address.
+    pub(crate) fn bind(rt: &impl Net, local: Addr) -> io::Result<Socket> {
+        let udp = UdpSocket::bind(rt, socket_addr(local))?;
+        Ok(Socket { udp, wait: 0 })
+    }
+
+    /// Tells the system how long receives wait, at least a microsecond.
+    fn set_wait(&mut self, wait: u64) -> io::Result<()> {
+        let wait = wait.max(1);
+        if wait != self.wait {
+            self.udp
+                .set_read_timeout(Some(Duration::from_micros(wait)))?;
+            self.wait = wait;
+        }
+        Ok(())
+    }
+
+    /// A datagram with its sender; none where none came within the wait.
+    pub(crate) fn receive(
+        &mut self,
+        buf: &mut [u8],
+        wait: u64,
+    ) -> io::Result<Option<(usize, SocketAddr)>>
+        requires { length buf.old ≡ 512 }
+        ensures { IfOk result (λ got. IfSome got (λ g. g.0 ≤ 512)) }
+    {
+        self.set_wait(wait)?;
+        match self.udp.recv_from(buf) {
+            Ok((count, from)) => Ok(Some((count, from))),
+            Err(error) if is_no_datagram(error.kind()) => Ok(None),
+            Err(error) => Err(error),
+        }
+    }
+
+    /// Sends a datagram, and says whether the system took it whole.
+    pub(crate) fn send(&self, octets: &[u8], to: SocketAddr) -> bool {
+        match self.udp.send_to(octets, to) {
+            Ok(count) => count == octets.len(),
+            Err(_) => false,
+        }
+    }
+}
+
+/// Whether a receive that ends so has only had no datagram: the wait was over, a signal came, or the network told
+/// that an earlier datagram of this socket couldn't be delivered.
+fn is_no_datagram(kind: ErrorKind) -> bool {
+    matches!(
+        kind,
+        ErrorKind::WouldBlock
+            | ErrorKind::TimedOut
+            | ErrorKind::Interrupted
+            | ErrorKind::ConnectionRefused
+            | ErrorKind::ConnectionReset
+            | ErrorKind::HostUnreachable
+            | ErrorKind::NetworkUnreachable
+    )
+}
+
+/// The address as the standard library has it.
+pub(crate) fn socket_addr(addr: Addr) -> SocketAddr {
+    SocketAddr::new(IpAddr::V4(Ipv4Addr::from_octets(addr.ip)), addr.port)
+}
+
+/// The address, where it is an IPv4 one.
+pub(crate) fn addr_of(from: SocketAddr) -> Option<Addr> {
+    match from.ip() {
+        IpAddr::V4(ip) => Some(Addr {
+            ip: ip.octets(),
+            port: from.port(),
+        }),
+        IpAddr::V6(_) => None,
+    }
+}

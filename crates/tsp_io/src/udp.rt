@@ -1,0 +1,130 @@
+//! A link over a UDP socket.
+ghost use Rattle.std.specs.Prelude.{◌≡◌, ℕ, false, [], None};
+
+use crate::addr::Addr;
+use crate::link::{Bound, Link, Recv, Sent};
+use crate::socket::{Socket, addr_of, socket_addr};
+use std::alloc::Global;
+use std::net::{Net, SocketAddr};
+use tsp_base::place::{PeerId, Place};
+
+/// A UDP socket and the addresses of its peers. It tells neither what comes nor what was sent.
+///
+/// A receive that only reports that an earlier datagram couldn't be delivered is `Nothing`, and no fault: a peer whose
+/// port is closed doesn't end a daemon.
+#[derive(Drop)]
+pub struct UdpLink<R> {
+    rt: R,
+    alloc: Global,
+    socket: Option<Socket>,
+    peers: Vec<Addr>,
+    last: Option<SocketAddr>,
+    stranger: bool,
+    faults: u64,
+    send_faults: u64,
+}
+
+impl<R: Net> UdpLink<R> {
+    /// A link that isn't bound yet: until it is, each receive and each send fails.
+    pub fn new(rt: R, alloc: Global) -> UdpLink<R>
+        ensures { (result.socket ≡ None) × (result.peers.items ≡ []) × (result.last ≡ None) × (result.stranger ≡ false) × (result.faults ≡ 0) × (result.send_faults ≡ 0) }
+    {
+        UdpLink {
+            rt,
+            alloc,
+            socket: None,
+            peers: Vec::new(alloc),
+            last: None,
+            stranger: false,
+            faults: 0,
+            send_faults: 0,
+        }
+    }
+
+    /// The address that a place stands for.
+    fn addr_at(&self, place: Place) -> Option<SocketAddr> {
+        match place {
+            Place::Peer(PeerId(number)) => {
+                let peer = self.peers.get(number as usize)?;
+                Some(socket_addr(*peer))
+            }
+            Place::Stranger => self.last,
+        }
+    }
+}
+
+/// Whose address it is: the first peer's that has it, or nobody's.
+fn place_of(peers: &[Addr], from: SocketAddr) -> Place {
+    let number = match addr_of(from) {
+        Some(addr) => peers.iter().position(|peer| *peer == addr),
+        None => None,
+    };
+    match number.map(u32::try_from) {
+        Some(Ok(number)) => Place::Peer(PeerId(number)),
+        _ => Place::Stranger,
+    }
+}
+
+impl<R: Net> Link for UdpLink<R> {
+    ghost arrivals = { λ _. None };
+
+    ghost tried = { λ _. None };
+
+    ghost calls = { λ _. None };
+
+    ghost stranger = { λ s. s.stranger };
+
+    ghost faults = { λ s. s.faults };
+
+    ghost send_faults = { λ s. s.send_faults };
+
+    fn bind(&mut self, local: Addr, peers: &[Addr]) -> Bound {
+        let Ok(peers) = Vec::from_slice(self.alloc, peers) else {
+            return Bound::OutOfMemory;
+        };
+        match Socket::bind(&self.rt, local) {
+            Ok(socket) => {
+                self.socket = Some(socket);
+                self.peers = peers;
+                Bound::Bound
+            }
+            Err(_) => {
+                self.faults = self.faults.saturating_add(1);
+                Bound::Failed
+            }
+        }
+    }
+
+    fn recv(&mut self, buf: &mut [u8], wait: u64) -> Recv {
+        let received = match &mut self.socket {
+            Some(socket) => socket.receive(buf, wait).ok(),
+            None => None,
+        };
+        match received {
+            Some(Some((count, from))) => {
+                let place = place_of(self.peers.as_slice(), from);
+                self.stranger = place == Place::Stranger;
+                self.last = Some(from);
+                Recv::Datagram(place, count)
+            }
+            Some(None) => Recv::Nothing,
+            None => {
+                self.faults = self.faults.saturating_add(1);
+                Recv::Failed
+            }
+        }
+    }
+
+    fn send(&mut self, to: Place, octets: &[u8]) -> Sent {
+        let went = match (&self.socket, self.addr_at(to)) {
+            (Some(socket), Some(addr)) => socket.send(octets, addr),
+            _ => false,
+        };
+        if went {
+            Sent::Sent
+        } else {
+            self.send_faults = self.send_faults.saturating_add(1);
+            Sent::Failed
+        }
+    }
+}

@@ -1,0 +1,61 @@
+use Rattle.std.proofs.Common.{[], inl, refl, ap, ◌∙◌, Ok, Err, arith, length}
+use Rattle.tsp_lines.specs.declared.treat.Outcome.TheVariants.{WriteFault, OutOfMemory}
+use Rattle.tsp_lines.specs.Outcomes.{limit_line}
+use Rattle.tsp_lines.specs.Turns.{only_limited, end_sayings}
+use Rattle.tsp_lines.proofs.KeepingUp.{KeepsUp-grew, KeepsUp-peek, Ends-grew}
+use Rattle.tsp_lines.proofs.Turns.{After-next, Comes-unflushed, Turn-full, Turn-end, Turn-failed}
+use Rattle.tsp_lines.proofs.progress.Progress.close.Goals as goal
+
+pub returns-in-Ok-More-clause-closes : goal.returns-in-Ok-More-clause-closes
+returns-in-Ok-More-clause-closes g c = λ input written lines text at.
+    let f = c.in-Ok-More.ensures.fills in
+    let some = rw (c.in-Ok-More.field-0-is, f.0.2) at f.1 in
+    let a = After-next _ _ _ _ _ _ _ _ _ c.peek.new.self.reader _ c.peek.new.self.output _ c.peek.new.self.number lines text f.0.0 at f.0.1 f.0.3 c.peek.ensures.hands c.peek.ensures.same.0 c.peek.ensures.same.1 in
+    Turn-full _ _ _ _ _ _ _ c.peek.new.self.reader _ _ lines text _ a _ c.refuse_past.result (c.requires.full lines at.stands) some c.refuse_past.ensures.ends
+
+pub returns-in-Ok-Over-clause-closes : goal.returns-in-Ok-Over-clause-closes
+returns-in-Ok-Over-clause-closes g c = λ input written lines text at.
+    let f = c.in-Ok-Over.ensures.fills in
+    let none = rw (c.in-Ok-Over.field-0-is, f.0.2) at f.1 in
+    let a = After-next _ _ _ _ _ _ _ _ _ c.peek.new.self.reader _ c.peek.new.self.output _ c.peek.new.self.number lines text f.0.0 at f.0.1 f.0.3 c.peek.ensures.hands c.peek.ensures.same.0 c.peek.ensures.same.1 in
+    Turn-end _ _ _ _ _ _ _ c.peek.new.self.reader _ _ lines text _ a _ c.finish.result none (c.peek.ensures.over (c.in-Ok-Over.is ∙ ap Ok c.in-Ok-Over.field-0-is)) (c.finish.ensures.ends lines text at.stands at.accepted)
+
+pub returns-in-Ok-NotRead-clause-closes : goal.returns-in-Ok-NotRead-clause-closes
+returns-in-Ok-NotRead-clause-closes g c = λ input written lines text at.
+    let f = c.in-Ok-NotRead.ensures.fills in
+    let none = rw (c.in-Ok-NotRead.field-0-is, f.0.2) at f.1 in
+    let a = After-next _ _ _ _ _ _ _ _ _ c.peek.new.self.reader _ c.peek.new.self.output _ c.peek.new.self.number lines text f.0.0 at f.0.1 f.0.3 c.peek.ensures.hands c.peek.ensures.same.0 c.peek.ensures.same.1 in
+    Turn-failed _ _ _ _ _ _ _ c.peek.new.self.reader _ _ lines text _ a (rw none (λ k. omega (arith, k.1))) (omega (arith, a.within, a.bound, ap length none)) (λ full. none) c.in-Ok-NotRead.ensures.flushed
+
+pub returns-in-Err-WriteFault-clause-closes : goal.returns-in-Err-WriteFault-clause-closes
+returns-in-Err-WriteFault-clause-closes g c = λ input written lines text at.
+    Comes-unflushed _ _ input _ (g.S.Source.left c.peek.new.source) written _ _ _ _ c.peek.new.self.output _ lines text WriteFault at
+    (c.peek.new.self.output, (c.peek.ensures.write (c.in-Err-WriteFault.is ∙ ap Err c.in-Err-WriteFault.field-0-is)).1, ([], c.peek.ensures.hands, inl refl))
+
+pub returns-in-Err-OutOfMemory-clause-closes : goal.returns-in-Err-OutOfMemory-clause-closes
+returns-in-Err-OutOfMemory-clause-closes g c = λ input written lines text at.
+    Comes-unflushed _ _ input _ (g.S.Source.left c.peek.new.source) written _ _ _ _ c.peek.new.self.output _ lines text OutOfMemory at
+    (c.peek.new.self.output, ([], c.peek.ensures.hands, inl refl))
+
+pub returns-in-Ok-More-clause-keeps_up : goal.returns-in-Ok-More-clause-keeps_up
+returns-in-Ok-More-clause-keeps_up g c = λ input written lines text at kept.
+    let f = c.in-Ok-More.ensures.fills in
+    KeepsUp-grew g.T.Treatment.meaning _ _ _ _ (g.K.Sink.written c.peek.new.sink) _ (KeepsUp-peek g.T.Treatment.meaning _ _ _ _ _ _ (g.K.Sink.written c.peek.new.sink) c.args.self.now.reader c.peek.new.self.reader _ c.peek.new.self.output _ lines text f.0.0 at f.0.1 f.0.2 f.0.3 c.peek.ensures.hands (omega (arith, c.in-Ok-More.ensures.fits.0, c.peek.ensures.same.1)) c.in-Ok-More.ensures.fits.1 c.in-Ok-More.ensures.flushed) (Ends-grew (only_limited (limit_line c.peek.new.self.number)) _ _ _ _ c.refuse_past.ensures.ends)
+
+pub returns-in-Ok-Over-clause-keeps_up : goal.returns-in-Ok-Over-clause-keeps_up
+returns-in-Ok-Over-clause-keeps_up g c = λ input written lines text at kept.
+    let f = c.in-Ok-Over.ensures.fills in
+    KeepsUp-grew g.T.Treatment.meaning _ _ _ _ (g.K.Sink.written c.peek.new.sink) _ (KeepsUp-peek g.T.Treatment.meaning _ _ _ _ _ _ (g.K.Sink.written c.peek.new.sink) c.args.self.now.reader c.peek.new.self.reader _ c.peek.new.self.output _ lines text f.0.0 at f.0.1 f.0.2 f.0.3 c.peek.ensures.hands (omega (arith, c.in-Ok-Over.ensures.fits.0, c.peek.ensures.same.1)) c.in-Ok-Over.ensures.fits.1 c.in-Ok-Over.ensures.flushed) (Ends-grew (end_sayings g.T.Treatment.meaning lines c.peek.new.self.number) _ _ _ _ (c.finish.ensures.ends lines text at.stands at.accepted))
+
+pub returns-in-Ok-NotRead-clause-keeps_up : goal.returns-in-Ok-NotRead-clause-keeps_up
+returns-in-Ok-NotRead-clause-keeps_up g c = λ input written lines text at kept.
+    let f = c.in-Ok-NotRead.ensures.fills in
+    KeepsUp-peek g.T.Treatment.meaning _ _ _ _ _ _ (g.K.Sink.written c.peek.new.sink) c.args.self.now.reader c.peek.new.self.reader _ c.peek.new.self.output _ lines text f.0.0 at f.0.1 f.0.2 f.0.3 c.peek.ensures.hands (omega (arith, c.in-Ok-NotRead.ensures.fits.0, c.peek.ensures.same.1)) c.in-Ok-NotRead.ensures.fits.1 c.in-Ok-NotRead.ensures.flushed
+
+pub returns-in-Err-WriteFault-clause-keeps_up : goal.returns-in-Err-WriteFault-clause-keeps_up
+returns-in-Err-WriteFault-clause-keeps_up g c = λ input written lines text at kept.
+    rw (ap g.S.Source.left c.in-Err-WriteFault.ensures.kept) (KeepsUp-grew g.T.Treatment.meaning _ _ _ _ _ _ kept (c.peek.ensures.hands.0, c.peek.ensures.hands.1))
+
+pub returns-in-Err-OutOfMemory-clause-keeps_up : goal.returns-in-Err-OutOfMemory-clause-keeps_up
+returns-in-Err-OutOfMemory-clause-keeps_up g c = λ input written lines text at kept.
+    rw (ap g.S.Source.left c.in-Err-OutOfMemory.ensures.kept) (KeepsUp-grew g.T.Treatment.meaning _ _ _ _ _ _ kept (c.peek.ensures.hands.0, c.peek.ensures.hands.1))

@@ -1,0 +1,298 @@
+//! How far a treatment has come, and how it ends.
+ghost use Rattle.std.specs.Prelude.{◌≡◌, ◌≢◌, ℕ, List, ◌≤◌, ◌<◌, ◌+◌, ◌-◌, ◌^◌, [], ◌++◌, ◌⊎◌, length, take, true, false, IfOk, IfErr, OnOk, OnErr, IfSome, MatchOption, MatchResult};
+ghost use Rattle.std.specs.declared.option.Option.{Option};
+ghost use Rattle.tsp_io.specs.Counts.{Rose};
+ghost use Rattle.tsp_io.specs.Streams.{Gives};
+ghost use Rattle.tsp_lines.specs.Lines.{NoFeed, IsOver};
+ghost use Rattle.tsp_lines.specs.Meanings.{Breaks, Goes};
+ghost use Rattle.tsp_lines.specs.Outputs.{Hands};
+ghost use Rattle.tsp_lines.specs.Outcomes.{bad_line, limit_line, Comes, KeepsUp};
+ghost use Rattle.tsp_lines.specs.Readings.{IsNext, IsFill, is_over, meets_end};
+ghost use Rattle.tsp_lines.specs.Turns.{only_bad, only_limited, line_sayings, end_sayings, Ends, Stopped, IsAt};
+
+use crate::next::{Fill, Next};
+use crate::output::{Output, Unwritten};
+use crate::reader::LineReader;
+use crate::refusal::{bad_line, limit_line};
+use crate::treat::Outcome;
+use crate::treatment::{Stop, Treatment};
+use tsp_io::sink::Sink;
+use tsp_io::source::Source;
+
+/// Hands words over and writes all that is held.
+fn say<K: Sink>(output: &mut Output, sink: &mut K, words: &[u8]) -> Result<(), Unwritten>
+    requires { length words.now ≤ 65536 }
+    ensures ok { OnOk result (Hands (K.written sink.old) output.old (K.written sink.new) [] words.now) }
+    ensures err { OnErr result (Breaks (λ w. w ≡ words.now) (K.written sink.old) output.old (K.written sink.new) output.new) }
+    ensures later { K.faults sink.old ≤ K.faults sink.new }
+    ensures cause { result ≡ Err Unwritten.WriteFault → Rose (K.faults sink.old) (K.faults sink.new) × (0 < length output.new) }
+    ensures still { result ≢ Err Unwritten.WriteFault → K.faults sink.new ≡ K.faults sink.old }
+{
+    output.put(sink, words)?;
+    output.flush(sink)
+}
+
+/// Says that the input is refused.
+fn refuse<K: Sink>(output: &mut Output, sink: &mut K, words: &[u8]) -> Outcome
+    requires { length words.now ≤ 65536 }
+    ensures ends { Ends (only_bad words.now) (K.written sink.old) output.old (K.written sink.new) result }
+    ensures later { K.faults sink.old ≤ K.faults sink.new }
+    ensures cause { result ≡ Outcome.WriteFault → Rose (K.faults sink.old) (K.faults sink.new) }
+    ensures still { result ≢ Outcome.WriteFault → K.faults sink.new ≡ K.faults sink.old }
+    ensures kind { (result ≢ Outcome.ReadFault) × (result ≢ Outcome.Ok) }
+{
+    match say(output, sink, words) {
+        Ok(()) => Outcome::Bad,
+        Err(Unwritten::WriteFault) => Outcome::WriteFault,
+        Err(Unwritten::OutOfMemory) => Outcome::OutOfMemory,
+    }
+}
+
+/// Says that a limit is passed.
+fn refuse_limit<K: Sink>(output: &mut Output, sink: &mut K, words: &[u8]) -> Outcome
+    requires { length words.now ≤ 65536 }
+    ensures ends { Ends (only_limited words.now) (K.written sink.old) output.old (K.written sink.new) result }
+    ensures later { K.faults sink.old ≤ K.faults sink.new }
+    ensures cause { result ≡ Outcome.WriteFault → Rose (K.faults sink.old) (K.faults sink.new) }
+    ensures still { result ≢ Outcome.WriteFault → K.faults sink.new ≡ K.faults sink.old }
+    ensures kind { (result ≢ Outcome.ReadFault) × (result ≢ Outcome.Ok) }
+{
+    match say(output, sink, words) {
+        Ok(()) => Outcome::Limit,
+        Err(Unwritten::WriteFault) => Outcome::WriteFault,
+        Err(Unwritten::OutOfMemory) => Outcome::OutOfMemory,
+    }
+}
+
+/// How far a treatment has come: what was read, what is to be written, and the next line's number, from 1 on.
+#[derive(Drop)]
+pub(crate) struct Progress {
+    reader: LineReader,
+    output: Output,
+    number: u64,
+}
+
+impl Progress {
+    /// Nothing was read yet.
+    pub(crate) fn new(reader: LineReader, output: Output) -> Progress
+        ensures { (result.reader ≡ reader) × (result.output ≡ output) × (result.number ≡ 1) }
+    {
+        Progress {
+            reader,
+            output,
+            number: 1,
+        }
+    }
+
+    /// The next line. What is held is written before more of the input is read.
+    fn next<S: Source, K: Sink>(&mut self, source: &mut S, sink: &mut K) -> Result<Next, Unwritten>
+        requires open { S.ended source.old ≡ false }
+        ensures next { IfOk result (λ next. (octets : List ℕ) × Gives (S.left source.old) (S.left source.new) octets × (self.new.reader.got ≡ self.old.reader.got + length octets) × IsNext self.new.reader (self.old.reader.held ++ octets) next) }
+        ensures hands { Hands (K.written sink.old) self.old.output (K.written sink.new) self.new.output [] }
+        ensures flushed { (source.new ≡ source.old) ⊎ (self.new.output ≡ []) }
+        ensures kept { IfErr result (λ _. source.new ≡ source.old) }
+        ensures failed { result ≡ Ok Next.Failed → self.new.output ≡ [] }
+        ensures same { (self.new.number ≡ self.old.number) × (self.new.reader.limit ≡ self.old.reader.limit) × (self.new.reader.got ≤ self.new.reader.limit + 1) }
+        ensures later { (S.faults source.old ≤ S.faults source.new) × (K.faults sink.old ≤ K.faults sink.new) }
+        ensures read { result ≡ Ok Next.Failed → Rose (S.faults source.old) (S.faults source.new) }
+        ensures write { result ≡ Err Unwritten.WriteFault → Rose (K.faults sink.old) (K.faults sink.new) × (0 < length self.new.output) }
+        ensures still { (result ≢ Ok Next.Failed → S.faults source.new ≡ S.faults source.old) × (result ≢ Err Unwritten.WriteFault → K.faults sink.new ≡ K.faults sink.old) }
+        ensures over { IfOk result (λ next. is_over next ≡ true → IsOver (S.left source.new)) }
+        ensures ended { IfOk result (λ next. S.ended source.new ≡ is_over next) }
+    {
+        if let Some(next) = self.reader.next_held() {
+            return Ok(next);
+        }
+        self.output.flush(sink)?;
+        Ok(self.reader.next(source))
+    }
+
+    /// Says what stopped the treatment.
+    fn stop<K: Sink>(&mut self, sink: &mut K, stop: Stop) -> Outcome
+        ensures stops { Stopped self.old.number (K.written sink.old) self.old.output (K.written sink.new) self.new.output stop result }
+        ensures later { K.faults sink.old ≤ K.faults sink.new }
+        ensures cause { result ≡ Outcome.WriteFault → Rose (K.faults sink.old) (K.faults sink.new) ⊎ (stop ≡ Stop.WriteFault) }
+        ensures still { result ≢ Outcome.WriteFault → K.faults sink.new ≡ K.faults sink.old }
+        ensures kind { (result ≢ Outcome.ReadFault) × (result ≢ Outcome.Ok) }
+        ensures same { (self.new.reader ≡ self.old.reader) × (self.new.number ≡ self.old.number) }
+    {
+        match stop {
+            Stop::Bad(cause) => {
+                let words = bad_line(self.number, cause.words());
+                refuse(&mut self.output, sink, words.as_slice())
+            }
+            Stop::Limit => {
+                let words = limit_line(self.number);
+                refuse_limit(&mut self.output, sink, words.as_slice())
+            }
+            Stop::WriteFault => Outcome::WriteFault,
+            Stop::OutOfMemory => Outcome::OutOfMemory,
+        }
+    }
+
+    /// Treats the line last read; none where it is accepted.
+    fn treat<K: Sink, T: Treatment>(&mut self, sink: &mut K, treatment: &mut T) -> Option<Outcome>
+        requires short { length self.old.reader.line ≤ 1024 }
+        requires feedless { NoFeed self.old.reader.line }
+        requires counted { self.old.number < 2 ^ 64 - 1 }
+        ensures treats { (lines : List (List ℕ)) → (text : List ℕ) → T.stands treatment.old lines → T.meaning.accepts lines text → ¬ T.meaning.full lines → MatchOption result
+            (Goes T.meaning (T.stands treatment.new) lines text self.old.reader.line (K.written sink.old) self.old.output (K.written sink.new) self.new.output)
+            (λ outcome. Ends (line_sayings T.meaning lines text self.old.number self.old.reader.line) (K.written sink.old) self.old.output (K.written sink.new) outcome) }
+        ensures number { result ≡ None → self.new.number ≡ self.old.number + 1 }
+        ensures same { self.new.reader ≡ self.old.reader }
+        ensures later { K.faults sink.old ≤ K.faults sink.new }
+        ensures cause { result ≡ Some Outcome.WriteFault → Rose (K.faults sink.old) (K.faults sink.new) }
+        ensures still { MatchOption result (K.faults sink.new ≡ K.faults sink.old) (λ outcome. outcome ≢ Outcome.WriteFault → K.faults sink.new ≡ K.faults sink.old) }
+        ensures kind { (result ≢ Some Outcome.ReadFault) × (result ≢ Some Outcome.Ok) }
+    {
+        match treatment.treat(self.reader.line(), &mut self.output, sink) {
+            Ok(()) => {
+                self.number += 1;
+                None
+            }
+            Err(stop) => Some(self.stop(sink, stop)),
+        }
+    }
+
+    /// Refuses a line of more than 1,024 octets.
+    fn refuse_long<K: Sink, T: Treatment>(&mut self, sink: &mut K, treatment: &mut T) -> Outcome
+        ensures ends { (lines : List (List ℕ)) → (text : List ℕ) → (line : List ℕ) → T.stands treatment.old lines → T.meaning.accepts lines text → ¬ T.meaning.full lines → NoFeed line → 1024 < length line → self.old.reader.start ≡ take 8 line
+            → Ends (line_sayings T.meaning lines text self.old.number line) (K.written sink.old) self.old.output (K.written sink.new) result }
+        ensures same { self.new.reader ≡ self.old.reader }
+        ensures later { K.faults sink.old ≤ K.faults sink.new }
+        ensures cause { result ≡ Outcome.WriteFault → Rose (K.faults sink.old) (K.faults sink.new) }
+        ensures still { result ≢ Outcome.WriteFault → K.faults sink.new ≡ K.faults sink.old }
+        ensures kind { (result ≢ Outcome.ReadFault) × (result ≢ Outcome.Ok) }
+    {
+        let cause = treatment.refuse_long(self.reader.start());
+        let words = bad_line(self.number, cause.words());
+        refuse(&mut self.output, sink, words.as_slice())
+    }
+
+    /// Refuses the line in which the first octet past the limit stands.
+    fn refuse_past<K: Sink>(&mut self, sink: &mut K) -> Outcome
+        ensures ends { Ends (only_limited (limit_line self.old.number)) (K.written sink.old) self.old.output (K.written sink.new) result }
+        ensures same { self.new.reader ≡ self.old.reader }
+        ensures later { K.faults sink.old ≤ K.faults sink.new }
+        ensures cause { result ≡ Outcome.WriteFault → Rose (K.faults sink.old) (K.faults sink.new) }
+        ensures still { result ≢ Outcome.WriteFault → K.faults sink.new ≡ K.faults sink.old }
+        ensures kind { (result ≢ Outcome.ReadFault) × (result ≢ Outcome.Ok) }
+    {
+        let words = limit_line(self.number);
+        refuse_limit(&mut self.output, sink, words.as_slice())
+    }
+
+    /// Ends the treatment where the input ends.
+    fn finish<K: Sink, T: Treatment>(&mut self, sink: &mut K, treatment: &mut T) -> Outcome
+        ensures ends { (lines : List (List ℕ)) → (text : List ℕ) → T.stands treatment.old lines → T.meaning.accepts lines text → Ends (end_sayings T.meaning lines self.old.number) (K.written sink.old) self.old.output (K.written sink.new) result }
+        ensures same { self.new.reader ≡ self.old.reader }
+        ensures later { K.faults sink.old ≤ K.faults sink.new }
+        ensures cause { result ≡ Outcome.WriteFault → Rose (K.faults sink.old) (K.faults sink.new) }
+        ensures still { result ≢ Outcome.WriteFault → K.faults sink.new ≡ K.faults sink.old }
+        ensures kind { result ≢ Outcome.ReadFault }
+    {
+        if let Err(stop) = treatment.end(&mut self.output, sink) {
+            return self.stop(sink, stop);
+        }
+        match self.output.flush(sink) {
+            Ok(()) => Outcome::Ok,
+            Err(Unwritten::WriteFault) => Outcome::WriteFault,
+            Err(Unwritten::OutOfMemory) => Outcome::OutOfMemory,
+        }
+    }
+
+    /// Whether the input goes on. What is held is written before more of the input is read.
+    fn peek<S: Source, K: Sink>(&mut self, source: &mut S, sink: &mut K) -> Result<Fill, Unwritten>
+        requires open { S.ended source.old ≡ false }
+        ensures fills { IfOk result (λ fill. ((octets : List ℕ) × Gives (S.left source.old) (S.left source.new) octets × (self.new.reader.held ≡ self.old.reader.held ++ octets) × (self.new.reader.got ≡ self.old.reader.got + length octets)) × IsFill fill self.new.reader.held) }
+        ensures fits { IfOk result (λ _. (self.new.reader.got ≤ self.new.reader.limit + 1) × (length self.new.reader.held ≤ 65536)) }
+        ensures kept { IfErr result (λ _. source.new ≡ source.old) }
+        ensures hands { Hands (K.written sink.old) self.old.output (K.written sink.new) self.new.output [] }
+        ensures flushed { IfOk result (λ _. self.new.output ≡ []) }
+        ensures same { (self.new.number ≡ self.old.number) × (self.new.reader.limit ≡ self.old.reader.limit) }
+        ensures later { (S.faults source.old ≤ S.faults source.new) × (K.faults sink.old ≤ K.faults sink.new) }
+        ensures read { result ≡ Ok Fill.NotRead → Rose (S.faults source.old) (S.faults source.new) }
+        ensures write { result ≡ Err Unwritten.WriteFault → Rose (K.faults sink.old) (K.faults sink.new) × (0 < length self.new.output) }
+        ensures still { (result ≢ Ok Fill.NotRead → S.faults source.new ≡ S.faults source.old) × (result ≢ Err Unwritten.WriteFault → K.faults sink.new ≡ K.faults sink.old) }
+        ensures over { result ≡ Ok Fill.Over → IsOver (S.left source.new) }
+        ensures ended { IfOk result (λ fill. S.ended source.new ≡ meets_end fill) }
+    {
+        match self.output.flush(sink) {
+            Ok(()) => Ok(self.reader.peek(source)),
+            Err(fault) => Err(fault),
+        }
+    }
+
+    /// Ends the treatment where no line may follow: with the input's end, or past the limit.
+    pub(crate) fn close<S: Source, K: Sink, T: Treatment>(
+        &mut self,
+        source: &mut S,
+        sink: &mut K,
+        treatment: &mut T,
+    ) -> Outcome
+        requires open { S.ended source.old ≡ false }
+        requires full { (lines : List (List ℕ)) → T.stands treatment.old lines → T.meaning.full lines }
+        ensures closes { (input : Option (List ℕ)) → (written : Option (List ℕ)) → (lines : List (List ℕ)) → (text : List ℕ) → IsAt T.meaning (T.stands treatment.old) input (S.left source.old) written (K.written sink.old) self.old.reader self.old.output self.old.number lines text
+            → Comes T.meaning self.old.reader.limit input (S.left source.new) written (K.written sink.new) result }
+        ensures keeps_up { (input : Option (List ℕ)) → (written : Option (List ℕ)) → (lines : List (List ℕ)) → (text : List ℕ) → IsAt T.meaning (T.stands treatment.old) input (S.left source.old) written (K.written sink.old) self.old.reader self.old.output self.old.number lines text
+            → KeepsUp T.meaning self.old.reader.limit input (S.left source.old) written (K.written sink.old) → KeepsUp T.meaning self.old.reader.limit input (S.left source.new) written (K.written sink.new) }
+        ensures later { (S.faults source.old ≤ S.faults source.new) × (K.faults sink.old ≤ K.faults sink.new) }
+        ensures read { result ≡ Outcome.ReadFault → Rose (S.faults source.old) (S.faults source.new) × (S.ended source.new ≡ false) }
+        ensures write { result ≡ Outcome.WriteFault → Rose (K.faults sink.old) (K.faults sink.new) }
+        ensures still { (result ≢ Outcome.ReadFault → S.faults source.new ≡ S.faults source.old) × (result ≢ Outcome.WriteFault → K.faults sink.new ≡ K.faults sink.old) }
+        ensures ended { result ≡ Outcome.Ok → S.ended source.new ≡ true }
+    {
+        match self.peek(source, sink) {
+            Ok(Fill::More) => self.refuse_past(sink),
+            Ok(Fill::Over) => self.finish(sink, treatment),
+            Ok(Fill::NotRead) => Outcome::ReadFault,
+            Err(Unwritten::WriteFault) => Outcome::WriteFault,
+            Err(Unwritten::OutOfMemory) => Outcome::OutOfMemory,
+        }
+    }
+
+    /// Reads and treats the next line; none where the treatment goes on.
+    pub(crate) fn turn<S: Source, K: Sink, T: Treatment>(
+        &mut self,
+        source: &mut S,
+        sink: &mut K,
+        treatment: &mut T,
+    ) -> Option<Outcome>
+        requires open { S.ended source.old ≡ false }
+        requires counted { self.old.number + length self.old.reader.held ≤ self.old.reader.got + 1 }
+        requires limit { self.old.reader.limit < 2 ^ 63 }
+        requires room { (lines : List (List ℕ)) → T.stands treatment.old lines → ¬ T.meaning.full lines }
+        ensures turns { (input : Option (List ℕ)) → (written : Option (List ℕ)) → (lines : List (List ℕ)) → (text : List ℕ) → IsAt T.meaning (T.stands treatment.old) input (S.left source.old) written (K.written sink.old) self.old.reader self.old.output self.old.number lines text → MatchOption result
+            ((more : List (List ℕ)) × (longer : List ℕ) × IsAt T.meaning (T.stands treatment.new) input (S.left source.new) written (K.written sink.new) self.new.reader self.new.output self.new.number more longer)
+            (Comes T.meaning self.old.reader.limit input (S.left source.new) written (K.written sink.new)) }
+        ensures keeps_up { (input : Option (List ℕ)) → (written : Option (List ℕ)) → (lines : List (List ℕ)) → (text : List ℕ) → IsAt T.meaning (T.stands treatment.old) input (S.left source.old) written (K.written sink.old) self.old.reader self.old.output self.old.number lines text
+            → KeepsUp T.meaning self.old.reader.limit input (S.left source.old) written (K.written sink.old) → KeepsUp T.meaning self.old.reader.limit input (S.left source.new) written (K.written sink.new) }
+        ensures open { result ≡ None → S.ended source.new ≡ false }
+        ensures counted { result ≡ None → self.new.number + length self.new.reader.held ≤ self.new.reader.got + 1 }
+        ensures smaller { result ≡ None → self.new.reader.limit + 1 - self.new.reader.got + length self.new.reader.held < self.old.reader.limit + 1 - self.old.reader.got + length self.old.reader.held }
+        ensures limit { self.new.reader.limit ≡ self.old.reader.limit }
+        ensures later { (S.faults source.old ≤ S.faults source.new) × (K.faults sink.old ≤ K.faults sink.new) }
+        ensures read { result ≡ Some Outcome.ReadFault → Rose (S.faults source.old) (S.faults source.new) × (S.ended source.new ≡ false) }
+        ensures write { result ≡ Some Outcome.WriteFault → Rose (K.faults sink.old) (K.faults sink.new) }
+        ensures still { MatchOption result ((S.faults source.new ≡ S.faults source.old) × (K.faults sink.new ≡ K.faults sink.old))
+            (λ outcome. (outcome ≢ Outcome.ReadFault → S.faults source.new ≡ S.faults source.old) × (outcome ≢ Outcome.WriteFault → K.faults sink.new ≡ K.faults sink.old)) }
+        ensures ended { result ≡ Some Outcome.Ok → S.ended source.new ≡ true }
+    {
+        let next = match self.next(source, sink) {
+            Ok(next) => next,
+            Err(Unwritten::WriteFault) => return Some(Outcome::WriteFault),
+            Err(Unwritten::OutOfMemory) => return Some(Outcome::OutOfMemory),
+        };
+        match next {
+            Next::Line => self.treat(sink, treatment),
+            Next::Last => match self.treat(sink, treatment) {
+                Some(outcome) => Some(outcome),
+                None => Some(self.finish(sink, treatment)),
+            },
+            Next::Long | Next::LongLast => Some(self.refuse_long(sink, treatment)),
+            Next::End => Some(self.finish(sink, treatment)),
+            Next::Limit => Some(self.refuse_past(sink)),
+            Next::Failed => Some(Outcome::ReadFault),
+        }
+    }
+}
