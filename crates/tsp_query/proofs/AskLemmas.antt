@@ -1,0 +1,90 @@
+-- Laws of asking.
+use Rattle.std.proofs.Common.{◌≡◌, ℕ, ◌<◌, ◌≤◌, ◌+◌, ◌-◌, List, [], ◌∷◌, zero, suc, refl, ap, ◌∙◌, arith, Option, Some, None, IfSome, subst}
+use Rattle.tsp_base.specs.declared.datagram.Datagram.{Datagram}
+use Rattle.tsp_io.specs.Counts.{one_more}
+use Rattle.tsp_io.specs.Links.{Arrival, Tried}
+use Rattle.tsp_query.specs.Asked.{answer_in, next_arrival, rest_of, or_later, asked_from}
+use Rattle.tsp_query.specs.Clocks.{reading}
+use Rattle.tsp_query.specs.Ends.{Outside, heard, counted, receives, Listens, sent, Asks}
+use Rattle.tsp_query.specs.declared.ask.Asked.{Asked}
+use Rattle.tsp_query.specs.declared.ask.Asked.TheVariants.{Answer, NoAnswer, LinkFault, OutOfMemory}
+use Rattle.tsp_query.specs.declared.question.Question.{Question}
+
+-- what is held after so many waits
+abbrev pub after : ℕ → Outside → Outside
+after zero o = o
+after (suc n) o = heard (after n o)
+
+pub after-calls : (n : ℕ) (o : Outside) → (after n o).calls ≡ counted n o.calls
+after-calls zero o = refl
+after-calls (suc n) o = ap (λ c. one_more c) (after-calls n o)
+
+pub after-tried : (n : ℕ) (o : Outside) → (after n o).tried ≡ o.tried
+after-tried zero o = refl
+after-tried (suc n) o = after-tried n o
+
+next_reading : (last : ℕ) (rs : List ℕ) (k : ℕ) → reading (reading last rs 0) (rest_of rs) k ≡ reading last rs (suc k)
+next_reading last [] k = refl
+next_reading last (x ∷ rs) k = refl
+
+pub after-reading : (n : ℕ) (o : Outside) (k : ℕ) → reading (after n o).last (after n o).readings k ≡ reading o.last o.readings (n + k)
+after-reading zero o k = ap (λ i. reading o.last o.readings i) (omega arith)
+after-reading (suc n) o k =
+    let i : n + suc k ≡ suc n + k = omega arith in
+    next_reading (after n o).last (after n o).readings k ∙ (after-reading n o (suc k) ∙ ap (λ j. reading o.last o.readings j) i)
+
+-- one wait more
+pub after-next : (n : ℕ) (o : Outside) → after (n + 1) o ≡ heard (after n o)
+after-next n o = let e : n + 1 ≡ suc n = omega arith in rw e refl
+
+pub calls-next : (n : ℕ) (o : Outside) → one_more (after n o).calls ≡ counted (n + 1) o.calls
+calls-next n o = let e : n + 1 ≡ suc n = omega arith in rw e (ap (λ c. one_more c) (after-calls n o))
+
+-- a wait without an answer leaves the others
+pub asked-step : (q : Question) (i : ℕ) (a : List Arrival) → i < 8 → answer_in q (next_arrival a) ≡ None → asked_from q i (8 - i) a ≡ asked_from q (i + 1) (8 - (i + 1)) (rest_of a)
+unfolding asked_from
+asked-step q i a h e =
+    let n : 8 - i ≡ suc (8 - (i + 1)) = omega arith in
+    rw (n, e) refl
+
+-- a wait with an answer
+pub asked-hit : (q : Question) (i : ℕ) (a : List Arrival) (d : Datagram) → i < 8 → answer_in q (next_arrival a) ≡ Some d → asked_from q i (8 - i) a ≡ Some (i, d)
+unfolding asked_from
+asked-hit q i a d h e =
+    let n : 8 - i ≡ suc (8 - (i + 1)) = omega arith in
+    rw (n, e) refl
+
+-- no wait is left
+pub asked-none : (q : Question) (i : ℕ) (a : List Arrival) → i ≡ 8 → asked_from q i (8 - i) a ≡ None
+unfolding asked_from
+asked-none q i a e = let n : 8 - i ≡ 0 = omega arith in rw n refl
+
+later_cases : (found : Option Datagram) (i : ℕ) (later : Option (ℕ × Datagram)) (r : ℕ × Datagram) → (later ≡ Some r → i + 1 ≤ r.0) → or_later found i later ≡ Some r → i ≤ r.0
+later_cases None i later r f e = omega (arith, f e)
+later_cases (Some d) i later r f e = let s : (i, d) ≡ r = cc in omega (arith, ap (λ (p : ℕ × Datagram). p.0) s)
+
+-- an answer's number is none of an earlier wait
+asked-later : (q : Question) (n i : ℕ) (a : List Arrival) (r : ℕ × Datagram) → asked_from q i n a ≡ Some r → i ≤ r.0
+unfolding asked_from
+asked-later q zero i a r e = absurd (cc)
+asked-later q (suc n) i a r e = later_cases (answer_in q (next_arrival a)) i (asked_from q (i + 1) n (rest_of a)) r (λ f. asked-later q n (i + 1) (rest_of a) r f) e
+
+receives_cases : (found : Option (ℕ × Datagram)) (i : ℕ) → i < 8 → ((r : ℕ × Datagram) → found ≡ Some r → i ≤ r.0) → i + 1 ≤ receives found
+receives_cases None i h f = omega arith
+receives_cases (Some r) i h f = omega (arith, f r refl)
+
+-- a wait is not beyond the answer's
+pub receives-least : (q : Question) (i : ℕ) (a : List Arrival) → i < 8 → i + 1 ≤ receives (asked_from q i (8 - i) a)
+receives-least q i a h = receives_cases (asked_from q i (8 - i) a) i h (λ r e. asked-later q (8 - i) i a r e)
+
+-- what eight receives come to is what asking does, once the request was sent
+pub asks-listens : (request : Datagram) (q : Question) (o : Outside) (tried : Option (List Tried)) (calls : Option ℕ) (end : Asked) → Listens q (sent request o) tried calls end → Asks request q o tried calls end
+asks-listens request q o tried calls (Answer d tick) h = h
+asks-listens request q o tried calls NoAnswer h = h
+asks-listens request q o tried calls LinkFault h = h
+asks-listens request q o tried calls OutOfMemory h = absurd h
+
+-- what is said of a value that is there
+pub of_some : {A : Type 0} (P : A → Type 0) (r : Option A) (v : A) → IfSome r P → r ≡ Some v → P v
+of_some P None v h e = absurd (cc)
+of_some P (Some w) v h e = let s : w ≡ v = cc in subst P s h

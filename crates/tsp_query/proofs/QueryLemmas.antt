@@ -1,0 +1,83 @@
+-- Laws of the queries.
+use Rattle.std.proofs.Common.{◌≡◌, ◌∙◌, ap, ℕ, ℤ, ◌%◌, List, subst, Option, Some, refl, Bool, true, false}
+use Rattle.std.specs.Prelude.{codes}
+use Rattle.tsp_base.specs.Kinds.{carries_time, carries_hops}
+use Rattle.tsp_base.specs.Messages.{MessageValue, body_fits}
+use Rattle.tsp_base.specs.declared.datagram.Datagram.{Datagram}
+use Rattle.tsp_base.specs.declared.datagram.Datagram.TheVariants.{Message}
+use Rattle.tsp_base.specs.declared.kind.Kind.{Kind}
+use Rattle.tsp_base.specs.declared.kind.Kind.TheVariants.{Msite, Test}
+use Rattle.tsp_base.specs.declared.message.Body.TheVariants.{Nothing}
+use Rattle.tsp_io.specs.Links.{Arrival, Tried}
+use Rattle.tsp_query.specs.Asked.{rest_of}
+use Rattle.tsp_query.specs.Clocks.{reading}
+use Rattle.tsp_query.specs.Ends.{Outside, Tells, Asks}
+use Rattle.tsp_query.specs.Queries.{read_twice, trace_kind, message, stamp, diff_in, end_of, QueryEnds, master_in, heard_in}
+use Rattle.tsp_query.specs.declared.ask.Asked.{Asked}
+use Rattle.tsp_query.specs.declared.ask.Asked.TheVariants.{Answer, NoAnswer, LinkFault, OutOfMemory}
+use Rattle.tsp_query.specs.declared.question.Question.{Question}
+use Rattle.tsp_query.specs.declared.question.Question.TheVariants.{OfNumber, OfWord}
+use Rattle.tsp_query.specs.declared.query.QueryEnd.{QueryEnd}
+
+-- the messages of queries carry nothing
+pub fits-msite : body_fits Msite Nothing ≡ true
+unfolding body_fits carries_time carries_hops
+fits-msite = refl
+
+pub fits-test : body_fits Test Nothing ≡ true
+unfolding body_fits carries_time carries_hops
+fits-test = refl
+
+pub fits-trace : (on : Bool) → body_fits (trace_kind on) Nothing ≡ true
+unfolding body_fits carries_time carries_hops
+fits-trace true = refl
+fits-trace false = refl
+
+-- asking by a message of equal parts is asking by the query's message
+pub asks-message : (kind : Kind) (w word : ℕ) (name : List ℕ) (m : MessageValue) (o : Outside) (tried : Option (List Tried)) (calls : Option ℕ) (end : Asked)
+    → m ≡ record { kind = kind; number = w % 65536; body = Nothing; name = name } → name ≡ codes "timedc" → w ≡ word
+    → Asks (Message m) (OfNumber (w % 65536)) o tried calls end → Asks (message kind word) (OfNumber (word % 65536)) o tried calls end
+asks-message kind w word name m o tried calls end e f s h =
+    let P : MessageValue → Type 0 = λ (x : MessageValue). Asks (Message x) (OfNumber (w % 65536)) o tried calls end in
+    let Q : List ℕ → Type 0 = λ (n : List ℕ). Asks (Message (record { kind = kind; number = w % 65536; body = Nothing; name = n })) (OfNumber (w % 65536)) o tried calls end in
+    let R : ℕ → Type 0 = λ (v : ℕ). Asks (message kind v) (OfNumber (v % 65536)) o tried calls end in
+    subst R s (subst Q f (subst P e h))
+
+-- asking in the words of the two queries that a message asks
+pub ends-master : (request : Datagram) (q : Question) (o : Outside) (tried : Option (List Tried)) (calls : Option ℕ) (asked : Asked)
+    → Asks request q (read_twice o) tried calls asked → QueryEnds request q master_in o tried calls (end_of master_in asked)
+ends-master request q o tried calls (Answer d tick) h = (d, tick, h, refl)
+ends-master request q o tried calls NoAnswer h = h
+ends-master request q o tried calls LinkFault h = h
+ends-master request q o tried calls OutOfMemory h = h
+
+pub ends-heard : (request : Datagram) (q : Question) (o : Outside) (tried : Option (List Tried)) (calls : Option ℕ) (asked : Asked)
+    → Asks request q (read_twice o) tried calls asked → QueryEnds request q heard_in o tried calls (end_of heard_in asked)
+ends-heard request q o tried calls (Answer d tick) h = (d, tick, h, refl)
+ends-heard request q o tried calls NoAnswer h = h
+ends-heard request q o tried calls LinkFault h = h
+ends-heard request q o tried calls OutOfMemory h = h
+
+-- what is told once the tick counter was read twice
+pub tells-twice : (o : Outside) (arrivals : Option (List Arrival)) (tried : Option (List Tried)) (calls : Option ℕ) (readings now : Option (List ℕ)) (last sent : ℕ) (later : ℕ)
+    → Tells o arrivals tried calls readings last → sent ≡ reading last o.readings 1 → now ≡ Some (rest_of (rest_of o.readings)) → later ≡ sent → Tells (read_twice o) arrivals tried calls now later
+tells-twice o arrivals tried calls readings now last sent later t s r l = record {
+  arrivals_are = t.arrivals_are;
+  tried_are = t.tried_are;
+  calls_are = t.calls_are;
+  readings_are = r;
+  last_is = l ∙ (s ∙ ap (λ x. reading x o.readings 1) t.last_is);
+}
+
+-- asking by a stamp of the same word
+pub asks-stamp : (w word : ℕ) (o : Outside) (tried : Option (List Tried)) (calls : Option ℕ) (end : Asked) → w ≡ word → Asks (stamp w) (OfWord w) o tried calls end → Asks (stamp word) (OfWord word) o tried calls end
+asks-stamp w word o tried calls end e h = let P : ℕ → Type 0 = λ (v : ℕ). Asks (stamp v) (OfWord v) o tried calls end in subst P e h
+
+-- a sample of equal parts
+diff_in-parts : (wall wall' : ℤ) (f f' s s' : ℕ) (d : Datagram) (came : ℕ) → wall ≡ wall' → f ≡ f' → s ≡ s' → diff_in wall f s d came ≡ diff_in wall' f' s' d came
+diff_in-parts wall wall' f f' s s' d came w g t = rw (w, g, t) refl
+
+-- asking in the words of the query that a stamp asks
+pub ends-diff : (request : Datagram) (q : Question) (wall wall' : ℤ) (f f' s s' : ℕ) (o : Outside) (tried : Option (List Tried)) (calls : Option ℕ) (end : QueryEnd) (d : Datagram) (tick : ℕ)
+    → end ≡ diff_in wall f s d tick → wall ≡ wall' → f ≡ f' → s ≡ s' → Asks request q (read_twice o) tried calls (Answer d tick) → QueryEnds request q (diff_in wall' f' s') o tried calls end
+ends-diff request q wall wall' f f' s s' o tried calls end d tick e w g t h = rw e (d, tick, h, diff_in-parts wall wall' f f' s s' d tick w g t)

@@ -1,0 +1,13 @@
+use Rattle.std.proofs.Common.{◌%◌}
+use Rattle.tsp_base.specs.declared.kind.Kind.TheVariants.{Test}
+use Rattle.tsp_query.specs.Queries.{message}
+use Rattle.tsp_query.specs.declared.question.Question.TheVariants.{OfNumber}
+use Rattle.tsp_query.proofs.QueryLemmas.{fits-test, ends-heard}
+use Rattle.tsp_query.proofs.query.election.Goals as goal
+
+pub ask_by_message-requires : goal.ask_by_message-requires
+ask_by_message-requires g c = fits-test
+
+pub returns-clause-asks : goal.returns-clause-asks
+returns-clause-asks g c = λ o word t w.
+    rw c.heard_end.ensures (ends-heard (message Test word) (OfNumber (word % 65536)) o _ _ c.ask_by_message.result (c.ask_by_message.ensures.asks o word t w))

@@ -1,0 +1,13 @@
+use Rattle.std.proofs.Common.{◌%◌}
+use Rattle.tsp_base.specs.declared.kind.Kind.TheVariants.{Msite}
+use Rattle.tsp_query.specs.Queries.{message}
+use Rattle.tsp_query.specs.declared.question.Question.TheVariants.{OfNumber}
+use Rattle.tsp_query.proofs.QueryLemmas.{fits-msite, ends-master}
+use Rattle.tsp_query.proofs.query.msite.Goals as goal
+
+pub ask_by_message-requires : goal.ask_by_message-requires
+ask_by_message-requires g c = fits-msite
+
+pub returns-clause-asks : goal.returns-clause-asks
+returns-clause-asks g c = λ o word t w.
+    rw c.master_end.ensures (ends-master (message Msite word) (OfNumber (word % 65536)) o _ _ c.ask_by_message.result (c.ask_by_message.ensures.asks o word t w))

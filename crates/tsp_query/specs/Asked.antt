@@ -1,0 +1,67 @@
+-- What answers a question, and the first answer among what comes.
+use Rattle.std.specs.Prelude.{ℕ, Bool, true, false, ◌&&◌, ◌==◌, if◌then◌else◌, List, [], ◌∷◌, take, Option, Some, None, zero, suc, ◌+◌}
+use Rattle.tsp_base.specs.declared.datagram.Datagram.{Datagram}
+use Rattle.tsp_base.specs.declared.datagram.Datagram.TheVariants.{Message, Stamp as StampOf}
+use Rattle.tsp_base.specs.declared.datagram.Taken.{Taken}
+use Rattle.tsp_base.specs.declared.datagram.Taken.TheVariants.{Good, Bad}
+use Rattle.tsp_base.specs.declared.kind.Kind.{Kind}
+use Rattle.tsp_base.specs.declared.kind.Kind.TheVariants.{Ack}
+use Rattle.tsp_base.specs.declared.place.Place.{Place}
+use Rattle.tsp_base.specs.declared.place.Place.TheVariants.{Peer, Stranger}
+use Rattle.tsp_base.specs.declared.stamp.Stamp.TheVariants.{Request, Reply}
+use Rattle.tsp_codec.specs.Taken.{taken_of}
+use Rattle.tsp_io.specs.Links.{Arrival}
+use Rattle.tsp_query.specs.declared.question.Question.{Question}
+use Rattle.tsp_query.specs.declared.question.Question.TheVariants.{OfNumber, OfWord}
+
+-- whether a message acknowledges
+abbrev pub is_ack : Kind → Bool
+is_ack Ack = true
+is_ack _ = false
+
+-- an acknowledgment with the question's number, or a reply with its word and counter 0
+abbrev pub answers : Question → Datagram → Bool
+answers (OfNumber number) (Message m) = is_ack m.kind && (m.number == number)
+answers (OfNumber number) (StampOf s) = false
+answers (OfWord word) (Message m) = false
+answers (OfWord word) (StampOf (Request w c)) = false
+answers (OfWord word) (StampOf (Reply r)) = (r.word == word) && (r.counter == 0)
+
+-- the datagram that octets spell, where it is an answer
+abbrev pub answer_of : Question → Taken → Option Datagram
+answer_of q (Good d) = if answers q d then Some d else None
+answer_of q (Bad fault) = None
+
+-- the daemon is the only peer
+abbrev pub is_daemon : Place → Bool
+is_daemon (Peer p) = p.0 == 0
+is_daemon Stranger = false
+
+-- the answer that comes within a wait, if one does
+abbrev pub answer_in : Question → Arrival → Option Datagram
+answer_in q None = None
+answer_in q (Some r) = if is_daemon r.0 then answer_of q (taken_of (take 512 r.1)) else None
+
+-- what comes next; nothing does where nothing is left
+abbrev pub next_arrival : List Arrival → Arrival
+next_arrival [] = None
+next_arrival (a ∷ rest) = a
+
+-- what comes after it
+abbrev pub rest_of : {A : Type 0} → List A → List A
+rest_of [] = []
+rest_of (x ∷ rest) = rest
+
+-- an answer with the number of its wait, or else a later one
+abbrev pub or_later : Option Datagram → ℕ → Option (ℕ × Datagram) → Option (ℕ × Datagram)
+or_later None i later = later
+or_later (Some d) i later = Some (i, d)
+
+-- the first answer within so many waits, and the number of its wait, where they are counted from i on
+unfoldable pub asked_from : Question → ℕ → ℕ → List Arrival → Option (ℕ × Datagram)
+asked_from q i zero arrivals = None
+asked_from q i (suc n) arrivals = or_later (answer_in q (next_arrival arrivals)) i (asked_from q (i + 1) n (rest_of arrivals))
+
+-- the first answer within eight waits, and the number of its wait, counted from 0
+abbrev pub asked : Question → List Arrival → Option (ℕ × Datagram)
+asked q arrivals = asked_from q 0 8 arrivals

@@ -1,0 +1,12 @@
+-- The clock of whoever asks.
+use Rattle.std.specs.Prelude.{ℕ, ◌-◌, ℤ, pos, ◌+ℤ◌, List, [], ◌∷◌, zero, suc}
+
+-- the reading with this number, counted from 0, of a counter whose last answer was this one; the last reading comes again and again
+abbrev pub reading : ℕ → List ℕ → ℕ → ℕ
+reading last [] k = last
+reading last (x ∷ xs) zero = x
+reading last (x ∷ xs) (suc k) = reading x xs k
+
+-- the wall clock, and the ticks since the first reading
+abbrev pub own_clock : ℤ → ℕ → ℕ → ℤ
+own_clock wall first tick = wall +ℤ pos (tick - first)

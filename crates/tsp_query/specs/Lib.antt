@@ -1,0 +1,4 @@
+pub mod Asked
+pub mod Clocks
+pub mod Ends
+pub mod Queries

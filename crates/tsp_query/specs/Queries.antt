@@ -1,0 +1,78 @@
+-- The queries of a daemon, and what each comes to.
+use Rattle.std.specs.Prelude.{◌≡◌, ℕ, ℤ, pos, ◌%◌, Bool, true, false, List, [], Option, codes}
+use Rattle.tsp_base.specs.Samples.{sample_diff, sample_err}
+use Rattle.tsp_base.specs.declared.datagram.Datagram.{Datagram}
+use Rattle.tsp_base.specs.declared.datagram.Datagram.TheVariants.{Message, Stamp as StampOf}
+use Rattle.tsp_base.specs.declared.kind.Kind.{Kind}
+use Rattle.tsp_base.specs.declared.kind.Kind.TheVariants.{TraceOn, TraceOff}
+use Rattle.tsp_base.specs.declared.message.Body.TheVariants.{Nothing}
+use Rattle.tsp_base.specs.declared.stamp.Stamp.TheVariants.{Request, Reply}
+use Rattle.tsp_io.specs.Links.{Tried}
+use Rattle.tsp_query.specs.Asked.{rest_of}
+use Rattle.tsp_query.specs.Clocks.{reading, own_clock}
+use Rattle.tsp_query.specs.Ends.{Outside, Asks}
+use Rattle.tsp_query.specs.declared.ask.Asked.{Asked}
+use Rattle.tsp_query.specs.declared.ask.Asked.TheVariants.{Answer, NoAnswer as Unanswered, LinkFault as Faulty, OutOfMemory as Refused}
+use Rattle.tsp_query.specs.declared.question.Question.{Question}
+use Rattle.tsp_query.specs.declared.query.QueryEnd.{QueryEnd}
+use Rattle.tsp_query.specs.declared.query.QueryEnd.TheVariants.{Master, Diff, Heard, NoAnswer, LinkFault, OutOfMemory}
+
+-- what is held once the tick counter was read twice
+abbrev pub read_twice : Outside → Outside
+read_twice o = record o { readings = rest_of (rest_of o.readings); last = reading o.last o.readings 1 }
+
+-- the message that switches a trace on or off
+abbrev pub trace_kind : Bool → Kind
+trace_kind true = TraceOn
+trace_kind false = TraceOff
+
+-- the message that asks, numbered by the word
+abbrev pub message : Kind → ℕ → Datagram
+message kind word = Message (record { kind = kind; number = word % 65536; body = Nothing; name = codes "timedc" })
+
+-- the stamp request that asks
+abbrev pub stamp : ℕ → Datagram
+stamp word = StampOf (Request word 0)
+
+-- what asking comes to in a query's words, which reads its answer so
+abbrev pub end_of : (Datagram → ℕ → QueryEnd) → Asked → QueryEnd
+end_of answer (Answer d tick) = answer d tick
+end_of answer Unanswered = NoAnswer
+end_of answer Faulty = LinkFault
+end_of answer Refused = OutOfMemory
+
+-- what a query comes to that asks so, and reads its answer so
+abbrev pub QueryEnds : Datagram → Question → (Datagram → ℕ → QueryEnd) → Outside → Option (List Tried) → Option ℕ → QueryEnd → Type 0
+QueryEnds request q answer o tried calls NoAnswer = Asks request q (read_twice o) tried calls Unanswered
+QueryEnds request q answer o tried calls LinkFault = Asks request q (read_twice o) tried calls Faulty
+QueryEnds request q answer o tried calls OutOfMemory = Asks request q (read_twice o) tried calls Refused
+QueryEnds request q answer o tried calls end = (d : Datagram) × (tick : ℕ) × Asks request q (read_twice o) tried calls (Answer d tick) × (end ≡ answer d tick)
+
+-- the name of whoever acknowledges
+abbrev pub name_in : Datagram → List ℕ
+name_in (Message m) = m.name
+name_in (StampOf s) = []
+
+-- the answer to who is master
+abbrev pub master_in : Datagram → ℕ → QueryEnd
+master_in d tick = Master (name_in d)
+
+-- the answer to whether a daemon hears
+abbrev pub heard_in : Datagram → ℕ → QueryEnd
+heard_in d tick = Heard
+
+-- a datagram is a reply
+abbrev pub IsReplied : Datagram → Type 0
+IsReplied (StampOf (Reply r)) = Unit {0}
+IsReplied (StampOf (Request w c)) = ⊥
+IsReplied (Message m) = ⊥
+
+-- the reading of a reply
+abbrev pub reading_in : Datagram → ℤ
+reading_in (StampOf (Reply r)) = r.reading
+reading_in (StampOf (Request w c)) = pos 0
+reading_in (Message m) = pos 0
+
+-- the answer to how far a daemon's clock is: the sample of a request between two ticks, by a clock that began at the first one
+abbrev pub diff_in : ℤ → ℕ → ℕ → Datagram → ℕ → QueryEnd
+diff_in wall first sent d tick = Diff (sample_diff (own_clock wall first sent) (reading_in d) (own_clock wall first tick)) (sample_err (own_clock wall first sent) (own_clock wall first tick))

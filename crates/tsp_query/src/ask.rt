@@ -1,0 +1,121 @@
+//! Asking: one datagram out, and the first answer among eight receives.
+ghost use Rattle.std.specs.Prelude.{◌≡◌, ◌≢◌, ◌⊎◌, ◌≤◌, None, true, IfSome, if◌then◌else◌};
+ghost use Rattle.tsp_codec.specs.Taken.{taken_of};
+ghost use Rattle.tsp_io.specs.Counts.{Rose};
+ghost use Rattle.tsp_query.specs.Asked.{answers, answer_of, is_daemon};
+ghost use Rattle.tsp_query.specs.Ends.{Outside, Tells, Hears, HearsWell, Listens, Asks, AsksWell};
+
+use crate::question::{Question, answer_of};
+use tsp_base::datagram::Datagram;
+use tsp_base::place::{PeerId, Place};
+use tsp_codec::encode;
+use tsp_io::link::{Link, Recv, Sent};
+use tsp_io::ticker::Ticker;
+
+/// How long a receive waits, in microseconds.
+const WAIT: u64 = 1_000_000;
+
+/// How many receives there are at most.
+const RECEIVES: usize = 8;
+
+/// What asking comes to.
+#[derive(Drop)]
+pub enum Asked {
+    /// The answer, and the tick right after it came.
+    Answer(Datagram, u64),
+    /// None of eight receives gave one.
+    NoAnswer,
+    /// The send or a receive failed.
+    LinkFault,
+    /// There was no memory for the send.
+    OutOfMemory,
+}
+
+/// What one receive comes to.
+#[derive(Drop)]
+pub(crate) enum Heard {
+    /// The answer, and the tick right after it came.
+    Answer(Datagram, u64),
+    /// Something else, or nothing.
+    Other,
+    /// The receive failed.
+    Failed,
+}
+
+/// Waits for a datagram, and reads the tick right after the wait.
+fn hear<L: Link, T: Ticker>(link: &mut L, ticker: &mut T, question: Question) -> Heard
+    ensures hears { (o : Outside) → Tells o (L.arrivals link.old) (L.tried link.old) (L.calls link.old) (T.readings ticker.old) (T.last ticker.old)
+        → Hears question o (L.arrivals link.new) (L.tried link.new) (L.calls link.new) (T.readings ticker.new) (T.last ticker.new) result }
+    ensures well { HearsWell question (T.last ticker.old) result }
+    ensures later { (L.faults link.old ≤ L.faults link.new) × (L.send_faults link.new ≡ L.send_faults link.old) × (T.last ticker.old ≤ T.last ticker.new) }
+    ensures cause { result ≡ Heard.Failed → Rose (L.faults link.old) (L.faults link.new) }
+    ensures still { result ≢ Heard.Failed → L.faults link.new ≡ L.faults link.old }
+{
+    let mut buf = [0; 512];
+    match link.recv(&mut buf, WAIT) {
+        Recv::Failed => Heard::Failed,
+        Recv::Nothing => {
+            ticker.tick();
+            Heard::Other
+        }
+        Recv::Datagram(from, count) => {
+            let tick = ticker.tick();
+            match answer_from(question, from, &buf[..count]) {
+                Some(answer) => Heard::Answer(answer, tick),
+                None => Heard::Other,
+            }
+        }
+    }
+}
+
+/// The datagram that octets from there spell, where it is an answer of the daemon's.
+fn answer_from(question: Question, from: Place, octets: &[u8]) -> Option<Datagram>
+    ensures answer { result ≡ (if is_daemon from then answer_of question (taken_of octets.now) else None) }
+    ensures well { IfSome result (λ d. answers question d ≡ true) }
+{
+    match from {
+        Place::Peer(PeerId(0)) => answer_of(question, octets),
+        _ => None,
+    }
+}
+
+/// Receives up to eight times, until an answer comes or a receive fails.
+fn listen<L: Link, T: Ticker>(link: &mut L, ticker: &mut T, question: Question) -> Asked
+    ensures listens { (o : Outside) → Tells o (L.arrivals link.old) (L.tried link.old) (L.calls link.old) (T.readings ticker.old) (T.last ticker.old)
+        → Listens question o (L.tried link.new) (L.calls link.new) result }
+    ensures well { AsksWell question (T.last ticker.old) result }
+    ensures later { (L.faults link.old ≤ L.faults link.new) × (L.send_faults link.new ≡ L.send_faults link.old) × (T.last ticker.old ≤ T.last ticker.new) }
+    ensures cause { result ≡ Asked.LinkFault → Rose (L.faults link.old) (L.faults link.new) }
+    ensures still { result ≢ Asked.LinkFault → L.faults link.new ≡ L.faults link.old }
+    ensures memory { result ≢ Asked.OutOfMemory }
+{
+    for _ in 0..RECEIVES {
+        match hear(link, ticker, question) {
+            Heard::Answer(answer, tick) => return Asked::Answer(answer, tick),
+            Heard::Other => {}
+            Heard::Failed => return Asked::LinkFault,
+        }
+    }
+    Asked::NoAnswer
+}
+
+/// Sends the request to the daemon, which is peer 0, and listens for the answer.
+pub(crate) fn ask<L: Link, T: Ticker>(
+    link: &mut L,
+    ticker: &mut T,
+    request: &Datagram,
+    question: Question,
+) -> Asked
+    ensures asks { (o : Outside) → Tells o (L.arrivals link.old) (L.tried link.old) (L.calls link.old) (T.readings ticker.old) (T.last ticker.old)
+        → Asks request.now question o (L.tried link.new) (L.calls link.new) result }
+    ensures well { AsksWell question (T.last ticker.old) result }
+    ensures later { (L.faults link.old ≤ L.faults link.new) × (L.send_faults link.old ≤ L.send_faults link.new) × (T.last ticker.old ≤ T.last ticker.new) }
+    ensures cause { result ≡ Asked.LinkFault → Rose (L.faults link.old) (L.faults link.new) ⊎ Rose (L.send_faults link.old) (L.send_faults link.new) }
+    ensures still { result ≢ Asked.LinkFault → (L.faults link.new ≡ L.faults link.old) × (L.send_faults link.new ≡ L.send_faults link.old) }
+{
+    match link.send(Place::Peer(PeerId(0)), encode(request).as_slice()) {
+        Sent::Sent => listen(link, ticker, question),
+        Sent::Failed => Asked::LinkFault,
+        Sent::OutOfMemory => Asked::OutOfMemory,
+    }
+}

@@ -1,0 +1,218 @@
+//! The queries of a running daemon.
+ghost use Rattle.std.specs.Prelude.{◌≡◌, ◌≢◌, ◌⊎◌, ◌≤◌, ◌^◌, ◌%◌, ℕ, ℤ, List, Some, IfSome, codes, true, pos, negsuc, ◌<ℤ◌};
+ghost use Rattle.tsp_base.specs.Messages.{body_fits};
+ghost use Rattle.tsp_base.specs.declared.kind.Kind.{Kind};
+ghost use Rattle.tsp_base.specs.declared.message.Body.{Body};
+ghost use Rattle.tsp_io.specs.Clocks.{IsWall};
+ghost use Rattle.tsp_io.specs.Counts.{Rose};
+ghost use Rattle.tsp_query.specs.Asked.{rest_of};
+ghost use Rattle.tsp_query.specs.Clocks.{reading};
+ghost use Rattle.tsp_query.specs.Ends.{Outside, Tells, Asks};
+ghost use Rattle.tsp_query.specs.Queries.{read_twice, message, stamp, QueryEnds, end_of, trace_kind, name_in, master_in, heard_in, reading_in, IsReplied, diff_in};
+
+use crate::ask::{Asked, ask};
+use crate::question::Question;
+use tsp_base::datagram::Datagram;
+use tsp_base::kind::Kind;
+use tsp_base::message::{Body, Message};
+use tsp_base::name::Name;
+use tsp_base::stamp::Stamp;
+use tsp_io::link::Link;
+use tsp_io::ticker::Ticker;
+
+/// What a query comes to.
+#[derive(Drop)]
+pub enum QueryEnd {
+    /// The daemon's master has this name; the empty name is none's.
+    Master(Name),
+    /// So many microseconds the daemon's clock is ahead of the own one, and by how many this may be wrong.
+    Diff(i64, i64),
+    /// The daemon hears.
+    Heard,
+    /// None of eight receives gave an answer, and none failed.
+    NoAnswer,
+    /// The send or a receive failed.
+    LinkFault,
+    /// There was no memory.
+    OutOfMemory,
+}
+
+/// What is read when a query begins.
+#[derive(Clone, Copy, PartialEq, Eq, Debug)]
+struct Start {
+    /// The first tick.
+    first: u64,
+    /// The tick right before the request goes out.
+    sent: u64,
+    /// The wall clock.
+    wall: i64,
+    /// The word.
+    word: u64,
+}
+
+/// Reads the tick counter, the wall clock and the word, and the counter again.
+fn begin<T: Ticker>(ticker: &mut T) -> Start
+    ensures readings { (readings : List ℕ) → T.readings ticker.old ≡ Some readings
+        → (result.first ≡ reading (T.last ticker.old) readings 0) × (result.sent ≡ reading (T.last ticker.old) readings 1) × (T.readings ticker.new ≡ Some (rest_of (rest_of readings))) }
+    ensures wall { IfSome (T.wall_is ticker.old) (λ wall. result.wall ≡ wall) }
+    ensures word { IfSome (T.word_is ticker.old) (λ word. result.word ≡ word) }
+    ensures range { IsWall result.wall }
+    ensures climbs { (T.last ticker.old ≤ result.first) × (result.first ≤ result.sent) × (result.sent ≤ 2 ^ 61) }
+    ensures last { T.last ticker.new ≡ result.sent }
+{
+    let first = ticker.tick();
+    let wall = ticker.wall();
+    let word = ticker.word();
+    let sent = ticker.tick();
+    Start {
+        first,
+        sent,
+        wall,
+        word,
+    }
+}
+
+/// The name that queries carry.
+fn client() -> Name
+    ensures { result ≡ codes "timedc" }
+{
+    match Name::of(b"timedc") {
+        Ok(name) => name,
+        Err(_) => unreachable!(),
+    }
+}
+
+/// Asks by a message that carries nothing but its number and the client's name.
+fn ask_by_message<L: Link, T: Ticker>(link: &mut L, ticker: &mut T, kind: Kind) -> Asked
+    requires { body_fits kind Body.Nothing ≡ true }
+    ensures asks { (o : Outside) (word : ℕ) → Tells o (L.arrivals link.old) (L.tried link.old) (L.calls link.old) (T.readings ticker.old) (T.last ticker.old) → T.word_is ticker.old ≡ Some word
+        → Asks (message kind word) (Question.OfNumber (word % 65536)) (read_twice o) (L.tried link.new) (L.calls link.new) result }
+    ensures later { (L.faults link.old ≤ L.faults link.new) × (L.send_faults link.old ≤ L.send_faults link.new) × (T.last ticker.old ≤ T.last ticker.new) }
+    ensures cause { result ≡ Asked.LinkFault → Rose (L.faults link.old) (L.faults link.new) ⊎ Rose (L.send_faults link.old) (L.send_faults link.new) }
+    ensures still { result ≢ Asked.LinkFault → (L.faults link.new ≡ L.faults link.old) × (L.send_faults link.new ≡ L.send_faults link.old) }
+{
+    let start = begin(ticker);
+    let number = (start.word % 65536) as u16;
+    let request = Datagram::Message(Message::new(kind, number, Body::Nothing, client()));
+    ask(link, ticker, &request, Question::OfNumber(number))
+}
+
+/// What asking comes to where each answer says the same: that the daemon hears.
+fn heard_end(asked: Asked) -> QueryEnd
+    ensures { result ≡ end_of heard_in asked }
+{
+    match asked {
+        Asked::Answer(..) => QueryEnd::Heard,
+        Asked::NoAnswer => QueryEnd::NoAnswer,
+        Asked::LinkFault => QueryEnd::LinkFault,
+        Asked::OutOfMemory => QueryEnd::OutOfMemory,
+    }
+}
+
+/// What asking comes to where the answer's name is the master's.
+fn master_end(asked: Asked) -> QueryEnd
+    ensures { result ≡ end_of master_in asked }
+{
+    match asked {
+        Asked::Answer(Datagram::Message(message), _) => QueryEnd::Master(message.name().copy()),
+        Asked::Answer(Datagram::Stamp(_), _) => QueryEnd::Master(Name::empty()),
+        Asked::NoAnswer => QueryEnd::NoAnswer,
+        Asked::LinkFault => QueryEnd::LinkFault,
+        Asked::OutOfMemory => QueryEnd::OutOfMemory,
+    }
+}
+
+/// Asks who is master.
+///
+/// The link is bound with the daemon as peer 0, here and in the other queries. `LinkFault` comes only where one of the
+/// link's counts of faults rose in this call.
+pub fn msite<L: Link, T: Ticker>(link: &mut L, ticker: &mut T) -> QueryEnd
+    ensures asks { (o : Outside) (word : ℕ) → Tells o (L.arrivals link.old) (L.tried link.old) (L.calls link.old) (T.readings ticker.old) (T.last ticker.old) → T.word_is ticker.old ≡ Some word
+        → QueryEnds (message Kind.Msite word) (Question.OfNumber (word % 65536)) master_in o (L.tried link.new) (L.calls link.new) result }
+    ensures later { (L.faults link.old ≤ L.faults link.new) × (L.send_faults link.old ≤ L.send_faults link.new) × (T.last ticker.old ≤ T.last ticker.new) }
+    ensures cause { result ≡ QueryEnd.LinkFault → Rose (L.faults link.old) (L.faults link.new) ⊎ Rose (L.send_faults link.old) (L.send_faults link.new) }
+    ensures still { result ≢ QueryEnd.LinkFault → (L.faults link.new ≡ L.faults link.old) × (L.send_faults link.new ≡ L.send_faults link.old) }
+{
+    master_end(ask_by_message(link, ticker, Kind::Msite))
+}
+
+/// Asks whether the daemon hears.
+pub fn election<L: Link, T: Ticker>(link: &mut L, ticker: &mut T) -> QueryEnd
+    ensures asks { (o : Outside) (word : ℕ) → Tells o (L.arrivals link.old) (L.tried link.old) (L.calls link.old) (T.readings ticker.old) (T.last ticker.old) → T.word_is ticker.old ≡ Some word
+        → QueryEnds (message Kind.Test word) (Question.OfNumber (word % 65536)) heard_in o (L.tried link.new) (L.calls link.new) result }
+    ensures later { (L.faults link.old ≤ L.faults link.new) × (L.send_faults link.old ≤ L.send_faults link.new) × (T.last ticker.old ≤ T.last ticker.new) }
+    ensures cause { result ≡ QueryEnd.LinkFault → Rose (L.faults link.old) (L.faults link.new) ⊎ Rose (L.send_faults link.old) (L.send_faults link.new) }
+    ensures still { result ≢ QueryEnd.LinkFault → (L.faults link.new ≡ L.faults link.old) × (L.send_faults link.new ≡ L.send_faults link.old) }
+{
+    heard_end(ask_by_message(link, ticker, Kind::Test))
+}
+
+/// The message that switches a trace on or off.
+fn trace_kind(on: bool) -> Kind
+    ensures { result ≡ trace_kind on }
+{
+    if on { Kind::TraceOn } else { Kind::TraceOff }
+}
+
+/// Switches the daemon's trace on or off.
+pub fn trace<L: Link, T: Ticker>(on: bool, link: &mut L, ticker: &mut T) -> QueryEnd
+    ensures asks { (o : Outside) (word : ℕ) → Tells o (L.arrivals link.old) (L.tried link.old) (L.calls link.old) (T.readings ticker.old) (T.last ticker.old) → T.word_is ticker.old ≡ Some word
+        → QueryEnds (message (trace_kind on) word) (Question.OfNumber (word % 65536)) heard_in o (L.tried link.new) (L.calls link.new) result }
+    ensures later { (L.faults link.old ≤ L.faults link.new) × (L.send_faults link.old ≤ L.send_faults link.new) × (T.last ticker.old ≤ T.last ticker.new) }
+    ensures cause { result ≡ QueryEnd.LinkFault → Rose (L.faults link.old) (L.faults link.new) ⊎ Rose (L.send_faults link.old) (L.send_faults link.new) }
+    ensures still { result ≢ QueryEnd.LinkFault → (L.faults link.new ≡ L.faults link.old) × (L.send_faults link.new ≡ L.send_faults link.old) }
+{
+    heard_end(ask_by_message(link, ticker, trace_kind(on)))
+}
+
+/// The reading of a reply.
+fn reading_of(reply: &Datagram) -> i64
+    requires { IsReplied reply.now }
+    ensures reading { result ≡ reading_in reply.now }
+    ensures low { negsuc 2147483647999999 <ℤ result }
+    ensures high { result <ℤ pos 2147483648000000 }
+{
+    match reply {
+        Datagram::Stamp(Stamp::Reply(reply)) => {
+            let _ticket = reply.ticket();
+            reply.reading()
+        }
+        _ => unreachable!(),
+    }
+}
+
+/// How far the daemon's clock is ahead by a reply that came at this tick, and by how much this may be wrong.
+fn sample(start: &Start, reply: &Datagram, came: u64) -> QueryEnd
+    requires wall { IsWall start.now.wall }
+    requires reply { IsReplied reply.now }
+    requires first { start.now.first ≤ start.now.sent }
+    requires sent { start.now.sent ≤ came }
+    requires came { came ≤ 2 ^ 61 }
+    ensures { result ≡ diff_in start.now.wall start.now.first start.now.sent reply.now came }
+{
+    let own = start.wall + (start.sent - start.first) as i64;
+    let trip = came - start.sent;
+    let half = trip / 2;
+    QueryEnd::Diff(reading_of(reply) - own - half as i64, (trip - half) as i64)
+}
+
+/// Asks how far the daemon's clock is from this machine's.
+pub fn clockdiff<L: Link, T: Ticker>(link: &mut L, ticker: &mut T) -> QueryEnd
+    ensures asks { (o : Outside) (word : ℕ) (wall : ℤ) → Tells o (L.arrivals link.old) (L.tried link.old) (L.calls link.old) (T.readings ticker.old) (T.last ticker.old) → T.word_is ticker.old ≡ Some word → T.wall_is ticker.old ≡ Some wall
+        → QueryEnds (stamp word) (Question.OfWord word) (diff_in wall (reading o.last o.readings 0) (reading o.last o.readings 1)) o (L.tried link.new) (L.calls link.new) result }
+    ensures later { (L.faults link.old ≤ L.faults link.new) × (L.send_faults link.old ≤ L.send_faults link.new) × (T.last ticker.old ≤ T.last ticker.new) }
+    ensures cause { result ≡ QueryEnd.LinkFault → Rose (L.faults link.old) (L.faults link.new) ⊎ Rose (L.send_faults link.old) (L.send_faults link.new) }
+    ensures still { result ≢ QueryEnd.LinkFault → (L.faults link.new ≡ L.faults link.old) × (L.send_faults link.new ≡ L.send_faults link.old) }
+{
+    let start = begin(ticker);
+    let request = Datagram::Stamp(Stamp::Request {
+        word: start.word,
+        counter: 0,
+    });
+    match ask(link, ticker, &request, Question::OfWord(start.word)) {
+        Asked::Answer(answer, came) => sample(&start, &answer, came),
+        Asked::NoAnswer => QueryEnd::NoAnswer,
+        Asked::LinkFault => QueryEnd::LinkFault,
+        Asked::OutOfMemory => QueryEnd::OutOfMemory,
+    }
+}

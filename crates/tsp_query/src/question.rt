@@ -1,0 +1,52 @@
+//! Questions, and what answers them.
+ghost use Rattle.std.specs.Prelude.{◌≡◌};
+ghost use Rattle.tsp_codec.specs.Taken.{taken_of};
+ghost use Rattle.tsp_query.specs.Asked.{answers, answer_of};
+
+use tsp_base::datagram::{Datagram, Taken};
+use tsp_base::kind::Kind;
+use tsp_base::stamp::Stamp;
+use tsp_codec::read;
+
+/// What an answer repeats of its question.
+#[derive(Clone, Copy, PartialEq, Eq, Debug)]
+pub enum Question {
+    /// The number of a message, which an acknowledgment answers.
+    OfNumber(u16),
+    /// The word of a stamp request with counter 0, which a reply answers.
+    OfWord(u64),
+}
+
+/// Whether a datagram answers a question.
+fn answers(question: Question, datagram: &Datagram) -> bool
+    ensures { result ≡ answers question datagram.now }
+{
+    match question {
+        Question::OfNumber(number) => match datagram {
+            Datagram::Message(message) => {
+                matches!(message.kind(), Kind::Ack) && message.number() == number
+            }
+            Datagram::Stamp(_) => false,
+        },
+        Question::OfWord(word) => match datagram {
+            Datagram::Stamp(Stamp::Reply(reply)) => reply.word() == word && reply.counter() == 0,
+            _ => false,
+        },
+    }
+}
+
+/// The datagram that octets spell, where it answers the question.
+pub(crate) fn answer_of(question: Question, octets: &[u8]) -> Option<Datagram>
+    ensures { result ≡ answer_of question (taken_of octets.now) }
+{
+    match read(octets) {
+        Taken::Good(datagram) => {
+            if answers(question, &datagram) {
+                Some(datagram)
+            } else {
+                None
+            }
+        }
+        Taken::Bad(_) => None,
+    }
+}

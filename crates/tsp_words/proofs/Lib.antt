@@ -1,0 +1,2 @@
+pub mod AddrLemmas
+pub mod PortLemmas
