@@ -1,0 +1,2 @@
+pub mod Daysides
+pub mod Octets

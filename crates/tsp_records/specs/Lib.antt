@@ -1,0 +1,4 @@
+pub mod Records
+pub mod Findings
+pub mod Bests
+pub mod Meaning
