@@ -9,17 +9,16 @@ use Rattle.tsp_replay.specs.Schedules.{Progress, Untitled, Titled, Heading, Runn
 use Rattle.tsp_replay.specs.Traces.{written_at, trace}
 use Rattle.tsp_world.specs.Refusals.{Valid}
 use Rattle.tsp_world.proofs.RunSafe.{runs-safe}
+use Rattle.tsp_lines.specs.declared.limits.TheConstants.{MOST_INPUT}
 use Rattle.tsp_lines.specs.Lines.{NoFeed, AreLines, IsInput, IsOver}
-use Rattle.tsp_lines.specs.Meanings.{Meaning}
 use Rattle.tsp_lines.specs.Outcomes.{Comes}
-use Rattle.tsp_lines.specs.declared.treat.Outcome.{Outcome}
-use Rattle.tsp_lines.specs.declared.treat.Outcome.TheVariants.{Ok as Done, Bad as Refused, ReadFault as NotRead, WriteFault as NotWritten, Limit as Limited, OutOfMemory as NoMemory}
-use Rattle.tsp_replay.specs.Meaning.{replaying}
+use Rattle.tsp_lines.specs.declared.treat.Outcome.TheVariants.{Ok as Done}
+use Rattle.tsp_replay.specs.Meaning.{IsSchedule, replaying}
+use Rattle.tsp_replay.proofs.ReadHeaders.{IsSchedule-header}
 use Rattle.tsp_cli.specs.declared.status.Status.{Status}
 use Rattle.tsp_cli.specs.declared.status.Status.TheVariants.{Ok, WriteFault, OutOfMemory}
 use Rattle.tsp_cli.specs.Commands.{EndsAs, Says}
 use Rattle.tsp_cli.specs.Headline.{PrintsHistory}
-use Rattle.tsp_cli.specs.Statuses.{status_of}
 
 -- the events that were read so far
 abbrev KeepsValid : Progress → Type 0
@@ -47,7 +46,7 @@ Reaches-valid [] p r = subst (λ q. KeepsValid q) (sym r) tt
 Reaches-valid (line ∷ before) p r = goes_valid r.0 line p (Reaches-valid before r.0 r.1) r.2
 
 done_prints : (p : Progress) (input left written now : Option (List ℕ)) (lines : List (List ℕ)) (octets text said : List ℕ)
-    → All NoFeed lines → Reaches (reverse lines) p → text ≡ written_at p → IsEnded p → said ≡ [] → AreLines octets lines → IsInput input octets → IsOver left → Grows written now (text ++ said) → PrintsHistory input left written now
+    → All NoFeed lines → Reaches (reverse lines) p → text ≡ written_at p → IsEnded p → said ≡ [] → AreLines octets lines → IsInput MOST_INPUT input octets → IsOver left → Grows written now (text ++ said) → PrintsHistory input left written now
 done_prints Untitled input left written now lines octets text said n r t e s a i o g = absurd e
 done_prints Titled input left written now lines octets text said n r t e s a i o g = absurd e
 done_prints (Heading header) input left written now lines octets text said n r t e s a i o g = absurd e
@@ -55,32 +54,25 @@ done_prints (Running header events) input left written now lines octets text sai
 done_prints (Ended header events) input left written now lines octets text said n r t e s a i o g =
     let valid : Valid header events = Reaches-valid (reverse lines) (Ended header events) r in
     let all : text ++ said ≡ trace header events = ap (λ l. text ++ l) s ∙ append-nil text ∙ t in
-    (header, events, octets, i, (lines, n, a, r), valid, o, subst (λ l. Grows written now l) all g, λ setting set. runs-safe header setting events set valid)
+    let is : IsSchedule octets header events = (lines, n, a, r) in
+    (header, events, octets, i, is, IsSchedule-header octets header events is, valid, o, subst (λ l. Grows written now l) all g, λ setting set. runs-safe header setting events set valid)
 
 -- a replay that ends well printed the history of a schedule
-pub Comes-prints : (input left written now : Option (List ℕ)) → Comes replaying 67108864 input left written now Done → PrintsHistory input left written now
+pub Comes-prints : (input left written now : Option (List ℕ)) → Comes replaying MOST_INPUT input left written now Done → PrintsHistory input left written now
 Comes-prints input left written now c =
     let w = c.0 in
     let accepts = w.4 in
     let done = w.5 in
-    done_prints accepts.0 input left written now w.0 done.0 w.1 w.2 w.3 accepts.1 accepts.2 (done.3.0 accepts.0 accepts.1) done.3.1 done.1 done.2 c.1 w.6
+    let whole = done.0 in
+    done_prints accepts.0 input left written now w.0 whole.0 w.1 w.2 w.3 accepts.1 accepts.2 (done.1.0 accepts.0 accepts.1) done.1.1 whole.1 whole.2 c.1 w.6
 
 -- where a replay's status is the best, it printed the history of a schedule
 pub EndsAs-prints : (input left written now : Option (List ℕ)) (status : Status) → EndsAs replaying input left written now status → status ≡ Ok → PrintsHistory input left written now
 EndsAs-prints input left written now status e is = Comes-prints input left written now (subst {A = Status} (λ s. EndsAs replaying input left written now s) is e)
 
--- the status of a treatment says what the treatment came to
-pub EndsAs-comes : (m : Meaning) (input left written now : Option (List ℕ)) (o : Outcome) → Comes m 67108864 input left written now o → EndsAs m input left written now (status_of o)
-EndsAs-comes m input left written now Done c = c
-EndsAs-comes m input left written now Refused c = c
-EndsAs-comes m input left written now NotRead c = c
-EndsAs-comes m input left written now NotWritten c = c
-EndsAs-comes m input left written now Limited c = c
-EndsAs-comes m input left written now NoMemory c = c
-
 -- not all of a text was written
-pub Says-cut : (text : List ℕ) (status answer : Status) (written now : Option (List ℕ)) (at : ℕ) → (answer ≡ WriteFault) ⊎ (answer ≡ OutOfMemory) → at < length text → Grows written now (take at text) → Says text status written now answer
-Says-cut text status answer written now at w l g = inr (w, (take at text, drop at text, omega (arith, length-drop at text, l), sym (take-append-drop at text), g))
+pub Says-cut : (text : List ℕ) (status given : Status) (written now : Option (List ℕ)) (at : ℕ) → (given ≡ WriteFault) ⊎ (given ≡ OutOfMemory) → at < length text → Grows written now (take at text) → Says text status written now given
+Says-cut text status given written now at w l g = inr (w, (take at text, drop at text, omega (arith, length-drop at text, l), sym (take-append-drop at text), g))
 
 -- the text of the first of some items, of which there is only one text
 pub item_text : {A : Type 0} (f : A → List ℕ) (xs : List A) (x : A) (text : List ℕ) → map f xs ≡ text ∷ [] → x ≡ get_or xs 0 x → f x ≡ text

@@ -1,36 +1,98 @@
 -- The words of commands, and what a command comes to.
-use Rattle.std.specs.Prelude.{◌≡◌, ◌≢◌, ◌⊎◌, ℕ, ◌<◌, ◌≤◌, List, [], ◌∷◌, ◌++◌, length, Option, Some, codes}
+use Rattle.std.specs.Prelude.{◌≡◌, ◌⊎◌, ℕ, ◌<◌, ◌≤◌, List, [], ◌∷◌, ◌++◌, length, Option, Some, Bool, true, codes}
 use Rattle.tsp_cli.specs.declared.status.Status.{Status}
 use Rattle.tsp_cli.specs.declared.status.Status.TheVariants.{Ok, Usage, Bad, ReadFault, WriteFault, LinkFault, NoAnswer, Limit, OutOfMemory}
+use Rattle.tsp_cli.specs.Statuses.{status_of}
+use Rattle.tsp_convert.specs.Packs.{AreMessageLines, pack_meaning}
+use Rattle.tsp_convert.specs.Shows.{AreHexLines, show_meaning}
 use Rattle.tsp_io.specs.Counts.{Rose}
 use Rattle.tsp_io.specs.Streams.{Grows}
+use Rattle.tsp_lines.specs.declared.limits.TheConstants.{MOST_INPUT}
+use Rattle.tsp_lines.specs.declared.treat.Outcome.{Outcome}
 use Rattle.tsp_lines.specs.declared.treat.Outcome.TheVariants.{Ok as Done, Bad as Refused, ReadFault as NotRead, WriteFault as NotWritten, Limit as Limited, OutOfMemory as NoMemory}
+use Rattle.tsp_lines.specs.Answers.{IsAnswer, Agrees}
 use Rattle.tsp_lines.specs.Meanings.{Meaning}
-use Rattle.tsp_lines.specs.Outcomes.{Comes}
+use Rattle.tsp_lines.specs.Outcomes.{Comes, KeepsUp}
+use Rattle.tsp_records.specs.Meaning.{AreExchangeLines, averaging}
+use Rattle.tsp_replay.specs.Meaning.{IsScheduleText, replaying}
+
+-- a command that reads lines from the source and writes to the sink
+pub data Command : Type 0 where
+  Replay : Command
+  Show : Command
+  Pack : Command
+  Icmp : Command
+
+-- a command's word
+abbrev pub word_of : Command → List ℕ
+word_of Replay = codes "replay"
+word_of Show = codes "show"
+word_of Pack = codes "pack"
+word_of Icmp = codes "icmp"
+
+-- what lines mean to a command
+abbrev pub meaning_of : Command → Meaning
+meaning_of Replay = replaying
+meaning_of Show = show_meaning
+meaning_of Pack = pack_meaning
+meaning_of Icmp = averaging
+
+-- octets are input of a command of which nothing is refused: a schedule's text, datagrams in hexadecimal, message lines, or lines of exchanges
+abbrev pub IsTextOf : Command → List ℕ → Type 0
+IsTextOf Replay octets = IsScheduleText octets
+IsTextOf Show octets = AreHexLines octets
+IsTextOf Pack octets = AreMessageLines octets
+IsTextOf Icmp octets = AreExchangeLines octets
+
+-- the words are a command's word alone
+abbrev pub IsCommand : List (List ℕ) → Command → Type 0
+IsCommand words command = words ≡ word_of command ∷ []
 
 -- the words are no command's
 abbrev pub IsNoCommand : List (List ℕ) → Type 0
-IsNoCommand words = (words ≢ codes "replay" ∷ []) × (words ≢ codes "show" ∷ []) × (words ≢ codes "pack" ∷ [])
+IsNoCommand words = (command : Command) → ¬ IsCommand words command
 
--- what a status says of an input of at most 64 MiB whose lines mean this, of what is left of it, and of what was written
+-- what a status says of an input whose lines mean this, of what is left of it, and of what was written
 abbrev pub EndsAs : Meaning → Option (List ℕ) → Option (List ℕ) → Option (List ℕ) → Option (List ℕ) → Status → Type 0
-EndsAs m input left written now Ok = Comes m 67108864 input left written now Done
+EndsAs m input left written now Ok = Comes m MOST_INPUT input left written now Done
 EndsAs m input left written now Usage = ⊥
-EndsAs m input left written now Bad = Comes m 67108864 input left written now Refused
-EndsAs m input left written now ReadFault = Comes m 67108864 input left written now NotRead
-EndsAs m input left written now WriteFault = Comes m 67108864 input left written now NotWritten
+EndsAs m input left written now Bad = Comes m MOST_INPUT input left written now Refused
+EndsAs m input left written now ReadFault = Comes m MOST_INPUT input left written now NotRead
+EndsAs m input left written now WriteFault = Comes m MOST_INPUT input left written now NotWritten
 EndsAs m input left written now LinkFault = ⊥
 EndsAs m input left written now NoAnswer = ⊥
-EndsAs m input left written now Limit = Comes m 67108864 input left written now Limited
-EndsAs m input left written now OutOfMemory = Comes m 67108864 input left written now NoMemory
+EndsAs m input left written now Limit = Comes m MOST_INPUT input left written now Limited
+EndsAs m input left written now OutOfMemory = Comes m MOST_INPUT input left written now NoMemory
+
+-- what a status says of the answer to the input, which is this outcome with this output
+abbrev pub AgreesAs : Outcome → List ℕ → Option (List ℕ) → Option (List ℕ) → Status → Type 0
+AgreesAs outcome output written now Ok = Agrees outcome output written now Done
+AgreesAs outcome output written now Usage = ⊥
+AgreesAs outcome output written now Bad = Agrees outcome output written now Refused
+AgreesAs outcome output written now ReadFault = Agrees outcome output written now NotRead
+AgreesAs outcome output written now WriteFault = Agrees outcome output written now NotWritten
+AgreesAs outcome output written now LinkFault = ⊥
+AgreesAs outcome output written now NoAnswer = ⊥
+AgreesAs outcome output written now Limit = Agrees outcome output written now Limited
+AgreesAs outcome output written now OutOfMemory = Agrees outcome output written now NoMemory
+
+-- how a command's run ends. The counts are those of failed reads and failed writes, before and after
+pub record Runs (command : Command) (input left written now : Option (List ℕ)) (ended : Bool) (reads reads_now writes writes_now : ℕ) (status : Status) : Type 0 where
+  -- what the status says of input and output
+  pub ends : EndsAs (meaning_of command) input left written now status
+  -- of a told input: the status agrees with the answer to it
+  pub answers : (octets : List ℕ) (outcome : Outcome) (output : List ℕ) → input ≡ Some octets → IsAnswer (meaning_of command) MOST_INPUT octets outcome output → AgreesAs outcome output written now status
+  -- of a told input, where no count rose: the status is that of the answer, or there was no memory
+  pub decided : (octets : List ℕ) (outcome : Outcome) (output : List ℕ) → input ≡ Some octets → IsAnswer (meaning_of command) MOST_INPUT octets outcome output → ¬ Rose reads reads_now → ¬ Rose writes writes_now → (status ≡ status_of outcome) ⊎ (status ≡ OutOfMemory)
+  -- of a told input of at most 64 MiB of which nothing is refused, where no count rose: the status is Ok, or there was no memory
+  pub complete : (octets : List ℕ) → input ≡ Some octets → length octets ≤ MOST_INPUT → IsTextOf command octets → ¬ Rose reads reads_now → ¬ Rose writes writes_now → (status ≡ Ok) ⊎ (status ≡ OutOfMemory)
+  -- output keeps up with what was read
+  pub keeps_up : KeepsUp (meaning_of command) MOST_INPUT input left written now
+  -- with Ok the source gave its end
+  pub whole : status ≡ Ok → ended ≡ true
 
 -- what a status says where a text was to be written and then this status given: all of it was, or a part that isn't the whole
 abbrev pub Says : List ℕ → Status → Option (List ℕ) → Option (List ℕ) → Status → Type 0
 Says text status written now answer =
     ((answer ≡ status) × Grows written now text)
     ⊎ (((answer ≡ WriteFault) ⊎ (answer ≡ OutOfMemory)) × ((part : List ℕ) × (rest : List ℕ) × (0 < length rest) × (text ≡ part ++ rest) × Grows written now part))
-
--- where the input is told, has at most 64 MiB and is such a text, and no count of faults rose, the status is Ok, or there was no memory
-abbrev pub Completes : (List ℕ → Type 0) → Option (List ℕ) → ℕ → ℕ → ℕ → ℕ → Status → Type 0
-Completes IsText input reads reads_now writes writes_now status =
-    (octets : List ℕ) → input ≡ Some octets → length octets ≤ 67108864 → IsText octets → ¬ Rose reads reads_now → ¬ Rose writes writes_now → (status ≡ Ok) ⊎ (status ≡ OutOfMemory)

@@ -9,6 +9,7 @@ tsp: the time synchronization protocol, from octets to octets
     tsp replay     reads a schedule, writes every act of its run
     tsp show       reads lines of hexadecimal, writes each datagram as a message line
     tsp pack       reads message lines, writes each datagram as a line of hexadecimal
+    tsp icmp       reads exchanges of ICMP Timestamp messages, writes offsets and corrections
     tsp --help     prints this text
     tsp --version  prints the program's version
 

@@ -1,7 +1,9 @@
-//! The program: real objects, and one call over them.
+//! The program: one call over standard input and standard output.
 #![tactic(auto)]
 
 mod help;
+#[cfg(test)]
+mod limit_tests;
 mod run;
 mod status;
 #[cfg(test)]
@@ -9,29 +11,38 @@ mod tests;
 
 use run::{run, say};
 use status::Status;
-use std::alloc::Global;
+use std::alloc::AllocError;
+use std::io::ErrorKind;
 use std::process::ExitCode;
 use std::rt::Env;
 use std::{env, io};
 use tsp_io::machine::{Reading, Writing};
 
-/// The words after the program's name; none where one of them isn't text.
-fn words_of(rt: &(impl Env + AllocGlobal)) -> Vec<String> {
+/// The words after the program's name: none where one of them isn't UTF-8, and no answer where memory
+/// for them is refused.
+fn words_of(rt: &(impl Env + AllocGlobal)) -> Result<Vec<String>, AllocError> {
     let alloc = rt.alloc();
     match env::args(rt) {
-        Ok(args) => args.skip(1).collect(alloc).unwrap_or(Vec::new(alloc)),
-        Err(_) => Vec::new(alloc),
+        Ok(args) => args.skip(1).collect(alloc),
+        Err(fault) if fault.kind() == ErrorKind::OutOfMemory => Err(AllocError),
+        Err(_) => Ok(Vec::new(alloc)),
+    }
+}
+
+/// Does what the words ask for, over standard input and standard output.
+fn answer(rt: &HostRuntime, words: &[String]) -> Status {
+    let mut source = Reading::new(rt.reader());
+    let mut sink = Writing::new(io::writer(rt));
+    match help::asked(words) {
+        Some(text) => say(&mut sink, text, Status::Ok),
+        None => run(rt.alloc(), words, &mut source, &mut sink),
     }
 }
 
 fn main(rt: HostRuntime) -> ExitCode {
-    let alloc: Global = rt.alloc();
-    let words = words_of(&rt);
-    let mut source = Reading::new(rt.reader());
-    let mut sink = Writing::new(io::writer(&rt));
-    let status = match help::asked(words.as_slice()) {
-        Some(text) => say(&mut sink, text, Status::Ok),
-        None => run(alloc, words.as_slice(), &mut source, &mut sink),
+    let status = match words_of(&rt) {
+        Ok(words) => answer(&rt, words.as_slice()),
+        Err(_) => Status::OutOfMemory,
     };
     ExitCode::from(status.number())
 }

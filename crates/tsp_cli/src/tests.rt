@@ -200,6 +200,35 @@ fn replays(rt: HostRuntime) {
     }
 }
 
+/// Strict elections, networks and ports are read, and refused: each node has one port.
+#[test]
+fn refuses_what_needs_ports(rt: HostRuntime) {
+    for (input, written) in [
+        ("tsp-schedule 2\ndrift 0\nstrict\n", "bad 1 header\n"),
+        ("tsp-schedule 1\ndrift 0\nstrict\n", "bad 3 header\n"),
+        ("tsp-schedule 1\ndrift 0\nnet 0\n", "bad 3 header\n"),
+        (
+            "tsp-schedule 1\ndrift 0\nnode a 0 0 m\nnet 0\n",
+            "bad 4 header\n",
+        ),
+        (
+            "tsp-schedule 1\ndrift 0\nnode a 0 0 m\nstrict\n",
+            "bad 4 line\n",
+        ),
+        (
+            "tsp-schedule 1\ndrift 0\nnode a 0 0 m\nat 0 bytes 0/1 - 00\n",
+            "bad 4 line\n",
+        ),
+        (
+            "tsp-schedule 1\ndrift 0\nnode a 0 0 m\nat 0 bytes 0 - 00\n",
+            "bad 4 not-up 0\n",
+        ),
+    ] {
+        let row = plain(&["replay"], input, Status::Bad, written);
+        assert!(rt; comes(rt.alloc(), &row) == Ok(true), "{written}");
+    }
+}
+
 /// Nodes follow a master, are corrected once, and back one candidate within the hold.
 #[test]
 fn follows_and_holds(rt: HostRuntime) {
@@ -214,11 +243,15 @@ fn follows_and_holds(rt: HostRuntime) {
 fn other_runs_end(rt: HostRuntime) {
     let digits =
         "0101000700000000000004d2616c7068610000000000000000000000000000000000000000000000000000000000000000000000000000000000000000000000000000000000000000000000\n";
+    let exchange =
+        "host-1 0d00eb74cb21e91d01dd516e0000000000000000 0e0040c2cb21e91d01dd516e01dd52fc01dd52fc 31282321\n";
+    let averaged = "host-1 -3 403\ngroup 2 -3000 3000 -1500\ncorrect host-1 1500\n";
     for row in [
         plain(&[], ANSWERS, Status::Usage, "usage\n"),
         plain(&["replay", "x"], ANSWERS, Status::Usage, "usage\n"),
         plain(&["show"], digits, Status::Ok, "adjtime 7 1234 alpha\n"),
         plain(&["pack"], "adjtime 7 1234 alpha\n", Status::Ok, digits),
+        plain(&["icmp"], exchange, Status::Ok, averaged),
         Row {
             words: &["replay"],
             input: ANSWERS,
@@ -259,7 +292,12 @@ fn a_failed_read_ends_the_replay(rt: HostRuntime) -> Result<(), AllocError> {
 #[test]
 fn long_lines_are_refused(rt: HostRuntime) -> Result<(), AllocError> {
     let alloc = rt.alloc();
-    for (start, written) in [("node ", "bad 4 header\n"), ("nodes", "bad 4 line\n")] {
+    for (start, written) in [
+        ("node ", "bad 4 header\n"),
+        ("net ", "bad 4 header\n"),
+        ("nodes", "bad 4 line\n"),
+        ("nets", "bad 4 line\n"),
+    ] {
         let mut input = String::from_str(alloc, "tsp-schedule 1\ndrift 0\nnode a 0 1000 m\n")?;
         input.push_str(start)?;
         for _ in start.len()..1100 {

@@ -3,3 +3,5 @@ pub mod StageLemmas
 pub mod TraceLemmas
 pub mod TreatLemmas
 pub mod OneReading
+pub mod Definites
+pub mod ReadHeaders

@@ -1,33 +1,39 @@
 -- Lines are read in one way, and none of a schedule is refused.
-use Rattle.std.proofs.Common.{◌≡◌, ℕ, ◌≤◌, inl, inr, List, [], ◌∷◌, ◌++◌, Some, None, sym, ap, ◌∙◌, subst, length, append_assoc, arith}
+use Rattle.std.proofs.Common.{◌≡◌, ℕ, inl, inr, List, [], ◌∷◌, ◌++◌, None, sym, ap, ◌∙◌, subst, length, arith}
 use Rattle.std.specs.Prelude.{reverse}
-use Rattle.std.specs.declared.option.Option.{Option}
-use Rattle.std.proofs.lemmas.List.{reverse-append}
 use Rattle.tsp_base.specs.declared.event.Event.{Event}
 use Rattle.tsp_base.specs.declared.header.NodeLine.{NodeLine}
 use Rattle.tsp_base.specs.Headers.{HeaderValue}
-use Rattle.tsp_lines.specs.Unrefused.{Passes, Unrefused}
 use Rattle.tsp_lines.proofs.OneCut.{AreLines-one}
 use Rattle.tsp_script.specs.declared.event_line.EventItem.TheVariants.{Event as EventOf, End}
-use Rattle.tsp_script.specs.declared.head_line.HeadItem.TheVariants.{Title, Drift, Node, NotHead}
+use Rattle.tsp_script.specs.declared.head_line.HeadItem.TheVariants.{Drift, Strict, Node, Net, NotHead}
 use Rattle.tsp_script.specs.Schedules.{SpellsEvent, SpellsHead}
 use Rattle.tsp_script.proofs.OneEvent.{SpellsEvent-one}
 use Rattle.tsp_script.proofs.OneHead.{SpellsHead-one}
-use Rattle.tsp_replay.specs.Meaning.{IsSchedule, IsScheduleText, replaying}
-use Rattle.tsp_replay.specs.Schedules.{Progress, Untitled, Titled, Heading, Running, Ended, Takes, RunsOn, GoesOn, Reaches, Refuses, RefusesRun, Limits, LimitsRun, Lacks}
+use Rattle.tsp_replay.specs.Meaning.{IsSchedule}
+use Rattle.tsp_replay.specs.Schedules.{Progress, Untitled, Titled, Heading, Running, Ended, Takes, OnOnePort, next_place, new_header, IsLater, RunsOn, GoesOn, Reaches, Refuses, RefusesRun, Limits, LimitsRun}
 use Rattle.tsp_world.specs.Refusals.{scene, refusal}
 
-same_event : (line : List ℕ) (e f : Event) → SpellsEvent line (EventOf e) → SpellsEvent line (EventOf f) → e ≡ f
+pub same_event : (line : List ℕ) (e f : Event) → SpellsEvent line (EventOf e) → SpellsEvent line (EventOf f) → e ≡ f
 same_event line e f s t = let p = SpellsEvent-one line (EventOf e) (EventOf f) s t in cc
 
-event_end : (line : List ℕ) (e : Event) → SpellsEvent line (EventOf e) → SpellsEvent line End → ⊥
+pub event_end : (line : List ℕ) (e : Event) → SpellsEvent line (EventOf e) → SpellsEvent line End → ⊥
 event_end line e s t = let p = SpellsEvent-one line (EventOf e) End s t in absurd (cc)
 
-same_node : (line : List ℕ) (m n : NodeLine) → SpellsHead 3 line (Node m) → SpellsHead 3 line (Node n) → m ≡ n
-same_node line m n s t = let p = SpellsHead-one 3 line (Node m) (Node n) s t in cc
+same_node : (place : ℕ) (line : List ℕ) (m n : NodeLine) → SpellsHead place line (Node m) → SpellsHead place line (Node n) → m ≡ n
+same_node place line m n s t = let p = SpellsHead-one place line (Node m) (Node n) s t in cc
 
-node_end : (line : List ℕ) (n : NodeLine) → SpellsHead 3 line (Node n) → SpellsHead 3 line NotHead → ⊥
-node_end line n s t = let p = SpellsHead-one 3 line (Node n) NotHead s t in absurd (cc)
+pub node_end : (place : ℕ) (line : List ℕ) (n : NodeLine) → SpellsHead place line (Node n) → SpellsHead place line NotHead → ⊥
+node_end place line n s t = let p = SpellsHead-one place line (Node n) NotHead s t in absurd (cc)
+
+-- what replays don't take yet is no node and doesn't end the header
+node_later : (header : HeaderValue) (line : List ℕ) (n : NodeLine) → SpellsHead (next_place header) line (Node n) → IsLater header line → ⊥
+node_later header line n s (inl t) = let p = SpellsHead-one (next_place header) line (Node n) Strict s t in absurd (cc)
+node_later header line n s (inr t) = let p = SpellsHead-one (next_place header) line (Node n) (Net t.0) s t.1 in absurd (cc)
+
+pub end_later : (header : HeaderValue) (line : List ℕ) → SpellsHead (next_place header) line NotHead → IsLater header line → ⊥
+end_later header line s (inl t) = let p = SpellsHead-one (next_place header) line NotHead Strict s t in absurd (cc)
+end_later header line s (inr t) = let p = SpellsHead-one (next_place header) line NotHead (Net t.0) s t.1 in absurd (cc)
 
 same_drift : (line : List ℕ) (p q : ℕ) → SpellsHead 2 line (Drift p) → SpellsHead 2 line (Drift q) → p ≡ q
 same_drift line p q s t = let e = SpellsHead-one 2 line (Drift p) (Drift q) s t in cc
@@ -41,83 +47,61 @@ RunsOn-one header events line p q (inr g) (inr h) = g.1 ∙ sym h.1
 
 GoesOn-one : (at : Progress) (line : List ℕ) (p q : Progress) → GoesOn at line p → GoesOn at line q → p ≡ q
 GoesOn-one Untitled line p q g h = g.1 ∙ sym h.1
-GoesOn-one Titled line p q g h = g.2 ∙ ap (λ d. Heading (record { drift = d; nodes = [] })) (same_drift line g.0 h.0 g.1 h.1) ∙ sym h.2
-GoesOn-one (Heading header) line p q (inl g) (inl h) = g.3 ∙ ap (λ n. Heading (record header { nodes = header.nodes ++ n ∷ [] })) (same_node line g.0 h.0 g.1 h.1) ∙ sym h.3
-GoesOn-one (Heading header) line p q (inl g) (inr h) = absurd (node_end line g.0 g.1 h.0)
-GoesOn-one (Heading header) line p q (inr g) (inl h) = absurd (node_end line h.0 h.1 g.0)
+GoesOn-one Titled line p q g h = g.2 ∙ ap (λ d. Heading (new_header d)) (same_drift line g.0 h.0 g.1 h.1) ∙ sym h.2
+GoesOn-one (Heading header) line p q (inl g) (inl h) = g.3 ∙ ap (λ n. Heading (record header { nodes = header.nodes ++ n ∷ [] })) (same_node (next_place header) line g.0 h.0 g.1 h.1) ∙ sym h.3
+GoesOn-one (Heading header) line p q (inl g) (inr h) = absurd (node_end (next_place header) line g.0 g.1 h.0)
+GoesOn-one (Heading header) line p q (inr g) (inl h) = absurd (node_end (next_place header) line h.0 h.1 g.0)
 GoesOn-one (Heading header) line p q (inr g) (inr h) = RunsOn-one header [] line p q g.2 h.2
 GoesOn-one (Running header events) line p q g h = RunsOn-one header events line p q g h
 GoesOn-one (Ended header events) line p q g h = absurd g
 
-Reaches-one : (lines : List (List ℕ)) (p q : Progress) → Reaches lines p → Reaches lines q → p ≡ q
+pub Reaches-one : (lines : List (List ℕ)) (p q : Progress) → Reaches lines p → Reaches lines q → p ≡ q
 Reaches-one [] p q r s = r ∙ sym s
 Reaches-one (line ∷ before) p q r s = GoesOn-one r.0 line p q r.2 (subst (λ x. GoesOn x line q) (sym (Reaches-one before r.0 s.0 r.1 s.1)) s.2)
 
 -- a line that goes on is not refused
 RunsOn-not_refused : (header : HeaderValue) (events : List Event) (line cause : List ℕ) (p : Progress) → RunsOn header events line p → RefusesRun header events line cause → ⊥
-RunsOn-not_refused header events line cause p (inl g) (inl r) = r.0 (EventOf g.0) g.1
-RunsOn-not_refused header events line cause p (inl g) (inr (e, fault, s, f, w)) =
+RunsOn-not_refused header events line cause p (inl g) (inl (inl none, c)) = none (EventOf g.0) g.1
+RunsOn-not_refused header events line cause p (inl g) (inl (inr (e, s, n), c)) = n (subst (λ x. OnOnePort x) (same_event line g.0 e g.1 s) g.4)
+RunsOn-not_refused header events line cause p (inl g) (inr (e, fault, s, port, f, w)) =
     let same = same_event line g.0 e g.1 s in
     let none : refusal (scene header events) e ≡ None = rw (sym same) g.2 in
     absurd (cc)
-RunsOn-not_refused header events line cause p (inr g) (inl r) = r.0 End g.0
+RunsOn-not_refused header events line cause p (inr g) (inl (inl none, c)) = none End g.0
+RunsOn-not_refused header events line cause p (inr g) (inl (inr (e, s, n), c)) = event_end line e s g.0
 RunsOn-not_refused header events line cause p (inr g) (inr r) = event_end line r.0 r.2 g.0
 
-GoesOn-not_refused : (at : Progress) (line cause : List ℕ) (p : Progress) → GoesOn at line p → Refuses at line cause → ⊥
-GoesOn-not_refused Untitled line cause p g r = r.0 Title g.0
+pub GoesOn-not_refused : (at : Progress) (line cause : List ℕ) (p : Progress) → GoesOn at line p → Refuses at line cause → ⊥
+GoesOn-not_refused Untitled line cause p g r = r.0 g.0
 GoesOn-not_refused Titled line cause p g r = r.0 (Drift g.0) g.1
 GoesOn-not_refused (Heading header) line cause p (inl g) (inl (inl none, e)) = none (Node g.0) g.1
-GoesOn-not_refused (Heading header) line cause p (inl g) (inl (inr (inl (node, s, n)), e)) = n (subst (λ x. Takes header x) (same_node line g.0 node g.1 s) g.2)
-GoesOn-not_refused (Heading header) line cause p (inl g) (inl (inr (inr r), e)) = node_end line g.0 g.1 r.0
-GoesOn-not_refused (Heading header) line cause p (inl g) (inr r) = node_end line g.0 g.1 r.0
+GoesOn-not_refused (Heading header) line cause p (inl g) (inl (inr (inl (node, s, n)), e)) = n (subst (λ x. Takes header x) (same_node (next_place header) line g.0 node g.1 s) g.2)
+GoesOn-not_refused (Heading header) line cause p (inl g) (inl (inr (inr (inl r)), e)) = node_end (next_place header) line g.0 g.1 r.0
+GoesOn-not_refused (Heading header) line cause p (inl g) (inl (inr (inr (inr r)), e)) = node_later header line g.0 g.1 r
+GoesOn-not_refused (Heading header) line cause p (inl g) (inr r) = node_end (next_place header) line g.0 g.1 r.0
 GoesOn-not_refused (Heading header) line cause p (inr g) (inl (inl none, e)) = none NotHead g.0
-GoesOn-not_refused (Heading header) line cause p (inr g) (inl (inr (inl r), e)) = node_end line r.0 r.1 g.0
-GoesOn-not_refused (Heading header) line cause p (inr g) (inl (inr (inr r), e)) = let z : length header.nodes ≡ 0 = ap length r.1 in omega (arith, z, g.1)
+GoesOn-not_refused (Heading header) line cause p (inr g) (inl (inr (inl r), e)) = node_end (next_place header) line r.0 r.1 g.0
+GoesOn-not_refused (Heading header) line cause p (inr g) (inl (inr (inr (inr r)), e)) = end_later header line g.0 r
+GoesOn-not_refused (Heading header) line cause p (inr g) (inl (inr (inr (inl r)), e)) = let z : length header.nodes ≡ 0 = ap length r.1 in omega (arith, z, g.1)
 GoesOn-not_refused (Heading header) line cause p (inr g) (inr r) = RunsOn-not_refused header [] line cause p g.2 r.2
 GoesOn-not_refused (Running header events) line cause p g r = RunsOn-not_refused header events line cause p g r
 GoesOn-not_refused (Ended header events) line cause p g r = g
 
 -- and passes no limit
 RunsOn-not_limited : (header : HeaderValue) (events : List Event) (line : List ℕ) (p : Progress) → RunsOn header events line p → LimitsRun header events line → ⊥
-RunsOn-not_limited header events line p (inl g) (e, a, b, s, f) =
+RunsOn-not_limited header events line p (inl g) (e, a, b, s, port, f) =
     let same = same_event line g.0 e g.1 s in
     let none : refusal (scene header events) e ≡ None = rw (sym same) g.2 in
     absurd (cc)
 RunsOn-not_limited header events line p (inr g) r = event_end line r.0 r.3 g.0
 
-GoesOn-not_limited : (at : Progress) (line : List ℕ) (p : Progress) → GoesOn at line p → Limits at line → ⊥
+pub GoesOn-not_limited : (at : Progress) (line : List ℕ) (p : Progress) → GoesOn at line p → Limits at line → ⊥
 GoesOn-not_limited Untitled line p g r = r
 GoesOn-not_limited Titled line p g r = r
-GoesOn-not_limited (Heading header) line p (inl g) r = node_end line g.0 g.1 r.0
+GoesOn-not_limited (Heading header) line p (inl g) r = node_end (next_place header) line g.0 g.1 r.0
 GoesOn-not_limited (Heading header) line p (inr g) r = RunsOn-not_limited header [] line p g.2 r.2
 GoesOn-not_limited (Running header events) line p g r = RunsOn-not_limited header events line p g r
 GoesOn-not_limited (Ended header events) line p g r = r
-
--- where all lines lead somewhere, each of them goes on behind those before it
-Reaches-part : (later : List (List ℕ)) (line : List ℕ) (before : List (List ℕ)) (p : Progress) → Reaches (later ++ line ∷ before) p → (q : Progress) × (next : Progress) × Reaches before q × GoesOn q line next
-Reaches-part [] line before p r = (r.0, p, r.1, r.2)
-Reaches-part (x ∷ later) line before p r = Reaches-part later line before r.0 r.1
-
-Reaches-at : (lines front rest : List (List ℕ)) (line : List ℕ) (p : Progress) → lines ≡ front ++ line ∷ rest → Reaches (reverse lines) p → (q : Progress) × (next : Progress) × Reaches (reverse front) q × GoesOn q line next
-Reaches-at lines front rest line p e r =
-    let back : reverse lines ≡ reverse rest ++ line ∷ reverse front =
-    ap reverse e ∙ reverse-append front (line ∷ rest) ∙ ap (λ l. l ++ reverse front) (reverse-append (line ∷ []) rest) ∙ append_assoc (reverse rest) (line ∷ []) (reverse front) in
-    Reaches-part (reverse rest) line (reverse front) p (subst (λ l. Reaches l p) back r)
-
--- nothing of a schedule is refused
-Passes-schedule : (lines : List (List ℕ)) (header : HeaderValue) (events : List Event) → Reaches (reverse lines) (Ended header events) → Passes replaying lines
-Passes-schedule lines header events r = record {
-  accepted = λ front line rest cause e (q, reaches, refuses).
-      let s = Reaches-at lines front rest line (Ended header events) e r in
-      GoesOn-not_refused q line cause s.1 (subst (λ x. GoesOn x line s.1) (Reaches-one (reverse front) s.0 q s.2 reaches) s.3) refuses;
-  within = λ front line rest e (q, reaches, limits).
-      let s = Reaches-at lines front rest line (Ended header events) e r in
-      GoesOn-not_limited q line s.1 (subst (λ x. GoesOn x line s.1) (Reaches-one (reverse front) s.0 q s.2 reaches) s.3) limits;
-  whole = λ cause (q, reaches, lacks). subst {A = Progress} (λ x. Lacks x cause) (Reaches-one (reverse lines) q (Ended header events) reaches r) lacks;
-}
-
-pub Unrefused-schedule : (octets : List ℕ) (input : Option (List ℕ)) → input ≡ Some octets → length octets ≤ 67108864 → IsScheduleText octets → Unrefused replaying 67108864 input
-Unrefused-schedule octets input e l (header, events, (lines, feedless, are, reaches)) = (octets, lines, e, l, feedless, are, Passes-schedule lines header events reaches)
 
 -- a text is one schedule's
 pub IsSchedule-one : (octets : List ℕ) (header other : HeaderValue) (events others : List Event) → IsSchedule octets header events → IsSchedule octets other others → (header ≡ other) × (events ≡ others)

@@ -1,5 +1,5 @@
 -- How a stage goes on, and how it halts.
-use Rattle.std.specs.Prelude.{◌≡◌, ◌≢◌, ℕ, ◌<◌, List, [], ◌∷◌, ◌++◌, length, Ok, Err, None, MatchResult, refl}
+use Rattle.std.specs.Prelude.{◌≡◌, ◌≢◌, ℕ, ◌<◌, List, [], ◌∷◌, ◌++◌, length, Ok, Err, None, MatchResult, codes, refl}
 use Rattle.std.proofs.Common.{sym, ap, ◌∙◌, inl, inr, subst}
 use Rattle.std.specs.declared.result.Result.{Result}
 use Rattle.tsp_base.specs.declared.event.Event.{Event}
@@ -12,16 +12,16 @@ use Rattle.tsp_lines.specs.declared.treatment.Stop.TheVariants.{Bad, Limit, Writ
 use Rattle.tsp_script.specs.declared.event_line.EventItem.{EventItem}
 use Rattle.tsp_script.specs.declared.event_line.EventItem.TheVariants.{Event as EventOf, End}
 use Rattle.tsp_script.specs.declared.head_line.HeadItem.{HeadItem}
-use Rattle.tsp_script.specs.declared.head_line.HeadItem.TheVariants.{Drift, Node, NotHead}
+use Rattle.tsp_script.specs.declared.head_line.HeadItem.TheVariants.{Title, Drift, Node, NotHead}
 use Rattle.tsp_script.specs.declared.line_fault.LineFault.{LineFault}
 use Rattle.tsp_script.specs.Schedules.{SpellsEvent, SpellsHead}
 use Rattle.tsp_world.specs.declared.world.World.{World}
 use Rattle.tsp_world.specs.Refusals.{scene, refusal, IsRefusal}
 use Rattle.tsp_world.specs.WorldStands.{WorldStands}
 use Rattle.tsp_replay.specs.declared.stage.Stage.{Stage}
-use Rattle.tsp_replay.specs.declared.stage.Stage.TheVariants.{Heading as AtHeading, Running as AtRunning, Ended as AtEnded}
-use Rattle.tsp_replay.specs.Schedules.{Progress, Untitled, Titled, Heading, Running, Ended, GoesOn, RunsOn, Takes, IsCause}
-use Rattle.tsp_replay.specs.Stages.{StageStands, Advances, AdvancesRun, Halts, HaltsRun, HaltsFirst, HaltsNode, HaltsEvent, StopsFor}
+use Rattle.tsp_replay.specs.declared.stage.Stage.TheVariants.{Titled as AtTitled, Heading as AtHeading, Running as AtRunning, Ended as AtEnded}
+use Rattle.tsp_replay.specs.Schedules.{Progress, Untitled, Titled, Heading, Running, Ended, GoesOn, RunsOn, Takes, OnOnePort, next_place, new_header, IsCause}
+use Rattle.tsp_replay.specs.Stages.{StageStands, Advances, AdvancesRun, Halts, HaltsRun, HaltsFirst, HaltsNode, HaltsPort, HaltsEvent, StopsFor}
 
 pub MatchResult-map : {A B : Type 0} {P R : A → Type 0} {Q S : B → Type 0} (r : Result A B) → MatchResult r P Q → ((a : A) → P a → R a) → ((b : B) → Q b → S b) → MatchResult r R S
 MatchResult-map (Ok a) h f g = f a h
@@ -69,11 +69,18 @@ HaltsEvent-stops header events e fault WriteFault s i = absurd (no_write fault s
 HaltsEvent-stops header events e fault OutOfMemory s i = tt
 
 -- where an event is refused, so is its line
-pub HaltsRun-event : (header : HeaderValue) (events : List Event) (e : Event) (line : List ℕ) (stop : Stop) → SpellsEvent line (EventOf e) → HaltsEvent header events e stop → HaltsRun header events line stop
-HaltsRun-event header events e line (Bad cause) s h = inr (e, h.0, s, h.1, h.2)
-HaltsRun-event header events e line Limit s h = (e, h.0, h.1, s, h.2)
+pub HaltsRun-event : (header : HeaderValue) (events : List Event) (e : Event) (line : List ℕ) (stop : Stop) → SpellsEvent line (EventOf e) → HaltsPort header events e stop → HaltsRun header events line stop
+HaltsRun-event header events e line (Bad cause) s (inl h) = inl (inr (e, s, h.0), h.1)
+HaltsRun-event header events e line (Bad cause) s (inr h) = inr (e, h.1.0, s, h.0, h.1.1, h.1.2)
+HaltsRun-event header events e line Limit s h = (e, h.1.0, h.1.1, s, h.0, h.1.2)
 HaltsRun-event header events e line WriteFault s h = h
 HaltsRun-event header events e line OutOfMemory s h = tt
+
+pub HaltsPort-event : (header : HeaderValue) (events : List Event) (e : Event) (stop : Stop) → OnOnePort e → HaltsEvent header events e stop → HaltsPort header events e stop
+HaltsPort-event header events e (Bad cause) port h = inr (port, h)
+HaltsPort-event header events e Limit port h = (port, h)
+HaltsPort-event header events e WriteFault port h = h
+HaltsPort-event header events e OutOfMemory port h = tt
 
 event_same : (r : Result EventItem LineFault) (e other : Event) → r ≡ Ok (EventOf e) → r ≡ Ok (EventOf other) → other ≡ e
 event_same r e other p q = cc
@@ -88,10 +95,10 @@ only_event header events e line r is one other (inr g) = absurd (event_not_end r
 
 -- a line of an event that nothing refuses is accepted
 pub AdvancesRun-event : (header : HeaderValue) (events : List Event) (e : Event) (line : List ℕ) (next : Stage) (r : Result EventItem LineFault) → r ≡ Ok (EventOf e) → ((item : EventItem) → SpellsEvent line item → r ≡ Ok item) →
-    SpellsEvent line (EventOf e) → refusal (scene header events) e ≡ None → StageStands (Running header (e ∷ events)) next → AdvancesRun header events line next
-AdvancesRun-event header events e line next r is one spells none stands = record {
+    SpellsEvent line (EventOf e) → refusal (scene header events) e ≡ None → OnOnePort e → StageStands (Running header (e ∷ events)) next → AdvancesRun header events line next
+AdvancesRun-event header events e line next r is one spells none port stands = record {
   to = Running header (e ∷ events);
-  goes = inl (e, spells, none, refl);
+  goes = inl (e, spells, none, refl, port);
   stands = stands;
   only = only_event header events e line r is one;
 }
@@ -110,17 +117,33 @@ AdvancesRun-end header events line r is one spells = record {
   only = only_end header events line r is one;
 }
 
+title_same : (r : Result HeadItem LineFault) (v w : ℕ) → r ≡ Ok (Title v) → r ≡ Ok (Title w) → v ≡ w
+title_same r v w p q = cc
+
+-- the title of the first version is accepted
+pub Advances-title : (v : ℕ) (line : List ℕ) (next : Stage) → SpellsHead 1 line (Title v) → v ≡ 1 → next ≡ AtTitled → Advances Untitled line next
+Advances-title v line next spells first next_is = record {
+  to = Titled;
+  goes = (subst (λ (k : ℕ). SpellsHead 1 line (Title k)) first spells, refl);
+  stands = subst (λ s. StageStands Titled s) (sym next_is) tt;
+  only = λ other g. g.1;
+}
+
+-- and that of another is refused
+pub Halts-title : (v : ℕ) (line : List ℕ) (stop : Stop) (r : Result HeadItem LineFault) → r ≡ Ok (Title v) → ((item : HeadItem) → SpellsHead 1 line item → r ≡ Ok item) → v ≢ 1 → stop ≡ Bad (codes "header") → Halts Untitled line stop
+Halts-title v line stop r is one other stop_is = subst (λ s. Halts Untitled line s) (sym stop_is) ((λ s. other (title_same r v 1 is (one (Title 1) s))), refl)
+
 drift_same : (r : Result HeadItem LineFault) (d other : ℕ) → r ≡ Ok (Drift d) → r ≡ Ok (Drift other) → other ≡ d
 drift_same r d other p q = cc
 
 -- the second line is accepted
 pub Advances-drift : (d : ℕ) (line : List ℕ) (held : HeaderValue) (r : Result HeadItem LineFault) → r ≡ Ok (Drift d) → ((item : HeadItem) → SpellsHead 2 line item → r ≡ Ok item) → SpellsHead 2 line (Drift d) →
-    held ≡ record { drift = d; nodes = [] } → Advances Titled line (AtHeading held)
+    held ≡ new_header d → Advances Titled line (AtHeading held)
 Advances-drift d line held r is one spells held_is = record {
-  to = Heading (record { drift = d; nodes = [] });
+  to = Heading (new_header d);
   goes = (d, spells, refl);
   stands = held_is;
-  only = λ other g. g.2 ∙ ap (λ k. Heading (record { drift = k; nodes = [] })) (drift_same r d g.0 is (one (Drift g.0) g.1));
+  only = λ other g. g.2 ∙ ap (λ k. Heading (new_header k)) (drift_same r d g.0 is (one (Drift g.0) g.1));
 }
 
 node_same : (r : Result HeadItem LineFault) (n other : NodeLine) → r ≡ Ok (Node n) → r ≡ Ok (Node other) → other ≡ n
@@ -129,13 +152,13 @@ node_same r n other p q = cc
 node_head : (r : Result HeadItem LineFault) (n : NodeLine) → r ≡ Ok (Node n) → r ≡ Ok NotHead → ⊥
 node_head r n p q = cc
 
-only_node : (header : HeaderValue) (n : NodeLine) (line : List ℕ) (r : Result HeadItem LineFault) → r ≡ Ok (Node n) → ((item : HeadItem) → SpellsHead 3 line item → r ≡ Ok item) →
+only_node : (header : HeaderValue) (n : NodeLine) (line : List ℕ) (r : Result HeadItem LineFault) → r ≡ Ok (Node n) → ((item : HeadItem) → SpellsHead (next_place header) line item → r ≡ Ok item) →
     (other : Progress) → GoesOn (Heading header) line other → other ≡ Heading (record header { nodes = header.nodes ++ n ∷ [] })
 only_node header n line r is one other (inl g) = g.3 ∙ ap (λ k. Heading (record header { nodes = header.nodes ++ k ∷ [] })) (node_same r n g.0 is (one (Node g.0) g.1))
 only_node header n line r is one other (inr g) = absurd (node_head r n is (one NotHead g.0))
 
 -- a node that the header can take is accepted
-pub Advances-node : (header : HeaderValue) (n : NodeLine) (line : List ℕ) (next : Stage) (r : Result HeadItem LineFault) → r ≡ Ok (Node n) → ((item : HeadItem) → SpellsHead 3 line item → r ≡ Ok item) → SpellsHead 3 line (Node n) →
+pub Advances-node : (header : HeaderValue) (n : NodeLine) (line : List ℕ) (next : Stage) (r : Result HeadItem LineFault) → r ≡ Ok (Node n) → ((item : HeadItem) → SpellsHead (next_place header) line item → r ≡ Ok item) → SpellsHead (next_place header) line (Node n) →
     Takes header n → next ≡ AtHeading (record header { nodes = header.nodes ++ n ∷ [] }) → Advances (Heading header) line next
 Advances-node header n line next r is one spells takes next_is = record {
   to = Heading (record header { nodes = header.nodes ++ n ∷ [] });
@@ -145,19 +168,19 @@ Advances-node header n line next r is one spells takes next_is = record {
 }
 
 -- and one that it can't take is refused
-pub Halts-node : (header : HeaderValue) (n : NodeLine) (line : List ℕ) (stop : Stop) → SpellsHead 3 line (Node n) → HaltsNode header n stop → Halts (Heading header) line stop
+pub Halts-node : (header : HeaderValue) (n : NodeLine) (line : List ℕ) (stop : Stop) → SpellsHead (next_place header) line (Node n) → HaltsNode header n stop → Halts (Heading header) line stop
 Halts-node header n line (Bad cause) spells h = inl (inr (inl (n, spells, h.0)), h.1)
 Halts-node header n line Limit spells h = absurd h
 Halts-node header n line WriteFault spells h = h
 Halts-node header n line OutOfMemory spells h = tt
 
-only_first : (header : HeaderValue) (line : List ℕ) (next : Stage) (r : Result HeadItem LineFault) → r ≡ Ok NotHead → ((item : HeadItem) → SpellsHead 3 line item → r ≡ Ok item) → (a : AdvancesRun header [] line next) →
+only_first : (header : HeaderValue) (line : List ℕ) (next : Stage) (r : Result HeadItem LineFault) → r ≡ Ok NotHead → ((item : HeadItem) → SpellsHead (next_place header) line item → r ≡ Ok item) → (a : AdvancesRun header [] line next) →
     (other : Progress) → GoesOn (Heading header) line other → other ≡ a.to
 only_first header line next r is one a other (inl g) = absurd (node_head r g.0 (one (Node g.0) g.1) is)
 only_first header line next r is one a other (inr g) = a.only other g.2
 
 -- the first line behind the nodes is accepted as any line behind the header
-pub Advances-first : (header : HeaderValue) (line : List ℕ) (next : Stage) (r : Result HeadItem LineFault) → r ≡ Ok NotHead → ((item : HeadItem) → SpellsHead 3 line item → r ≡ Ok item) → SpellsHead 3 line NotHead →
+pub Advances-first : (header : HeaderValue) (line : List ℕ) (next : Stage) (r : Result HeadItem LineFault) → r ≡ Ok NotHead → ((item : HeadItem) → SpellsHead (next_place header) line item → r ≡ Ok item) → SpellsHead (next_place header) line NotHead →
     0 < length header.nodes → AdvancesRun header [] line next → Advances (Heading header) line next
 Advances-first header line next r is one spells some a = record {
   to = a.to;
@@ -166,8 +189,8 @@ Advances-first header line next r is one spells some a = record {
   only = only_first header line next r is one a;
 }
 
-pub Halts-first : (header : HeaderValue) (line : List ℕ) (stop : Stop) → SpellsHead 3 line NotHead → HaltsFirst header line stop → Halts (Heading header) line stop
-Halts-first header line (Bad cause) spells (inl h) = inl (inr (inr (spells, h.0)), h.1)
+pub Halts-first : (header : HeaderValue) (line : List ℕ) (stop : Stop) → SpellsHead (next_place header) line NotHead → HaltsFirst header line stop → Halts (Heading header) line stop
+Halts-first header line (Bad cause) spells (inl h) = inl (inr (inr (inl (spells, h.0))), h.1)
 Halts-first header line (Bad cause) spells (inr h) = inr (spells, h.0, h.1)
 Halts-first header line Limit spells h = (spells, h.0, h.1)
 Halts-first header line WriteFault spells h = h

@@ -25,6 +25,7 @@ replaying = record {
   accepts = Replays;
   refuses = λ lines line cause. (p : Progress) × Reaches (reverse lines) p × Refuses p line cause;
   limits = λ lines line. (p : Progress) × Reaches (reverse lines) p × Limits p line;
+  full = λ lines. ⊥;
   ends = λ lines more. ((p : Progress) → Reaches (reverse lines) p → IsEnded p) × (more ≡ []);
   lacks = λ lines cause. (p : Progress) × Reaches (reverse lines) p × Lacks p cause;
 }

@@ -1,6 +1,7 @@
 -- Reading a schedule line by line: how far a list of lines has come, which line may follow, and why one is refused.
-use Rattle.std.specs.Prelude.{◌≡◌, ◌⊎◌, ℕ, ◌<◌, List, [], ◌∷◌, ◌++◌, length, Some, None, codes, decimal}
+use Rattle.std.specs.Prelude.{◌≡◌, ◌⊎◌, ℕ, ◌<◌, ◌==◌, if◌then◌else◌, false, List, [], ◌∷◌, ◌++◌, length, Some, None, codes, decimal}
 use Rattle.tsp_base.specs.declared.event.Event.{Event}
+use Rattle.tsp_base.specs.declared.event.Event.TheVariants.{Boot, Turn, Take, Bytes}
 use Rattle.tsp_base.specs.declared.event.EventFault.{EventFault}
 use Rattle.tsp_base.specs.declared.event.EventFault.TheVariants.{TimeBack, NoNode, NoDatagram, NotUp, Limit, OutOfMemory}
 use Rattle.tsp_base.specs.declared.header.NodeLine.{NodeLine}
@@ -8,7 +9,7 @@ use Rattle.tsp_base.specs.Headers.{HeaderValue, Keeps}
 use Rattle.tsp_script.specs.declared.event_line.EventItem.{EventItem}
 use Rattle.tsp_script.specs.declared.event_line.EventItem.TheVariants.{Event as EventOf, End}
 use Rattle.tsp_script.specs.declared.head_line.HeadItem.{HeadItem}
-use Rattle.tsp_script.specs.declared.head_line.HeadItem.TheVariants.{Title, Drift, Node, NotHead}
+use Rattle.tsp_script.specs.declared.head_line.HeadItem.TheVariants.{Title, Drift, Strict, Node, Net, NotHead}
 use Rattle.tsp_script.specs.Schedules.{SpellsEvent, SpellsHead}
 use Rattle.tsp_world.specs.Refusals.{scene, refusal}
 
@@ -25,24 +26,40 @@ pub data Progress : Type 0 where
   -- the last line was read
   Ended : (header : HeaderValue) → (events : List Event) → Progress
 
--- a header can take one node more
+-- a header can take one node more: nodes come before networks
 pub record Takes (header : HeaderValue) (node : NodeLine) : Type 0 where
+  pub unjoined : header.nets ≡ []
   pub few : length header.nodes < 64
   pub kept : Keeps header.drift node
+
+-- the place of the next line in a header: the third, or a later one
+abbrev pub next_place : HeaderValue → ℕ
+next_place header = if length header.nodes == 0 then 3 else 4
+
+-- an event that a node with one port can take; replays take no other yet
+abbrev pub OnOnePort : Event → Type 0
+OnOnePort (Bytes at node port from octets) = port.0 ≡ 0
+OnOnePort (Boot at node word) = Unit {0}
+OnOnePort (Turn at node) = Unit {0}
+OnOnePort (Take at datagram) = Unit {0}
 
 -- behind the header a line is an event that nothing refuses, or the last
 abbrev pub RunsOn : HeaderValue → List Event → List ℕ → Progress → Type 0
 RunsOn header events line next =
-    ((e : Event) × SpellsEvent line (EventOf e) × (refusal (scene header events) e ≡ None) × (next ≡ Running header (e ∷ events)))
+    ((e : Event) × SpellsEvent line (EventOf e) × (refusal (scene header events) e ≡ None) × (next ≡ Running header (e ∷ events)) × OnOnePort e)
     ⊎ (SpellsEvent line End × (next ≡ Ended header events))
+
+-- a header behind the drift; replays take no strict elections yet
+abbrev pub new_header : ℕ → HeaderValue
+new_header drift = record { drift = drift; strict = false; nodes = []; nets = [] }
 
 -- a line may follow, and this is how far it brings the schedule
 abbrev pub GoesOn : Progress → List ℕ → Progress → Type 0
-GoesOn Untitled line next = SpellsHead 1 line Title × (next ≡ Titled)
-GoesOn Titled line next = (drift : ℕ) × SpellsHead 2 line (Drift drift) × (next ≡ Heading (record { drift = drift; nodes = [] }))
+GoesOn Untitled line next = SpellsHead 1 line (Title 1) × (next ≡ Titled)
+GoesOn Titled line next = (drift : ℕ) × SpellsHead 2 line (Drift drift) × (next ≡ Heading (new_header drift))
 GoesOn (Heading header) line next =
-    ((node : NodeLine) × SpellsHead 3 line (Node node) × Takes header node × (next ≡ Heading (record header { nodes = header.nodes ++ node ∷ [] })))
-    ⊎ (SpellsHead 3 line NotHead × (0 < length header.nodes) × RunsOn header [] line next)
+    ((node : NodeLine) × SpellsHead (next_place header) line (Node node) × Takes header node × (next ≡ Heading (record header { nodes = header.nodes ++ node ∷ [] })))
+    ⊎ (SpellsHead (next_place header) line NotHead × (0 < length header.nodes) × RunsOn header [] line next)
 GoesOn (Running header events) line next = RunsOn header events line next
 GoesOn (Ended header events) line next = ⊥
 
@@ -60,37 +77,45 @@ IsCause (NotUp a) words = words ≡ codes "not-up " ++ decimal a
 IsCause (Limit a b) words = ⊥
 IsCause OutOfMemory words = ⊥
 
--- behind the header a line is refused: it is no event's and not the last, or its event is refused
+-- a line behind the header is none that replays take: it is no event's and not the last, or its event is on another port than the first
+abbrev pub IsNoLine : List ℕ → Type 0
+IsNoLine line = ((item : EventItem) → SpellsEvent line item → ⊥) ⊎ ((e : Event) × SpellsEvent line (EventOf e) × ¬ OnOnePort e)
+
+-- behind the header a line is refused: replays take no such line, or its event is refused
 abbrev pub RefusesRun : HeaderValue → List Event → List ℕ → List ℕ → Type 0
 RefusesRun header events line cause =
-    (((item : EventItem) → SpellsEvent line item → ⊥) × (cause ≡ codes "line"))
-    ⊎ ((e : Event) × (fault : EventFault) × SpellsEvent line (EventOf e) × (refusal (scene header events) e ≡ Some fault) × IsCause fault cause)
+    (IsNoLine line × (cause ≡ codes "line"))
+    ⊎ ((e : Event) × (fault : EventFault) × SpellsEvent line (EventOf e) × OnOnePort e × (refusal (scene header events) e ≡ Some fault) × IsCause fault cause)
 
--- a line of the header is refused: it is none of the header's, or a node that the header can't take, or it ends the header before a node
+-- a line of the header that replays don't take yet: `strict`, or a network's
+abbrev pub IsLater : HeaderValue → List ℕ → Type 0
+IsLater header line = SpellsHead (next_place header) line Strict ⊎ ((members : List ℕ) × SpellsHead (next_place header) line (Net members))
+
+-- a line of the header is refused: it is none of the header's, or a node that the header can't take, or it ends the header before a node, or replays don't take it yet
 abbrev pub RefusesHeading : HeaderValue → List ℕ → Type 0
 RefusesHeading header line =
-    ((item : HeadItem) → SpellsHead 3 line item → ⊥)
-    ⊎ (((node : NodeLine) × SpellsHead 3 line (Node node) × ¬ Takes header node) ⊎ (SpellsHead 3 line NotHead × (header.nodes ≡ [])))
+    ((item : HeadItem) → SpellsHead (next_place header) line item → ⊥)
+    ⊎ (((node : NodeLine) × SpellsHead (next_place header) line (Node node) × ¬ Takes header node) ⊎ ((SpellsHead (next_place header) line NotHead × (header.nodes ≡ [])) ⊎ IsLater header line))
 
 -- a line may not follow, for this cause
 abbrev pub Refuses : Progress → List ℕ → List ℕ → Type 0
-Refuses Untitled line cause = ((item : HeadItem) → SpellsHead 1 line item → ⊥) × (cause ≡ codes "header")
+Refuses Untitled line cause = (SpellsHead 1 line (Title 1) → ⊥) × (cause ≡ codes "header")
 Refuses Titled line cause = ((item : HeadItem) → SpellsHead 2 line item → ⊥) × (cause ≡ codes "header")
 Refuses (Heading header) line cause =
     (RefusesHeading header line × (cause ≡ codes "header"))
-    ⊎ (SpellsHead 3 line NotHead × (0 < length header.nodes) × RefusesRun header [] line cause)
+    ⊎ (SpellsHead (next_place header) line NotHead × (0 < length header.nodes) × RefusesRun header [] line cause)
 Refuses (Running header events) line cause = RefusesRun header events line cause
 Refuses (Ended header events) line cause = cause ≡ codes "after-end"
 
 -- behind the header a line is an event for which there is no room
 abbrev pub LimitsRun : HeaderValue → List Event → List ℕ → Type 0
-LimitsRun header events line = (e : Event) × (a : ℕ) × (b : ℕ) × SpellsEvent line (EventOf e) × (refusal (scene header events) e ≡ Some (Limit a b))
+LimitsRun header events line = (e : Event) × (a : ℕ) × (b : ℕ) × SpellsEvent line (EventOf e) × OnOnePort e × (refusal (scene header events) e ≡ Some (Limit a b))
 
 -- a line may not follow, since it passes a limit
 abbrev pub Limits : Progress → List ℕ → Type 0
 Limits Untitled line = ⊥
 Limits Titled line = ⊥
-Limits (Heading header) line = SpellsHead 3 line NotHead × (0 < length header.nodes) × LimitsRun header [] line
+Limits (Heading header) line = SpellsHead (next_place header) line NotHead × (0 < length header.nodes) × LimitsRun header [] line
 Limits (Running header events) line = LimitsRun header events line
 Limits (Ended header events) line = ⊥
 

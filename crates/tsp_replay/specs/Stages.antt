@@ -10,7 +10,7 @@ use Rattle.tsp_lines.specs.declared.treatment.Stop.{Stop}
 use Rattle.tsp_lines.specs.declared.treatment.Stop.TheVariants.{Bad, Limit, WriteFault, OutOfMemory}
 use Rattle.tsp_replay.specs.declared.stage.Stage.{Stage}
 use Rattle.tsp_replay.specs.declared.stage.Stage.TheVariants.{Untitled as AtUntitled, Titled as AtTitled, Heading as AtHeading, Running as AtRunning, Ended as AtEnded}
-use Rattle.tsp_replay.specs.Schedules.{Progress, Untitled, Titled, Heading, Running, Ended, GoesOn, RunsOn, Reaches, Refuses, RefusesRun, Limits, LimitsRun, Takes, IsCause}
+use Rattle.tsp_replay.specs.Schedules.{Progress, Untitled, Titled, Heading, Running, Ended, GoesOn, RunsOn, Reaches, Refuses, RefusesRun, Limits, LimitsRun, Takes, OnOnePort, IsCause}
 use Rattle.tsp_world.specs.declared.line.Line.{Line}
 use Rattle.tsp_world.specs.Refusals.{scene, refusal}
 use Rattle.tsp_world.specs.WorldStands.{WorldStands}
@@ -76,6 +76,13 @@ HaltsEvent header events e (Bad cause) = (fault : EventFault) × (refusal (scene
 HaltsEvent header events e Limit = (a : ℕ) × (b : ℕ) × (refusal (scene header events) e ≡ Some (NoRoom a b))
 HaltsEvent header events e WriteFault = ⊥
 HaltsEvent header events e OutOfMemory = Unit {0}
+
+-- an event was refused, or is on another port than the first
+abbrev pub HaltsPort : HeaderValue → List Event → Event → Stop → Type 0
+HaltsPort header events e (Bad cause) = ((¬ OnOnePort e) × (cause ≡ codes "line")) ⊎ (OnOnePort e × HaltsEvent header events e (Bad cause))
+HaltsPort header events e Limit = OnOnePort e × HaltsEvent header events e Limit
+HaltsPort header events e WriteFault = ⊥
+HaltsPort header events e OutOfMemory = Unit {0}
 
 -- how a refused event stops the replay
 abbrev pub StopsFor : EventFault → Stop → Type 0

@@ -39,6 +39,10 @@ impl Treatment for Replay {
 
     ghost stands = { λ r lines. Stands r.stage lines };
 
+    fn is_full(&self) -> bool {
+        false
+    }
+
     fn treat<K: Sink>(
         &mut self,
         line: &[u8],

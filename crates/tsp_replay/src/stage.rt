@@ -5,8 +5,8 @@ ghost use Rattle.tsp_base.specs.declared.event.Event.{Event};
 ghost use Rattle.tsp_script.specs.Schedules.{IsEvent};
 ghost use Rattle.tsp_world.specs.Refusals.{refusal, scene};
 ghost use Rattle.tsp_world.specs.WorldStands.{WorldStands};
-ghost use Rattle.tsp_replay.specs.Schedules.{Progress, Untitled, Titled, Heading, Running, Takes, Lacks, IsEnded, Refuses};
-ghost use Rattle.tsp_replay.specs.Stages.{StageStands, Advances, Halts, AdvancesRun, HaltsRun, HaltsNode, HaltsFirst, HaltsEvent, told_at};
+ghost use Rattle.tsp_replay.specs.Schedules.{Progress, Untitled, Titled, Heading, Running, Takes, OnOnePort, next_place, Lacks, IsEnded, Refuses};
+ghost use Rattle.tsp_replay.specs.Stages.{StageStands, Advances, Halts, AdvancesRun, HaltsRun, HaltsNode, HaltsFirst, HaltsPort, HaltsEvent, told_at};
 
 use crate::faults::stop_of;
 use std::alloc::Global;
@@ -48,6 +48,30 @@ fn is_node(start: &[u8]) -> bool
     matches!(start, [b'n', b'o', b'd', b'e', b' ', ..])
 }
 
+/// Whether a line with this beginning is a network's.
+fn is_net(start: &[u8]) -> bool
+    ensures { MatchBool result ((rest : List ℕ) × (start.now ≡ codes "net " ++ rest)) ((rest : List ℕ) → start.now ≡ codes "net " ++ rest → ⊥) }
+{
+    matches!(start, [b'n', b'e', b't', b' ', ..])
+}
+
+/// The place of the next line in a header: the third, or a later one.
+fn next_place(header: &Header) -> u32
+    ensures { result ≡ next_place header.now }
+{
+    if header.nodes().is_empty() { 3 } else { 4 }
+}
+
+/// Whether a node with one port can take an event; replays take no other yet.
+fn is_on_one_port(e: &Event) -> bool
+    ensures { MatchBool result (OnOnePort e.now) (¬ OnOnePort e.now) }
+{
+    match e {
+        Event::Bytes { port, .. } => port.0 == 0,
+        Event::Boot { .. } | Event::Turn { .. } | Event::Take { .. } => true,
+    }
+}
+
 impl Stage {
     /// The stage after one line more, or why the line may not follow.
     pub fn next(self, alloc: Global, line: &[u8]) -> Result<Stage, Stop>
@@ -69,8 +93,21 @@ impl Stage {
         ensures kind { result ≢ Err Stop.WriteFault }
     {
         match head_line(line, 1) {
-            Ok(_) => Ok(Stage::Titled),
+            Ok(HeadItem::Title(version)) => Stage::titled(version),
+            Ok(_) => unreachable!(),
             Err(_) => Err(bad_header()),
+        }
+    }
+
+    /// The stage behind the title of a version; replays take the first alone yet.
+    fn titled(version: u32) -> Result<Stage, Stop>
+        ensures next { MatchResult result (λ next. (version ≡ 1) × (next ≡ Stage.Titled)) (λ stop. (version ≢ 1) × (stop ≡ Stop.Bad (codes "header"))) }
+        ensures kind { result ≢ Err Stop.WriteFault }
+    {
+        if version == 1 {
+            Ok(Stage::Titled)
+        } else {
+            Err(bad_header())
         }
     }
 
@@ -80,20 +117,22 @@ impl Stage {
         ensures kind { result ≢ Err Stop.WriteFault }
     {
         match head_line(line, 2) {
-            Ok(HeadItem::Drift(drift)) => Ok(Stage::Heading(Header::new(alloc, drift))),
+            Ok(HeadItem::Drift(drift)) => Ok(Stage::Heading(Header::new(alloc, drift, false))),
             Ok(_) => unreachable!(),
             Err(_) => Err(bad_header()),
         }
     }
 
-    /// Reads a line where a node is expected.
+    /// Reads a line where a node is expected. Replays take no strict elections and no networks yet.
     fn head(alloc: Global, header: Header, line: &[u8]) -> Result<Stage, Stop>
         ensures next { MatchResult result (Advances (Heading header) line.now) (Halts (Heading header) line.now) }
         ensures kind { result ≢ Err Stop.WriteFault }
     {
-        match head_line(line, 3) {
+        match head_line(line, next_place(&header)) {
             Ok(HeadItem::Node(node)) => Stage::node(header, node),
             Ok(HeadItem::NotHead) => Stage::first(alloc, header, line),
+            Ok(HeadItem::Strict) => Err(bad_header()),
+            Ok(HeadItem::Net(_)) => Err(bad_header()),
             Ok(_) => unreachable!(),
             Err(_) => Err(bad_header()),
         }
@@ -104,6 +143,9 @@ impl Stage {
         ensures next { MatchResult result (λ next. Takes header node × (next ≡ Stage.Heading (record header { nodes = header.nodes ++ node ∷ [] }))) (HaltsNode header node) }
         ensures kind { result ≢ Err Stop.WriteFault }
     {
+        if !header.nets().is_empty() {
+            return Err(bad_header());
+        }
         match header.push(node) {
             Ok(()) => Ok(Stage::Heading(header)),
             Err(HeaderFault::OutOfMemory) => Err(Stop::OutOfMemory),
@@ -131,15 +173,29 @@ impl Stage {
         ensures kind { result ≢ Err Stop.WriteFault }
     {
         match event_line(line) {
-            Ok(EventItem::Event(e)) => Stage::happen(world, &e),
+            Ok(EventItem::Event(e)) => Stage::on_one_port(world, &e),
             Ok(EventItem::End) => Ok(Stage::Ended),
             Err(_) => Err(Stop::Bad(Cause::of(b"line"))),
         }
     }
 
+    /// Lets an event happen, if a node with one port can take it.
+    fn on_one_port(world: World, e: &Event) -> Result<Stage, Stop>
+        requires { IsEvent e.now }
+        ensures next { (header : HeaderValue) (events : List Event) → WorldStands header events world → MatchResult result
+            (λ next. (refusal (scene header events) e.now ≡ None) × OnOnePort e.now × StageStands (Running header (e.now ∷ events)) next) (HaltsPort header events e.now) }
+        ensures kind { result ≢ Err Stop.WriteFault }
+    {
+        if !is_on_one_port(e) {
+            return Err(Stop::Bad(Cause::of(b"line")));
+        }
+        Stage::happen(world, e)
+    }
+
     /// Lets an event happen.
     fn happen(mut world: World, e: &Event) -> Result<Stage, Stop>
-        requires { IsEvent e.now }
+        requires event { IsEvent e.now }
+        requires port { OnOnePort e.now }
         ensures next { (header : HeaderValue) (events : List Event) → WorldStands header events world → MatchResult result
             (λ next. (refusal (scene header events) e.now ≡ None) × StageStands (Running header (e.now ∷ events)) next) (HaltsEvent header events e.now) }
         ensures kind { result ≢ Err Stop.WriteFault }
@@ -168,6 +224,9 @@ impl Stage {
         ensures { (line : List ℕ) → 1024 < length line → start.now ≡ take 8 line → Refuses (Heading header.now) line result }
     {
         if is_node(start) {
+            return Cause::of(b"header");
+        }
+        if is_net(start) {
             return Cause::of(b"header");
         }
         if header.nodes().is_empty() {

@@ -1,5 +1,5 @@
 //! The lines of an event's acts, as they are handed over.
-ghost use Rattle.std.specs.Prelude.{◌≡◌, ◌≤◌, ◌<◌, ◌++◌, ℕ, List, [], length, OnOk, OnErr, MatchResult};
+ghost use Rattle.std.specs.Prelude.{◌≡◌, ◌≢◌, ◌≤◌, ◌<◌, ◌++◌, ℕ, List, [], length, OnOk, OnErr, MatchResult};
 ghost use Rattle.tsp_io.specs.Counts.{Rose};
 ghost use Rattle.tsp_lines.specs.Outputs.{Hands};
 ghost use Rattle.tsp_replay.specs.Stages.{told_at, Untold};
@@ -22,6 +22,7 @@ pub(crate) fn tell_stage<K: Sink>(
         (Untold (lines_text (told_at stage.now)) (K.written sink.old) output.old (K.written sink.new) output.new) }
     ensures later { K.faults sink.old ≤ K.faults sink.new }
     ensures cause { result ≡ Err Stop.WriteFault → Rose (K.faults sink.old) (K.faults sink.new) × (0 < length output.new) }
+    ensures still { result ≢ Err Stop.WriteFault → K.faults sink.new ≡ K.faults sink.old }
 {
     match tell(stage.told(), output, sink) {
         Ok(()) => Ok(()),
@@ -36,6 +37,7 @@ fn tell<K: Sink>(lines: &[Line], output: &mut Output, sink: &mut K) -> Result<()
     ensures err { OnErr result ((part : List ℕ) × (rest : List ℕ) × (lines_text lines.now ≡ part ++ rest) × Hands (K.written sink.old) output.old (K.written sink.new) output.new part) }
     ensures later { K.faults sink.old ≤ K.faults sink.new }
     ensures cause { result ≡ Err Unwritten.WriteFault → Rose (K.faults sink.old) (K.faults sink.new) × (0 < length output.new) }
+    ensures still { result ≢ Err Unwritten.WriteFault → K.faults sink.new ≡ K.faults sink.old }
 {
     for line in lines {
         tell_one(line, output, sink)?;
@@ -49,6 +51,7 @@ fn tell_one<K: Sink>(line: &Line, output: &mut Output, sink: &mut K) -> Result<(
     ensures err { OnErr result ((part : List ℕ) × (rest : List ℕ) × (line_text line.now ≡ part ++ rest) × Hands (K.written sink.old) output.old (K.written sink.new) output.new part) }
     ensures later { K.faults sink.old ≤ K.faults sink.new }
     ensures cause { result ≡ Err Unwritten.WriteFault → Rose (K.faults sink.old) (K.faults sink.new) × (0 < length output.new) }
+    ensures still { result ≢ Err Unwritten.WriteFault → K.faults sink.new ≡ K.faults sink.old }
 {
     let number = number_in(line.number);
     let text = placed_text(line.event, line.node, line.tick, number, &line.placed);

@@ -1,3 +1,6 @@
+mod InForceCalm
+mod InForceLeads
+mod NetworkLemmas
 pub mod AnswersFit
 pub mod FitsLines
 pub mod NodeLemmas

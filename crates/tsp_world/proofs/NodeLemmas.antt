@@ -12,6 +12,7 @@ NodeStands-step step past node h = record {
     own = h.station.own;
     name = h.station.name;
     may = h.station.may;
+    strict = h.station.strict;
     peers = h.station.peers;
     word = h.station.word;
     role = h.station.role;
@@ -19,6 +20,7 @@ NodeStands-step step past node h = record {
     hold = h.station.hold;
     sends = h.station.sends;
     begun = h.station.begun;
+    backers = h.station.backers;
   };
   last = record { tick_is = h.last.tick_is; taken_is = h.last.taken_is; name_is = h.last.name_is };
   clock = record { offset_is = h.clock.offset_is; rest_is = h.clock.rest_is; at_is = h.clock.at_is; ticket_is = h.clock.ticket_is };
@@ -32,6 +34,7 @@ Begun-in_step step x past node h = record {
       own = h.station.own;
       name = h.station.name;
       may = h.station.may;
+      strict = h.station.strict;
       peers = h.station.peers;
       word = h.station.word;
       role = h.station.role;
@@ -39,6 +42,7 @@ Begun-in_step step x past node h = record {
       hold = h.station.hold;
       sends = h.station.sends;
       begun = h.station.begun;
+      backers = h.station.backers;
     };
     last = record { tick_is = h.last.tick_is; taken_is = h.last.taken_is; name_is = h.last.name_is };
     clock = record { offset_is = h.clock.offset_is; rest_is = h.clock.rest_is; at_is = h.clock.at_is; ticket_is = h.clock.ticket_is };

@@ -1,6 +1,7 @@
 -- The history of every valid schedule fits.
 use Rattle.std.specs.Prelude.{◌≡◌, ℕ, ◌+◌, ◌<◌, ◌≤◌, ◌^◌, ◌==◌, nat_lt, pos, ◌+ℤ◌, Bool, true, false, if◌then◌else◌, List, [], ◌∷◌, length, Option, None, Some, slice_get, refl}
 use Rattle.std.proofs.Common.{sym, ap, subst, inr, arith, ◌∙◌, eq-eqb, eqb-true}
+use Rattle.tsp_base.specs.Joins.{first_port, joined, line_of}
 use Rattle.tsp_base.specs.declared.act.Act.{Act}
 use Rattle.tsp_base.specs.declared.act.Act.TheVariants.{Took, Post}
 use Rattle.tsp_base.specs.declared.datagram.Taken.TheVariants.{Good}
@@ -12,8 +13,8 @@ use Rattle.tsp_base.specs.Fits.{Fits, Posted as WasPosted}
 use Rattle.tsp_base.specs.Headers.{HeaderValue}
 use Rattle.tsp_base.specs.History.{Booted, Turned, Came, Handed, Step, Begins, Acts, Here, Line, Past, of, view, dids}
 use Rattle.tsp_base.specs.NodeFacts.{time_of, up}
-use Rattle.tsp_base.specs.Rows.{Row, grown, in_step, added, puts, ◌followed_by◌, arms}
-use Rattle.tsp_base.specs.Setting.{Setting}
+use Rattle.tsp_base.specs.Rows.{placed, Row, grown, in_step, added, puts, ◌followed_by◌, arms}
+use Rattle.tsp_base.specs.Setting.{Named, Setting, setup_of}
 use Rattle.tsp_base.specs.Takings.{posted, peer_of}
 use Rattle.tsp_base.specs.Ticks.{tick_at}
 use Rattle.tsp_base.specs.Leads.{Leads}
@@ -22,40 +23,40 @@ use Rattle.tsp_base.proofs.TickLemmas.{tick_at-near}
 use Rattle.tsp_rules.specs.Answers.{Given, Turn as NoInput, Got}
 use Rattle.tsp_rules.specs.CommonRows.{boots}
 use Rattle.tsp_codec.specs.Taken.{taken_of}
-use Rattle.tsp_fit.specs.PortFits.{PortFits}
-use Rattle.tsp_fit.proofs.Known.{Rests}
-use Rattle.tsp_fit.proofs.CorrectionLeads.{Fresh}
-use Rattle.tsp_fit.proofs.AnswerLeads.{boots_lead, begins_fresh, rests_later, rests_seen, nothing-done}
-use Rattle.tsp_fit.proofs.SoFarLeads.{so_far_leads}
+use Rattle.tsp_fit.specs.PortFits.{PortFits, setup_in}
+use Rattle.tsp_fit.proofs.Known.{Fresh, Rests}
+use Rattle.tsp_fit.proofs.RunLeads.{ends_of, boots_lead, begins_fresh, rests_later, rests_seen, nothing-done}
 use Rattle.tsp_world.specs.declared.arrival.Arrival.{Arrival}
 use Rattle.tsp_world.specs.declared.posted.Posted.{Posted}
-use Rattle.tsp_rules.specs.SoFar.{answers_so_far}
+use Rattle.tsp_node.specs.InForce.{answers_in_force}
 use Rattle.tsp_world.specs.Refusals.{room, Valid, scene, refusal, actor, goes_to, down}
-use Rattle.tsp_world.specs.Run.{run, joins, joined, line_of, happening, steps, step_tick, boot_step, event_at, last_at, posts, reaches, arrives, arrives_at, node_at}
+use Rattle.tsp_world.specs.Run.{run, joins, happening, steps, step_tick, boot_step, event_at, last_at, posts, reaches, arrives, arrives_at, node_at}
 use Rattle.tsp_world.specs.Setting.{SetBy, RunsFit}
-use Rattle.tsp_world.specs.Setup.{node_line, past_of, first_port}
+use Rattle.tsp_world.specs.Setup.{node_line, past_of, peers_below}
 use Rattle.tsp_world.specs.WorldStands.{rests}
 use Rattle.tsp_world.proofs.RefusalLemmas.{some_same, allowed, up-down}
 use Rattle.tsp_world.proofs.RunLemmas.{joins-own, joins-other}
 use Rattle.tsp_world.proofs.SetupLemmas.{length-peers_below}
-use Rattle.tsp_world.proofs.FitsLines.{OnFirst, all_end, AllAlive, acts_fit, mark_line, of-first, port-first}
+use Rattle.tsp_world.proofs.FitsLines.{OnFirst, all_end, AllAlive, acts_fit, mark_line, of-first, is-first}
 use Rattle.tsp_world.proofs.PostPlaces.{length-posts, post_at}
 use Rattle.tsp_world.proofs.AnswersFit.{StepOk, turn_ok, got_ok}
+use Rattle.tsp_world.proofs.InForceLeads.{in_force_leads}
+use Rattle.tsp_world.proofs.NetworkLemmas.{named_is}
 
 -- what is known of a run: its lines fit, they are on the first port, its time is that of its last event, and each node is at rest
 record Ran (header : HeaderValue) (setting : Setting) (t : ℕ) (h : List Line) : Type 0 where
   pub fits : Fits setting h
-  pub first : OnFirst h
+  pub first : OnFirst (length header.nodes) h
   pub time : time_of (dids h) ≤ t
   pub nodes : (n : ℕ) → Rests (tick_at (setting.rate n) t) (past_of header (rests n) h)
 
-joined-first : (step : Step) (x : ℕ) (acts : List Act) (h : List Line) → OnFirst h → OnFirst (joined step x acts h)
-joined-first step x [] h f = f
-joined-first step x (a ∷ rest) h f = joined-first step x rest (line_of step x (Acts a) ∷ h) (refl, f)
+joined-first : (nodes : ℕ) (step : Step) (x : ℕ) (acts : List Act) (h : List Line) → step.node < nodes → OnFirst nodes h → OnFirst nodes (joined step x (placed first_port acts) h)
+joined-first nodes step x [] h w f = f
+joined-first nodes step x (a ∷ rest) h w f = joined-first nodes step x rest (line_of step x first_port (Acts a) ∷ h) w (record { port = refl; node = w }, f)
 
-joined-time : (step : Step) (x : ℕ) (acts : List Act) (h : List Line) → time_of (dids h) ≤ step.at → time_of (dids (joined step x acts h)) ≤ step.at
+joined-time : (step : Step) (x : ℕ) (acts : List Act) (h : List Line) → time_of (dids h) ≤ step.at → time_of (dids (joined step x (placed first_port acts) h)) ≤ step.at
 joined-time step x [] h e = e
-joined-time step x (a ∷ rest) h e = joined-time step x rest (line_of step x (Acts a) ∷ h) (omega arith)
+joined-time step x (a ∷ rest) h e = joined-time step x rest (line_of step x first_port (Acts a) ∷ h) (omega arith)
 
 -- ticks don't fall
 ticks-rise : (setting : Setting) (n s t : ℕ) → s ≤ t → tick_at (setting.rate n) s ≤ tick_at (setting.rate n) t
@@ -64,44 +65,55 @@ ticks-rise setting n s t le = (tick_at-near (setting.rate n) s t (let a = settin
 -- after a step each node is at rest
 node_after : (header : HeaderValue) (setting : Setting) (t : ℕ) (h : List Line) (step : Step) (x : ℕ) (acts : List Act) → t ≤ step.at → ((n : ℕ) → Rests (tick_at (setting.rate n) t) (past_of header (rests n) h)) →
     Rests x (grown x (in_step step x (past_of header step h)) acts) → x ≡ tick_at (setting.rate step.node) step.at → (n : ℕ) (b : Bool) → (step.node == n) ≡ b →
-    Rests (tick_at (setting.rate n) step.at) (past_of header (rests n) (joined step x acts (line_of step x Begins ∷ h)))
+    Rests (tick_at (setting.rate n) step.at) (past_of header (rests n) (joined step x (placed first_port acts) (line_of step x first_port Begins ∷ h)))
 node_after header setting t h step x acts later nodes after tick_is n true e =
-    let now = joined step x acts (line_of step x Begins ∷ h) in
+    let now = joined step x (placed first_port acts) (line_of step x first_port Begins ∷ h) in
     let same : step.node ≡ n = eqb-true step.node n e in
     let own : (step.node == step.node) ≡ true = eq-eqb step.node step.node refl in
-    let here = rests_seen x (grown x (in_step step x (past_of header step h)) acts) (past_of header (rests step.node) now) (sym (joins-own step.node step x acts h own)) after in
+    let here = rests_seen x (grown x (in_step step x (past_of header step h)) acts) (past_of header (rests step.node) now) refl refl (sym (joins-own step.node step x acts h own)) after in
     subst (λ k. Rests (tick_at (setting.rate k) step.at) (past_of header (rests k) now)) same (subst (λ k. Rests k (past_of header (rests step.node) now)) tick_is here)
 node_after header setting t h step x acts later nodes after tick_is n false e =
-    let now = joined step x acts (line_of step x Begins ∷ h) in
-    rests_seen (tick_at (setting.rate n) step.at) (past_of header (rests n) h) (past_of header (rests n) now) (ap (λ l. view first_port l) (sym (joins-other n step x acts h e)))
+    let now = joined step x (placed first_port acts) (line_of step x first_port Begins ∷ h) in
+    rests_seen (tick_at (setting.rate n) step.at) (past_of header (rests n) h) (past_of header (rests n) now) refl refl (ap (λ l. view first_port l) (sym (joins-other n step x acts h e)))
     (rests_later (tick_at (setting.rate n) t) (tick_at (setting.rate n) step.at) (past_of header (rests n) h) (ticks-rise setting n t step.at later) (nodes n))
 
+-- what a node's port is set up with is what its past says
+setup_is : (header : HeaderValue) (setting : Setting) (step : Step) (h : List Line) → SetBy header setting → step.node < length header.nodes → setup_in (past_of header step h) ≡ setup_of setting step.node first_port
+setup_is header setting step h set within =
+    let net : setting.net step.node first_port ≡ Named 0 = set.net_is step.node first_port ∙ named_is (length header.nodes) step.node within in
+    let members : peers_below (length header.nodes) ≡ setting.members (setting.net step.node first_port) = sym (ap setting.members net ∙ set.members_are (Named 0)) in
+    let name = sym (set.name_is step.node) in
+    let strict = sym set.strict_is in
+    rw (name, members, strict) refl
+
 -- a step by a row that keeps what is known of its port
-stepped : (header : HeaderValue) (setting : Setting) (t : ℕ) (h : List Line) (step : Step) (row : Row) → SetBy header setting → Ran header setting t h → t ≤ step.at → posted (dids h) + room (length header.nodes) < 2 ^ 64 → Leads Fresh row Rests →
+stepped : (header : HeaderValue) (setting : Setting) (t : ℕ) (h : List Line) (step : Step) (row : Row) → SetBy header setting → Ran header setting t h → t ≤ step.at → step.node < length header.nodes → posted (dids h) + room (length header.nodes) < 2 ^ 64 → Leads Fresh row Rests →
     StepOk (length header.nodes) setting step (step_tick header step) h (up (dids (of step.node h))) (row (step_tick header step) (in_step step (step_tick header step) (past_of header step h))) →
     Ran header setting step.at (joins (Some (steps header h row step)) h)
 unfolding steps
-stepped header setting t h step row set r later few leads ok =
+stepped header setting t h step row set r later within few leads ok =
     let x : ℕ = step_tick header step in
     let past : Past = in_step step x (past_of header step h) in
     let acts : List Act = row x past in
     let tick_is : x ≡ tick_at (setting.rate step.node) step.at = ap (λ k. tick_at k step.at) (sym (set.rate_is step.node)) in
     let rested : Rests x (past_of header step h) =
-    rests_seen x (past_of header (rests step.node) h) (past_of header step h) refl
+    rests_seen x (past_of header (rests step.node) h) (past_of header step h) refl refl refl
     (subst (λ k. Rests k (past_of header (rests step.node) h)) (sym tick_is)
     (rests_later (tick_at (setting.rate step.node) t) (tick_at (setting.rate step.node) step.at) (past_of header (rests step.node) h) (ticks-rise setting step.node t step.at later) (r.nodes step.node))) in
     let after : Rests x (grown x past acts) = leads.run x past (begins_fresh step x x (past_of header step h) (omega arith) refl rested) in
-    let mark = mark_line setting step x h tick_is r.first (let b = r.time in omega (arith, b, later)) (omega (arith, few)) rested.ends in
+    let mark = mark_line (length header.nodes) setting step x h tick_is r.first (let b = r.time in omega (arith, b, later)) (omega (arith, few)) (ends_of rested) in
     let own : (step.node == step.node) ≡ true = eq-eqb step.node step.node refl in
-    let seen_is : view first_port (of step.node (line_of step x Begins ∷ h)) ≡ Here (record { step = step; tick = x; deed = Begins }) ∷ view first_port (of step.node h) = rw own refl in
-    let up_is : up (dids (of step.node (line_of step x Begins ∷ h))) ≡ up (dids (of step.node h)) = rw own refl in
+    let seen_is : view first_port (of step.node (line_of step x first_port Begins ∷ h)) ≡ Here (record { step = step; tick = x; deed = Begins }) ∷ view first_port (of step.node h) = rw own refl in
+    let up_is : up (dids (of step.node (line_of step x first_port Begins ∷ h))) ≡ up (dids (of step.node h)) = rw own refl in
     let most = ok.few in
+    let first : OnFirst (length header.nodes) (line_of step x first_port Begins ∷ h) = (record { port = refl; node = within }, r.first) in
+    let setup = setup_is header setting step h set within in
     record {
-      fits = acts_fit setting step x h acts Begins h tick_is (refl, r.first) (inr (Within-all h)) (omega (arith, few, most))
+      fits = acts_fit (length header.nodes) setting step x h acts Begins h tick_is first (inr (Within-all h)) (omega (arith, few, most))
           (subst (λ b. AllAlive setting step x b acts) (sym up_is) ok.alive) ok.taken
-          (subst (λ s. PortFits (added step x acts s)) (sym seen_is) after.fits) (mark, r.fits);
-      first = joined-first step x acts (line_of step x Begins ∷ h) (refl, r.first);
-      time = joined-time step x acts (line_of step x Begins ∷ h) (omega arith);
+          (subst (λ s. PortFits (setup_of setting step.node first_port) (added step x acts s)) (sym seen_is) (subst (λ k. PortFits k (added step x acts (in_step step x (past_of header step h)).seen)) setup after.fits)) (mark, r.fits);
+      first = joined-first (length header.nodes) step x acts (line_of step x first_port Begins ∷ h) within first;
+      time = joined-time step x acts (line_of step x first_port Begins ∷ h) (omega arith);
       nodes = λ n. node_after header setting t h step x acts later r.nodes after tick_is n (step.node == n) refl;
     }
 
@@ -129,11 +141,11 @@ up_seen header before n e = up-down (scene header before) n e
 module _ {header : HeaderValue} {setting : Setting} (set : SetBy header setting) where
   by_answers : (before : List Event) (e : Event) (step : Step) (g : Given) → Ran header setting (last_at before) (run header before) → refusal (scene header before) e ≡ None → actor (scene header before) e ≡ Some step.node →
       (scene header before).last ≤ step.at → up (dids (of step.node (run header before))) ≡ true →
-      ((past : Past) → length past.peers ≡ length header.nodes → StepOk (length header.nodes) setting step (step_tick header step) (run header before) true (answers_so_far g (step_tick header step) past)) →
-      Ran header setting step.at (joins (Some (steps header (run header before) (answers_so_far g) step)) (run header before))
+      ((past : Past) → length past.peers ≡ length header.nodes → StepOk (length header.nodes) setting step (step_tick header step) (run header before) true (answers_in_force g (step_tick header step) past)) →
+      Ran header setting step.at (joins (Some (steps header (run header before) (answers_in_force g) step)) (run header before))
   by_answers before e step g r none acts later is_up ok =
-      stepped header setting (last_at before) (run header before) step (answers_so_far g) set r later (few_posts header before e step.node none acts) (so_far_leads g)
-      (subst (λ b. StepOk (length header.nodes) setting step (step_tick header step) (run header before) b (answers_so_far g (step_tick header step) (in_step step (step_tick header step) (past_of header step (run header before))))) (sym is_up)
+      stepped header setting (last_at before) (run header before) step (answers_in_force g) set r later ((allowed (scene header before) e none).node step.node acts) (few_posts header before e step.node none acts) (in_force_leads g)
+      (subst (λ b. StepOk (length header.nodes) setting step (step_tick header step) (run header before) b (answers_in_force g (step_tick header step) (in_step step (step_tick header step) (past_of header step (run header before))))) (sym is_up)
       (ok (in_step step (step_tick header step) (past_of header step (run header before))) (length-peers_below (length header.nodes))))
 
   to-peer : (nodes : ℕ) (to : Place) (n : ℕ) → node_at nodes to ≡ Some n → to ≡ Peer (peer_of n)
@@ -144,17 +156,19 @@ module _ {header : HeaderValue} {setting : Setting} (set : SetBy header setting)
   to-peer nodes Stranger n e = let bad : ⊥ = cc in absurd bad
 
   -- a datagram that reaches its node was posted to it
-  came : (before : List Event) (at k : ℕ) (p : Posted) (n : ℕ) → OnFirst (run header before) → slice_get (posts (run header before)) k ≡ Some p → node_at (length header.nodes) p.to ≡ Some n →
-      WasPosted setting (line_of (record { at = at; node = n; cause = Came k }) (step_tick header (record { at = at; node = n; cause = Came k })) (Acts (Took (Peer (record { 0 = p.from })) (Good p.datagram)))) (run header before) k (Peer (record { 0 = p.from })) (Good p.datagram)
-  came before at k p n first there goes =
-      let a = post_at (run header before) k p there in record {
+  came : (before : List Event) (at k : ℕ) (p : Posted) (n : ℕ) → n < length header.nodes → OnFirst (length header.nodes) (run header before) → slice_get (posts (run header before)) k ≡ Some p → node_at (length header.nodes) p.to ≡ Some n →
+      WasPosted setting (line_of (record { at = at; node = n; cause = Came k }) (step_tick header (record { at = at; node = n; cause = Came k })) first_port (Acts (Took (Peer (record { 0 = p.from })) (Good p.datagram)))) (run header before) k (Peer (record { 0 = p.from })) (Good p.datagram)
+  came before at k p n within first there goes =
+      let a = post_at (run header before) k p there in
+      let of_post = is-first (length header.nodes) (run header before) first a.post a.older a.place in
+      record {
         post = a.post;
         older = a.older;
         place = a.place;
         number = a.number;
         datagram = p.datagram;
         deed = a.deed ∙ ap (λ to. Acts (Post to p.datagram)) (to-peer (length header.nodes) p.to n goes);
-        net = ap (λ q. setting.net a.post.did.step.node q) (port-first (run header before) first a.post a.older a.place) ∙ set.net_is a.post.did.step.node n first_port;
+        net = ap (λ q. setting.net a.post.did.step.node q) of_post.port ∙ (set.net_is a.post.did.step.node first_port ∙ (named_is (length header.nodes) a.post.did.step.node of_post.node ∙ sym (set.net_is n first_port ∙ named_is (length header.nodes) n within)));
         from_is = ap (λ f. Peer (peer_of f)) (sym a.from);
         taken_is = refl;
       }
@@ -177,13 +191,13 @@ module _ {header : HeaderValue} {setting : Setting} (set : SetBy header setting)
         let is_up : up (dids (of n (run header before))) ≡ true = up_seen header before n (ap (λ q. down (scene header before).up q) (sym goes) ∙ allow.up) in
         subst (λ b. Ran header setting at (joins (reaches header (run header before) at k (Some b)) (run header before))) (some_same f)
         (by_answers before (Take at k) (record { at = at; node = n; cause = Came k }) (Got (Peer (record { 0 = p.from })) (Good p.datagram)) r none goes allow.time is_up
-        (λ past all. got_ok (length header.nodes) setting (record { at = at; node = n; cause = Came k }) (step_tick header (record { at = at; node = n; cause = Came k })) (run header before) past (Peer (record { 0 = p.from })) (Good p.datagram) all (came before at k p n r.first there is)))
+        (λ past all. got_ok (length header.nodes) setting (record { at = at; node = n; cause = Came k }) (step_tick header (record { at = at; node = n; cause = Came k })) (run header before) past (Peer (record { 0 = p.from })) (Good p.datagram) all (came before at k p n (allow.node n goes) r.first there is)))
 
   event_ran : (before : List Event) (e : Event) → Ran header setting (last_at before) (run header before) → refusal (scene header before) e ≡ None → Ran header setting (event_at e) (joins (happening header (run header before) e) (run header before))
   event_ran before (BootAt at node word) r none =
       let allow = allowed (scene header before) (BootAt at node word) none in
       let step = boot_step header at node word in
-      stepped header setting (last_at before) (run header before) step boots set r allow.time (few_posts header before (BootAt at node word) node none refl) boots_lead
+      stepped header setting (last_at before) (run header before) step boots set r allow.time (allow.node node refl) (few_posts header before (BootAt at node word) node none refl) boots_lead
       (boot_ok header setting (run header before) at node word (up (dids (of node (run header before)))) (in_step step (step_tick header step) (past_of header step (run header before))) set)
   event_ran before (Turn at node) r none =
       let allow = allowed (scene header before) (Turn at node) none in
@@ -203,4 +217,4 @@ module _ {header : HeaderValue} {setting : Setting} (set : SetBy header setting)
 pub runs-fit : RunsFit
 runs-fit header setting events set v =
     let r = ran set events v in
-    (r.fits, λ n q. all_end q (of n (run header events)) (of-first n (run header events) r.first) (r.nodes n).ends)
+    (r.fits, λ n q. all_end (length header.nodes) q (of n (run header events)) (of-first (length header.nodes) n (run header events) r.first) (ends_of (r.nodes n)))

@@ -1,11 +1,10 @@
 -- The history of every valid schedule keeps the promises.
-use Rattle.std.specs.Prelude.{refl}
-use Rattle.std.proofs.Common.{ap}
-use Rattle.tsp_base.specs.declared.place.Port.{Port}
+use Rattle.std.specs.Prelude.{length, refl}
 use Rattle.tsp_safe.proofs.SafeProof.{safe}
 use Rattle.tsp_world.specs.Run.{run}
-use Rattle.tsp_world.specs.Setting.{RunsSafe, EachIsSet}
+use Rattle.tsp_world.specs.Setting.{RunsSafe, EachIsSet, members_of, network_of}
 use Rattle.tsp_world.specs.Setup.{node_line}
+use Rattle.tsp_world.proofs.NetworkLemmas.{own_member, ports_apart}
 use Rattle.tsp_world.proofs.RunFits.{runs-fit}
 use Rattle.tsp_world.proofs.SetupLemmas.{rate-node_line}
 
@@ -18,10 +17,14 @@ each-is-set header is = (
     drift = header.drift;
     rate = λ n. (node_line header n).rate;
     wall = λ n. (node_line header n).wall;
-    net = λ n p. p.0;
+    name = λ n. (node_line header n).name;
+    strict = header.strict;
+    net = network_of (length header.nodes);
+    members = members_of (length header.nodes);
     small = is.small;
     rates = λ n. rate-node_line header is n;
-    apart = λ n p q e. ap (λ k. let r : Port = record { 0 = k } in r) e;
+    apart = ports_apart (length header.nodes);
+    own = own_member (length header.nodes);
   },
-  record { rate_is = λ n. refl; wall_is = λ n. refl; drift_is = refl; net_is = λ n m p. refl },
+  record { rate_is = λ n. refl; wall_is = λ n. refl; name_is = λ n. refl; drift_is = refl; strict_is = refl; net_is = λ n q. refl; members_are = λ k. refl },
 )

@@ -1,16 +1,17 @@
 -- What a header sets its nodes up with: each can boot.
-use Rattle.std.specs.Prelude.{◌≡◌, ℕ, zero, suc, ◌+◌, ◌*◌, ◌<◌, ◌≤◌, ◌==◌, nat_le, ◌&&◌, ◌||◌, Bool, true, false, List, [], ◌∷◌, ◌++◌, length, nat_abs, refl}
-use Rattle.std.proofs.Common.{sym, ap, ◌∙◌, arith, subst, get_or, inl, inr, length-append, add-one, le-leb, leb-true, lt-ltb, eq-eqb}
+use Rattle.std.specs.Prelude.{◌≡◌, ℕ, zero, suc, ◌+◌, ◌*◌, ◌<◌, ◌≤◌, ◌==◌, nat_le, ◌&&◌, ◌||◌, Bool, true, false, List, [], ◌∷◌, ◌++◌, length, map, slice_index, nat_abs, refl}
+use Rattle.std.proofs.Common.{sym, ap, ◌∙◌, arith, subst, get_or, inl, inr, length-append, add-one, le-leb, leb-true, eq-eqb}
 use Rattle.std.proofs.lemmas.Bool.{cases_lt}
-use Rattle.std.proofs.lemmas.List.{get_or_past}
+use Rattle.std.proofs.lemmas.List.{get_or_past, length-map}
+use Rattle.std.specs.List.Sorted.{IsStrictlyIncreasing}
 use Rattle.std.proofs.Math.ListN.{get_or-append}
 use Rattle.std.proofs.Math.Seq.{get_or-append_seam}
 use Rattle.tsp_base.specs.declared.header.NodeLine.{NodeLine}
 use Rattle.tsp_base.specs.declared.place.PeerId.{PeerId}
 use Rattle.tsp_base.specs.Headers.{HeaderValue, IsHeader}
-use Rattle.tsp_rules.specs.Tests.{is_among}
+use Rattle.tsp_base.specs.Peers.{is_among}
 use Rattle.tsp_node.specs.declared.node.Node.{Node}
-use Rattle.tsp_node.specs.Configs.{ConfigValue, is_below, is_ascending, IsPort}
+use Rattle.tsp_node.specs.Configs.{ConfigValue, IsPort}
 use Rattle.tsp_world.specs.NodesReady.{NodeReady}
 use Rattle.tsp_node.specs.NodeStands.{peers_in, room_of}
 use Rattle.tsp_world.specs.Refusals.{room}
@@ -60,18 +61,34 @@ rises_from-peers_below : (n : ℕ) → rises_from 0 (peers_below n) ≡ true
 rises_from-peers_below zero = refl
 rises_from-peers_below (suc n) = rises_from-append 0 (peers_below n) (record { 0 = n }) (rises_from-peers_below n) (let e = next-peers_below n in omega (arith, e))
 
-rises-below : (p : PeerId) (rest : List PeerId) → rises_from (p.0 + 1) rest ≡ true → is_below p rest ≡ true
-rises-below p [] e = refl
-rises-below p (q ∷ rest) e =
-    let first = and-true (nat_le (p.0 + 1) q.0) (rises_from (q.0 + 1) rest) e in
-    lt-ltb p.0 q.0 (let le = leb-true (p.0 + 1) q.0 first.0 in omega (arith, le))
+-- the next number is no less than the last one
+rises-first : (least : ℕ) (p : PeerId) (rest : List PeerId) (k : ℕ) → rises_from least (p ∷ rest) ≡ true → k < length (p ∷ rest) → least ≤ slice_index (map (λ (q : PeerId). q.0) (p ∷ rest)) k
+rises-first least p rest zero e h = leb-true least p.0 (and-true (nat_le least p.0) (rises_from (p.0 + 1) rest) e).0
+rises-first least p [] (suc k) e h = absurd (omega (arith, h))
+rises-first least p (q ∷ rest) (suc k) e h =
+    let both = and-true (nat_le least p.0) (rises_from (p.0 + 1) (q ∷ rest)) e in
+    let first = leb-true least p.0 both.0 in
+    let later = rises-first (p.0 + 1) q rest k both.1 (omega (arith, h)) in
+    omega (arith, first, later)
 
--- numbers that rise are ascending
-is_ascending-rises : (least : ℕ) (ps : List PeerId) → rises_from least ps ≡ true → is_ascending ps ≡ true
-is_ascending-rises least [] e = refl
-is_ascending-rises least (p ∷ rest) e =
-    let both = and-true (nat_le least p.0) (rises_from (p.0 + 1) rest) e in
-    rw (rises-below p rest both.1) (is_ascending-rises (p.0 + 1) rest both.1)
+-- each number is below the one behind it
+rises-next : (least : ℕ) (ps : List PeerId) → rises_from least ps ≡ true → (k : ℕ) → suc k < length ps → slice_index (map (λ (q : PeerId). q.0) ps) k < slice_index (map (λ (q : PeerId). q.0) ps) (suc k)
+rises-next least [] e k h = absurd (omega (arith, h))
+rises-next least (p ∷ []) e k h = absurd (omega (arith, h))
+rises-next least (p ∷ q ∷ rest) e zero h =
+    let both = and-true (nat_le least p.0) (rises_from (p.0 + 1) (q ∷ rest)) e in
+    let next = rises-first (p.0 + 1) q rest 0 both.1 (omega arith) in
+    omega (arith, next)
+rises-next least (p ∷ q ∷ rest) e (suc k) h =
+    let both = and-true (nat_le least p.0) (rises_from (p.0 + 1) (q ∷ rest)) e in
+    rises-next (p.0 + 1) (q ∷ rest) both.1 k (omega (arith, h))
+
+-- numbers that rise are strictly ascending
+is_ascending-rises : (least : ℕ) (ps : List PeerId) → rises_from least ps ≡ true → IsStrictlyIncreasing (map (λ (q : PeerId). q.0) ps)
+is_ascending-rises least ps e k h =
+    let ms = map (λ (q : PeerId). q.0) ps in
+    subst (λ n. slice_index ms k < slice_index ms n) (sym (add-one k))
+    (rises-next least ps e k (let l = length-map ps (λ (q : PeerId). q.0) in omega (arith, h, l)))
 
 is_among-append : (p : PeerId) (ps : List PeerId) (q : PeerId) → is_among p (ps ++ q ∷ []) ≡ (is_among p ps || (q.0 == p.0))
 is_among-append p [] q = elim (q.0 == p.0) as (λ b. (b || false) ≡ b) [ true ↦ refl | false ↦ refl ]
@@ -82,7 +99,7 @@ or-right true = refl
 or-right false = refl
 
 -- each node is among all nodes
-is_among-peers_below : (n m : ℕ) → m < n → is_among (record { 0 = m }) (peers_below n) ≡ true
+pub is_among-peers_below : (n m : ℕ) → m < n → is_among (record { 0 = m }) (peers_below n) ≡ true
 is_among-peers_below zero m h = absurd (omega (arith, h))
 is_among-peers_below (suc n) m h = is_among-append (record { 0 = m }) (peers_below n) (record { 0 = n }) ∙ (elim (cases_lt m n) [
   | inl lt ↦ rw (is_among-peers_below n m lt) refl
@@ -93,8 +110,13 @@ is_among-peers_below (suc n) m h = is_among-append (record { 0 = m }) (peers_bel
 pub is_port-config_of : (header : HeaderValue) (n : ℕ) → length header.nodes ≤ 64 → n < length header.nodes → IsPort (config_of header n)
 is_port-config_of header n few h =
     let len = length-peers_below (length header.nodes) in
-    let most : nat_le (length (peers_below (length header.nodes))) 1000 ≡ true = le-leb (length (peers_below (length header.nodes))) 1000 (omega (arith, len, few)) in
-    rw (most, is_ascending-rises 0 (peers_below (length header.nodes)) (rises_from-peers_below (length header.nodes)), is_among-peers_below (length header.nodes) n h) refl
+    record {
+      peers = record {
+        few = omega (arith, len, few);
+        ascending = is_ascending-rises 0 (peers_below (length header.nodes)) (rises_from-peers_below (length header.nodes));
+      };
+      own = is_among-peers_below (length header.nodes) n h;
+    }
 
 pub length-configs_below : (header : HeaderValue) (n : ℕ) → length (configs_below header n) ≡ n
 length-configs_below header zero = refl

@@ -4,6 +4,7 @@ use Rattle.std.proofs.Common.{refl, sym, ap, ◌∙◌, arith, subst, inl, inr, 
 use Rattle.std.proofs.lemmas.Bool.{ne_eqb, cases_lt}
 use Rattle.std.proofs.lemmas.Option.{slice_get-get_or}
 use Rattle.std.proofs.Math.ListN.{set}
+use Rattle.tsp_base.specs.Joins.{first_port}
 use Rattle.tsp_base.specs.declared.act.Act.{Act}
 use Rattle.tsp_base.specs.declared.act.Placed.{Placed}
 use Rattle.tsp_base.specs.declared.event.Event.{Event}
@@ -17,7 +18,7 @@ use Rattle.tsp_world.specs.declared.world.World.{World}
 use Rattle.tsp_node.specs.NodeStands.{NodeStands}
 use Rattle.tsp_world.specs.Refusals.{scene, refusal}
 use Rattle.tsp_world.specs.Run.{run, joins, happening, steps, step_tick, event_at}
-use Rattle.tsp_world.specs.Setup.{past_of, first_port}
+use Rattle.tsp_world.specs.Setup.{past_of}
 use Rattle.tsp_world.specs.WorldStands.{WorldStands, PlaceStands, UpBegun, UpStands, Notes, Passes, rests, up_at, is_node, scene_of}
 use Rattle.tsp_world.proofs.NodeLemmas.{NodeStands-step, Begun-in_step}
 use Rattle.tsp_world.proofs.RefusalLemmas.{Alike, some_same}

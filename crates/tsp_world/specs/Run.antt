@@ -10,6 +10,7 @@ use Rattle.tsp_base.specs.declared.place.Place.{Place}
 use Rattle.tsp_base.specs.declared.place.Place.TheVariants.{Peer, Stranger}
 use Rattle.tsp_base.specs.Headers.{HeaderValue}
 use Rattle.tsp_base.specs.History.{Booted, Turned, Came as TakesPost, Handed, Step, Deed, Begins, Acts, Line}
+use Rattle.tsp_base.specs.Joins.{first_port, stepped}
 use Rattle.tsp_base.specs.Rows.{Row, in_step, placed}
 use Rattle.tsp_base.specs.Ticks.{tick_at}
 use Rattle.tsp_codec.specs.Taken.{taken_of}
@@ -18,8 +19,8 @@ use Rattle.tsp_world.specs.declared.line.Line.{Line as ToldLine}
 use Rattle.tsp_world.specs.declared.posted.Posted.{Posted}
 use Rattle.tsp_rules.specs.Answers.{Turn as NoInput, Got}
 use Rattle.tsp_rules.specs.CommonRows.{boots}
-use Rattle.tsp_rules.specs.SoFar.{answers_so_far}
-use Rattle.tsp_world.specs.Setup.{node_line, past_of, first_port}
+use Rattle.tsp_node.specs.InForce.{answers_in_force}
+use Rattle.tsp_world.specs.Setup.{node_line, past_of}
 
 -- the time of an event
 abbrev pub event_at : Event → ℕ
@@ -98,29 +99,20 @@ arrives nodes (Some p) = arrives_at p (node_at nodes p.to)
 
 abbrev pub reaches : HeaderValue → List Line → ℕ → ℕ → Option Arrival → Option Happening
 reaches header history at k None = None
-reaches header history at k (Some a) = Some (steps header history (answers_so_far (Got a.from a.taken)) (record { at = at; node = a.node; cause = TakesPost k }))
+reaches header history at k (Some a) = Some (steps header history (answers_in_force (Got a.from a.taken)) (record { at = at; node = a.node; cause = TakesPost k }))
 
 -- what an event makes happen, if it makes a node act
 abbrev pub happening : HeaderValue → List Line → Event → Option Happening
 happening header history (BootAt at node word) = Some (steps header history boots (boot_step header at node word))
-happening header history (Turn at node) = Some (steps header history (answers_so_far NoInput) (record { at = at; node = node; cause = Turned }))
+happening header history (Turn at node) = Some (steps header history (answers_in_force NoInput) (record { at = at; node = node; cause = Turned }))
 happening header history (Take at k) = reaches header history at k (arrives (length header.nodes) (slice_get (posts history) k))
 happening header history (Bytes at node port from octets) =
-    Some (steps header history (answers_so_far (Got from (taken_of octets))) (record { at = at; node = node; cause = Handed }))
+    Some (steps header history (answers_in_force (Got from (taken_of octets))) (record { at = at; node = node; cause = Handed }))
 
--- a deed in a step, on the node's only port
-abbrev pub line_of : Step → ℕ → Deed → Line
-line_of step x deed = record { port = first_port; did = record { step = step; tick = x; deed = deed } }
-
--- a history, and then these acts
-abbrev pub joined : Step → ℕ → List Act → List Line → List Line
-joined step x [] history = history
-joined step x (a ∷ rest) history = joined step x rest (line_of step x (Acts a) ∷ history)
-
--- a history, and then a step
+-- a history, and then a step, on the node's only port
 abbrev pub joins : Option Happening → List Line → List Line
 joins None history = history
-joins (Some h) history = joined h.step h.tick h.acts (line_of h.step h.tick Begins ∷ history)
+joins (Some h) history = stepped h.step h.tick (placed first_port h.acts) history
 
 -- the history of a schedule
 abbrev pub run : HeaderValue → List Event → List Line

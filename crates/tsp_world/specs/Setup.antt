@@ -2,9 +2,9 @@
 use Rattle.std.specs.Prelude.{ℕ, zero, suc, false, pos, List, [], ◌∷◌, ◌++◌, length, slice_index_or}
 use Rattle.tsp_base.specs.declared.header.NodeLine.{NodeLine}
 use Rattle.tsp_base.specs.declared.place.PeerId.{PeerId}
-use Rattle.tsp_base.specs.declared.place.Port.{Port}
 use Rattle.tsp_base.specs.Headers.{HeaderValue}
 use Rattle.tsp_base.specs.History.{Step, Line, Past, of, view}
+use Rattle.tsp_base.specs.Joins.{first_port}
 use Rattle.tsp_node.specs.Configs.{ConfigValue}
 
 -- a node without a name, which stands for a number that no node has
@@ -27,6 +27,7 @@ config_of header n = record {
   own = record { 0 = n };
   peers = peers_below (length header.nodes);
   may = (node_line header n).may;
+  strict = header.strict;
 }
 
 -- what the nodes with numbers below this one are set up with, in order
@@ -34,16 +35,14 @@ abbrev pub configs_below : HeaderValue → ℕ → List ConfigValue
 configs_below header zero = []
 configs_below header (suc n) = configs_below header n ++ config_of header n ∷ []
 
--- the only port of a node
-abbrev pub first_port : Port
-first_port = record { 0 = 0 }
-
 -- the past of the node of a step: every node has all nodes as peers
 abbrev pub past_of : HeaderValue → Step → List Line → Past
 past_of header step history = record {
   own = record { 0 = step.node };
   name = (node_line header step.node).name;
   may = (node_line header step.node).may;
+  strict = header.strict;
+  port = first_port;
   peers = peers_below (length header.nodes);
   step = step;
   seen = view first_port (of step.node history);

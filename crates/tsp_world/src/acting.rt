@@ -5,7 +5,7 @@ ghost use Rattle.tsp_base.specs.Headers.{Keeps};
 ghost use Rattle.tsp_base.specs.Ticks.{tick_at};
 ghost use Rattle.tsp_codec.specs.Taken.{taken_of};
 ghost use Rattle.tsp_rules.specs.Answers.{Got};
-ghost use Rattle.tsp_rules.specs.SoFar.{answers_so_far};
+ghost use Rattle.tsp_node.specs.InForce.{answers_in_force};
 ghost use Rattle.tsp_world.specs.Refusals.{Allowed, room};
 ghost use Rattle.tsp_world.specs.Run.{arrives};
 ghost use Rattle.tsp_world.specs.Setup.{node_line, config_of};
@@ -122,7 +122,7 @@ impl World {
         requires node { node < vec_len self.old.nodes }
         requires events { self.old.events < 200000 }
         requires posts { vec_len self.old.sent + room (vec_len self.old.nodes) ≤ 1000000 }
-        ensures { HappensBy (answers_so_far (Got from (taken_of octets.now))) at node self.old self.new }
+        ensures { HappensBy (answers_in_force (Got from (taken_of octets.now))) at node self.old self.new }
     {
         let taken = read(octets);
         self.hand(at, node, from, &taken);
@@ -136,7 +136,7 @@ impl World {
         requires node { node < vec_len self.old.nodes }
         requires events { self.old.events < 200000 }
         requires posts { vec_len self.old.sent + room (vec_len self.old.nodes) ≤ 1000000 }
-        ensures { HappensBy (answers_so_far (Got from taken.now)) at node self.old self.new }
+        ensures { HappensBy (answers_in_force (Got from taken.now)) at node self.old self.new }
     {
         let tick = self.tick(node, at);
         self.last = at;

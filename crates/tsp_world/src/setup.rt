@@ -17,7 +17,14 @@ pub(crate) fn configs_of(alloc: Global, header: &Header) -> Result<Vec<Config>, 
     let mut configs = Vec::new(alloc);
     for (number, line) in nodes.iter().enumerate() {
         let own = PeerId(number as u32);
-        let config = Config::new(alloc, line.name.copy(), own, peers.as_slice(), line.may)?;
+        let config = Config::new(
+            alloc,
+            line.name.copy(),
+            own,
+            peers.as_slice(),
+            line.may,
+            header.strict(),
+        )?;
         configs.push(config)?;
     }
     Ok(configs)

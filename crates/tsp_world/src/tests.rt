@@ -71,7 +71,7 @@ fn happens(world: &mut World, at: u32, what: What) -> Option<EventFault> {
 fn world_of(alloc: Global, drift: u32, clocks: &[(i32, i64)]) -> Option<World>
     requires { drift ≤ 1000 }
 {
-    let mut header = Header::new(alloc, drift);
+    let mut header = Header::new(alloc, drift, false);
     for (rate, wall) in clocks {
         let line = NodeLine {
             name: Name::empty(),

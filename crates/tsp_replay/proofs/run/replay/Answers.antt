@@ -1,8 +1,12 @@
-use Rattle.tsp_lines.proofs.Unrefusals.{Comes-unrefused}
-use Rattle.tsp_replay.specs.Meaning.{replaying}
-use Rattle.tsp_replay.proofs.OneReading.{Unrefused-schedule}
+use Rattle.tsp_lines.proofs.OneAnswer.{Agrees-outcome}
+use Rattle.tsp_lines.specs.declared.limits.TheConstants.{MOST_INPUT}
+use Rattle.tsp_lines.specs.declared.treat.Outcome.TheVariants.{Ok as Done}
+use Rattle.tsp_replay.proofs.Definites.{IsDefinite-replaying, answer_schedule}
 use Rattle.tsp_replay.proofs.run.replay.Goals as goal
+
+pub returns-clause-answers : goal.returns-clause-answers
+returns-clause-answers g c = c.treat_all.ensures.answers IsDefinite-replaying
 
 pub returns-clause-complete : goal.returns-clause-complete
 returns-clause-complete g c = λ octets told limit are reads writes.
-    Comes-unrefused replaying 67108864 _ _ _ _ c.treat_all.result (Unrefused-schedule octets _ told limit are) c.treat_all.ensures.comes (λ e. reads (c.treat_all.ensures.read e).0) (λ e. writes (c.treat_all.ensures.write e))
+    Agrees-outcome Done c.treat_all.result _ _ _ (c.treat_all.ensures.answers IsDefinite-replaying octets Done _ told (answer_schedule MOST_INPUT octets limit are)) (λ e. reads (c.treat_all.ensures.read e).0) (λ e. writes (c.treat_all.ensures.write e))

@@ -38,5 +38,5 @@ loop-line-preserved g c =
     let here : lines_text (drop i c.args.lines.now) ≡ line_text item ++ rest = ap (λ ls. lines_text ls) (drop_more c.args.lines.now i item (search rules)) ∙ ap (λ l. line_text l ++ rest) item_is in
     record {
       told = (told.0 ++ line_text item, Hands-trans _ _ _ _ _ _ told.0 (line_text item) told.1 c.in_ok-tell_one.ensures.ok, told.2 ∙ ap (λ z. told.0 ++ z) here ∙ sym (append_assoc told.0 (line_text item) rest));
-      later = search rules;
+      still = c.in_ok-tell_one.ensures.still (λ e. cc) ∙ c.loop-line.invariant.still;
     }

@@ -6,5 +6,5 @@ use Rattle.tsp_world.proofs.step.take.Goals as goal
 pub returns-in-Some-clause-few : goal.returns-in-Some-clause-few
 returns-in-Some-clause-few c = λ count h.
     let same = room_of-ready count c.args.tick c.in-Some.node (h c.in-Some.node c.in-Some.is) in
-    let few = c.take.ensures.few in
+    let few = c.take.ensures.room.few in
     omega (arith, same, few)

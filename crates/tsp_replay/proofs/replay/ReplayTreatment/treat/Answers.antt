@@ -7,7 +7,7 @@ use Rattle.tsp_replay.proofs.TreatLemmas.{Goes-advances, StopsAt-untold, StopsAt
 use Rattle.tsp_replay.proofs.replay.ReplayTreatment.treat.Goals as goal
 
 pub returns-in-Ok-clause-treats : goal.returns-in-Ok-clause-treats
-returns-in-Ok-clause-treats g c lines text stands accepts =
+returns-in-Ok-clause-treats g c lines text stands accepts room =
     let line = c.args.line.now in
     let old : c.replace-stage.result ≡ c.args.self.now.stage = c.replace-stage.ensures.value in
     let advances : (q : Progress) → Reaches (reverse lines) q → Advances q line c.in-Ok.next = λ q r. c.in-Ok.ensures.next q (subst (λ s. StageStands q s) (sym old) (stands q r)) in
@@ -16,6 +16,6 @@ returns-in-Ok-clause-treats g c lines text stands accepts =
     (λ stop h. StopsAt-untold lines text line accepts.0 c.in-Ok.next _ _ _ _ stop accepts.1 accepts.2 (advances accepts.0 accepts.1) h)
 
 pub returns-in-Err-clause-treats : goal.returns-in-Err-clause-treats
-returns-in-Err-clause-treats g c lines text stands accepts =
+returns-in-Err-clause-treats g c lines text stands accepts room =
     let old : c.replace-stage.result ≡ c.args.self.now.stage = c.replace-stage.ensures.value in
     StopsAt-halts lines text c.args.line.now accepts.0 _ _ c.in-Err.stop accepts.1 (c.in-Err.ensures.next accepts.0 (subst (λ s. StageStands accepts.0 s) (sym old) (stands accepts.0 accepts.1)))

@@ -1,4 +1,4 @@
--- A node, or the first line behind the nodes.
+-- A node, or the first line behind the nodes; what replays don't take yet is refused.
 use Rattle.std.proofs.Common.{◌∙◌, ap, subst, Ok}
 use Rattle.tsp_script.specs.Schedules.{SpellsHead}
 use Rattle.tsp_replay.proofs.StageLemmas.{MatchResult-map, Advances-node, Halts-node, Advances-first, Halts-first}
@@ -8,16 +8,18 @@ pub returns-in-Ok-Node-clause-next : goal.returns-in-Ok-Node-clause-next
 returns-in-Ok-Node-clause-next c =
     let line = c.args.line.now in
     let is = c.in-Ok-Node.is ∙ ap (λ i. Ok i) c.in-Ok-Node.field-0-is in
-    let spells = subst (λ i. SpellsHead 3 line i) c.in-Ok-Node.field-0-is c.in-Ok-Node.ensures.reads in
+    let read = rw c.next_place.ensures at c.head_line.ensures in
+    let spells = rw c.next_place.ensures at (subst (λ i. SpellsHead c.next_place.result line i) c.in-Ok-Node.field-0-is c.in-Ok-Node.ensures.reads) in
     MatchResult-map c.node.result c.node.ensures.next
-    (λ next h. Advances-node c.args.header c.in-Ok-Node.node line next c.head_line.result is c.head_line.ensures.one spells h.0 h.1)
+    (λ next h. Advances-node c.args.header c.in-Ok-Node.node line next c.head_line.result is read.one spells h.0 h.1)
     (λ stop h. Halts-node c.args.header c.in-Ok-Node.node line stop spells h)
 
 pub returns-in-Ok-NotHead-clause-next : goal.returns-in-Ok-NotHead-clause-next
 returns-in-Ok-NotHead-clause-next c =
     let line = c.args.line.now in
     let is = c.in-Ok-NotHead.is ∙ ap (λ i. Ok i) c.in-Ok-NotHead.field-0-is in
-    let spells = subst (λ i. SpellsHead 3 line i) c.in-Ok-NotHead.field-0-is c.in-Ok-NotHead.ensures.reads in
+    let read = rw c.next_place.ensures at c.head_line.ensures in
+    let spells = rw c.next_place.ensures at (subst (λ i. SpellsHead c.next_place.result line i) c.in-Ok-NotHead.field-0-is c.in-Ok-NotHead.ensures.reads) in
     MatchResult-map c.first.result c.first.ensures.next
-    (λ next h. Advances-first c.args.header line next c.head_line.result is c.head_line.ensures.one spells h.0 h.1)
+    (λ next h. Advances-first c.args.header line next c.head_line.result is read.one spells h.0 h.1)
     (λ stop h. Halts-first c.args.header line stop spells h)

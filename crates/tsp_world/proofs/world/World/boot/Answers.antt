@@ -1,16 +1,17 @@
 -- The node boots by its row, and takes its place. It is set up so that only memory can be wanting.
-use Rattle.std.proofs.Common.{◌≡◌, ◌<◌, ◌∙◌, ap, refl, subst, sym, false, true≢false, arith, Some, rules, vec_len, length, pos, ◌+ℤ◌, SFits, w64, to_z, of_z, to_z-of_z, inl, inr, ◌++◌, get_or}
+use Rattle.std.proofs.Common.{◌≡◌, ◌<◌, ◌∙◌, ap, refl, subst, sym, arith, Some, rules, vec_len, length, pos, ◌+ℤ◌, SFits, w64, to_z, of_z, to_z-of_z, inl, inr, ◌++◌, get_or}
 use Rattle.std.proofs.Math.ListN.{set}
+use Rattle.tsp_base.specs.Joins.{first_port}
 use Rattle.tsp_base.specs.declared.event.Event.TheVariants.{Boot}
 use Rattle.tsp_base.specs.Performs.{Performs}
 use Rattle.tsp_base.specs.Rows.{in_step, placed, puts, arms, ◌followed_by◌}
 use Rattle.tsp_base.specs.Ticks.{tick_at}
 use Rattle.tsp_rules.specs.CommonRows.{boots}
-use Rattle.tsp_node.specs.Configs.{ConfigValue, BootsNot, is_port}
+use Rattle.tsp_node.specs.Configs.{ConfigValue, BootsNot, IsPort}
 use Rattle.tsp_world.specs.NodesReady.{NodeReady}
 use Rattle.tsp_node.specs.NodeStands.{NodeStands, Unbooted}
 use Rattle.tsp_world.specs.Run.{boot_step, run, joins, steps, step_tick}
-use Rattle.tsp_world.specs.Setup.{node_line, first_port, past_of, config_of}
+use Rattle.tsp_world.specs.Setup.{node_line, past_of, config_of}
 use Rattle.tsp_world.specs.WorldStands.{Notes, PlaceStands}
 use Rattle.tsp_world.proofs.ReadyLemmas.{NodesReady-later, NodesReady-set}
 use Rattle.tsp_world.proofs.RefusalLemmas.{some_same}
@@ -42,8 +43,8 @@ pub unreachable-requires : goal.unreachable-requires
 unreachable-requires c =
     let world = c.args.self.now in
     let at = (goal.at.unreachable-requires c).After-index-config in
-    let not : is_port c.index-config.result.now ≡ false = subst (λ f. BootsNot c.index-config.result.now (to_z w64 (of_z w64 c.wall_at-wall.result)) f) c.in-Err-Peers.field-0-is c.in-Err-Peers.ensures.err in
-    true≢false (sym (ap (λ v. is_port v) (configured at) ∙ is_port-config_of world.header c.args.node world.ready.header_is.few (in_place at)) ∙ not)
+    let not : IsPort c.index-config.result.now → ⊥ = subst (λ f. BootsNot c.index-config.result.now (to_z w64 (of_z w64 c.wall_at-wall.result)) f) c.in-Err-Peers.field-0-is c.in-Err-Peers.ensures.err in
+    not (subst IsPort (sym (configured at)) (is_port-config_of world.header c.args.node world.ready.header_is.few (in_place at)))
 
 pub invariant_of-self-clause-ready : goal.invariant_of-self-clause-ready
 invariant_of-self-clause-ready c =
@@ -78,7 +79,7 @@ returns-in-Ok-clause-happens c header events w none =
     subst (λ t. Performs (Unbooted config c.args.word (line.wall +ℤ pos x)) NodeStands boots t first_port tt node world.desk.placed.items acts) tick_is
     (subst (λ z. Performs (Unbooted config c.args.word z) NodeStands boots c.tick-tick.result first_port tt node world.desk.placed.items acts) wall_back
     (subst (λ v. Performs (Unbooted v c.args.word (to_z w64 (of_z w64 c.wall_at-wall.result))) NodeStands boots c.tick-tick.result first_port tt node world.desk.placed.items acts) config_is c.in-Ok.ensures.row)) in
-    let begun : Unbooted config c.args.word (line.wall +ℤ pos x) past tt = record { cause = refl; of = record { own = refl; name = refl; may = refl; peers = refl } } in
+    let begun : Unbooted config c.args.word (line.wall +ℤ pos x) past tt = record { cause = refl; of = record { own = refl; name = refl; may = refl; strict = refl; peers = refl } } in
     WorldStands-acted header events (Boot c.args.at c.args.node c.args.word) boots step world c.note.new.self nodes acts
     w none refl refl (in_header header events world len w c.args.node c.requires.node) (search rules)
     (booted.acts past begun ∙ ap (λ ps. ps ++ placed first_port (boots x past)) c.requires.ready.idle)

@@ -1,13 +1,14 @@
 -- The node takes what was read, by its row.
 use Rattle.std.proofs.Common.{◌≡◌, ◌≤◌, ◌∙◌, ap, subst, arith, Some, rules, vec_len, length, slice_get}
 use Rattle.std.proofs.Math.ListN.{set}
+use Rattle.tsp_base.specs.Joins.{first_port}
 use Rattle.tsp_base.specs.Performs.{Performs}
 use Rattle.tsp_base.specs.Ticks.{tick_at}
 use Rattle.tsp_rules.specs.Answers.{Got}
-use Rattle.tsp_rules.specs.SoFar.{answers_so_far}
+use Rattle.tsp_node.specs.InForce.{answers_in_force}
 use Rattle.tsp_world.specs.NodesReady.{PlaceReady}
 use Rattle.tsp_world.specs.Refusals.{room}
-use Rattle.tsp_world.specs.Setup.{node_line, first_port}
+use Rattle.tsp_world.specs.Setup.{node_line}
 use Rattle.tsp_world.specs.WorldStands.{Notes, UpBegun, UpStands}
 use Rattle.tsp_world.proofs.ReadyLemmas.{NodesReady-later, NodesReady-set, CanAct-ready, PlaceReady-acts, place_there}
 use Rattle.tsp_world.proofs.WorldLemmas.{WorldStands-handed, in_header}
@@ -47,7 +48,7 @@ returns c cause header events e w at none up happens =
     let world = c.args.self.now in
     let len : vec_len world.nodes ≡ length world.nodes.items = search rules in
     let tick_is = c.tick-tick.ensures.tick ∙ ap (λ h. tick_at (node_line h c.args.node).rate c.args.at) w.header_is in
-    let row = answers_so_far (Got c.args.from c.args.taken.now) in
+    let row = answers_in_force (Got c.args.from c.args.taken.now) in
     let acts = c.take.new.desk.placed.items in
     WorldStands-handed header events e row (record { at = c.args.at; node = c.args.node; cause = cause }) world c.note.new.self c.index_mut-place.result.now c.take.new.place acts
     w none happens at (in_header header events world len w c.args.node c.requires.node) c.requires.ready.idle up (there (goal.at.returns c).After-index_mut-place)

@@ -6,7 +6,7 @@ use Rattle.tsp_base.specs.History.{Handed}
 use Rattle.tsp_codec.specs.Taken.{taken_of}
 use Rattle.tsp_rules.specs.Answers.{Got}
 use Rattle.tsp_world.specs.declared.world.World.{World}
-use Rattle.tsp_rules.specs.SoFar.{answers_so_far}
+use Rattle.tsp_node.specs.InForce.{answers_in_force}
 use Rattle.tsp_world.specs.Refusals.{Allowed, scene, actor, room}
 use Rattle.tsp_world.specs.WorldStands.{scene_of, HappensBy}
 use Rattle.tsp_world.proofs.RefusalLemmas.{refusal-none, up-down}
@@ -43,8 +43,8 @@ returns-in-Bytes-clause-happens c header events =
     let at = c.in-Bytes.at in
     let node = c.in-Bytes.node in
     let e : Event = Bytes at node c.in-Bytes.port c.in-Bytes.from c.in-Bytes.octets in
-    let hands : HappensBy (answers_so_far (Got c.in-Bytes.from (taken_of c.in-Bytes.octets))) at node world c.bytes.new.self =
-    subst (λ o. HappensBy (answers_so_far (Got c.in-Bytes.from (taken_of o))) at node world c.bytes.new.self) c.octets.ensures.value c.bytes.ensures in
+    let hands : HappensBy (answers_in_force (Got c.in-Bytes.from (taken_of c.in-Bytes.octets))) at node world c.bytes.new.self =
+    subst (λ o. HappensBy (answers_in_force (Got c.in-Bytes.from (taken_of o))) at node world c.bytes.new.self) c.octets.ensures.value c.bytes.ensures in
     rw c.in-Bytes.is
     (λ w none.
     let len : vec_len world.nodes ≡ length world.nodes.items = search rules in

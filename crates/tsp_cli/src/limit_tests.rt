@@ -1,0 +1,54 @@
+//! Runs of the program over memory at the limits, whose answers were worked out by hand.
+use crate::run::run;
+use crate::status::Status;
+use std::alloc::{AllocError, Global};
+use tsp_io::memory::{MemorySink, MemorySource};
+
+/// Whether a replay of this input ends with this status, and what it writes with these words.
+fn ends(alloc: Global, input: &[u8], status: Status, last: &str) -> Result<bool, AllocError> {
+    let mut words = Vec::new(alloc);
+    words.push(String::from_str(alloc, "replay")?)?;
+    let mut source = MemorySource::new(alloc, input, &[])?;
+    let mut sink = MemorySink::new(alloc, &[])?;
+    let got = run(alloc, words.as_slice(), &mut source, &mut sink);
+    Ok(got == status && sink.written().ends_with(last.as_bytes()))
+}
+
+/// A header with so many nodes.
+fn header(alloc: Global, nodes: u32) -> Result<String, AllocError> {
+    let mut text = String::from_str(alloc, "tsp-schedule 1\ndrift 5\n")?;
+    for node in 0..nodes {
+        text.push_str(format!(in alloc; "node n{node} 0 0 s\n")?.as_str())?;
+    }
+    Ok(text)
+}
+
+/// A header has at most 64 nodes.
+#[test]
+fn a_65th_node_is_refused(rt: HostRuntime) -> Result<(), AllocError> {
+    let alloc = rt.alloc();
+    let mut most = header(alloc, 64)?;
+    most.push_str("end\n")?;
+    assert!(rt; ends(alloc, most.as_bytes(), Status::Ok, "")?);
+    let more = header(alloc, 65)?;
+    assert!(rt; ends(alloc, more.as_bytes(), Status::Bad, "bad 67 header\n")?);
+    Ok(())
+}
+
+/// A node's rate lies within the drift, and its wall within 10^15.
+#[test]
+fn nodes_out_of_range_are_refused(rt: HostRuntime) -> Result<(), AllocError> {
+    let alloc = rt.alloc();
+    for (node, status, last) in [
+        ("5 1000000000000000", Status::Ok, ""),
+        ("-5 -1000000000000000", Status::Ok, ""),
+        ("6 0", Status::Bad, "bad 3 header\n"),
+        ("-6 0", Status::Bad, "bad 3 header\n"),
+        ("0 1000000000000001", Status::Bad, "bad 3 header\n"),
+        ("0 -1000000000000001", Status::Bad, "bad 3 header\n"),
+    ] {
+        let input = format!(in alloc; "tsp-schedule 1\ndrift 5\nnode a {node} m\nend\n")?;
+        assert!(rt; ends(alloc, input.as_bytes(), status, last)?, "{node}");
+    }
+    Ok(())
+}

@@ -1,0 +1,5 @@
+use Rattle.tsp_replay.proofs.OneReading.{Reaches-one}
+use Rattle.tsp_replay.proofs.laws.one_place_of_lines.Goals as goal
+
+pub returns : goal.returns
+returns c = Reaches-one
