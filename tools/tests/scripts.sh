@@ -1,0 +1,26 @@
+#!/bin/sh
+# The scripts are sound by shellcheck, and the tools are Python that 3.8 reads.
+. "$(dirname "$0")/common.sh"
+
+# The files outside of crates/ and bench/ that git has or would take, whose first line or name is as this pattern says.
+written_in() {
+    git ls-files --cached --others --exclude-standard -- ':!crates' ':!bench' | sort -u | while IFS= read -r file; do
+        # shellcheck disable=SC2254  # a pattern
+        case "$file:$(head -n 1 "$file" | tr -d '\0')" in $1) printf '%s\n' "$file" ;; esac
+    done
+}
+
+has git || { skip 'there is no git' 'which scripts there are'; exit; }
+written_in '*:#!/bin/sh' >"$out/shell"
+{ written_in '*.py:*'; written_in '*:#!*python3'; } | sort -u >"$out/python"
+if has shellcheck; then
+    # (awk programs stand in single quotes; what common.sh sets, also -e, is not known elsewhere)
+    xargs shellcheck --exclude=SC1091,SC2015,SC2016,SC2154,SC2164 <"$out/shell" || fail 'shellcheck finds something'
+    shellcheck --shell=bash completions/tsp.bash || fail 'shellcheck finds something'
+else
+    skip 'there is no shellcheck' 'whether the scripts are sound'
+fi
+while IFS= read -r file; do
+    python3 -c 'import ast, sys; ast.parse(open(sys.argv[1], encoding="utf-8").read(), feature_version=(3, 8))' "$file" || fail "$file isn't read"
+done <"$out/python"
+echo "$check: $(wc -l <"$out/shell") of shell and $(wc -l <"$out/python") of Python"

@@ -1,0 +1,210 @@
+"""What a schedule and its trace tell together: clocks, roles, datagrams, measurements, rounds, and what a round promises."""
+from typing import NamedTuple
+
+from tsp_texts import trace
+
+NUMBERED = ('adjtime', 'settime', 'election', 'conflict', 'quit')
+
+
+class Span(NamedTuple):
+    """Something that lasts from one true time to another, or beyond the run: a node's clock, or a port's role."""
+    begin: int
+    end: int
+    value: object
+    lasts: bool = False
+
+
+class Sample(NamedTuple):
+    """A measurement: `reading_at` is the true time at which the peer read its clock, `low` to `high` what that clock
+    then was by it, less true time."""
+    master: int
+    peer: int
+    reading_at: int
+    low: int
+    high: int
+    err: int
+    trip: int
+
+
+class Group(NamedTuple):
+    """The group of a Close: what clocks it has and their mean, less true time."""
+    master: int
+    at: int
+    low: int
+    high: int
+    mean: int
+
+
+class Bound(NamedTuple):
+    """What is promised of a follower that a round corrected: its clock is within `width_at` of the master's."""
+    clock: object
+    follower: int
+    err: int
+    reading_at: int
+    begin: int
+    end: int
+    drift: int
+    lasts: bool = True
+
+    def width_at(self, at):
+        return self.err + 2 * trace.width(self.drift, at - self.reading_at)
+
+
+class Send:
+    """An adjustment that a Close began: whose, the sample that it comes from, and the place of the Close."""
+
+    def __init__(self, master, sample, close):
+        self.master, self.sample, self.close = master, sample, close
+
+
+class History:
+    """A run, read once from its first act to its last."""
+
+    def __init__(self, schedule, acts):
+        self.schedule, self.acts = schedule, acts
+        self.last = schedule.events[-1].at if schedule.events else 0
+        self.clocks = [[] for _ in schedule.nodes]
+        self.roles, self.corrections = {}, []
+        self.posts, self.samples, self.groups, self.bounds = {}, [], [], []
+        self.takes = {}
+        for event in schedule.events:
+            if event.kind == 'take':
+                self.takes.setdefault(event.datagram, []).append(event.at)
+        walk = Walk(self)
+        for act in acts:
+            walk.act(act)
+        walk.end()
+
+    def clock(self, node, at):
+        """The last clock that a node had at a true time, or None."""
+        found = None
+        for span in self.clocks[node]:
+            found = span.value if span.begin <= at else found
+        return found
+
+
+class Walk:
+    """What is known of each node and port between one act and the next."""
+
+    def __init__(self, history):
+        self.of = history
+        count = len(history.schedule.nodes)
+        self.clock, self.clock_since, self.moved = [None] * count, [0] * count, [-1] * count
+        self.role, self.asked, self.best, self.open = {}, {}, {}, {}
+        self.sends, self.promised = {}, []
+        self.event, self.acted, self.closed = 0, set(), {}
+
+    def act(self, act):
+        if act.event != self.event:
+            self.event, self.acted, self.closed = act.event, set(), {}
+        call = getattr(self, 'on_' + act.words[0], None)
+        if call:
+            call(act)
+
+    def port(self, act):
+        return act.node, act.port
+
+    def on_ring(self, act):
+        self.acted.add(self.port(act))
+
+    on_late = on_took = on_ring
+
+    def set_clock(self, act, clock):
+        """From this act on a node has another clock: what was promised of the last one ends."""
+        if self.clock[act.node] is not None:
+            self.of.clocks[act.node].append(Span(self.clock_since[act.node], act.at, self.clock[act.node]))
+        self.clock[act.node], self.clock_since[act.node] = clock, act.at
+        for each in [each for each in self.promised if act.node in (each[0], each[1].follower)]:
+            self.promised.remove(each)
+            self.of.bounds.append(each[1]._replace(end=act.at, lasts=False))
+
+    def on_boot(self, act):
+        self.set_clock(act, trace.booted(self.of.schedule.nodes[act.node], act))
+        self.moved[act.node] = act.place
+        for port in [port for port in self.role if port[0] == act.node]:
+            self.forget(port)
+
+    def forget(self, port):
+        """A port has another role: its round and its sends are gone."""
+        for known in (self.asked, self.best, self.open):
+            for key in [key for key in known if key[:2] == port]:
+                del known[key]
+
+    def on_become(self, act):
+        port = self.port(act)
+        if port in self.role:
+            self.of.roles.setdefault(port, []).append(Span(self.role[port][1], act.at, self.role[port][0]))
+        self.role[port] = act.words[1], act.at
+        self.forget(port)
+
+    def on_correct(self, act):
+        is_of_close = self.closed.get(self.port(act)) == act.place - 1
+        self.set_clock(act, trace.corrected(self.clock[act.node], act))
+        self.of.corrections.append(act)
+        if not is_of_close:
+            self.moved[act.node] = act.place
+        self.promise(act)
+
+    def promise(self, act):
+        """A follower has taken the adjustment of a Close: what is then promised of its clock."""
+        event = self.of.schedule.events[act.event - 1]
+        send = self.sends.get(event.datagram) if event.kind == 'take' else None
+        if send is None or self.moved[send.master] > send.close:
+            return
+        sample = send.sample
+        bound = Bound(self.clock[send.master], act.node, sample.err, sample.reading_at, act.at, self.of.last, self.of.schedule.drift)
+        self.promised.append((send.master, bound))
+
+    def on_arm(self, act):
+        if act.words[1] == 'close':
+            for key in [key for key in self.best if key[:2] == self.port(act)]:
+                del self.best[key]
+
+    def on_post(self, act):
+        post = trace.post_of(act)
+        number, kind = int(act.words[1]), post.message[0]
+        self.of.posts[number] = post
+        key = (*self.port(act), post.to)
+        if kind == 'request':
+            self.asked[(*key, post.message[2])] = act.tick
+        if kind not in NUMBERED:
+            return
+        if self.port(act) in self.acted:
+            self.open.pop(key, None)
+            close = self.closed.get(self.port(act))
+            if kind == 'adjtime' and close is not None and key in self.best:
+                self.open[key] = Send(act.node, self.best[key], close)
+        if key in self.open:
+            self.sends[number] = self.open[key]
+
+    def on_acked(self, act):
+        self.open.pop((*self.port(act), int(act.words[1])), None)
+
+    on_gave = on_acked
+
+    def on_sample(self, act):
+        peer, counter, diff, err = int(act.words[1]), act.words[2], int(act.words[3]), int(act.words[4])
+        event = self.of.schedule.events[act.event - 1]
+        at = self.of.posts[event.datagram].act.at if event.kind == 'take' else act.at
+        asked = self.asked.get((*self.port(act), peer, counter))
+        middle = self.clock[act.node].offset(at) + diff
+        found = Sample(act.node, peer, at, middle - err, middle + err, err, 2 * err if asked is None else act.tick - asked)
+        self.of.samples.append(found)
+        key = (*self.port(act), peer)
+        if key not in self.best or found.trip < self.best[key].trip:
+            self.best[key] = found
+
+    def on_close(self, act):
+        self.closed[self.port(act)] = act.place
+        _, low, width, mean = (int(word) for word in act.words[1:])
+        own = self.clock[act.node].offset(act.at)
+        self.of.groups.append(Group(act.node, act.at, own + low, own + low + width, own + mean))
+
+    def end(self):
+        """The run has ended: what lasts lasts to its last event."""
+        for node, clock in enumerate(self.clock):
+            if clock is not None:
+                self.of.clocks[node].append(Span(self.clock_since[node], self.of.last, clock, True))
+        for port, (role, since) in self.role.items():
+            self.of.roles.setdefault(port, []).append(Span(since, self.of.last, role, True))
+        self.of.bounds += [bound for _, bound in self.promised]

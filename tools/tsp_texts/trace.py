@@ -1,0 +1,90 @@
+"""Traces: the lines of a run, and a node's clock.
+
+All times are microseconds. `at` is true time, `tick` a node's own count.
+"""
+from typing import NamedTuple, Optional
+
+MILLION = 1_000_000
+SLEW = 200
+
+
+class Act(NamedTuple):
+    """A line of a trace: its place among the lines, and the true time of its event. `words` say what was done."""
+    place: int
+    event: int
+    node: int
+    port: int
+    tick: int
+    at: int
+    words: list
+
+
+class Post(NamedTuple):
+    """A datagram that was posted; `to` is None where it went to a stranger."""
+    act: Act
+    to: Optional[int]
+    message: list
+
+
+def read(path, schedule):
+    """The acts of a trace of this schedule."""
+    acts = []
+    with open(path, 'rb') as file:
+        for line in file:
+            words = line.decode('ascii').split()
+            if len(words) < 5 or words[0] in ('bad', 'limit'):
+                break
+            event, node, port, tick = (int(word) for word in words[:4])
+            acts.append(Act(len(acts), event, node, port, tick, schedule.events[event - 1].at, words[4:]))
+    return acts
+
+
+def post_of(act):
+    """The post that an act is."""
+    return Post(act, None if act.words[2] == '-' else int(act.words[2]), act.words[3:])
+
+
+def tick_at(node, at):
+    """The tick of a node at a true time."""
+    return at + at * node.rate // MILLION
+
+
+def width(drift, passed):
+    """By how much a clock may have gone wrong in so much true time, under this drift."""
+    return -(-drift * passed // MILLION) + 1
+
+
+class Clock(NamedTuple):
+    """A node's clock from a boot or a correction on.
+
+    `base` is what the target is before the node's tick, `rest` by how much the shown value was short of the target at
+    `since`, a tick.
+    """
+    node: object
+    base: int
+    rest: int
+    since: int
+
+    def offset(self, at):
+        """The target less true time."""
+        return self.base + tick_at(self.node, at) - at
+
+    def shown(self, at):
+        """The shown value less true time."""
+        left = max(abs(self.rest) - (tick_at(self.node, at) - self.since) // SLEW, 0)
+        return self.offset(at) - (left if self.rest > 0 else -left)
+
+    def met_at(self):
+        """The first true time at which the shown value is the target."""
+        return -(-(self.since + abs(self.rest) * SLEW) * MILLION // (MILLION + self.node.rate))
+
+
+def booted(node, act):
+    """The clock of a node that boots."""
+    return Clock(node, node.wall, 0, act.tick)
+
+
+def corrected(clock, act):
+    """A clock after a correction, by what its act says."""
+    base = clock.base + int(act.words[1])
+    return Clock(clock.node, base, base + act.tick - int(act.words[3]), act.tick)

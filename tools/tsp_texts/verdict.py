@@ -1,0 +1,114 @@
+"""The verdict on a schedule: what `replay` says of it, so far as that follows from its text alone.
+
+What it doesn't know is how many datagrams were posted, so it says nothing of the number of a take.
+"""
+from typing import NamedTuple, Optional
+
+from tsp_texts import hints, schedule
+
+
+class Fault(NamedTuple):
+    """A line that is refused: its number from 1, the words behind `bad LINE`, or None for a limit; field and hint."""
+    line: int
+    cause: Optional[str]
+    field: int
+    hint: str
+
+    def verdict(self):
+        """The line that `replay` writes of it."""
+        return f'limit {self.line}' if self.cause is None else f'bad {self.line} {self.cause}'
+
+
+class Reader:
+    """Reads a schedule line by line, and knows what a line may be at its place."""
+
+    def __init__(self):
+        self.drift, self.nodes = None, []
+        self.events, self.time, self.up = 0, 0, set()
+        self.number, self.ended, self.stopped = 0, False, False
+
+    def line(self, line):
+        """The fault of the next line, or None."""
+        self.number += 1
+        if self.number == 1:
+            return None if line == b'tsp-schedule 1' else self.header(*hints.explain(line, hints.FIRST))
+        if self.number == 2:
+            self.drift = schedule.drift_of(line)
+            return self.header(*hints.explain(line, hints.DRIFT)) if self.drift is None else None
+        if not self.events and not self.ended and line.startswith(b'node '):
+            return self.node(line)
+        if not self.nodes:
+            return self.header(1, 'a node\'s line belongs here: node NAME RATE WALL FLAG')
+        return self.event(line)
+
+    def header(self, field, hint):
+        self.stopped = True
+        return Fault(self.number, 'header', field, hint)
+
+    def node(self, line):
+        value = schedule.node_of(line, self.drift)
+        if value is None:
+            return self.header(*hints.explain(line, hints.node_line(self.drift)))
+        if len(self.nodes) == schedule.MOST_NODES:
+            return self.header(1, f'there are {schedule.MOST_NODES} nodes, and no more are taken')
+        self.nodes.append(value)
+        return None
+
+    def event(self, line):
+        if self.ended:
+            self.stopped = True
+            return Fault(self.number, 'after-end', 1, '`end` is the last line; nothing stands behind it')
+        if line == b'end':
+            self.ended = True
+            return None
+        self.events += 1
+        value = schedule.event_of(line)
+        if value is None:
+            return Fault(self.number, 'line', *hints.explain_event(line, self.nodes))
+        return self.fault(value) or self.happens(value)
+
+    def fault(self, event):
+        """The first fault of an event, where it follows from the text alone."""
+        count = len(self.nodes)
+        if event.at < self.time:
+            return Fault(self.number, f'time-back {event.at} {self.time}', 2, f'the time goes back: the last event was at {self.time}')
+        for field, node in ((4, event.node), (5, event.peer)):
+            if node is not None and node >= count:
+                there = f'there are {count} nodes, numbered 0 to {count - 1}' if count > 1 else 'there is one node, number 0'
+                return Fault(self.number, f'no-node {node} {count}', field, there)
+        if event.kind in ('turn', 'bytes') and event.node not in self.up:
+            name = self.nodes[event.node].name
+            return Fault(self.number, f'not-up {event.node}', 4, f'node {event.node}, {name}, hasn\'t booted: `at T boot {event.node} WORD` comes first')
+        return None
+
+    def happens(self, event):
+        """Lets an event happen, unless there are too many."""
+        if self.events > schedule.MOST_EVENTS:
+            self.stopped = True
+            return Fault(self.number, None, 0, f'there are {schedule.MOST_EVENTS} events, and no more are taken')
+        self.time = event.at
+        if event.kind == 'boot':
+            self.up.add(event.node)
+        return None
+
+    def end(self):
+        """The fault of the input's end, or None."""
+        self.number += 1
+        if not self.nodes:
+            return Fault(self.number, 'header', 0, 'the input ends before the first node')
+        return None if self.ended else Fault(self.number, 'no-end', 0, 'the last line is `end`, and it is missing')
+
+
+def faults_of(text):
+    """The faults of a text, the first first. Behind a fault of the header, nothing is looked at."""
+    reader, found = Reader(), []
+    last = text[:schedule.MOST_OCTETS].count(b'\n') if len(text) > schedule.MOST_OCTETS else None
+    for line in schedule.lines_of(text)[:last]:
+        fault = reader.line(line)
+        found += [fault] if fault else []
+        if reader.stopped:
+            return found
+    if last is not None:
+        return found + [Fault(last + 1, None, 0, f'the input has more than {schedule.MOST_OCTETS} octets')]
+    fault = reader.end()
+    return found + ([fault] if fault else [])
