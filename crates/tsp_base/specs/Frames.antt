@@ -1,5 +1,5 @@
 -- What calls share that put acts at a tick.
-use Rattle.std.specs.Prelude.{◌≤◌, ℕ, ◌+◌, ◌^◌, List, length}
+use Rattle.std.specs.Prelude.{◌≡◌, ◌≤◌, ℕ, ◌+◌, ◌^◌, List, length}
 use Rattle.tsp_base.specs.declared.act.Placed.{Placed}
 
 -- a tick that a node may be handed: sums with the protocol's times stay far below 2^64
@@ -10,3 +10,8 @@ IsTick x = x ≤ 2 ^ 61
 pub record PutsAtMost (n : ℕ) (room left : ℕ) (old new : List Placed) : Type 0 where
   pub spare : room ≤ left + n
   pub few : length new ≤ length old + n
+
+-- a call puts n acts, and takes just so much of the desk's room
+pub record PutsExactly (n : ℕ) (room left : ℕ) (old new : List Placed) : Type 0 where
+  pub spare : left + n ≡ room
+  pub count : length new ≡ length old + n

@@ -87,7 +87,7 @@ shows setting l world a post older took past from m f act b is deed =
 none-heard : (l : Line) (world : List Line) → heard (plain (view l.port (of (node_of l) world))) ≡ None → is_some (heard (dids (of (node_of l) world))) ≡ true → ⊥
 none-heard l world e h = true≢false (sym h ∙ ap (λ k. is_some k) (ap heard (sym (plain_view l.port (of (node_of l) world))) ∙ e))
 
-no-correction : (k : Kind) → sets_date k ≡ true → is_correction k ≡ true → ⊥
+pub no-correction : (k : Kind) → sets_date k ≡ true → is_correction k ≡ true → ⊥
 no-correction AdjTime e c = true≢false (sym e)
 no-correction SetTime e c = true≢false (sym e)
 no-correction _ e c = true≢false (sym c)

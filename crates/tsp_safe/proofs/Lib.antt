@@ -1,7 +1,6 @@
 mod BackedProof
-mod ElectionFacts
 mod Elections
-mod OneWinnerProof
+pub mod OneWinnerProof
 mod Pigeons
 mod VoteProof
 pub mod AcknowledgedProof
@@ -20,6 +19,7 @@ pub mod Clocks
 pub mod ClosedProof
 pub mod ConfirmedProof
 pub mod Correcting
+pub mod ElectionFacts
 pub mod FreshProof
 pub mod FreshSteps
 pub mod Given

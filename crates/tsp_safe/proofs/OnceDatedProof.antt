@@ -44,7 +44,7 @@ use Rattle.tsp_safe.proofs.SendProof.{BeginsSend, number-same, one-message}
 use Rattle.tsp_safe.proofs.SinceProof.{since}
 
 -- what a post owes that passes a date on
-record PassesOn (here : Did) (seen : List Seen) (kind : Kind) : Type 0 where
+pub record PassesOn (here : Did) (seen : List Seen) (kind : Kind) : Type 0 where
   pub is : kind ≡ SetDateReq
   pub begins : acting seen ≡ true → PassOnFits here seen
 
@@ -53,19 +53,19 @@ passes-on setup DateReq here seen p m e f = absurd f
 passes-on setup SetDateReq here seen p m e f = record { is = refl; begins = f.begins }
 passes-on setup _ here seen p m e f = absurd (true≢false (sym e))
 
-passes-in : (setting : Setting) (m : ℕ) (x : Line) (rest : List Line) (p : PeerId) (message : MessageValue) → LineFits setting x rest → node_of x ≡ m → x.did.deed ≡ Acts (Post (Peer p) (Message message)) → is_date_request message.kind ≡ true → PassesOn x.did (view x.port (of m rest)) message.kind
+pub passes-in : (setting : Setting) (m : ℕ) (x : Line) (rest : List Line) (p : PeerId) (message : MessageValue) → LineFits setting x rest → node_of x ≡ m → x.did.deed ≡ Acts (Post (Peer p) (Message message)) → is_date_request message.kind ≡ true → PassesOn x.did (view x.port (of m rest)) message.kind
 passes-in setting m x rest p message f node deed kind =
     subst (λ n. PassesOn x.did (view x.port (of n rest)) message.kind) node
     (passes-on (setup_of setting (node_of x) x.port) message.kind x.did (view x.port (of (node_of x) rest)) p message kind (deed_fits setting x rest (Acts (Post (Peer p) (Message message))) deed f).fits)
 
 -- where port r of m begins to pass a date on
-record Passing (m : ℕ) (r : Port) (p : PeerId) (message : MessageValue) (f : Did) (fw : List Line) : Type 0 where
+pub record Passing (m : ℕ) (r : Port) (p : PeerId) (message : MessageValue) (f : Did) (fw : List Line) : Type 0 where
   pub node : f.step.node ≡ m
   pub sends : BeginsSend p message f (view r (of m fw))
   pub kind : is_date_request message.kind ≡ true
 
 -- it begins that REUSE after it last did
-passed-apart : (setting : Setting) (m : ℕ) (r : Port) (p q : PeerId) (mf mg : MessageValue) (f g : Did) (fw gw : List Line) → Fits setting (line_on r g ∷ gw) → Within (line_on r f ∷ fw) gw → Passing m r p mf f fw → Passing m r q mg g gw → f.tick + REUSE ≤ g.tick
+pub passed-apart : (setting : Setting) (m : ℕ) (r : Port) (p q : PeerId) (mf mg : MessageValue) (f g : Did) (fw gw : List Line) → Fits setting (line_on r g ∷ gw) → Within (line_on r f ∷ fw) gw → Passing m r p mf f fw → Passing m r q mg g gw → f.tick + REUSE ≤ g.tick
 passed-apart setting m r p q mf mg f g fw gw w f_in x y =
     let own = own_fits setting m gw w.1 in
     let place = own_in m (line_on r f) fw gw x.node f_in in

@@ -35,7 +35,7 @@ round-leads setting n q world amount f r =
     let leads : role (view q (of n l.older)) ≡ Master = subst (λ k. role (view q (of k l.older)) ≡ Master) l.node (deed_fits setting (line_on q r.close) l.older (Acts (Close r.count r.lo r.size amount)) r.deed fits) in
     ap role r.is ∙ (rw r.deed (ap role (sym l.before) ∙ leads))
 
-correct-up : (setting : Setting) (l : Line) (world : List Line) (amount : ℤ) (stepped : Bool) (shown : ℤ) → LineFits setting l world → l.did.deed ≡ Acts (Correct amount stepped shown) → up (dids (of (node_of l) world)) ≡ true
+pub correct-up : (setting : Setting) (l : Line) (world : List Line) (amount : ℤ) (stepped : Bool) (shown : ℤ) → LineFits setting l world → l.did.deed ≡ Acts (Correct amount stepped shown) → up (dids (of (node_of l) world)) ≡ true
 correct-up setting l world amount stepped shown f e = subst (λ k. Alive setting k l.did (up (dids (of (node_of l) world)))) e f.alive
 
 obeys-by : (setting : Setting) (l : Line) (world : List Line) (q : PeerId) (amount : ℤ) (stepped : Bool) (shown : ℤ) → Fits setting (l ∷ world) → Honest (l ∷ world) → l.did.deed ≡ Acts (Correct amount stepped shown) →

@@ -67,7 +67,7 @@ same-here m k q f p s fw o sw place is e =
     let rest : sw ≡ fw = cc in
     record { is = subst₂ (λ x y. begun_to (peer_of k) (Here p ∷ view q (of m o)) ≡ Here x ∷ view q (of m y)) did rest is; place = subst (λ x. Within x (line_on q p ∷ o)) e place }
 
-too-late : (m k : ℕ) (q : Port) (f s : Did) (fw sw world : List Line) (mp : MessageValue) → open_to (peer_of k) (view q (of m world)) ≡ Here f ∷ view q (of m fw) → Within (Here s ∷ view q (of m sw)) (view q (of m world)) → BeginsSend (peer_of k) mp s (view q (of m sw)) →
+pub too-late : (m k : ℕ) (q : Port) (f s : Did) (fw sw world : List Line) (mp : MessageValue) → open_to (peer_of k) (view q (of m world)) ≡ Here f ∷ view q (of m fw) → Within (Here s ∷ view q (of m sw)) (view q (of m world)) → BeginsSend (peer_of k) mp s (view q (of m sw)) →
     Within (Here f ∷ view q (of m fw)) (view q (of m sw)) → ⊥
 too-late m k q f s fw sw world mp open_is place c i = elim (begun_late (peer_of k) mp s (view q (of m sw)) (view q (of m world)) f (view q (of m fw)) c place (open_begun (peer_of k) (view q (of m world)) (Here f) (view q (of m fw)) open_is)) [
   | inl e ↦ (let r : view q (of m sw) ≡ view q (of m fw) = cc in Within-strict (Here f) (view q (of m fw)) (view q (of m sw)) i (subst (λ z. Within (view q (of m sw)) z) r (Within-all (view q (of m sw)))))
