@@ -1,12 +1,13 @@
--- A step that has acted goes on acting, whatever it puts.
-use Rattle.std.specs.Prelude.{◌≡◌, ℕ, Bool, true, List, [], ◌∷◌, refl}
+-- A step that has acted goes on acting, whatever it puts; one that has taken something has acted.
+use Rattle.std.specs.Prelude.{◌≡◌, ℕ, Bool, true, List, [], ◌∷◌, Option, Some, refl}
+use Rattle.std.proofs.lemmas.Option.{none-some}
 use Rattle.tsp_base.specs.declared.act.Act.{Act}
 use Rattle.tsp_base.specs.declared.act.Act.TheVariants.{Took, Ring, Late}
 use Rattle.tsp_base.specs.declared.act.Placed.{Placed}
 use Rattle.tsp_base.specs.declared.place.Port.{Port}
-use Rattle.tsp_base.specs.History.{Step, Seen, Acts}
+use Rattle.tsp_base.specs.History.{Deed, Step, Seen, Begins, Acts, Here, Elsewhere}
 use Rattle.tsp_base.specs.Performs.{Performs, Keeps}
-use Rattle.tsp_base.specs.PortFacts.{acting, acting_after}
+use Rattle.tsp_base.specs.PortFacts.{Received, acting, acting_after, taken, taken_after}
 use Rattle.tsp_base.specs.Rows.{Row, added}
 use Rattle.tsp_base.proofs.PerformsLemmas.{Performs_beside}
 use Rattle.tsp_acks.specs.declared.station.Station.{Station}
@@ -29,3 +30,16 @@ HasActed_row row x past state acted = acting-added past.step x (row x past) past
 pub Performs_acting : {row : Row} {x : ℕ} {port : Port} {before after : Station} {old new : List Placed} → Performs Stands Stands row x port before after old new →
     Performs StandsActing StandsActing row x port (before, tt) (after, tt) old new
 Performs_acting {row = row} d = Performs_beside tt (HasActed_row row) d
+
+taken_after-acts : (d : Deed) (took : Option Received) (before : Bool) (r : Received) → (took ≡ Some r → before ≡ true) → taken_after d took ≡ Some r → acting_after d before ≡ true
+taken_after-acts Begins took before r k e = absurd (none-some r e)
+taken_after-acts (Acts (Took from t)) took before r k e = refl
+taken_after-acts (Acts (Ring alarm)) took before r k e = refl
+taken_after-acts (Acts (Late alarm)) took before r k e = refl
+taken_after-acts (Acts _) took before r k e = k e
+
+-- a step that has taken something has acted
+pub taken-acts : (seen : List Seen) (r : Received) → taken seen ≡ Some r → acting seen ≡ true
+taken-acts [] r e = absurd (none-some r e)
+taken-acts (Here d ∷ before) r e = taken_after-acts d.deed (taken before) (acting before) r (taken-acts before r) e
+taken-acts (Elsewhere d ∷ before) r e = taken-acts before r e

@@ -3,6 +3,7 @@ pub mod BeyondLemmas
 pub mod ChangeLemmas
 pub mod DueLemmas
 pub mod EndingLemmas
+pub mod FollowLemmas
 pub mod PeerLemmas
 pub mod PostLemmas
 pub mod SendingLemmas

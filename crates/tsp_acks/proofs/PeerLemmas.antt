@@ -1,10 +1,11 @@
 -- Who is among some peers.
-use Rattle.std.specs.Prelude.{◌≡◌, ◌≢◌, ◌==◌, ◌||◌, Bool, ℕ, zero, suc, ◌+◌, ◌<◌, ◌≤◌, true, false, List, [], ◌∷◌, length, map, Result, Ok, Err, is_ok, refl}
+use Rattle.std.specs.Prelude.{◌≡◌, ◌≢◌, ◌==◌, ◌||◌, Bool, ℕ, zero, suc, ◌<◌, ◌≤◌, true, false, List, [], ◌∷◌, length, map, Result, Ok, Err, is_ok, refl}
+use Rattle.std.specs.List.{Contains}
 use Rattle.std.specs.List.Sorted.{IsBinarySearchResult, IsSearchInRange}
 use Rattle.std.specs.Ordering.{nat_cmp, ordering_index}
 use Rattle.std.specs.declared.cmp.Ordering.TheVariants.{Less, Equal, Greater}
-use Rattle.std.proofs.Common.{sym, ◌∙◌, arith, get_or, eq-eqb, inl, inr}
-use Rattle.std.proofs.lemmas.Bool.{cases_lt, ne_eqb}
+use Rattle.std.proofs.Common.{sym, ap, arith, get_or, eq-eqb, eqb-true, inl, inr}
+use Rattle.std.proofs.lemmas.Bool.{cases_lt, false≢true, ne_eqb}
 use Rattle.std.proofs.lemmas.Bool.Decides.{nat_tests}
 use Rattle.std.proofs.lemmas.List.{length-map, get_or-map}
 use Rattle.std.proofs.lemmas.List.Kept.{AllPairs-from_increasing}
@@ -59,3 +60,14 @@ is_among-searched p ps (Err i) up bound found =
       | inl below ↦ omega (arith, less_means (get_or ps k d).0 p.0 (parted.0 k d (omega arith) below))
       | inr above ↦ omega (arith, greater_means (get_or ps k d).0 p.0 (parted.1 k d above h))
     ]))
+
+-- who is among some peers has a place there
+pub Contains-among : (p : PeerId) (ps : List PeerId) → is_among p ps ≡ true → Contains ps p
+Contains-among p [] e = absurd (false≢true e)
+Contains-among p (q ∷ rest) e = by_test (q.0 == p.0) refl e (Contains-among p rest) where
+  by_test : (b : Bool) → (q.0 == p.0) ≡ b → (b || is_among p rest) ≡ true → (is_among p rest ≡ true → Contains rest p) → Contains (q ∷ rest) p
+  by_test true same e k = (zero, omega arith, ap (λ n. record { 0 = n }) (eqb-true q.0 p.0 same))
+  by_test false same e k = let c = k e in (suc c.0, omega (arith, c.1), c.2)
+
+pub among-Contains : (p : PeerId) (ps : List PeerId) → Contains ps p → is_among p ps ≡ true
+among-Contains p ps c = is_among-at p ps c.0 p c.1 (ap (λ (q : PeerId). q.0) c.2)

@@ -2,7 +2,7 @@
 use Rattle.std.specs.Prelude.{◌≡◌, true, false, refl}
 use Rattle.std.proofs.lemmas.Bool.{false≢true}
 use Rattle.tsp_base.specs.declared.kind.Kind.{Kind}
-use Rattle.tsp_base.specs.declared.kind.Kind.TheVariants.{Ack, MasterReq, MasterAck, MasterUp, SlaveUp, Accept, Refuse, Resolve}
+use Rattle.tsp_base.specs.declared.kind.Kind.TheVariants.{Ack, MasterReq, MasterAck, MasterUp, SlaveUp, Accept, Refuse, Resolve, DateAck}
 use Rattle.tsp_base.specs.declared.message.Body.TheVariants.{Nothing}
 use Rattle.tsp_base.specs.Kinds.{carries_time, carries_hops}
 use Rattle.tsp_base.specs.Messages.{body_fits}
@@ -20,6 +20,7 @@ is_plain_fits SlaveUp p = refl
 is_plain_fits Accept p = refl
 is_plain_fits Refuse p = refl
 is_plain_fits Resolve p = refl
+is_plain_fits DateAck p = refl
 is_plain_fits _ p = absurd (false≢true p)
 
 -- a plain message is no numbered send
@@ -32,4 +33,5 @@ is_plain_once SlaveUp p = refl
 is_plain_once Accept p = refl
 is_plain_once Refuse p = refl
 is_plain_once Resolve p = refl
+is_plain_once DateAck p = refl
 is_plain_once _ p = absurd (false≢true p)

@@ -1,7 +1,7 @@
 -- The messages that a port posts once, and never repeats.
 use Rattle.std.specs.Prelude.{Bool, true, false}
 use Rattle.tsp_base.specs.declared.kind.Kind.{Kind}
-use Rattle.tsp_base.specs.declared.kind.Kind.TheVariants.{Ack, MasterReq, MasterAck, MasterUp, SlaveUp, Accept, Refuse, Resolve}
+use Rattle.tsp_base.specs.declared.kind.Kind.TheVariants.{Ack, MasterReq, MasterAck, MasterUp, SlaveUp, Accept, Refuse, Resolve, DateAck}
 
 -- whether messages of this kind carry nothing but a number, and are no numbered sends
 abbrev pub is_plain : Kind → Bool
@@ -13,4 +13,5 @@ is_plain SlaveUp = true
 is_plain Accept = true
 is_plain Refuse = true
 is_plain Resolve = true
+is_plain DateAck = true
 is_plain _ = false

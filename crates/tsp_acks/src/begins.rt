@@ -4,7 +4,7 @@ ghost use Rattle.std.specs.List.{Contains};
 ghost use Rattle.tsp_base.specs.declared.act.Act.TheVariants.{Post};
 ghost use Rattle.tsp_base.specs.declared.datagram.Datagram.TheVariants.{Message as MessageOf};
 ghost use Rattle.tsp_base.specs.declared.place.Place.TheVariants.{Peer};
-ghost use Rattle.tsp_base.specs.Frames.{IsTick, PutsAtMost};
+ghost use Rattle.tsp_base.specs.Frames.{IsTick, PutsAtMost, PutsExactly};
 ghost use Rattle.tsp_base.specs.Performs.{Performs};
 ghost use Rattle.tsp_base.specs.Rows.{bare, timed, placed, posts_time};
 ghost use Rattle.tsp_base.specs.SendFacts.{is_correction, is_set_date_request};
@@ -37,7 +37,7 @@ impl Station {
         ensures sends { SetsOnly p (Some (record { began = tick; posts = 1; message = bare kind (own_number self.old) self.old.me.name })) self.old.sends self.new.sends }
         ensures rest { ChangesSends self.old self.new }
         ensures begun { self.new.begun ≡ (self.old.begun + 1) % 32768 }
-        ensures room { PutsAtMost 1 (D.spare desk.old) (D.spare desk.new) (D.acts desk.old) (D.acts desk.new) }
+        ensures room { PutsExactly 1 (D.spare desk.old) (D.spare desk.new) (D.acts desk.old) (D.acts desk.new) }
     {
         let message = Message::new(kind, self.next_number(), Body::Nothing, self.me.name.copy());
         self.open(p, message, tick, port, desk);
@@ -62,7 +62,7 @@ impl Station {
         ensures sends { SetsOnly p (Some (record { began = tick; posts = 1; message = timed kind (own_number self.old) time self.old.me.name })) self.old.sends self.new.sends }
         ensures rest { ChangesSends self.old self.new }
         ensures begun { self.new.begun ≡ (self.old.begun + 1) % 32768 }
-        ensures room { PutsAtMost 1 (D.spare desk.old) (D.spare desk.new) (D.acts desk.old) (D.acts desk.new) }
+        ensures room { PutsExactly 1 (D.spare desk.old) (D.spare desk.new) (D.acts desk.old) (D.acts desk.new) }
     {
         let message = Message::new(
             kind,
@@ -95,7 +95,7 @@ impl Station {
         ensures sends { SetsOnly p (Some (record { began = tick; posts = 1; message = timed kind number time self.old.me.name })) self.old.sends self.new.sends }
         ensures rest { ChangesSends self.old self.new }
         ensures begun { self.new.begun ≡ self.old.begun }
-        ensures room { PutsAtMost 1 (D.spare desk.old) (D.spare desk.new) (D.acts desk.old) (D.acts desk.new) }
+        ensures room { PutsExactly 1 (D.spare desk.old) (D.spare desk.new) (D.acts desk.old) (D.acts desk.new) }
     {
         let message = Message::new(kind, number, Body::Time(time), self.me.name.copy());
         self.open(p, message, tick, port, desk);
@@ -127,7 +127,7 @@ impl Station {
         ensures sends { SetsOnly p (Some (record { began = tick; posts = 1; message = message })) self.old.sends self.new.sends }
         ensures rest { ChangesSends self.old self.new }
         ensures begun { self.new.begun ≡ self.old.begun }
-        ensures room { PutsAtMost 1 (D.spare desk.old) (D.spare desk.new) (D.acts desk.old) (D.acts desk.new) }
+        ensures room { PutsExactly 1 (D.spare desk.old) (D.spare desk.new) (D.acts desk.old) (D.acts desk.new) }
     {
         let datagram = Datagram::Message(message.copy());
         desk.put(port, Act::Post(Place::Peer(p), datagram));

@@ -1,15 +1,16 @@
 //! The acts that change a station: each puts its act and makes the change, in one place.
-ghost use Rattle.std.specs.Prelude.{◌≡◌, ℕ, ◌+◌, ◌≤◌, ◌<◌, ◌^◌, min, Some, None};
+ghost use Rattle.std.specs.Prelude.{◌≡◌, ℕ, ◌+◌, ◌≤◌, ◌<◌, ◌^◌, min, true, Some, None};
 ghost use Rattle.tsp_base.specs.declared.act.Act.TheVariants.{Become, Ring, Late, Back, Backer, Quit, Abandon};
 ghost use Rattle.tsp_base.specs.declared.alarm.Alarm.TheVariants.{Probe, Close, Elect};
 ghost use Rattle.tsp_base.specs.declared.place.PeerId.{PeerId};
 ghost use Rattle.tsp_base.specs.Alarms.{with_deadline, none_armed};
-ghost use Rattle.tsp_base.specs.Frames.{IsTick, PutsAtMost};
+ghost use Rattle.tsp_base.specs.Frames.{IsTick, PutsExactly};
 ghost use Rattle.tsp_base.specs.Performs.{Performs};
 ghost use Rattle.tsp_base.specs.Rows.{puts, arms};
 ghost use Rattle.tsp_rules.specs.CommonRows.{arms_elect};
 ghost use Rattle.tsp_rules.specs.Tests.{delay};
 ghost use Rattle.tsp_sends.specs.Slots.{sending_to};
+ghost use Rattle.tsp_acks.specs.Peers.{follows_among};
 
 use crate::station::Station;
 use tsp_base::act::Act;
@@ -29,7 +30,7 @@ impl Station {
         requires end { tick + long < 2 ^ 64 }
         ensures row { Performs Stands Stands (arms alarm long) tick port self.old self.new (D.acts desk.old) (D.acts desk.new) }
         ensures station { self.new ≡ record self.old { alarms = with_deadline self.old.alarms alarm (Some (tick + long)) } }
-        ensures room { PutsAtMost 1 (D.spare desk.old) (D.spare desk.new) (D.acts desk.old) (D.acts desk.new) }
+        ensures room { PutsExactly 1 (D.spare desk.old) (D.spare desk.new) (D.acts desk.old) (D.acts desk.new) }
     {
         let at = tick + long;
         desk.put(port, Act::Arm(alarm, at));
@@ -41,7 +42,7 @@ impl Station {
         requires room { 1 ≤ D.spare desk.old }
         ensures row { (x : ℕ) → Performs Stands Stands (puts (Ring alarm)) x port self.old self.new (D.acts desk.old) (D.acts desk.new) }
         ensures station { self.new ≡ record self.old { alarms = with_deadline self.old.alarms alarm None } }
-        ensures room { PutsAtMost 1 (D.spare desk.old) (D.spare desk.new) (D.acts desk.old) (D.acts desk.new) }
+        ensures room { PutsExactly 1 (D.spare desk.old) (D.spare desk.new) (D.acts desk.old) (D.acts desk.new) }
     {
         desk.put(port, Act::Ring(alarm));
         self.alarms.off(alarm);
@@ -52,7 +53,7 @@ impl Station {
         requires room { 1 ≤ D.spare desk.old }
         ensures row { (x : ℕ) → Performs Stands Stands (puts (Late alarm)) x port self.old self.new (D.acts desk.old) (D.acts desk.new) }
         ensures station { self.new ≡ record self.old { alarms = with_deadline self.old.alarms alarm None } }
-        ensures room { PutsAtMost 1 (D.spare desk.old) (D.spare desk.new) (D.acts desk.old) (D.acts desk.new) }
+        ensures room { PutsExactly 1 (D.spare desk.old) (D.spare desk.new) (D.acts desk.old) (D.acts desk.new) }
     {
         desk.put(port, Act::Late(alarm));
         self.alarms.off(alarm);
@@ -63,16 +64,18 @@ impl Station {
         requires room { 1 ≤ D.spare desk.old }
         ensures row { (x : ℕ) → Performs Stands Stands (puts Abandon) x port self.old self.new (D.acts desk.old) (D.acts desk.new) }
         ensures station { self.new ≡ record self.old { alarms = with_deadline (with_deadline self.old.alarms Probe None) Close None } }
-        ensures room { PutsAtMost 1 (D.spare desk.old) (D.spare desk.new) (D.acts desk.old) (D.acts desk.new) }
+        ensures room { PutsExactly 1 (D.spare desk.old) (D.spare desk.new) (D.acts desk.old) (D.acts desk.new) }
     {
         desk.put(port, Act::Abandon);
         self.alarms.off(Alarm::Probe);
         self.alarms.off(Alarm::Close);
     }
 
-    /// Takes a role, which turns all alarms off and ends all open sends.
+    /// Takes a role, which turns all alarms off and ends all open sends. A master that is followed is one of
+    /// the peers.
     pub fn become_role<D: Desk>(&mut self, role: Role, port: Port, desk: &mut D)
         requires room { 1 ≤ D.spare desk.old }
+        requires peer { follows_among role self.old.peers ≡ true }
         ensures row { (x : ℕ) → Performs Stands Stands (puts (Become role)) x port self.old self.new (D.acts desk.old) (D.acts desk.new) }
         ensures me { self.new.me ≡ self.old.me }
         ensures hold { self.new.hold ≡ self.old.hold }
@@ -82,7 +85,7 @@ impl Station {
         ensures role { self.new.role ≡ role }
         ensures alarms { self.new.alarms ≡ none_armed }
         ensures sends { (p : PeerId) → sending_to self.new.sends p ≡ None }
-        ensures room { PutsAtMost 1 (D.spare desk.old) (D.spare desk.new) (D.acts desk.old) (D.acts desk.new) }
+        ensures room { PutsExactly 1 (D.spare desk.old) (D.spare desk.new) (D.acts desk.old) (D.acts desk.new) }
     {
         desk.put(port, Act::Become(role));
         self.role = role;
@@ -96,7 +99,7 @@ impl Station {
         requires room { 1 ≤ D.spare desk.old }
         ensures row { Performs Stands Stands (puts (Back p)) tick port self.old self.new (D.acts desk.old) (D.acts desk.new) }
         ensures station { self.new ≡ record self.old { hold = record self.old.hold { back = Some (tick, p) } } }
-        ensures room { PutsAtMost 1 (D.spare desk.old) (D.spare desk.new) (D.acts desk.old) (D.acts desk.new) }
+        ensures room { PutsExactly 1 (D.spare desk.old) (D.spare desk.new) (D.acts desk.old) (D.acts desk.new) }
     {
         desk.put(port, Act::Back(p));
         self.hold.back(tick, p);
@@ -107,7 +110,7 @@ impl Station {
         requires room { 1 ≤ D.spare desk.old }
         ensures row { (x : ℕ) → Performs Stands Stands (puts (Backer p)) x port self.old self.new (D.acts desk.old) (D.acts desk.new) }
         ensures station { self.new ≡ record self.old { backers = min (self.old.backers + 1) 4294967295 } }
-        ensures room { PutsAtMost 1 (D.spare desk.old) (D.spare desk.new) (D.acts desk.old) (D.acts desk.new) }
+        ensures room { PutsExactly 1 (D.spare desk.old) (D.spare desk.new) (D.acts desk.old) (D.acts desk.new) }
     {
         desk.put(port, Act::Backer(p));
         self.backers = self.backers.saturating_add(1);
@@ -118,7 +121,7 @@ impl Station {
         requires room { 1 ≤ D.spare desk.old }
         ensures row { Performs Stands Stands (puts (Quit p)) tick port self.old self.new (D.acts desk.old) (D.acts desk.new) }
         ensures station { self.new ≡ record self.old { hold = record self.old.hold { quit = Some tick } } }
-        ensures room { PutsAtMost 1 (D.spare desk.old) (D.spare desk.new) (D.acts desk.old) (D.acts desk.new) }
+        ensures room { PutsExactly 1 (D.spare desk.old) (D.spare desk.new) (D.acts desk.old) (D.acts desk.new) }
     {
         desk.put(port, Act::Quit(p));
         self.hold.quit(tick);
@@ -137,7 +140,7 @@ impl Station {
         requires tick { IsTick tick }
         ensures row { Performs Stands Stands arms_elect tick port self.old self.new (D.acts desk.old) (D.acts desk.new) }
         ensures station { self.new ≡ record self.old { alarms = with_deadline self.old.alarms Elect (Some (tick + delay self.old.me.word)) } }
-        ensures room { PutsAtMost 1 (D.spare desk.old) (D.spare desk.new) (D.acts desk.old) (D.acts desk.new) }
+        ensures room { PutsExactly 1 (D.spare desk.old) (D.spare desk.new) (D.acts desk.old) (D.acts desk.new) }
     {
         let delay = self.delay();
         self.arm(Alarm::Elect, tick, delay, port, desk);

@@ -1,7 +1,7 @@
 //! How answers end a station's numbered sends.
-ghost use Rattle.std.specs.Prelude.{◌≡◌, ℕ, ◌≤◌, ◌&&◌, Bool, true, false, None, MatchBool};
+ghost use Rattle.std.specs.Prelude.{◌≡◌, ℕ, ◌≤◌, ◌&&◌, Bool, true, false, if◌then◌else◌, None, MatchBool};
 ghost use Rattle.tsp_base.specs.declared.act.Act.TheVariants.{Acked};
-ghost use Rattle.tsp_base.specs.Frames.{PutsAtMost};
+ghost use Rattle.tsp_base.specs.Frames.{PutsExactly};
 ghost use Rattle.tsp_base.specs.History.{Past};
 ghost use Rattle.tsp_base.specs.Performs.{Performs};
 ghost use Rattle.tsp_base.specs.Rows.{puts};
@@ -31,7 +31,7 @@ impl Station {
         ensures same { result ≡ false → D.acts desk.new ≡ D.acts desk.old }
         ensures rest { ChangesSends self.old self.new }
         ensures begun { self.new.begun ≡ self.old.begun }
-        ensures room { PutsAtMost 1 (D.spare desk.old) (D.spare desk.new) (D.acts desk.old) (D.acts desk.new) }
+        ensures room { PutsExactly (if result then 1 else 0) (D.spare desk.old) (D.spare desk.new) (D.acts desk.old) (D.acts desk.new) }
     {
         let asks = is_election(self.sends.kind(p));
         self.end(asks, p, number, port, desk)
@@ -47,7 +47,7 @@ impl Station {
         ensures same { result ≡ false → D.acts desk.new ≡ D.acts desk.old }
         ensures rest { ChangesSends self.old self.new }
         ensures begun { self.new.begun ≡ self.old.begun }
-        ensures room { PutsAtMost 1 (D.spare desk.old) (D.spare desk.new) (D.acts desk.old) (D.acts desk.new) }
+        ensures room { PutsExactly (if result then 1 else 0) (D.spare desk.old) (D.spare desk.new) (D.acts desk.old) (D.acts desk.new) }
     {
         let passes_on = is_date(self.sends.kind(p));
         self.end(passes_on, p, number, port, desk)
@@ -63,7 +63,7 @@ impl Station {
         ensures same { result ≡ false → D.acts desk.new ≡ D.acts desk.old }
         ensures rest { ChangesSends self.old self.new }
         ensures begun { self.new.begun ≡ self.old.begun }
-        ensures room { PutsAtMost 1 (D.spare desk.old) (D.spare desk.new) (D.acts desk.old) (D.acts desk.new) }
+        ensures room { PutsExactly (if result then 1 else 0) (D.spare desk.old) (D.spare desk.new) (D.acts desk.old) (D.acts desk.new) }
     {
         let waits = ends_by_ack(self.sends.kind(p));
         self.end(waits, p, number, port, desk)
@@ -79,7 +79,7 @@ impl Station {
         ensures same { result ≡ false → D.acts desk.new ≡ D.acts desk.old }
         ensures rest { ChangesSends self.old self.new }
         ensures begun { self.new.begun ≡ self.old.begun }
-        ensures room { PutsAtMost 1 (D.spare desk.old) (D.spare desk.new) (D.acts desk.old) (D.acts desk.new) }
+        ensures room { PutsExactly (if result then 1 else 0) (D.spare desk.old) (D.spare desk.new) (D.acts desk.old) (D.acts desk.new) }
     {
         if !fits {
             return false;

@@ -1,6 +1,6 @@
 //! The posts of a station: messages in its node's own name that carry nothing but a number.
 ghost use Rattle.std.specs.Prelude.{◌≡◌, ℕ, ◌≤◌, true, length, [], ◌∷◌, ◌++◌};
-ghost use Rattle.tsp_base.specs.Frames.{PutsAtMost};
+ghost use Rattle.tsp_base.specs.Frames.{PutsAtMost, PutsExactly};
 ghost use Rattle.tsp_base.specs.Performs.{Performs};
 ghost use Rattle.tsp_base.specs.Rows.{posts, posts_back, posts_to_others, post_of, placed};
 ghost use Rattle.tsp_acks.specs.Posts.{is_plain};
@@ -23,7 +23,7 @@ impl Station {
         requires room { 1 ≤ D.spare desk.old }
         requires plain { is_plain kind ≡ true }
         ensures row { (x : ℕ) → Performs Stands Stands (posts_back to kind number) x port self.now self.now (D.acts desk.old) (D.acts desk.new) }
-        ensures room { PutsAtMost 1 (D.spare desk.old) (D.spare desk.new) (D.acts desk.old) (D.acts desk.new) }
+        ensures room { PutsExactly 1 (D.spare desk.old) (D.spare desk.new) (D.acts desk.old) (D.acts desk.new) }
     {
         let message = Message::new(kind, number, Body::Nothing, self.me.name.copy());
         desk.put(port, Act::Post(to, Datagram::Message(message)));
@@ -35,7 +35,7 @@ impl Station {
         requires plain { is_plain kind ≡ true }
         ensures acts { D.acts desk.new ≡ D.acts desk.old ++ placed port (post_of kind number self.now.me.name p ∷ []) }
         ensures row { (x : ℕ) → Performs Stands Stands (posts p kind number) x port self.now self.now (D.acts desk.old) (D.acts desk.new) }
-        ensures room { PutsAtMost 1 (D.spare desk.old) (D.spare desk.new) (D.acts desk.old) (D.acts desk.new) }
+        ensures room { PutsExactly 1 (D.spare desk.old) (D.spare desk.new) (D.acts desk.old) (D.acts desk.new) }
     {
         let message = Message::new(kind, number, Body::Nothing, self.me.name.copy());
         desk.put(port, Act::Post(Place::Peer(p), Datagram::Message(message)));

@@ -1,5 +1,5 @@
 //! A port's station: what all its roles share.
-ghost use Rattle.std.specs.Prelude.{◌≡◌, ◌+◌, ◌%◌, ◌<◌, ◌&&◌, not, ℤ, [], ◌∷◌, IfOk};
+ghost use Rattle.std.specs.Prelude.{◌≡◌, ◌+◌, ◌%◌, ◌<◌, ◌&&◌, true, not, ℤ, [], ◌∷◌, IfOk};
 ghost use Rattle.tsp_base.specs.declared.act.Act.TheVariants.{Boot};
 ghost use Rattle.tsp_base.specs.Alarms.{deadline};
 ghost use Rattle.tsp_base.specs.History.{Past, Booted};
@@ -7,7 +7,7 @@ ghost use Rattle.tsp_base.specs.Rows.{grown};
 ghost use Rattle.tsp_base.specs.Peers.{is_among};
 ghost use Rattle.tsp_rules.specs.Tests.{is_over, is_met, is_starting_role};
 ghost use Rattle.tsp_sends.specs.Slots.{peers_of};
-ghost use Rattle.tsp_acks.specs.Peers.{IsPeers};
+ghost use Rattle.tsp_acks.specs.Peers.{IsPeers, follows_among};
 
 use crate::me::Me;
 use crate::peers::Peers;
@@ -41,6 +41,7 @@ pub struct Station {
     pub peers: Peers,
     ghost slots: { peers_of sends ≡ peers },
     ghost count: { begun < 32768 },
+    ghost master: { follows_among role peers ≡ true },
 }
 
 impl Station {

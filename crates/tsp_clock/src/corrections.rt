@@ -1,6 +1,6 @@
 //! Corrections as acts: each puts its Correct and moves the clock, in one place.
 ghost use Rattle.std.specs.Prelude.{◌≡◌, ◌+◌, ◌≤◌, ◌+ℤ◌, ◌-ℤ◌, true};
-ghost use Rattle.tsp_base.specs.Frames.{IsTick, PutsAtMost};
+ghost use Rattle.tsp_base.specs.Frames.{IsTick, PutsExactly};
 ghost use Rattle.tsp_base.specs.Performs.{Performs};
 ghost use Rattle.tsp_rules.specs.ClockRows.{adjusts, sets, is_step};
 ghost use Rattle.tsp_rules.specs.Tests.{is_clock_value};
@@ -33,7 +33,7 @@ impl Clock {
         requires room { 1 ≤ D.spare desk.old }
         ensures row { Performs ClockStands ClockStands (adjusts amount) tick port self.old self.new (D.acts desk.old) (D.acts desk.new) }
         ensures clock { self.new ≡ adjusted self.old tick amount }
-        ensures room { PutsAtMost 1 (D.spare desk.old) (D.spare desk.new) (D.acts desk.old) (D.acts desk.new) }
+        ensures room { PutsExactly 1 (D.spare desk.old) (D.spare desk.new) (D.acts desk.old) (D.acts desk.new) }
     {
         let stepped = self.adjust_in_range(tick, amount);
         let shown = self.shown(tick);
@@ -55,7 +55,7 @@ impl Clock {
         requires room { 1 ≤ D.spare desk.old }
         ensures row { Performs ClockStands ClockStands (sets value) tick port self.old self.new (D.acts desk.old) (D.acts desk.new) }
         ensures clock { self.new ≡ set_to self.old tick value }
-        ensures room { PutsAtMost 1 (D.spare desk.old) (D.spare desk.new) (D.acts desk.old) (D.acts desk.new) }
+        ensures room { PutsExactly 1 (D.spare desk.old) (D.spare desk.new) (D.acts desk.old) (D.acts desk.new) }
     {
         let amount = self.set_in_range(tick, value);
         desk.put(

@@ -38,7 +38,7 @@ loop-place-preserved g c =
       | then-p-self w ↦ record {
         row = rw (w.self-is, w.desk-is, more) (Performs_begun_more c.args.kind c.args.self.now.me.own p (take n peers) (λ e. w.if-p-self.true (e ∙ ap (λ i. i.own.0) (sym inv.rest.me))) inv.row w.begin.ensures.row);
         rest = rw w.self-is (ChangesSends_then inv.rest w.begin.ensures.rest);
-        room = rw w.desk-is (record { spare = omega (arith, inv.room.spare, w.begin.ensures.room.spare); few = omega (arith, inv.room.few, w.begin.ensures.room.few) });
+        room = rw w.desk-is (record { spare = omega (arith, inv.room.spare, w.begin.ensures.room.spare); few = omega (arith, inv.room.few, w.begin.ensures.room.count) });
       }
       | else-p-self w ↦ record {
         row = rw (w.self-is, w.desk-is, more, others-own c.args.self.now.me.own p (take n peers) (w.if-p-self.false ∙ ap (λ i. i.own.0) inv.rest.me)) inv.row;

@@ -1,0 +1,12 @@
+-- A master that is followed is one of the peers.
+use Rattle.std.specs.Prelude.{◌≡◌}
+use Rattle.std.specs.List.{Contains}
+use Rattle.std.proofs.Common.{sym, ◌∙◌, ap}
+use Rattle.tsp_base.specs.declared.place.PeerId.{PeerId}
+use Rattle.tsp_base.specs.declared.role.Role.TheVariants.{Follow}
+use Rattle.tsp_acks.specs.declared.station.Station.{Station}
+use Rattle.tsp_acks.specs.Peers.{follows_among}
+use Rattle.tsp_acks.proofs.PeerLemmas.{Contains-among}
+
+pub followed-Contains : (station : Station) (p : PeerId) → station.role ≡ Follow p → Contains station.peers p
+followed-Contains station p e = Contains-among p station.peers (ap (λ r. follows_among r station.peers) (sym e) ∙ station.master)
