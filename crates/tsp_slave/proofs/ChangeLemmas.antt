@@ -1,9 +1,6 @@
 -- Corrections of both kinds have one rule.
 use Rattle.std.specs.Prelude.{◌≡◌, ℕ, ◌==◌, ◌&&◌, Bool, refl}
-use Rattle.std.proofs.Common.{sym}
 use Rattle.tsp_base.specs.declared.constants.TheConstants.{GAP}
-use Rattle.tsp_base.specs.declared.kind.Kind.{Kind}
-use Rattle.tsp_base.specs.declared.kind.Kind.TheVariants.{AdjTime, SetTime}
 use Rattle.tsp_base.specs.declared.place.PeerId.{PeerId}
 use Rattle.tsp_base.specs.History.{Past}
 use Rattle.tsp_base.specs.Hold.{is_past}

@@ -6,25 +6,26 @@ use Rattle.tsp_base.specs.declared.act.Act.{Act}
 use Rattle.tsp_base.specs.declared.act.Act.TheVariants.{Become, Back, Correct}
 use Rattle.tsp_base.specs.declared.act.Placed.{Placed}
 use Rattle.tsp_base.specs.declared.kind.Kind.{Kind}
-use Rattle.tsp_base.specs.declared.kind.Kind.TheVariants.{Ack, Accept, Refuse}
+use Rattle.tsp_base.specs.declared.kind.Kind.TheVariants.{Ack, Accept, Refuse, Conflict}
 use Rattle.tsp_base.specs.declared.place.PeerId.{PeerId}
 use Rattle.tsp_base.specs.declared.place.Port.{Port}
 use Rattle.tsp_base.specs.declared.role.Role.TheVariants.{Follow}
 use Rattle.tsp_base.specs.History.{Past}
 use Rattle.tsp_base.specs.Performs.{Performs, Keeps}
 use Rattle.tsp_base.specs.PortFacts.{Received, said, name_in}
-use Rattle.tsp_base.specs.Rows.{grown, puts, ◌followed_by◌, posts}
+use Rattle.tsp_base.specs.Rows.{Row, grown, nothing, puts, ◌followed_by◌, posts}
 use Rattle.tsp_base.specs.SendFacts.{Correcting, correcting_of}
 use Rattle.tsp_base.proofs.PerformsLemmas.{Keeps_then, Keeps_either}
 use Rattle.tsp_rules.specs.ClockRows.{adjusts, sets}
 use Rattle.tsp_rules.specs.CommonRows.{arms_elect}
-use Rattle.tsp_rules.specs.SendRows.{acknowledges}
-use Rattle.tsp_rules.specs.SlaveRows.{election_of, confirms}
+use Rattle.tsp_rules.specs.SendRows.{acknowledges, begins, is_free}
+use Rattle.tsp_rules.specs.SlaveRows.{election_of, confirms, reports_conflict}
 use Rattle.tsp_rules.specs.Tests.{may_back_at}
-use Rattle.tsp_rules.proofs.Emits.{Emits_more, Emits_posts, Emits_puts, is_in, sort_of_kind}
-use Rattle.tsp_rules.proofs.EmitsSlave.{silent_sorts, silent_acks, silent_elect}
+use Rattle.tsp_rules.proofs.Emits.{Emits_either, Emits_more, Emits_nothing, Emits_posts, Emits_puts, is_in, sort_of_kind}
+use Rattle.tsp_rules.proofs.EmitsSlave.{silent_sorts, silent_acks, silent_elect, emits_begins}
 use Rattle.tsp_acks.specs.declared.station.Station.{Station}
-use Rattle.tsp_acks.specs.Stands.{Stands}
+use Rattle.tsp_acks.specs.Stands.{Stands, StandsActing}
+use Rattle.tsp_acks.proofs.ActingLemmas.{taken-acts}
 use Rattle.tsp_acks.proofs.StandsLemmas.{Stands_idle}
 use Rattle.tsp_clock.specs.Clocks.{ClockValue}
 use Rattle.tsp_clock.specs.ClockStands.{ClockStands}
@@ -57,6 +58,20 @@ AlsoStands_election_of p number =
 
 pub AlsoStands_acknowledges : (p : PeerId) (number : ℕ) → Keeps AlsoStands (acknowledges p number)
 AlsoStands_acknowledges p number = AlsoStands_by (acknowledges p number) (Emits_more silent_sorts refl (silent_acks p number))
+
+pub AlsoStands_reports_conflict : (q : PeerId) → Keeps AlsoStands (reports_conflict q)
+unfolding reports_conflict
+AlsoStands_reports_conflict q = AlsoStands_by (reports_conflict q) (Emits_either (is_free q) (begins Conflict q) nothing (emits_begins Conflict q refl) Emits_nothing)
+
+-- a call on the station in a step that has acted, since it has taken something
+pub Performs_since_taken : {row : Row} {x : ℕ} {port : Port} {before after : Station} (last : LastValue) (clock : ClockValue) (took : Option Received) (r : Received) {old new : List Placed} → took ≡ Some r → Keeps AlsoStands row →
+    Performs StandsActing StandsActing row x port (before, tt) (after, tt) old new → Performs SlaveStands SlaveStands row x port (before, (last, (clock, took))) (after, (last, (clock, took))) old new
+Performs_since_taken {row = row} {x = x} {before = before} last clock took r e k d = record {
+  acts = λ past h. d.acts past (acting_at past h);
+  stands = λ past h. record { first = (d.stands past (acting_at past h)).first; second = k x past (last, (clock, took)) h.second };
+} where
+  acting_at : (past : Past) → SlaveStands past (before, (last, (clock, took))) → StandsActing past (before, tt)
+  acting_at past h = record { first = h.first; second = taken-acts past.seen r (h.second.second.second ∙ e) }
 
 -- a port that begins to follow keeps the name that was taken
 pub follow_becomes : (p : PeerId) {x : ℕ} {port : Port} {before after : Station} (first last : LastValue) (clock : ClockValue) (took : Option Received) {old new : List Placed} →

@@ -1,5 +1,5 @@
 -- What a correction asks of the clock, whether it moves the clock or sets it.
-use Rattle.std.specs.Prelude.{ℕ, ℤ, ◌+ℤ◌, ◌&&◌, Bool}
+use Rattle.std.specs.Prelude.{ℕ, ℤ, ◌+ℤ◌, Bool}
 use Rattle.tsp_base.specs.declared.kind.Kind.{Kind}
 use Rattle.tsp_base.specs.declared.kind.Kind.TheVariants.{SetTime}
 use Rattle.tsp_base.specs.declared.place.PeerId.{PeerId}

@@ -2,4 +2,3 @@ pub mod ClockChanges
 pub mod Lasts
 pub mod SlaveAlarms
 pub mod SlaveStands
-pub mod SlaveTakes

@@ -1,5 +1,6 @@
 //! How a port begins to follow a master, and tells it so.
 ghost use Rattle.std.specs.Prelude.{◌≡◌, ℕ, ◌+◌, ◌≤◌, Option, None, Some};
+ghost use Rattle.std.specs.List.{Contains};
 ghost use Rattle.tsp_base.specs.declared.alarm.Alarm.TheVariants.{Elect};
 ghost use Rattle.tsp_base.specs.declared.place.PeerId.{PeerId};
 ghost use Rattle.tsp_base.specs.declared.role.Role.TheVariants.{Follow};
@@ -22,7 +23,7 @@ use tsp_base::place::{PeerId, Port};
 use tsp_base::role::Role;
 use tsp_clock::clock::Clock;
 
-/// Follows a master, keeps the name in the message that was taken of it, and tells it the ticket.
+/// Follows one of the peers as a master, keeps the name in the message that was taken of it, and tells it the ticket.
 pub fn follow<D: Desk>(
     station: &mut Station,
     last: &mut Last,
@@ -35,6 +36,7 @@ pub fn follow<D: Desk>(
 )
     requires tick { IsTick tick }
     requires room { 3 ≤ D.spare desk.old }
+    requires peer { Contains station.old.peers p }
     ensures row { (took : Option Received) → name_in took ≡ name.now → Performs SlaveStands SlaveStands (follow_row p) tick port
         (station.old, (last.old, (clock.now, took))) (station.new, (last.new, (clock.now, took))) (D.acts desk.old) (D.acts desk.new) }
     ensures me { station.new.me ≡ station.old.me }

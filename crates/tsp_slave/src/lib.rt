@@ -2,9 +2,11 @@
 #![tactic(auto)]
 
 mod change;
+mod conflict;
 mod correction;
 mod election;
 pub mod follow;
 pub mod last;
+pub mod quit;
 pub mod ring;
 pub mod take;

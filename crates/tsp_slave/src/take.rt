@@ -1,36 +1,35 @@
 //! What a port that is Loose or follows does with a message of a peer.
 ghost use Rattle.std.specs.Prelude.{◌≡◌, ◌≤◌, Option, Some};
-ghost use Rattle.tsp_base.specs.declared.datagram.Datagram.TheVariants.{Message as MessageOf};
-ghost use Rattle.tsp_base.specs.declared.datagram.Taken.TheVariants.{Good};
-ghost use Rattle.tsp_base.specs.declared.place.Place.TheVariants.{Peer};
+ghost use Rattle.std.specs.List.{Contains};
 ghost use Rattle.tsp_base.specs.Frames.{IsTick, PutsAtMost};
 ghost use Rattle.tsp_base.specs.Performs.{Performs};
-ghost use Rattle.tsp_base.specs.PortFacts.{Received, name_in, said};
+ghost use Rattle.tsp_base.specs.PortFacts.{Received, said};
 ghost use Rattle.tsp_base.specs.Rows.{reading};
 ghost use Rattle.tsp_base.specs.SendFacts.{correcting_of};
-ghost use Rattle.tsp_rules.specs.SlaveRows.{from_master};
+ghost use Rattle.tsp_rules.specs.SlaveRows.{from_master, masterack_in, masterup_in, slave_takes};
 ghost use Rattle.tsp_rules.specs.Tests.{role_at};
 ghost use Rattle.tsp_acks.specs.Changes.{IsSamePort};
 ghost use Rattle.tsp_slave.specs.ClockChanges.{change_in, correction_of};
-ghost use Rattle.tsp_slave.specs.SlaveStands.{SlaveStands};
-ghost use Rattle.tsp_slave.specs.SlaveTakes.{finds_master, hears_master, is_master_of, slave_takes_in_force};
+ghost use Rattle.tsp_slave.specs.SlaveStands.{IsMessage, SlaveStands};
 
 use crate::change::Change;
+use crate::conflict::report_conflict;
 use crate::correction::correct;
 use crate::election::answer_candidate;
 use crate::follow::{follow, tell_ticket};
 use crate::last::Last;
+use crate::quit::take_quit;
 use tsp_acks::station::Station;
 use tsp_base::alarm::Alarm;
 use tsp_base::desk::Desk;
 use tsp_base::kind::Kind;
 use tsp_base::message::Message;
-use tsp_base::name::Name;
 use tsp_base::place::{PeerId, Port};
 use tsp_base::role::Role;
 use tsp_clock::clock::Clock;
 
-/// Treats a message of another peer at a port that is Loose or follows.
+/// Treats a message of another peer at a port that is Loose or follows. A QUIT is treated so whatever the
+/// role. At most five acts.
 pub fn slave_take<D: Desk>(
     station: &mut Station,
     last: &mut Last,
@@ -43,71 +42,89 @@ pub fn slave_take<D: Desk>(
 )
     requires tick { IsTick tick }
     requires later { clock.old.at ≤ tick }
-    requires room { 3 ≤ D.spare desk.old }
-    ensures row { (took : Option Received) → took ≡ Some (record { from = Peer from; taken = Good (MessageOf m.now) }) → Performs SlaveStands SlaveStands (slave_takes_in_force from m.now) tick port
+    requires room { 5 ≤ D.spare desk.old }
+    requires peer { Contains station.old.peers from }
+    ensures row { (took : Option Received) → IsMessage from m.now took → Performs SlaveStands SlaveStands (slave_takes from m.now) tick port
         (station.old, (last.old, (clock.old, took))) (station.new, (last.new, (clock.new, took))) (D.acts desk.old) (D.acts desk.new) }
-    ensures room { PutsAtMost 3 (D.spare desk.old) (D.spare desk.new) (D.acts desk.old) (D.acts desk.new) }
+    ensures room { PutsAtMost 5 (D.spare desk.old) (D.spare desk.new) (D.acts desk.old) (D.acts desk.new) }
     ensures port { IsSamePort station.old station.new }
     ensures clock { clock.new.at ≤ tick }
 {
+    let number = m.number();
     match m.kind() {
-        Kind::MasterUp => hear_master(station, last, clock, tick, from, m.name(), port, desk),
-        Kind::MasterAck => find_master(station, last, clock, tick, from, m.name(), port, desk),
-        Kind::Election => answer_candidate(station, tick, from, m.number(), port, desk),
+        Kind::MasterUp => hear_master(station, last, clock, tick, from, m, port, desk),
+        Kind::MasterAck => find_master(station, last, clock, tick, from, m, port, desk),
+        Kind::Election => answer_candidate(station, tick, from, number, port, desk),
         Kind::AdjTime | Kind::SetTime => {
             take_correction(station, last, clock, tick, from, m, port, desk)
         }
+        Kind::Quit => take_quit(
+            station,
+            last,
+            clock,
+            tick,
+            from,
+            number,
+            m.name(),
+            port,
+            desk,
+        ),
         Kind::Ack => {
-            let _ = station.acknowledge(from, m.number(), port, desk);
+            let _ = station.acknowledge(from, number, port, desk);
         }
         _ => {}
     }
 }
 
-/// A master says that it is there.
+/// A master says that it is there: a port that follows none follows it, a follower answers its master, and
+/// tells it of any other one.
 fn hear_master<D: Desk>(
     station: &mut Station,
     last: &mut Last,
     clock: &Clock,
     tick: u64,
     from: PeerId,
-    name: &Name,
+    m: &Message,
     port: Port,
     desk: &mut D,
 )
     requires tick { IsTick tick }
     requires room { 3 ≤ D.spare desk.old }
-    ensures row { (took : Option Received) → name_in took ≡ name.now → Performs SlaveStands SlaveStands (reading role_at (hears_master from)) tick port
+    requires peer { Contains station.old.peers from }
+    ensures row { (took : Option Received) → IsMessage from m.now took → Performs SlaveStands SlaveStands (reading role_at (masterup_in from)) tick port
         (station.old, (last.old, (clock.now, took))) (station.new, (last.new, (clock.now, took))) (D.acts desk.old) (D.acts desk.new) }
     ensures room { PutsAtMost 3 (D.spare desk.old) (D.spare desk.new) (D.acts desk.old) (D.acts desk.new) }
     ensures port { IsSamePort station.old station.new }
 {
     match station.role {
-        Role::Loose => follow(station, last, clock, tick, from, name, port, desk),
+        Role::Loose => follow(station, last, clock, tick, from, m.name(), port, desk),
         Role::Follow(q) => {
             if q.0 == from.0 {
                 station.arm_elect(tick, port, desk);
                 tell_ticket(station, clock, from, port, desk);
+            } else {
+                report_conflict(station, q, tick, port, desk);
             }
         }
         _ => {}
     }
 }
 
-/// A master answers a search.
+/// A master answers: where the port searches it follows it, and a follower tells its master of any other one.
 fn find_master<D: Desk>(
     station: &mut Station,
     last: &mut Last,
     clock: &Clock,
     tick: u64,
     from: PeerId,
-    name: &Name,
+    m: &Message,
     port: Port,
     desk: &mut D,
 )
     requires tick { IsTick tick }
     requires room { 3 ≤ D.spare desk.old }
-    ensures row { (took : Option Received) → name_in took ≡ name.now → Performs SlaveStands SlaveStands (reading role_at (finds_master from)) tick port
+    requires peer { Contains station.old.peers from }
+    ensures row { (took : Option Received) → IsMessage from m.now took → Performs SlaveStands SlaveStands (reading role_at (masterack_in from)) tick port
         (station.old, (last.old, (clock.now, took))) (station.new, (last.new, (clock.now, took))) (D.acts desk.old) (D.acts desk.new) }
     ensures room { PutsAtMost 3 (D.spare desk.old) (D.spare desk.new) (D.acts desk.old) (D.acts desk.new) }
     ensures port { IsSamePort station.old station.new }
@@ -115,7 +132,12 @@ fn find_master<D: Desk>(
     match station.role {
         Role::Loose => {
             if station.alarms.at(Alarm::Search).is_some() {
-                follow(station, last, clock, tick, from, name, port, desk);
+                follow(station, last, clock, tick, from, m.name(), port, desk);
+            }
+        }
+        Role::Follow(q) => {
+            if q.0 != from.0 {
+                report_conflict(station, q, tick, port, desk);
             }
         }
         _ => {}
@@ -142,28 +164,14 @@ fn take_correction<D: Desk>(
     ensures port { IsSamePort station.old station.new }
     ensures clock { clock.new.at ≤ tick }
 {
-    if follows(station, from) {
-        let change = Change::of(m);
-        correct(
-            station,
-            last,
-            clock,
-            tick,
-            from,
-            m.number(),
-            change,
-            port,
-            desk,
-        );
-    }
-}
-
-/// Whether the port follows this peer.
-fn follows(station: &Station, p: PeerId) -> bool
-    ensures { result ≡ is_master_of p station.now.role }
-{
     match station.role {
-        Role::Follow(q) => q.0 == p.0,
-        _ => false,
+        Role::Follow(q) => {
+            if from.0 == q.0 {
+                let change = Change::of(m);
+                let number = m.number();
+                correct(station, last, clock, tick, from, number, change, port, desk);
+            }
+        }
+        _ => {}
     }
 }

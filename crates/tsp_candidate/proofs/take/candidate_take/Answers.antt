@@ -1,62 +1,71 @@
 -- Each kind has its row.
 use Rattle.std.proofs.Common.{◌≡◌, refl, sym, ◌∙◌, ap}
-use Rattle.tsp_base.specs.declared.kind.Kind.TheVariants.{Ack, Election, Accept, Refuse}
+use Rattle.tsp_base.specs.declared.kind.Kind.TheVariants.{Ack, Election, Accept, Refuse, Quit}
 use Rattle.tsp_base.specs.PortFacts.{name_in}
 use Rattle.tsp_base.specs.Rows.{nothing}
 use Rattle.tsp_base.proofs.PerformsLemmas.{Performs_beside, Performs_nothing}
 use Rattle.tsp_rules.specs.CommonRows.{follow_row}
-use Rattle.tsp_candidate.specs.CandidateTakes.{candidate_takes_in_force, candidate_takes_kind_in_force}
+use Rattle.tsp_rules.specs.CandidateRows.{candidate_takes, candidate_takes_kind}
 use Rattle.tsp_slave.proofs.SlaveLemmas.{AlsoStands_posts, AlsoStands_acknowledges}
 use Rattle.tsp_candidate.proofs.AlsoLemmas.{AlsoStands_accepted_by, AlsoStands_refused_by}
-use Rattle.tsp_candidate.proofs.RowCases.{candidate_takes_kind_in_force-master, candidate_takes_kind_in_force-other}
+use Rattle.tsp_rules.proofs.RowsOther.{candidate_takes_kind-other}
+use Rattle.tsp_candidate.proofs.RowCases.{candidate_takes_kind-master}
 use Rattle.tsp_candidate.proofs.take.candidate_take.Goals as goal
 
 pub returns-in-MasterUp-clause-row : goal.returns-in-MasterUp-clause-row
-unfolding candidate_takes_in_force
+unfolding candidate_takes
 returns-in-MasterUp-clause-row g c took e =
     let m = c.args.m.now in
-    let k : candidate_takes_kind_in_force c.args.from m m.kind ≡ follow_row c.args.from =
-    ap (candidate_takes_kind_in_force c.args.from m) (sym c.kind.ensures) ∙ candidate_takes_kind_in_force-master c.args.from m c.kind.result c.in-MasterUp.is in
+    let k : candidate_takes_kind c.args.from m m.kind ≡ follow_row c.args.from =
+    ap (candidate_takes_kind c.args.from m) (sym c.kind.ensures) ∙ candidate_takes_kind-master c.args.from m c.kind.result c.in-MasterUp.is in
     rw k (c.follow.ensures.row took (ap name_in e ∙ sym c.name.ensures))
 
 pub returns-in-Election-clause-row : goal.returns-in-Election-clause-row
-unfolding candidate_takes_in_force candidate_takes_kind_in_force
+unfolding candidate_takes candidate_takes_kind
 returns-in-Election-clause-row g c took e =
     let k : c.args.m.now.kind ≡ Election = sym c.kind.ensures ∙ c.in-Election.is in
-    let n : c.number.result ≡ c.args.m.now.number = c.number.ensures in
+    let n : c.number-number.result ≡ c.args.m.now.number = c.number-number.ensures in
     let d = c.post.ensures.row c.args.tick in
     rw k (Performs_beside _ (AlsoStands_posts c.args.from Refuse c.args.m.now.number refl) (rw n at d))
 
 pub returns-in-Accept-clause-row : goal.returns-in-Accept-clause-row
-unfolding candidate_takes_in_force candidate_takes_kind_in_force
+unfolding candidate_takes candidate_takes_kind
 returns-in-Accept-clause-row g c took e =
     let k : c.args.m.now.kind ≡ Accept = sym c.kind.ensures ∙ c.in-Accept.is in
-    let n : c.number-in-Accept.result ≡ c.args.m.now.number = c.number-in-Accept.ensures in
+    let n : c.number-number.result ≡ c.args.m.now.number = c.number-number.ensures in
     let d = c.take_accept.ensures.row c.args.tick in
     rw k (Performs_beside _ (AlsoStands_accepted_by c.args.from c.args.m.now.number) (rw n at d))
 
 pub returns-in-Refuse-clause-row : goal.returns-in-Refuse-clause-row
-unfolding candidate_takes_in_force candidate_takes_kind_in_force
+unfolding candidate_takes candidate_takes_kind
 returns-in-Refuse-clause-row g c took e =
     let k : c.args.m.now.kind ≡ Refuse = sym c.kind.ensures ∙ c.in-Refuse.is in
-    let n : c.number-in-Refuse.result ≡ c.args.m.now.number = c.number-in-Refuse.ensures in
+    let n : c.number-number.result ≡ c.args.m.now.number = c.number-number.ensures in
     let d = c.take_refuse.ensures.row in
     rw k (Performs_beside _ (AlsoStands_refused_by c.args.from c.args.m.now.number) (rw n at d))
 
+pub returns-in-Quit-clause-row : goal.returns-in-Quit-clause-row
+unfolding candidate_takes candidate_takes_kind
+returns-in-Quit-clause-row g c took e =
+    let k : c.args.m.now.kind ≡ Quit = sym c.kind.ensures ∙ c.in-Quit.is in
+    let n : c.number-number.result ≡ c.args.m.now.number = c.number-number.ensures in
+    let d = c.take_quit.ensures.row in
+    rw k ((rw n at d) took (ap name_in e ∙ sym c.name-in-Quit.ensures))
+
 pub returns-in-Ack-clause-row : goal.returns-in-Ack-clause-row
-unfolding candidate_takes_in_force candidate_takes_kind_in_force
+unfolding candidate_takes candidate_takes_kind
 returns-in-Ack-clause-row g c took e =
     let k : c.args.m.now.kind ≡ Ack = sym c.kind.ensures ∙ c.in-Ack.is in
-    let n : c.number-in-Ack.result ≡ c.args.m.now.number = c.number-in-Ack.ensures in
+    let n : c.number-number.result ≡ c.args.m.now.number = c.number-number.ensures in
     let d = c.acknowledge.ensures.row c.args.tick in
     rw k (Performs_beside _ (AlsoStands_acknowledges c.args.from c.args.m.now.number) (rw n at d))
 
 pub returns-in_default-clause-row : goal.returns-in_default-clause-row
-unfolding candidate_takes_in_force
+unfolding candidate_takes
 returns-in_default-clause-row g c took e =
     let m = c.args.m.now in
     let o = c.in_default in
-    let k : candidate_takes_kind_in_force c.args.from m m.kind ≡ nothing =
-    ap (candidate_takes_kind_in_force c.args.from m) (sym c.kind.ensures)
-    ∙ candidate_takes_kind_in_force-other c.args.from m c.kind.result o.not-MasterUp o.not-MasterAck o.not-Election o.not-Accept o.not-Refuse o.not-Ack in
+    let k : candidate_takes_kind c.args.from m m.kind ≡ nothing =
+    ap (candidate_takes_kind c.args.from m) (sym c.kind.ensures)
+    ∙ candidate_takes_kind-other c.args.from m c.kind.result o.not-MasterUp o.not-MasterAck o.not-Election o.not-Accept o.not-Refuse o.not-Quit o.not-Ack in
     rw k Performs_nothing

@@ -2,8 +2,12 @@
 use Rattle.std.proofs.Common.{sym, ◌∙◌, ap}
 use Rattle.tsp_base.proofs.PerformsLemmas.{Performs_then, Performs_beside}
 use Rattle.tsp_rules.specs.CommonRows.{follow_row}
+use Rattle.tsp_acks.proofs.PeerLemmas.{among-Contains}
 use Rattle.tsp_slave.proofs.SlaveLemmas.{AlsoStands_arms_elect, follow_becomes}
 use Rattle.tsp_slave.proofs.follow.follow.Goals as goal
+
+pub become_role-requires-clause-peer : goal.become_role-requires-clause-peer
+become_role-requires-clause-peer g c = among-Contains c.args.p c.args.station.now.peers c.requires.peer
 
 pub returns-clause-row : goal.returns-clause-row
 unfolding follow_row

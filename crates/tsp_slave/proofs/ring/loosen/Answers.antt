@@ -6,7 +6,7 @@ use Rattle.tsp_base.specs.Rows.{puts, nothing}
 use Rattle.tsp_base.proofs.PerformsLemmas.{Performs_then_part, Performs_else_part, Performs_nothing}
 use Rattle.tsp_rules.specs.SlaveRows.{loosens}
 use Rattle.tsp_rules.specs.Tests.{follows_at}
-use Rattle.tsp_slave.proofs.RowCases.{is_follow-other}
+use Rattle.tsp_rules.proofs.RowsOther.{is_follow-other}
 use Rattle.tsp_slave.proofs.ring.loosen.Goals as goal
 
 pub returns-in-Follow-clause-row : goal.returns-in-Follow-clause-row

@@ -1,27 +1,49 @@
 -- The row is by cases of the role.
+use Rattle.std.proofs.Common.{◌≡◌, ◌==◌, true, false, eq-eqb, ap, sym, ◌∙◌}
+use Rattle.std.proofs.lemmas.Bool.{ne_eqb}
 use Rattle.tsp_base.specs.declared.alarm.Alarm.TheVariants.{Search}
-use Rattle.tsp_base.specs.declared.role.Role.TheVariants.{Loose}
+use Rattle.tsp_base.specs.declared.role.Role.TheVariants.{Loose, Follow}
+use Rattle.tsp_base.specs.PortFacts.{name_in}
 use Rattle.tsp_base.specs.Rows.{nothing}
 use Rattle.tsp_base.proofs.PerformsLemmas.{Performs_reading, Performs_then_part, Performs_else_part, Performs_nothing}
 use Rattle.tsp_rules.specs.CommonRows.{follow_row}
-use Rattle.tsp_slave.specs.SlaveTakes.{finds_master}
+use Rattle.tsp_rules.specs.SlaveRows.{masterack_in}
 use Rattle.tsp_rules.specs.Tests.{role_at, is_armed}
-use Rattle.tsp_slave.proofs.RowCases.{finds_master-other}
+use Rattle.tsp_acks.proofs.FollowLemmas.{followed-Contains}
+use Rattle.tsp_rules.proofs.RowsOther.{masterack_in-other}
+use Rattle.tsp_slave.proofs.SlaveLemmas.{AlsoStands_reports_conflict, Performs_since_taken}
 use Rattle.tsp_slave.proofs.take.find_master.Goals as goal
 
+pub report_conflict-requires-clause-peer : goal.report_conflict-requires-clause-peer
+report_conflict-requires-clause-peer g c = followed-Contains c.args.station.now c.in-Follow.q c.in-Follow.is
+
 pub returns-then-is_some-clause-row : goal.returns-then-is_some-clause-row
-unfolding finds_master
+unfolding masterack_in
 returns-then-is_some-clause-row g c took e =
-    Performs_reading role_at (finds_master c.args.from) Loose (λ past h. let r = h.first.role in let i = c.in-Loose.is in cc)
-    (Performs_then_part (is_armed Search) nothing (λ past h. let a = h.first.alarms in let s = c.is_some.ensures in let t = c.at.ensures in cc) (c.follow.ensures.row took e))
+    Performs_reading role_at (masterack_in c.args.from) Loose (λ past h. let r = h.first.role in let i = c.in-Loose.is in cc)
+    (Performs_then_part (is_armed Search) nothing (λ past h. let a = h.first.alarms in let s = c.is_some.ensures in let t = c.at.ensures in cc) (c.follow.ensures.row took (ap name_in e ∙ sym c.name.ensures)))
 
 pub returns-else-is_some-clause-row : goal.returns-else-is_some-clause-row
-unfolding finds_master
+unfolding masterack_in
 returns-else-is_some-clause-row g c took e =
-    Performs_reading role_at (finds_master c.args.from) Loose (λ past h. let r = h.first.role in let i = c.in-Loose.is in cc)
+    Performs_reading role_at (masterack_in c.args.from) Loose (λ past h. let r = h.first.role in let i = c.in-Loose.is in cc)
     (Performs_else_part (is_armed Search) (follow_row c.args.from) (λ past h. let a = h.first.alarms in let s = c.is_some.ensures in let t = c.at.ensures in cc) Performs_nothing)
+
+pub returns-then-q-from-clause-row : goal.returns-then-q-from-clause-row
+unfolding masterack_in
+returns-then-q-from-clause-row g c took e =
+    let other : (c.in-Follow.q.0 == c.args.from.0) ≡ false = ne_eqb _ _ c.if-q-from.true in
+    Performs_reading role_at (masterack_in c.args.from) (Follow c.in-Follow.q) (λ past h. let r = h.first.role in let i = c.in-Follow.is in cc)
+    (rw other (Performs_since_taken _ _ took _ e (AlsoStands_reports_conflict c.in-Follow.q) c.report_conflict.ensures.row))
+
+pub returns-else-q-from-clause-row : goal.returns-else-q-from-clause-row
+unfolding masterack_in
+returns-else-q-from-clause-row g c took e =
+    let same : (c.in-Follow.q.0 == c.args.from.0) ≡ true = eq-eqb _ _ c.if-q-from.false in
+    Performs_reading role_at (masterack_in c.args.from) (Follow c.in-Follow.q) (λ past h. let r = h.first.role in let i = c.in-Follow.is in cc)
+    (rw same Performs_nothing)
 
 pub returns-in_default-clause-row : goal.returns-in_default-clause-row
 returns-in_default-clause-row g c took e =
-    Performs_reading role_at (finds_master c.args.from) c.args.station.now.role (λ past h. let r = h.first.role in cc)
-    (rw (finds_master-other _ _ c.in_default.not-Loose) Performs_nothing)
+    Performs_reading role_at (masterack_in c.args.from) c.args.station.now.role (λ past h. let r = h.first.role in cc)
+    (rw (masterack_in-other c.args.from _ c.in_default.not-Loose c.in_default.not-Follow) Performs_nothing)

@@ -1,58 +1,69 @@
 -- Each kind has its row.
-use Rattle.std.proofs.Common.{◌≡◌, ◌⊎◌, if◌then◌else◌, Some, None, refl, sym, ◌∙◌, ap}
-use Rattle.tsp_base.specs.declared.kind.Kind.TheVariants.{AdjTime, Ack, MasterAck, SetTime, MasterUp, Election}
+use Rattle.std.proofs.Common.{◌≡◌, ◌⊎◌, if◌then◌else◌, Some, None, sym, ◌∙◌, ap, refl}
+use Rattle.tsp_base.specs.declared.kind.Kind.TheVariants.{AdjTime, Ack, MasterAck, SetTime, MasterUp, Election, Quit}
 use Rattle.tsp_base.specs.PortFacts.{said, name_in}
-use Rattle.tsp_base.specs.SendFacts.{correcting_of, is_correction}
+use Rattle.tsp_base.specs.SendFacts.{correcting_of}
 use Rattle.tsp_base.specs.Rows.{nothing}
 use Rattle.tsp_base.proofs.PerformsLemmas.{Performs_nothing, Performs_beside}
-use Rattle.tsp_slave.specs.SlaveTakes.{slave_takes_in_force, slave_takes_kind_in_force}
-use Rattle.tsp_slave.proofs.RowCases.{is_correction-either, slave_takes_kind_in_force-correction, slave_takes_kind_in_force-other}
+use Rattle.tsp_rules.specs.SlaveRows.{slave_takes, slave_takes_kind}
+use Rattle.tsp_rules.proofs.RowsOther.{slave_takes_kind-other}
+use Rattle.tsp_slave.proofs.RowCases.{is_correction-either, slave_takes_kind-correction}
 use Rattle.tsp_slave.proofs.SlaveLemmas.{AlsoStands_election_of, AlsoStands_acknowledges}
 use Rattle.tsp_slave.proofs.take.slave_take.Goals as goal
 
 pub returns-in-MasterUp-clause-row : goal.returns-in-MasterUp-clause-row
-unfolding slave_takes_in_force slave_takes_kind_in_force
+unfolding slave_takes slave_takes_kind
 returns-in-MasterUp-clause-row g c took e =
     let k : c.args.m.now.kind ≡ MasterUp = sym c.kind.ensures ∙ c.in-MasterUp.is in
-    rw k (c.hear_master.ensures.row took (ap name_in e ∙ sym c.name.ensures))
+    rw k (c.hear_master.ensures.row took e)
 
 pub returns-in-MasterAck-clause-row : goal.returns-in-MasterAck-clause-row
-unfolding slave_takes_in_force slave_takes_kind_in_force
+unfolding slave_takes slave_takes_kind
 returns-in-MasterAck-clause-row g c took e =
     let k : c.args.m.now.kind ≡ MasterAck = sym c.kind.ensures ∙ c.in-MasterAck.is in
-    rw k (c.find_master.ensures.row took (ap name_in e ∙ sym c.name-in-MasterAck.ensures))
+    rw k (c.find_master.ensures.row took e)
 
 pub returns-in-Election-clause-row : goal.returns-in-Election-clause-row
-unfolding slave_takes_in_force slave_takes_kind_in_force
+unfolding slave_takes slave_takes_kind
 returns-in-Election-clause-row g c took e =
     let m = c.args.m.now in
     let k : m.kind ≡ Election = sym c.kind.ensures ∙ c.in-Election.is in
-    let n : c.number.result ≡ m.number = c.number.ensures in
+    let n : c.number-number.result ≡ m.number = c.number-number.ensures in
     let d = c.answer_candidate.ensures.row in
     rw k (Performs_beside _ (AlsoStands_election_of c.args.from m.number) (rw n at d))
 
+pub returns-in-Quit-clause-row : goal.returns-in-Quit-clause-row
+unfolding slave_takes slave_takes_kind
+returns-in-Quit-clause-row g c took e =
+    let m = c.args.m.now in
+    let k : m.kind ≡ Quit = sym c.kind.ensures ∙ c.in-Quit.is in
+    let n : c.number-number.result ≡ m.number = c.number-number.ensures in
+    let d = c.take_quit.ensures.row in
+    rw k ((rw n at d) took (ap name_in e ∙ sym c.name.ensures))
+
 pub returns-in-Ack-clause-row : goal.returns-in-Ack-clause-row
-unfolding slave_takes_in_force slave_takes_kind_in_force
+unfolding slave_takes slave_takes_kind
 returns-in-Ack-clause-row g c took e =
     let m = c.args.m.now in
     let k : m.kind ≡ Ack = sym c.kind.ensures ∙ c.in-Ack.is in
-    let n : c.number-in-Ack.result ≡ m.number = c.number-in-Ack.ensures in
+    let n : c.number-number.result ≡ m.number = c.number-number.ensures in
     let d = c.acknowledge.ensures.row c.args.tick in
     rw k (Performs_beside _ (AlsoStands_acknowledges c.args.from m.number) (rw n at d))
 
 pub returns-in-AdjTime-clause-row : goal.returns-in-AdjTime-clause-row
-unfolding slave_takes_in_force
+unfolding slave_takes
 returns-in-AdjTime-clause-row g c took e =
     let m = c.args.m.now in
     let k : (m.kind ≡ AdjTime) ⊎ (m.kind ≡ SetTime) = rw c.kind.ensures at c.in-AdjTime.is in
-    rw (slave_takes_kind_in_force-correction c.args.from m m.kind refl k)
+    rw (slave_takes_kind-correction c.args.from m m.kind refl k)
     (c.take_correction.ensures.row took (ap (λ t. correcting_of (said t)) e ∙ ap (λ b. if b then Some (record { from = c.args.from; number = m.number }) else None) (is_correction-either m.kind k)))
 
 pub returns-in_default-clause-row : goal.returns-in_default-clause-row
-unfolding slave_takes_in_force
+unfolding slave_takes
 returns-in_default-clause-row g c took e =
     let m = c.args.m.now in
-    let k : slave_takes_kind_in_force c.args.from m m.kind ≡ nothing =
-    ap (slave_takes_kind_in_force c.args.from m) (sym c.kind.ensures)
-    ∙ slave_takes_kind_in_force-other c.args.from m c.kind.result c.in_default.not-MasterUp c.in_default.not-MasterAck c.in_default.not-Election c.in_default.not-AdjTime c.in_default.not-SetTime c.in_default.not-Ack in
+    let o = c.in_default in
+    let k : slave_takes_kind c.args.from m m.kind ≡ nothing =
+    ap (slave_takes_kind c.args.from m) (sym c.kind.ensures)
+    ∙ slave_takes_kind-other c.args.from m c.kind.result o.not-MasterUp o.not-MasterAck o.not-Election o.not-AdjTime o.not-SetTime o.not-Quit o.not-Ack in
     rw k Performs_nothing

@@ -1,0 +1,20 @@
+-- A send is open exactly where the station has its kind.
+use Rattle.std.specs.Prelude.{not, is_some}
+use Rattle.std.proofs.Common.{◌∙◌, ap, sym}
+use Rattle.tsp_base.specs.declared.kind.Kind.TheVariants.{Conflict}
+use Rattle.tsp_base.specs.Rows.{nothing}
+use Rattle.tsp_base.proofs.PerformsLemmas.{Performs_then_part, Performs_else_part, Performs_nothing}
+use Rattle.tsp_rules.specs.SendRows.{begins, is_free}
+use Rattle.tsp_rules.specs.SlaveRows.{reports_conflict}
+use Rattle.tsp_slave.proofs.RowCases.{is_free-is}
+use Rattle.tsp_slave.proofs.conflict.report_conflict.Goals as goal
+
+pub returns-in-None-clause-row : goal.returns-in-None-clause-row
+unfolding reports_conflict
+returns-in-None-clause-row g c =
+    Performs_then_part (is_free c.args.master) nothing (λ past h. is_free-is c.args.master c.args.tick past c.args.station.now h.first ∙ ap (λ k. not (is_some k)) (sym c.kind.ensures ∙ c.in-None.is)) c.begin.ensures.row
+
+pub returns-in-Some-clause-row : goal.returns-in-Some-clause-row
+unfolding reports_conflict
+returns-in-Some-clause-row g c =
+    Performs_else_part (is_free c.args.master) (begins Conflict c.args.master) (λ past h. is_free-is c.args.master c.args.tick past c.args.station.now h.first ∙ ap (λ k. not (is_some k)) (sym c.kind.ensures ∙ c.in-Some.is)) Performs_nothing

@@ -1,0 +1,34 @@
+//! How a follower tells its master of another one.
+ghost use Rattle.std.specs.Prelude.{◌≤◌};
+ghost use Rattle.std.specs.List.{Contains};
+ghost use Rattle.tsp_base.specs.Frames.{IsTick, PutsAtMost};
+ghost use Rattle.tsp_base.specs.Performs.{Performs};
+ghost use Rattle.tsp_rules.specs.SlaveRows.{reports_conflict};
+ghost use Rattle.tsp_acks.specs.Changes.{IsSamePort};
+ghost use Rattle.tsp_acks.specs.Stands.{StandsActing};
+
+use tsp_acks::station::Station;
+use tsp_base::desk::Desk;
+use tsp_base::kind::Kind;
+use tsp_base::place::{PeerId, Port};
+
+/// Begins a CONFLICT to the master that is followed, unless a send to it is open.
+pub(crate) fn report_conflict<D: Desk>(
+    station: &mut Station,
+    master: PeerId,
+    tick: u64,
+    port: Port,
+    desk: &mut D,
+)
+    requires tick { IsTick tick }
+    requires room { 1 ≤ D.spare desk.old }
+    requires peer { Contains station.old.peers master }
+    ensures row { Performs StandsActing StandsActing (reports_conflict master) tick port (station.old, tt) (station.new, tt) (D.acts desk.old) (D.acts desk.new) }
+    ensures room { PutsAtMost 1 (D.spare desk.old) (D.spare desk.new) (D.acts desk.old) (D.acts desk.new) }
+    ensures port { IsSamePort station.old station.new }
+{
+    match station.sends.kind(master) {
+        None => station.begin(Kind::Conflict, master, tick, port, desk),
+        Some(_) => {}
+    }
+}
