@@ -1,0 +1,3 @@
+pub mod MarkedLemmas
+pub mod MarksLemmas
+pub mod ResolveLemmas

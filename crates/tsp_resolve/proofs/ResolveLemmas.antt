@@ -1,0 +1,217 @@
+-- What a port's marks of rivals stand for after more acts.
+use Rattle.std.specs.Prelude.{◌≡◌, ◌≢◌, ℕ, ◌==◌, ◌||◌, ◌&&◌, not, Bool, true, false, if◌then◌else◌, List, [], ◌∷◌, ◌++◌, length, is_some, Some, None, refl}
+use Rattle.std.proofs.Common.{◌∙◌, ap, sym, subst, eqb-true}
+use Rattle.std.proofs.lemmas.Bool.{false≢true}
+use Rattle.std.proofs.lemmas.List.Elements.{filter_agree}
+use Rattle.tsp_base.specs.declared.act.Act.{Act}
+use Rattle.tsp_base.specs.declared.act.Act.TheVariants.{Boot, Become, Ring, Rival}
+use Rattle.tsp_base.specs.declared.act.Placed.{Placed}
+use Rattle.tsp_base.specs.declared.alarm.Alarm.{Alarm}
+use Rattle.tsp_base.specs.declared.alarm.Alarm.TheVariants.{Resolve as ResolveAlarm}
+use Rattle.tsp_base.specs.declared.place.PeerId.{PeerId}
+use Rattle.tsp_base.specs.declared.place.Port.{Port}
+use Rattle.tsp_base.specs.declared.role.Role.{Role}
+use Rattle.tsp_base.specs.declared.role.Role.TheVariants.{Master}
+use Rattle.tsp_base.specs.Alarms.{deadline}
+use Rattle.tsp_base.specs.History.{Step, Acts, Seen, Here, Past}
+use Rattle.tsp_base.specs.Peers.{is_among}
+use Rattle.tsp_base.specs.Performs.{Performs, Keeps}
+use Rattle.tsp_base.specs.PortFacts.{is_rival, is_rival_after, role, role_after}
+use Rattle.tsp_base.specs.Rows.{Row, added, grown, nothing, puts}
+use Rattle.tsp_base.proofs.PerformsLemmas.{Performs_else_part, Performs_nothing, Performs_then_part, Performs_to}
+use Rattle.tsp_rules.specs.ResolveRows.{finds_rival, is_new_rival}
+use Rattle.tsp_rules.specs.Tests.{rivals_at}
+use Rattle.tsp_rules.proofs.Emits.{Sort, Taking, Asking, Correcting, Numbering, Posting, Leading, Following, Changing, Backing, Counting, Rounding, Alarming, Tabling, Acking, Giving, Sampling, Closing, Moving, Tracing, AllOf, Emits, Keeps_by, is_in, sort_of}
+use Rattle.tsp_rules.proofs.EmitsTables.{changes, is_change}
+use Rattle.tsp_acks.specs.declared.station.Station.{Station}
+use Rattle.tsp_acks.specs.Peers.{IsPeers}
+use Rattle.tsp_acks.specs.Stands.{Stands, StandsActing}
+use Rattle.tsp_acks.proofs.StandsLemmas.{Stands_idle}
+use Rattle.tsp_resolve.specs.declared.resolve.Resolve.{Resolve}
+use Rattle.tsp_resolve.specs.Marked.{marked}
+use Rattle.tsp_resolve.specs.ResolveStands.{ResolveStands, ResolvingActs, ResolvingStands}
+use Rattle.tsp_resolve.proofs.MarkedLemmas.{Rise-peers, marked-filter}
+
+-- all sorts of acts but Boot and Rival
+abbrev pub rivalless : List Sort
+rivalless = Taking ∷ Asking ∷ Correcting ∷ Numbering ∷ Posting ∷ Leading ∷ Following ∷ Changing ∷ Backing ∷ Counting ∷ Rounding ∷ Alarming ∷ Tabling ∷ Acking ∷ Giving ∷ Sampling ∷ Closing ∷ Moving ∷ Tracing ∷ []
+
+-- of these, all but changes of the role
+abbrev pub unchanging : List Sort
+unchanging = Taking ∷ Asking ∷ Correcting ∷ Numbering ∷ Posting ∷ Backing ∷ Counting ∷ Rounding ∷ Alarming ∷ Tabling ∷ Acking ∷ Giving ∷ Sampling ∷ Closing ∷ Moving ∷ Tracing ∷ []
+
+ResolveStands_act : (a : Act) → is_in (sort_of a) unchanging ≡ true → Keeps ResolveStands (puts a)
+unfolding puts
+ResolveStands_act Boot e x past r h = absurd (false≢true e)
+ResolveStands_act (Become Master) e x past r h = absurd (false≢true e)
+ResolveStands_act (Become (Role.Follow p)) e x past r h = absurd (false≢true e)
+ResolveStands_act (Become _) e x past r h = absurd (false≢true e)
+ResolveStands_act (Rival p) e x past r h = absurd (false≢true e)
+ResolveStands_act _ e x past r h = record { many = h.many; rivals = h.rivals; empty = h.empty }
+
+-- a row that neither boots, changes the role nor finds a rival leaves the marks right
+pub ResolveStands_by : (row : Row) → Emits unchanging row → Keeps ResolveStands row
+ResolveStands_by row e = Keeps_by unchanging ResolveStands row ResolveStands_act e
+
+rival-deed : (p : PeerId) (a : Act) (keep : Bool) → is_in (sort_of a) rivalless ≡ true → is_rival_after p (Acts a) keep ≡ (if is_change a then false else keep)
+rival-deed p Boot keep e = absurd (false≢true e)
+rival-deed p (Rival q) keep e = absurd (false≢true e)
+rival-deed p (Become r) keep e = refl
+rival-deed p _ keep e = refl
+
+or-change : (a b keep : Bool) → (if b then false else (if a then false else keep)) ≡ (if (a || b) then false else keep)
+or-change true true keep = refl
+or-change true false keep = refl
+or-change false b keep = refl
+
+-- acts of these sorts leave the rivals as they are, or there are none where the role changes
+pub rivals_after : (p : PeerId) (step : Step) (x : ℕ) (acts : List Act) (seen : List Seen) → AllOf rivalless acts → is_rival p (added step x acts seen) ≡ (if changes acts then false else is_rival p seen)
+rivals_after p step x [] seen e = refl
+rivals_after p step x (a ∷ rest) seen e =
+    rivals_after p step x rest (Here (record { step = step; tick = x; deed = Acts a }) ∷ seen) e.1
+    ∙ ap (λ k. if changes rest then false else k) (rival-deed p a (is_rival p seen) e.0) ∙ or-change (is_change a) (changes rest) (is_rival p seen)
+
+-- a change of the role is of these sorts
+pub become-rivalless : (r : Role) → is_in (sort_of (Become r)) rivalless ≡ true
+become-rivalless Master = refl
+become-rivalless (Role.Follow p) = refl
+become-rivalless _ = refl
+
+-- the role changes, and nobody is marked any more
+pub ResolveStands_changed : (x : ℕ) (past : Past) (acts : List Act) (old new : Resolve) → AllOf rivalless acts → changes acts ≡ true → length new.marks ≡ length old.marks → ((peers : List PeerId) → marked peers new.marks ≡ []) →
+    ResolveStands past old → ResolveStands (grown x past acts) new
+ResolveStands_changed x past acts old new e c m none h =
+    let after : (p : PeerId) → is_rival p (added past.step x acts past.seen) ≡ false = λ p. rivals_after p past.step x acts past.seen e ∙ ap (λ b. if b then false else is_rival p past.seen) c in
+    record { many = m ∙ h.many; rivals = λ p. ap (is_among p) (none past.peers) ∙ sym (after p); empty = λ other p. after p }
+
+if-false : (b : Bool) → (if b then false else false) ≡ false
+if-false true = refl
+if-false false = refl
+
+-- a port that doesn't lead has no rivals, whatever its role becomes
+pub ResolveStands_idle : (x : ℕ) (past : Past) (acts : List Act) (r : Resolve) → AllOf rivalless acts → role past.seen ≢ Master → ResolveStands past r → ResolveStands (grown x past acts) r
+ResolveStands_idle x past acts r e other h =
+    let after : (p : PeerId) → is_rival p (added past.step x acts past.seen) ≡ false =
+    λ p. rivals_after p past.step x acts past.seen e ∙ ap (λ k. if changes acts then false else k) (h.empty other p) ∙ if-false (changes acts) in
+    record { many = h.many; rivals = λ p. h.rivals p ∙ h.empty other p ∙ sym (after p); empty = λ still p. after p }
+
+or-false : (a b : Bool) → (a || b) ≡ false → (a ≡ false) × (b ≡ false)
+or-false true b e = absurd (false≢true (sym e))
+or-false false b e = (refl, e)
+
+role-deed : (a : Act) (keep : Role) → is_in (sort_of a) rivalless ≡ true → is_change a ≡ false → role_after (Acts a) keep ≡ keep
+role-deed Boot keep e c = absurd (false≢true e)
+role-deed (Become r) keep e c = absurd (false≢true (sym c))
+role-deed _ keep e c = refl
+
+-- without a change of it the role stays
+pub role_stays : (step : Step) (x : ℕ) (acts : List Act) (seen : List Seen) → AllOf rivalless acts → changes acts ≡ false → role (added step x acts seen) ≡ role seen
+role_stays step x [] seen e c = refl
+role_stays step x (a ∷ rest) seen e c =
+    let both = or-false (is_change a) (changes rest) c in
+    role_stays step x rest (Here (record { step = step; tick = x; deed = Acts a }) ∷ seen) e.1 both.1 ∙ role-deed a (role seen) e.0 both.0
+
+-- the role doesn't change
+pub ResolveStands_same : (x : ℕ) (past : Past) (acts : List Act) (r : Resolve) → AllOf rivalless acts → changes acts ≡ false → ResolveStands past r → ResolveStands (grown x past acts) r
+ResolveStands_same x past acts r e c h =
+    let after : (p : PeerId) → is_rival p (added past.step x acts past.seen) ≡ is_rival p past.seen = λ p. rivals_after p past.step x acts past.seen e ∙ ap (λ b. if b then false else is_rival p past.seen) c in
+    record {
+      many = h.many;
+      rivals = λ p. h.rivals p ∙ sym (after p);
+      empty = λ other p. after p ∙ h.empty (λ is. other (role_stays past.step x acts past.seen e c ∙ is)) p;
+    }
+
+-- a call on the station that leaves the marks right
+pub Performs_resolving : {row : Row} {x : ℕ} {port : Port} {before after : Station} (r : Resolve) {old new : List Placed} → Emits unchanging row → Performs Stands Stands row x port before after old new →
+    Performs ResolvingStands ResolvingStands row x port (r, before) (r, after) old new
+Performs_resolving {row = row} {x = x} r e d = record {
+  acts = λ past h. d.acts past h.second;
+  stands = λ past h. record { first = ResolveStands_by row e x past r h.first; second = d.stands past h.second };
+}
+
+pub Performs_resolving_acting : {row : Row} {x : ℕ} {port : Port} {before after : Station} (r : Resolve) {old new : List Placed} → Emits unchanging row → Performs StandsActing StandsActing row x port (before, tt) (after, tt) old new →
+    Performs ResolvingActs ResolvingActs row x port (r, (before, tt)) (r, (after, tt)) old new
+Performs_resolving_acting {row = row} {x = x} r e d = record {
+  acts = λ past h. d.acts past h.second;
+  stands = λ past h. record { first = ResolveStands_by row e x past r h.first; second = d.stands past h.second };
+}
+
+-- an alarm rings, and the step has acted
+pub Performs_rung : (alarm : Alarm) {x : ℕ} {port : Port} {before after : Station} (r : Resolve) {old new : List Placed} → Emits unchanging (puts (Ring alarm)) → Performs Stands Stands (puts (Ring alarm)) x port before after old new →
+    Performs ResolvingStands ResolvingActs (puts (Ring alarm)) x port (r, before) (r, (after, tt)) old new
+unfolding puts
+Performs_rung alarm {x = x} r e d = record {
+  acts = λ past h. d.acts past h.second;
+  stands = λ past h. record { first = ResolveStands_by (puts (Ring alarm)) e x past r h.first; second = record { first = d.stands past h.second; second = refl } };
+}
+
+-- the rivals, as they are marked
+pub rivals-marked : (x : ℕ) (past : Past) (r : Resolve) (peers : List PeerId) → IsPeers peers → peers ≡ past.peers → ResolveStands past r → rivals_at x past ≡ marked peers r.marks
+rivals-marked x past r peers up same h =
+    filter_agree (λ p. is_rival p past.seen) (λ p. is_among p (marked past.peers r.marks)) (λ p. sym (h.rivals p)) past.peers
+    ∙ marked-filter past.peers r.marks (Rise-peers past.peers (subst IsPeers same up)) h.many ∙ ap (λ ps. marked ps r.marks) (sym same)
+
+-- a new rival is put, and marked
+pub ResolveStands_found : (p : PeerId) (x : ℕ) (past : Past) (old new : Resolve) → role past.seen ≡ Master → length new.marks ≡ length old.marks →
+    ((q : PeerId) → is_among q (marked past.peers new.marks) ≡ ((p.0 == q.0) || is_among q (marked past.peers old.marks))) → ResolveStands past old → ResolveStands (grown x past (Rival p ∷ [])) new
+ResolveStands_found p x past old new lead m found h = record {
+  many = m ∙ h.many;
+  rivals = λ q. found q ∙ ap (λ b. (p.0 == q.0) || b) (h.rivals q) ∙ as_if (p.0 == q.0) (is_rival q past.seen);
+  empty = λ other q. absurd (other lead);
+} where
+  as_if : (a b : Bool) → (a || b) ≡ (if a then true else b)
+  as_if true b = refl
+  as_if false b = refl
+
+-- a rival that is marked again is marked as before
+pub ResolveStands_again : (p : PeerId) (past : Past) (old new : Resolve) → length new.marks ≡ length old.marks → is_among p (marked past.peers old.marks) ≡ true →
+    ((q : PeerId) → is_among q (marked past.peers new.marks) ≡ ((p.0 == q.0) || is_among q (marked past.peers old.marks))) → ResolveStands past old → ResolveStands past new
+ResolveStands_again p past old new m was found h = record { many = m ∙ h.many; rivals = λ q. found q ∙ by_test q (p.0 == q.0) refl ∙ h.rivals q; empty = h.empty } where
+  by_test : (q : PeerId) (b : Bool) → (p.0 == q.0) ≡ b → (b || is_among q (marked past.peers old.marks)) ≡ is_among q (marked past.peers old.marks)
+  by_test q true e = sym was ∙ ap (λ n. is_among (record { 0 = n }) (marked past.peers old.marks)) (eqb-true p.0 q.0 e)
+  by_test q false e = refl
+
+not-true : (b : Bool) → not b ≡ false → b ≡ true
+not-true true e = refl
+not-true false e = absurd (false≢true (sym e))
+
+is_new-is : (p : PeerId) (x : ℕ) (past : Past) (r : Resolve) (station : Station) (peers : List PeerId) → peers ≡ past.peers → Stands past station → ResolveStands past r →
+    is_new_rival p x past ≡ (is_some (deadline station.alarms ResolveAlarm) && not (is_among p (marked peers r.marks)))
+is_new-is p x past r station peers same s h =
+    ap (λ a. is_some (deadline a ResolveAlarm) && not (is_rival p past.seen)) (sym s.alarms) ∙ ap (λ b. is_some (deadline station.alarms ResolveAlarm) && not b) (sym (h.rivals p))
+    ∙ ap (λ ps. is_some (deadline station.alarms ResolveAlarm) && not (is_among p (marked ps r.marks))) (sym same)
+
+module _ (p : PeerId) (x : ℕ) (port : Port) (station : Station) (old new : Resolve) (earlier later : List Placed) where
+  -- nobody asks
+  pub Performs_unasked : deadline station.alarms ResolveAlarm ≡ None → Performs ResolvingStands ResolvingStands (finds_rival p) x port (old, station) (old, station) earlier earlier
+  unfolding finds_rival
+  Performs_unasked off = Performs_else_part (is_new_rival p) (puts (Rival p))
+      (λ past h. is_new-is p x past old station station.peers h.second.peers h.second h.first ∙ ap (λ d. is_some d && not (is_among p (marked station.peers old.marks))) off) Performs_nothing
+
+  -- p answers, and is marked from now on
+  pub Performs_answered : (at : ℕ) → deadline station.alarms ResolveAlarm ≡ Some at → station.role ≡ Master → length new.marks ≡ length old.marks →
+      ((q : PeerId) → is_among q (marked station.peers new.marks) ≡ ((p.0 == q.0) || is_among q (marked station.peers old.marks))) → not (is_among p (marked station.peers old.marks)) ≡ true →
+      later ≡ earlier ++ record { port = port; act = Rival p } ∷ [] → Performs ResolvingStands ResolvingStands (finds_rival p) x port (old, station) (new, station) earlier later
+  unfolding finds_rival puts
+  Performs_answered at on lead many found fresh put = Performs_then_part (is_new_rival p) nothing
+      (λ past h. is_new-is p x past old station station.peers h.second.peers h.second h.first ∙ ap (λ d. is_some d && not (is_among p (marked station.peers old.marks))) on ∙ fresh)
+      (record {
+        acts = λ past h. put;
+        stands = λ past h. record {
+          first = ResolveStands_found p x past old new (sym h.second.role ∙ lead) many (λ q. ap (λ ps. is_among q (marked ps new.marks)) (sym h.second.peers) ∙ found q ∙ ap (λ ps. (p.0 == q.0) || is_among q (marked ps old.marks)) h.second.peers) h.first;
+          second = Stands_idle (Rival p) refl x past station h.second;
+        };
+      })
+
+  -- p answers again
+  pub Performs_answered_again : (at : ℕ) → deadline station.alarms ResolveAlarm ≡ Some at → length new.marks ≡ length old.marks →
+      ((q : PeerId) → is_among q (marked station.peers new.marks) ≡ ((p.0 == q.0) || is_among q (marked station.peers old.marks))) → not (is_among p (marked station.peers old.marks)) ≡ false →
+      Performs ResolvingStands ResolvingStands (finds_rival p) x port (old, station) (new, station) earlier earlier
+  unfolding finds_rival
+  Performs_answered_again at on many found known = Performs_else_part (is_new_rival p) (puts (Rival p))
+      (λ past h. is_new-is p x past old station station.peers h.second.peers h.second h.first ∙ ap (λ d. is_some d && not (is_among p (marked station.peers old.marks))) on ∙ known)
+      (Performs_to {q = ResolvingStands} (λ past h. record {
+        first = ResolveStands_again p past old new many (ap (λ ps. is_among p (marked ps old.marks)) (sym h.second.peers) ∙ not-true _ known)
+            (λ q. ap (λ ps. is_among q (marked ps new.marks)) (sym h.second.peers) ∙ found q ∙ ap (λ ps. (p.0 == q.0) || is_among q (marked ps old.marks)) h.second.peers) h.first;
+        second = h.second;
+      }) Performs_nothing)

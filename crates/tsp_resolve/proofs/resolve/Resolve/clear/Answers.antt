@@ -1,0 +1,17 @@
+-- Nobody is marked any more.
+use Rattle.std.specs.Prelude.{length, refl}
+use Rattle.std.proofs.Common.{◌∙◌, ap, [], ◌∷◌}
+use Rattle.std.proofs.lemmas.List.{length-replicate}
+use Rattle.tsp_base.specs.declared.act.Act.TheVariants.{Become}
+use Rattle.tsp_resolve.specs.Marked.{marked}
+use Rattle.tsp_resolve.proofs.MarkedLemmas.{marked-none}
+use Rattle.tsp_resolve.proofs.ResolveLemmas.{ResolveStands_changed, become-rivalless}
+use Rattle.tsp_resolve.proofs.resolve.Resolve.clear.Goals as goal
+
+pub returns-clause-none : goal.returns-clause-none
+returns-clause-none c peers = ap (marked peers) c.clear.ensures ∙ marked-none peers _
+
+pub returns-clause-stands : goal.returns-clause-stands
+returns-clause-stands c x past role h =
+    ResolveStands_changed x past (Become role ∷ []) c.args.self.now (record { marks = c.clear.new.self }) (become-rivalless role, tt) refl
+    (ap length c.clear.ensures ∙ length-replicate _ _) (λ peers. ap (marked peers) c.clear.ensures ∙ marked-none peers _) h

@@ -1,0 +1,65 @@
+-- A QUIT begins to one marked peer after the other.
+use Rattle.std.specs.Prelude.{◌≡◌, suc, ◌+◌, ◌<◌, ◌∷◌, [], ◌++◌, if◌then◌else◌, true, false, length, take, slice_index_or, refl}
+use Rattle.std.proofs.Common.{sym, ◌∙◌, ap, append-nil, arith, get_or}
+use Rattle.std.proofs.lemmas.List.{get_or_default, take_all}
+use Rattle.tsp_base.specs.declared.kind.Kind.TheVariants.{Quit}
+use Rattle.tsp_base.specs.declared.place.PeerId.{PeerId}
+use Rattle.tsp_base.specs.Rows.{for_each}
+use Rattle.tsp_base.proofs.PerformsLemmas.{Performs_each_more, Performs_nothing, Performs_reading}
+use Rattle.tsp_rules.specs.ResolveRows.{quits_rivals}
+use Rattle.tsp_rules.specs.SendRows.{begins}
+use Rattle.tsp_rules.specs.Tests.{rivals_at}
+use Rattle.tsp_rules.proofs.EmitsSlave.{emits_begins}
+use Rattle.tsp_resolve.specs.Marked.{marked}
+use Rattle.tsp_resolve.proofs.MarkedLemmas.{marked-more}
+use Rattle.tsp_resolve.proofs.ResolveLemmas.{Performs_resolving_acting, rivals-marked}
+use Rattle.tsp_resolve.proofs.resolve.Resolve.quit_rivals.Goals.{then-at, else-at}
+use Rattle.tsp_resolve.proofs.resolve.Resolve.quit_rivals.Goals as goal
+
+pub bounds-peers-place : goal.bounds-peers-place
+bounds-peers-place g c = omega (arith, c.loop-place-test.true, ap length c.peers-place-end.ensures.value, ap length c.peers.ensures.value, ap length c.loop-place.invariant.same.peers)
+
+pub loop-place-init : goal.loop-place-init
+unfolding for_each
+loop-place-init g c = record { row = Performs_nothing; same = record { me = refl; peers = refl }; room = record { spare = omega arith; few = omega arith } }
+
+pub loop-place-preserved : goal.loop-place-preserved
+loop-place-preserved g c =
+    let inv = c.loop-place.invariant in
+    let ps = c.args.station.now.peers in
+    let marks = c.args.self.now.marks in
+    let n = c.loop-place.place in
+    let none : PeerId = record { 0 = 0 } in
+    let p : PeerId = slice_index_or c.peers.result.now n none in
+    let there : c.peers.result.now ≡ ps = c.peers.ensures.value ∙ inv.same.peers in
+    let inside : n < length ps = omega (arith, c.loop-place-test.true, ap length c.peers-place-end.ensures.value) in
+    let here : get_or ps n p ≡ p = get_or_default ps n p none inside ∙ ap (λ l. get_or l n none) (sym there) in
+    let one : n + 1 ≡ suc n = omega arith in
+    let more = ap (λ k. marked (take k ps) marks) one ∙ marked-more ps marks n p c.requires.many inside here in
+    elim c.if-at.branch [
+      | then-at w ↦
+          let set : get_or marks n false ≡ true = sym c.at.ensures ∙ w.if-at.true in
+          let grown : marked (take (n + 1) ps) marks ≡ marked (take n ps) marks ++ p ∷ [] = more ∙ ap (λ b. marked (take n ps) marks ++ (if b then p ∷ [] else [])) set in
+          record {
+            row = rw (w.station-is, w.desk-is, grown) (Performs_each_more (begins Quit) (marked (take n ps) marks) p inv.row (Performs_resolving_acting c.args.self.now (emits_begins Quit p refl) w.begin.ensures.row));
+            same = rw w.station-is (record { me = w.begin.ensures.rest.me ∙ inv.same.me; peers = w.begin.ensures.rest.peers ∙ inv.same.peers });
+            room = rw w.desk-is (record { spare = omega (arith, inv.room.spare, w.begin.ensures.room.spare); few = omega (arith, inv.room.few, w.begin.ensures.room.count) });
+          }
+      | else-at w ↦
+          let unset : get_or marks n false ≡ false = sym c.at.ensures ∙ w.if-at.false in
+          let same : marked (take (n + 1) ps) marks ≡ marked (take n ps) marks = more ∙ ap (λ b. marked (take n ps) marks ++ (if b then p ∷ [] else [])) unset ∙ append-nil (marked (take n ps) marks) in
+          record {
+            row = rw (w.station-is, w.desk-is, same) inv.row;
+            same = rw w.station-is inv.same;
+            room = rw w.desk-is (record { spare = omega (arith, inv.room.spare); few = omega (arith, inv.room.few) });
+          }
+    ]
+
+pub returns-clause-row : goal.returns-clause-row
+unfolding quits_rivals
+returns-clause-row g c =
+    let ps = c.args.station.now.peers in
+    let n = c.loop-place.place in
+    let all : take n ps ≡ ps = take_all n ps (omega (arith, c.loop-place-test.false, ap length c.peers-place-end.ensures.value)) in
+    Performs_reading rivals_at (for_each (begins Quit)) (marked ps c.args.self.now.marks) (λ past h. rivals-marked c.args.tick past c.args.self.now ps c.peers-place-end.ensures.valid h.second.first.peers h.first)
+    (rw all at c.loop-place.invariant.row)

@@ -1,0 +1,27 @@
+-- In time a QUIT begins to each rival.
+use Rattle.std.specs.Prelude.{refl}
+use Rattle.std.proofs.Common.{◌∙◌, ap, sym}
+use Rattle.tsp_base.specs.declared.act.Act.TheVariants.{Ring, Late}
+use Rattle.tsp_base.specs.declared.alarm.Alarm.TheVariants.{Resolve as ResolveAlarm}
+use Rattle.tsp_base.specs.Alarms.{deadline}
+use Rattle.tsp_base.specs.Rows.{puts, ◌followed_by◌}
+use Rattle.tsp_base.proofs.PerformsLemmas.{Performs_then, Performs_then_part, Performs_else_part, Performs_to}
+use Rattle.tsp_rules.specs.ResolveRows.{quits_rivals, resolve_rings}
+use Rattle.tsp_rules.specs.Tests.{is_in_time, is_met}
+use Rattle.tsp_rules.proofs.Emits.{Emits_puts}
+use Rattle.tsp_resolve.specs.ResolveStands.{ResolvingActs}
+use Rattle.tsp_resolve.proofs.ResolveLemmas.{Performs_resolving, Performs_rung}
+use Rattle.tsp_resolve.proofs.resolve.Resolve.ring.Goals as goal
+
+pub returns-then-is_in_time-clause-row : goal.returns-then-is_in_time-clause-row
+unfolding resolve_rings
+returns-then-is_in_time-clause-row g c =
+    Performs_then_part (is_in_time ResolveAlarm) (puts (Late ResolveAlarm)) (λ past h. ap (λ a. is_met (deadline a ResolveAlarm) c.args.tick) (sym h.second.alarms) ∙ (sym c.is_in_time.ensures ∙ c.if-is_in_time.true))
+    (Performs_to {q = ResolvingActs} (λ past h. record { first = h.first; second = h.second.first })
+    (Performs_then (Performs_rung ResolveAlarm c.args.self.now (Emits_puts (Ring ResolveAlarm) refl) (c.ring.ensures.row c.args.tick)) c.quit_rivals.ensures.row))
+
+pub returns-else-is_in_time-clause-row : goal.returns-else-is_in_time-clause-row
+unfolding resolve_rings
+returns-else-is_in_time-clause-row g c =
+    Performs_else_part (is_in_time ResolveAlarm) (puts (Ring ResolveAlarm) followed_by quits_rivals) (λ past h. ap (λ a. is_met (deadline a ResolveAlarm) c.args.tick) (sym h.second.alarms) ∙ (sym c.is_in_time.ensures ∙ c.if-is_in_time.false))
+    (Performs_resolving c.args.self.now (Emits_puts (Late ResolveAlarm) refl) (c.late.ensures.row c.args.tick))
