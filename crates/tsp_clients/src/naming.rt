@@ -1,0 +1,61 @@
+//! Which master a port knows of, and whether it is one.
+ghost use Rattle.std.specs.Prelude.{◌≡◌, ℕ, ◌≤◌};
+ghost use Rattle.tsp_base.specs.Frames.{PutsAtMost, PutsExactly};
+ghost use Rattle.tsp_base.specs.Performs.{Performs};
+ghost use Rattle.tsp_rules.specs.CommonRows.{master_name_in, names_master, says_master};
+ghost use Rattle.tsp_acks.specs.Stands.{Stands};
+ghost use Rattle.tsp_clients.specs.ClientStands.{NamingStands};
+
+use tsp_acks::station::Station;
+use tsp_base::act::Act;
+use tsp_base::datagram::Datagram;
+use tsp_base::desk::Desk;
+use tsp_base::kind::Kind;
+use tsp_base::message::{Body, Message};
+use tsp_base::name::Name;
+use tsp_base::place::{Place, Port};
+use tsp_base::role::Role;
+use tsp_slave::last::Last;
+
+/// Answers an MSITE: the ACK carries the name of the master that the port knows of, in the place of the
+/// node's own. One act.
+pub fn name_master<D: Desk>(
+    station: &Station,
+    last: &Last,
+    from: Place,
+    number: u16,
+    port: Port,
+    desk: &mut D,
+)
+    requires room { 1 ≤ D.spare desk.old }
+    ensures row { (x : ℕ) → Performs NamingStands NamingStands (names_master from number) x port (station.now, last.now) (station.now, last.now) (D.acts desk.old) (D.acts desk.new) }
+    ensures room { PutsExactly 1 (D.spare desk.old) (D.spare desk.new) (D.acts desk.old) (D.acts desk.new) }
+{
+    let name = known_master(station, last);
+    let message = Message::new(Kind::Ack, number, Body::Nothing, name);
+    desk.put(port, Act::Post(from, Datagram::Message(message)));
+}
+
+/// The name of the master that the port knows of: its own where it leads, the kept one where it follows, else
+/// the empty one.
+fn known_master(station: &Station, last: &Last) -> Name
+    ensures { result ≡ master_name_in station.now.role station.now.me.name last.now.name }
+{
+    match station.role {
+        Role::Master => station.me.name.copy(),
+        Role::Follow(_) => last.name().copy(),
+        _ => Name::empty(),
+    }
+}
+
+/// Answers an MSITEREQ by an ACK, where the port leads; else nothing is done. At most one act.
+pub fn say_master<D: Desk>(station: &Station, from: Place, number: u16, port: Port, desk: &mut D)
+    requires room { 1 ≤ D.spare desk.old }
+    ensures row { (x : ℕ) → Performs Stands Stands (says_master from number) x port station.now station.now (D.acts desk.old) (D.acts desk.new) }
+    ensures room { PutsAtMost 1 (D.spare desk.old) (D.spare desk.new) (D.acts desk.old) (D.acts desk.new) }
+{
+    match station.role {
+        Role::Master => station.post_back(from, Kind::Ack, number, port, desk),
+        _ => {}
+    }
+}

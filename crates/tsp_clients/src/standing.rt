@@ -1,0 +1,62 @@
+//! How a client asks a port to stand for election.
+ghost use Rattle.std.specs.Prelude.{◌≡◌, ◌+◌, ◌≤◌, ◌&&◌, length};
+ghost use Rattle.tsp_base.specs.Frames.{IsTick, PutsAtMost};
+ghost use Rattle.tsp_base.specs.Hold.{may_stand};
+ghost use Rattle.tsp_base.specs.Performs.{Performs};
+ghost use Rattle.tsp_base.specs.Rows.{either_by, nothing};
+ghost use Rattle.tsp_rules.specs.CommonRows.{is_idle, may_be_asked, stand_row, tests};
+ghost use Rattle.tsp_acks.specs.Changes.{IsSamePort};
+ghost use Rattle.tsp_acks.specs.Stands.{StandsActing};
+
+use tsp_acks::station::Station;
+use tsp_base::desk::Desk;
+use tsp_base::kind::Kind;
+use tsp_base::place::{Place, Port};
+use tsp_base::role::Role;
+use tsp_candidate::stand::stand;
+
+/// Answers a TEST by an ACK once the quiet time is over, and then stands for election where it may. In this
+/// step a datagram was taken. At most four acts, and one more for each peer.
+pub fn take_test<D: Desk>(
+    station: &mut Station,
+    tick: u64,
+    from: Place,
+    number: u16,
+    port: Port,
+    desk: &mut D,
+)
+    requires tick { IsTick tick }
+    requires room { length station.old.peers + 4 ≤ D.spare desk.old }
+    ensures row { Performs StandsActing StandsActing (tests from number) tick port (station.old, tt) (station.new, tt) (D.acts desk.old) (D.acts desk.new) }
+    ensures room { PutsAtMost (length station.old.peers + 4) (D.spare desk.old) (D.spare desk.new) (D.acts desk.old) (D.acts desk.new) }
+    ensures port { IsSamePort station.old station.new }
+{
+    match station.role {
+        Role::Starting => {}
+        _ => {
+            station.post_back(from, Kind::Ack, number, port, desk);
+            stand_if_asked(station, tick, port, desk);
+        }
+    }
+}
+
+/// Stands for election, where the port is Loose or follows, may be master, and the hold lets it.
+fn stand_if_asked<D: Desk>(station: &mut Station, tick: u64, port: Port, desk: &mut D)
+    requires tick { IsTick tick }
+    requires room { length station.old.peers + 3 ≤ D.spare desk.old }
+    ensures row { Performs StandsActing StandsActing (either_by may_be_asked stand_row nothing) tick port (station.old, tt) (station.new, tt) (D.acts desk.old) (D.acts desk.new) }
+    ensures room { PutsAtMost (length station.old.peers + 3) (D.spare desk.old) (D.spare desk.new) (D.acts desk.old) (D.acts desk.new) }
+    ensures port { IsSamePort station.old station.new }
+{
+    if may_be_asked(station, tick) {
+        stand(station, tick, port, desk);
+    }
+}
+
+/// Whether the port is Loose or follows, may be master, and the hold lets it stand at this tick.
+fn may_be_asked(station: &Station, tick: u64) -> bool
+    ensures { result ≡ (is_idle station.now.role && (station.now.me.may && may_stand station.now.hold tick station.now.me.own)) }
+{
+    matches!(station.role, Role::Loose | Role::Follow(_))
+        && (station.me.may && station.hold.may_stand(tick, station.me.own))
+}
