@@ -1,0 +1,280 @@
+-- The calls that a date makes, beside what they leave alone.
+use Rattle.std.proofs.Common.{◌≡◌, ℕ, ℤ, ◌==◌, ◌&&◌, not, Bool, true, false, if◌then◌else◌, List, [], ◌∷◌, ◌++◌, Option, Some, None, refl, sym, ◌∙◌, ap}
+use Rattle.std.specs.Prelude.{MatchBool}
+use Rattle.std.proofs.lemmas.Bool.{false≢true, ne_eqb}
+use Rattle.tsp_base.specs.declared.act.Act.TheVariants.{Acked, Correct, Leave, Ring, Late, Took}
+use Rattle.tsp_base.specs.declared.act.Placed.{Placed}
+use Rattle.tsp_base.specs.declared.datagram.Datagram.TheVariants.{Message}
+use Rattle.tsp_base.specs.declared.datagram.Taken.TheVariants.{Good}
+use Rattle.tsp_base.specs.declared.kind.Kind.{Kind}
+use Rattle.tsp_base.specs.declared.kind.Kind.TheVariants.{AdjTime, SetTime, SetDateReq}
+use Rattle.tsp_base.specs.declared.place.PeerId.{PeerId}
+use Rattle.tsp_base.specs.declared.place.Place.{Place}
+use Rattle.tsp_base.specs.declared.place.Place.TheVariants.{Peer, Stranger}
+use Rattle.tsp_base.specs.declared.place.Port.{Port}
+use Rattle.tsp_base.specs.declared.role.Role.{Role}
+use Rattle.tsp_base.specs.declared.role.Role.TheVariants.{Follow}
+use Rattle.tsp_base.specs.History.{Deed, Begins, Acts, Past, Seen, Here, Elsewhere}
+use Rattle.tsp_base.specs.Messages.{MessageValue}
+use Rattle.tsp_base.specs.Peers.{is_among}
+use Rattle.tsp_base.specs.Performs.{Keeps, Performs}
+use Rattle.tsp_base.specs.PortFacts.{Received, acting, acting_after, said, said_by, taken, taken_after}
+use Rattle.tsp_base.specs.Rows.{Row, either_by, for_each, grown, nothing, posts_time, puts, reading}
+use Rattle.tsp_base.specs.SendFacts.{Sending, correcting_of, corrects_in, dating_of, is_correction, is_set_date_request, last_asked, last_date, open_send, sets_date}
+use Rattle.tsp_base.proofs.PerformsLemmas.{Keeps_each, Keeps_reading, Performs_else_part, Performs_nothing, Performs_then_part}
+use Rattle.tsp_rules.specs.Answers.{from_peer}
+use Rattle.tsp_rules.specs.ClockRows.{sets}
+use Rattle.tsp_rules.specs.DateRows.{answers_date, date_acked_in, has_date, leaves, leaves_all}
+use Rattle.tsp_rules.specs.SendRows.{begins_timed, next_number}
+use Rattle.tsp_rules.specs.Tests.{is_heard, is_starting_role, table_at}
+use Rattle.tsp_rules.proofs.Emits.{Sort, Acking, Numbering, Posting, Tabling, Emits, Emits_more, Emits_posts_time, Emits_puts, Emits_reading, Keeps_by}
+use Rattle.tsp_acks.specs.declared.station.Station.{Station}
+use Rattle.tsp_acks.specs.Stands.{Stands, StandsActing}
+use Rattle.tsp_acks.proofs.StandsLemmas.{Stands_idle}
+use Rattle.tsp_clock.specs.Clocks.{ClockValue}
+use Rattle.tsp_clock.specs.ClockStands.{ClockStands}
+use Rattle.tsp_slave.specs.Lasts.{LastValue}
+use Rattle.tsp_slave.specs.SlaveStands.{AlsoStands}
+use Rattle.tsp_slave.proofs.BesideLemmas.{AlsoStands_by}
+use Rattle.tsp_master.specs.declared.entry.Entry.{Entry}
+use Rattle.tsp_master.specs.declared.master.Master.{Master}
+use Rattle.tsp_master.specs.MasterStands.{MasterStands}
+use Rattle.tsp_master.specs.Slaves.{Changes, acks_where, entry_of}
+use Rattle.tsp_master.proofs.MasterLemmas.{MasterStands_aside}
+use Rattle.tsp_master.proofs.TableLemmas.{MasterStands_changed, MasterStands_quiet, acked-after, quiet_sorts}
+use Rattle.tsp_date.specs.Dates.{DatesValue, last_in, peers_of}
+use Rattle.tsp_date.specs.DateStands.{DatesStand, DateStands}
+use Rattle.tsp_date.proofs.KeepLemmas.{DatesStand_by}
+
+-- a step that has taken something has acted
+acting-deed : (d : Deed) (took : Option Received) (acts : Bool) (r : Received) → (took ≡ Some r → acts ≡ true) → taken_after d took ≡ Some r → acting_after d acts ≡ true
+acting-deed Begins took acts r k e = let bad : ⊥ = cc in absurd bad
+acting-deed (Acts (Took from t)) took acts r k e = refl
+acting-deed (Acts (Ring alarm)) took acts r k e = refl
+acting-deed (Acts (Late alarm)) took acts r k e = refl
+acting-deed (Acts _) took acts r k e = k e
+
+pub acting_taken : (seen : List Seen) (r : Received) → taken seen ≡ Some r → acting seen ≡ true
+acting_taken [] r e = let bad : ⊥ = cc in absurd bad
+acting_taken (Here d ∷ before) r e = acting-deed d.deed (taken before) (acting before) r (acting_taken before r) e
+acting_taken (Elsewhere d ∷ before) r e = acting_taken before r e
+
+-- a call of the station that the rest doesn't feel
+pub Performs_station : {row : Row} {x : ℕ} {port : Port} {before after : Station} (dates : DatesValue) (master : Master) (also : LastValue × (ClockValue × Option Received)) {old new : List Placed} → Keeps DatesStand row → Keeps MasterStands row → Keeps AlsoStands row →
+    Performs Stands Stands row x port before after old new → Performs DateStands DateStands row x port (dates, (master, (before, also))) (dates, (master, (after, also))) old new
+Performs_station {row = row} {x = x} dates master also kd km ka d = record {
+  acts = λ past h. d.acts past h.second.second.first;
+  stands = λ past h. record {
+    first = kd x past dates h.first;
+    second = record { first = km x past master h.second.first; second = record { first = d.stands past h.second.second.first; second = ka x past also h.second.second.second } };
+  };
+}
+
+-- posts that are no sends
+abbrev pub posting : List Sort
+posting = Posting ∷ []
+
+pub Performs_posting : {row : Row} {x : ℕ} {port : Port} {before after : Station} (dates : DatesValue) (master : Master) (also : LastValue × (ClockValue × Option Received)) {old new : List Placed} → Emits (Posting ∷ []) row →
+    Performs Stands Stands row x port before after old new → Performs DateStands DateStands row x port (dates, (master, (before, also))) (dates, (master, (after, also))) old new
+Performs_posting {row = row} dates master also e d =
+    Performs_station dates master also (DatesStand_by row (Emits_more posting refl e)) (Keeps_by quiet_sorts MasterStands row MasterStands_quiet (Emits_more posting refl e)) (AlsoStands_by row (Emits_more posting refl e)) d
+
+-- a date begins to be passed on
+abbrev pub numbering : List Sort
+numbering = Numbering ∷ []
+
+pub begins-emits : (q : PeerId) (time : ℤ) → Emits (Numbering ∷ []) (begins_timed SetDateReq q time)
+unfolding begins_timed
+begins-emits q time = Emits_reading next_number (λ n. posts_time q SetDateReq n time) (λ n. Emits_posts_time q SetDateReq n time refl)
+
+DatesStand_asks : (q : PeerId) (time : ℤ) (x : ℕ) (past : Past) (old new : DatesValue) → new ≡ record old { asked = Some x } → acting past.seen ≡ true → DatesStand past old → DatesStand (grown x past (begins_timed SetDateReq q time x past)) new
+unfolding begins_timed reading posts_time
+DatesStand_asks q time x past old new e acts h = record {
+  peers = ap (λ (d : DatesValue). peers_of d.dated) e ∙ h.peers;
+  last = λ p. ap (λ (d : DatesValue). last_in d.dated p) e ∙ h.last p;
+  asked = ap (λ (d : DatesValue). d.asked) e ∙ sym (ap (λ b. if b then Some x else last_asked past.seen) acts);
+}
+
+pub Performs_asks : (q : PeerId) (time : ℤ) {x : ℕ} {port : Port} {before after : Station} (dates asked : DatesValue) (master : Master) (last : LastValue) (clock : ClockValue) (r : Received) {old new : List Placed} → asked ≡ record dates { asked = Some x } →
+    Performs StandsActing StandsActing (begins_timed SetDateReq q time) x port (before, tt) (after, tt) old new →
+    Performs DateStands DateStands (begins_timed SetDateReq q time) x port (dates, (master, (before, (last, (clock, Some r))))) (asked, (master, (after, (last, (clock, Some r))))) old new
+Performs_asks q time {x = x} {before = before} dates asked master last clock r e d =
+    let row = begins_timed SetDateReq q time in
+    record {
+      acts = λ past h. d.acts past (record { first = h.second.second.first; second = acting_taken past.seen r h.second.second.second.second.second });
+      stands = λ past h.
+          let acts : acting past.seen ≡ true = acting_taken past.seen r h.second.second.second.second.second in
+          record {
+            first = DatesStand_asks q time x past dates asked e acts h.first;
+            second = record {
+              first = Keeps_by quiet_sorts MasterStands row MasterStands_quiet (Emits_more numbering refl (begins-emits q time)) x past master h.second.first;
+              second = record { first = (d.stands past (record { first = h.second.second.first; second = acts })).first; second = AlsoStands_by row (Emits_more numbering refl (begins-emits q time)) x past (last, (clock, Some r)) h.second.second.second };
+            };
+          };
+    }
+
+-- messages of dates don't correct as a master's do
+date-no-correction : (k : Kind) → sets_date k ≡ true → is_correction k ≡ false
+date-no-correction AdjTime e = absurd (false≢true e)
+date-no-correction SetTime e = absurd (false≢true e)
+date-no-correction _ e = refl
+
+none-taken : {A : Type 0} (b : Bool) (a : A) → b ≡ false → (if b then Some a else None) ≡ None
+none-taken true a e = absurd (false≢true (sym e))
+none-taken false a e = refl
+
+uncorrected : (from : Place) (m : MessageValue) → is_correction m.kind ≡ false → correcting_of (said_by from (Some m)) ≡ None
+uncorrected (Peer p) m e = none-taken (is_correction m.kind) _ e
+uncorrected Stranger m e = refl
+
+-- the clock is set to a date that was taken, which is noted
+pub Stands_dated : (amount : ℤ) (shown : ℤ) (x : ℕ) (past : Past) (dates noted : DatesValue) (master : Master) (station : Station) (last : LastValue) (clock moved : ClockValue) (from : Place) (m : MessageValue) (took : Option Received) →
+    took ≡ Some (record { from = from; taken = Good (Message m) }) → sets_date m.kind ≡ true → ((q : PeerId) → last_in noted.dated q ≡ dating_of q x (said_by from (Some m)) (last_in dates.dated q)) → peers_of noted.dated ≡ peers_of dates.dated → noted.asked ≡ dates.asked →
+    DateStands past (dates, (master, (station, (last, (clock, took))))) → ClockStands (grown x past (Correct amount true shown ∷ [])) moved →
+    DateStands (grown x past (Correct amount true shown ∷ [])) (noted, (master, (station, (record { tick = Some x; taken = None; name = last.name }, (moved, took)))))
+unfolding puts
+Stands_dated amount shown x past dates noted master station last clock moved from m took t k n ps a h c =
+    let is : taken past.seen ≡ Some (record { from = from; taken = Good (Message m) }) = h.second.second.second.second.second ∙ t in
+    record {
+      first = record {
+        peers = ps ∙ h.first.peers;
+        last = λ q. n q ∙ ap (dating_of q x (said_by from (Some m))) (h.first.last q) ∙ ap (λ r. dating_of q x (said r) (last_date q past.seen)) (sym is);
+        asked = a ∙ h.first.asked;
+      };
+      second = record {
+        first = MasterStands_aside (Correct amount true shown) x past master master refl refl refl h.second.first.entries h.second.first.empty h.second.first;
+        second = record {
+          first = Stands_idle (Correct amount true shown) refl x past station h.second.second.first;
+          second = record {
+            first = record { tick_is = refl; taken_is = sym (ap (λ r. correcting_of (said r)) is ∙ uncorrected from m (date-no-correction m.kind k)); name_is = h.second.second.second.first.name_is };
+            second = record { first = c; second = h.second.second.second.second.second };
+          };
+        };
+      };
+    }
+
+pub Performs_dated : (time : ℤ) {x : ℕ} {port : Port} (dates noted : DatesValue) (master : Master) (station : Station) (last : LastValue) {clock moved : ClockValue} (from : Place) (m : MessageValue) (took : Option Received) {old new : List Placed} →
+    took ≡ Some (record { from = from; taken = Good (Message m) }) → sets_date m.kind ≡ true → ((q : PeerId) → last_in noted.dated q ≡ dating_of q x (said_by from (Some m)) (last_in dates.dated q)) → peers_of noted.dated ≡ peers_of dates.dated → noted.asked ≡ dates.asked →
+    Performs ClockStands ClockStands (sets time) x port clock moved old new →
+    Performs DateStands DateStands (sets time) x port (dates, (master, (station, (last, (clock, took))))) (noted, (master, (station, (record { tick = Some x; taken = None; name = last.name }, (moved, took))))) old new
+unfolding sets
+Performs_dated time {x = x} dates noted master station last {clock = clock} {moved = moved} from m took t k n ps a d = record {
+  acts = λ past h. d.acts past h.second.second.second.second.first;
+  stands = λ past h. Stands_dated _ time x past dates noted master station last clock moved from m took t k n ps a h (d.stands past h.second.second.second.second.first);
+}
+
+-- a date that is passed on is no correction, so that its end leaves the table alone
+request-no-correction : (k : Kind) → is_set_date_request k ≡ true → is_correction k ≡ false
+request-no-correction SetDateReq e = refl
+request-no-correction _ e = absurd (false≢true e)
+
+first-true : (a b : Bool) → (a && b) ≡ true → a ≡ true
+first-true true b e = refl
+first-true false b e = absurd (false≢true e)
+
+date-open : (number : ℕ) (o : Option Sending) → answers_date number o ≡ true → corrects_in o ≡ false
+date-open number None e = refl
+date-open number (Some s) e = request-no-correction s.message.kind (first-true (is_set_date_request s.message.kind) (s.message.number == number) e)
+
+MasterStands_dated : (p : PeerId) (number x : ℕ) (past : Past) (m : Master) → has_date p number x past ≡ true → MasterStands past m → MasterStands (grown x past (Acked p ∷ [])) m
+MasterStands_dated p number x past m e h =
+    MasterStands_changed p (acks_where (corrects_in (open_send p past.seen))) (Acked p) x past m m refl (makes-none (corrects_in (open_send p past.seen))) (acked-after p past x)
+    (λ q. same (corrects_in (open_send p past.seen)) (p.0 == q.0) (entry_of m.slaves q) (date-open number (open_send p past.seen) e)) refl refl h where
+      makes-none : (c : Bool) (k : Entry) → k.joined ≡ false → k.measured ≡ false → ((acks_where c k).joined ≡ false) × ((acks_where c k).measured ≡ false)
+      makes-none true k j s = (j, s)
+      makes-none false k j s = (j, s)
+
+      same : (c b : Bool) (k : Entry) → c ≡ false → k ≡ (if b then acks_where c k else k)
+      same true b k f = absurd (false≢true (sym f))
+      same false true k f = refl
+      same false false k f = refl
+
+unputs : (p : PeerId) (x : ℕ) (past : Past) (m : Master) → MasterStands (grown x past (Acked p ∷ [])) m → MasterStands (grown x past (puts (Acked p) x past)) m
+unfolding puts
+unputs p x past m h = h
+
+abbrev acking : List Sort
+acking = Acking ∷ []
+
+-- the master has set the date that was passed on
+pub Performs_ends : (p : PeerId) (number : ℕ) {x : ℕ} {port : Port} {before after : Station} (dates : DatesValue) (master : Master) (also : LastValue × (ClockValue × Option Received)) {old new : List Placed} → ((past : Past) → Stands past before → has_date p number x past ≡ true) →
+    Performs Stands Stands (puts (Acked p)) x port before after old new → Performs DateStands DateStands (puts (Acked p)) x port (dates, (master, (before, also))) (dates, (master, (after, also))) old new
+Performs_ends p number {x = x} dates master also test d =
+    let emits : Emits (Acking ∷ []) (puts (Acked p)) = Emits_puts (Acked p) refl in
+    record {
+      acts = λ past h. d.acts past h.second.second.first;
+      stands = λ past h. record {
+        first = DatesStand_by (puts (Acked p)) (Emits_more acking refl emits) x past dates h.first;
+        second = record {
+          first = unputs p x past master (MasterStands_dated p number x past master (test past h.second.second.first) h.second.first);
+          second = record { first = d.stands past h.second.second.first; second = AlsoStands_by (puts (Acked p)) (Emits_more acking refl emits) x past also h.second.second.second };
+        };
+      };
+    }
+
+-- an answer ends the date that it names, or nothing
+pub Performs_ended : (p : PeerId) (number : ℕ) {x : ℕ} {port : Port} {before after : Station} (dates : DatesValue) (master : Master) (also : LastValue × (ClockValue × Option Received)) (ended : Bool) (Ends : Type 0) {old new : List Placed} → ((past : Past) → Stands past before → has_date p number x past ≡ ended) →
+    (ended ≡ true → Performs Stands Stands (puts (Acked p)) x port before after old new) → (ended ≡ false → new ≡ old) → MatchBool ended Ends (after ≡ before) →
+    Performs DateStands DateStands (either_by (has_date p number) (puts (Acked p)) nothing) x port (dates, (master, (before, also))) (dates, (master, (after, also))) old new
+Performs_ended p number dates master also true Ends test row same sends = Performs_then_part (has_date p number) nothing (λ past h. test past h.second.second.first) (Performs_ends p number dates master also test (row refl))
+Performs_ended p number dates master also false Ends test row same sends = rw (same refl, sends) (Performs_else_part (has_date p number) (puts (Acked p)) (λ past h. test past h.second.second.first) Performs_nothing)
+
+pub date_acked_in-other : (m : MessageValue) (p : PeerId) (r : Role) → ((q : PeerId) → r ≡ Follow q → ⊥) → date_acked_in m p r ≡ nothing
+unfolding date_acked_in
+date_acked_in-other m p (Follow q) n = absurd (n q refl)
+date_acked_in-other m p _ n = refl
+
+-- every slave leaves
+Keeps_leaves : {T : Type 0} (also : Past → T → Type 0) → ((p : PeerId) → Keeps also (puts (Leave p))) → Keeps also leaves_all
+unfolding leaves leaves_all
+Keeps_leaves also k = Keeps_reading also table_at (for_each leaves) (λ ps. Keeps_each also leaves ps k)
+
+abbrev tabling : List Sort
+tabling = Tabling ∷ []
+
+pub Performs_leaves : {x : ℕ} {port : Port} (dates : DatesValue) {before after : Master} (station : Station) (also : LastValue × (ClockValue × Option Received)) {old new : List Placed} → Performs MasterStands MasterStands leaves_all x port before after old new →
+    Performs DateStands DateStands leaves_all x port (dates, (before, (station, also))) (dates, (after, (station, also))) old new
+Performs_leaves {x = x} dates station also d = record {
+  acts = λ past h. d.acts past h.second.first;
+  stands = λ past h. record {
+    first = Keeps_leaves DatesStand (λ p. DatesStand_by (puts (Leave p)) (Emits_more tabling refl (Emits_puts (Leave p) refl))) x past dates h.first;
+    second = record {
+      first = d.stands past h.second.first;
+      second = record {
+        first = Keeps_leaves Stands (λ p. Stands_idle (Leave p) refl) x past station h.second.second.first;
+        second = Keeps_leaves AlsoStands (λ p. AlsoStands_by (puts (Leave p)) (Emits_more tabling refl (Emits_puts (Leave p) refl))) x past also h.second.second.second;
+      };
+    };
+  };
+}
+
+-- one slave leaves
+pub Performs_leave : (p : PeerId) {x : ℕ} {port : Port} {before after : Master} {old new : List Placed} → ((y : ℕ) (past : Past) → MasterStands past before → MasterStands (grown y past (Leave p ∷ [])) after) → new ≡ old ++ record { port = port; act = Leave p } ∷ [] →
+    Performs MasterStands MasterStands (leaves p) x port before after old new
+unfolding leaves puts
+Performs_leave p {x = x} k e = record { acts = λ past h. e; stands = λ past h. k x past h }
+
+-- the entries of all other peers are as before
+pub changes-others : (f : Entry → Entry) (p : PeerId) (old new : List Entry) → Changes p f old new → (q : PeerId) → (q.0 ≡ p.0 → ⊥) → entry_of new q ≡ entry_of old q
+changes-others f p old new change q n = let apart : (p.0 == q.0) ≡ false = ne_eqb p.0 q.0 (λ e. n (sym e)) in change q ∙ ap (λ b. if b then f (entry_of old q) else entry_of old q) apart
+
+-- who is heard, as the station has it
+pub heard-is : (p : PeerId) (x : ℕ) (past : Past) (station : Station) → Stands past station → is_heard p x past ≡ (is_among p station.peers && not (is_starting_role station.role))
+heard-is p x past station s = rw (s.peers, s.role) refl
+
+-- what only a peer may say that is heard
+pub Performs_heard : (p : PeerId) (r : PeerId → Row) {x : ℕ} {port : Port} {dates after_dates : DatesValue} {master after_master : Master} {station after : Station} {also after_also : LastValue × (ClockValue × Option Received)} {old new : List Placed} → (is_among p station.peers && not (is_starting_role station.role)) ≡ true →
+    Performs DateStands DateStands (r p) x port (dates, (master, (station, also))) (after_dates, (after_master, (after, after_also))) old new →
+    Performs DateStands DateStands (from_peer (Peer p) r) x port (dates, (master, (station, also))) (after_dates, (after_master, (after, after_also))) old new
+unfolding from_peer
+Performs_heard p r {x = x} {station = station} e d = Performs_then_part (is_heard p) nothing (λ past h. heard-is p x past station h.second.second.first ∙ e) d
+
+pub Performs_unheard : (p : PeerId) (r : PeerId → Row) {x : ℕ} {port : Port} {dates : DatesValue} {master : Master} {station : Station} {also : LastValue × (ClockValue × Option Received)} {old : List Placed} → (is_among p station.peers && not (is_starting_role station.role)) ≡ false →
+    Performs DateStands DateStands (from_peer (Peer p) r) x port (dates, (master, (station, also))) (dates, (master, (station, also))) old old
+unfolding from_peer
+Performs_unheard p r {x = x} {station = station} e = Performs_else_part (is_heard p) (r p) (λ past h. heard-is p x past station h.second.second.first ∙ e) Performs_nothing
+
+pub Performs_stranger : (r : PeerId → Row) {x : ℕ} {port : Port} {dates : DatesValue} {master : Master} {station : Station} {also : LastValue × (ClockValue × Option Received)} {old : List Placed} →
+    Performs DateStands DateStands (from_peer Stranger r) x port (dates, (master, (station, also))) (dates, (master, (station, also))) old old
+unfolding from_peer
+Performs_stranger r = Performs_nothing

@@ -1,0 +1,155 @@
+-- What leaves a port's dates alone.
+use Rattle.std.proofs.Common.{◌≡◌, ℕ, ℤ, ◌==◌, ◌&&◌, Bool, true, false, if◌then◌else◌, List, [], ◌∷◌, Option, Some, None, refl, sym, ◌∙◌}
+use Rattle.std.proofs.lemmas.Bool.{false≢true}
+use Rattle.tsp_base.specs.declared.act.Act.{Act}
+use Rattle.tsp_base.specs.declared.act.Act.TheVariants.{Arm, Become, Boot, Correct, Gave, Join, Late, Leave, Post, Ring, Took}
+use Rattle.tsp_base.specs.declared.alarm.Alarm.TheVariants.{Close, Probe}
+use Rattle.tsp_base.specs.declared.datagram.Datagram.TheVariants.{Message, Stamp}
+use Rattle.tsp_base.specs.declared.kind.Kind.{Kind}
+use Rattle.tsp_base.specs.declared.kind.Kind.TheVariants.{SetDateReq}
+use Rattle.tsp_base.specs.declared.place.PeerId.{PeerId}
+use Rattle.tsp_base.specs.declared.place.Place.{Place}
+use Rattle.tsp_base.specs.declared.place.Place.TheVariants.{Peer}
+use Rattle.tsp_base.specs.declared.role.Role.TheVariants.{Follow, Master}
+use Rattle.tsp_base.specs.declared.stamp.Stamp.TheVariants.{Reply, Request}
+use Rattle.tsp_base.specs.History.{Past, Seen}
+use Rattle.tsp_base.specs.Messages.{MessageValue}
+use Rattle.tsp_base.specs.Performs.{Beside, Keeps}
+use Rattle.tsp_base.specs.PortFacts.{Said, acting, said, taken}
+use Rattle.tsp_base.specs.Rows.{Row, bare, for_each, grown, posts, puts}
+use Rattle.tsp_base.specs.SendFacts.{Dating, dating_of, is_date_request, is_set_date_request, last_asked, last_date}
+use Rattle.tsp_base.proofs.PerformsLemmas.{Keeps_each, Keeps_reading}
+use Rattle.tsp_rules.specs.SendRows.{begins, begins_to_others, next_number, others_at}
+use Rattle.tsp_rules.proofs.Emits.{Sort, Taking, Asking, Correcting, Posting, Leading, Following, Changing, Backing, Counting, Rounding, Alarming, Tabling, Rivalling, Acking, Giving, Sampling, Closing, Moving, Tracing, is_in, sort_of, sort_of_kind, Emits, Keeps_by}
+use Rattle.tsp_rules.proofs.EmitsSends.{send_sorts}
+use Rattle.tsp_acks.specs.Stands.{HasNotActed}
+use Rattle.tsp_date.specs.Dates.{DatesValue}
+use Rattle.tsp_date.specs.DateStands.{DatesStand}
+
+-- the post of a message that begins no passing on of a date: another message, or a repeat
+asked-other : (b : Bool) (x : ℕ) (seen : List Seen) → b ≡ false → (if b then Some x else last_asked seen) ≡ last_asked seen
+asked-other true x seen e = absurd (false≢true (sym e))
+asked-other false x seen e = refl
+
+pub DatesStand_post : (to : Place) (m : MessageValue) (x : ℕ) (past : Past) (d : DatesValue) → (is_set_date_request m.kind && acting past.seen) ≡ false → DatesStand past d → DatesStand (grown x past (Post to (Message m) ∷ [])) d
+DatesStand_post to m x past d e h = record { peers = h.peers; last = h.last; asked = h.asked ∙ sym (asked-other (is_set_date_request m.kind && acting past.seen) x past.seen e) }
+
+-- whether a peer's message passes a date on
+abbrev pub passes_date : Option Said → Bool
+passes_date None = false
+passes_date (Some s) = is_date_request s.message.kind
+
+pub dating-none : (o : Option Said) (p : PeerId) (x : ℕ) (keep : Option Dating) → passes_date o ≡ false → dating_of p x o keep ≡ keep
+dating-none None p x keep e = refl
+dating-none (Some s) p x keep e = rw e (by_test (s.from.0 == p.0)) where
+  by_test : (b : Bool) → (if b && false then Some (record { at = x; number = s.message.number }) else keep) ≡ keep
+  by_test true = refl
+  by_test false = refl
+
+-- a Correct by what passes no date on
+pub DatesStand_correct : (amount : ℤ) (stepped : Bool) (shown : ℤ) (x : ℕ) (past : Past) (d : DatesValue) → passes_date (said (taken past.seen)) ≡ false → DatesStand past d →
+    DatesStand (grown x past (Correct amount stepped shown ∷ [])) d
+DatesStand_correct amount stepped shown x past d e h = record { peers = h.peers; last = λ p. h.last p ∙ sym (dating-none (said (taken past.seen)) p x (last_date p past.seen) e); asked = h.asked }
+
+-- all sorts of acts but Boot, sends with the port's own numbers, and Correct
+abbrev pub dates_sorts : List Sort
+dates_sorts = Taking ∷ Asking ∷ Correcting ∷ Posting ∷ Leading ∷ Following ∷ Changing ∷ Backing ∷ Counting ∷ Rounding ∷ Alarming ∷ Tabling ∷ Rivalling ∷ Acking ∷ Giving ∷ Sampling ∷ Closing ∷ Tracing ∷ []
+
+kind-other : (k : Kind) → is_in (sort_of_kind k) dates_sorts ≡ true → is_set_date_request k ≡ false
+kind-other SetDateReq e = absurd (false≢true e)
+kind-other _ e = refl
+
+false-and : (a b : Bool) → a ≡ false → (a && b) ≡ false
+false-and true b e = absurd (false≢true (sym e))
+false-and false b e = refl
+
+pub DatesStand_act : (a : Act) → is_in (sort_of a) dates_sorts ≡ true → Keeps DatesStand (puts a)
+unfolding puts
+DatesStand_act Boot e x past d h = absurd (false≢true e)
+DatesStand_act (Post to (Message m)) e x past d h = DatesStand_post to m x past d (false-and (is_set_date_request m.kind) (acting past.seen) (kind-other m.kind e)) h
+DatesStand_act (Correct amount stepped shown) e x past d h = absurd (false≢true e)
+DatesStand_act _ e x past d h = record { peers = h.peers; last = h.last; asked = h.asked }
+
+-- a row of such acts
+pub DatesStand_by : (row : Row) → Emits dates_sorts row → Keeps DatesStand row
+DatesStand_by row e = Keeps_by dates_sorts DatesStand row DatesStand_act e
+
+-- a send with an own number that passes no date on
+pub DatesStand_begins : (kind : Kind) (p : PeerId) → is_set_date_request kind ≡ false → Keeps DatesStand (begins kind p)
+unfolding begins posts
+DatesStand_begins kind p e = Keeps_reading DatesStand next_number (posts p kind) (λ number x past d h. DatesStand_post (Peer p) (bare kind number past.name) x past d (false-and (is_set_date_request kind) (acting past.seen) e) h)
+
+pub DatesStand_begins_to_others : (kind : Kind) → is_set_date_request kind ≡ false → Keeps DatesStand (begins_to_others kind)
+unfolding begins_to_others
+DatesStand_begins_to_others kind e = Keeps_reading DatesStand others_at (for_each (begins kind)) (λ ps. Keeps_each DatesStand (begins kind) ps (λ p. DatesStand_begins kind p e))
+
+-- a step that has taken no date that is passed on
+abbrev pub TakesNoDate : Past → Unit {0} → Type 0
+TakesNoDate past _ = passes_date (said (taken past.seen)) ≡ false
+
+-- the dates in such a step
+abbrev pub DatesAside : Past → DatesValue × Unit {0} → Type 0
+DatesAside = Beside DatesStand TakesNoDate
+
+-- all sorts of acts but Boot, Took, and sends with the port's own numbers
+abbrev pub aside_sorts : List Sort
+aside_sorts = Asking ∷ Correcting ∷ Posting ∷ Leading ∷ Following ∷ Changing ∷ Backing ∷ Counting ∷ Rounding ∷ Alarming ∷ Tabling ∷ Rivalling ∷ Acking ∷ Giving ∷ Sampling ∷ Closing ∷ Moving ∷ Tracing ∷ []
+
+kind-aside : (k : Kind) → is_in (sort_of_kind k) aside_sorts ≡ true → is_set_date_request k ≡ false
+kind-aside SetDateReq e = absurd (false≢true e)
+kind-aside _ e = refl
+
+pub DatesAside_act : (a : Act) → is_in (sort_of a) aside_sorts ≡ true → Keeps DatesAside (puts a)
+unfolding puts
+DatesAside_act Boot e x past d h = absurd (false≢true e)
+DatesAside_act (Took from t) e x past d h = absurd (false≢true e)
+DatesAside_act (Post to (Message m)) e x past d h = record { first = DatesStand_post to m x past d.0 (false-and (is_set_date_request m.kind) (acting past.seen) (kind-aside m.kind e)) h.first; second = h.second }
+DatesAside_act (Correct amount stepped shown) e x past d h = record { first = DatesStand_correct amount stepped shown x past d.0 h.second h.first; second = h.second }
+DatesAside_act _ e x past d h = record { first = record { peers = h.first.peers; last = h.first.last; asked = h.first.asked }; second = h.second }
+
+-- a row of such acts
+pub DatesAside_by : (row : Row) → Emits aside_sorts row → Keeps DatesAside row
+DatesAside_by row e = Keeps_by aside_sorts DatesAside row DatesAside_act e
+
+-- a send with an own number that passes no date on
+pub DatesAside_begins : (kind : Kind) (p : PeerId) → is_set_date_request kind ≡ false → Keeps DatesAside (begins kind p)
+unfolding begins posts
+DatesAside_begins kind p e = Keeps_reading DatesAside next_number (posts p kind) (λ number x past d h. record { first = DatesStand_post (Peer p) (bare kind number past.name) x past d.0 (false-and (is_set_date_request kind) (acting past.seen) e) h.first; second = h.second })
+
+pub DatesAside_begins_to_others : (kind : Kind) → is_set_date_request kind ≡ false → Keeps DatesAside (begins_to_others kind)
+unfolding begins_to_others
+DatesAside_begins_to_others kind e = Keeps_reading DatesAside others_at (for_each (begins kind)) (λ ps. Keeps_each DatesAside (begins kind) ps (λ p. DatesAside_begins kind p e))
+
+-- the dates in a step that hasn't acted, whose numbered posts are repeats
+abbrev pub DatesStill : Past → DatesValue × Unit {0} → Type 0
+DatesStill = Beside DatesStand HasNotActed
+
+and-false : (a b : Bool) → b ≡ false → (a && b) ≡ false
+and-false true b e = e
+and-false false b e = refl
+
+DatesStill_act : (a : Act) → is_in (sort_of a) send_sorts ≡ true → Keeps DatesStill (puts a)
+unfolding puts
+DatesStill_act (Post to (Message m)) e x past d h = record { first = DatesStand_post to m x past d.0 (and-false (is_set_date_request m.kind) (acting past.seen) h.second) h.first; second = h.second }
+DatesStill_act (Post to (Stamp (Request word counter))) e x past d h = absurd (false≢true e)
+DatesStill_act (Post to (Stamp (Reply r))) e x past d h = record { first = record { peers = h.first.peers; last = h.first.last; asked = h.first.asked }; second = h.second }
+DatesStill_act (Gave p) e x past d h = record { first = record { peers = h.first.peers; last = h.first.last; asked = h.first.asked }; second = h.second }
+DatesStill_act (Join p) e x past d h = record { first = record { peers = h.first.peers; last = h.first.last; asked = h.first.asked }; second = h.second }
+DatesStill_act (Leave p) e x past d h = record { first = record { peers = h.first.peers; last = h.first.last; asked = h.first.asked }; second = h.second }
+DatesStill_act (Become Master) e x past d h = absurd (false≢true e)
+DatesStill_act (Become (Follow p)) e x past d h = absurd (false≢true e)
+DatesStill_act (Become _) e x past d h = absurd (false≢true e)
+DatesStill_act (Arm Probe at) e x past d h = absurd (false≢true e)
+DatesStill_act (Arm Close at) e x past d h = absurd (false≢true e)
+DatesStill_act (Arm _ at) e x past d h = absurd (false≢true e)
+DatesStill_act (Ring Probe) e x past d h = absurd (false≢true e)
+DatesStill_act (Ring Close) e x past d h = absurd (false≢true e)
+DatesStill_act (Ring _) e x past d h = absurd (false≢true e)
+DatesStill_act (Late Probe) e x past d h = absurd (false≢true e)
+DatesStill_act (Late Close) e x past d h = absurd (false≢true e)
+DatesStill_act (Late _) e x past d h = absurd (false≢true e)
+DatesStill_act _ e x past d h = absurd (false≢true e)
+
+-- a row of repeats
+pub DatesStill_by : (row : Row) → Emits send_sorts row → Keeps DatesStill row
+DatesStill_by row e = Keeps_by send_sorts DatesStill row DatesStill_act e

@@ -1,0 +1,6 @@
+pub mod AsideLemmas
+pub mod CorrectsLemmas
+pub mod DateLemmas
+pub mod DatesLemmas
+pub mod KeepLemmas
+pub mod TimeLemmas

@@ -1,0 +1,40 @@
+-- What a port's dates stand for, and what stands beside them while a step treats what it took.
+use Rattle.std.specs.Prelude.{◌≡◌, ℕ, Bool, true, false, Option, None, Some}
+use Rattle.tsp_base.specs.declared.kind.Kind.{Kind}
+use Rattle.tsp_base.specs.declared.kind.Kind.TheVariants.{DateAck}
+use Rattle.tsp_base.specs.declared.place.PeerId.{PeerId}
+use Rattle.tsp_base.specs.History.{Past}
+use Rattle.tsp_base.specs.Performs.{Beside}
+use Rattle.tsp_base.specs.PortFacts.{Received}
+use Rattle.tsp_base.specs.SendFacts.{last_asked, last_date, sets_date}
+use Rattle.tsp_acks.specs.declared.station.Station.{Station}
+use Rattle.tsp_clock.specs.Clocks.{ClockValue}
+use Rattle.tsp_slave.specs.Lasts.{LastValue}
+use Rattle.tsp_slave.specs.SlaveStands.{SlaveStands}
+use Rattle.tsp_master.specs.declared.master.Master.{Master}
+use Rattle.tsp_master.specs.MasterStands.{MasterStands}
+use Rattle.tsp_date.specs.Dates.{DatesValue, last_in, peers_of}
+
+-- the dates are what the port's past comes to
+pub record DatesStand (past : Past) (dates : DatesValue) : Type 0 where
+  pub peers : peers_of dates.dated ≡ past.peers
+  pub last : (p : PeerId) → last_in dates.dated p ≡ last_date p past.seen
+  pub asked : dates.asked ≡ last_asked past.seen
+
+-- what stands beside the dates: the master, the station, what is remembered of corrections, the clock, and what the step took
+abbrev pub BesideDates : Past → Master × (Station × (LastValue × (ClockValue × Option Received))) → Type 0
+BesideDates = Beside MasterStands SlaveStands
+
+-- the dates, and what stands beside them
+abbrev pub DateStands : Past → DatesValue × (Master × (Station × (LastValue × (ClockValue × Option Received)))) → Type 0
+DateStands = Beside DatesStand BesideDates
+
+-- whether messages of this kind set a date, pass one on, or say that one was set
+abbrev pub is_of_dates : Kind → Bool
+is_of_dates DateAck = true
+is_of_dates kind = sets_date kind
+
+-- what is remembered once a Correct is noted that no message of a master made, where there was one
+abbrev pub moved_where : Bool → ℕ → LastValue → LastValue
+moved_where true x last = record { tick = Some x; taken = None; name = last.name }
+moved_where false x last = last

@@ -1,0 +1,104 @@
+//! How a follower passes a date on to its master, and learns that it was set.
+ghost use Rattle.std.specs.Prelude.{◌≡◌, ◌≤◌, ℕ, Some};
+ghost use Rattle.std.specs.List.{Contains};
+ghost use Rattle.tsp_base.specs.Frames.{IsTick, PutsAtMost};
+ghost use Rattle.tsp_base.specs.History.{Past};
+ghost use Rattle.tsp_base.specs.Performs.{Performs};
+ghost use Rattle.tsp_base.specs.PortFacts.{Received};
+ghost use Rattle.tsp_rules.specs.Answers.{from_peer};
+ghost use Rattle.tsp_rules.specs.DateRows.{date_acked, may_pass_on, passes_on};
+ghost use Rattle.tsp_acks.specs.Changes.{IsSamePort};
+ghost use Rattle.tsp_acks.specs.Stands.{Stands};
+ghost use Rattle.tsp_clock.specs.Clocks.{ClockValue};
+ghost use Rattle.tsp_master.specs.declared.master.Master.{Master};
+ghost use Rattle.tsp_slave.specs.Lasts.{LastValue};
+ghost use Rattle.tsp_date.specs.Dates.{DatesValue, peers_of};
+ghost use Rattle.tsp_date.specs.DateStands.{DatesStand, DateStands};
+
+use crate::dates::Dates;
+use tsp_acks::station::Station;
+use tsp_base::desk::Desk;
+use tsp_base::kind::Kind;
+use tsp_base::message::Message;
+use tsp_base::micros::Micros;
+use tsp_base::place::{PeerId, Place, Port};
+use tsp_base::role::Role;
+
+/// Acknowledges a client's date, and begins to pass it on to the master that is followed; nothing where the
+/// port passed one on lately, or a send to the master is open. In this step a datagram was taken.
+pub(crate) fn pass_on<D: Desk>(
+    station: &mut Station,
+    dates: &mut Dates,
+    tick: u64,
+    from: Place,
+    master: PeerId,
+    number: u16,
+    time: Micros,
+    port: Port,
+    desk: &mut D,
+)
+    requires tick { IsTick tick }
+    requires room { 2 ≤ D.spare desk.old }
+    requires peer { Contains station.old.peers master }
+    ensures row { (m : Master) (last : LastValue) (clock : ClockValue) (r : Received) → Performs DateStands DateStands (passes_on from master number time) tick port
+        (dates.old, (m, (station.old, (last, (clock, Some r))))) (dates.new, (m, (station.new, (last, (clock, Some r))))) (D.acts desk.old) (D.acts desk.new) }
+    ensures room { PutsAtMost 2 (D.spare desk.old) (D.spare desk.new) (D.acts desk.old) (D.acts desk.new) }
+    ensures port { IsSamePort station.old station.new }
+    ensures role { station.new.role ≡ station.old.role }
+    ensures peers { peers_of dates.new.dated ≡ peers_of dates.old.dated }
+{
+    if may_pass_on(station, dates, master, tick) {
+        station.post_back(from, Kind::Ack, number, port, desk);
+        station.begin_timed(Kind::SetDateReq, master, time, tick, port, desk);
+        dates.ask(tick);
+    }
+}
+
+/// Whether the port began to pass no date on for `REUSE` ticks, and no send to its master is open.
+fn may_pass_on(station: &Station, dates: &Dates, master: PeerId, tick: u64) -> bool
+    ensures { (past : Past) → Stands past station.now → DatesStand past dates.now → may_pass_on master tick past ≡ result }
+{
+    dates.is_rested(tick) && station.sends.kind(master).is_none()
+}
+
+/// Hears that a date was set, once the quiet time is over: only a peer is believed.
+pub(crate) fn hear_end<D: Desk>(
+    station: &mut Station,
+    from: Place,
+    m: &Message,
+    port: Port,
+    desk: &mut D,
+)
+    requires room { 1 ≤ D.spare desk.old }
+    ensures row { (x : ℕ) (dates : DatesValue) (master : Master) (last : LastValue) (clock : ClockValue) (r : Received) → Performs DateStands DateStands (from_peer from (date_acked m.now)) x port
+        (dates, (master, (station.old, (last, (clock, Some r))))) (dates, (master, (station.new, (last, (clock, Some r))))) (D.acts desk.old) (D.acts desk.new) }
+    ensures room { PutsAtMost 1 (D.spare desk.old) (D.spare desk.new) (D.acts desk.old) (D.acts desk.new) }
+    ensures port { IsSamePort station.old station.new }
+    ensures role { station.new.role ≡ station.old.role }
+{
+    match from {
+        Place::Peer(p) => {
+            if station.hears(p) {
+                end(station, p, m, port, desk);
+            }
+        }
+        Place::Stranger => {}
+    }
+}
+
+/// Ends the send that passed a date on to a peer, where this number is its.
+fn end<D: Desk>(station: &mut Station, from: PeerId, m: &Message, port: Port, desk: &mut D)
+    requires room { 1 ≤ D.spare desk.old }
+    ensures row { (x : ℕ) (dates : DatesValue) (master : Master) (last : LastValue) (clock : ClockValue) (r : Received) → Performs DateStands DateStands (date_acked m.now from) x port
+        (dates, (master, (station.old, (last, (clock, Some r))))) (dates, (master, (station.new, (last, (clock, Some r))))) (D.acts desk.old) (D.acts desk.new) }
+    ensures room { PutsAtMost 1 (D.spare desk.old) (D.spare desk.new) (D.acts desk.old) (D.acts desk.new) }
+    ensures port { IsSamePort station.old station.new }
+    ensures role { station.new.role ≡ station.old.role }
+{
+    match station.role {
+        Role::Follow(_) => {
+            let _ = station.dated(from, m.number(), port, desk);
+        }
+        _ => {}
+    }
+}

@@ -1,0 +1,3 @@
+pub mod ConfirmedDate
+pub mod DateAt
+pub mod SetProof
