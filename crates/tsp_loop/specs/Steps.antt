@@ -1,0 +1,21 @@
+-- What a node does with a LOOP, as the rules have it.
+use Rattle.std.specs.Prelude.{ℕ, nat_le, nat_lt, Bool, ◌&&◌, if◌then◌else◌}
+use Rattle.tsp_base.specs.declared.constants.TheConstants.{HOPS}
+use Rattle.tsp_base.specs.declared.place.Port.{Port}
+use Rattle.tsp_base.specs.Messages.{MessageValue}
+use Rattle.tsp_rules.specs.GateRows.{LoopStep, PassOver, GiveUp, Forward, hops_in}
+use Rattle.tsp_loop.specs.declared.step.LoopStep.{LoopStep as Step}
+use Rattle.tsp_loop.specs.declared.step.LoopStep.TheVariants.{PassOver as Passes, GiveUp as Gives, Forward as Forwards}
+
+abbrev pub step_of : Step → LoopStep
+step_of Passes = PassOver
+step_of Gives = GiveUp
+step_of (Forwards m) = Forward m
+
+-- a node gives up where its own LOOP came back on a higher port
+abbrev pub judge_own : ℕ → Port → LoopStep
+judge_own number port = if nat_lt number port.0 then GiveUp else PassOver
+
+-- whether a LOOP may go on
+abbrev pub has_hops : MessageValue → Bool
+has_hops m = nat_le 1 (hops_in m.body) && nat_le (hops_in m.body) HOPS

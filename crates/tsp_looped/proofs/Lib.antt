@@ -1,0 +1,2 @@
+pub mod ChainProof
+pub mod HeardPosts
