@@ -7,16 +7,18 @@ use Rattle.tsp_base.specs.declared.act.Placed.{Placed}
 use Rattle.tsp_base.specs.declared.place.Port.{Port}
 use Rattle.tsp_base.specs.History.{Past}
 use Rattle.tsp_base.specs.Performs.{Performs, Keeps}
+use Rattle.tsp_base.specs.PortFacts.{acting}
+use Rattle.tsp_base.proofs.SendLemmas.{seen_act}
 use Rattle.tsp_base.specs.Rows.{Row, grown, puts}
 use Rattle.tsp_rules.proofs.Emits.{Sort, Taking, Asking, Correcting, Numbering, Posting, Leading, Following, Changing, Backing, Counting, Rounding, Alarming, Tabling, Rivalling, Acking, Giving, Sampling, Closing, Tracing, is_in, sort_of, Emits, Emits_more, Keeps_by}
 use Rattle.tsp_acks.specs.declared.station.Station.{Station}
-use Rattle.tsp_acks.specs.Stands.{StandsActing}
+use Rattle.tsp_acks.specs.Stands.{Stands, StandsActing}
 use Rattle.tsp_acks.proofs.ActingLemmas.{Performs_acting}
 use Rattle.tsp_acks.proofs.StandsLemmas.{Stands_idle, is_idle}
 use Rattle.tsp_clock.specs.Clocks.{ClockValue}
 use Rattle.tsp_clock.specs.ClockStands.{ClockStands}
 use Rattle.tsp_master.specs.declared.master.Master.{Master}
-use Rattle.tsp_master.specs.MasterStands.{MasterStands, LeadStands}
+use Rattle.tsp_master.specs.MasterStands.{MasterStands, LeadStands, RingStands}
 use Rattle.tsp_master.proofs.TableLemmas.{quiet_sorts, MasterStands_quiet}
 
 -- an act that the station doesn't keep
@@ -66,3 +68,22 @@ pub Performs_quiet : {row : Row} {x : ℕ} {port : Port} {before after : Station
     Performs StandsActing StandsActing row x port (before, tt) (after, tt) earlier later → Performs LeadStands LeadStands row x port (master, ((before, tt), clock)) (master, ((after, tt), clock)) earlier later
 Performs_quiet {row = row} {x = x} master clock e d =
     Performs_lead master master clock (Emits_more quiet_sorts refl e) (λ past h. Keeps_by quiet_sorts MasterStands row MasterStands_quiet e x past master h.first) d
+
+-- the act with which an alarm begins: from here on the step has acted
+pub Performs_rung : {Q : Past → Master × ((Station × Unit {0}) × ClockValue) → Type 0} (a : Act) {x : ℕ} {port : Port} {before after : Station} (old new : Master) (clock : ClockValue) {earlier later : List Placed} →
+    is_in (sort_of a) still_sorts ≡ true → ((past : Past) → acting (seen_act past.step x a ∷ past.seen) ≡ true) →
+    ((past : Past) → RingStands past (old, (before, clock)) → MasterStands (grown x past (a ∷ [])) new) →
+    ((past : Past) → RingStands past (old, (before, clock)) → LeadStands (grown x past (a ∷ [])) (new, ((after, tt), clock)) → Q (grown x past (a ∷ [])) (new, ((after, tt), clock))) →
+    Performs Stands Stands (puts a) x port before after earlier later → Performs RingStands Q (puts a) x port (old, (before, clock)) (new, ((after, tt), clock)) earlier later
+unfolding puts
+Performs_rung a {x = x} old new clock e acts k to d = record {
+  acts = λ past h. d.acts past h.second.first;
+  stands = λ past h. to past h (record {
+    first = k past h;
+    second = record { first = record { first = d.stands past h.second.first; second = acts past }; second = ClockStands_still a e x past clock h.second.second };
+  });
+}
+
+-- what stands in a step that has acted stands
+pub rings_stand : (past : Past) (m : Master) (st : Station) (clock : ClockValue) → LeadStands past (m, ((st, tt), clock)) → RingStands past (m, (st, clock))
+rings_stand past m st clock h = record { first = h.first; second = record { first = h.second.first.first; second = h.second.second } }

@@ -13,3 +13,4 @@ pub mod SlavesLemmas
 pub mod StillLemmas
 pub mod TableLemmas
 pub mod TakeLemmas
+pub mod TurnLemmas

@@ -1,3 +1,4 @@
+pub mod Clearing
 pub mod Closing
 pub mod MasterAlarms
 pub mod MasterStands

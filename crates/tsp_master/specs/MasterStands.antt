@@ -11,7 +11,7 @@ use Rattle.tsp_base.specs.PortFacts.{role, armed, in_table}
 use Rattle.tsp_base.specs.RoundFacts.{Sampled, asked, best, exchange, is_going, is_measured, is_starting, probes, request_open, started}
 use Rattle.tsp_base.specs.SendFacts.{is_acknowledged, last_number, last_post}
 use Rattle.tsp_acks.specs.declared.station.Station.{Station}
-use Rattle.tsp_acks.specs.Stands.{StandsActing}
+use Rattle.tsp_acks.specs.Stands.{Stands, StandsActing}
 use Rattle.tsp_clock.specs.Clocks.{ClockValue}
 use Rattle.tsp_clock.specs.ClockStands.{ClockStands}
 use Rattle.tsp_measure.specs.Measures.{best_of}
@@ -56,6 +56,10 @@ pub record MasterStands (past : Past) (master : Master) : Type 0 where
   pub idle : is_going past.seen ≡ false → (p : PeerId) (c : ℕ) → request_open p c past.seen ≡ None
   pub probing : (at : ℕ) → (armed past.seen).probe ≡ Some at → IsProbing at past.seen
   pub empty : role past.seen ≢ MasterRole → (p : PeerId) → (in_table p past.seen ≡ false) × (is_measured p past.seen ≡ false)
+
+-- the master, its station and the clock, whether the step has acted or not
+abbrev pub RingStands : Past → Master × (Station × ClockValue) → Type 0
+RingStands = Beside MasterStands (Beside Stands ClockStands)
 
 -- what stands beside a master: a station in a step that has acted, and the clock
 abbrev pub BesideStands : Past → (Station × Unit {0}) × ClockValue → Type 0

@@ -13,7 +13,7 @@ ghost use Rattle.tsp_acks.specs.Changes.{IsSamePort};
 ghost use Rattle.tsp_clock.specs.Clocks.{target_of};
 ghost use Rattle.tsp_rules.specs.Tests.{is_clock_value, is_over};
 ghost use Rattle.tsp_master.specs.declared.master.Master.{Master};
-ghost use Rattle.tsp_master.specs.MasterStands.{LeadStands};
+ghost use Rattle.tsp_master.specs.MasterStands.{LeadStands, RingStands};
 ghost use Rattle.tsp_master.specs.Closing.{closes_here, round_of, standing_with};
 ghost use Rattle.tsp_master.specs.Slaves.{peers_of, entry_of, Changes, leaves};
 
@@ -46,8 +46,8 @@ impl Master {
         requires order { is_over station.old.alarms.probe tick ≡ false }
         requires room { length (peers_of self.old.slaves) + 3 ≤ D.spare desk.old }
         requires same { peers_of self.old.slaves ≡ station.old.peers }
-        ensures row { Performs LeadStands LeadStands (close_rings own) tick port (self.old, ((station.old, tt), clock.old)) (self.new, ((station.new, tt), clock.new)) (D.acts desk.old) (D.acts desk.new) }
-        ensures corrects { (past : Past) → LeadStands past (self.old, ((station.old, tt), clock.old)) → result ≡ corrects (close_rings own tick past) }
+        ensures row { Performs RingStands LeadStands (close_rings own) tick port (self.old, (station.old, clock.old)) (self.new, ((station.new, tt), clock.new)) (D.acts desk.old) (D.acts desk.new) }
+        ensures corrects { (past : Past) → RingStands past (self.old, (station.old, clock.old)) → result ≡ corrects (close_rings own tick past) }
         ensures room { PutsAtMost (length (peers_of self.old.slaves) + 3) (D.spare desk.old) (D.spare desk.new) (D.acts desk.old) (D.acts desk.new) }
         ensures port { IsSamePort station.old station.new }
         ensures peers { peers_of self.new.slaves ≡ peers_of self.old.slaves }

@@ -17,7 +17,7 @@ ghost use Rattle.tsp_rules.specs.DateRows.{all_settled};
 ghost use Rattle.tsp_acks.specs.Changes.{IsSamePort};
 ghost use Rattle.tsp_acks.specs.Peers.{IsPeers};
 ghost use Rattle.tsp_acks.specs.Stands.{Stands};
-ghost use Rattle.tsp_master.specs.Slaves.{peers_of, Changes, ChangesAll, leaves, posts_at};
+ghost use Rattle.tsp_master.specs.Slaves.{peers_of, entry_of, Changes, ChangesAll, leaves, posts_at};
 
 use crate::rounds::Rounds;
 use crate::slaves::Slaves;
@@ -70,16 +70,21 @@ impl Master {
         self.slaves.repeat(peer, tick);
     }
 
-    /// Takes a peer out of the slaves and of the measured peers, and tells whether it was a slave.
+    /// Takes a slave out of the table and of the measured peers, and tells whether the peer was one; nothing
+    /// changes where it wasn't.
     pub fn leave(&mut self, peer: PeerId) -> bool
-        ensures joined { (past : Past) → MasterStands past self.old → in_table peer past.seen ≡ result }
-        ensures slaves { Changes peer leaves self.old.slaves self.new.slaves }
+        ensures joined { result ≡ (entry_of self.old.slaves peer).joined }
+        ensures slaves { result ≡ true → Changes peer leaves self.old.slaves self.new.slaves }
+        ensures same { result ≡ false → self.new ≡ self.old }
         ensures peers { peers_of self.new.slaves ≡ peers_of self.old.slaves }
         ensures rounds { self.new.rounds ≡ self.old.rounds }
-        ensures stands { (x : ℕ) (past : Past) → MasterStands past self.old → MasterStands (grown x past (Leave peer ∷ [])) self.new }
+        ensures table { (past : Past) → MasterStands past self.old → in_table peer past.seen ≡ result }
+        ensures stands { result ≡ true → (x : ℕ) (past : Past) → MasterStands past self.old → MasterStands (grown x past (Leave peer ∷ [])) self.new }
     {
         let joined = self.slaves.of(peer).joined;
-        self.slaves.leave(peer);
+        if joined {
+            self.slaves.leave(peer);
+        }
         joined
     }
 

@@ -30,14 +30,13 @@ use tsp_base::place::Port;
 use tsp_clock::clock::Clock;
 
 impl Master {
-    ghost use Rattle.tsp_master.specs.MasterStands.{LeadStands, ProbesStands, StartsStands};
+    ghost use Rattle.tsp_master.specs.MasterStands.{LeadStands, ProbesStands, RingStands, StartsStands};
 
     /// Treats one alarm of a round that is due: a Probe asks the measured peers again, a Close closes the
     /// round, and a Round begins one; one that is met too late gives the round up, or puts it off. Any other
     /// alarm does nothing here. Where this port doesn't lead the clock (`group_mean` is false), a close uses
     /// the mean 0 and leaves the clock. A Close comes after its Probe. The answer is whether the clock was
-    /// corrected. In this step an alarm has rung or come late, or a datagram was taken, once this one has. At
-    /// most four acts, and two more for each peer.
+    /// corrected. At most four acts, and two more for each peer.
     pub fn ring<D: Desk>(
         &mut self,
         station: &mut Station,
@@ -54,9 +53,9 @@ impl Master {
         requires order { alarm ≡ CloseAlarm → is_over station.old.alarms.probe tick ≡ false }
         requires room { 2 * length (peers_of self.old.slaves) + 4 ≤ D.spare desk.old }
         requires same { peers_of self.old.slaves ≡ station.old.peers }
-        ensures row { Performs LeadStands LeadStands (master_rings group_mean alarm) tick port (self.old, ((station.old, tt), clock.old)) (self.new, ((station.new, tt), clock.new)) (D.acts desk.old) (D.acts desk.new) }
-        ensures corrects { (past : Past) → LeadStands past (self.old, ((station.old, tt), clock.old)) → result ≡ corrects (master_rings group_mean alarm tick past) }
-        ensures recent { alarm ≡ CloseAlarm → (past : Past) → LeadStands past (self.old, ((station.old, tt), clock.old)) → IsLeftAlone past.seen → (p : PeerId) (s : Sampled) → best p past.seen ≡ Some s → IsSinceCorrect p s past.seen }
+        ensures row { Performs RingStands RingStands (master_rings group_mean alarm) tick port (self.old, (station.old, clock.old)) (self.new, (station.new, clock.new)) (D.acts desk.old) (D.acts desk.new) }
+        ensures corrects { (past : Past) → RingStands past (self.old, (station.old, clock.old)) → result ≡ corrects (master_rings group_mean alarm tick past) }
+        ensures recent { alarm ≡ CloseAlarm → (past : Past) → RingStands past (self.old, (station.old, clock.old)) → IsLeftAlone past.seen → (p : PeerId) (s : Sampled) → best p past.seen ≡ Some s → IsSinceCorrect p s past.seen }
         ensures over { alarm ≡ ProbeAlarm → is_over station.new.alarms.probe tick ≡ false }
         ensures room { PutsAtMost (2 * length (peers_of self.old.slaves) + 4) (D.spare desk.old) (D.spare desk.new) (D.acts desk.old) (D.acts desk.new) }
         ensures port { IsSamePort station.old station.new }
@@ -90,7 +89,7 @@ impl Master {
         requires later { clock.now.at ≤ tick }
         requires room { 2 * length (peers_of self.old.slaves) + 4 ≤ D.spare desk.old }
         requires same { peers_of self.old.slaves ≡ station.old.peers }
-        ensures row { Performs LeadStands LeadStands (round_rings false) tick port (self.old, ((station.old, tt), clock.now)) (self.new, ((station.new, tt), clock.now)) (D.acts desk.old) (D.acts desk.new) }
+        ensures row { Performs RingStands LeadStands (round_rings false) tick port (self.old, (station.old, clock.now)) (self.new, ((station.new, tt), clock.now)) (D.acts desk.old) (D.acts desk.new) }
         ensures room { PutsAtMost (2 * length (peers_of self.old.slaves) + 4) (D.spare desk.old) (D.spare desk.new) (D.acts desk.old) (D.acts desk.new) }
         ensures port { IsSamePort station.old station.new }
         ensures peers { peers_of self.new.slaves ≡ peers_of self.old.slaves }
@@ -162,7 +161,7 @@ impl Master {
         requires due { is_over station.old.alarms.probe tick ≡ true }
         requires room { length (peers_of self.old.slaves) + 2 ≤ D.spare desk.old }
         requires same { peers_of self.old.slaves ≡ station.old.peers }
-        ensures row { Performs LeadStands LeadStands probe_rings tick port (self.old, ((station.old, tt), clock.now)) (self.new, ((station.new, tt), clock.now)) (D.acts desk.old) (D.acts desk.new) }
+        ensures row { Performs RingStands LeadStands probe_rings tick port (self.old, (station.old, clock.now)) (self.new, ((station.new, tt), clock.now)) (D.acts desk.old) (D.acts desk.new) }
         ensures room { PutsAtMost (length (peers_of self.old.slaves) + 2) (D.spare desk.old) (D.spare desk.new) (D.acts desk.old) (D.acts desk.new) }
         ensures port { IsSamePort station.old station.new }
         ensures peers { peers_of self.new.slaves ≡ peers_of self.old.slaves }

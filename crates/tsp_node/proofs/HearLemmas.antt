@@ -1,38 +1,50 @@
 -- What a port does with a message.
-use Rattle.std.specs.Prelude.{◌≡◌, ◌≢◌, ℕ, ◌&&◌, ◌||◌, not, Bool, true, false, List, refl}
+use Rattle.std.specs.Prelude.{◌≡◌, ◌≢◌, ℕ, ◌==◌, ◌&&◌, not, Bool, true, false, if◌then◌else◌, List, [], ◌∷◌, Option, None, Some, refl}
 use Rattle.std.proofs.Common.{◌∙◌, ap, sym}
 use Rattle.std.proofs.lemmas.Bool.{false≢true}
+use Rattle.tsp_base.specs.declared.act.Act.TheVariants.{Acked, Backer}
 use Rattle.tsp_base.specs.declared.act.Placed.{Placed}
 use Rattle.tsp_base.specs.declared.kind.Kind.{Kind}
-use Rattle.tsp_base.specs.declared.kind.Kind.TheVariants.{Ack}
+use Rattle.tsp_base.specs.declared.kind.Kind.TheVariants.{Accept, Ack, AdjTime, Conflict, Date, DateAck, DateReq, Election, Loop, MasterAck, MasterReq, MasterUp, Msite, MsiteReq, Quit, Refuse, Resolve as ResolveKind, SetDate, SetDateReq, SetTime, SlaveUp, Test, TraceOff, TraceOn}
 use Rattle.tsp_base.specs.declared.place.PeerId.{PeerId}
 use Rattle.tsp_base.specs.declared.place.Place.{Place}
 use Rattle.tsp_base.specs.declared.place.Place.TheVariants.{Peer, Stranger}
 use Rattle.tsp_base.specs.declared.place.Port.{Port}
 use Rattle.tsp_base.specs.declared.role.Role.{Role}
+use Rattle.tsp_base.specs.declared.role.Role.TheVariants.{Candidate, Follow, Loose, Master, Starting}
 use Rattle.tsp_base.specs.History.{Past}
 use Rattle.tsp_base.specs.Messages.{MessageValue}
 use Rattle.tsp_base.specs.Peers.{is_among}
 use Rattle.tsp_base.specs.Performs.{Performs}
-use Rattle.tsp_base.specs.PortFacts.{Received}
-use Rattle.tsp_base.specs.Rows.{nothing}
-use Rattle.tsp_base.specs.SendFacts.{is_correction}
+use Rattle.tsp_base.specs.PortFacts.{Received, role}
+use Rattle.tsp_base.specs.Rows.{Row, either_by, grown, nothing, posts, puts, reading, ◌followed_by◌}
+use Rattle.tsp_base.specs.SendFacts.{Sending, corrects_in, is_correction, is_date_request, open_send}
+use Rattle.tsp_base.specs.Stamps.{ReplyValue}
 use Rattle.tsp_base.proofs.PerformsLemmas.{Performs_else_part, Performs_reading, Performs_then_part}
-use Rattle.tsp_rules.specs.Answers.{from_peer, is_left}
-use Rattle.tsp_rules.specs.Tests.{is_follow, is_heard, is_starting_role, role_at}
+use Rattle.tsp_rules.specs.Answers.{from_peer, is_left, peer_says, replies_in, says_in, treats_kind}
+use Rattle.tsp_rules.specs.CommonRows.{names_master, quits, says_master, tests, traces}
+use Rattle.tsp_rules.specs.MasterRows.{master_takes, master_takes_kind}
+use Rattle.tsp_rules.specs.ResolveRows.{finds_rival, resolves}
+use Rattle.tsp_rules.specs.CandidateRows.{accepted_by, candidate_takes, candidate_takes_kind, refused_by, yields}
+use Rattle.tsp_rules.specs.RoundRows.{samples}
+use Rattle.tsp_rules.specs.SendRows.{acknowledges, answers_election, has_election, is_kind_election}
+use Rattle.tsp_rules.specs.SlaveRows.{slave_takes, slave_takes_kind}
+use Rattle.tsp_rules.specs.Tests.{is_follow, is_heard, is_master, is_starting_role, role_at}
+use Rattle.tsp_rules.proofs.Emits.{Emits_more}
 use Rattle.tsp_acks.specs.declared.station.Station.{Station}
 use Rattle.tsp_acks.specs.Stands.{Stands}
 use Rattle.tsp_clock.specs.Clocks.{ClockValue}
+use Rattle.tsp_master.specs.declared.master.Master.{Master as MasterValue}
+use Rattle.tsp_master.specs.MasterStands.{MasterStands}
+use Rattle.tsp_master.specs.MasterTakes.{master_takes_kind_here}
+use Rattle.tsp_master.proofs.TableLemmas.{MasterStands_quiet}
+use Rattle.tsp_master.proofs.TurnLemmas.{MasterStands_idle, MasterStands_unheld}
 use Rattle.tsp_node.specs.declared.part.Part.{Part}
-use Rattle.tsp_node.specs.InForce.{hears_in_force, master_takes_kind_in_force, peer_says_in_force, says_in_force}
-use Rattle.tsp_node.specs.NodeStands.{PartStands, PartTook}
-use Rattle.tsp_node.proofs.NodeLemmas.{Performs_pass}
-
--- a master has a rule for an ACK alone
-pub master_takes-other : (p : PeerId) (m : MessageValue) (k : Kind) → k ≢ Ack → master_takes_kind_in_force p m k ≡ nothing
-unfolding master_takes_kind_in_force
-master_takes-other p m Ack n = absurd (n refl)
-master_takes-other p m _ n = refl
+use Rattle.tsp_node.specs.declared.matter.Matter.TheVariants.{OfClients, OfNode, OfRoles}
+use Rattle.tsp_node.specs.Matters.{matter_of}
+use Rattle.tsp_node.specs.NodeStands.{PartStands, PartTook, TakeStands, TookStands}
+use Rattle.tsp_node.proofs.EmitsRoles.{calm_sorts, emits_candidate, emits_yields}
+use Rattle.tsp_node.proofs.NodeLemmas.{Performs_pass, took_pass}
 
 pub is_stranger : (from : Place) → ((p : PeerId) → from ≡ Peer p → ⊥) → from ≡ Stranger
 is_stranger (Peer p) n = absurd (n p refl)
@@ -53,36 +65,219 @@ is_left-at steer kind x past station s = ap (leaves_by steer kind) (sym s.role)
 is_heard-at : (p : PeerId) (x : ℕ) (past : Past) (station : Station) → Stands past station → is_heard p x past ≡ hears_by station p
 is_heard-at p x past station s = rw (s.peers, s.role) refl
 
-module _ (r : Received) (steer : Bool) (m : MessageValue) (x : ℕ) (port : Port) (part : Part) (clock : ClockValue) (old : List Placed) where
-  -- strangers are passed over
-  pub Performs_stranger : Performs (PartTook r) PartStands (hears_in_force steer Stranger m) x port (part, clock) (part, clock) old old
-  unfolding hears_in_force from_peer
-  Performs_stranger = by_test (leaves_by steer m.kind part.station.role) (λ past h. is_left-at steer m.kind x past part.station h.first) where
-    by_test : (left : Bool) → ((past : Past) → PartTook r past (part, clock) → is_left steer m.kind x past ≡ left) → Performs (PartTook r) PartStands (hears_in_force steer Stranger m) x port (part, clock) (part, clock) old old
-    by_test true t = Performs_then_part (is_left steer m.kind) nothing t (Performs_pass part clock)
-    by_test false t = Performs_else_part (is_left steer m.kind) nothing t (Performs_pass part clock)
+-- a correction that is left is passed over
+pub Performs_left : {r : Received} {x : ℕ} {port : Port} {state : (Part × ClockValue) × Bool} {old : List Placed} (steer : Bool) (k : Kind) (row : Row) → leaves_by steer k state.0.0.station.role ≡ true → Performs (TookStands r) TakeStands (either_by (is_left steer k) nothing row) x port state state old old
+Performs_left {x = x} {state = state} steer k row e = Performs_then_part (is_left steer k) row (λ past h. is_left-at steer k x past state.0.0.station h.first.stands.station ∙ e) took_pass
 
-  -- a correction that is left, and who isn't heard, are passed over
-  pub Performs_unheard : (p : PeerId) → (leaves_by steer m.kind part.station.role || not (hears_by part.station p)) ≡ true →
-      Performs (PartTook r) PartStands (hears_in_force steer (Peer p) m) x port (part, clock) (part, clock) old old
-  unfolding hears_in_force from_peer
-  Performs_unheard p e = by_test (leaves_by steer m.kind part.station.role) (hears_by part.station p) e
-      (λ past h. is_left-at steer m.kind x past part.station h.first) (λ past h. is_heard-at p x past part.station h.first) where
-        by_test : (left heard : Bool) → (left || not heard) ≡ true → ((past : Past) → PartTook r past (part, clock) → is_left steer m.kind x past ≡ left) → ((past : Past) → PartTook r past (part, clock) → is_heard p x past ≡ heard) →
-            Performs (PartTook r) PartStands (hears_in_force steer (Peer p) m) x port (part, clock) (part, clock) old old
-        by_test true heard e t h = Performs_then_part (is_left steer m.kind) _ t (Performs_pass part clock)
-        by_test false false e t h = Performs_else_part (is_left steer m.kind) nothing t (Performs_else_part (is_heard p) (peer_says_in_force m p) h (Performs_pass part clock))
-        by_test false true e t h = absurd (false≢true e)
+-- what isn't left is treated
+pub Performs_kept : {r : Received} {x : ℕ} {port : Port} {before after : (Part × ClockValue) × Bool} {old new : List Placed} (steer : Bool) (k : Kind) {row : Row} → leaves_by steer k before.0.0.station.role ≡ false → Performs (TookStands r) TakeStands row x port before after old new →
+    Performs (TookStands r) TakeStands (either_by (is_left steer k) nothing row) x port before after old new
+Performs_kept {x = x} {before = before} steer k e d = Performs_else_part (is_left steer k) nothing (λ past h. is_left-at steer k x past before.0.0.station h.first.stands.station ∙ e) d
 
-  -- who is heard is treated by the role
-  pub Performs_heard : (p : PeerId) (role : Role) {after : Part × ClockValue} {new : List Placed} → (leaves_by steer m.kind part.station.role || not (hears_by part.station p)) ≡ false → part.station.role ≡ role →
-      Performs (PartTook r) PartStands (says_in_force p m role) x port (part, clock) after old new → Performs (PartTook r) PartStands (hears_in_force steer (Peer p) m) x port (part, clock) after old new
-  unfolding hears_in_force from_peer peer_says_in_force
-  Performs_heard p role {after = after} {new = new} e is d = by_test (leaves_by steer m.kind part.station.role) (hears_by part.station p) e
-      (λ past h. is_left-at steer m.kind x past part.station h.first) (λ past h. is_heard-at p x past part.station h.first) where
-        by_test : (left heard : Bool) → (left || not heard) ≡ false → ((past : Past) → PartTook r past (part, clock) → is_left steer m.kind x past ≡ left) → ((past : Past) → PartTook r past (part, clock) → is_heard p x past ≡ heard) →
-            Performs (PartTook r) PartStands (hears_in_force steer (Peer p) m) x port (part, clock) after old new
-        by_test true heard e t h = absurd (false≢true (sym e))
-        by_test false false e t h = absurd (false≢true (sym e))
-        by_test false true e t h = Performs_else_part (is_left steer m.kind) nothing t
-            (Performs_then_part (is_heard p) nothing h (Performs_reading role_at (says_in_force p m) role (λ past k. sym k.first.role ∙ is) d))
+-- strangers are passed over, and so is who isn't heard
+pub Performs_stranger : {r : Received} {x : ℕ} {port : Port} {both : Part × ClockValue} {old : List Placed} (row : PeerId → Row) → Performs (PartTook r) PartStands (from_peer Stranger row) x port both both old old
+unfolding from_peer
+Performs_stranger row = Performs_pass
+
+pub Performs_unheard : {r : Received} {x : ℕ} {port : Port} {both : Part × ClockValue} {old : List Placed} (p : PeerId) (row : PeerId → Row) → hears_by both.0.station p ≡ false → Performs (PartTook r) PartStands (from_peer (Peer p) row) x port both both old old
+unfolding from_peer
+Performs_unheard {x = x} {both = both} p row e = Performs_else_part (is_heard p) (row p) (λ past h. is_heard-at p x past both.0.station h.stands.station ∙ e) Performs_pass
+
+-- who is heard is treated
+pub Performs_heard_by : {r : Received} {x : ℕ} {port : Port} {before after : Part × ClockValue} {old new : List Placed} (p : PeerId) (row : PeerId → Row) → hears_by before.0.station p ≡ true →
+    Performs (PartTook r) PartStands (row p) x port before after old new → Performs (PartTook r) PartStands (from_peer (Peer p) row) x port before after old new
+unfolding from_peer
+Performs_heard_by {x = x} {before = before} p row e d = Performs_then_part (is_heard p) nothing (λ past h. is_heard-at p x past before.0.station h.stands.station ∙ e) d
+
+-- by the role that the port has
+pub Performs_by_role : {r : Received} {x : ℕ} {port : Port} {before after : Part × ClockValue} {old new : List Placed} (rows : Role → Row) →
+    Performs (PartTook r) PartStands (rows before.0.station.role) x port before after old new → Performs (PartTook r) PartStands (reading role_at rows) x port before after old new
+Performs_by_role {before = before} rows d = Performs_reading role_at rows before.0.station.role (λ past k. sym k.stands.station.role) d
+
+-- an ACK is treated alike by every role that hears
+pub says_ack : (p : PeerId) (m : MessageValue) (r : Role) → m.kind ≡ Ack → is_starting_role r ≡ false → says_in p m r ≡ acknowledges p m.number
+unfolding says_in slave_takes slave_takes_kind candidate_takes candidate_takes_kind master_takes master_takes_kind
+says_ack p m Starting e n = absurd (false≢true (sym n))
+says_ack p m Loose e n = rw e refl
+says_ack p m (Follow q) e n = rw e refl
+says_ack p m Candidate e n = rw e refl
+says_ack p m Master e n = rw e refl
+
+-- a port that is Loose or follows
+pub says_slave : (p : PeerId) (m : MessageValue) (r : Role) → r ≢ Starting → r ≢ Candidate → r ≢ Master → says_in p m r ≡ slave_takes p m
+unfolding says_in
+says_slave p m Starting s c l = absurd (s refl)
+says_slave p m Candidate s c l = absurd (c refl)
+says_slave p m Master s c l = absurd (l refl)
+says_slave p m Loose s c l = refl
+says_slave p m (Follow q) s c l = refl
+
+-- a master's rows that are its own
+pub master_takes-other : (p : PeerId) (m : MessageValue) (k : Kind) → k ≢ Ack → k ≢ Quit → k ≢ MasterUp → k ≢ Conflict → k ≢ MasterAck → master_takes_kind p m k ≡ master_takes_kind_here p m k
+unfolding master_takes_kind master_takes_kind_here
+master_takes-other p m Ack a q u c t = absurd (a refl)
+master_takes-other p m Quit a q u c t = absurd (q refl)
+master_takes-other p m MasterUp a q u c t = absurd (u refl)
+master_takes-other p m Conflict a q u c t = absurd (c refl)
+master_takes-other p m MasterAck a q u c t = absurd (t refl)
+master_takes-other p m MasterReq a q u c t = refl
+master_takes-other p m ResolveKind a q u c t = refl
+master_takes-other p m SlaveUp a q u c t = refl
+master_takes-other p m Election a q u c t = refl
+master_takes-other p m _ a q u c t = refl
+
+-- the role of a peer that is heard
+pub heard_role : (station : Station) (p : PeerId) → hears_by station p ≡ true → is_starting_role station.role ≡ false
+heard_role station p h = by_test (is_among p station.peers) (is_starting_role station.role) refl h where
+  by_test : (a s : Bool) → is_starting_role station.role ≡ s → (a && not s) ≡ true → is_starting_role station.role ≡ false
+  by_test true true e h = absurd (false≢true h)
+  by_test true false e h = e
+  by_test false s e h = absurd (false≢true h)
+
+pub heard_peer : (station : Station) (p : PeerId) → hears_by station p ≡ true → is_among p station.peers ≡ true
+heard_peer station p h = by_test (is_among p station.peers) refl h where
+  by_test : (a : Bool) → is_among p station.peers ≡ a → (a && not (is_starting_role station.role)) ≡ true → is_among p station.peers ≡ true
+  by_test true e h = e
+  by_test false e h = absurd (false≢true h)
+
+-- a candidate's send that is answered doesn't correct
+not-correcting : (number : ℕ) (s : Option Sending) → answers_election number s ≡ true → corrects_in s ≡ false
+not-correcting number None e = absurd (false≢true e)
+not-correcting number (Some s) e = by_kind s.message.kind e where
+  by_kind : (k : Kind) → (is_kind_election k && (s.message.number == number)) ≡ true → is_correction k ≡ false
+  by_kind Election e = refl
+  by_kind AdjTime e = absurd (false≢true e)
+  by_kind SetTime e = absurd (false≢true e)
+  by_kind _ e = absurd (false≢true e)
+
+-- answers to a candidate leave a master alone that doesn't lead
+pub accepted_keeps : (p : PeerId) (number x : ℕ) (past : Past) (m : MasterValue) → MasterStands past m → MasterStands (grown x past (accepted_by p number x past)) m
+unfolding accepted_by either_by puts nothing ◌followed_by◌
+accepted_keeps p number x past m h = by_test (has_election p number x past) refl where
+  by_test : (b : Bool) → has_election p number x past ≡ b → MasterStands (grown x past (if b then Acked p ∷ Backer p ∷ [] else [])) m
+  by_test true e = MasterStands_quiet (Backer p) refl x (grown x past (Acked p ∷ [])) m (MasterStands_unheld p x past m (not-correcting number (open_send p past.seen) e) h)
+  by_test false e = h
+
+pub refused_keeps : (p : PeerId) (number x : ℕ) (past : Past) (m : MasterValue) → role past.seen ≢ Master → MasterStands past m → MasterStands (grown x past (refused_by p number x past)) m
+unfolding refused_by either_by puts nothing ◌followed_by◌
+refused_keeps p number x past m other h = by_test (has_election p number x past) refl where
+  by_test : (b : Bool) → has_election p number x past ≡ b → MasterStands (grown x past (if b then Acked p ∷ yields x (grown x past (Acked p ∷ [])) else [])) m
+  by_test true e =
+      MasterStands_idle yields (Emits_more calm_sorts refl emits_yields) x (grown x past (Acked p ∷ [])) m other (MasterStands_unheld p x past m (not-correcting number (open_send p past.seen) e) h)
+  by_test false e = h
+
+-- what a candidate does leaves a master alone that doesn't lead
+pub candidate_keeps : (p : PeerId) (m : MessageValue) → m.kind ≢ Ack → (x : ℕ) (past : Past) (master : MasterValue) → role past.seen ≢ Master → MasterStands past master → MasterStands (grown x past (candidate_takes p m x past)) master
+unfolding candidate_takes candidate_takes_kind
+candidate_keeps p m n x past master other h = by_kind m.kind n where
+  by_kind : (k : Kind) → k ≢ Ack → MasterStands (grown x past (candidate_takes_kind p m k x past)) master
+  by_kind Accept n = accepted_keeps p m.number x past master h
+  by_kind Refuse n = refused_keeps p m.number x past master other h
+  by_kind k n = MasterStands_idle (candidate_takes_kind p m k) (Emits_more calm_sorts refl (emits_candidate p m k n (λ e. let bad : ⊥ = cc in bad) (λ e. let bad : ⊥ = cc in bad))) x past master other h
+
+-- a stamp reply, by whether the port leads
+pub replies_master : (p : PeerId) (reply : ReplyValue) (role : Role) → is_master role ≡ true → replies_in p reply role ≡ samples p reply
+unfolding replies_in
+replies_master p reply Master e = refl
+replies_master p reply Starting e = absurd (false≢true e)
+replies_master p reply _ e = absurd (false≢true e)
+
+pub replies_none : (p : PeerId) (reply : ReplyValue) (role : Role) → is_master role ≡ false → replies_in p reply role ≡ nothing
+unfolding replies_in
+replies_none p reply Master e = absurd (false≢true (sym e))
+replies_none p reply _ e = refl
+
+-- what a role does, as the one that the port has
+pub Performs_role : {t : Received} {x : ℕ} {port : Port} {before after : Part × ClockValue} {old new : List Placed} (p : PeerId) (m : MessageValue) (is r : Role) → is ≡ r → Performs (PartTook t) PartStands (says_in p m r) x port before after old new →
+    Performs (PartTook t) PartStands (says_in p m is) x port before after old new
+Performs_role p m is r e d = rw e d
+
+-- whose matter a message is, as the rows have it
+pub matter_node : (charge : Bool) (from : Place) (m : MessageValue) (k : Kind) → matter_of k ≡ OfNode → treats_kind charge from m k ≡ nothing
+unfolding treats_kind
+matter_node charge from m Loop e = refl
+matter_node charge from m Msite e = let bad : ⊥ = cc in absurd bad
+matter_node charge from m MsiteReq e = let bad : ⊥ = cc in absurd bad
+matter_node charge from m TraceOn e = let bad : ⊥ = cc in absurd bad
+matter_node charge from m TraceOff e = let bad : ⊥ = cc in absurd bad
+matter_node charge from m Test e = let bad : ⊥ = cc in absurd bad
+matter_node charge from m Date e = let bad : ⊥ = cc in absurd bad
+matter_node charge from m SetDate e = let bad : ⊥ = cc in absurd bad
+matter_node charge from m DateReq e = let bad : ⊥ = cc in absurd bad
+matter_node charge from m SetDateReq e = let bad : ⊥ = cc in absurd bad
+matter_node charge from m DateAck e = let bad : ⊥ = cc in absurd bad
+matter_node charge from m _ e = let bad : ⊥ = cc in absurd bad
+
+pub matter_roles : (charge : Bool) (from : Place) (m : MessageValue) (k : Kind) → matter_of k ≡ OfRoles → treats_kind charge from m k ≡ from_peer from (peer_says m)
+unfolding treats_kind
+matter_roles charge from m Msite e = let bad : ⊥ = cc in absurd bad
+matter_roles charge from m MsiteReq e = let bad : ⊥ = cc in absurd bad
+matter_roles charge from m TraceOn e = let bad : ⊥ = cc in absurd bad
+matter_roles charge from m TraceOff e = let bad : ⊥ = cc in absurd bad
+matter_roles charge from m Test e = let bad : ⊥ = cc in absurd bad
+matter_roles charge from m Date e = let bad : ⊥ = cc in absurd bad
+matter_roles charge from m SetDate e = let bad : ⊥ = cc in absurd bad
+matter_roles charge from m DateReq e = let bad : ⊥ = cc in absurd bad
+matter_roles charge from m SetDateReq e = let bad : ⊥ = cc in absurd bad
+matter_roles charge from m DateAck e = let bad : ⊥ = cc in absurd bad
+matter_roles charge from m Loop e = let bad : ⊥ = cc in absurd bad
+matter_roles charge from m _ e = refl
+
+pub roles_date : (k : Kind) → matter_of k ≡ OfRoles → is_date_request k ≡ false
+roles_date Date e = refl
+roles_date SetDate e = refl
+roles_date DateReq e = let bad : ⊥ = cc in absurd bad
+roles_date SetDateReq e = let bad : ⊥ = cc in absurd bad
+roles_date _ e = refl
+
+-- the clients' last kind
+pub matter_test : (k : Kind) → matter_of k ≡ OfClients → k ≢ Msite → k ≢ MsiteReq → k ≢ TraceOn → k ≢ TraceOff → k ≡ Test
+matter_test Test e a b c d = refl
+matter_test Msite e a b c d = absurd (a refl)
+matter_test MsiteReq e a b c d = absurd (b refl)
+matter_test TraceOn e a b c d = absurd (c refl)
+matter_test TraceOff e a b c d = absurd (d refl)
+matter_test Date e a b c d = let bad : ⊥ = cc in absurd bad
+matter_test SetDate e a b c d = let bad : ⊥ = cc in absurd bad
+matter_test DateReq e a b c d = let bad : ⊥ = cc in absurd bad
+matter_test SetDateReq e a b c d = let bad : ⊥ = cc in absurd bad
+matter_test DateAck e a b c d = let bad : ⊥ = cc in absurd bad
+matter_test Loop e a b c d = let bad : ⊥ = cc in absurd bad
+matter_test _ e a b c d = let bad : ⊥ = cc in absurd bad
+
+-- a master's rows, and the clients', by the kind
+pub master_quit : (p : PeerId) (m : MessageValue) → m.kind ≡ Quit → master_takes p m ≡ quits p m.number
+unfolding master_takes master_takes_kind
+master_quit p m e = rw e refl
+
+pub master_masterup : (p : PeerId) (m : MessageValue) → m.kind ≡ MasterUp → master_takes p m ≡ resolves
+unfolding master_takes master_takes_kind
+master_masterup p m e = rw e refl
+
+pub master_conflict : (p : PeerId) (m : MessageValue) → m.kind ≡ Conflict → master_takes p m ≡ (posts p Ack m.number followed_by resolves)
+unfolding master_takes master_takes_kind
+master_conflict p m e = rw e refl
+
+pub master_masterack : (p : PeerId) (m : MessageValue) → m.kind ≡ MasterAck → master_takes p m ≡ finds_rival p
+unfolding master_takes master_takes_kind
+master_masterack p m e = rw e refl
+
+pub treats_msite : (charge : Bool) (from : Place) (m : MessageValue) → m.kind ≡ Msite → treats_kind charge from m m.kind ≡ names_master from m.number
+unfolding treats_kind
+treats_msite charge from m e = rw e refl
+
+pub treats_msitereq : (charge : Bool) (from : Place) (m : MessageValue) → m.kind ≡ MsiteReq → treats_kind charge from m m.kind ≡ says_master from m.number
+unfolding treats_kind
+treats_msitereq charge from m e = rw e refl
+
+pub treats_traceon : (charge : Bool) (from : Place) (m : MessageValue) → m.kind ≡ TraceOn → treats_kind charge from m m.kind ≡ traces from m.number true
+unfolding treats_kind
+treats_traceon charge from m e = rw e refl
+
+pub treats_traceoff : (charge : Bool) (from : Place) (m : MessageValue) → m.kind ≡ TraceOff → treats_kind charge from m m.kind ≡ traces from m.number false
+unfolding treats_kind
+treats_traceoff charge from m e = rw e refl
+
+pub treats_test : (charge : Bool) (from : Place) (m : MessageValue) → m.kind ≡ Test → treats_kind charge from m m.kind ≡ tests from m.number
+unfolding treats_kind
+treats_test charge from m e = rw e refl

@@ -1,110 +1,249 @@
 -- How a port's calls meet the rows of its node.
-use Rattle.std.specs.Prelude.{◌≡◌, ℕ, List, [], ◌∷◌, ◌++◌, Option, Some, refl}
+use Rattle.std.specs.Prelude.{◌≡◌, ℕ, ◌&&◌, not, Bool, true, false, List, [], ◌∷◌, ◌++◌, Option, None, Some, refl}
+use Rattle.std.proofs.Common.{append-nil, sym, ◌∙◌, ap}
+use Rattle.std.proofs.lemmas.Bool.{false≢true}
 use Rattle.tsp_base.specs.declared.act.Act.{Act}
-use Rattle.tsp_base.specs.declared.act.Act.TheVariants.{Took, Post}
+use Rattle.tsp_base.specs.declared.act.Act.TheVariants.{Abandon, Late, Post, Ring, Took}
 use Rattle.tsp_base.specs.declared.act.Placed.{Placed}
 use Rattle.tsp_base.specs.declared.datagram.Datagram.TheVariants.{Stamp as StampOf}
 use Rattle.tsp_base.specs.declared.datagram.Taken.{Taken}
 use Rattle.tsp_base.specs.declared.place.Place.{Place}
 use Rattle.tsp_base.specs.declared.place.Port.{Port}
-use Rattle.tsp_base.specs.declared.stamp.Stamp.{Stamp}
-use Rattle.tsp_acks.proofs.StandsLemmas.{Stands_idle, Stands_stamp}
-use Rattle.tsp_base.specs.History.{Past}
-use Rattle.tsp_base.specs.Performs.{Performs}
-use Rattle.tsp_base.specs.PortFacts.{Received}
+use Rattle.tsp_base.specs.declared.role.Role.{Role}
+use Rattle.tsp_base.specs.declared.role.Role.TheVariants.{Master as MasterRole}
+use Rattle.tsp_base.specs.declared.stamp.Stamp.TheVariants.{Reply}
+use Rattle.tsp_base.specs.History.{Acts, Begins, Deed, Elsewhere, Here, Past, Seen}
+use Rattle.tsp_base.specs.Performs.{Beside, Performs, Keeps}
+use Rattle.tsp_base.specs.PortFacts.{Received, acting, acting_after, role, said, taken, taken_after}
 use Rattle.tsp_base.specs.Rows.{Row, nothing, puts, grown}
-use Rattle.tsp_base.proofs.PerformsLemmas.{Performs_nothing, Performs_from}
+use Rattle.tsp_base.specs.Stamps.{ReplyValue}
+use Rattle.tsp_base.proofs.PerformsLemmas.{Performs_beside, Performs_from, Performs_nothing}
+use Rattle.tsp_rules.specs.Tests.{is_master}
+use Rattle.tsp_rules.proofs.Emits.{Sort, Booting, Asking, Correcting, Numbering, Posting, Leading, Following, Changing, Backing, Counting, Rounding, Alarming, Tabling, Rivalling, Acking, Giving, Sampling, Closing, Moving, Tracing, Emits, Emits_more, Keeps_by, is_in, sort_of}
 use Rattle.tsp_acks.specs.declared.station.Station.{Station}
-use Rattle.tsp_acks.specs.Stands.{Stands, StandsStill}
+use Rattle.tsp_acks.specs.Stands.{Stands, StandsActing}
+use Rattle.tsp_clients.specs.ClientStands.{NamingStands, TracingStands}
+use Rattle.tsp_clients.proofs.ClientLemmas.{TraceStands_by}
+use Rattle.tsp_acks.proofs.StandsLemmas.{Stands_idle, Stands_stamp}
 use Rattle.tsp_clock.specs.Clocks.{ClockValue}
-use Rattle.tsp_rules.proofs.Emits.{Emits}
+use Rattle.tsp_clock.specs.ClockStands.{ClockStands}
+use Rattle.tsp_slave.specs.Lasts.{LastValue, Remembers}
 use Rattle.tsp_slave.specs.SlaveStands.{SlaveStands}
 use Rattle.tsp_slave.proofs.BesideLemmas.{beside_sorts, ClockStands_by, Remembers_by}
+use Rattle.tsp_master.specs.declared.master.Master.{Master}
+use Rattle.tsp_master.specs.Clearing.{Clears}
+use Rattle.tsp_master.specs.MasterStands.{MasterStands, LeadStands}
+use Rattle.tsp_master.proofs.TableLemmas.{MasterStands_quiet, quiet_sorts}
+use Rattle.tsp_master.proofs.TurnLemmas.{MasterStands_parted}
+use Rattle.tsp_date.specs.Dates.{DatesValue}
+use Rattle.tsp_date.specs.DateStands.{DateStands, DatesStand, moved_where}
+use Rattle.tsp_date.proofs.KeepLemmas.{DatesAside, DatesStand_act, DatesStand_by, passes_date}
+use Rattle.tsp_resolve.specs.declared.resolve.Resolve.{Resolve}
+use Rattle.tsp_resolve.specs.ResolveStands.{ResolveStands, ResolvingStands}
+use Rattle.tsp_resolve.proofs.ResolveLemmas.{ResolveStands_by, unchanging}
 use Rattle.tsp_node.specs.declared.node.Node.{Node}
 use Rattle.tsp_node.specs.declared.part.Part.{Part}
-use Rattle.tsp_node.specs.NodeStands.{PartStands, PartBegun, PartTook, NodeStands, Begun}
+use Rattle.tsp_node.specs.Unmarking.{Unmarks}
+use Rattle.tsp_node.specs.NodeStands.{PortStands, PartStands, PartBegun, PartTook, PartUntaken, NodeStands, NodeUntaken, Begun, TakeStands, TookStands, all_of}
+use Rattle.tsp_node.proofs.EmitsRoles.{role_sorts}
+use Rattle.tsp_node.proofs.TakeEmits.{silent_trace}
+use Rattle.tsp_rules.proofs.EmitsClients.{date_sorts}
+use Rattle.tsp_node.proofs.RivalKeeps.{ResolveStands_parted}
 
--- a call that changes nothing but the station
-pub Performs_station : {row : Row} {x : ℕ} {port : Port} (before after : Part) (clock : ClockValue) {old new : List Placed} → after.last ≡ before.last → Emits beside_sorts row →
-    Performs Stands Stands row x port before.station after.station old new → Performs PartStands PartStands row x port (before, clock) (after, clock) old new
-Performs_station {row = row} {x = x} before after clock e k d = record {
+-- a call that changes nothing but the station, the master and the rivals
+pub Performs_station : {row : Row} {x : ℕ} {port : Port} {before after : Part × ClockValue} {old new : List Placed} → after.0.last ≡ before.0.last → after.1 ≡ before.1 → after.0.dates ≡ before.0.dates → Emits beside_sorts row → Keeps DatesStand row →
+    ((past : Past) → PartStands past before → Stands (grown x past (row x past)) after.0.station → MasterStands (grown x past (row x past)) after.0.master) →
+    ((past : Past) → PartStands past before → Stands (grown x past (row x past)) after.0.station → ResolveStands (grown x past (row x past)) after.0.resolve) →
+    Performs Stands Stands row x port before.0.station after.0.station old new → Performs PartStands PartStands row x port before after old new
+Performs_station {row = row} {x = x} {before = before} e f g k keep master resolve d = record {
   acts = λ past h. d.acts past h.station;
-  stands = λ past h. record {
-    station = d.stands past h.station;
-    last = rw e (Remembers_by row k x past before.last h.last);
-    clock = ClockStands_by row k x past clock h.clock;
-  };
+  stands = λ past h.
+      let s = d.stands past h.station in
+      record {
+        station = s;
+        last = rw e (Remembers_by row k x past before.0.last h.last);
+        master = master past h s;
+        resolve = resolve past h s;
+        dates = rw g (keep x past before.0.dates h.dates);
+        clock = rw f (ClockStands_by row k x past before.1 h.clock);
+      };
 }
 
--- the same at the beginning of a step
-pub Performs_begun : {row : Row} {x : ℕ} {port : Port} (before after : Part) (clock : ClockValue) {old new : List Placed} → after.last ≡ before.last → Emits beside_sorts row →
-    Performs StandsStill StandsStill row x port (before.station, tt) (after.station, tt) old new → Performs PartBegun PartBegun row x port (before, clock) (after, clock) old new
-Performs_begun {row = row} {x = x} before after clock e k d = record {
-  acts = λ past h. d.acts past (record { first = h.stands.station; second = h.still });
-  stands = λ past h. let s = d.stands past (record { first = h.stands.station; second = h.still }) in record {
-    stands = record {
-      station = s.first;
-      last = rw e (Remembers_by row k x past before.last h.stands.last);
-      clock = ClockStands_by row k x past clock h.stands.clock;
-    };
-    still = s.second;
-  };
+-- the slaves are forgotten where a port led and leads no more, and so are the rivals
+pub slaves_part : (row : Row) → Emits role_sorts row → (x : ℕ) (past : Past) (before after : Part × ClockValue) → Clears (is_master before.0.station.role && not (is_master after.0.station.role)) before.0.master after.0.master →
+    PartStands past before → Stands (grown x past (row x past)) after.0.station → MasterStands (grown x past (row x past)) after.0.master
+slaves_part row e x past before after clears h s =
+    MasterStands_parted row (Emits_more role_sorts refl e) x past before.0.master after.0.master before.0.station.role after.0.station.role (sym h.station.role) (sym s.role) clears h.master
+
+pub rivals_part : (row : Row) → Emits role_sorts row → (x : ℕ) (past : Past) (before after : Part × ClockValue) → Unmarks (is_master before.0.station.role && not (is_master after.0.station.role)) before.0.resolve after.0.resolve →
+    PartStands past before → Stands (grown x past (row x past)) after.0.station → ResolveStands (grown x past (row x past)) after.0.resolve
+rivals_part row e x past before after unmarks h s =
+    ResolveStands_parted row e x past before.0.resolve after.0.resolve before.0.station.role after.0.station.role (sym h.station.role) (sym s.role) unmarks h.resolve
+
+-- all sorts but Took
+abbrev pub untaking_sorts : List Sort
+untaking_sorts = Booting ∷ Asking ∷ Correcting ∷ Numbering ∷ Posting ∷ Leading ∷ Following ∷ Changing ∷ Backing ∷ Counting ∷ Rounding ∷ Alarming ∷ Tabling ∷ Rivalling ∷ Acking ∷ Giving ∷ Sampling ∷ Closing ∷ Moving ∷ Tracing ∷ []
+
+abbrev pub IsUntaken : Past → Unit {0} → Type 0
+IsUntaken past state = taken past.seen ≡ None
+
+untaken_act : (a : Act) → is_in (sort_of a) untaking_sorts ≡ true → Keeps IsUntaken (puts a)
+unfolding puts
+untaken_act (Took from t) e x past state h = absurd (false≢true e)
+untaken_act _ e x past state h = h
+
+pub untaken_by : (row : Row) → Emits untaking_sorts row → (x : ℕ) (past : Past) → taken past.seen ≡ None → taken (grown x past (row x past)).seen ≡ None
+untaken_by row e x past h = Keeps_by untaking_sorts IsUntaken row untaken_act e x past tt h
+
+-- a call in a step that has taken nothing yet
+pub Performs_untaken : {row : Row} {x : ℕ} {port : Port} {before after : Part × ClockValue} {old new : List Placed} → Emits untaking_sorts row →
+    Performs PartStands PartStands row x port before after old new → Performs PartUntaken PartUntaken row x port before after old new
+Performs_untaken {row = row} {x = x} e d = record {
+  acts = λ past h. d.acts past h.stands;
+  stands = λ past h. record { stands = d.stands past h.stands; untaken = untaken_by row e x past h.untaken };
 }
 
 -- a call on a port is one on its node
-pub Performs_node : {row : Row} {x : ℕ} {port : Port} (before after : Node) {old new : List Placed} →
+pub node_untaken : {row : Row} {x : ℕ} {port : Port} {before after : Node} {old new : List Placed} → after.tracing ≡ before.tracing → Emits silent_trace row →
+    Performs PartUntaken PartUntaken row x port (before.part, before.clock) (after.part, after.clock) old new → Performs NodeUntaken NodeUntaken row x port before after old new
+node_untaken {row = row} {x = x} {before = before} e k d = record {
+  acts = λ past h. d.acts past h.first;
+  stands = λ past h. record { first = d.stands past h.first; second = rw e (TraceStands_by row (Emits_more silent_trace refl k) x past before.tracing h.second) };
+}
+
+pub node_stands : {row : Row} {x : ℕ} {port : Port} {before after : Node} {old new : List Placed} → after.tracing ≡ before.tracing → Emits silent_trace row →
     Performs PartStands PartStands row x port (before.part, before.clock) (after.part, after.clock) old new → Performs NodeStands NodeStands row x port before after old new
-Performs_node before after d = record { acts = d.acts; stands = d.stands }
+node_stands {row = row} {x = x} {before = before} e k d = record {
+  acts = λ past h. d.acts past h.first;
+  stands = λ past h. record { first = d.stands past h.first; second = rw e (TraceStands_by row (Emits_more silent_trace refl k) x past before.tracing h.second) };
+}
 
-Stands_took : (from : Place) (t : Taken) (x : ℕ) (past : Past) (station : Station) → Stands past station → Stands (grown x past (Took from t ∷ [])) station
-unfolding puts
-Stands_took from t x past station h = Stands_idle (Took from t) refl x past station h
+-- so is the first call of a step on a port
+pub node_begun : {row : Row} {x : ℕ} {port : Port} {before after : Node} {old new : List Placed} → after.tracing ≡ before.tracing → Emits silent_trace row →
+    Performs PartBegun PartBegun row x port (before.part, before.clock) (after.part, after.clock) old new → Performs Begun NodeUntaken row x port before after old new
+node_begun {row = row} {x = x} {before = before} e k d = record {
+  acts = λ past h. d.acts past h.first;
+  stands = λ past h.
+      let s = d.stands past h.first in
+      record { first = record { stands = s.stands; untaken = s.untaken }; second = rw e (TraceStands_by row (Emits_more silent_trace refl k) x past before.tracing h.second) };
+}
 
--- the first call of a step on a port is one on its node
-pub Performs_first : {row : Row} {x : ℕ} {port : Port} (before after : Node) {old new : List Placed} →
-    Performs PartBegun PartBegun row x port (before.part, before.clock) (after.part, after.clock) old new → Performs Begun NodeStands row x port before after old new
-Performs_first before after d = record { acts = d.acts; stands = λ past h. (d.stands past h).stands }
+-- and so is a port's taking
+pub node_takes : {row : Row} {x : ℕ} {port : Port} {before after : Node} {old new : List Placed} → Performs TakeStands TakeStands row x port (all_of before) (all_of after) old new → Performs NodeUntaken NodeStands row x port before after old new
+node_takes d = record { acts = λ past h. d.acts past (record { first = h.first.stands; second = h.second }); stands = λ past h. d.stands past (record { first = h.first.stands; second = h.second }) }
+
+-- a node that has taken nothing stands
+pub node_rests : {x : ℕ} {port : Port} {node : Node} {old : List Placed} → Performs NodeUntaken NodeStands nothing x port node node old old
+unfolding nothing
+node_rests {old = old} = record { acts = λ past h. sym (append-nil old); stands = λ past h. record { first = h.first.stands; second = h.second } }
 
 -- a datagram is taken
-pub PartTook_took : (from : Place) (t : Taken) (x : ℕ) (past : Past) (part : Part) (clock : ClockValue) → PartStands past (part, clock) → PartTook (record { from = from; taken = t }) (grown x past (Took from t ∷ [])) (part, clock)
-PartTook_took from t x past part clock h = record {
-  first = Stands_took from t x past part.station h.station;
-  second = record {
-    first = record { tick_is = h.last.tick_is; taken_is = h.last.taken_is; name_is = h.last.name_is };
-    second = record {
-      first = record { offset_is = h.clock.offset_is; rest_is = h.clock.rest_is; at_is = h.clock.at_is; ticket_is = h.clock.ticket_is };
-      second = refl;
-    };
+pub PartTook_took : (from : Place) (t : Taken) (x : ℕ) (past : Past) (both : Part × ClockValue) → PartStands past both → PartTook (record { from = from; taken = t }) (grown x past (Took from t ∷ [])) both
+unfolding puts
+PartTook_took from t x past both h = record {
+  stands = record {
+    station = Stands_idle (Took from t) refl x past both.0.station h.station;
+    last = record { tick_is = h.last.tick_is; taken_is = h.last.taken_is; name_is = h.last.name_is };
+    master = MasterStands_quiet (Took from t) refl x past both.0.master h.master;
+    resolve = record { many = h.resolve.many; rivals = h.resolve.rivals; empty = h.resolve.empty };
+    dates = DatesStand_act (Took from t) refl x past both.0.dates h.dates;
+    clock = record { offset_is = h.clock.offset_is; rest_is = h.clock.rest_is; at_is = h.clock.at_is; ticket_is = h.clock.ticket_is };
   };
+  took = refl;
 }
 
--- a port that has taken something stands
-pub took_stands : {r : Received} (past : Past) (part : Part) (clock : ClockValue) → PartTook r past (part, clock) → PartStands past (part, clock)
-took_stands past part clock h = record { station = h.first; last = h.second.first; clock = h.second.second.first }
+-- what a port does where something was taken
+pub Performs_took : {r : Received} {row : Row} {x : ℕ} {port : Port} {before after : Part × ClockValue} {old new : List Placed} → Performs PartStands PartStands row x port before after old new → Performs (PartTook r) PartStands row x port before after old new
+Performs_took d = Performs_from {p = PartStands} (λ past h. h.stands) d
+
+-- the dates are left alone by what passes none on
+pub dates_aside : {r : Received} (row : Row) (x : ℕ) (past : Past) (both : Part × ClockValue) → Keeps DatesAside row → passes_date (said (Some r)) ≡ false → PartTook r past both → DatesStand (grown x past (row x past)) both.0.dates
+dates_aside row x past both keep none h = (keep x past (both.0.dates, tt) (record { first = h.stands.dates; second = ap (λ t. passes_date (said t)) h.took ∙ none })).first
 
 -- what changes but a port's station, what it remembers and the clock, by what was taken
-pub Performs_took : {r : Received} {row : Row} {x : ℕ} {port : Port} (before after : Part) (clock last : ClockValue) {old new : List Placed} →
-    ((took : Option Received) → took ≡ Some r → Performs SlaveStands SlaveStands row x port (before.station, (before.last, (clock, took))) (after.station, (after.last, (last, took))) old new) →
-    Performs (PartTook r) PartStands row x port (before, clock) (after, last) old new
-Performs_took {r = r} {row = row} {x = x} before after clock last d = record {
-  acts = λ past h. (d (Some r) refl).acts past h;
-  stands = λ past h. took_stands (grown x past (row x past)) after last ((d (Some r) refl).stands past h);
+pub Performs_heard : {r : Received} {row : Row} {x : ℕ} {port : Port} {before after : Part × ClockValue} {old new : List Placed} → after.0.dates ≡ before.0.dates → Keeps DatesAside row → passes_date (said (Some r)) ≡ false →
+    ((past : Past) → PartStands past before → Stands (grown x past (row x past)) after.0.station → MasterStands (grown x past (row x past)) after.0.master) →
+    ((past : Past) → PartStands past before → Stands (grown x past (row x past)) after.0.station → ResolveStands (grown x past (row x past)) after.0.resolve) →
+    ((took : Option Received) → took ≡ Some r → Performs SlaveStands SlaveStands row x port (before.0.station, (before.0.last, (before.1, took))) (after.0.station, (after.0.last, (after.1, took))) old new) →
+    Performs (PartTook r) PartStands row x port before after old new
+Performs_heard {r = r} {row = row} {x = x} {before = before} same keep none master resolve d = record {
+  acts = λ past h. (d (Some r) refl).acts past (record { first = h.stands.station; second = record { first = h.stands.last; second = record { first = h.stands.clock; second = h.took } } });
+  stands = λ past h.
+      let s = (d (Some r) refl).stands past (record { first = h.stands.station; second = record { first = h.stands.last; second = record { first = h.stands.clock; second = h.took } } }) in
+      record {
+        station = s.first;
+        last = s.second.first;
+        master = master past h.stands s.first;
+        resolve = resolve past h.stands s.first;
+        dates = rw same (dates_aside row x past before keep none h);
+        clock = s.second.second.first;
+      };
 }
 
--- a call on the station alone, where something was taken
-pub Performs_took_station : {r : Received} {row : Row} {x : ℕ} {port : Port} (before after : Part) (clock : ClockValue) {old new : List Placed} → after.last ≡ before.last → Emits beside_sorts row →
-    Performs Stands Stands row x port before.station after.station old new → Performs (PartTook r) PartStands row x port (before, clock) (after, clock) old new
-Performs_took_station before after clock e k d = Performs_from {p = PartStands} (λ past h. took_stands past before clock h) (Performs_station before after clock e k d)
+acted-deed : (deed : Deed) (took : Option Received) (acts : Bool) (r : Received) → (took ≡ Some r → acts ≡ true) → taken_after deed took ≡ Some r → acting_after deed acts ≡ true
+acted-deed Begins took acts r k e = let bad : ⊥ = cc in absurd bad
+acted-deed (Acts (Took from t)) took acts r k e = refl
+acted-deed (Acts (Ring a)) took acts r k e = refl
+acted-deed (Acts (Late a)) took acts r k e = refl
+acted-deed _ took acts r k e = k e
+
+-- a step that has taken something has acted
+acted : (seen : List Seen) (r : Received) → taken seen ≡ Some r → acting seen ≡ true
+acted [] r e = let bad : ⊥ = cc in absurd bad
+acted (Here d ∷ before) r e = acted-deed d.deed (taken before) (acting before) r (λ f. acted before r f) e
+acted (Elsewhere d ∷ before) r e = acted before r e
+
+-- what a master makes of what was taken
+pub Performs_led : {r : Received} {row : Row} {x : ℕ} {port : Port} {before after : Part × ClockValue} {old new : List Placed} → after.0.last ≡ before.0.last → after.0.resolve ≡ before.0.resolve → after.0.dates ≡ before.0.dates →
+    Emits beside_sorts row → Emits unchanging row → Keeps DatesStand row →
+    Performs LeadStands LeadStands row x port (before.0.master, ((before.0.station, tt), before.1)) (after.0.master, ((after.0.station, tt), after.1)) old new → Performs (PartTook r) PartStands row x port before after old new
+Performs_led {r = r} {row = row} {x = x} {before = before} e f g k u keep d = record {
+  acts = λ past h. d.acts past (lead past h);
+  stands = λ past h.
+      let s = d.stands past (lead past h) in
+      record {
+        station = s.second.first.first;
+        last = rw e (Remembers_by row k x past before.0.last h.stands.last);
+        master = s.first;
+        resolve = rw f (ResolveStands_by row u x past before.0.resolve h.stands.resolve);
+        dates = rw g (keep x past before.0.dates h.stands.dates);
+        clock = s.second.second;
+      };
+} where
+  lead : (past : Past) → PartTook r past before → LeadStands past (before.0.master, ((before.0.station, tt), before.1))
+  lead past h = record { first = h.stands.master; second = record { first = record { first = h.stands.station; second = acted past.seen r h.took }; second = h.stands.clock } }
+
+-- what is done about rivals
+pub Performs_resolved : {row : Row} {x : ℕ} {port : Port} {before after : Part × ClockValue} {old new : List Placed} → after.0.last ≡ before.0.last → after.0.master ≡ before.0.master → after.0.dates ≡ before.0.dates → after.1 ≡ before.1 →
+    Emits beside_sorts row → Emits quiet_sorts row → Keeps DatesStand row →
+    Performs ResolvingStands ResolvingStands row x port (before.0.resolve, before.0.station) (after.0.resolve, after.0.station) old new → Performs PartStands PartStands row x port before after old new
+Performs_resolved {row = row} {x = x} {before = before} e m g f k q keep d = record {
+  acts = λ past h. d.acts past (record { first = h.resolve; second = h.station });
+  stands = λ past h.
+      let s = d.stands past (record { first = h.resolve; second = h.station }) in
+      record {
+        station = s.second;
+        last = rw e (Remembers_by row k x past before.0.last h.last);
+        master = rw m (Keeps_by quiet_sorts MasterStands row MasterStands_quiet q x past before.0.master h.master);
+        resolve = s.first;
+        dates = rw g (keep x past before.0.dates h.dates);
+        clock = rw f (ClockStands_by row k x past before.1 h.clock);
+      };
+}
 
 -- nothing is done with what was taken
-pub Performs_pass : {r : Received} {x : ℕ} {port : Port} (part : Part) (clock : ClockValue) {old : List Placed} → Performs (PartTook r) PartStands nothing x port (part, clock) (part, clock) old old
-Performs_pass part clock = Performs_from {p = PartStands} (λ past h. took_stands past part clock h) Performs_nothing
+pub Performs_pass : {r : Received} {x : ℕ} {port : Port} {both : Part × ClockValue} {old : List Placed} → Performs (PartTook r) PartStands nothing x port both both old old
+Performs_pass = Performs_took Performs_nothing
 
--- a stamp is posted
-pub PartStands_stamp : (to : Place) (stamp : Stamp) (x : ℕ) (past : Past) (part : Part) (clock : ClockValue) → PartStands past (part, clock) → PartStands (grown x past (Post to (StampOf stamp) ∷ [])) (part, clock)
-PartStands_stamp to stamp x past part clock h = record {
-  station = Stands_stamp to stamp x past part.station h.station;
+-- the answer to a stamp request is posted
+pub PartStands_stamp : (to : Place) (r : ReplyValue) (x : ℕ) (past : Past) (both : Part × ClockValue) → PartStands past both → PartStands (grown x past (Post to (StampOf (Reply r)) ∷ [])) both
+unfolding puts
+PartStands_stamp to r x past both h = record {
+  station = Stands_stamp to (Reply r) x past both.0.station h.station;
   last = record { tick_is = h.last.tick_is; taken_is = h.last.taken_is; name_is = h.last.name_is };
+  master = MasterStands_quiet (Post to (StampOf (Reply r))) refl x past both.0.master h.master;
+  resolve = record { many = h.resolve.many; rivals = h.resolve.rivals; empty = h.resolve.empty };
+  dates = record { peers = h.dates.peers; last = h.dates.last; asked = h.dates.asked };
   clock = record { offset_is = h.clock.offset_is; rest_is = h.clock.rest_is; at_is = h.clock.at_is; ticket_is = h.clock.ticket_is };
 }
 
@@ -112,4 +251,138 @@ PartStands_stamp to stamp x past part clock h = record {
 pub Performs_put : {S T : Type 0} {p : Past → S → Type 0} {q : Past → T → Type 0} (a : Act) {x : ℕ} {port : Port} {before : S} {after : T} {old new : List Placed} →
     new ≡ old ++ record { port = port; act = a } ∷ [] → ((past : Past) → p past before → q (grown x past (a ∷ [])) after) → Performs p q (puts a) x port before after old new
 unfolding puts
-Performs_put a put stands = record { acts = λ past h. put; stands = stands }
+Performs_put a put stands = record { acts = λ past h. put; stands = λ past h. stands past h }
+
+-- a round is given up
+pub abandoned : (x : ℕ) (past : Past) {last : LastValue} {clock : ClockValue} {resolve : Resolve} {dates : DatesValue} {station : Station} {master : Master} → Remembers past last → ClockStands past clock → ResolveStands past resolve → DatesStand past dates →
+    Stands (grown x past (Abandon ∷ [])) station → MasterStands (grown x past (Abandon ∷ [])) master →
+    PortStands (grown x past (Abandon ∷ [])) (record { station = station; last = last; master = master; resolve = resolve; dates = dates; clock = clock })
+abandoned x past l k r d s m = record {
+  station = s;
+  last = record { tick_is = l.tick_is; taken_is = l.taken_is; name_is = l.name_is };
+  master = m;
+  resolve = record { many = r.many; rivals = r.rivals; empty = r.empty };
+  dates = record { peers = d.peers; last = d.last; asked = d.asked };
+  clock = record { offset_is = k.offset_is; rest_is = k.rest_is; at_is = k.at_is; ticket_is = k.ticket_is };
+}
+
+-- nothing was done
+pub same_part : {x : ℕ} {port : Port} {before after : Part × ClockValue} {old : List Placed} → after.0.last ≡ before.0.last → after.1 ≡ before.1 → after.0.resolve ≡ before.0.resolve → after.0.dates ≡ before.0.dates → after.0.station ≡ before.0.station →
+    after.0.master ≡ before.0.master → Performs PartStands PartStands nothing x port before after old old
+unfolding nothing
+same_part {old = old} l k r d s m = record {
+  acts = λ past h. sym (append-nil old);
+  stands = λ past h. record { station = rw s h.station; last = rw l h.last; master = rw m h.master; resolve = rw r h.resolve; dates = rw d h.dates; clock = rw k h.clock };
+}
+
+-- the role of a port that doesn't lead
+pub no_lead : {past : Past} (both : Part × ClockValue) (r : Role) → (r ≡ MasterRole → ⊥) → both.0.station.role ≡ r → PartStands past both → role past.seen ≡ MasterRole → ⊥
+no_lead both r n e h f = n (sym e ∙ h.station.role ∙ f)
+
+-- an answer ends a send
+pub Performs_acknowledged : {r : Received} {row : Row} {x : ℕ} {port : Port} {before after : Part × ClockValue} {old new : List Placed} → after.0.last ≡ before.0.last → after.0.resolve ≡ before.0.resolve → after.0.dates ≡ before.0.dates → after.1 ≡ before.1 →
+    Emits (Acking ∷ []) row →
+    Performs (Beside MasterStands Stands) (Beside MasterStands Stands) row x port (before.0.master, before.0.station) (after.0.master, after.0.station) old new → Performs (PartTook r) PartStands row x port before after old new
+Performs_acknowledged {row = row} {x = x} {before = before} e u g f k d = record {
+  acts = λ past h. d.acts past (record { first = h.stands.master; second = h.stands.station });
+  stands = λ past h.
+      let s = d.stands past (record { first = h.stands.master; second = h.stands.station }) in
+      record {
+        station = s.second;
+        last = rw e (Remembers_by row (Emits_more (Acking ∷ []) refl k) x past before.0.last h.stands.last);
+        master = s.first;
+        resolve = rw u (ResolveStands_by row (Emits_more (Acking ∷ []) refl k) x past before.0.resolve h.stands.resolve);
+        dates = rw g (DatesStand_by row (Emits_more (Acking ∷ []) refl k) x past before.0.dates h.stands.dates);
+        clock = rw f (ClockStands_by row (Emits_more (Acking ∷ []) refl k) x past before.1 h.stands.clock);
+      };
+}
+
+-- a port answers a client, which changes nothing but the trace
+pub Performs_named_by : {r : Received} {row : Row} {x : ℕ} {port : Port} {before after : Part × ClockValue} {old new : List Placed} → after.0.master ≡ before.0.master → after.0.resolve ≡ before.0.resolve → after.0.dates ≡ before.0.dates → after.1 ≡ before.1 → Emits (Posting ∷ []) row →
+    Performs NamingStands NamingStands row x port (before.0.station, before.0.last) (after.0.station, after.0.last) old new → Performs (PartTook r) PartStands row x port before after old new
+Performs_named_by {row = row} {x = x} {before = before} m u v f k d = record {
+  acts = λ past h. d.acts past (record { first = h.stands.station; second = h.stands.last });
+  stands = λ past h.
+      let s = d.stands past (record { first = h.stands.station; second = h.stands.last }) in
+      record {
+        station = s.first;
+        last = s.second;
+        master = rw m (Keeps_by quiet_sorts MasterStands row MasterStands_quiet (Emits_more (Posting ∷ []) refl k) x past before.0.master h.stands.master);
+        resolve = rw u (ResolveStands_by row (Emits_more (Posting ∷ []) refl k) x past before.0.resolve h.stands.resolve);
+        dates = rw v (DatesStand_by row (Emits_more (Posting ∷ []) refl k) x past before.0.dates h.stands.dates);
+        clock = rw f (ClockStands_by row (Emits_more (Posting ∷ []) refl k) x past before.1 h.stands.clock);
+      };
+}
+
+pub Performs_turned_by : {r : Received} {row : Row} {x : ℕ} {port : Port} {before after : Part × ClockValue} {was is : Bool} {old new : List Placed} → after.0.last ≡ before.0.last → after.0.master ≡ before.0.master → after.0.resolve ≡ before.0.resolve → after.0.dates ≡ before.0.dates →
+    after.1 ≡ before.1 → Emits (Tracing ∷ Posting ∷ []) row →
+    Performs TracingStands TracingStands row x port (before.0.station, was) (after.0.station, is) old new → Performs (TookStands r) TakeStands row x port (before, was) (after, is) old new
+Performs_turned_by {row = row} {x = x} {before = before} l m u v f k d = record {
+  acts = λ past h. d.acts past (record { first = h.first.stands.station; second = h.second });
+  stands = λ past h.
+      let s = d.stands past (record { first = h.first.stands.station; second = h.second }) in
+      record {
+        first = record {
+          station = s.first;
+          last = rw l (Remembers_by row (Emits_more (Tracing ∷ Posting ∷ []) refl k) x past before.0.last h.first.stands.last);
+          master = rw m (Keeps_by quiet_sorts MasterStands row MasterStands_quiet (Emits_more (Tracing ∷ Posting ∷ []) refl k) x past before.0.master h.first.stands.master);
+          resolve = rw u (ResolveStands_by row (Emits_more (Tracing ∷ Posting ∷ []) refl k) x past before.0.resolve h.first.stands.resolve);
+          dates = rw v (DatesStand_by row (Emits_more (Tracing ∷ Posting ∷ []) refl k) x past before.0.dates h.first.stands.dates);
+          clock = rw f (ClockStands_by row (Emits_more (Tracing ∷ Posting ∷ []) refl k) x past before.1 h.first.stands.clock);
+        };
+        second = s.second;
+      };
+}
+
+-- a call of a station in a step that has acted, and what it makes of the master and the rivals
+pub Performs_acting_by : {r : Received} {row : Row} {x : ℕ} {port : Port} {before after : Part × ClockValue} {old new : List Placed} → after.0.last ≡ before.0.last → after.1 ≡ before.1 → after.0.dates ≡ before.0.dates → Emits beside_sorts row → Keeps DatesStand row →
+    ((past : Past) → PartStands past before → Stands (grown x past (row x past)) after.0.station → MasterStands (grown x past (row x past)) after.0.master) →
+    ((past : Past) → PartStands past before → Stands (grown x past (row x past)) after.0.station → ResolveStands (grown x past (row x past)) after.0.resolve) →
+    Performs StandsActing StandsActing row x port (before.0.station, tt) (after.0.station, tt) old new → Performs (PartTook r) PartStands row x port before after old new
+Performs_acting_by {r = r} {row = row} {x = x} {before = before} e f g k keep master resolve d = record {
+  acts = λ past h. d.acts past (record { first = h.stands.station; second = acted past.seen r h.took });
+  stands = λ past h.
+      let s = (d.stands past (record { first = h.stands.station; second = acted past.seen r h.took })).first in
+      record {
+        station = s;
+        last = rw e (Remembers_by row k x past before.0.last h.stands.last);
+        master = master past h.stands s;
+        resolve = resolve past h.stands s;
+        dates = rw g (keep x past before.0.dates h.stands.dates);
+        clock = rw f (ClockStands_by row k x past before.1 h.stands.clock);
+      };
+}
+
+-- a date is set, passed on or answered
+pub Performs_dated : {r : Received} {row : Row} {x : ℕ} {port : Port} {before after : Part × ClockValue} {old new : List Placed} (corrected : Bool) → after.0.last ≡ moved_where corrected x before.0.last → after.0.resolve ≡ before.0.resolve → Emits date_sorts row →
+    ((took : Option Received) → took ≡ Some r →
+    Performs DateStands DateStands row x port (before.0.dates, (before.0.master, (before.0.station, (before.0.last, (before.1, took))))) (after.0.dates, (after.0.master, (after.0.station, (moved_where corrected x before.0.last, (after.1, took))))) old new) →
+    Performs (PartTook r) PartStands row x port before after old new
+Performs_dated {r = r} {row = row} {x = x} {before = before} corrected e f k d = record {
+  acts = λ past h. (d (Some r) refl).acts past (dated past h);
+  stands = λ past h.
+      let s = (d (Some r) refl).stands past (dated past h) in
+      record {
+        station = s.second.second.first;
+        last = rw e s.second.second.second.first;
+        master = s.second.first;
+        resolve = rw f (ResolveStands_by row (Emits_more date_sorts refl k) x past before.0.resolve h.stands.resolve);
+        dates = s.first;
+        clock = s.second.second.second.second.first;
+      };
+} where
+  dated : (past : Past) → PartTook r past before → DateStands past (before.0.dates, (before.0.master, (before.0.station, (before.0.last, (before.1, Some r)))))
+  dated past h = record {
+    first = h.stands.dates;
+    second = record { first = h.stands.master; second = record { first = h.stands.station; second = record { first = h.stands.last; second = record { first = h.stands.clock; second = h.took } } } };
+  }
+
+-- nothing is done with what was taken, and the trace stays
+pub took_pass : {r : Received} {x : ℕ} {port : Port} {state : (Part × ClockValue) × Bool} {old : List Placed} → Performs (TookStands r) TakeStands nothing x port state state old old
+unfolding nothing
+took_pass {old = old} = record { acts = λ past h. sym (append-nil old); stands = λ past h. record { first = h.first.stands; second = h.second } }
+
+-- a call that leaves the trace alone
+pub took_beside : {r : Received} {row : Row} {x : ℕ} {port : Port} {before after : Part × ClockValue} {old new : List Placed} (flag : Bool) → Emits silent_trace row → Performs (PartTook r) PartStands row x port before after old new →
+    Performs (TookStands r) TakeStands row x port (before, flag) (after, flag) old new
+took_beside {row = row} flag k d = Performs_beside flag (TraceStands_by row (Emits_more silent_trace refl k)) d

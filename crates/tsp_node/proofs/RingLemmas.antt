@@ -3,7 +3,7 @@ use Rattle.std.specs.Prelude.{◌≡◌, ◌≢◌, ℕ, ◌&&◌, Bool, true, f
 use Rattle.std.proofs.lemmas.Bool.{false≢true}
 use Rattle.tsp_base.specs.declared.act.Act.TheVariants.{Ring, Late}
 use Rattle.tsp_base.specs.declared.alarm.Alarm.{Alarm}
-use Rattle.tsp_base.specs.declared.alarm.Alarm.TheVariants.{Quiet, Search, Elect, Window}
+use Rattle.tsp_base.specs.declared.alarm.Alarm.TheVariants.{Quiet, Search, Elect}
 use Rattle.tsp_base.specs.declared.act.Placed.{Placed}
 use Rattle.tsp_base.specs.declared.place.Port.{Port}
 use Rattle.tsp_base.specs.History.{Past}
@@ -17,7 +17,7 @@ use Rattle.tsp_rules.specs.Tests.{is_in_time, may_stand_at}
 use Rattle.tsp_acks.specs.declared.station.Station.{Station}
 use Rattle.tsp_acks.specs.Stands.{Stands, StandsActing}
 use Rattle.tsp_slave.specs.SlaveAlarms.{slave_rings, is_to_be_candidate}
-use Rattle.tsp_node.specs.InForce.{is_in_force}
+use Rattle.tsp_node.specs.RoleAlarms.{is_of_slave}
 
 -- of two tests that hold both, the first and the second
 first_true : (a b : Bool) → (a && b) ≡ true → a ≡ true
@@ -29,13 +29,12 @@ second_true true b h = h
 second_true false b h = absurd (false≢true h)
 
 -- an alarm that is a slave's alone
-pub slave_rings-is : (own wait : Bool) (alarm : Alarm) → is_in_force alarm ≡ true → alarm ≢ Elect → alarm ≢ Window → slave_rings alarm ≡ alarm_rings own wait alarm
+pub slave_rings-is : (own wait : Bool) (alarm : Alarm) → is_of_slave alarm ≡ true → alarm ≢ Elect → slave_rings alarm ≡ alarm_rings own wait alarm
 unfolding slave_rings alarm_rings
-slave_rings-is own wait Quiet b e w = refl
-slave_rings-is own wait Search b e w = refl
-slave_rings-is own wait Elect b e w = absurd (e refl)
-slave_rings-is own wait Window b e w = absurd (w refl)
-slave_rings-is own wait _ b e w = absurd (false≢true b)
+slave_rings-is own wait Quiet b e = refl
+slave_rings-is own wait Search b e = refl
+slave_rings-is own wait Elect b e = absurd (e refl)
+slave_rings-is own wait _ b e = absurd (false≢true b)
 
 -- whether a node stands, as its station has it
 pub to_be_candidate-is : (x : ℕ) (past : Past) (station : Station) → Stands past station →

@@ -1,5 +1,6 @@
 pub mod Configs
-pub mod InForce
 pub mod Inputs
+pub mod Matters
 pub mod NodeStands
-pub mod WorkedInForce
+pub mod RoleAlarms
+pub mod Unmarking

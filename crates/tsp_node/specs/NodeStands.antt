@@ -3,42 +3,105 @@ use Rattle.std.specs.Prelude.{◌≡◌, ℕ, ◌+◌, ◌-◌, ◌*◌, ◌^◌
 use Rattle.tsp_base.specs.declared.act.Act.TheVariants.{Correct}
 use Rattle.tsp_base.specs.declared.place.PeerId.{PeerId}
 use Rattle.tsp_base.specs.History.{Acts, Booted, Elsewhere, Past, Step}
-use Rattle.tsp_base.specs.PortFacts.{Received, acting}
+use Rattle.tsp_base.specs.Performs.{Beside}
+use Rattle.tsp_base.specs.PortFacts.{Received, acting, taken}
+use Rattle.tsp_acks.specs.declared.station.Station.{Station}
 use Rattle.tsp_acks.specs.Stands.{Stands}
+use Rattle.tsp_clients.specs.ClientStands.{TraceStands}
 use Rattle.tsp_clock.specs.Clocks.{ClockValue}
 use Rattle.tsp_clock.specs.ClockStands.{ClockStands}
-use Rattle.tsp_slave.specs.Lasts.{Remembers}
-use Rattle.tsp_slave.specs.SlaveStands.{SlaveStands}
+use Rattle.tsp_slave.specs.Lasts.{LastValue, Remembers}
+use Rattle.tsp_master.specs.declared.master.Master.{Master}
+use Rattle.tsp_master.specs.MasterStands.{MasterStands}
+use Rattle.tsp_date.specs.Dates.{DatesValue}
+use Rattle.tsp_date.specs.DateStands.{DatesStand}
+use Rattle.tsp_resolve.specs.declared.resolve.Resolve.{Resolve}
+use Rattle.tsp_resolve.specs.ResolveStands.{ResolveStands}
 use Rattle.tsp_node.specs.declared.node.Node.{Node}
 use Rattle.tsp_node.specs.declared.part.Part.{Part}
 use Rattle.tsp_node.specs.Configs.{ConfigValue, IsOf}
 
+-- all that a node keeps on a port, with its clock
+pub record PortValue : Type 0 where
+  pub station : Station
+  pub last : LastValue
+  pub master : Master
+  pub resolve : Resolve
+  pub dates : DatesValue
+  pub clock : ClockValue
+
+-- it is what the port's past comes to
+pub record PortStands (past : Past) (v : PortValue) : Type 0 where
+  pub station : Stands past v.station
+  pub last : Remembers past v.last
+  pub master : MasterStands past v.master
+  pub resolve : ResolveStands past v.resolve
+  pub dates : DatesStand past v.dates
+  pub clock : ClockStands past v.clock
+
+-- the same in a step that has taken nothing yet
+pub record PortUntaken (past : Past) (v : PortValue) : Type 0 where
+  pub stands : PortStands past v
+  pub untaken : taken past.seen ≡ None
+
+-- the same in a step in which nothing has rung or come late either
+pub record PortBegun (past : Past) (v : PortValue) : Type 0 where
+  pub stands : PortStands past v
+  pub untaken : taken past.seen ≡ None
+  pub still : acting past.seen ≡ false
+
+-- the same in a step that has taken this
+pub record PortTook (r : Received) (past : Past) (v : PortValue) : Type 0 where
+  pub stands : PortStands past v
+  pub took : taken past.seen ≡ Some r
+
+-- a part of a node and its clock, together
+abbrev pub port_in : Part × ClockValue → PortValue
+port_in both = record { station = both.0.station; last = both.0.last; master = both.0.master; resolve = both.0.resolve; dates = both.0.dates; clock = both.1 }
+
 -- what a node is on a port, and its clock, are what the port's past comes to
-pub record PartStands (past : Past) (both : Part × ClockValue) : Type 0 where
-  pub station : Stands past both.0.station
-  pub last : Remembers past both.0.last
-  pub clock : ClockStands past both.1
+abbrev pub PartStands : Past → Part × ClockValue → Type 0
+PartStands past both = PortStands past (port_in both)
+
+-- a port whose step has taken nothing yet
+abbrev pub PartUntaken : Past → Part × ClockValue → Type 0
+PartUntaken past both = PortUntaken past (port_in both)
 
 -- a port whose step has just begun: nothing has rung, come late or been taken
-pub record PartBegun (past : Past) (both : Part × ClockValue) : Type 0 where
-  pub stands : PartStands past both
-  pub still : acting past.seen ≡ false
+abbrev pub PartBegun : Past → Part × ClockValue → Type 0
+PartBegun past both = PortBegun past (port_in both)
 
 -- a port whose step has taken this
 abbrev pub PartTook : Received → Past → Part × ClockValue → Type 0
-PartTook r past both = SlaveStands past (both.0.station, (both.0.last, (both.1, Some r)))
+PartTook r past both = PortTook r past (port_in both)
 
 -- a port's past after a correction on another port of its node, in this step and at this tick
 abbrev pub corrected_elsewhere : Step → ℕ → ℤ → Bool → ℤ → Past → Past
 corrected_elsewhere step x amount stepped shown past = record past { seen = Elsewhere (record { step = step; tick = x; deed = Acts (Correct amount stepped shown) }) ∷ past.seen }
 
+-- a port that takes, and whether its node's trace is on
+abbrev pub TakeStands : Past → (Part × ClockValue) × Bool → Type 0
+TakeStands = Beside PartStands TraceStands
+
+-- the same where this was taken
+abbrev pub TookStands : Received → Past → (Part × ClockValue) × Bool → Type 0
+TookStands r = Beside (PartTook r) TraceStands
+
+-- a node's port with its clock, and whether the trace is on
+abbrev pub all_of : Node → (Part × ClockValue) × Bool
+all_of node = ((node.part, node.clock), node.tracing)
+
 -- what a node stands for between its steps
 abbrev pub NodeStands : Past → Node → Type 0
-NodeStands past node = PartStands past (node.part, node.clock)
+NodeStands past node = Beside PartStands TraceStands past (all_of node)
+
+-- the same in a step that has taken nothing yet
+abbrev pub NodeUntaken : Past → Node → Type 0
+NodeUntaken past node = Beside PartUntaken TraceStands past (all_of node)
 
 -- a node whose step has just begun
 abbrev pub Begun : Past → Node → Type 0
-Begun past node = PartBegun past (node.part, node.clock)
+Begun past node = Beside PartBegun TraceStands past (all_of node)
 
 -- a node that is set up so and boots in this step, with this word and at this wall clock
 pub record Unbooted (config : ConfigValue) (word : ℕ) (wall : ℤ) (past : Past) (node : Unit {0}) : Type 0 where

@@ -1,40 +1,31 @@
-//! What a port does as time goes by: its due sends, and its due alarms.
-ghost use Rattle.std.specs.Prelude.{◌≡◌, ◌+◌, ◌*◌, ◌≤◌, false, length};
+//! What a port does at its alarms.
+ghost use Rattle.std.specs.Prelude.{◌≡◌, Bool, ◌+◌, ◌*◌, ◌≤◌, true, false, length};
+ghost use Rattle.tsp_base.specs.declared.alarm.Alarm.TheVariants.{Probe, Close};
+ghost use Rattle.tsp_base.specs.Alarms.{deadline};
 ghost use Rattle.tsp_base.specs.Frames.{IsTick, PutsAtMost};
+ghost use Rattle.tsp_base.specs.History.{Past};
 ghost use Rattle.tsp_base.specs.Performs.{Performs};
+ghost use Rattle.tsp_rules.specs.Answers.{alarm_rings, rings};
+ghost use Rattle.tsp_rules.specs.RoundRows.{corrects};
+ghost use Rattle.tsp_rules.specs.Tests.{is_over};
 ghost use Rattle.tsp_clock.specs.Clocks.{ClockValue};
-ghost use Rattle.tsp_node.specs.InForce.{due_sends_in_force, is_in_force, rings_in_force};
-ghost use Rattle.tsp_node.specs.NodeStands.{PartStands, PartBegun};
+ghost use Rattle.tsp_master.specs.MasterAlarms.{master_rings};
+ghost use Rattle.tsp_node.specs.RoleAlarms.{is_of_slave};
 
 use crate::part::Part;
-use crate::ringing::ring_due;
+use crate::ringing::{ring_slave, wait_round};
 use tsp_base::alarm::Alarm;
 use tsp_base::desk::Desk;
 use tsp_base::place::Port;
+use tsp_candidate::ring::candidate_ring;
 use tsp_clock::clock::Clock;
 
 impl Part {
-    /// Treats every due send, ascending peers, one act each. It is the first thing that a step does.
-    pub fn sends<D: Desk>(&mut self, tick: u64, port: Port, desk: &mut D)
-        requires tick { IsTick tick }
-        requires room { 2 * length self.old.station.peers + 16 ≤ D.spare desk.old }
-        ensures row { (clock : ClockValue) → Performs PartBegun PartBegun due_sends_in_force tick port (self.old, clock) (self.new, clock) (D.acts desk.old) (D.acts desk.new) }
-        ensures peers { self.new.station.peers ≡ self.old.station.peers }
-        ensures room { PutsAtMost (length self.old.station.peers) (D.spare desk.old) (D.spare desk.new) (D.acts desk.old) (D.acts desk.new) }
-    {
-        let mut after = None;
-        // Each peer has one open send at most, so this many rounds are enough.
-        for _ in 0..self.station.peers().len() {
-            let Some(due) = self.station.treat_next(after, tick, port, desk) else {
-                return;
-            };
-            after = Some(due.peer());
-        }
-    }
+    ghost use Rattle.tsp_node.specs.NodeStands.{PartUntaken};
 
-    /// Treats one alarm where it is due. The rules of a master's alarms aren't in force: they do nothing, and
-    /// `group_mean` and `wait`, which matter to a round alone, change nothing. The answer, whether the clock
-    /// was corrected, is therefore false.
+    /// Treats one alarm where it is due. Where this port doesn't lead its node's clock (`group_mean` is
+    /// false), a close uses the mean 0 and leaves the clock; where `wait` is true, a round that is in time is
+    /// put off for `WAIT` ticks. A Close comes after its Probe. The answer is whether the clock was corrected.
     pub fn ring<D: Desk>(
         &mut self,
         clock: &mut Clock,
@@ -46,26 +37,116 @@ impl Part {
         desk: &mut D,
     ) -> bool
         requires tick { IsTick tick }
+        requires later { clock.old.at ≤ tick }
+        requires order { alarm ≡ Close → is_over self.old.station.alarms.probe tick ≡ false }
         requires room { 2 * length self.old.station.peers + 16 ≤ D.spare desk.old }
-        ensures row { Performs PartStands PartStands (rings_in_force group_mean wait alarm) tick port (self.old, clock.old) (self.new, clock.new) (D.acts desk.old) (D.acts desk.new) }
-        ensures corrects { result ≡ false }
-        ensures clock { clock.new ≡ clock.old }
+        ensures row { Performs PartUntaken PartUntaken (rings group_mean wait alarm) tick port (self.old, clock.old) (self.new, clock.new) (D.acts desk.old) (D.acts desk.new) }
+        ensures corrects { (past : Past) → PartUntaken past (self.old, clock.old) → result ≡ corrects (rings group_mean wait alarm tick past) }
+        ensures over { alarm ≡ Probe → is_over self.new.station.alarms.probe tick ≡ false }
+        ensures clock { clock.new.at ≤ tick }
+        ensures peers { self.new.station.peers ≡ self.old.station.peers }
+        ensures room { PutsAtMost (2 * length self.old.station.peers + 4) (D.spare desk.old) (D.spare desk.new) (D.acts desk.old) (D.acts desk.new) }
+    {
+        if !self.station.is_due(alarm, tick) {
+            return false;
+        }
+        self.ring_due(clock, alarm, group_mean, wait, tick, port, desk)
+    }
+
+    /// Treats an alarm that is due.
+    fn ring_due<D: Desk>(
+        &mut self,
+        clock: &mut Clock,
+        alarm: Alarm,
+        group_mean: bool,
+        wait: bool,
+        tick: u64,
+        port: Port,
+        desk: &mut D,
+    ) -> bool
+        requires tick { IsTick tick }
+        requires later { clock.old.at ≤ tick }
+        requires due { is_over (deadline self.old.station.alarms alarm) tick ≡ true }
+        requires order { alarm ≡ Close → is_over self.old.station.alarms.probe tick ≡ false }
+        requires room { 2 * length self.old.station.peers + 4 ≤ D.spare desk.old }
+        ensures row { Performs PartUntaken PartUntaken (alarm_rings group_mean wait alarm) tick port (self.old, clock.old) (self.new, clock.new) (D.acts desk.old) (D.acts desk.new) }
+        ensures corrects { (past : Past) → PartUntaken past (self.old, clock.old) → result ≡ corrects (alarm_rings group_mean wait alarm tick past) }
+        ensures over { alarm ≡ Probe → is_over self.new.station.alarms.probe tick ≡ false }
+        ensures clock { clock.new.at ≤ tick }
+        ensures peers { self.new.station.peers ≡ self.old.station.peers }
+        ensures room { PutsAtMost (2 * length self.old.station.peers + 4) (D.spare desk.old) (D.spare desk.new) (D.acts desk.old) (D.acts desk.new) }
+    {
+        match alarm {
+            Alarm::Probe => self.ring_round(clock, alarm, group_mean, tick, port, desk),
+            Alarm::Close => self.ring_round(clock, alarm, group_mean, tick, port, desk),
+            Alarm::Round => {
+                if wait {
+                    wait_round(&mut self.station, tick, port, desk);
+                    false
+                } else {
+                    self.ring_round(clock, alarm, group_mean, tick, port, desk)
+                }
+            }
+            Alarm::Window => {
+                candidate_ring(&mut self.station, tick, port, desk);
+                self.master.clear();
+                self.resolve.clear();
+                false
+            }
+            Alarm::Resolve => {
+                self.resolve.ring(&mut self.station, tick, port, desk);
+                false
+            }
+            _ => {
+                self.ring_role(alarm, tick, port, desk);
+                false
+            }
+        }
+    }
+
+    /// Treats an alarm of a round that is due.
+    fn ring_round<D: Desk>(
+        &mut self,
+        clock: &mut Clock,
+        alarm: Alarm,
+        group_mean: bool,
+        tick: u64,
+        port: Port,
+        desk: &mut D,
+    ) -> bool
+        requires tick { IsTick tick }
+        requires later { clock.old.at ≤ tick }
+        requires due { is_over (deadline self.old.station.alarms alarm) tick ≡ true }
+        requires order { alarm ≡ Close → is_over self.old.station.alarms.probe tick ≡ false }
+        requires room { 2 * length self.old.station.peers + 4 ≤ D.spare desk.old }
+        ensures row { Performs PartUntaken PartUntaken (master_rings group_mean alarm) tick port (self.old, clock.old) (self.new, clock.new) (D.acts desk.old) (D.acts desk.new) }
+        ensures corrects { (past : Past) → PartUntaken past (self.old, clock.old) → result ≡ corrects (master_rings group_mean alarm tick past) }
+        ensures over { alarm ≡ Probe → is_over self.new.station.alarms.probe tick ≡ false }
+        ensures clock { clock.new.at ≤ tick }
+        ensures peers { self.new.station.peers ≡ self.old.station.peers }
+        ensures room { PutsAtMost (2 * length self.old.station.peers + 4) (D.spare desk.old) (D.spare desk.new) (D.acts desk.old) (D.acts desk.new) }
+    {
+        let station = &mut self.station;
+        let corrected = self
+            .master
+            .ring(station, clock, alarm, group_mean, tick, port, desk);
+        if corrected {
+            self.last.moved(tick);
+        }
+        corrected
+    }
+
+    /// Treats an alarm that is due of a port that is Starting, Loose or follows.
+    fn ring_role<D: Desk>(&mut self, alarm: Alarm, tick: u64, port: Port, desk: &mut D)
+        requires alarm { is_of_slave alarm ≡ true }
+        requires tick { IsTick tick }
+        requires room { length self.old.station.peers + 4 ≤ D.spare desk.old }
+        ensures row { (own wait : Bool) (clock : ClockValue) → Performs PartUntaken PartUntaken (alarm_rings own wait alarm) tick port (self.old, clock) (self.new, clock) (D.acts desk.old) (D.acts desk.new) }
         ensures peers { self.new.station.peers ≡ self.old.station.peers }
         ensures room { PutsAtMost (length self.old.station.peers + 4) (D.spare desk.old) (D.spare desk.new) (D.acts desk.old) (D.acts desk.new) }
     {
-        if is_in_force(alarm) {
-            ring_due(&mut self.station, alarm, tick, port, desk);
-        }
-        false
+        let led = self.leads();
+        ring_slave(&mut self.station, alarm, tick, port, desk);
+        self.part_from(led);
     }
-}
-
-/// Whether the rules of an alarm are in force.
-fn is_in_force(alarm: Alarm) -> bool
-    ensures { result ≡ is_in_force alarm }
-{
-    matches!(
-        alarm,
-        Alarm::Quiet | Alarm::Search | Alarm::Elect | Alarm::Window
-    )
 }

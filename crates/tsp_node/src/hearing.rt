@@ -1,65 +1,279 @@
-//! What a port does with a message, by who sent it and what the port is.
-ghost use Rattle.std.specs.Prelude.{◌≡◌, ℕ, ◌≤◌, ◌&&◌, not};
+//! What a port does with a message, by what it is, who sent it and what the port is.
+ghost use Rattle.std.specs.Prelude.{◌≡◌, ◌≢◌, ◌+◌, ◌*◌, ◌≤◌, ◌&&◌, not, length};
+ghost use Rattle.std.specs.List.{Contains};
 ghost use Rattle.tsp_base.specs.declared.datagram.Datagram.TheVariants.{Message as MessageOf};
 ghost use Rattle.tsp_base.specs.declared.datagram.Taken.TheVariants.{Good};
+ghost use Rattle.tsp_base.specs.declared.kind.Kind.TheVariants.{Ack};
+ghost use Rattle.tsp_base.specs.declared.place.Place.TheVariants.{Peer};
+ghost use Rattle.tsp_base.specs.declared.role.Role.TheVariants.{Master};
+ghost use Rattle.tsp_base.specs.declared.stamp.Stamp.TheVariants.{Reply};
 ghost use Rattle.tsp_base.specs.Frames.{IsTick, PutsAtMost};
 ghost use Rattle.tsp_base.specs.Performs.{Performs};
+ghost use Rattle.tsp_base.specs.PortFacts.{Received};
+ghost use Rattle.tsp_base.specs.Rows.{either_by, nothing};
+ghost use Rattle.tsp_base.specs.Stamps.{ReplyValue};
 ghost use Rattle.tsp_base.specs.SendFacts.{is_correction};
+ghost use Rattle.tsp_rules.specs.Answers.{from_peer, is_left, peer_replies, peer_says, says_in, treats_kind};
+ghost use Rattle.tsp_rules.specs.CommonRows.{quits};
+ghost use Rattle.tsp_rules.specs.MasterRows.{master_takes};
 ghost use Rattle.tsp_rules.specs.Tests.{is_follow};
-ghost use Rattle.tsp_acks.specs.Changes.{IsSamePort};
-ghost use Rattle.tsp_acks.specs.Stands.{Stands};
-ghost use Rattle.tsp_node.specs.InForce.{hears_in_force, master_takes_in_force};
-ghost use Rattle.tsp_node.specs.NodeStands.{PartStands, PartTook};
+ghost use Rattle.tsp_node.specs.declared.matter.Matter.TheVariants.{OfDates, OfRoles};
+ghost use Rattle.tsp_node.specs.Matters.{matter_of};
+ghost use Rattle.tsp_node.specs.NodeStands.{PartStands, PartTook, TakeStands, TookStands};
 
+use crate::matter::{Matter, matter_of};
 use crate::part::Part;
-use tsp_acks::station::Station;
+use crate::sends::corrects;
 use tsp_base::desk::Desk;
 use tsp_base::kind::Kind;
 use tsp_base::message::Message;
 use tsp_base::place::{PeerId, Place, Port};
 use tsp_base::role::Role;
+use tsp_base::stamp::Stamp;
 use tsp_candidate::take::candidate_take;
 use tsp_clock::clock::Clock;
+use tsp_date::take::date_take;
+use tsp_slave::quit::take_quit;
 use tsp_slave::take::slave_take;
 
 impl Part {
-    /// Hears a message of a peer, once the quiet time is over, and treats it by the port's role. Strangers'
-    /// messages are passed over, and so are a master's corrections where the port doesn't steer.
+    /// Hears a message: some are anybody's, others a peer's to the port's role. A master's corrections are
+    /// passed over where the port doesn't steer.
     pub(crate) fn hear<D: Desk>(
         &mut self,
         clock: &mut Clock,
+        tracing: &mut bool,
         steer: bool,
+        charge: bool,
         tick: u64,
         from: Place,
         m: &Message,
         port: Port,
         desk: &mut D,
     )
-        requires room { 3 ≤ D.spare desk.old }
+        requires room { 2 * length self.old.station.peers + 10 ≤ D.spare desk.old }
         requires tick { IsTick tick }
         requires later { clock.old.at ≤ tick }
-        ensures row { Performs (PartTook (record { from = from; taken = Good (MessageOf m.now) })) PartStands (hears_in_force steer from m.now) tick port (self.old, clock.old) (self.new, clock.new) (D.acts desk.old) (D.acts desk.new) }
+        ensures row { Performs (TookStands (record { from = from; taken = Good (MessageOf m.now) })) TakeStands (either_by (is_left steer m.now.kind) nothing (treats_kind charge from m.now m.now.kind)) tick port ((self.old, clock.old), tracing.old) ((self.new, clock.new), tracing.new) (D.acts desk.old) (D.acts desk.new) }
         ensures peers { self.new.station.peers ≡ self.old.station.peers }
         ensures clock { clock.new.at ≤ tick }
-        ensures room { PutsAtMost 3 (D.spare desk.old) (D.spare desk.new) (D.acts desk.old) (D.acts desk.new) }
+        ensures room { PutsAtMost (2 * length self.old.station.peers + 10) (D.spare desk.old) (D.spare desk.new) (D.acts desk.old) (D.acts desk.new) }
+    {
+        if leaves(self.station.role, steer, m.kind()) {
+            return;
+        }
+        match matter_of(m.kind()) {
+            Matter::OfClients => self.answer(tracing, tick, from, m, port, desk),
+            Matter::OfDates => self.hear_date(clock, charge, tick, from, m, port, desk),
+            Matter::OfNode => {}
+            Matter::OfRoles => self.hear_peer(clock, tick, from, m, port, desk),
+        }
+    }
+
+    /// Hears a message that sets the date, passes one on or says that one was set.
+    fn hear_date<D: Desk>(
+        &mut self,
+        clock: &mut Clock,
+        charge: bool,
+        tick: u64,
+        from: Place,
+        m: &Message,
+        port: Port,
+        desk: &mut D,
+    )
+        requires room { 2 * length self.old.station.peers + 2 ≤ D.spare desk.old }
+        requires tick { IsTick tick }
+        requires later { clock.old.at ≤ tick }
+        requires matter { matter_of m.now.kind ≡ OfDates }
+        ensures row { Performs (PartTook (record { from = from; taken = Good (MessageOf m.now) })) PartStands (treats_kind charge from m.now m.now.kind) tick port (self.old, clock.old) (self.new, clock.new) (D.acts desk.old) (D.acts desk.new) }
+        ensures peers { self.new.station.peers ≡ self.old.station.peers }
+        ensures clock { clock.new.at ≤ tick }
+        ensures room { PutsAtMost (2 * length self.old.station.peers + 2) (D.spare desk.old) (D.spare desk.new) (D.acts desk.old) (D.acts desk.new) }
+    {
+        let corrected = date_take(
+            &mut self.station,
+            &mut self.master,
+            &mut self.dates,
+            clock,
+            self.last.tick(),
+            tick,
+            from,
+            m,
+            charge,
+            port,
+            desk,
+        );
+        if corrected {
+            self.last.moved(tick);
+        }
+    }
+
+    /// Hears a message of a peer, once the quiet time is over: an ACK is treated alike by every role.
+    /// Strangers' messages are passed over.
+    fn hear_peer<D: Desk>(
+        &mut self,
+        clock: &mut Clock,
+        tick: u64,
+        from: Place,
+        m: &Message,
+        port: Port,
+        desk: &mut D,
+    )
+        requires room { 2 * length self.old.station.peers + 5 ≤ D.spare desk.old }
+        requires tick { IsTick tick }
+        requires later { clock.old.at ≤ tick }
+        requires matter { matter_of m.now.kind ≡ OfRoles }
+        ensures row { Performs (PartTook (record { from = from; taken = Good (MessageOf m.now) })) PartStands (from_peer from (peer_says m.now)) tick port (self.old, clock.old) (self.new, clock.new) (D.acts desk.old) (D.acts desk.new) }
+        ensures peers { self.new.station.peers ≡ self.old.station.peers }
+        ensures clock { clock.new.at ≤ tick }
+        ensures room { PutsAtMost (2 * length self.old.station.peers + 5) (D.spare desk.old) (D.spare desk.new) (D.acts desk.old) (D.acts desk.new) }
     {
         let Place::Peer(p) = from else {
             return;
         };
-        let station = &mut self.station;
-        if leaves(station.role, steer, m.kind()) {
+        if !self.station.hears(p) {
             return;
         }
-        if !station.hears(p) {
-            return;
+        match m.kind() {
+            Kind::Ack => {
+                self.master
+                    .acknowledge(&mut self.station, p, m.number(), port, desk)
+            }
+            _ => self.hear_by_role(clock, tick, p, m, port, desk),
         }
-        let last = &mut self.last;
-        match station.role {
+    }
+
+    /// Treats a message of a peer that is no ACK by the port's role.
+    fn hear_by_role<D: Desk>(
+        &mut self,
+        clock: &mut Clock,
+        tick: u64,
+        p: PeerId,
+        m: &Message,
+        port: Port,
+        desk: &mut D,
+    )
+        requires room { 2 * length self.old.station.peers + 5 ≤ D.spare desk.old }
+        requires tick { IsTick tick }
+        requires later { clock.old.at ≤ tick }
+        requires peer { Contains self.old.station.peers p }
+        requires other { m.now.kind ≢ Ack }
+        requires matter { matter_of m.now.kind ≡ OfRoles }
+        ensures row { Performs (PartTook (record { from = Peer p; taken = Good (MessageOf m.now) })) PartStands (says_in p m.now self.old.station.role) tick port (self.old, clock.old) (self.new, clock.new) (D.acts desk.old) (D.acts desk.new) }
+        ensures peers { self.new.station.peers ≡ self.old.station.peers }
+        ensures clock { clock.new.at ≤ tick }
+        ensures room { PutsAtMost (2 * length self.old.station.peers + 5) (D.spare desk.old) (D.spare desk.new) (D.acts desk.old) (D.acts desk.new) }
+    {
+        match self.station.role {
             Role::Starting => {}
-            Role::Loose => slave_take(station, last, clock, tick, p, m, port, desk),
-            Role::Follow(_) => slave_take(station, last, clock, tick, p, m, port, desk),
-            Role::Candidate => candidate_take(station, last, clock, tick, p, m, port, desk),
-            Role::Master => master_take(station, p, m, port, desk),
+            Role::Candidate => {
+                let station = &mut self.station;
+                candidate_take(station, &mut self.last, clock, tick, p, m, port, desk)
+            }
+            Role::Master => self.hear_as_master(clock, tick, p, m, port, desk),
+            _ => {
+                let station = &mut self.station;
+                slave_take(station, &mut self.last, clock, tick, p, m, port, desk)
+            }
+        }
+    }
+
+    /// Treats a message of a peer that is no ACK at a master. Another master is asked who it is, and marked
+    /// where it answers; after a QUIT the port leads no more.
+    fn hear_as_master<D: Desk>(
+        &mut self,
+        clock: &Clock,
+        tick: u64,
+        p: PeerId,
+        m: &Message,
+        port: Port,
+        desk: &mut D,
+    )
+        requires room { 2 * length self.old.station.peers + 5 ≤ D.spare desk.old }
+        requires tick { IsTick tick }
+        requires later { clock.now.at ≤ tick }
+        requires peer { Contains self.old.station.peers p }
+        requires role { self.old.station.role ≡ Master }
+        requires other { m.now.kind ≢ Ack }
+        requires matter { matter_of m.now.kind ≡ OfRoles }
+        ensures row { Performs (PartTook (record { from = Peer p; taken = Good (MessageOf m.now) })) PartStands (master_takes p m.now) tick port (self.old, clock.now) (self.new, clock.now) (D.acts desk.old) (D.acts desk.new) }
+        ensures peers { self.new.station.peers ≡ self.old.station.peers }
+        ensures room { PutsAtMost (2 * length self.old.station.peers + 5) (D.spare desk.old) (D.spare desk.new) (D.acts desk.old) (D.acts desk.new) }
+    {
+        match m.kind() {
+            Kind::Quit => self.take_quit(clock, tick, p, m, port, desk),
+            Kind::MasterUp => self.resolve.start(&mut self.station, tick, port, desk),
+            Kind::Conflict => {
+                self.station.post(p, Kind::Ack, m.number(), port, desk);
+                self.resolve.start(&mut self.station, tick, port, desk)
+            }
+            Kind::MasterAck => self.resolve.rival(&self.station, p, port, desk),
+            _ => {
+                let station = &mut self.station;
+                self.master.take(station, clock, tick, p, m, port, desk)
+            }
+        }
+    }
+
+    /// Takes a QUIT of a peer at a master, which follows it.
+    fn take_quit<D: Desk>(
+        &mut self,
+        clock: &Clock,
+        tick: u64,
+        p: PeerId,
+        m: &Message,
+        port: Port,
+        desk: &mut D,
+    )
+        requires room { 5 ≤ D.spare desk.old }
+        requires tick { IsTick tick }
+        requires peer { Contains self.old.station.peers p }
+        requires role { self.old.station.role ≡ Master }
+        requires matter { matter_of m.now.kind ≡ OfRoles }
+        ensures row { Performs (PartTook (record { from = Peer p; taken = Good (MessageOf m.now) })) PartStands (quits p m.now.number) tick port (self.old, clock.now) (self.new, clock.now) (D.acts desk.old) (D.acts desk.new) }
+        ensures peers { self.new.station.peers ≡ self.old.station.peers }
+        ensures room { PutsAtMost 5 (D.spare desk.old) (D.spare desk.new) (D.acts desk.old) (D.acts desk.new) }
+    {
+        take_quit(
+            &mut self.station,
+            &mut self.last,
+            clock,
+            tick,
+            p,
+            m.number(),
+            m.name(),
+            port,
+            desk,
+        );
+        self.part_from(true);
+    }
+
+    /// Hears a stamp of a peer, once the quiet time is over: a reply tells a master of the peer's clock.
+    pub(crate) fn hear_stamp<D: Desk>(
+        &mut self,
+        clock: &Clock,
+        tick: u64,
+        from: Place,
+        stamp: &Stamp,
+        port: Port,
+        desk: &mut D,
+    )
+        requires room { 1 ≤ D.spare desk.old }
+        requires tick { IsTick tick }
+        requires later { clock.now.at ≤ tick }
+        ensures row { (took : Received) (r : ReplyValue) → stamp.now ≡ Reply r → Performs (PartTook took) PartStands (from_peer from (peer_replies r)) tick port (self.old, clock.now) (self.new, clock.now) (D.acts desk.old) (D.acts desk.new) }
+        ensures peers { self.new.station.peers ≡ self.old.station.peers }
+        ensures room { PutsAtMost 1 (D.spare desk.old) (D.spare desk.new) (D.acts desk.old) (D.acts desk.new) }
+    {
+        let Place::Peer(p) = from else {
+            return;
+        };
+        if !self.station.hears(p) {
+            return;
+        }
+        if self.leads() {
+            self.master
+                .reply(&self.station, clock, tick, p, stamp, port, desk);
         }
     }
 }
@@ -69,20 +283,5 @@ impl Part {
 fn leaves(role: Role, steer: bool, kind: Kind) -> bool
     ensures { result ≡ (not steer && (is_correction kind && is_follow role)) }
 {
-    !steer && matches!(kind, Kind::AdjTime | Kind::SetTime) && matches!(role, Role::Follow(_))
-}
-
-/// Treats a message of a peer at a master: only an ACK of one of its sends has a rule yet.
-fn master_take<D: Desk>(station: &mut Station, p: PeerId, m: &Message, port: Port, desk: &mut D)
-    requires room { 1 ≤ D.spare desk.old }
-    ensures row { (x : ℕ) → Performs Stands Stands (master_takes_in_force p m.now) x port station.old station.new (D.acts desk.old) (D.acts desk.new) }
-    ensures room { PutsAtMost 1 (D.spare desk.old) (D.spare desk.new) (D.acts desk.old) (D.acts desk.new) }
-    ensures port { IsSamePort station.old station.new }
-{
-    match m.kind() {
-        Kind::Ack => {
-            let _ = station.acknowledge(p, m.number(), port, desk);
-        }
-        _ => {}
-    }
+    !steer && corrects(kind) && matches!(role, Role::Follow(_))
 }

@@ -2,17 +2,19 @@
 #![tactic(auto)]
 
 mod alarms;
+mod answering;
 mod config;
 mod fault;
 mod hearing;
+mod matter;
 mod node;
 mod part;
 mod readings;
 mod reply;
 mod ringing;
+mod sends;
 mod stepping;
 mod taking;
-pub mod worked;
 
 pub use config::Config;
 pub use fault::BootFault;

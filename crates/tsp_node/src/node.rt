@@ -18,10 +18,11 @@ use tsp_base::desk::Desk;
 use tsp_base::place::Port;
 use tsp_clock::clock::Clock;
 
-/// A node that is up: its clock, and what it is on its port.
+/// A node that is up: its clock, whether its trace is on, and what it is on its port.
 #[derive(Drop)]
 pub struct Node {
     pub(crate) clock: Clock,
+    pub(crate) tracing: bool,
     pub(crate) part: Part,
 }
 
@@ -79,6 +80,10 @@ impl Node {
         let Ok(part) = Part::new(alloc, config.me(word), config.peers(), tick) else {
             return Err(BootFault::OutOfMemory);
         };
-        Ok(Node { clock, part })
+        Ok(Node {
+            clock,
+            tracing: false,
+            part,
+        })
     }
 }

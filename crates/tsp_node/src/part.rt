@@ -1,5 +1,5 @@
 //! What a node is on a port.
-ghost use Rattle.std.specs.Prelude.{◌≡◌, ◌≤◌, ℤ, Bool, Some, None, [], ◌∷◌, IfOk};
+ghost use Rattle.std.specs.Prelude.{◌≡◌, ◌≤◌, ◌&&◌, not, length, ℕ, ℤ, Bool, true, Some, None, [], ◌∷◌, IfOk};
 ghost use Rattle.tsp_base.specs.declared.act.Act.TheVariants.{Boot, Become};
 ghost use Rattle.tsp_base.specs.declared.alarm.Alarm.TheVariants.{Quiet};
 ghost use Rattle.tsp_base.specs.declared.constants.TheConstants.{QUIET};
@@ -8,30 +8,47 @@ ghost use Rattle.tsp_base.specs.Frames.{IsTick, PutsAtMost};
 ghost use Rattle.tsp_base.specs.History.{Past, Booted, Step};
 ghost use Rattle.tsp_base.specs.Performs.{Performs};
 ghost use Rattle.tsp_base.specs.Rows.{grown, puts, arms, ◌followed_by◌};
+ghost use Rattle.tsp_rules.specs.RoundRows.{abandons_going};
+ghost use Rattle.tsp_rules.specs.Tests.{is_master};
 ghost use Rattle.tsp_acks.specs.Peers.{IsPeers};
 ghost use Rattle.tsp_acks.specs.Stands.{IsPortOf};
 ghost use Rattle.tsp_clock.specs.Clocks.{ClockValue};
 ghost use Rattle.tsp_clock.specs.ClockStands.{ClockStands};
+ghost use Rattle.tsp_master.specs.Slaves.{peers_of};
+ghost use Rattle.tsp_date.specs.Dates.{peers_of as dated_of};
 
 use std::alloc::{AllocError, Global};
 use tsp_acks::me::Me;
 use tsp_acks::station::Station;
+use tsp_base::act::Act;
 use tsp_base::alarm::Alarm;
 use tsp_base::constants::QUIET;
 use tsp_base::desk::Desk;
 use tsp_base::place::{PeerId, Port};
 use tsp_base::role::Role;
+use tsp_date::dates::Dates;
+use tsp_master::master::Master;
+use tsp_resolve::resolve::Resolve;
 use tsp_slave::last::Last;
 
-/// What a node is on a port: what all its roles share, and what it remembers of corrections.
+/// What a node is on a port: what all its roles share, what it remembers of corrections and of dates, and
+/// what it keeps that leads: its slaves and its rivals.
 #[derive(Drop)]
 pub struct Part {
     pub(crate) station: Station,
     pub(crate) last: Last,
+    pub(crate) master: Master,
+    pub(crate) resolve: Resolve,
+    pub(crate) dates: Dates,
+    ghost same: { peers_of master.slaves ≡ station.peers },
+    ghost marks: { length resolve.marks ≡ length station.peers },
+    ghost dated: { dated_of dates.dated ≡ station.peers },
 }
 
 impl Part {
+    ghost use Rattle.tsp_master.specs.Clearing.{Clears};
     ghost use Rattle.tsp_node.specs.NodeStands.{PartStands, corrected_elsewhere};
+    ghost use Rattle.tsp_node.specs.Unmarking.{Unmarks};
 
     /// A port of a node that boots at this tick. Fails only where memory is
     /// refused.
@@ -42,9 +59,15 @@ impl Part {
             ClockStands (grown tick past (Boot ∷ [])) clock → PartStands (grown tick past (Boot ∷ [])) (part, clock)) }
     {
         let station = Station::new(alloc, me, peers, tick)?;
+        let master = Master::new(alloc, peers)?;
+        let resolve = Resolve::new(alloc, peers)?;
+        let dates = Dates::new(alloc, peers)?;
         Ok(Part {
             station,
             last: Last::new(),
+            master,
+            resolve,
+            dates,
         })
     }
 
@@ -58,6 +81,8 @@ impl Part {
     {
         self.station.become_role(Role::Starting, port, desk);
         self.station.arm(Alarm::Quiet, tick, QUIET, port, desk);
+        self.master.clear();
+        self.resolve.clear();
     }
 
     /// Notes a correction that another port of its node made.
@@ -66,8 +91,44 @@ impl Part {
             ClockStands (corrected_elsewhere step tick amount stepped shown past) after → PartStands (corrected_elsewhere step tick amount stepped shown past) (self.new, after) }
         ensures station { self.new.station ≡ self.old.station }
         ensures last { self.new.last ≡ record { tick = Some tick; taken = None; name = self.old.last.name } }
+        ensures master { self.new.master ≡ self.old.master }
+        ensures resolve { self.new.resolve ≡ self.old.resolve }
+        ensures dates { self.new.dates ≡ self.old.dates }
     {
         self.last.moved(tick);
+    }
+
+    /// Gives up the round that goes on, if there is one. At most one act.
+    pub fn abandon<D: Desk>(&mut self, port: Port, desk: &mut D)
+        requires room { 1 ≤ D.spare desk.old }
+        ensures row { (x : ℕ) (clock : ClockValue) → Performs PartStands PartStands abandons_going x port (self.old, clock) (self.new, clock) (D.acts desk.old) (D.acts desk.new) }
+        ensures peers { self.new.station.peers ≡ self.old.station.peers }
+        ensures room { PutsAtMost 1 (D.spare desk.old) (D.spare desk.new) (D.acts desk.old) (D.acts desk.new) }
+    {
+        if self.master.abandon(&mut self.station) {
+            desk.put(port, Act::Abandon);
+        }
+    }
+
+    /// Whether it leads.
+    pub(crate) fn leads(&self) -> bool
+        ensures { result ≡ is_master self.now.station.role }
+    {
+        matches!(self.station.role, Role::Master)
+    }
+
+    /// Forgets its slaves and rivals where it led before and leads no more.
+    pub(crate) fn part_from(&mut self, led: bool)
+        ensures slaves { Clears (led && not (is_master self.old.station.role)) self.old.master self.new.master }
+        ensures rivals { Unmarks (led && not (is_master self.old.station.role)) self.old.resolve self.new.resolve }
+        ensures station { self.new.station ≡ self.old.station }
+        ensures last { self.new.last ≡ self.old.last }
+        ensures dates { self.new.dates ≡ self.old.dates }
+    {
+        if led && !self.leads() {
+            self.master.clear();
+            self.resolve.clear();
+        }
     }
 
     /// What all its roles share.

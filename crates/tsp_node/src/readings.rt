@@ -3,7 +3,7 @@ ghost use Rattle.std.specs.Prelude.{◌≡◌, ℕ, ◌≤◌, Option};
 ghost use Rattle.tsp_base.specs.Alarms.{earlier, least_deadline};
 ghost use Rattle.tsp_base.specs.Frames.{IsTick};
 ghost use Rattle.tsp_base.specs.History.{Past, plain};
-ghost use Rattle.tsp_base.specs.NodeFacts.{shown};
+ghost use Rattle.tsp_base.specs.NodeFacts.{shown, tracing};
 ghost use Rattle.tsp_base.specs.PortFacts.{role, armed};
 ghost use Rattle.tsp_base.specs.SendFacts.{open_send};
 ghost use Rattle.tsp_clock.specs.Clocks.{shown_of};
@@ -36,6 +36,14 @@ impl Node {
         ensures past { (past : Past) → NodeStands past self.now → result ≡ role past.seen }
     {
         self.part.station().role
+    }
+
+    /// Whether its trace is on.
+    pub fn tracing(&self) -> bool
+        ensures value { result ≡ self.now.tracing }
+        ensures past { (past : Past) → NodeStands past self.now → result ≡ tracing (plain past.seen) }
+    {
+        self.tracing
     }
 
     /// What its clock shows at a tick, in microseconds.

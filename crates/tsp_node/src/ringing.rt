@@ -1,44 +1,31 @@
-//! How a port's alarms ring, each by the rules of its role.
-ghost use Rattle.std.specs.Prelude.{◌≡◌, ◌+◌, ◌≤◌, Bool, true, length};
+//! How the alarms of a port's station ring.
+ghost use Rattle.std.specs.Prelude.{◌≡◌, Bool, ◌+◌, ◌≤◌, true, length};
 ghost use Rattle.tsp_base.specs.Frames.{IsTick, PutsAtMost};
 ghost use Rattle.tsp_base.specs.Performs.{Performs};
-ghost use Rattle.tsp_rules.specs.Answers.{rings, alarm_rings};
+ghost use Rattle.tsp_rules.specs.Answers.{alarm_rings};
+ghost use Rattle.tsp_rules.specs.RoundRows.{round_rings};
 ghost use Rattle.tsp_rules.specs.SlaveRows.{elect_rings};
 ghost use Rattle.tsp_acks.specs.Changes.{IsSamePort};
 ghost use Rattle.tsp_acks.specs.Stands.{Stands};
-ghost use Rattle.tsp_node.specs.InForce.{is_in_force};
+ghost use Rattle.tsp_node.specs.RoleAlarms.{is_of_slave};
 
 use tsp_acks::station::Station;
 use tsp_base::alarm::Alarm;
+use tsp_base::constants::{ROUND, WAIT};
 use tsp_base::desk::Desk;
 use tsp_base::place::Port;
-use tsp_candidate::ring::candidate_ring;
 use tsp_candidate::stand::stand;
 use tsp_slave::ring::{becomes_candidate, slave_ring};
 
-/// Treats an alarm where it is due.
-pub(crate) fn ring_due<D: Desk>(
+/// Treats an alarm that is due of a port that is Starting, Loose or follows.
+pub(crate) fn ring_slave<D: Desk>(
     station: &mut Station,
     alarm: Alarm,
     tick: u64,
     port: Port,
     desk: &mut D,
 )
-    requires in_force { is_in_force alarm ≡ true }
-    requires tick { IsTick tick }
-    requires room { length station.old.peers + 4 ≤ D.spare desk.old }
-    ensures row { (own wait : Bool) → Performs Stands Stands (rings own wait alarm) tick port station.old station.new (D.acts desk.old) (D.acts desk.new) }
-    ensures room { PutsAtMost (length station.old.peers + 4) (D.spare desk.old) (D.spare desk.new) (D.acts desk.old) (D.acts desk.new) }
-    ensures port { IsSamePort station.old station.new }
-{
-    if station.is_due(alarm, tick) {
-        ring_alarm(station, alarm, tick, port, desk);
-    }
-}
-
-/// Treats an alarm that is due.
-fn ring_alarm<D: Desk>(station: &mut Station, alarm: Alarm, tick: u64, port: Port, desk: &mut D)
-    requires in_force { is_in_force alarm ≡ true }
+    requires alarm { is_of_slave alarm ≡ true }
     requires tick { IsTick tick }
     requires room { length station.old.peers + 4 ≤ D.spare desk.old }
     ensures row { (own wait : Bool) → Performs Stands Stands (alarm_rings own wait alarm) tick port station.old station.new (D.acts desk.old) (D.acts desk.new) }
@@ -47,7 +34,6 @@ fn ring_alarm<D: Desk>(station: &mut Station, alarm: Alarm, tick: u64, port: Por
 {
     match alarm {
         Alarm::Elect => ring_elect(station, tick, port, desk),
-        Alarm::Window => candidate_ring(station, tick, port, desk),
         _ => slave_ring(station, alarm, tick, port, desk),
     }
 }
@@ -65,5 +51,22 @@ fn ring_elect<D: Desk>(station: &mut Station, tick: u64, port: Port, desk: &mut 
         stand(station, tick, port, desk);
     } else {
         slave_ring(station, Alarm::Elect, tick, port, desk);
+    }
+}
+
+/// Puts off a round that waits for that of another port of its node.
+pub(crate) fn wait_round<D: Desk>(station: &mut Station, tick: u64, port: Port, desk: &mut D)
+    requires tick { IsTick tick }
+    requires room { 2 ≤ D.spare desk.old }
+    ensures row { Performs Stands Stands (round_rings true) tick port station.old station.new (D.acts desk.old) (D.acts desk.new) }
+    ensures room { PutsAtMost 2 (D.spare desk.old) (D.spare desk.new) (D.acts desk.old) (D.acts desk.new) }
+    ensures port { IsSamePort station.old station.new }
+{
+    if station.is_in_time(Alarm::Round, tick) {
+        station.ring(Alarm::Round, port, desk);
+        station.arm(Alarm::Round, tick, WAIT, port, desk);
+    } else {
+        station.late(Alarm::Round, port, desk);
+        station.arm(Alarm::Round, tick, ROUND, port, desk);
     }
 }

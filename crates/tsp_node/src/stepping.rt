@@ -1,9 +1,11 @@
 //! The steps of a node that is up.
 ghost use Rattle.std.specs.Prelude.{◌≡◌, ◌+◌, ◌*◌, ◌≤◌, true, false, length};
+ghost use Rattle.tsp_base.specs.declared.alarm.Alarm.TheVariants.{Probe, Close};
 ghost use Rattle.tsp_base.specs.Frames.{IsTick, PutsAtMost};
 ghost use Rattle.tsp_base.specs.Performs.{Performs};
-ghost use Rattle.tsp_rules.specs.Answers.{Turn, Got};
-ghost use Rattle.tsp_node.specs.InForce.{answers_in_force, due_alarms_in_force, rings_in_force};
+ghost use Rattle.tsp_rules.specs.Answers.{Turn, Got, answers, due_alarms, rings_alone, takes};
+ghost use Rattle.tsp_rules.specs.Tests.{is_over};
+ghost use Rattle.tsp_rules.specs.RoundRows.{upsetting};
 ghost use Rattle.tsp_node.specs.Inputs.{given};
 
 use crate::node::{Node, PORT};
@@ -15,7 +17,7 @@ use tsp_base::place::Place;
 use tsp_codec::read;
 
 impl Node {
-    ghost use Rattle.tsp_node.specs.NodeStands.{NodeStands, Begun, peers_in, clock_at, room_of};
+    ghost use Rattle.tsp_node.specs.NodeStands.{NodeStands, NodeUntaken, Begun, peers_in, clock_at, room_of};
 
     /// How many acts a step may take: room for so many is to be on the desk.
     pub fn room(&self) -> usize
@@ -29,7 +31,7 @@ impl Node {
         requires room { room_of (length (peers_in self.old)) ≤ D.spare desk.old }
         requires tick { IsTick tick }
         requires later { clock_at self.old ≤ tick }
-        ensures row { Performs Begun NodeStands (answers_in_force (given input.now)) tick (record { 0 = 0 }) self.old self.new (D.acts desk.old) (D.acts desk.new) }
+        ensures row { Performs Begun NodeStands (answers (given input.now)) tick (record { 0 = 0 }) self.old self.new (D.acts desk.old) (D.acts desk.new) }
         ensures peers { peers_in self.new ≡ peers_in self.old }
         ensures clock { clock_at self.new ≤ tick }
         ensures room { PutsAtMost (room_of (length (peers_in self.old))) (D.spare desk.old) (D.spare desk.new) (D.acts desk.old) (D.acts desk.new) }
@@ -45,7 +47,7 @@ impl Node {
         requires room { room_of (length (peers_in self.old)) ≤ D.spare desk.old }
         requires tick { IsTick tick }
         requires later { clock_at self.old ≤ tick }
-        ensures row { Performs Begun NodeStands (answers_in_force Turn) tick (record { 0 = 0 }) self.old self.new (D.acts desk.old) (D.acts desk.new) }
+        ensures row { Performs Begun NodeStands (answers Turn) tick (record { 0 = 0 }) self.old self.new (D.acts desk.old) (D.acts desk.new) }
         ensures peers { peers_in self.new ≡ peers_in self.old }
         ensures clock { clock_at self.new ≤ tick }
         ensures room { PutsAtMost (room_of (length (peers_in self.old))) (D.spare desk.old) (D.spare desk.new) (D.acts desk.old) (D.acts desk.new) }
@@ -59,43 +61,71 @@ impl Node {
         requires room { room_of (length (peers_in self.old)) ≤ D.spare desk.old }
         requires tick { IsTick tick }
         requires later { clock_at self.old ≤ tick }
-        ensures row { Performs Begun NodeStands (answers_in_force (Got from taken.now)) tick (record { 0 = 0 }) self.old self.new (D.acts desk.old) (D.acts desk.new) }
+        ensures row { Performs Begun NodeStands (answers (Got from taken.now)) tick (record { 0 = 0 }) self.old self.new (D.acts desk.old) (D.acts desk.new) }
         ensures peers { peers_in self.new ≡ peers_in self.old }
         ensures clock { clock_at self.new ≤ tick }
         ensures room { PutsAtMost (room_of (length (peers_in self.old))) (D.spare desk.old) (D.spare desk.new) (D.acts desk.old) (D.acts desk.new) }
     {
         self.part.sends(tick, PORT, desk);
         self.ring_alarms(tick, desk);
-        self.part
-            .take(&mut self.clock, true, tick, from, taken, PORT, desk);
+        self.take_in(tick, from, taken, desk);
     }
 
-    /// Treats the due alarms, each when its turn comes. The alarms of a master, which come behind these, have
-    /// no rules in force yet.
+    /// Takes octets from somebody, as they were read; where that corrects the clock, the round that goes on
+    /// is given up.
+    fn take_in<D: Desk>(&mut self, tick: u64, from: Place, taken: &Taken, desk: &mut D)
+        requires tick { IsTick tick }
+        requires later { clock_at self.old ≤ tick }
+        requires room { 2 * length (peers_in self.old) + 17 ≤ D.spare desk.old }
+        ensures row { Performs NodeUntaken NodeStands (upsetting (takes true true from taken.now)) tick (record { 0 = 0 }) self.old self.new (D.acts desk.old) (D.acts desk.new) }
+        ensures peers { peers_in self.new ≡ peers_in self.old }
+        ensures clock { clock_at self.new ≤ tick }
+        ensures room { PutsAtMost (2 * length (peers_in self.old) + 17) (D.spare desk.old) (D.spare desk.new) (D.acts desk.old) (D.acts desk.new) }
+    {
+        let clock = &mut self.clock;
+        let tracing = &mut self.tracing;
+        if self
+            .part
+            .take(clock, tracing, true, true, tick, from, taken, PORT, desk)
+        {
+            self.part.abandon(PORT, desk);
+        }
+    }
+
+    /// Treats the due alarms, each when its turn comes.
     fn ring_alarms<D: Desk>(&mut self, tick: u64, desk: &mut D)
         requires tick { IsTick tick }
-        requires room { 8 * length (peers_in self.old) + 64 ≤ D.spare desk.old }
-        ensures row { Performs NodeStands NodeStands due_alarms_in_force tick (record { 0 = 0 }) self.old self.new (D.acts desk.old) (D.acts desk.new) }
+        requires later { clock_at self.old ≤ tick }
+        requires room { 20 * length (peers_in self.old) + 64 ≤ D.spare desk.old }
+        ensures row { Performs NodeUntaken NodeUntaken due_alarms tick (record { 0 = 0 }) self.old self.new (D.acts desk.old) (D.acts desk.new) }
         ensures peers { peers_in self.new ≡ peers_in self.old }
-        ensures clock { clock_at self.new ≡ clock_at self.old }
-        ensures room { PutsAtMost (4 * length (peers_in self.old) + 16) (D.spare desk.old) (D.spare desk.new) (D.acts desk.old) (D.acts desk.new) }
+        ensures clock { clock_at self.new ≤ tick }
+        ensures room { PutsAtMost (16 * length (peers_in self.old) + 32) (D.spare desk.old) (D.spare desk.new) (D.acts desk.old) (D.acts desk.new) }
     {
         self.ring(Alarm::Quiet, tick, desk);
         self.ring(Alarm::Search, tick, desk);
         self.ring(Alarm::Elect, tick, desk);
         self.ring(Alarm::Window, tick, desk);
+        self.ring(Alarm::Probe, tick, desk);
+        self.ring(Alarm::Close, tick, desk);
+        self.ring(Alarm::Resolve, tick, desk);
+        self.ring(Alarm::Round, tick, desk);
     }
 
-    /// Treats one alarm where it is due.
+    /// Treats one alarm where it is due; a Close comes after its Probe.
     fn ring<D: Desk>(&mut self, alarm: Alarm, tick: u64, desk: &mut D)
         requires tick { IsTick tick }
+        requires later { clock_at self.old ≤ tick }
+        requires order { alarm ≡ Close → is_over self.old.part.station.alarms.probe tick ≡ false }
         requires room { 2 * length (peers_in self.old) + 16 ≤ D.spare desk.old }
-        ensures row { Performs NodeStands NodeStands (rings_in_force true false alarm) tick (record { 0 = 0 }) self.old self.new (D.acts desk.old) (D.acts desk.new) }
+        ensures row { Performs NodeUntaken NodeUntaken (rings_alone alarm) tick (record { 0 = 0 }) self.old self.new (D.acts desk.old) (D.acts desk.new) }
+        ensures over { alarm ≡ Probe → is_over self.new.part.station.alarms.probe tick ≡ false }
         ensures peers { peers_in self.new ≡ peers_in self.old }
-        ensures clock { clock_at self.new ≡ clock_at self.old }
-        ensures room { PutsAtMost (length (peers_in self.old) + 4) (D.spare desk.old) (D.spare desk.new) (D.acts desk.old) (D.acts desk.new) }
+        ensures clock { clock_at self.new ≤ tick }
+        ensures room { PutsAtMost (2 * length (peers_in self.old) + 4) (D.spare desk.old) (D.spare desk.new) (D.acts desk.old) (D.acts desk.new) }
     {
-        self.part
+        let _ = self
+            .part
             .ring(&mut self.clock, alarm, true, false, tick, PORT, desk);
     }
 }

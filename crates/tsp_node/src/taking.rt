@@ -1,12 +1,13 @@
 //! What a port does with what it takes: whose it is, what it is, and what the role makes of it.
-ghost use Rattle.std.specs.Prelude.{◌≡◌, ℕ, ◌+◌, ◌*◌, ◌≤◌, ◌==◌, not, length};
+ghost use Rattle.std.specs.Prelude.{◌≡◌, ℕ, ◌+◌, ◌*◌, ◌≤◌, length};
 ghost use Rattle.tsp_base.specs.Frames.{IsTick, PutsAtMost};
 ghost use Rattle.tsp_base.specs.History.{Past};
 ghost use Rattle.tsp_base.specs.Performs.{Performs};
 ghost use Rattle.tsp_base.specs.Rows.{either_by, nothing};
+ghost use Rattle.tsp_rules.specs.Answers.{takes, treats};
+ghost use Rattle.tsp_rules.specs.RoundRows.{corrects};
 ghost use Rattle.tsp_rules.specs.Tests.{is_own};
-ghost use Rattle.tsp_node.specs.InForce.{takes_in_force, handles_in_force};
-ghost use Rattle.tsp_node.specs.NodeStands.{PartStands, PartTook};
+ghost use Rattle.tsp_node.specs.NodeStands.{TakeStands, TookStands};
 
 use crate::part::Part;
 use crate::reply::reply;
@@ -19,12 +20,14 @@ use tsp_clock::clock::Clock;
 
 impl Part {
     /// Takes octets from somebody, as they were read. Where the port doesn't steer its node's clock, it
-    /// passes over the corrections of a master that it follows. The answer is whether the clock was
-    /// corrected: then its ticket has risen by one.
+    /// passes over the corrections of a master that it follows; where it isn't in charge of its node's date,
+    /// it sets none. The answer is whether the clock was corrected.
     pub fn take<D: Desk>(
         &mut self,
         clock: &mut Clock,
+        tracing: &mut bool,
         steer: bool,
+        charge: bool,
         tick: u64,
         from: Place,
         taken: &Taken,
@@ -34,37 +37,41 @@ impl Part {
         requires room { 2 * length self.old.station.peers + 16 ≤ D.spare desk.old }
         requires tick { IsTick tick }
         requires later { clock.old.at ≤ tick }
-        ensures row { Performs PartStands PartStands (takes_in_force steer from taken.now) tick port (self.old, clock.old) (self.new, clock.new) (D.acts desk.old) (D.acts desk.new) }
-        ensures corrects { result ≡ not (clock.new.ticket == clock.old.ticket) }
+        ensures row { Performs TakeStands TakeStands (takes steer charge from taken.now) tick port ((self.old, clock.old), tracing.old) ((self.new, clock.new), tracing.new) (D.acts desk.old) (D.acts desk.new) }
+        ensures corrects { (past : Past) → TakeStands past ((self.old, clock.old), tracing.old) → result ≡ corrects (takes steer charge from taken.now tick past) }
         ensures peers { self.new.station.peers ≡ self.old.station.peers }
         ensures clock { clock.new.at ≤ tick }
-        ensures room { PutsAtMost 4 (D.spare desk.old) (D.spare desk.new) (D.acts desk.old) (D.acts desk.new) }
+        ensures room { PutsAtMost (2 * length self.old.station.peers + 16) (D.spare desk.old) (D.spare desk.new) (D.acts desk.old) (D.acts desk.new) }
     {
         let ticket = clock.ticket();
+        // At most 1,000 peers: so few acts don't bring the ticket round to what it was.
+        let _peers = self.station.peers();
         desk.put(port, Act::Took(from, taken.copy()));
-        self.handle(clock, steer, tick, from, taken, port, desk);
+        self.handle(clock, tracing, steer, charge, tick, from, taken, port, desk);
         clock.ticket() != ticket
     }
 
     /// Passes over what seems to come from the port itself and what spells nothing, answers a stamp request,
-    /// and hears a message. Nobody waits for a reply yet.
+    /// and hears a message or a stamp reply.
     fn handle<D: Desk>(
         &mut self,
         clock: &mut Clock,
+        tracing: &mut bool,
         steer: bool,
+        charge: bool,
         tick: u64,
         from: Place,
         taken: &Taken,
         port: Port,
         desk: &mut D,
     )
-        requires room { 3 ≤ D.spare desk.old }
+        requires room { 2 * length self.old.station.peers + 10 ≤ D.spare desk.old }
         requires tick { IsTick tick }
         requires later { clock.old.at ≤ tick }
-        ensures row { Performs (PartTook (record { from = from; taken = taken.now })) PartStands (either_by (is_own from) nothing (handles_in_force steer from taken.now)) tick port (self.old, clock.old) (self.new, clock.new) (D.acts desk.old) (D.acts desk.new) }
+        ensures row { Performs (TookStands (record { from = from; taken = taken.now })) TakeStands (either_by (is_own from) nothing (treats steer charge from taken.now)) tick port ((self.old, clock.old), tracing.old) ((self.new, clock.new), tracing.new) (D.acts desk.old) (D.acts desk.new) }
         ensures peers { self.new.station.peers ≡ self.old.station.peers }
         ensures clock { clock.new.at ≤ tick }
-        ensures room { PutsAtMost 3 (D.spare desk.old) (D.spare desk.new) (D.acts desk.old) (D.acts desk.new) }
+        ensures room { PutsAtMost (2 * length self.old.station.peers + 10) (D.spare desk.old) (D.spare desk.new) (D.acts desk.old) (D.acts desk.new) }
     {
         if is_own(from, self.station.me.own) {
             return;
@@ -73,12 +80,14 @@ impl Part {
             return;
         };
         match datagram {
-            Datagram::Message(m) => self.hear(clock, steer, tick, from, m, port, desk),
+            Datagram::Message(m) => {
+                self.hear(clock, tracing, steer, charge, tick, from, m, port, desk)
+            }
             Datagram::Stamp(stamp) => match stamp {
                 Stamp::Request { word, counter } => {
                     reply(clock, tick, from, *word, *counter, port, desk)
                 }
-                Stamp::Reply(_) => {}
+                Stamp::Reply(_) => self.hear_stamp(clock, tick, from, stamp, port, desk),
             },
         }
     }

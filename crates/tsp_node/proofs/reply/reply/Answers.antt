@@ -17,7 +17,7 @@ returns-in-Some-clause-row g c part =
       acts = λ past h.
           let e : c.in-Some.stamp ≡ Reply (record { ticket = ticket (plain past.seen); word = c.args.word; counter = c.args.counter; reading = target (plain past.seen) c.args.tick }) = c.in-Some.ensures.there.1 ∙ (rw (h.clock.ticket_is, h.clock.offset_is) refl) in
           rw e at c.put.ensures.acts;
-      stands = λ past h. PartStands_stamp c.args.from _ c.args.tick past part c.args.clock.now h;
+      stands = λ past h. PartStands_stamp c.args.from _ c.args.tick past (part, c.args.clock.now) h;
     })
 
 pub returns-in-None-clause-row : goal.returns-in-None-clause-row

@@ -15,4 +15,4 @@ returns-in-Some-clause-past c past h =
     let o = c.least-2.result in
     let same : c.earlier.result ≡ earlier (least_deadline (armed past.seen)) o = c.earlier.ensures ∙ ap (λ d. earlier d o) (c.least.ensures ∙ cc) in
     let first : IsEarliest (sending_to station.sends) o = subst (λ (st : Station). IsEarliest (sending_to st.sends) o) c.station-station.ensures c.least-2.ensures in
-    (o, IsEarliest-open past station o h.station first, ap due_of (sym c.in-Some.is ∙ same))
+    (o, IsEarliest-open past station o h.first.station first, ap due_of (sym c.in-Some.is ∙ same))

@@ -1,6 +1,10 @@
 -- What the port does is what the node does.
-use Rattle.tsp_node.proofs.NodeLemmas.{Performs_node}
+use Rattle.std.proofs.Common.{true, false, refl}
+use Rattle.tsp_rules.specs.Answers.{rings_alone}
+use Rattle.tsp_node.proofs.NodeLemmas.{node_untaken}
+use Rattle.tsp_node.proofs.TakeEmits.{emits_rings}
 use Rattle.tsp_node.proofs.node.Node.ring.Goals as goal
 
 pub returns-clause-row : goal.returns-clause-row
-returns-clause-row g c = Performs_node c.args.self.now _ c.ring.ensures.row
+unfolding rings_alone
+returns-clause-row g c = node_untaken refl (emits_rings true false c.args.alarm) c.ring.ensures.row

@@ -1,17 +1,27 @@
--- The role, and then the alarm.
+-- The role, and then the alarm; the slaves are forgotten.
 use Rattle.std.proofs.Common.{refl}
+use Rattle.tsp_base.specs.declared.act.Act.TheVariants.{Become}
 use Rattle.tsp_base.specs.declared.alarm.Alarm.TheVariants.{Quiet}
 use Rattle.tsp_base.specs.declared.constants.TheConstants.{QUIET}
-use Rattle.tsp_base.proofs.PerformsLemmas.{Performs_then}
-use Rattle.tsp_base.specs.declared.act.Act.TheVariants.{Become}
 use Rattle.tsp_base.specs.declared.role.Role.TheVariants.{Starting}
-use Rattle.tsp_rules.proofs.Emits.{Emits_arms, Emits_puts}
+use Rattle.tsp_base.specs.Rows.{arms, puts, ◌followed_by◌}
+use Rattle.tsp_base.proofs.PerformsLemmas.{Performs_then}
+use Rattle.tsp_rules.proofs.Emits.{Emits, Emits_arms, Emits_puts, Emits_then}
+use Rattle.tsp_slave.proofs.BesideLemmas.{beside_sorts}
+use Rattle.tsp_master.proofs.TurnLemmas.{MasterStands_changing, turning_sorts}
+use Rattle.tsp_date.proofs.KeepLemmas.{DatesStand_by}
+use Rattle.tsp_resolve.proofs.ResolveLemmas.{ResolveStands_changed, rivalless}
+use Rattle.tsp_node.proofs.EmitsRoles.{begin_changes}
 use Rattle.tsp_node.proofs.NodeLemmas.{Performs_station}
 use Rattle.tsp_node.proofs.part.Part.begin.Goals as goal
 
 pub returns-clause-row : goal.returns-clause-row
 returns-clause-row g c clock =
-    let middle = record c.args.self.now { station = c.become_role.new.self } in
-    let last = record c.args.self.now { station = c.arm.new.self } in
-    Performs_then (Performs_station c.args.self.now middle clock refl (Emits_puts (Become Starting) refl) (c.become_role.ensures.row c.args.tick))
-    (Performs_station middle last clock refl (Emits_arms Quiet QUIET refl) c.arm.ensures.row)
+    let row = puts (Become Starting) followed_by arms Quiet QUIET in
+    let beside : Emits beside_sorts row = Emits_then (puts (Become Starting)) (arms Quiet QUIET) (Emits_puts (Become Starting) refl) (Emits_arms Quiet QUIET refl) in
+    let turning : Emits turning_sorts row = Emits_then (puts (Become Starting)) (arms Quiet QUIET) (Emits_puts (Become Starting) refl) (Emits_arms Quiet QUIET refl) in
+    let rivals : Emits rivalless row = Emits_then (puts (Become Starting)) (arms Quiet QUIET) (Emits_puts (Become Starting) refl) (Emits_arms Quiet QUIET refl) in
+    Performs_station refl refl refl beside (DatesStand_by row (Emits_then (puts (Become Starting)) (arms Quiet QUIET) (Emits_puts (Become Starting) refl) (Emits_arms Quiet QUIET refl)))
+    (λ past h s. MasterStands_changing row turning c.args.tick past c.args.self.now.master c.clear.new.self (begin_changes c.args.tick past) (record { slaves = c.clear.ensures.slaves; peers = c.clear.ensures.peers; rounds = c.clear.ensures.rounds }) h.master)
+    (λ past h s. ResolveStands_changed c.args.tick past (row c.args.tick past) c.args.self.now.resolve c.clear-2.new.self (rivals.only c.args.tick past) (begin_changes c.args.tick past) c.clear-2.ensures.many c.clear-2.ensures.none h.resolve)
+    (Performs_then (c.become_role.ensures.row c.args.tick) c.arm.ensures.row)

@@ -1,21 +1,26 @@
--- An alarm whose rules are in force is the station's; any other does nothing.
-use Rattle.std.proofs.Common.{◌≡◌, true, false, refl}
-use Rattle.tsp_base.proofs.PerformsLemmas.{Performs_nothing}
-use Rattle.tsp_node.specs.InForce.{is_in_force, rings_in_force}
-use Rattle.tsp_node.proofs.EmitsInForce.{emits_rings}
-use Rattle.tsp_node.proofs.NodeLemmas.{Performs_station}
+-- An alarm that is due rings; any other does nothing.
+use Rattle.std.proofs.Common.{◌≡◌, true, false}
+use Rattle.tsp_base.specs.Alarms.{deadline}
+use Rattle.tsp_rules.specs.Tests.{is_over}
+use Rattle.tsp_node.proofs.AlarmCases.{Performs_not_due, Performs_now_due, corrects_not_due, corrects_now_due}
 use Rattle.tsp_node.proofs.part.Part.ring.Goals as goal
 
-pub returns-then-is_in_force-clause-row : goal.returns-then-is_in_force-clause-row
-unfolding rings_in_force
-returns-then-is_in_force-clause-row g c =
-    let own = c.args.group_mean in
-    let wait = c.args.wait in
-    let holds : is_in_force c.args.alarm ≡ true = cc in
-    rw holds (Performs_station c.args.self.now (record c.args.self.now { station = c.ring_due.new.station }) c.args.clock.now refl (emits_rings own wait c.args.alarm holds) (c.ring_due.ensures.row own wait))
+pub returns-then-not-is_due-clause-row : goal.returns-then-not-is_due-clause-row
+returns-then-not-is_due-clause-row g c =
+    let late : is_over (deadline c.args.self.now.station.alarms c.args.alarm) c.args.tick ≡ false = cc in
+    Performs_not_due c.args.group_mean c.args.wait c.args.alarm (c.args.self.now, c.args.clock.now) late
 
-pub returns-else-is_in_force-clause-row : goal.returns-else-is_in_force-clause-row
-unfolding rings_in_force
-returns-else-is_in_force-clause-row g c =
-    let holds : is_in_force c.args.alarm ≡ false = cc in
-    rw holds Performs_nothing
+pub returns-then-not-is_due-clause-corrects : goal.returns-then-not-is_due-clause-corrects
+returns-then-not-is_due-clause-corrects g c =
+    let late : is_over (deadline c.args.self.now.station.alarms c.args.alarm) c.args.tick ≡ false = cc in
+    corrects_not_due c.args.tick c.args.group_mean c.args.wait c.args.alarm (c.args.self.now, c.args.clock.now) late
+
+pub returns-clause-row : goal.returns-clause-row
+returns-clause-row g c =
+    let due : is_over (deadline c.args.self.now.station.alarms c.args.alarm) c.args.tick ≡ true = cc in
+    Performs_now_due c.args.group_mean c.args.wait c.args.alarm (c.args.self.now, c.args.clock.now) due c.ring_due.ensures.row
+
+pub returns-clause-corrects : goal.returns-clause-corrects
+returns-clause-corrects g c =
+    let due : is_over (deadline c.args.self.now.station.alarms c.args.alarm) c.args.tick ≡ true = cc in
+    corrects_now_due c.args.tick c.args.group_mean c.args.wait c.args.alarm (c.args.self.now, c.args.clock.now) due _ c.ring_due.ensures.corrects

@@ -3,16 +3,14 @@ use Rattle.std.proofs.Common.{◌≡◌, ◌∙◌, ap, arith, length, refl, sym
 use Rattle.tsp_base.specs.Performs.{Performs}
 use Rattle.tsp_base.proofs.PerformsLemmas.{Performs_reading}
 use Rattle.tsp_base.specs.Rows.{for_each}
-use Rattle.tsp_rules.specs.SendRows.{bare_send, peers_at}
+use Rattle.tsp_rules.specs.SendRows.{due_send, due_sends, peers_at}
 use Rattle.tsp_sends.specs.Slots.{IsAscending}
 use Rattle.tsp_sends.specs.Treating.{peer_of}
 use Rattle.tsp_acks.proofs.BeyondLemmas.{Splits, Splits-peer, Splits-fewer, beyond, beyond-none, for_each-beyond, for_each-idle, for_each-none}
-use Rattle.tsp_acks.proofs.DueLemmas.{none_before, Performs_not_due}
+use Rattle.tsp_acks.proofs.DueLemmas.{none_before}
 use Rattle.tsp_node.specs.declared.part.Part.{Part}
-use Rattle.tsp_node.specs.InForce.{due_sends_in_force}
 use Rattle.tsp_node.specs.NodeStands.{PartBegun}
-use Rattle.tsp_node.proofs.EmitsInForce.{emits_send}
-use Rattle.tsp_node.proofs.NodeLemmas.{Performs_begun}
+use Rattle.tsp_node.proofs.DueSendLemmas.{Performs_waits}
 use Rattle.tsp_node.proofs.part.Part.sends.Goals as goal
 
 pub loop-init : goal.loop-init
@@ -27,33 +25,33 @@ loop-preserved g c =
     let p = peer_of c.in-Some.due in
     let up : IsAscending st.peers = rw c.loop.invariant.peers c.peers-end.ensures.valid.ascending in
     let s : Splits c.loop.after p st.peers = Splits-peer c.loop.after p st.peers up next.1 next.0 in
-    let same = c.treat_next.ensures.rest.peers in
-    let after : Part = record { station = c.treat_next.new.self; last = c.loop.self.last } in
+    let same = c.treat_next.ensures.peers in
+    let after : Part = c.treat_next.new.self in
     record {
-      row = λ clock last new d. c.loop.invariant.row clock last new (for_each-beyond PartBegun PartBegun PartBegun bare_send c.args.tick c.args.port (c.loop.self, clock) (after, clock) (last, clock) (g.D.Desk.acts c.loop.desk) (g.D.Desk.acts c.treat_next.new.desk) new
+      row = λ clock last new d. c.loop.invariant.row clock last new (for_each-beyond PartBegun PartBegun PartBegun due_send c.args.tick c.args.port (c.loop.self, clock) (after, clock) (last, clock) (g.D.Desk.acts c.loop.desk) (g.D.Desk.acts c.treat_next.new.desk) new
           c.loop.after p st.peers s
-          (λ q later below. Performs_begun c.loop.self c.loop.self clock refl (emits_send q) (Performs_not_due q c.args.tick c.args.port st (g.D.Desk.acts c.loop.desk) (none_before c.loop.after c.args.tick st.sends c.treat_next.new.self.sends c.in-Some.due c.in-Some.ensures.sends q later below)))
-          (Performs_begun c.loop.self after clock refl (emits_send p) c.in-Some.ensures.row)
-          (subst (λ qs. Performs PartBegun PartBegun (for_each bare_send (beyond (Some p) qs)) c.args.tick c.args.port (after, clock) (last, clock) (g.D.Desk.acts c.treat_next.new.desk) new) same (rw c.peer.ensures at d)));
+          (λ q later below. Performs_waits q (none_before c.loop.after c.args.tick st.sends after.station.sends c.in-Some.due c.in-Some.ensures.sends q later below))
+          (c.in-Some.ensures.row clock)
+          (subst (λ qs. Performs PartBegun PartBegun (for_each due_send (beyond (Some p) qs)) c.args.tick c.args.port (after, clock) (last, clock) (g.D.Desk.acts c.treat_next.new.desk) new) same (rw c.peer.ensures at d)));
       left = rw (c.peer.ensures, same) (omega (arith, Splits-fewer c.loop.after p st.peers s, c.loop.invariant.left));
       peers = same ∙ c.loop.invariant.peers;
       room = record { spare = omega (arith, c.loop.invariant.room.spare, c.treat_next.ensures.room.spare); few = omega (arith, c.loop.invariant.room.few, c.treat_next.ensures.room.few) };
     }
 
 pub returns-in_default-clause-row : goal.returns-in_default-clause-row
-unfolding due_sends_in_force
+unfolding due_sends
 returns-in_default-clause-row g c clock =
     let st = c.loop.self.station in
     let none = c.in_default.ensures.sends in
-    Performs_reading peers_at (for_each bare_send) c.args.self.now.station.peers (λ past h. sym h.stands.station.peers)
+    Performs_reading peers_at (for_each due_send) c.args.self.now.station.peers (λ past h. sym h.stands.station.peers)
     (rw (c.in_default.ensures.same.0, c.in_default.ensures.same.1) (c.loop.invariant.row clock c.loop.self (g.D.Desk.acts c.loop.desk)
-    (for_each-idle PartBegun bare_send c.args.tick c.args.port (c.loop.self, clock) (g.D.Desk.acts c.loop.desk) c.loop.after st.peers
-    (λ q later. Performs_begun c.loop.self c.loop.self clock refl (emits_send q) (Performs_not_due q c.args.tick c.args.port st (g.D.Desk.acts c.loop.desk) (none.0 q later))))))
+    (for_each-idle PartBegun due_send c.args.tick c.args.port (c.loop.self, clock) (g.D.Desk.acts c.loop.desk) c.loop.after st.peers
+    (λ q later. Performs_waits q (none.0 q later)))))
 
 pub returns-clause-row : goal.returns-clause-row
-unfolding due_sends_in_force
+unfolding due_sends
 returns-clause-row g c clock =
     let st = c.loop.self.station in
     let none : length (beyond c.loop.after st.peers) ≡ zero = omega (arith, c.loop.invariant.left, ap length c.loop.invariant.peers, ap length c.peers-end.ensures.value) in
-    Performs_reading peers_at (for_each bare_send) c.args.self.now.station.peers (λ past h. sym h.stands.station.peers)
-    (c.loop.invariant.row clock c.loop.self (g.D.Desk.acts c.loop.desk) (for_each-none PartBegun bare_send c.args.tick c.args.port (c.loop.self, clock) (g.D.Desk.acts c.loop.desk) (beyond c.loop.after st.peers) none))
+    Performs_reading peers_at (for_each due_send) c.args.self.now.station.peers (λ past h. sym h.stands.station.peers)
+    (c.loop.invariant.row clock c.loop.self (g.D.Desk.acts c.loop.desk) (for_each-none PartBegun due_send c.args.tick c.args.port (c.loop.self, clock) (g.D.Desk.acts c.loop.desk) (beyond c.loop.after st.peers) none))

@@ -1,10 +1,10 @@
 -- What is left to perform are the rows of the peers after the last one that was treated; each round leaves one peer less.
-use Rattle.std.specs.Prelude.{◌≡◌, ◌+◌, ◌≤◌, length, List}
+use Rattle.std.specs.Prelude.{◌≡◌, ◌+◌, ◌*◌, ◌≤◌, length, List}
 use Rattle.tsp_base.specs.declared.act.Placed.{Placed}
 use Rattle.tsp_base.specs.Frames.{PutsAtMost}
 use Rattle.tsp_base.specs.Performs.{Performs}
 use Rattle.tsp_base.specs.Rows.{for_each}
-use Rattle.tsp_rules.specs.SendRows.{bare_send}
+use Rattle.tsp_rules.specs.SendRows.{due_send}
 use Rattle.tsp_acks.proofs.BeyondLemmas.{beyond}
 use Rattle.tsp_clock.specs.Clocks.{ClockValue}
 use Rattle.tsp_node.specs.declared.part.Part.{Part}
@@ -13,9 +13,9 @@ use Rattle.tsp_node.proofs.part.Part.sends.Given as goal
 
 abbrev pub invariant-loop : goal.invariant-loop
 invariant-loop g l = record {
-  row : (clock : ClockValue) (last : Part) (new : List Placed) → Performs PartBegun PartBegun (for_each bare_send (beyond l.after l.self.station.peers)) l.tick l.port (l.self, clock) (last, clock) (g.D.Desk.acts l.desk) new →
-      Performs PartBegun PartBegun (for_each bare_send l.initial.self.station.peers) l.tick l.port (l.initial.self, clock) (last, clock) (g.D.Desk.acts l.initial.desk) new;
+  row : (clock : ClockValue) (last : Part) (new : List Placed) → Performs PartBegun PartBegun (for_each due_send (beyond l.after l.self.station.peers)) l.tick l.port (l.self, clock) (last, clock) (g.D.Desk.acts l.desk) new →
+      Performs PartBegun PartBegun (for_each due_send l.initial.self.station.peers) l.tick l.port (l.initial.self, clock) (last, clock) (g.D.Desk.acts l.initial.desk) new;
   left : length (beyond l.after l.self.station.peers) + l.counter ≤ length l.self.station.peers;
   peers : l.self.station.peers ≡ l.initial.self.station.peers;
-  room : PutsAtMost l.counter (g.D.Desk.spare l.initial.desk) (g.D.Desk.spare l.desk) (g.D.Desk.acts l.initial.desk) (g.D.Desk.acts l.desk);
+  room : PutsAtMost (2 * l.counter) (g.D.Desk.spare l.initial.desk) (g.D.Desk.spare l.desk) (g.D.Desk.acts l.initial.desk) (g.D.Desk.acts l.desk);
 }

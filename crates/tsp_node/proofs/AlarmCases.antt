@@ -1,0 +1,109 @@
+-- How a port's alarms meet their rows.
+use Rattle.std.specs.Prelude.{◌≡◌, ◌≢◌, ℕ, Bool, true, false, List, [], ◌∷◌, refl}
+use Rattle.std.proofs.Common.{sym, ◌∙◌, ap}
+use Rattle.std.proofs.lemmas.Bool.{false≢true}
+use Rattle.tsp_base.specs.declared.act.Act.TheVariants.{Late, Ring}
+use Rattle.tsp_base.specs.declared.act.Placed.{Placed}
+use Rattle.tsp_base.specs.declared.alarm.Alarm.{Alarm}
+use Rattle.tsp_base.specs.declared.alarm.Alarm.TheVariants.{Close, Elect, Probe, Quiet, Resolve, Round, Search, Window}
+use Rattle.tsp_base.specs.declared.constants.TheConstants.{ROUND, WAIT}
+use Rattle.tsp_base.specs.declared.kind.Kind.TheVariants.{Quit}
+use Rattle.tsp_base.specs.declared.place.Port.{Port}
+use Rattle.tsp_base.specs.Alarms.{deadline}
+use Rattle.tsp_base.specs.History.{Past}
+use Rattle.tsp_base.specs.Performs.{Performs}
+use Rattle.tsp_base.specs.Rows.{arms, either_by, for_each, nothing, puts}
+use Rattle.tsp_base.proofs.PerformsLemmas.{Performs_nothing, Performs_same}
+use Rattle.tsp_rules.specs.Answers.{alarm_rings, rings}
+use Rattle.tsp_rules.specs.CandidateRows.{window_rings}
+use Rattle.tsp_rules.specs.RoundRows.{begins_or_waits, corrects, round_rings}
+use Rattle.tsp_rules.specs.ResolveRows.{quits_rivals, resolve_rings}
+use Rattle.tsp_rules.specs.SendRows.{begins}
+use Rattle.tsp_rules.specs.Tests.{is_due, is_in_time, is_over, rivals_at}
+use Rattle.tsp_rules.proofs.Emits.{Alarming, Emits, Emits_arms, Emits_each, Emits_either, Emits_more, Emits_puts, Emits_reading, Emits_then, Leading, Numbering}
+use Rattle.tsp_rules.proofs.EmitsCandidate.{silent_window}
+use Rattle.tsp_rules.proofs.EmitsSlave.{emits_begins, silent_elect_rings, silent_quiet, silent_search, silent_sorts}
+use Rattle.tsp_clock.specs.Clocks.{ClockValue}
+use Rattle.tsp_slave.proofs.BesideLemmas.{beside_sorts}
+use Rattle.tsp_master.proofs.CloseLemmas.{corrects-none}
+use Rattle.tsp_master.proofs.LeadLemmas.{still_sorts}
+use Rattle.tsp_node.specs.declared.part.Part.{Part}
+use Rattle.tsp_node.specs.NodeStands.{PartUntaken}
+use Rattle.tsp_node.specs.RoleAlarms.{is_of_slave}
+
+-- whether an alarm is due, as the station has it
+due_is : (alarm : Alarm) (x : ℕ) (past : Past) (both : Part × ClockValue) → PartUntaken past both → is_due alarm x past ≡ is_over (deadline both.0.station.alarms alarm) x
+due_is alarm x past both h = ap (λ ds. is_over (deadline ds alarm) x) (sym h.stands.station.alarms)
+
+-- one that isn't due does nothing
+not_due : (own wait : Bool) (alarm : Alarm) (x : ℕ) (past : Past) → is_due alarm x past ≡ false → rings own wait alarm x past ≡ nothing x past
+unfolding rings either_by
+not_due own wait alarm x past d = rw d refl
+
+-- one that is rings
+now_due : (own wait : Bool) (alarm : Alarm) (x : ℕ) (past : Past) → is_due alarm x past ≡ true → rings own wait alarm x past ≡ alarm_rings own wait alarm x past
+unfolding rings either_by
+now_due own wait alarm x past d = rw d refl
+
+pub Performs_not_due : {x : ℕ} {port : Port} {old : List Placed} (own wait : Bool) (alarm : Alarm) (before : Part × ClockValue) → is_over (deadline before.0.station.alarms alarm) x ≡ false → Performs PartUntaken PartUntaken (rings own wait alarm) x port before before old old
+Performs_not_due {x = x} own wait alarm before e = Performs_same (rings own wait alarm) (λ past h. sym (not_due own wait alarm x past (due_is alarm x past before h ∙ e))) Performs_nothing
+
+pub corrects_not_due : (x : ℕ) (own wait : Bool) (alarm : Alarm) (before : Part × ClockValue) → is_over (deadline before.0.station.alarms alarm) x ≡ false → (past : Past) → PartUntaken past before → false ≡ corrects (rings own wait alarm x past)
+unfolding nothing
+corrects_not_due x own wait alarm before e past h = ap corrects (sym (not_due own wait alarm x past (due_is alarm x past before h ∙ e)))
+
+pub Performs_now_due : {x : ℕ} {port : Port} {after : Part × ClockValue} {old new : List Placed} (own wait : Bool) (alarm : Alarm) (before : Part × ClockValue) → is_over (deadline before.0.station.alarms alarm) x ≡ true →
+    Performs PartUntaken PartUntaken (alarm_rings own wait alarm) x port before after old new → Performs PartUntaken PartUntaken (rings own wait alarm) x port before after old new
+Performs_now_due {x = x} own wait alarm before e d = Performs_same (rings own wait alarm) (λ past h. sym (now_due own wait alarm x past (due_is alarm x past before h ∙ e))) d
+
+pub corrects_now_due : (x : ℕ) (own wait : Bool) (alarm : Alarm) (before : Part × ClockValue) → is_over (deadline before.0.station.alarms alarm) x ≡ true → (b : Bool) →
+    ((past : Past) → PartUntaken past before → b ≡ corrects (alarm_rings own wait alarm x past)) → (past : Past) → PartUntaken past before → b ≡ corrects (rings own wait alarm x past)
+corrects_now_due x own wait alarm before e b k past h = k past h ∙ ap corrects (sym (now_due own wait alarm x past (due_is alarm x past before h ∙ e)))
+
+-- an alarm that is no candidate's and no master's
+pub of_slave : (alarm : Alarm) → alarm ≢ Probe → alarm ≢ Close → alarm ≢ Round → alarm ≢ Window → alarm ≢ Resolve → is_of_slave alarm ≡ true
+of_slave Quiet p c r w s = refl
+of_slave Search p c r w s = refl
+of_slave Elect p c r w s = refl
+of_slave Window p c r w s = absurd (w refl)
+of_slave Probe p c r w s = absurd (p refl)
+of_slave Close p c r w s = absurd (c refl)
+of_slave Resolve p c r w s = absurd (s refl)
+of_slave Round p c r w s = absurd (r refl)
+
+silent_alarm : (own wait : Bool) (alarm : Alarm) → is_of_slave alarm ≡ true → Emits silent_sorts (alarm_rings own wait alarm)
+unfolding alarm_rings
+silent_alarm own wait Quiet e = silent_quiet
+silent_alarm own wait Search e = silent_search
+silent_alarm own wait Elect e = silent_elect_rings
+silent_alarm own wait _ e = absurd (false≢true e)
+
+pub beside_alarm : (own wait : Bool) (alarm : Alarm) → is_of_slave alarm ≡ true → Emits beside_sorts (alarm_rings own wait alarm)
+beside_alarm own wait alarm e = Emits_more silent_sorts refl (silent_alarm own wait alarm e)
+
+-- the alarms of a port that is Starting, Loose or follows correct no clock, nor does a candidate's, nor a round that waits
+pub corrects_alarm : (own wait : Bool) (alarm : Alarm) → is_of_slave alarm ≡ true → (x : ℕ) (past : Past) → false ≡ corrects (alarm_rings own wait alarm x past)
+corrects_alarm own wait alarm e x past = sym (corrects-none (alarm_rings own wait alarm x past) ((Emits_more silent_sorts {all = still_sorts} refl (silent_alarm own wait alarm e)).only x past))
+
+pub beside_window : Emits beside_sorts window_rings
+beside_window = Emits_more (Leading ∷ silent_sorts) refl silent_window
+
+pub corrects_window : (x : ℕ) (past : Past) → false ≡ corrects (window_rings x past)
+corrects_window x past = sym (corrects-none (window_rings x past) ((Emits_more (Leading ∷ silent_sorts) {all = still_sorts} refl silent_window).only x past))
+
+pub emits_wait : Emits (Alarming ∷ []) (round_rings true)
+unfolding round_rings begins_or_waits
+emits_wait = Emits_either (is_in_time Round) _ _ (Emits_then (puts (Ring Round)) (arms Round WAIT) (Emits_puts (Ring Round) refl) (Emits_arms Round WAIT refl)) (Emits_then (puts (Late Round)) (arms Round ROUND) (Emits_puts (Late Round) refl) (Emits_arms Round ROUND refl))
+
+pub corrects_wait : (x : ℕ) (past : Past) → false ≡ corrects (round_rings true x past)
+corrects_wait x past = sym (corrects-none (round_rings true x past) ((Emits_more (Alarming ∷ []) {all = still_sorts} refl emits_wait).only x past))
+
+-- the end of a resolution
+pub emits_resolve : Emits (Numbering ∷ Alarming ∷ []) resolve_rings
+unfolding resolve_rings quits_rivals
+emits_resolve = Emits_either (is_in_time Resolve) _ _
+    (Emits_then (puts (Ring Resolve)) _ (Emits_puts (Ring Resolve) refl) (Emits_reading rivals_at (for_each (begins Quit)) (λ ps. Emits_each (begins Quit) ps (λ p. emits_begins Quit p refl))))
+    (Emits_puts (Late Resolve) refl)
+
+pub corrects_resolve : (x : ℕ) (past : Past) → false ≡ corrects (resolve_rings x past)
+corrects_resolve x past = sym (corrects-none (resolve_rings x past) ((Emits_more (Numbering ∷ Alarming ∷ []) {all = still_sorts} refl emits_resolve).only x past))

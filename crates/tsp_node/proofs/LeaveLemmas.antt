@@ -1,0 +1,34 @@
+-- How a slave leaves whose correction is given up.
+use Rattle.std.specs.Prelude.{◌≡◌, ℕ, true, false, List, [], ◌∷◌, ◌++◌}
+use Rattle.tsp_base.specs.declared.act.Act.TheVariants.{Leave}
+use Rattle.tsp_base.specs.declared.act.Placed.{Placed}
+use Rattle.tsp_base.specs.declared.kind.Kind.{Kind}
+use Rattle.tsp_base.specs.declared.place.PeerId.{PeerId}
+use Rattle.tsp_base.specs.declared.place.Port.{Port}
+use Rattle.tsp_base.specs.History.{Past}
+use Rattle.tsp_base.specs.Performs.{Performs}
+use Rattle.tsp_base.specs.PortFacts.{in_table}
+use Rattle.tsp_base.specs.Rows.{grown, nothing, puts}
+use Rattle.tsp_base.specs.SendFacts.{is_correction}
+use Rattle.tsp_base.proofs.PerformsLemmas.{Performs_else_part, Performs_nothing, Performs_then_part}
+use Rattle.tsp_rules.specs.SendRows.{leaves_after}
+use Rattle.tsp_rules.specs.Tests.{is_slave_at}
+use Rattle.tsp_master.specs.declared.master.Master.{Master}
+use Rattle.tsp_master.specs.MasterStands.{MasterStands}
+
+-- a slave leaves
+pub Performs_leaves : {x : ℕ} {port : Port} (p : PeerId) (k : Kind) {before after : Master} {old new : List Placed} → is_correction k ≡ true → ((past : Past) → MasterStands past before → in_table p past.seen ≡ true) →
+    new ≡ old ++ record { port = port; act = Leave p } ∷ [] → ((past : Past) → MasterStands past before → MasterStands (grown x past (Leave p ∷ [])) after) → Performs MasterStands MasterStands (leaves_after p k) x port before after old new
+unfolding leaves_after puts
+Performs_leaves p k e t put stands = rw e (Performs_then_part (is_slave_at p) nothing t (record { acts = λ past h. put; stands = stands }))
+
+-- who is no slave doesn't
+pub Performs_stays : {x : ℕ} {port : Port} (p : PeerId) (k : Kind) {before : Master} {old : List Placed} → is_correction k ≡ true → ((past : Past) → MasterStands past before → in_table p past.seen ≡ false) →
+    Performs MasterStands MasterStands (leaves_after p k) x port before before old old
+unfolding leaves_after
+Performs_stays p k e t = rw e (Performs_else_part (is_slave_at p) (puts (Leave p)) t Performs_nothing)
+
+-- nor does a peer whose send didn't correct
+pub Performs_other : {x : ℕ} {port : Port} (p : PeerId) (k : Kind) {before : Master} {old : List Placed} → is_correction k ≡ false → Performs MasterStands MasterStands (leaves_after p k) x port before before old old
+unfolding leaves_after
+Performs_other p k e = rw e Performs_nothing

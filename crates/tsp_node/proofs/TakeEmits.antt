@@ -1,0 +1,132 @@
+-- Which sorts of acts put what a port does with what it takes, and its alarms.
+use Rattle.std.specs.Prelude.{◌≡◌, ℕ, Bool, true, false, List, [], ◌∷◌, refl}
+use Rattle.tsp_base.specs.declared.act.Act.TheVariants.{Took}
+use Rattle.tsp_base.specs.declared.alarm.Alarm.{Alarm}
+use Rattle.tsp_base.specs.declared.alarm.Alarm.TheVariants.{Close, Elect, Probe, Quiet, Resolve, Round, Search, Window}
+use Rattle.tsp_base.specs.declared.datagram.Datagram.TheVariants.{Message, Stamp}
+use Rattle.tsp_base.specs.declared.datagram.Taken.{Taken}
+use Rattle.tsp_base.specs.declared.datagram.Taken.TheVariants.{Bad, Good}
+use Rattle.tsp_base.specs.declared.kind.Kind.{Kind}
+use Rattle.tsp_base.specs.declared.kind.Kind.TheVariants.{Date, DateAck, DateReq, Loop, Msite, MsiteReq, SetDate, SetDateReq, Test, TraceOff, TraceOn}
+use Rattle.tsp_base.specs.declared.place.PeerId.{PeerId}
+use Rattle.tsp_base.specs.declared.place.Place.{Place}
+use Rattle.tsp_base.specs.declared.place.Place.TheVariants.{Peer, Stranger}
+use Rattle.tsp_base.specs.declared.role.Role.{Role}
+use Rattle.tsp_base.specs.declared.role.Role.TheVariants.{Candidate, Follow, Loose, Master, Starting}
+use Rattle.tsp_base.specs.declared.stamp.Stamp.TheVariants.{Reply, Request}
+use Rattle.tsp_base.specs.Messages.{MessageValue}
+use Rattle.tsp_base.specs.Rows.{Row, nothing, puts, reading}
+use Rattle.tsp_base.specs.Stamps.{ReplyValue}
+use Rattle.tsp_rules.specs.Answers.{alarm_rings, from_peer, is_left, peer_replies, peer_says, replies_in, rings, says_in, takes, treats, treats_kind}
+use Rattle.tsp_rules.specs.CommonRows.{posts_reply, replies}
+use Rattle.tsp_rules.specs.DateRows.{date_acked, date_request_of}
+use Rattle.tsp_rules.specs.Tests.{is_due, is_heard, is_in_range, is_own, role_at}
+use Rattle.tsp_rules.proofs.Emits.{Sort, Acking, Alarming, Asking, Backing, Changing, Closing, Correcting, Counting, Following, Giving, Leading, Moving, Numbering, Posting, Rivalling, Rounding, Sampling, Tabling, Taking, Tracing, Emits, Emits_either, Emits_more, Emits_nothing, Emits_puts, Emits_reading, Emits_then}
+use Rattle.tsp_rules.proofs.EmitsCandidate.{candidate_sorts, emits_candidate_takes, emits_window, window_sorts}
+use Rattle.tsp_rules.proofs.EmitsClients.{client_sorts, date_sorts, emits_date_acked, emits_date_of, emits_date_request_of, emits_names_master, emits_says_master, emits_tests, emits_traces}
+use Rattle.tsp_rules.proofs.EmitsMaster.{emits_master_takes, emits_resolve_rings, master_sorts, resolve_sorts}
+use Rattle.tsp_rules.proofs.EmitsRounds.{emits_close_rings, emits_probe_rings, emits_round_rings, emits_samples, round_sorts}
+use Rattle.tsp_node.specs.declared.matter.Matter.TheVariants.{OfDates}
+use Rattle.tsp_node.specs.Matters.{matter_of}
+use Rattle.tsp_rules.proofs.EmitsSlave.{emits_elect_rings, emits_quiet, emits_search, emits_slave_takes, slave_sorts}
+
+-- all sorts but Boot, Took and Trace
+abbrev pub silent_trace : List Sort
+silent_trace = Asking ∷ Correcting ∷ Numbering ∷ Posting ∷ Leading ∷ Following ∷ Changing ∷ Backing ∷ Counting ∷ Rounding ∷ Alarming ∷ Tabling ∷ Rivalling ∷ Acking ∷ Giving ∷ Sampling ∷ Closing ∷ Moving ∷ []
+
+-- all sorts but Boot
+abbrev pub bootless : List Sort
+bootless = Taking ∷ Tracing ∷ silent_trace
+
+alarm-emits : (own wait : Bool) (alarm : Alarm) → Emits silent_trace (alarm_rings own wait alarm)
+unfolding alarm_rings
+alarm-emits own wait Quiet = Emits_more slave_sorts refl emits_quiet
+alarm-emits own wait Search = Emits_more slave_sorts refl emits_search
+alarm-emits own wait Elect = Emits_more slave_sorts refl emits_elect_rings
+alarm-emits own wait Window = Emits_more window_sorts refl emits_window
+alarm-emits own wait Probe = Emits_more round_sorts refl emits_probe_rings
+alarm-emits own wait Close = Emits_more round_sorts refl (emits_close_rings own)
+alarm-emits own wait Resolve = Emits_more resolve_sorts refl emits_resolve_rings
+alarm-emits own wait Round = Emits_more round_sorts refl (emits_round_rings wait)
+
+-- an alarm, whether it is due or not
+pub emits_rings : (own wait : Bool) (alarm : Alarm) → Emits silent_trace (rings own wait alarm)
+unfolding rings
+emits_rings own wait alarm = Emits_either (is_due alarm) (alarm_rings own wait alarm) nothing (alarm-emits own wait alarm) Emits_nothing
+
+says-emits : (p : PeerId) (m : MessageValue) (r : Role) → Emits silent_trace (says_in p m r)
+unfolding says_in
+says-emits p m Starting = Emits_nothing
+says-emits p m Loose = Emits_more slave_sorts refl (emits_slave_takes p m)
+says-emits p m (Follow q) = Emits_more slave_sorts refl (emits_slave_takes p m)
+says-emits p m Candidate = Emits_more candidate_sorts refl (emits_candidate_takes p m)
+says-emits p m Master = Emits_more master_sorts refl (emits_master_takes p m)
+
+peer-emits : {sorts : List Sort} (from : Place) (row : PeerId → Row) → ((p : PeerId) → Emits sorts (row p)) → Emits sorts (from_peer from row)
+unfolding from_peer
+peer-emits (Peer p) row k = Emits_either (is_heard p) (row p) nothing (k p) Emits_nothing
+peer-emits Stranger row k = Emits_nothing
+
+-- what a peer says to the role
+pub emits_says : (from : Place) (m : MessageValue) → Emits silent_trace (from_peer from (peer_says m))
+unfolding peer_says
+emits_says from m = peer-emits from (λ p. reading role_at (says_in p m)) (λ p. Emits_reading role_at (says_in p m) (says-emits p m))
+
+replies-in : (p : PeerId) (r : ReplyValue) (role : Role) → Emits silent_trace (replies_in p r role)
+unfolding replies_in
+replies-in p r Master = Emits_more round_sorts refl (emits_samples p r)
+replies-in p r _ = Emits_nothing
+
+-- a stamp reply
+pub emits_replies_in : (from : Place) (r : ReplyValue) → Emits silent_trace (from_peer from (peer_replies r))
+unfolding peer_replies
+emits_replies_in from r = peer-emits from (λ p. reading role_at (replies_in p r)) (λ p. Emits_reading role_at (replies_in p r) (replies-in p r))
+
+-- the answer to a stamp request
+pub emits_reply : (from : Place) (word counter : ℕ) → Emits silent_trace (replies from word counter)
+unfolding replies posts_reply
+emits_reply from word counter = Emits_either is_in_range (posts_reply from word counter) nothing (record { only = λ x past. (refl, tt) }) Emits_nothing
+
+-- dates
+pub emits_dates : (charge : Bool) (from : Place) (m : MessageValue) (k : Kind) → matter_of k ≡ OfDates → Emits date_sorts (treats_kind charge from m k)
+unfolding treats_kind
+emits_dates charge from m Date e = emits_date_of charge from m
+emits_dates charge from m SetDate e = emits_date_of charge from m
+emits_dates charge from m DateReq e = peer-emits from (date_request_of charge m) (λ p. emits_date_request_of charge m p)
+emits_dates charge from m SetDateReq e = peer-emits from (date_request_of charge m) (λ p. emits_date_request_of charge m p)
+emits_dates charge from m DateAck e = peer-emits from (date_acked m) (λ p. emits_date_acked m p)
+emits_dates charge from m Msite e = let bad : ⊥ = cc in absurd bad
+emits_dates charge from m MsiteReq e = let bad : ⊥ = cc in absurd bad
+emits_dates charge from m TraceOn e = let bad : ⊥ = cc in absurd bad
+emits_dates charge from m TraceOff e = let bad : ⊥ = cc in absurd bad
+emits_dates charge from m Test e = let bad : ⊥ = cc in absurd bad
+emits_dates charge from m Loop e = let bad : ⊥ = cc in absurd bad
+emits_dates charge from m _ e = let bad : ⊥ = cc in absurd bad
+
+-- every kind of message
+kind-emits : (charge : Bool) (from : Place) (m : MessageValue) (k : Kind) → Emits bootless (treats_kind charge from m k)
+unfolding treats_kind
+kind-emits charge from m Msite = Emits_more client_sorts refl (emits_names_master from m.number)
+kind-emits charge from m MsiteReq = Emits_more client_sorts refl (emits_says_master from m.number)
+kind-emits charge from m TraceOn = Emits_more client_sorts refl (emits_traces from m.number true)
+kind-emits charge from m TraceOff = Emits_more client_sorts refl (emits_traces from m.number false)
+kind-emits charge from m Test = Emits_more client_sorts refl (emits_tests from m.number)
+kind-emits charge from m Date = Emits_more date_sorts refl (emits_dates charge from m Date refl)
+kind-emits charge from m SetDate = Emits_more date_sorts refl (emits_dates charge from m SetDate refl)
+kind-emits charge from m DateReq = Emits_more date_sorts refl (emits_dates charge from m DateReq refl)
+kind-emits charge from m SetDateReq = Emits_more date_sorts refl (emits_dates charge from m SetDateReq refl)
+kind-emits charge from m DateAck = Emits_more date_sorts refl (emits_dates charge from m DateAck refl)
+kind-emits charge from m Loop = Emits_nothing
+kind-emits charge from m _ = Emits_more silent_trace refl (emits_says from m)
+
+treats-emits : (steer charge : Bool) (from : Place) (t : Taken) → Emits bootless (treats steer charge from t)
+unfolding treats
+treats-emits steer charge from (Bad fault) = Emits_nothing
+treats-emits steer charge from (Good (Message m)) = Emits_either (is_left steer m.kind) nothing (treats_kind charge from m m.kind) Emits_nothing (kind-emits charge from m m.kind)
+treats-emits steer charge from (Good (Stamp (Request word counter))) = Emits_more silent_trace refl (emits_reply from word counter)
+treats-emits steer charge from (Good (Stamp (Reply r))) = Emits_more silent_trace refl (emits_replies_in from r)
+
+-- all that a port does with what it takes
+pub emits_takes : (steer charge : Bool) (from : Place) (t : Taken) → Emits bootless (takes steer charge from t)
+unfolding takes
+emits_takes steer charge from t = Emits_then (puts (Took from t)) _ (Emits_puts (Took from t) refl) (Emits_either (is_own from) nothing (treats steer charge from t) Emits_nothing (treats-emits steer charge from t))

@@ -1,0 +1,23 @@
+-- A round that goes on is given up.
+use Rattle.std.proofs.Common.{refl, ◌∙◌}
+use Rattle.tsp_base.specs.Rows.{nothing, puts}
+use Rattle.tsp_base.proofs.PerformsLemmas.{Performs_else_part, Performs_then_part}
+use Rattle.tsp_rules.specs.RoundRows.{abandons, abandons_going}
+use Rattle.tsp_rules.specs.Tests.{is_going_at}
+use Rattle.tsp_node.proofs.NodeLemmas.{abandoned, same_part}
+use Rattle.tsp_node.proofs.part.Part.abandon.Goals as goal
+
+pub returns-then-abandon-clause-row : goal.returns-then-abandon-clause-row
+unfolding abandons_going abandons puts
+returns-then-abandon-clause-row g c x clock =
+    Performs_then_part is_going_at nothing (λ past h. c.abandon.ensures.going past h.station ∙ c.if-abandon.true)
+    (record {
+      acts = λ past h. c.put.ensures.acts;
+      stands = λ past h. let s = c.abandon.ensures.stands c.if-abandon.true x past (record { first = h.master; second = h.station }) in abandoned x past h.last h.clock h.resolve h.dates s.second s.first;
+    })
+
+pub returns-else-abandon-clause-row : goal.returns-else-abandon-clause-row
+unfolding abandons_going
+returns-else-abandon-clause-row g c x clock =
+    let same = c.abandon.ensures.same c.if-abandon.false in
+    Performs_else_part is_going_at abandons (λ past h. c.abandon.ensures.going past h.station ∙ c.if-abandon.false) (same_part refl refl refl refl same.1 same.0)

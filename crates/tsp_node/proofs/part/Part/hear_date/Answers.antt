@@ -1,0 +1,21 @@
+-- A date is treated, and a correction noted.
+use Rattle.std.proofs.Common.{true, false, refl, sym}
+use Rattle.tsp_acks.proofs.FollowLemmas.{followed-Contains}
+use Rattle.tsp_node.proofs.NodeLemmas.{Performs_dated}
+use Rattle.tsp_node.proofs.TakeEmits.{emits_dates}
+use Rattle.tsp_node.proofs.part.Part.hear_date.Goals as goal
+
+pub date_take-corrected-requires-clause-followed : goal.date_take-corrected-requires-clause-followed
+date_take-corrected-requires-clause-followed g c = λ q e. followed-Contains c.args.self.now.station q e
+
+pub returns-then-corrected-clause-row : goal.returns-then-corrected-clause-row
+returns-then-corrected-clause-row g c =
+    let m = c.args.m.now in
+    let row = rw c.if-corrected.true at c.date_take-corrected.ensures.row in
+    Performs_dated true c.moved.ensures refl (emits_dates c.args.charge c.args.from m m.kind c.requires.matter) (λ took is. row c.args.self.now.last took (sym c.tick.ensures) is)
+
+pub returns-else-corrected-clause-row : goal.returns-else-corrected-clause-row
+returns-else-corrected-clause-row g c =
+    let m = c.args.m.now in
+    let row = rw c.if-corrected.false at c.date_take-corrected.ensures.row in
+    Performs_dated false refl refl (emits_dates c.args.charge c.args.from m m.kind c.requires.matter) (λ took is. row c.args.self.now.last took (sym c.tick.ensures) is)

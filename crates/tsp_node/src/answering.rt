@@ -1,0 +1,64 @@
+//! What a port answers to clients, whoever asks.
+ghost use Rattle.std.specs.Prelude.{◌≡◌, Bool, ◌+◌, ◌≤◌, length};
+ghost use Rattle.tsp_base.specs.declared.datagram.Datagram.TheVariants.{Message as MessageOf};
+ghost use Rattle.tsp_base.specs.declared.datagram.Taken.TheVariants.{Good};
+ghost use Rattle.tsp_base.specs.Frames.{IsTick, PutsAtMost};
+ghost use Rattle.tsp_base.specs.Performs.{Performs};
+ghost use Rattle.tsp_base.specs.PortFacts.{Received};
+ghost use Rattle.tsp_rules.specs.Answers.{treats_kind};
+ghost use Rattle.tsp_rules.specs.CommonRows.{tests};
+ghost use Rattle.tsp_clock.specs.Clocks.{ClockValue};
+ghost use Rattle.tsp_node.specs.declared.matter.Matter.TheVariants.{OfClients};
+ghost use Rattle.tsp_node.specs.Matters.{matter_of};
+ghost use Rattle.tsp_node.specs.NodeStands.{PartStands, PartTook, TakeStands, TookStands};
+
+use crate::part::Part;
+use tsp_base::desk::Desk;
+use tsp_base::kind::Kind;
+use tsp_base::message::Message;
+use tsp_base::place::{Place, Port};
+use tsp_clients::naming::{name_master, say_master};
+use tsp_clients::standing::take_test;
+use tsp_clients::tracing::turn_trace;
+
+impl Part {
+    /// Answers a client: who is master, whether the port leads, that the trace is turned on or off, and a test.
+    pub(crate) fn answer<D: Desk>(
+        &mut self,
+        tracing: &mut bool,
+        tick: u64,
+        from: Place,
+        m: &Message,
+        port: Port,
+        desk: &mut D,
+    )
+        requires room { length self.old.station.peers + 4 ≤ D.spare desk.old }
+        requires tick { IsTick tick }
+        requires matter { matter_of m.now.kind ≡ OfClients }
+        ensures row { (charge : Bool) (clock : ClockValue) → Performs (TookStands (record { from = from; taken = Good (MessageOf m.now) })) TakeStands (treats_kind charge from m.now m.now.kind) tick port ((self.old, clock), tracing.old) ((self.new, clock), tracing.new) (D.acts desk.old) (D.acts desk.new) }
+        ensures peers { self.new.station.peers ≡ self.old.station.peers }
+        ensures room { PutsAtMost (length self.old.station.peers + 4) (D.spare desk.old) (D.spare desk.new) (D.acts desk.old) (D.acts desk.new) }
+    {
+        let number = m.number();
+        match m.kind() {
+            Kind::Msite => name_master(&self.station, &self.last, from, number, port, desk),
+            Kind::MsiteReq => say_master(&self.station, from, number, port, desk),
+            Kind::TraceOn => turn_trace(&self.station, tracing, true, from, number, port, desk),
+            Kind::TraceOff => turn_trace(&self.station, tracing, false, from, number, port, desk),
+            _ => self.test(tick, from, number, port, desk),
+        }
+    }
+
+    /// Stands for election where a client asks for it and the port may.
+    fn test<D: Desk>(&mut self, tick: u64, from: Place, number: u16, port: Port, desk: &mut D)
+        requires room { length self.old.station.peers + 4 ≤ D.spare desk.old }
+        requires tick { IsTick tick }
+        ensures row { (r : Received) (clock : ClockValue) → Performs (PartTook r) PartStands (tests from number) tick port (self.old, clock) (self.new, clock) (D.acts desk.old) (D.acts desk.new) }
+        ensures peers { self.new.station.peers ≡ self.old.station.peers }
+        ensures room { PutsAtMost (length self.old.station.peers + 4) (D.spare desk.old) (D.spare desk.new) (D.acts desk.old) (D.acts desk.new) }
+    {
+        let led = self.leads();
+        take_test(&mut self.station, tick, from, number, port, desk);
+        self.part_from(led);
+    }
+}

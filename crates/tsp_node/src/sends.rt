@@ -1,0 +1,116 @@
+//! What a port does with its due sends.
+ghost use Rattle.std.specs.Prelude.{◌≡◌, ℕ, ◌+◌, ◌*◌, ◌≤◌, false, length, [], ◌∷◌, IfSome, IfNone};
+ghost use Rattle.std.specs.List.{Contains};
+ghost use Rattle.tsp_base.specs.declared.act.Act.TheVariants.{Post};
+ghost use Rattle.tsp_base.specs.declared.datagram.Datagram.TheVariants.{Message};
+ghost use Rattle.tsp_base.specs.declared.place.Place.TheVariants.{Peer};
+ghost use Rattle.tsp_base.specs.Frames.{IsTick, PutsAtMost};
+ghost use Rattle.tsp_base.specs.History.{Past};
+ghost use Rattle.tsp_base.specs.Messages.{MessageValue};
+ghost use Rattle.tsp_base.specs.Performs.{Performs};
+ghost use Rattle.tsp_base.specs.PortFacts.{acting};
+ghost use Rattle.tsp_base.specs.Rows.{grown};
+ghost use Rattle.tsp_base.specs.SendFacts.{is_correction};
+ghost use Rattle.tsp_rules.specs.SendRows.{due_send, due_sends, leaves_after};
+ghost use Rattle.tsp_sends.specs.Treating.{IsAfter, TreatsNext, peer_of};
+ghost use Rattle.tsp_clock.specs.Clocks.{ClockValue};
+ghost use Rattle.tsp_master.specs.MasterStands.{MasterStands};
+
+use crate::part::Part;
+use tsp_base::act::Act;
+use tsp_base::desk::Desk;
+use tsp_base::kind::Kind;
+use tsp_base::place::{PeerId, Port};
+use tsp_sends::Due;
+
+impl Part {
+    ghost use Rattle.tsp_node.specs.NodeStands.{PartBegun};
+
+    /// Treats every due send, ascending peers: each is posted again or given up, and a slave that doesn't
+    /// acknowledge a correction leaves. It is the first thing that a step does.
+    pub fn sends<D: Desk>(&mut self, tick: u64, port: Port, desk: &mut D)
+        requires tick { IsTick tick }
+        requires room { 2 * length self.old.station.peers + 16 ≤ D.spare desk.old }
+        ensures row { (clock : ClockValue) → Performs PartBegun PartBegun due_sends tick port (self.old, clock) (self.new, clock) (D.acts desk.old) (D.acts desk.new) }
+        ensures peers { self.new.station.peers ≡ self.old.station.peers }
+        ensures room { PutsAtMost (2 * length self.old.station.peers) (D.spare desk.old) (D.spare desk.new) (D.acts desk.old) (D.acts desk.new) }
+    {
+        let mut after = None;
+        // Each peer has one open send at most, so this many rounds are enough.
+        for _ in 0..self.station.peers().len() {
+            let Some(due) = self.treat_next(after, tick, port, desk) else {
+                return;
+            };
+            after = Some(due.peer());
+        }
+    }
+
+    /// Treats the due send to the least peer after this one. None exactly where none is due.
+    fn treat_next<D: Desk>(
+        &mut self,
+        after: Option<PeerId>,
+        tick: u64,
+        port: Port,
+        desk: &mut D,
+    ) -> Option<Due>
+        requires room { 2 ≤ D.spare desk.old }
+        requires tick { IsTick tick }
+        ensures next { IfSome result (λ due. Contains self.old.station.peers (peer_of due) × IsAfter after (peer_of due)) }
+        ensures sends { TreatsNext after tick self.old.station.sends self.new.station.sends result }
+        ensures row { IfSome result (λ due. (clock : ClockValue) → Performs PartBegun PartBegun (due_send (peer_of due)) tick port (self.old, clock) (self.new, clock) (D.acts desk.old) (D.acts desk.new)) }
+        ensures same { IfNone result ((self.new ≡ self.old) × (desk.new ≡ desk.old)) }
+        ensures peers { self.new.station.peers ≡ self.old.station.peers }
+        ensures room { PutsAtMost 2 (D.spare desk.old) (D.spare desk.new) (D.acts desk.old) (D.acts desk.new) }
+    {
+        let due = self.station.treat_next(after, tick, port, desk)?;
+        match due {
+            Due::Again(p, message) => {
+                self.repeat(p, message.kind(), tick);
+                Some(Due::Again(p, message))
+            }
+            Due::Gave(p, kind) => {
+                self.give_up(p, kind, port, desk);
+                Some(Due::Gave(p, kind))
+            }
+        }
+    }
+
+    /// Notes that a message of this kind was posted again to a peer.
+    fn repeat(&mut self, peer: PeerId, kind: Kind, tick: u64)
+        requires peer { Contains self.old.station.peers peer }
+        ensures stands { (past : Past) (m : MessageValue) → m.kind ≡ kind → acting past.seen ≡ false → MasterStands past self.old.master → MasterStands (grown tick past (Post (Peer peer) (Message m) ∷ [])) self.new.master }
+        ensures station { self.new.station ≡ self.old.station }
+        ensures last { self.new.last ≡ self.old.last }
+        ensures resolve { self.new.resolve ≡ self.old.resolve }
+        ensures dates { self.new.dates ≡ self.old.dates }
+    {
+        if corrects(kind) {
+            self.master.again(peer, tick);
+        }
+    }
+
+    /// Lets a slave leave that didn't acknowledge a send of this kind, if that was a correction.
+    fn give_up<D: Desk>(&mut self, peer: PeerId, kind: Kind, port: Port, desk: &mut D)
+        requires room { 1 ≤ D.spare desk.old }
+        ensures row { (x : ℕ) → Performs MasterStands MasterStands (leaves_after peer kind) x port self.old.master self.new.master (D.acts desk.old) (D.acts desk.new) }
+        ensures station { self.new.station ≡ self.old.station }
+        ensures last { self.new.last ≡ self.old.last }
+        ensures resolve { self.new.resolve ≡ self.old.resolve }
+        ensures dates { self.new.dates ≡ self.old.dates }
+        ensures room { PutsAtMost 1 (D.spare desk.old) (D.spare desk.new) (D.acts desk.old) (D.acts desk.new) }
+    {
+        if !corrects(kind) {
+            return;
+        }
+        if self.master.leave(peer) {
+            desk.put(port, Act::Leave(peer));
+        }
+    }
+}
+
+/// Whether messages of this kind correct a clock.
+pub(crate) fn corrects(kind: Kind) -> bool
+    ensures { result ≡ is_correction kind }
+{
+    matches!(kind, Kind::AdjTime | Kind::SetTime)
+}
