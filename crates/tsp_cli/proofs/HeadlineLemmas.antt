@@ -1,14 +1,20 @@
 -- From what a replay comes to, to the headline.
-use Rattle.std.specs.Prelude.{◌≡◌, ◌⊎◌, ℕ, List, [], ◌∷◌, ◌++◌, reverse, Option, All}
+use Rattle.std.specs.Prelude.{◌≡◌, ◌⊎◌, ℕ, ◌==◌, Bool, true, false, if◌then◌else◌, List, [], ◌∷◌, ◌++◌, reverse, Option, All}
 use Rattle.std.proofs.Common.{sym, ap, ◌∙◌, inl, inr, subst, append-nil, arith, length, take, drop, take-append-drop, ◌<◌, map, get_or}
 use Rattle.std.proofs.lemmas.List.{length-drop}
+use Rattle.std.proofs.lemmas.List.Elements.{All-cons, All-nil}
+use Rattle.hex.proofs.HexLemmas.{decode_of-ok}
 use Rattle.tsp_base.specs.declared.event.Event.{Event}
+use Rattle.tsp_base.specs.declared.event.Event.TheVariants.{Boot, Turn, Take, Bytes}
 use Rattle.tsp_base.specs.Headers.{HeaderValue}
 use Rattle.tsp_io.specs.Streams.{Grows}
-use Rattle.tsp_replay.specs.Schedules.{Progress, Untitled, Titled, Heading, Running, Ended, Reaches, GoesOn, RunsOn, IsEnded}
+use Rattle.tsp_script.specs.declared.event_line.EventItem.TheVariants.{Event as EventOf}
+use Rattle.tsp_script.specs.Schedules.{SpellsEvent}
+use Rattle.tsp_replay.specs.Schedules.{Progress, Untitled, Titled, Drifted, Heading, Running, Ended, Reaches, GoesOn, RunsOn, IsEnded, new_header}
 use Rattle.tsp_replay.specs.Traces.{written_at, trace}
+use Rattle.tsp_world.specs.Ranges.{Accepted, IsInRange}
 use Rattle.tsp_world.specs.Refusals.{Valid}
-use Rattle.tsp_world.proofs.RunSafe.{runs-safe}
+use Rattle.tsp_world.proofs.RunPromises.{runs-keep-promises}
 use Rattle.tsp_lines.specs.declared.limits.TheConstants.{MOST_INPUT}
 use Rattle.tsp_lines.specs.Lines.{NoFeed, AreLines, IsInput, IsOver}
 use Rattle.tsp_lines.specs.Outcomes.{Comes}
@@ -20,23 +26,35 @@ use Rattle.tsp_cli.specs.declared.status.Status.TheVariants.{Ok, WriteFault, Out
 use Rattle.tsp_cli.specs.Commands.{EndsAs, Says}
 use Rattle.tsp_cli.specs.Headline.{PrintsHistory}
 
--- the events that were read so far
+-- the events that were read so far are in their ranges, and nothing refuses them
 abbrev KeepsValid : Progress → Type 0
 KeepsValid Untitled = Unit {0}
-KeepsValid Titled = Unit {0}
+KeepsValid (Titled version) = Unit {0}
+KeepsValid (Drifted drift) = Unit {0}
 KeepsValid (Heading header) = Unit {0}
-KeepsValid (Running header events) = Valid header events
-KeepsValid (Ended header events) = Valid header events
+KeepsValid (Running header events) = Valid header events × All IsInRange events
+KeepsValid (Ended header events) = Valid header events × All IsInRange events
 
-run_valid : (header : HeaderValue) (events : List Event) (line : List ℕ) (to : Progress) → Valid header events → RunsOn header events line to → KeepsValid to
-run_valid header events line to v (inl g) = subst (λ p. KeepsValid p) (sym g.3) (g.2, v)
+-- what an event's line spells is in its range
+spelled_range : (line : List ℕ) (e : Event) → SpellsEvent line (EventOf e) → IsInRange e
+spelled_range line (Boot at node word) s = s.0.2
+spelled_range line (Turn at node) s = tt
+spelled_range line (Take at datagram) s = tt
+spelled_range line (Bytes at node port from octets) s = (decode_of-ok s.1.0 octets s.1.1).3
+
+run_valid : (header : HeaderValue) (events : List Event) (line : List ℕ) (to : Progress) → Valid header events × All IsInRange events → RunsOn header events line to → KeepsValid to
+run_valid header events line to v (inl g) = subst (λ p. KeepsValid p) (sym g.3) ((g.2, v.0), All-cons IsInRange g.0 events (spelled_range line g.0 g.1) v.1)
 run_valid header events line to v (inr g) = subst (λ p. KeepsValid p) (sym g.1) v
 
 goes_valid : (p : Progress) (line : List ℕ) (to : Progress) → KeepsValid p → GoesOn p line to → KeepsValid to
-goes_valid Untitled line to v g = subst (λ p. KeepsValid p) (sym g.1) tt
-goes_valid Titled line to v g = subst (λ p. KeepsValid p) (sym g.2) tt
+goes_valid Untitled line to v g = subst (λ p. KeepsValid p) (sym g.2) tt
+goes_valid (Titled version) line to v g = subst (λ p. KeepsValid p) (sym g.2) (by_version (version == 2)) where
+  by_version : (strict : Bool) → KeepsValid (if strict then Drifted g.0 else Heading (new_header g.0 false))
+  by_version true = tt
+  by_version false = tt
+goes_valid (Drifted drift) line to v g = subst (λ p. KeepsValid p) (sym g.1) tt
 goes_valid (Heading header) line to v (inl g) = subst (λ p. KeepsValid p) (sym g.3) tt
-goes_valid (Heading header) line to v (inr g) = run_valid header [] line to tt g.2
+goes_valid (Heading header) line to v (inr g) = run_valid header [] line to (tt, All-nil IsInRange) g.2
 goes_valid (Running header events) line to v g = run_valid header events line to v g
 goes_valid (Ended header events) line to v g = absurd g
 
@@ -48,14 +66,16 @@ Reaches-valid (line ∷ before) p r = goes_valid r.0 line p (Reaches-valid befor
 done_prints : (p : Progress) (input left written now : Option (List ℕ)) (lines : List (List ℕ)) (octets text said : List ℕ)
     → All NoFeed lines → Reaches (reverse lines) p → text ≡ written_at p → IsEnded p → said ≡ [] → AreLines octets lines → IsInput MOST_INPUT input octets → IsOver left → Grows written now (text ++ said) → PrintsHistory input left written now
 done_prints Untitled input left written now lines octets text said n r t e s a i o g = absurd e
-done_prints Titled input left written now lines octets text said n r t e s a i o g = absurd e
+done_prints (Titled version) input left written now lines octets text said n r t e s a i o g = absurd e
+done_prints (Drifted drift) input left written now lines octets text said n r t e s a i o g = absurd e
 done_prints (Heading header) input left written now lines octets text said n r t e s a i o g = absurd e
 done_prints (Running header events) input left written now lines octets text said n r t e s a i o g = absurd e
 done_prints (Ended header events) input left written now lines octets text said n r t e s a i o g =
-    let valid : Valid header events = Reaches-valid (reverse lines) (Ended header events) r in
+    let valid = Reaches-valid (reverse lines) (Ended header events) r in
     let all : text ++ said ≡ trace header events = ap (λ l. text ++ l) s ∙ append-nil text ∙ t in
     let is : IsSchedule octets header events = (lines, n, a, r) in
-    (header, events, octets, i, is, IsSchedule-header octets header events is, valid, o, subst (λ l. Grows written now l) all g, λ setting set. runs-safe header setting events set valid)
+    let accepted : Accepted header events = record { header_is = IsSchedule-header octets header events is; ranges = valid.1; valid = valid.0 } in
+    (header, events, octets, i, is, accepted, o, subst (λ l. Grows written now l) all g, λ setting set. runs-keep-promises header setting events set accepted)
 
 -- a replay that ends well printed the history of a schedule
 pub Comes-prints : (input left written now : Option (List ℕ)) → Comes replaying MOST_INPUT input left written now Done → PrintsHistory input left written now

@@ -1,20 +1,20 @@
 -- The headline: what a replay that ends well has read and written.
 use Rattle.std.specs.Prelude.{ℕ, List, Option}
 use Rattle.tsp_base.specs.declared.event.Event.{Event}
-use Rattle.tsp_base.specs.Headers.{HeaderValue, IsHeader}
-use Rattle.tsp_base.specs.Safe.{Safe}
+use Rattle.tsp_base.specs.Headers.{HeaderValue}
 use Rattle.tsp_base.specs.Setting.{Setting}
 use Rattle.tsp_io.specs.Streams.{Grows}
 use Rattle.tsp_lines.specs.declared.limits.TheConstants.{MOST_INPUT}
 use Rattle.tsp_lines.specs.Lines.{IsInput, IsOver}
 use Rattle.tsp_replay.specs.Meaning.{IsSchedule}
 use Rattle.tsp_replay.specs.Traces.{trace}
-use Rattle.tsp_world.specs.Refusals.{Valid}
+use Rattle.tsp_world.specs.Promises.{Promises}
+use Rattle.tsp_world.specs.Ranges.{Accepted}
 use Rattle.tsp_world.specs.Run.{run}
 use Rattle.tsp_world.specs.Setting.{SetBy}
 
--- the input was the text of a schedule whose header is in its ranges and of which no event is refused, nothing of it is left, and what was written is exactly the trace of its run, whose history keeps the promises
+-- the input was the text of a schedule whose header and events are in their ranges and of which no event is refused, nothing of it is left, and what was written is exactly the trace of its run, whose history keeps the promises
 abbrev pub PrintsHistory : Option (List ℕ) → Option (List ℕ) → Option (List ℕ) → Option (List ℕ) → Type 0
 PrintsHistory input left written now =
-    (header : HeaderValue) × (events : List Event) × (octets : List ℕ) × IsInput MOST_INPUT input octets × IsSchedule octets header events × IsHeader header × Valid header events × IsOver left × Grows written now (trace header events)
-    × ((setting : Setting) → SetBy header setting → Safe setting (run header events))
+    (header : HeaderValue) × (events : List Event) × (octets : List ℕ) × IsInput MOST_INPUT input octets × IsSchedule octets header events × Accepted header events × IsOver left × Grows written now (trace header events)
+    × ((setting : Setting) → SetBy header setting → Promises setting (run header events))

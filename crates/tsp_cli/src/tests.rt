@@ -200,11 +200,13 @@ fn replays(rt: HostRuntime) {
     }
 }
 
-/// Strict elections, networks and ports are read, and refused: each node has one port.
+/// Networks and ports are read, and refused: each node has one port. `strict` is the third line of the second
+/// version, and of no other.
 #[test]
 fn refuses_what_needs_ports(rt: HostRuntime) {
     for (input, written) in [
-        ("tsp-schedule 2\ndrift 0\nstrict\n", "bad 1 header\n"),
+        ("tsp-schedule 2\ndrift 0\nstrict\n", "bad 4 header\n"),
+        ("tsp-schedule 2\ndrift 0\nnode a 0 0 m\n", "bad 3 header\n"),
         ("tsp-schedule 1\ndrift 0\nstrict\n", "bad 3 header\n"),
         ("tsp-schedule 1\ndrift 0\nnet 0\n", "bad 3 header\n"),
         (

@@ -1,6 +1,6 @@
 -- What lines mean to a replay is definite, and a schedule's text has the answer that is due.
 use Rattle.std.proofs.Common.{◌≡◌, ℕ, ◌<◌, ◌≤◌, inl, inr, List, [], ◌∷◌, ◌++◌, Some, refl, sym, ap, ◌∙◌, subst, length, append-nil, arith}
-use Rattle.std.specs.Prelude.{reverse}
+use Rattle.std.specs.Prelude.{reverse, ◌==◌, Bool, true, false, if◌then◌else◌, refl}
 use Rattle.tsp_base.specs.declared.event.Event.{Event}
 use Rattle.tsp_base.specs.declared.event.EventFault.{EventFault}
 use Rattle.tsp_base.specs.declared.event.EventFault.TheVariants.{TimeBack, NoNode, NoDatagram, NotUp, Limit, OutOfMemory}
@@ -14,7 +14,7 @@ use Rattle.tsp_script.specs.Schedules.{SpellsEvent, SpellsHead}
 use Rattle.tsp_world.specs.Refusals.{scene, refusal}
 use Rattle.tsp_world.specs.Run.{gained}
 use Rattle.tsp_replay.specs.Meaning.{IsScheduleText, Replays, replaying}
-use Rattle.tsp_replay.specs.Schedules.{Progress, Untitled, Titled, Heading, Running, Ended, RunsOn, GoesOn, Reaches, IsCause, Refuses, RefusesRun, RefusesHeading, Limits, LimitsRun, Lacks, IsEnded, IsNoLine, OnOnePort, next_place}
+use Rattle.tsp_replay.specs.Schedules.{Progress, Untitled, Titled, Drifted, Heading, Running, Ended, RunsOn, GoesOn, Reaches, IsCause, Refuses, RefusesRun, RefusesHeading, Limits, LimitsRun, Lacks, IsEnded, IsNoLine, OnOnePort, next_place, new_header}
 use Rattle.tsp_replay.specs.Traces.{lines_text, trace, written_at}
 use Rattle.tsp_replay.proofs.OneReading.{Reaches-one, GoesOn-not_refused, GoesOn-not_limited, same_event, node_end, end_later}
 use Rattle.tsp_replay.proofs.TraceLemmas.{reverse-more, trace-more}
@@ -55,7 +55,8 @@ heading_end header line (inr (inr (inl (t, e)))) s n = let z : length header.nod
 -- a line is refused for one cause, and passes no limit
 Refuses-one : (p : Progress) (line cause other : List ℕ) → Refuses p line cause → Refuses p line other → cause ≡ other
 Refuses-one Untitled line cause other r s = r.1 ∙ sym s.1
-Refuses-one Titled line cause other r s = r.1 ∙ sym s.1
+Refuses-one (Titled version) line cause other r s = r.1 ∙ sym s.1
+Refuses-one (Drifted drift) line cause other r s = r.1 ∙ sym s.1
 Refuses-one (Heading header) line cause other (inl r) (inl s) = r.1 ∙ sym s.1
 Refuses-one (Heading header) line cause other (inl r) (inr s) = absurd (heading_end header line r.0 s.0 s.1)
 Refuses-one (Heading header) line cause other (inr r) (inl s) = absurd (heading_end header line s.0 r.0 r.1)
@@ -71,7 +72,8 @@ run_within header events line cause (inr (e, fault, spells, port, r, c)) (f, a, 
 
 Refuses-within : (p : Progress) (line cause : List ℕ) → Refuses p line cause → Limits p line → ⊥
 Refuses-within Untitled line cause r l = l
-Refuses-within Titled line cause r l = l
+Refuses-within (Titled version) line cause r l = l
+Refuses-within (Drifted drift) line cause r l = l
 Refuses-within (Heading header) line cause (inl r) l = heading_end header line r.0 l.0 l.1
 Refuses-within (Heading header) line cause (inr r) l = run_within header [] line cause r.2 l.2
 Refuses-within (Running header events) line cause r l = run_within header events line cause r l
@@ -83,7 +85,8 @@ nodes_apart header e n = let z : length header.nodes ≡ 0 = ap length e in omeg
 
 Lacks-one : (p : Progress) (cause other : List ℕ) → Lacks p cause → Lacks p other → cause ≡ other
 Lacks-one Untitled cause other r s = r ∙ sym s
-Lacks-one Titled cause other r s = r ∙ sym s
+Lacks-one (Titled version) cause other r s = r ∙ sym s
+Lacks-one (Drifted drift) cause other r s = r ∙ sym s
 Lacks-one (Heading header) cause other (inl r) (inl s) = r.1 ∙ sym s.1
 Lacks-one (Heading header) cause other (inl r) (inr s) = absurd (nodes_apart header r.0 s.0)
 Lacks-one (Heading header) cause other (inr r) (inl s) = absurd (nodes_apart header s.0 r.0)
@@ -93,7 +96,8 @@ Lacks-one (Ended header events) cause other r s = absurd r
 
 Lacks-not_ended : (p : Progress) (cause : List ℕ) → IsEnded p → Lacks p cause → ⊥
 Lacks-not_ended Untitled cause e l = e
-Lacks-not_ended Titled cause e l = e
+Lacks-not_ended (Titled version) cause e l = e
+Lacks-not_ended (Drifted drift) cause e l = e
 Lacks-not_ended (Heading header) cause e l = e
 Lacks-not_ended (Running header events) cause e l = e
 Lacks-not_ended (Ended header events) cause e l = l
@@ -104,8 +108,12 @@ run_more header events line to (inl g) = (lines_text (gained header (g.0 ∷ eve
 run_more header events line to (inr g) = ([], ap written_at g.1 ∙ sym (append-nil (trace header events)))
 
 written_more : (p : Progress) (line : List ℕ) (to : Progress) → GoesOn p line to → (more : List ℕ) × (written_at to ≡ written_at p ++ more)
-written_more Untitled line to g = ([], ap written_at g.1)
-written_more Titled line to g = ([], ap written_at g.2)
+written_more Untitled line to g = ([], ap written_at g.2)
+written_more (Titled version) line to g = ([], ap written_at g.2 ∙ by_version (version == 2)) where
+  by_version : (strict : Bool) → written_at (if strict then Drifted g.0 else Heading (new_header g.0 false)) ≡ []
+  by_version true = refl
+  by_version false = refl
+written_more (Drifted drift) line to g = ([], ap written_at g.1)
 written_more (Heading header) line to (inl g) = ([], ap written_at g.3)
 written_more (Heading header) line to (inr g) = run_more header [] line to g.2
 written_more (Running header events) line to g = run_more header events line to g

@@ -1,5 +1,5 @@
 -- No line of a schedule has more than 1,024 octets.
-use Rattle.std.specs.Prelude.{◌≡◌, ℕ, ◌*◌, ◌^◌, ◌<◌, ◌≤◌, if◌then◌else◌, List, [], ◌∷◌, ◌++◌, length, take, drop, decimal, codes, Bool, true, false, ◌==◌, refl}
+use Rattle.std.specs.Prelude.{◌≡◌, ℕ, ◌*◌, ◌^◌, ◌<◌, ◌≤◌, if◌then◌else◌, List, [], ◌∷◌, ◌++◌, length, take, drop, decimal, codes, Bool, true, false, ◌==◌, ◌&&◌, not, refl}
 use Rattle.std.proofs.Common.{sym, ap, ◌∙◌, inl, inr, arith, length-append, append_assoc, take-append-drop, subst, eqb-true}
 use Rattle.std.specs.Fmt.{signed_decimal}
 use Rattle.std.specs.List.{All}
@@ -21,9 +21,9 @@ use Rattle.tsp_script.specs.declared.head_line.HeadItem.TheVariants.{Title, Drif
 use Rattle.tsp_script.specs.Schedules.{event_text, port_text, node_text, numbers_text, net_text, flag_text, IsPlace, IsEvent, IsHexOf, IsNodeLine, IsNetLine, IsTitle, IsNotHead, SpellsEvent, SpellsHead}
 use Rattle.tsp_script.proofs.EventLines.{short_hex}
 use Rattle.tsp_script.proofs.Lengths.{number_length, signed_length}
-use Rattle.tsp_replay.specs.Schedules.{Progress, Untitled, Titled, Heading, Running, Ended, next_place, Refuses}
+use Rattle.tsp_replay.specs.Schedules.{Progress, Untitled, Titled, Drifted, Heading, Running, Ended, next_place, Refuses}
 use Rattle.tsp_replay.specs.Stages.{StageStands}
-use Rattle.tsp_replay.specs.declared.stage.Stage.TheVariants.{Titled as AtTitled, Heading as AtHeading, Running as AtRunning}
+use Rattle.tsp_replay.specs.declared.stage.Stage.TheVariants.{Titled as AtTitled, Drifted as AtDrifted, Heading as AtHeading, Running as AtRunning}
 use Rattle.tsp_world.specs.declared.world.World.{World}
 
 place_length : (p : Place) → IsPlace p → length (place_text p) ≤ 20
@@ -143,7 +143,7 @@ next_place_by true = omega arith
 next_place_by false = omega arith
 
 pub next_place-low : (header : HeaderValue) → 3 ≤ next_place header
-next_place-low header = next_place_by (length header.nodes == 0)
+next_place-low header = next_place_by (length header.nodes == 0 && not header.strict)
 
 -- what a line's first octets begin with, the line begins with
 starts : (front line start rest : List ℕ) → start ≡ take 8 line → start ≡ front ++ rest → line ≡ front ++ (rest ++ drop 8 line)
@@ -175,23 +175,34 @@ pub Refuses-other : (header : HeaderValue) (line : List ℕ) → 1024 < length l
 Refuses-other header line l s h = inr (s, h, inl (inl (SpellsEvent-long line l), refl))
 
 -- at a stage a long line is refused as where that stage stands
-pub Refuses-titled : (p : Progress) (line : List ℕ) → StageStands p AtTitled → 1024 < length line → Refuses p line (codes "header")
-Refuses-titled Untitled line s l = absurd s
-Refuses-titled Titled line s l = (SpellsHead-second line l, refl)
-Refuses-titled (Heading header) line s l = absurd s
-Refuses-titled (Running header events) line s l = absurd s
-Refuses-titled (Ended header events) line s l = absurd s
+pub Refuses-titled : (p : Progress) (version : ℕ) (line : List ℕ) → StageStands p (AtTitled version) → 1024 < length line → Refuses p line (codes "header")
+Refuses-titled Untitled version line s l = absurd s
+Refuses-titled (Titled read) version line s l = (SpellsHead-second line l, refl)
+Refuses-titled (Drifted drift) version line s l = absurd s
+Refuses-titled (Heading header) version line s l = absurd s
+Refuses-titled (Running header events) version line s l = absurd s
+Refuses-titled (Ended header events) version line s l = absurd s
+
+pub Refuses-drifted : (p : Progress) (held : HeaderValue) (line : List ℕ) → StageStands p (AtDrifted held) → 1024 < length line → Refuses p line (codes "header")
+Refuses-drifted Untitled held line s l = absurd s
+Refuses-drifted (Titled version) held line s l = absurd s
+Refuses-drifted (Drifted drift) held line s l = ((λ k. let z : length line ≡ length (codes "strict") = ap length k.1 in omega (arith, l, z)), refl)
+Refuses-drifted (Heading header) held line s l = absurd s
+Refuses-drifted (Running header events) held line s l = absurd s
+Refuses-drifted (Ended header events) held line s l = absurd s
 
 pub Refuses-heading : (p : Progress) (held : HeaderValue) (line cause : List ℕ) → StageStands p (AtHeading held) → Refuses (Heading held) line cause → Refuses p line cause
 Refuses-heading Untitled held line cause s r = absurd s
-Refuses-heading Titled held line cause s r = absurd s
+Refuses-heading (Titled version) held line cause s r = absurd s
+Refuses-heading (Drifted drift) held line cause s r = absurd s
 Refuses-heading (Heading header) held line cause s r = subst {A = HeaderValue} (λ h. Refuses (Heading h) line cause) s r
 Refuses-heading (Running header events) held line cause s r = absurd s
 Refuses-heading (Ended header events) held line cause s r = absurd s
 
 pub Refuses-running : (p : Progress) (world : World) (line : List ℕ) → StageStands p (AtRunning world) → 1024 < length line → Refuses p line (codes "line")
 Refuses-running Untitled world line s l = absurd s
-Refuses-running Titled world line s l = absurd s
+Refuses-running (Titled version) world line s l = absurd s
+Refuses-running (Drifted drift) world line s l = absurd s
 Refuses-running (Heading header) world line s l = absurd s
 Refuses-running (Running header events) world line s l = inl (inl (SpellsEvent-long line l), refl)
 Refuses-running (Ended header events) world line s l = absurd s

@@ -1,17 +1,17 @@
 -- Lines are read in one way, and none of a schedule is refused.
 use Rattle.std.proofs.Common.{◌≡◌, ℕ, inl, inr, List, [], ◌∷◌, ◌++◌, None, sym, ap, ◌∙◌, subst, length, arith}
-use Rattle.std.specs.Prelude.{reverse}
+use Rattle.std.specs.Prelude.{reverse, ◌==◌}
 use Rattle.tsp_base.specs.declared.event.Event.{Event}
 use Rattle.tsp_base.specs.declared.header.NodeLine.{NodeLine}
 use Rattle.tsp_base.specs.Headers.{HeaderValue}
 use Rattle.tsp_lines.proofs.OneCut.{AreLines-one}
 use Rattle.tsp_script.specs.declared.event_line.EventItem.TheVariants.{Event as EventOf, End}
-use Rattle.tsp_script.specs.declared.head_line.HeadItem.TheVariants.{Drift, Strict, Node, Net, NotHead}
+use Rattle.tsp_script.specs.declared.head_line.HeadItem.TheVariants.{Title, Drift, Strict, Node, Net, NotHead}
 use Rattle.tsp_script.specs.Schedules.{SpellsEvent, SpellsHead}
 use Rattle.tsp_script.proofs.OneEvent.{SpellsEvent-one}
 use Rattle.tsp_script.proofs.OneHead.{SpellsHead-one}
 use Rattle.tsp_replay.specs.Meaning.{IsSchedule}
-use Rattle.tsp_replay.specs.Schedules.{Progress, Untitled, Titled, Heading, Running, Ended, Takes, OnOnePort, next_place, new_header, IsLater, RunsOn, GoesOn, Reaches, Refuses, RefusesRun, Limits, LimitsRun}
+use Rattle.tsp_replay.specs.Schedules.{Progress, Untitled, Titled, Drifted, Heading, Running, Ended, Takes, OnOnePort, next_place, new_header, IsLater, RunsOn, GoesOn, Reaches, Refuses, RefusesRun, Limits, LimitsRun, drifted}
 use Rattle.tsp_world.specs.Refusals.{scene, refusal}
 
 pub same_event : (line : List ℕ) (e f : Event) → SpellsEvent line (EventOf e) → SpellsEvent line (EventOf f) → e ≡ f
@@ -35,6 +35,9 @@ pub end_later : (header : HeaderValue) (line : List ℕ) → SpellsHead (next_pl
 end_later header line s (inl t) = let p = SpellsHead-one (next_place header) line NotHead Strict s t in absurd (cc)
 end_later header line s (inr t) = let p = SpellsHead-one (next_place header) line NotHead (Net t.0) s t.1 in absurd (cc)
 
+same_title : (line : List ℕ) (v w : ℕ) → SpellsHead 1 line (Title v) → SpellsHead 1 line (Title w) → v ≡ w
+same_title line v w s t = let e = SpellsHead-one 1 line (Title v) (Title w) s t in cc
+
 same_drift : (line : List ℕ) (p q : ℕ) → SpellsHead 2 line (Drift p) → SpellsHead 2 line (Drift q) → p ≡ q
 same_drift line p q s t = let e = SpellsHead-one 2 line (Drift p) (Drift q) s t in cc
 
@@ -46,8 +49,9 @@ RunsOn-one header events line p q (inr g) (inl h) = absurd (event_end line h.0 h
 RunsOn-one header events line p q (inr g) (inr h) = g.1 ∙ sym h.1
 
 GoesOn-one : (at : Progress) (line : List ℕ) (p q : Progress) → GoesOn at line p → GoesOn at line q → p ≡ q
-GoesOn-one Untitled line p q g h = g.1 ∙ sym h.1
-GoesOn-one Titled line p q g h = g.2 ∙ ap (λ d. Heading (new_header d)) (same_drift line g.0 h.0 g.1 h.1) ∙ sym h.2
+GoesOn-one Untitled line p q g h = g.2 ∙ ap Titled (same_title line g.0 h.0 g.1 h.1) ∙ sym h.2
+GoesOn-one (Titled version) line p q g h = g.2 ∙ ap (λ d. drifted version d) (same_drift line g.0 h.0 g.1 h.1) ∙ sym h.2
+GoesOn-one (Drifted drift) line p q g h = g.1 ∙ sym h.1
 GoesOn-one (Heading header) line p q (inl g) (inl h) = g.3 ∙ ap (λ n. Heading (record header { nodes = header.nodes ++ n ∷ [] })) (same_node (next_place header) line g.0 h.0 g.1 h.1) ∙ sym h.3
 GoesOn-one (Heading header) line p q (inl g) (inr h) = absurd (node_end (next_place header) line g.0 g.1 h.0)
 GoesOn-one (Heading header) line p q (inr g) (inl h) = absurd (node_end (next_place header) line h.0 h.1 g.0)
@@ -72,8 +76,9 @@ RunsOn-not_refused header events line cause p (inr g) (inl (inr (e, s, n), c)) =
 RunsOn-not_refused header events line cause p (inr g) (inr r) = event_end line r.0 r.2 g.0
 
 pub GoesOn-not_refused : (at : Progress) (line cause : List ℕ) (p : Progress) → GoesOn at line p → Refuses at line cause → ⊥
-GoesOn-not_refused Untitled line cause p g r = r.0 g.0
-GoesOn-not_refused Titled line cause p g r = r.0 (Drift g.0) g.1
+GoesOn-not_refused Untitled line cause p g r = r.0 g.0 g.1
+GoesOn-not_refused (Titled version) line cause p g r = r.0 (Drift g.0) g.1
+GoesOn-not_refused (Drifted drift) line cause p g r = r.0 g.0
 GoesOn-not_refused (Heading header) line cause p (inl g) (inl (inl none, e)) = none (Node g.0) g.1
 GoesOn-not_refused (Heading header) line cause p (inl g) (inl (inr (inl (node, s, n)), e)) = n (subst (λ x. Takes header x) (same_node (next_place header) line g.0 node g.1 s) g.2)
 GoesOn-not_refused (Heading header) line cause p (inl g) (inl (inr (inr (inl r)), e)) = node_end (next_place header) line g.0 g.1 r.0
@@ -97,7 +102,8 @@ RunsOn-not_limited header events line p (inr g) r = event_end line r.0 r.3 g.0
 
 pub GoesOn-not_limited : (at : Progress) (line : List ℕ) (p : Progress) → GoesOn at line p → Limits at line → ⊥
 GoesOn-not_limited Untitled line p g r = r
-GoesOn-not_limited Titled line p g r = r
+GoesOn-not_limited (Titled version) line p g r = r
+GoesOn-not_limited (Drifted drift) line p g r = r
 GoesOn-not_limited (Heading header) line p (inl g) r = node_end (next_place header) line g.0 g.1 r.0
 GoesOn-not_limited (Heading header) line p (inr g) r = RunsOn-not_limited header [] line p g.2 r.2
 GoesOn-not_limited (Running header events) line p g r = RunsOn-not_limited header events line p g r

@@ -1,23 +1,24 @@
 -- The header of lines that are a schedule's keeps its ranges.
 use Rattle.std.proofs.Common.{◌≡◌, ℕ, ◌≤◌, length, ap, inl, inr, List, [], ◌∷◌, ◌++◌, length-append, sym, subst, arith}
-use Rattle.std.specs.Prelude.{reverse}
+use Rattle.std.specs.Prelude.{reverse, ◌==◌, Bool, true, false, if◌then◌else◌, refl}
 use Rattle.std.proofs.lemmas.List.Elements.{All-push}
 use Rattle.tsp_base.specs.declared.event.Event.{Event}
 use Rattle.tsp_base.specs.declared.header.NodeLine.{NodeLine}
 use Rattle.tsp_base.specs.Headers.{HeaderValue, IsHeader, Keeps}
 use Rattle.tsp_replay.specs.Meaning.{IsSchedule}
-use Rattle.tsp_replay.specs.Schedules.{Progress, Untitled, Titled, Heading, Running, Ended, Takes, new_header, RunsOn, GoesOn, Reaches}
+use Rattle.tsp_replay.specs.Schedules.{Progress, Untitled, Titled, Drifted, Heading, Running, Ended, Takes, new_header, RunsOn, GoesOn, Reaches}
 
 -- the header that was read so far keeps its ranges
 abbrev KeepsHeader : Progress → Type 0
 KeepsHeader Untitled = Unit {0}
-KeepsHeader Titled = Unit {0}
+KeepsHeader (Titled version) = Unit {0}
+KeepsHeader (Drifted drift) = drift ≤ 1000
 KeepsHeader (Heading header) = IsHeader header
 KeepsHeader (Running header events) = IsHeader header
 KeepsHeader (Ended header events) = IsHeader header
 
-no_nodes : (drift : ℕ) → drift ≤ 1000 → IsHeader (new_header drift)
-no_nodes drift small = record {
+no_nodes : (drift : ℕ) (strict : Bool) → drift ≤ 1000 → IsHeader (new_header drift strict)
+no_nodes drift strict small = record {
   small = small;
   few = omega arith;
   kept = λ k d h. absurd (omega (arith, h));
@@ -41,8 +42,12 @@ run_header header events line to h (inl g) = subst (λ p. KeepsHeader p) (sym g.
 run_header header events line to h (inr g) = subst (λ p. KeepsHeader p) (sym g.1) h
 
 goes_header : (p : Progress) (line : List ℕ) (to : Progress) → KeepsHeader p → GoesOn p line to → KeepsHeader to
-goes_header Untitled line to h g = subst (λ p. KeepsHeader p) (sym g.1) tt
-goes_header Titled line to h g = subst (λ p. KeepsHeader p) (sym g.2) (no_nodes g.0 g.1.1)
+goes_header Untitled line to h g = subst (λ p. KeepsHeader p) (sym g.2) tt
+goes_header (Titled version) line to h g = subst (λ p. KeepsHeader p) (sym g.2) (by_version (version == 2)) where
+  by_version : (strict : Bool) → KeepsHeader (if strict then Drifted g.0 else Heading (new_header g.0 false))
+  by_version true = g.1.1
+  by_version false = no_nodes g.0 false g.1.1
+goes_header (Drifted drift) line to h g = subst (λ p. KeepsHeader p) (sym g.1) (no_nodes drift true h)
 goes_header (Heading header) line to h (inl g) = subst (λ p. KeepsHeader p) (sym g.3) (one_node header g.0 h g.2)
 goes_header (Heading header) line to h (inr g) = run_header header [] line to h g.2
 goes_header (Running header events) line to h g = run_header header events line to h g

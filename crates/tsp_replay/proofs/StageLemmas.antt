@@ -1,5 +1,5 @@
 -- How a stage goes on, and how it halts.
-use Rattle.std.specs.Prelude.{◌≡◌, ◌≢◌, ℕ, ◌<◌, List, [], ◌∷◌, ◌++◌, length, Ok, Err, None, MatchResult, codes, refl}
+use Rattle.std.specs.Prelude.{◌≡◌, ◌≢◌, ℕ, ◌<◌, List, [], ◌∷◌, ◌++◌, length, Ok, Err, None, MatchResult, codes, refl, true}
 use Rattle.std.proofs.Common.{sym, ap, ◌∙◌, inl, inr, subst}
 use Rattle.std.specs.declared.result.Result.{Result}
 use Rattle.tsp_base.specs.declared.event.Event.{Event}
@@ -12,15 +12,15 @@ use Rattle.tsp_lines.specs.declared.treatment.Stop.TheVariants.{Bad, Limit, Writ
 use Rattle.tsp_script.specs.declared.event_line.EventItem.{EventItem}
 use Rattle.tsp_script.specs.declared.event_line.EventItem.TheVariants.{Event as EventOf, End}
 use Rattle.tsp_script.specs.declared.head_line.HeadItem.{HeadItem}
-use Rattle.tsp_script.specs.declared.head_line.HeadItem.TheVariants.{Title, Drift, Node, NotHead}
+use Rattle.tsp_script.specs.declared.head_line.HeadItem.TheVariants.{Title, Drift, Strict, Node, NotHead}
 use Rattle.tsp_script.specs.declared.line_fault.LineFault.{LineFault}
 use Rattle.tsp_script.specs.Schedules.{SpellsEvent, SpellsHead}
 use Rattle.tsp_world.specs.declared.world.World.{World}
 use Rattle.tsp_world.specs.Refusals.{scene, refusal, IsRefusal}
 use Rattle.tsp_world.specs.WorldStands.{WorldStands}
 use Rattle.tsp_replay.specs.declared.stage.Stage.{Stage}
-use Rattle.tsp_replay.specs.declared.stage.Stage.TheVariants.{Titled as AtTitled, Heading as AtHeading, Running as AtRunning, Ended as AtEnded}
-use Rattle.tsp_replay.specs.Schedules.{Progress, Untitled, Titled, Heading, Running, Ended, GoesOn, RunsOn, Takes, OnOnePort, next_place, new_header, IsCause}
+use Rattle.tsp_replay.specs.declared.stage.Stage.TheVariants.{Titled as AtTitled, Drifted as AtDrifted, Heading as AtHeading, Running as AtRunning, Ended as AtEnded}
+use Rattle.tsp_replay.specs.Schedules.{Progress, Untitled, Titled, Drifted, Heading, Running, Ended, GoesOn, RunsOn, Takes, OnOnePort, next_place, new_header, IsCause, drifted}
 use Rattle.tsp_replay.specs.Stages.{StageStands, Advances, AdvancesRun, Halts, HaltsRun, HaltsFirst, HaltsNode, HaltsPort, HaltsEvent, StopsFor}
 
 pub MatchResult-map : {A B : Type 0} {P R : A → Type 0} {Q S : B → Type 0} (r : Result A B) → MatchResult r P Q → ((a : A) → P a → R a) → ((b : B) → Q b → S b) → MatchResult r R S
@@ -120,30 +120,35 @@ AdvancesRun-end header events line r is one spells = record {
 title_same : (r : Result HeadItem LineFault) (v w : ℕ) → r ≡ Ok (Title v) → r ≡ Ok (Title w) → v ≡ w
 title_same r v w p q = cc
 
--- the title of the first version is accepted
-pub Advances-title : (v : ℕ) (line : List ℕ) (next : Stage) → SpellsHead 1 line (Title v) → v ≡ 1 → next ≡ AtTitled → Advances Untitled line next
-Advances-title v line next spells first next_is = record {
-  to = Titled;
-  goes = (subst (λ (k : ℕ). SpellsHead 1 line (Title k)) first spells, refl);
-  stands = subst (λ s. StageStands Titled s) (sym next_is) tt;
-  only = λ other g. g.1;
+-- the title is accepted
+pub Advances-title : (v : ℕ) (line : List ℕ) (r : Result HeadItem LineFault) → r ≡ Ok (Title v) → ((item : HeadItem) → SpellsHead 1 line item → r ≡ Ok item) → SpellsHead 1 line (Title v) → Advances Untitled line (AtTitled v)
+Advances-title v line r is one spells = record {
+  to = Titled v;
+  goes = (v, spells, refl);
+  stands = refl;
+  only = λ other g. g.2 ∙ ap Titled (title_same r g.0 v (one (Title g.0) g.1) is);
 }
-
--- and that of another is refused
-pub Halts-title : (v : ℕ) (line : List ℕ) (stop : Stop) (r : Result HeadItem LineFault) → r ≡ Ok (Title v) → ((item : HeadItem) → SpellsHead 1 line item → r ≡ Ok item) → v ≢ 1 → stop ≡ Bad (codes "header") → Halts Untitled line stop
-Halts-title v line stop r is one other stop_is = subst (λ s. Halts Untitled line s) (sym stop_is) ((λ s. other (title_same r v 1 is (one (Title 1) s))), refl)
 
 drift_same : (r : Result HeadItem LineFault) (d other : ℕ) → r ≡ Ok (Drift d) → r ≡ Ok (Drift other) → other ≡ d
 drift_same r d other p q = cc
 
 -- the second line is accepted
-pub Advances-drift : (d : ℕ) (line : List ℕ) (held : HeaderValue) (r : Result HeadItem LineFault) → r ≡ Ok (Drift d) → ((item : HeadItem) → SpellsHead 2 line item → r ≡ Ok item) → SpellsHead 2 line (Drift d) →
-    held ≡ new_header d → Advances Titled line (AtHeading held)
-Advances-drift d line held r is one spells held_is = record {
-  to = Heading (new_header d);
+pub Advances-drift : (version d : ℕ) (line : List ℕ) (next : Stage) (r : Result HeadItem LineFault) → r ≡ Ok (Drift d) → ((item : HeadItem) → SpellsHead 2 line item → r ≡ Ok item) → SpellsHead 2 line (Drift d) →
+    StageStands (drifted version d) next → Advances (Titled version) line next
+Advances-drift version d line next r is one spells stands = record {
+  to = drifted version d;
   goes = (d, spells, refl);
+  stands = stands;
+  only = λ other g. g.2 ∙ ap (λ k. drifted version k) (drift_same r d g.0 is (one (Drift g.0) g.1));
+}
+
+-- the third line of a strict schedule is accepted
+pub Advances-strict : (drift : ℕ) (line : List ℕ) (held : HeaderValue) → SpellsHead 3 line Strict → held ≡ new_header drift true → Advances (Drifted drift) line (AtHeading held)
+Advances-strict drift line held spells held_is = record {
+  to = Heading (new_header drift true);
+  goes = (spells, refl);
   stands = held_is;
-  only = λ other g. g.2 ∙ ap (λ k. Heading (new_header k)) (drift_same r d g.0 is (one (Drift g.0) g.1));
+  only = λ other g. g.1;
 }
 
 node_same : (r : Result HeadItem LineFault) (n other : NodeLine) → r ≡ Ok (Node n) → r ≡ Ok (Node other) → other ≡ n
@@ -212,8 +217,27 @@ Halts-run header events line OutOfMemory h = tt
 pub running-next : (p : Progress) (world : World) (line : List ℕ) (r : Result Stage Stop) → StageStands p (AtRunning world) →
     ((header : HeaderValue) (events : List Event) → WorldStands header events world → MatchResult r (AdvancesRun header events line) (HaltsRun header events line)) → MatchResult r (Advances p line) (Halts p line)
 running-next Untitled world line r h f = absurd h
-running-next Titled world line r h f = absurd h
+running-next (Titled version) world line r h f = absurd h
+running-next (Drifted drift) world line r h f = absurd h
 running-next (Heading header) world line r h f = absurd h
 running-next (Running header events) world line r h f =
     MatchResult-map r (f header events h) (λ next a. record { to = a.to; goes = a.goes; stands = a.stands; only = a.only }) (λ stop s. Halts-run header events line stop s)
 running-next (Ended header events) world line r h f = absurd h
+
+-- a stage behind the title or the drift goes on as from the only place for which it stands
+pub titled-next : (p : Progress) (version : ℕ) (line : List ℕ) (r : Result Stage Stop) → StageStands p (AtTitled version) → MatchResult r (Advances (Titled version) line) (Halts (Titled version) line) → MatchResult r (Advances p line) (Halts p line)
+titled-next Untitled version line r h f = absurd h
+titled-next (Titled read) version line r h f = subst (λ (v : ℕ). MatchResult r (Advances (Titled v) line) (Halts (Titled v) line)) h f
+titled-next (Drifted drift) version line r h f = absurd h
+titled-next (Heading header) version line r h f = absurd h
+titled-next (Running header events) version line r h f = absurd h
+titled-next (Ended header events) version line r h f = absurd h
+
+pub drifted-next : (p : Progress) (held : HeaderValue) (line : List ℕ) (r : Result Stage Stop) → StageStands p (AtDrifted held) →
+    ((drift : ℕ) → held ≡ new_header drift true → MatchResult r (Advances (Drifted drift) line) (Halts (Drifted drift) line)) → MatchResult r (Advances p line) (Halts p line)
+drifted-next Untitled held line r h f = absurd h
+drifted-next (Titled version) held line r h f = absurd h
+drifted-next (Drifted drift) held line r h f = f drift h
+drifted-next (Heading header) held line r h f = absurd h
+drifted-next (Running header events) held line r h f = absurd h
+drifted-next (Ended header events) held line r h f = absurd h

@@ -1,5 +1,5 @@
 -- Reading a schedule line by line: how far a list of lines has come, which line may follow, and why one is refused.
-use Rattle.std.specs.Prelude.{◌≡◌, ◌⊎◌, ℕ, ◌<◌, ◌==◌, if◌then◌else◌, false, List, [], ◌∷◌, ◌++◌, length, Some, None, codes, decimal}
+use Rattle.std.specs.Prelude.{◌≡◌, ◌⊎◌, ℕ, ◌<◌, ◌==◌, if◌then◌else◌, false, List, [], ◌∷◌, ◌++◌, length, Some, None, codes, decimal, ◌&&◌, not, Bool, true}
 use Rattle.tsp_base.specs.declared.event.Event.{Event}
 use Rattle.tsp_base.specs.declared.event.Event.TheVariants.{Boot, Turn, Take, Bytes}
 use Rattle.tsp_base.specs.declared.event.EventFault.{EventFault}
@@ -17,9 +17,11 @@ use Rattle.tsp_world.specs.Refusals.{scene, refusal}
 pub data Progress : Type 0 where
   -- no line was read
   Untitled : Progress
-  -- the title was read
-  Titled : Progress
-  -- the drift and some nodes, maybe none, were read
+  -- the title of this version was read
+  Titled : (version : ℕ) → Progress
+  -- the title of the second version and the drift were read: `strict` has to follow
+  Drifted : (drift : ℕ) → Progress
+  -- the header up to some nodes, maybe none, was read
   Heading : (header : HeaderValue) → Progress
   -- the header ended, and these events, one at least, were read
   Running : (header : HeaderValue) → (events : List Event) → Progress
@@ -32,9 +34,9 @@ pub record Takes (header : HeaderValue) (node : NodeLine) : Type 0 where
   pub few : length header.nodes < 64
   pub kept : Keeps header.drift node
 
--- the place of the next line in a header: the third, or a later one
+-- the place of the next line in a header: the third, or a later one; where elections are strict, that was said in the third
 abbrev pub next_place : HeaderValue → ℕ
-next_place header = if length header.nodes == 0 then 3 else 4
+next_place header = if length header.nodes == 0 && not header.strict then 3 else 4
 
 -- an event that a node with one port can take; replays take no other yet
 abbrev pub OnOnePort : Event → Type 0
@@ -49,14 +51,19 @@ RunsOn header events line next =
     ((e : Event) × SpellsEvent line (EventOf e) × (refusal (scene header events) e ≡ None) × (next ≡ Running header (e ∷ events)) × OnOnePort e)
     ⊎ (SpellsEvent line End × (next ≡ Ended header events))
 
--- a header behind the drift; replays take no strict elections yet
-abbrev pub new_header : ℕ → HeaderValue
-new_header drift = record { drift = drift; strict = false; nodes = []; nets = [] }
+-- a header without nodes, in whose elections a majority is wanted or isn't
+abbrev pub new_header : ℕ → Bool → HeaderValue
+new_header drift strict = record { drift = drift; strict = strict; nodes = []; nets = [] }
+
+-- how far the drift's line brings a schedule of this version
+abbrev pub drifted : ℕ → ℕ → Progress
+drifted version drift = if version == 2 then Drifted drift else Heading (new_header drift false)
 
 -- a line may follow, and this is how far it brings the schedule
 abbrev pub GoesOn : Progress → List ℕ → Progress → Type 0
-GoesOn Untitled line next = SpellsHead 1 line (Title 1) × (next ≡ Titled)
-GoesOn Titled line next = (drift : ℕ) × SpellsHead 2 line (Drift drift) × (next ≡ Heading (new_header drift))
+GoesOn Untitled line next = (version : ℕ) × SpellsHead 1 line (Title version) × (next ≡ Titled version)
+GoesOn (Titled version) line next = (drift : ℕ) × SpellsHead 2 line (Drift drift) × (next ≡ drifted version drift)
+GoesOn (Drifted drift) line next = SpellsHead 3 line Strict × (next ≡ Heading (new_header drift true))
 GoesOn (Heading header) line next =
     ((node : NodeLine) × SpellsHead (next_place header) line (Node node) × Takes header node × (next ≡ Heading (record header { nodes = header.nodes ++ node ∷ [] })))
     ⊎ (SpellsHead (next_place header) line NotHead × (0 < length header.nodes) × RunsOn header [] line next)
@@ -87,11 +94,11 @@ RefusesRun header events line cause =
     (IsNoLine line × (cause ≡ codes "line"))
     ⊎ ((e : Event) × (fault : EventFault) × SpellsEvent line (EventOf e) × OnOnePort e × (refusal (scene header events) e ≡ Some fault) × IsCause fault cause)
 
--- a line of the header that replays don't take yet: `strict`, or a network's
+-- a line that the header can't take behind its drift: `strict`, which has its own place, or a network's, which replays don't take yet
 abbrev pub IsLater : HeaderValue → List ℕ → Type 0
 IsLater header line = SpellsHead (next_place header) line Strict ⊎ ((members : List ℕ) × SpellsHead (next_place header) line (Net members))
 
--- a line of the header is refused: it is none of the header's, or a node that the header can't take, or it ends the header before a node, or replays don't take it yet
+-- a line of the header is refused: it is none of the header's, or a node that the header can't take, or it ends the header before a node, or it comes too late or too early
 abbrev pub RefusesHeading : HeaderValue → List ℕ → Type 0
 RefusesHeading header line =
     ((item : HeadItem) → SpellsHead (next_place header) line item → ⊥)
@@ -99,8 +106,9 @@ RefusesHeading header line =
 
 -- a line may not follow, for this cause
 abbrev pub Refuses : Progress → List ℕ → List ℕ → Type 0
-Refuses Untitled line cause = (SpellsHead 1 line (Title 1) → ⊥) × (cause ≡ codes "header")
-Refuses Titled line cause = ((item : HeadItem) → SpellsHead 2 line item → ⊥) × (cause ≡ codes "header")
+Refuses Untitled line cause = ((version : ℕ) → SpellsHead 1 line (Title version) → ⊥) × (cause ≡ codes "header")
+Refuses (Drifted drift) line cause = (SpellsHead 3 line Strict → ⊥) × (cause ≡ codes "header")
+Refuses (Titled version) line cause = ((item : HeadItem) → SpellsHead 2 line item → ⊥) × (cause ≡ codes "header")
 Refuses (Heading header) line cause =
     (RefusesHeading header line × (cause ≡ codes "header"))
     ⊎ (SpellsHead (next_place header) line NotHead × (0 < length header.nodes) × RefusesRun header [] line cause)
@@ -114,7 +122,8 @@ LimitsRun header events line = (e : Event) × (a : ℕ) × (b : ℕ) × SpellsEv
 -- a line may not follow, since it passes a limit
 abbrev pub Limits : Progress → List ℕ → Type 0
 Limits Untitled line = ⊥
-Limits Titled line = ⊥
+Limits (Titled version) line = ⊥
+Limits (Drifted drift) line = ⊥
 Limits (Heading header) line = SpellsHead (next_place header) line NotHead × (0 < length header.nodes) × LimitsRun header [] line
 Limits (Running header events) line = LimitsRun header events line
 Limits (Ended header events) line = ⊥
@@ -122,7 +131,8 @@ Limits (Ended header events) line = ⊥
 -- the input may not end yet, for this cause: the header isn't whole, or the last line is missing
 abbrev pub Lacks : Progress → List ℕ → Type 0
 Lacks Untitled cause = cause ≡ codes "header"
-Lacks Titled cause = cause ≡ codes "header"
+Lacks (Titled version) cause = cause ≡ codes "header"
+Lacks (Drifted drift) cause = cause ≡ codes "header"
 Lacks (Heading header) cause = ((header.nodes ≡ []) × (cause ≡ codes "header")) ⊎ ((0 < length header.nodes) × (cause ≡ codes "no-end"))
 Lacks (Running header events) cause = cause ≡ codes "no-end"
 Lacks (Ended header events) cause = ⊥

@@ -1,5 +1,5 @@
 -- What a stage of the replay stands for.
-use Rattle.std.specs.Prelude.{◌≡◌, ◌⊎◌, ℕ, ◌<◌, List, [], ◌++◌, length, reverse, Option, Some, codes}
+use Rattle.std.specs.Prelude.{◌≡◌, ◌⊎◌, ℕ, ◌<◌, true, List, [], ◌++◌, length, reverse, Option, Some, codes}
 use Rattle.tsp_base.specs.declared.event.Event.{Event}
 use Rattle.tsp_base.specs.declared.event.EventFault.{EventFault}
 use Rattle.tsp_base.specs.declared.event.EventFault.TheVariants.{TimeBack, NoNode, NoDatagram, NotUp, Limit as NoRoom, OutOfMemory as NoMemory}
@@ -9,8 +9,8 @@ use Rattle.tsp_lines.specs.Outputs.{Hands}
 use Rattle.tsp_lines.specs.declared.treatment.Stop.{Stop}
 use Rattle.tsp_lines.specs.declared.treatment.Stop.TheVariants.{Bad, Limit, WriteFault, OutOfMemory}
 use Rattle.tsp_replay.specs.declared.stage.Stage.{Stage}
-use Rattle.tsp_replay.specs.declared.stage.Stage.TheVariants.{Untitled as AtUntitled, Titled as AtTitled, Heading as AtHeading, Running as AtRunning, Ended as AtEnded}
-use Rattle.tsp_replay.specs.Schedules.{Progress, Untitled, Titled, Heading, Running, Ended, GoesOn, RunsOn, Reaches, Refuses, RefusesRun, Limits, LimitsRun, Takes, OnOnePort, IsCause}
+use Rattle.tsp_replay.specs.declared.stage.Stage.TheVariants.{Untitled as AtUntitled, Titled as AtTitled, Drifted as AtDrifted, Heading as AtHeading, Running as AtRunning, Ended as AtEnded}
+use Rattle.tsp_replay.specs.Schedules.{Progress, Untitled, Titled, Drifted, Heading, Running, Ended, GoesOn, RunsOn, Reaches, Refuses, RefusesRun, Limits, LimitsRun, Takes, OnOnePort, IsCause, new_header}
 use Rattle.tsp_world.specs.declared.line.Line.{Line}
 use Rattle.tsp_world.specs.Refusals.{scene, refusal}
 use Rattle.tsp_world.specs.WorldStands.{WorldStands}
@@ -18,7 +18,8 @@ use Rattle.tsp_world.specs.WorldStands.{WorldStands}
 -- a stage stands for how far the lines have come
 abbrev pub StageStands : Progress → Stage → Type 0
 StageStands Untitled AtUntitled = Unit {0}
-StageStands Titled AtTitled = Unit {0}
+StageStands (Titled version) (AtTitled read) = read ≡ version
+StageStands (Drifted drift) (AtDrifted held) = held ≡ new_header drift true
 StageStands (Heading header) (AtHeading held) = held ≡ header
 StageStands (Running header events) (AtRunning world) = WorldStands header events world
 StageStands (Ended header events) AtEnded = Unit {0}

@@ -5,7 +5,7 @@ use Rattle.tsp_base.specs.Headers.{HeaderValue}
 use Rattle.tsp_script.specs.Traces.{trace_text}
 use Rattle.tsp_world.specs.declared.line.Line.{Line}
 use Rattle.tsp_world.specs.Run.{told}
-use Rattle.tsp_replay.specs.Schedules.{Progress, Untitled, Titled, Heading, Running, Ended}
+use Rattle.tsp_replay.specs.Schedules.{Progress, Untitled, Titled, Drifted, Heading, Running, Ended}
 
 -- a post's number; other acts have none, and their lines show none
 abbrev pub number_in : Option ℕ → ℕ
@@ -27,7 +27,8 @@ trace header events = lines_text (told header events)
 -- what is written so far
 abbrev pub written_at : Progress → List ℕ
 written_at Untitled = []
-written_at Titled = []
+written_at (Titled version) = []
+written_at (Drifted drift) = []
 written_at (Heading header) = []
 written_at (Running header events) = trace header events
 written_at (Ended header events) = trace header events

@@ -1,11 +1,11 @@
 //! How far a replay has come.
-ghost use Rattle.std.specs.Prelude.{◌≡◌, ◌≢◌, ◌<◌, ◌≤◌, ℕ, List, [], ◌∷◌, ◌++◌, length, take, MatchBool, MatchResult, MatchOption, None, Err, codes};
+ghost use Rattle.std.specs.Prelude.{◌≡◌, ◌≢◌, ◌<◌, ◌≤◌, ℕ, true, List, [], ◌∷◌, ◌++◌, length, take, MatchBool, MatchResult, MatchOption, None, Err, codes};
 ghost use Rattle.tsp_base.specs.Headers.{HeaderValue};
 ghost use Rattle.tsp_base.specs.declared.event.Event.{Event};
 ghost use Rattle.tsp_script.specs.Schedules.{IsEvent};
 ghost use Rattle.tsp_world.specs.Refusals.{refusal, scene};
 ghost use Rattle.tsp_world.specs.WorldStands.{WorldStands};
-ghost use Rattle.tsp_replay.specs.Schedules.{Progress, Untitled, Titled, Heading, Running, Takes, OnOnePort, next_place, Lacks, IsEnded, Refuses};
+ghost use Rattle.tsp_replay.specs.Schedules.{Progress, Untitled, Titled, Drifted, Heading, Running, Takes, OnOnePort, next_place, drifted, new_header, Lacks, IsEnded, Refuses};
 ghost use Rattle.tsp_replay.specs.Stages.{StageStands, Advances, Halts, AdvancesRun, HaltsRun, HaltsNode, HaltsFirst, HaltsPort, HaltsEvent, told_at};
 
 use crate::faults::stop_of;
@@ -24,9 +24,11 @@ use tsp_world::world::World;
 pub enum Stage {
     /// Nothing.
     Untitled,
-    /// The title.
-    Titled,
-    /// The drift, and some nodes.
+    /// The title of this version.
+    Titled(u32),
+    /// The title of the second version and the drift: `strict` has to follow.
+    Drifted(Header),
+    /// The header up to some nodes.
     Heading(Header),
     /// The header and some events, one at least.
     Running(World),
@@ -59,7 +61,11 @@ fn is_net(start: &[u8]) -> bool
 fn next_place(header: &Header) -> u32
     ensures { result ≡ next_place header.now }
 {
-    if header.nodes().is_empty() { 3 } else { 4 }
+    if header.nodes().is_empty() && !header.strict() {
+        3
+    } else {
+        4
+    }
 }
 
 /// Whether a node with one port can take an event; replays take no other yet.
@@ -80,7 +86,8 @@ impl Stage {
     {
         match self {
             Stage::Untitled => Stage::title(line),
-            Stage::Titled => Stage::drift(alloc, line),
+            Stage::Titled(version) => Stage::drift(alloc, version, line),
+            Stage::Drifted(header) => Stage::strict(header, line),
             Stage::Heading(header) => Stage::head(alloc, header, line),
             Stage::Running(world) => Stage::run(world, line),
             Stage::Ended => Err(Stop::Bad(Cause::of(b"after-end"))),
@@ -93,37 +100,51 @@ impl Stage {
         ensures kind { result ≢ Err Stop.WriteFault }
     {
         match head_line(line, 1) {
-            Ok(HeadItem::Title(version)) => Stage::titled(version),
+            Ok(HeadItem::Title(version)) => Ok(Stage::Titled(version)),
             Ok(_) => unreachable!(),
             Err(_) => Err(bad_header()),
         }
     }
 
-    /// The stage behind the title of a version; replays take the first alone yet.
-    fn titled(version: u32) -> Result<Stage, Stop>
-        ensures next { MatchResult result (λ next. (version ≡ 1) × (next ≡ Stage.Titled)) (λ stop. (version ≢ 1) × (stop ≡ Stop.Bad (codes "header"))) }
-        ensures kind { result ≢ Err Stop.WriteFault }
-    {
-        if version == 1 {
-            Ok(Stage::Titled)
-        } else {
-            Err(bad_header())
-        }
-    }
-
-    /// Reads the drift.
-    fn drift(alloc: Global, line: &[u8]) -> Result<Stage, Stop>
-        ensures next { MatchResult result (Advances Titled line.now) (Halts Titled line.now) }
+    /// Reads the drift behind the title of a version.
+    fn drift(alloc: Global, version: u32, line: &[u8]) -> Result<Stage, Stop>
+        ensures next { MatchResult result (Advances (Titled version) line.now) (Halts (Titled version) line.now) }
         ensures kind { result ≢ Err Stop.WriteFault }
     {
         match head_line(line, 2) {
-            Ok(HeadItem::Drift(drift)) => Ok(Stage::Heading(Header::new(alloc, drift, false))),
+            Ok(HeadItem::Drift(drift)) => Ok(Stage::drifted(alloc, version, drift)),
             Ok(_) => unreachable!(),
             Err(_) => Err(bad_header()),
         }
     }
 
-    /// Reads a line where a node is expected. Replays take no strict elections and no networks yet.
+    /// The stage behind the drift: in the second version `strict` has to follow.
+    fn drifted(alloc: Global, version: u32, drift: u32) -> Stage
+        requires { drift ≤ 1000 }
+        ensures { StageStands (drifted version drift) result }
+    {
+        let strict = version == 2;
+        let header = Header::new(alloc, drift, strict);
+        if strict {
+            Stage::Drifted(header)
+        } else {
+            Stage::Heading(header)
+        }
+    }
+
+    /// Reads `strict`, as the header says already.
+    fn strict(header: Header, line: &[u8]) -> Result<Stage, Stop>
+        ensures next { (drift : ℕ) → header ≡ new_header drift true → MatchResult result (Advances (Drifted drift) line.now) (Halts (Drifted drift) line.now) }
+        ensures kind { result ≢ Err Stop.WriteFault }
+    {
+        match head_line(line, 3) {
+            Ok(HeadItem::Strict) => Ok(Stage::Heading(header)),
+            Ok(_) => Err(bad_header()),
+            Err(_) => Err(bad_header()),
+        }
+    }
+
+    /// Reads a line where a node is expected. `strict` stands before the nodes, and replays take no networks yet.
     fn head(alloc: Global, header: Header, line: &[u8]) -> Result<Stage, Stop>
         ensures next { MatchResult result (Advances (Heading header) line.now) (Halts (Heading header) line.now) }
         ensures kind { result ≢ Err Stop.WriteFault }
@@ -212,7 +233,8 @@ impl Stage {
     {
         match self {
             Stage::Untitled => Cause::of(b"header"),
-            Stage::Titled => Cause::of(b"header"),
+            Stage::Titled(_) => Cause::of(b"header"),
+            Stage::Drifted(_) => Cause::of(b"header"),
             Stage::Heading(header) => Stage::head_refuses_long(header, start),
             Stage::Running(_) => Cause::of(b"line"),
             Stage::Ended => Cause::of(b"after-end"),
@@ -251,7 +273,8 @@ impl Stage {
     {
         match self {
             Stage::Untitled => Some(Cause::of(b"header")),
-            Stage::Titled => Some(Cause::of(b"header")),
+            Stage::Titled(_) => Some(Cause::of(b"header")),
+            Stage::Drifted(_) => Some(Cause::of(b"header")),
             Stage::Heading(header) => Some(Stage::head_lacks(header)),
             Stage::Running(_) => Some(Cause::of(b"no-end")),
             Stage::Ended => None,

@@ -1,4 +1,4 @@
--- What the rules in force put in a step fits.
+-- What a node that is up puts in a step fits.
 use Rattle.std.specs.Prelude.{◌≡◌, ℕ, ◌≤◌, Bool, true, false, List, [], ◌∷◌, ◌++◌, length, refl}
 use Rattle.std.proofs.Common.{sym, subst, arith, true≢false}
 use Rattle.tsp_base.specs.Joins.{first_port, line_of}
@@ -9,11 +9,10 @@ use Rattle.tsp_base.specs.declared.place.Place.{Place}
 use Rattle.tsp_base.specs.Fits.{TookFits}
 use Rattle.tsp_base.specs.History.{Step, Acts, Line, Past}
 use Rattle.tsp_base.specs.Setting.{Setting}
-use Rattle.tsp_rules.specs.Answers.{Turn, Got}
-use Rattle.tsp_node.specs.InForce.{answers_in_force}
+use Rattle.tsp_rules.specs.Answers.{Turn, Got, answers}
+use Rattle.tsp_fit.proofs.CalmSteps.{calm_turn, takes_once}
 use Rattle.tsp_fit.proofs.FewActs.{is_calm_act, is_calm}
 use Rattle.tsp_fit.specs.Strangers.{is_stranger}
-use Rattle.tsp_world.proofs.InForceCalm.{turn_calm, takes_once_in_force}
 use Rattle.tsp_world.specs.Refusals.{room}
 use Rattle.tsp_world.proofs.FitsLines.{TakenOk, AllTaken, AllAlive}
 use Rattle.tsp_world.proofs.SetupLemmas.{and-true}
@@ -46,25 +45,25 @@ taken_all : (setting : Setting) (step : Step) (x : ℕ) (history : List Line) (s
 taken_all setting step x history strange [] e = tt
 taken_all setting step x history strange (a ∷ rest) e = let both = and-true (is_calm_act strange true a) (is_calm strange true rest) e in (taken_one setting step x history strange a both.0, taken_all setting step x history strange rest both.1)
 
--- what a step by the rules so far owes besides
+-- what a step by the rules owes besides
 pub record StepOk (nodes : ℕ) (setting : Setting) (step : Step) (x : ℕ) (history : List Line) (is_up : Bool) (acts : List Act) : Type 0 where
   pub few : length acts ≤ room nodes
   pub alive : AllAlive setting step x is_up acts
   pub taken : AllTaken setting step x history acts
 
-pub turn_ok : (nodes : ℕ) (setting : Setting) (step : Step) (x : ℕ) (history : List Line) (past : Past) → length past.peers ≡ nodes → StepOk nodes setting step x history true (answers_in_force Turn x past)
+pub turn_ok : (nodes : ℕ) (setting : Setting) (step : Step) (x : ℕ) (history : List Line) (past : Past) → length past.peers ≡ nodes → StepOk nodes setting step x history true (answers Turn x past)
 turn_ok nodes setting step x history past peers =
-    let calm = turn_calm.calm x past in
+    let calm = (calm_turn {strange = false}).calm x past in
     record {
-      few = (let few = turn_calm.few x past in omega (arith, few, peers));
-      alive = alive_all setting step x false (answers_in_force Turn x past) calm;
-      taken = taken_all setting step x history false (answers_in_force Turn x past) calm;
+      few = (let few = (calm_turn {strange = false}).few x past in omega (arith, few, peers));
+      alive = alive_all setting step x false (answers Turn x past) calm;
+      taken = taken_all setting step x history false (answers Turn x past) calm;
     }
 
 pub got_ok : (nodes : ℕ) (setting : Setting) (step : Step) (x : ℕ) (history : List Line) (past : Past) (from : Place) (t : Taken) → length past.peers ≡ nodes →
-    TookFits step.cause setting (line_of step x first_port (Acts (Took from t))) history from t → StepOk nodes setting step x history true (answers_in_force (Got from t) x past)
+    TookFits step.cause setting (line_of step x first_port (Acts (Took from t))) history from t → StepOk nodes setting step x history true (answers (Got from t) x past)
 got_ok nodes setting step x history past from t peers f =
-    let once = takes_once_in_force from t x past in
+    let once = takes_once from t x past in
     record {
       few = (let few = once.few in omega (arith, few, peers));
       alive = subst (λ acts. AllAlive setting step x true acts) (sym once.is)

@@ -131,3 +131,13 @@ arrives_at-goes p (Some n) a e = ap (λ b. Some b.node) (some_same e)
 pub arrives-goes : (nodes : ℕ) (o : Option Posted) (a : Arrival) → arrives nodes o ≡ Some a → goes_to nodes o ≡ Some a.node
 arrives-goes nodes None a e = let bad : ⊥ = cc in absurd bad
 arrives-goes nodes (Some p) a e = arrives_at-goes p (node_at nodes p.to) a e
+
+-- what goes to a node was posted to it
+pub goes_to-post : (nodes : ℕ) (o : Option Posted) (n : ℕ) → goes_to nodes o ≡ Some n → (p : Posted) × (o ≡ Some p) × (node_at nodes p.to ≡ Some n)
+goes_to-post nodes None n e = let bad : ⊥ = cc in absurd bad
+goes_to-post nodes (Some p) n e = (p, refl, e)
+
+-- what goes to no node arrives nowhere
+pub goes-nowhere : (nodes : ℕ) (o : Option Posted) → goes_to nodes o ≡ None → arrives nodes o ≡ None
+goes-nowhere nodes None e = refl
+goes-nowhere nodes (Some p) e = ap (λ q. arrives_at p q) e

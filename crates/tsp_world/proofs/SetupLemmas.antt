@@ -9,7 +9,9 @@ use Rattle.std.proofs.Math.Seq.{get_or-append_seam}
 use Rattle.tsp_base.specs.declared.header.NodeLine.{NodeLine}
 use Rattle.tsp_base.specs.declared.place.PeerId.{PeerId}
 use Rattle.tsp_base.specs.Headers.{HeaderValue, IsHeader}
+use Rattle.tsp_base.specs.Names.{IsName}
 use Rattle.tsp_base.specs.Peers.{is_among}
+use Rattle.tsp_fit.proofs.SoundFacts.{no_name}
 use Rattle.tsp_node.specs.declared.node.Node.{Node}
 use Rattle.tsp_node.specs.Configs.{ConfigValue, IsPort}
 use Rattle.tsp_world.specs.NodesReady.{NodeReady}
@@ -139,4 +141,11 @@ pub rate-node_line : (header : HeaderValue) → IsHeader header → (n : ℕ) �
 rate-node_line header is n = elim (cases_lt n (length header.nodes)) [
   | inl within ↦ (is.kept n nobody within).rate
   | inr past ↦ subst (λ (l : NodeLine). nat_abs l.rate ≤ header.drift) (sym (get_or_past header.nodes n nobody past)) (omega arith)
+]
+
+-- each node has a name
+pub name-node_line : (header : HeaderValue) → IsHeader header → (n : ℕ) → IsName (node_line header n).name
+name-node_line header is n = elim (cases_lt n (length header.nodes)) [
+  | inl within ↦ (is.kept n nobody within).name
+  | inr past ↦ subst (λ (l : NodeLine). IsName l.name) (sym (get_or_past header.nodes n nobody past)) no_name
 ]

@@ -2,13 +2,14 @@
 use Rattle.std.specs.Prelude.{◌≡◌, ◌≢◌, ℕ, ◌<◌, ◌≤◌, ◌==◌, Bool, true, false, List, [], ◌∷◌, ◌++◌, length, Option, None, Some, slice_get, vec_len}
 use Rattle.std.proofs.Common.{refl, sym, ap, ◌∙◌, arith, subst, inl, inr, eq-eqb, eqb-true, true≢false, length-set}
 use Rattle.std.proofs.lemmas.Bool.{ne_eqb, cases_lt}
+use Rattle.std.proofs.lemmas.List.Elements.{All-cons}
 use Rattle.std.proofs.lemmas.Option.{slice_get-get_or}
 use Rattle.std.proofs.Math.ListN.{set}
 use Rattle.tsp_base.specs.Joins.{first_port}
 use Rattle.tsp_base.specs.declared.act.Act.{Act}
 use Rattle.tsp_base.specs.declared.act.Placed.{Placed}
 use Rattle.tsp_base.specs.declared.event.Event.{Event}
-use Rattle.tsp_base.specs.Headers.{HeaderValue}
+use Rattle.tsp_base.specs.Headers.{HeaderValue, IsHeader}
 use Rattle.tsp_base.specs.History.{Step, Past, Line, of, view, dids, plain}
 use Rattle.tsp_base.specs.NodeFacts.{up}
 use Rattle.tsp_base.specs.Performs.{Performs}
@@ -16,11 +17,12 @@ use Rattle.tsp_base.specs.Rows.{Row, placed, grown, in_step}
 use Rattle.tsp_node.specs.declared.node.Node.{Node}
 use Rattle.tsp_world.specs.declared.world.World.{World}
 use Rattle.tsp_node.specs.NodeStands.{NodeStands}
+use Rattle.tsp_world.specs.Ranges.{Accepted, IsInRange}
 use Rattle.tsp_world.specs.Refusals.{scene, refusal}
 use Rattle.tsp_world.specs.Run.{run, joins, happening, steps, step_tick, event_at}
 use Rattle.tsp_world.specs.Setup.{past_of}
 use Rattle.tsp_world.specs.WorldStands.{WorldStands, PlaceStands, UpBegun, UpStands, Notes, Passes, rests, up_at, is_node, scene_of}
-use Rattle.tsp_world.proofs.NodeLemmas.{NodeStands-step, Begun-in_step}
+use Rattle.tsp_node.proofs.StepLemmas.{NodeStands_step, Begun_in_step}
 use Rattle.tsp_world.proofs.RefusalLemmas.{Alike, some_same}
 use Rattle.tsp_world.proofs.RunLemmas.{joins-own, joins-other, posts-joins, up-added, up-seen}
 use Rattle.tsp_world.proofs.SetCases.{set_cases}
@@ -37,7 +39,7 @@ PlaceStands-acted header history row step node h u =
     let seen = joins-own step.node step x (row x past) history (eq-eqb step.node step.node refl) in
     let now = joins (Some (steps header history row step)) history in (
       up-seen step.node now ∙ ap (λ s. up (plain s)) seen ∙ u,
-      subst (λ s. NodeStands (record (past_of header (rests step.node) history) { seen = s }) node) (sym seen) (NodeStands-step (rests step.node) (grown x past (row x past)) node h),
+      subst (λ s. NodeStands (record (past_of header (rests step.node) history) { seen = s }) node) (sym seen) (NodeStands_step (rests step.node) (grown x past (row x past)) node h),
     )
 
 -- and what that of another node does
@@ -65,7 +67,7 @@ by_node header history row step nodes n place is own other false e =
 
 -- a world whose node has acted and that has noted it stands for the event too
 pub WorldStands-acted : (header : HeaderValue) (events : List Event) (e : Event) (row : Row) (step : Step) (old new : World) (nodes : List (Option Node)) (acts : List Placed) →
-    WorldStands header events old → refusal (scene header events) e ≡ None → happening header (run header events) e ≡ Some (steps header (run header events) row step) →
+    WorldStands header events old → IsInRange e → refusal (scene header events) e ≡ None → happening header (run header events) e ≡ Some (steps header (run header events) row step) →
     event_at e ≡ step.at → step.node < length header.nodes → length nodes ≡ length old.nodes.items →
     acts ≡ placed first_port (row (step_tick header step) (in_step step (step_tick header step) (past_of header step (run header events)))) →
     Notes step.at step.node (step_tick header step) old.header nodes old.events old.sent.items acts new →
@@ -73,11 +75,12 @@ pub WorldStands-acted : (header : HeaderValue) (events : List Event) (e : Event)
     ((n : ℕ) (place : Option Node) → n ≢ step.node → slice_get nodes n ≡ Some place → slice_get old.nodes.items n ≡ Some place) →
     WorldStands header (e ∷ events) new
 unfolding steps
-WorldStands-acted header events e row step old new nodes acts w none happens at inside same_length acts_are noted own others =
+WorldStands-acted header events e row step old new nodes acts w range none happens at inside same_length acts_are noted own others =
     let x : ℕ = step_tick header step in
     let done : List Act = row x (in_step step x (past_of header step (run header events))) in
     record {
       header_is = noted.header_is ∙ w.header_is;
+      ranges = All-cons IsInRange e events range w.ranges;
       valid = (none, w.valid);
       count = (let a = noted.events_are in let b = w.count in omega (arith, a, b));
       last = noted.last_is ∙ sym at;
@@ -101,7 +104,7 @@ up_place places n (Some (Some node)) e up = (node, e)
 -- a node that is up begins a step
 UpBegun-from : (header : HeaderValue) (history : List Line) (step : Step) (x : ℕ) (place : Option Node) (node : Node) → place ≡ Some node → NodeStands (past_of header (rests step.node) history) node → UpBegun (in_step step x (past_of header step history)) place
 UpBegun-from header history step x place node is h =
-    subst (λ p. UpBegun (in_step step x (past_of header step history)) p) (sym is) (Begun-in_step step x (past_of header step history) node (NodeStands-step step (past_of header (rests step.node) history) node h))
+    subst (λ p. UpBegun (in_step step x (past_of header step history)) p) (sym is) (Begun_in_step step x (past_of header step history) node (NodeStands_step step (past_of header (rests step.node) history) node h))
 
 -- and ends it
 PlaceStands-ended : (header : HeaderValue) (history : List Line) (row : Row) (step : Step) (place : Option Node) →
@@ -113,11 +116,11 @@ PlaceStands-ended header history row step (Some node) h u = PlaceStands-acted he
 
 -- a world whose node, which is up, has acted by a row
 pub WorldStands-handed : (header : HeaderValue) (events : List Event) (e : Event) (row : Row) (step : Step) (old new : World) (before after : Option Node) (acts : List Placed) →
-    WorldStands header events old → refusal (scene header events) e ≡ None → happening header (run header events) e ≡ Some (steps header (run header events) row step) →
+    WorldStands header events old → IsInRange e → refusal (scene header events) e ≡ None → happening header (run header events) e ≡ Some (steps header (run header events) row step) →
     event_at e ≡ step.at → step.node < length header.nodes → old.desk.placed.items ≡ [] → up_at old.nodes.items step.node ≡ true → slice_get old.nodes.items step.node ≡ Some before →
     Performs UpBegun UpStands row (step_tick header step) first_port before after old.desk.placed.items acts →
     Notes step.at step.node (step_tick header step) old.header (set old.nodes.items step.node after) old.events old.sent.items acts new → WorldStands header (e ∷ events) new
-WorldStands-handed header events e row step old new before after acts w none happens at inside idle is_up there did noted =
+WorldStands-handed header events e row step old new before after acts w range none happens at inside idle is_up there did noted =
     let x : ℕ = step_tick header step in
     let past : Past = in_step step x (past_of header step (run header events)) in
     let found = up_place old.nodes.items step.node (slice_get old.nodes.items step.node) refl is_up in
@@ -126,7 +129,7 @@ WorldStands-handed header events e row step old new before after acts w none hap
     let now : UpStands (grown x past (row x past)) after = did.stands past begun in
     let acts_are : acts ≡ placed first_port (row x past) = did.acts past begun ∙ ap (λ ps. ps ++ placed first_port (row x past)) idle in
     let is_up_now : up (plain (grown x past (row x past)).seen) ≡ true = up-added step x (row x past) past.seen (sym (up-seen step.node (run header events)) ∙ stood.0) in
-    WorldStands-acted header events e row step old new (set old.nodes.items step.node after) acts w none happens at inside (length-set old.nodes.items step.node after) acts_are noted
+    WorldStands-acted header events e row step old new (set old.nodes.items step.node after) acts w range none happens at inside (length-set old.nodes.items step.node after) acts_are noted
     (λ place is. elim (set_cases old.nodes.items step.node step.node after place is) [
       | inl h ↦ subst (λ p. PlaceStands header (joins (Some (steps header (run header events) row step)) (run header events)) step.node p) h.1 (PlaceStands-ended header (run header events) row step after now is_up_now)
       | inr h ↦ absurd (h.0 refl)
@@ -134,9 +137,10 @@ WorldStands-handed header events e row step old new before after acts w none hap
     (λ n place other is. elim (set_cases old.nodes.items step.node n after place is) [ inl h ↦ absurd (other (sym h.0)) | inr h ↦ h.1 ])
 
 -- and so does one that has noted an event at which nobody acts
-pub WorldStands-passed : (header : HeaderValue) (events : List Event) (e : Event) (old new : World) → WorldStands header events old → refusal (scene header events) e ≡ None → happening header (run header events) e ≡ None → Passes (event_at e) old new → WorldStands header (e ∷ events) new
-WorldStands-passed header events e old new w none happens passed = record {
+pub WorldStands-passed : (header : HeaderValue) (events : List Event) (e : Event) (old new : World) → WorldStands header events old → IsInRange e → refusal (scene header events) e ≡ None → happening header (run header events) e ≡ None → Passes (event_at e) old new → WorldStands header (e ∷ events) new
+WorldStands-passed header events e old new w range none happens passed = record {
   header_is = passed.header ∙ w.header_is;
+  ranges = All-cons IsInRange e events range w.ranges;
   valid = (none, w.valid);
   count = (let a = passed.events in let b = w.count in omega (arith, a, b));
   last = passed.last;
@@ -170,3 +174,7 @@ Alike-stands header events world len w = record {
 -- the world's places are the header's nodes
 pub in_header : (header : HeaderValue) (events : List Event) (world : World) → vec_len world.nodes ≡ length world.nodes.items → WorldStands header events world → (n : ℕ) → n < vec_len world.nodes → n < length header.nodes
 in_header header events world len w n inside = subst (λ k. n < k) (len ∙ w.places) inside
+
+-- a world has accepted its events
+pub accepted : (header : HeaderValue) (events : List Event) (world : World) → WorldStands header events world → Accepted header events
+accepted header events world w = record { header_is = subst (λ h. IsHeader h) w.header_is world.ready.header_is; ranges = w.ranges; valid = w.valid }

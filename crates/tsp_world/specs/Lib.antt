@@ -1,4 +1,6 @@
 pub mod NodesReady
+pub mod Promises
+pub mod Ranges
 pub mod Refusals
 pub mod Run
 pub mod Setting

@@ -3,7 +3,6 @@ use Rattle.std.specs.Prelude.{◌≡◌, ℕ, ◌+◌, nat_lt, pos, ◌+ℤ◌, 
 use Rattle.tsp_base.specs.declared.act.Act.{Act}
 use Rattle.tsp_base.specs.declared.act.Act.TheVariants.{Post}
 use Rattle.tsp_base.specs.declared.act.Placed.{Placed}
-use Rattle.tsp_base.specs.declared.datagram.Taken.TheVariants.{Good}
 use Rattle.tsp_base.specs.declared.event.Event.{Event}
 use Rattle.tsp_base.specs.declared.event.Event.TheVariants.{Boot as BootAt, Turn, Take, Bytes}
 use Rattle.tsp_base.specs.declared.place.Place.{Place}
@@ -13,13 +12,13 @@ use Rattle.tsp_base.specs.History.{Booted, Turned, Came as TakesPost, Handed, St
 use Rattle.tsp_base.specs.Joins.{first_port, stepped}
 use Rattle.tsp_base.specs.Rows.{Row, in_step, placed}
 use Rattle.tsp_base.specs.Ticks.{tick_at}
+use Rattle.tsp_codec.specs.Canon.{canon}
 use Rattle.tsp_codec.specs.Taken.{taken_of}
 use Rattle.tsp_world.specs.declared.arrival.Arrival.{Arrival}
 use Rattle.tsp_world.specs.declared.line.Line.{Line as ToldLine}
 use Rattle.tsp_world.specs.declared.posted.Posted.{Posted}
-use Rattle.tsp_rules.specs.Answers.{Turn as NoInput, Got}
+use Rattle.tsp_rules.specs.Answers.{Turn as NoInput, Got, answers}
 use Rattle.tsp_rules.specs.CommonRows.{boots}
-use Rattle.tsp_node.specs.InForce.{answers_in_force}
 use Rattle.tsp_world.specs.Setup.{node_line, past_of}
 
 -- the time of an event
@@ -88,10 +87,10 @@ abbrev pub node_at : ℕ → Place → Option ℕ
 node_at nodes (Peer p) = if nat_lt p.0 nodes then Some p.0 else None
 node_at nodes Stranger = None
 
--- a datagram that reaches a node has its poster as sender, and is read from its written spelling
+-- a datagram that reaches a node has its poster as sender, and is what a reader takes from its written spelling
 abbrev pub arrives_at : Posted → Option ℕ → Option Arrival
 arrives_at p None = None
-arrives_at p (Some n) = Some (record { node = n; from = Peer (record { 0 = p.from }); taken = Good p.datagram })
+arrives_at p (Some n) = Some (record { node = n; from = Peer (record { 0 = p.from }); taken = taken_of (canon p.datagram) })
 
 abbrev pub arrives : ℕ → Option Posted → Option Arrival
 arrives nodes None = None
@@ -99,15 +98,15 @@ arrives nodes (Some p) = arrives_at p (node_at nodes p.to)
 
 abbrev pub reaches : HeaderValue → List Line → ℕ → ℕ → Option Arrival → Option Happening
 reaches header history at k None = None
-reaches header history at k (Some a) = Some (steps header history (answers_in_force (Got a.from a.taken)) (record { at = at; node = a.node; cause = TakesPost k }))
+reaches header history at k (Some a) = Some (steps header history (answers (Got a.from a.taken)) (record { at = at; node = a.node; cause = TakesPost k }))
 
 -- what an event makes happen, if it makes a node act
 abbrev pub happening : HeaderValue → List Line → Event → Option Happening
 happening header history (BootAt at node word) = Some (steps header history boots (boot_step header at node word))
-happening header history (Turn at node) = Some (steps header history (answers_in_force NoInput) (record { at = at; node = node; cause = Turned }))
+happening header history (Turn at node) = Some (steps header history (answers NoInput) (record { at = at; node = node; cause = Turned }))
 happening header history (Take at k) = reaches header history at k (arrives (length header.nodes) (slice_get (posts history) k))
 happening header history (Bytes at node port from octets) =
-    Some (steps header history (answers_in_force (Got from (taken_of octets))) (record { at = at; node = node; cause = Handed }))
+    Some (steps header history (answers (Got from (taken_of octets))) (record { at = at; node = node; cause = Handed }))
 
 -- a history, and then a step, on the node's only port
 abbrev pub joins : Option Happening → List Line → List Line

@@ -5,10 +5,10 @@ use Rattle.tsp_base.specs.declared.place.PeerId.{PeerId}
 use Rattle.tsp_base.specs.declared.place.Port.{Port}
 use Rattle.tsp_base.specs.Fits.{Fits, Finished}
 use Rattle.tsp_base.specs.Headers.{HeaderValue, IsHeader}
-use Rattle.tsp_base.specs.Safe.{Safe}
 use Rattle.tsp_base.specs.Setting.{Alone, Named, Network, Setting}
 use Rattle.tsp_base.specs.Takings.{peer_of}
-use Rattle.tsp_world.specs.Refusals.{Valid}
+use Rattle.tsp_world.specs.Promises.{Promises}
+use Rattle.tsp_world.specs.Ranges.{Accepted}
 use Rattle.tsp_world.specs.Run.{run}
 use Rattle.tsp_world.specs.Setup.{node_line, peers_below}
 
@@ -31,13 +31,13 @@ pub record SetBy (header : HeaderValue) (setting : Setting) : Type 0 where
   pub net_is : (n : ℕ) (q : Port) → setting.net n q ≡ network_of (length header.nodes) n q
   pub members_are : (k : Network) → setting.members k ≡ members_of (length header.nodes) k
 
--- the history of every valid schedule fits, and ends where a step ends
+-- the history of every schedule fits, and ends where a step ends
 abbrev pub RunsFit : Type 0
-RunsFit = (header : HeaderValue) (setting : Setting) (events : List Event) → SetBy header setting → Valid header events → Fits setting (run header events) × Finished (run header events)
+RunsFit = (header : HeaderValue) (setting : Setting) (events : List Event) → SetBy header setting → Accepted header events → Fits setting (run header events) × Finished (run header events)
 
--- the history of every valid schedule keeps the promises
-abbrev pub RunsSafe : Type 0
-RunsSafe = (header : HeaderValue) (setting : Setting) (events : List Event) → SetBy header setting → Valid header events → Safe setting (run header events)
+-- the history of every schedule keeps the promises
+abbrev pub RunsKeepPromises : Type 0
+RunsKeepPromises = (header : HeaderValue) (setting : Setting) (events : List Event) → SetBy header setting → Accepted header events → Promises setting (run header events)
 
 -- every header sets its nodes up somehow
 abbrev pub EachIsSet : Type 0

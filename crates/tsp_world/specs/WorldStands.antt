@@ -1,5 +1,5 @@
 -- What a world stands for: a header, and the events that it accepted.
-use Rattle.std.specs.Prelude.{◌≡◌, ℕ, ◌+◌, ◌≤◌, Bool, true, false, List, [], ◌∷◌, ◌++◌, ◌<◌, length, Option, None, Some, slice_get, vec_len, vec_capacity}
+use Rattle.std.specs.Prelude.{◌≡◌, ℕ, ◌+◌, ◌≤◌, Bool, true, false, List, [], ◌∷◌, ◌++◌, ◌<◌, length, Option, None, Some, slice_get, All, vec_len, vec_capacity}
 use Rattle.tsp_base.specs.declared.act.Placed.{Placed}
 use Rattle.tsp_base.specs.declared.event.Event.{Event}
 use Rattle.tsp_base.specs.Headers.{HeaderValue}
@@ -10,6 +10,7 @@ use Rattle.tsp_node.specs.declared.node.Node.{Node}
 use Rattle.tsp_world.specs.declared.posted.Posted.{Posted}
 use Rattle.tsp_world.specs.declared.world.World.{World}
 use Rattle.tsp_node.specs.NodeStands.{NodeStands, Begun}
+use Rattle.tsp_world.specs.Ranges.{IsInRange}
 use Rattle.tsp_world.specs.Refusals.{Scene, Valid, scene, refusal, room}
 use Rattle.tsp_world.specs.Run.{run, posts, last_at, gained, event_at, happening, steps, posts_from, told_from}
 use Rattle.tsp_world.specs.Setup.{past_of}
@@ -49,6 +50,7 @@ scene_of world = record { nodes = vec_len world.nodes; last = world.last; events
 -- a world stands for a header and the events that it accepted, the newest first
 pub record WorldStands (header : HeaderValue) (events : List Event) (world : World) : Type 0 where
   pub header_is : world.header ≡ header
+  pub ranges : All IsInRange events
   pub valid : Valid header events
   pub count : world.events ≡ length events
   pub last : world.last ≡ last_at events
@@ -76,7 +78,7 @@ Happens e old new = (header : HeaderValue) (events : List Event) → WorldStands
 -- a step of a node that is up has happened by this row, whatever event it was and for whatever cause
 abbrev pub HappensBy : Row → ℕ → ℕ → World → World → Type 0
 HappensBy row at node old new =
-    (cause : Cause) (header : HeaderValue) (events : List Event) (e : Event) → WorldStands header events old → event_at e ≡ at → refusal (scene header events) e ≡ None → up_at old.nodes.items node ≡ true →
+    (cause : Cause) (header : HeaderValue) (events : List Event) (e : Event) → WorldStands header events old → event_at e ≡ at → IsInRange e → refusal (scene header events) e ≡ None → up_at old.nodes.items node ≡ true →
     happening header (run header events) e ≡ Some (steps header (run header events) row (record { at = at; node = node; cause = cause })) → WorldStands header (e ∷ events) new
 
 -- the acts on the desk can be noted: there is room, and no limit is met

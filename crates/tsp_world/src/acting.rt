@@ -1,20 +1,22 @@
 //! How an event makes a node of a world act.
-ghost use Rattle.std.specs.Prelude.{◌≡◌, ◌≤◌, ◌<◌, ◌+◌, ◌^◌, vec_len, slice_get, OnOk, OnErr};
+ghost use Rattle.std.specs.Prelude.{◌≡◌, ℕ, ◌≤◌, ◌<◌, ◌+◌, ◌^◌, vec_len, slice_get, Some, OnOk, OnErr};
 ghost use Rattle.tsp_base.specs.declared.event.Event.{Event};
+ghost use Rattle.tsp_base.specs.declared.datagram.Taken.{Taken};
+ghost use Rattle.tsp_base.specs.declared.place.Place.{Place};
 ghost use Rattle.tsp_base.specs.Headers.{Keeps};
 ghost use Rattle.tsp_base.specs.Ticks.{tick_at};
+ghost use Rattle.tsp_codec.specs.Numbers.{octet_at};
 ghost use Rattle.tsp_codec.specs.Taken.{taken_of};
-ghost use Rattle.tsp_rules.specs.Answers.{Got};
-ghost use Rattle.tsp_node.specs.InForce.{answers_in_force};
-ghost use Rattle.tsp_world.specs.Refusals.{Allowed, room};
-ghost use Rattle.tsp_world.specs.Run.{arrives};
+ghost use Rattle.tsp_rules.specs.Answers.{Got, answers};
+ghost use Rattle.tsp_world.specs.Refusals.{Allowed, actor, goes_to, room};
+ghost use Rattle.tsp_world.specs.declared.posted.Posted.{Posted};
 ghost use Rattle.tsp_world.specs.Setup.{node_line, config_of};
 ghost use Rattle.tsp_world.specs.WorldStands.{scene_of, IsReady, Happens, HappensBy, Stays, CanNote, Notes, Passes};
 
 use crate::arrival::Arrival;
+use crate::step;
 use crate::tell::{send, tell};
 use crate::world::World;
-use crate::{refusals, step};
 use std::alloc::AllocError;
 use tsp_base::datagram::Taken;
 use tsp_base::drift::tick_at;
@@ -88,30 +90,35 @@ impl World {
     }
 
     /// A posted datagram reaches its addressee, or nobody.
-    pub(crate) fn take(&mut self, at: u64, k: u64)
+    pub(crate) fn take(&mut self, at: u64, k: u64, node: Option<u32>)
         requires ready { IsReady self.old }
         requires time { at ≤ 1000000000000000 }
         requires order { self.old.last ≤ at }
         requires allowed { Allowed (scene_of self.old) (Event.Take at k) }
+        requires actor { node ≡ actor (scene_of self.old) (Event.Take at k) }
         ensures { Happens (Event.Take at k) self.old self.new }
     {
-        match self.arrival(k) {
-            Some(arrival) => self.hand(at, arrival.node, arrival.from, &arrival.taken),
+        match node {
+            Some(node) => {
+                let arrival = self.arrival(k, node);
+                self.hand(at, node, arrival.from, &arrival.taken)
+            }
             None => self.pass(at),
         }
     }
 
-    /// What the datagram with this number brings to which node.
-    fn arrival(&self, k: u64) -> Option<Arrival>
-        ensures { result ≡ arrives (vec_len self.now.nodes) (slice_get self.now.sent.items k) }
+    /// What the datagram with this number brings to its addressee. A reader takes from its written spelling what
+    /// was posted, so nothing needs to be written or read.
+    fn arrival(&self, k: u64, node: u32) -> Arrival
+        requires { goes_to (vec_len self.now.nodes) (slice_get self.now.sent.items k) ≡ Some node }
+        ensures { (p : Posted) → slice_get self.now.sent.items k ≡ Some p → result ≡ record { node = node; from = Place.Peer (record { 0 = p.from }); taken = Taken.Good p.datagram } }
     {
-        let posted = self.sent.get(k as usize)?;
-        let node = refusals::node_at(self.count(), posted.to)?;
-        Some(Arrival {
+        let posted = &self.sent[k as usize];
+        Arrival {
             node,
             from: Place::Peer(PeerId(posted.from)),
             taken: Taken::Good(posted.datagram.copy()),
-        })
+        }
     }
 
     /// Octets are handed to a node.
@@ -122,7 +129,8 @@ impl World {
         requires node { node < vec_len self.old.nodes }
         requires events { self.old.events < 200000 }
         requires posts { vec_len self.old.sent + room (vec_len self.old.nodes) ≤ 1000000 }
-        ensures { HappensBy (answers_in_force (Got from (taken_of octets.now))) at node self.old self.new }
+        ensures happens { HappensBy (answers (Got from (taken_of octets.now))) at node self.old self.new }
+        ensures range { (i : ℕ) → octet_at octets.now i < 256 }
     {
         let taken = read(octets);
         self.hand(at, node, from, &taken);
@@ -136,7 +144,7 @@ impl World {
         requires node { node < vec_len self.old.nodes }
         requires events { self.old.events < 200000 }
         requires posts { vec_len self.old.sent + room (vec_len self.old.nodes) ≤ 1000000 }
-        ensures { HappensBy (answers_in_force (Got from taken.now)) at node self.old self.new }
+        ensures { HappensBy (answers (Got from taken.now)) at node self.old self.new }
     {
         let tick = self.tick(node, at);
         self.last = at;

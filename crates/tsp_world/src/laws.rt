@@ -1,15 +1,15 @@
 //! What is true of every schedule: laws, which do nothing.
-ghost use Rattle.tsp_world.specs.Setting.{EachIsSet, RunsFit, RunsSafe};
+ghost use Rattle.tsp_world.specs.Setting.{EachIsSet, RunsFit, RunsKeepPromises};
 
-/// Whatever a valid schedule brings, and whatever octets it hands to the nodes, each line of its history fits
+/// Whatever a schedule brings, and whatever octets it hands to the nodes, each line of its history fits
 /// those before it, and each step ends as it must.
 pub fn runs_fit()
     ensures { RunsFit }
 {}
 
-/// The history of every valid schedule keeps the promises, each under the premises that it needs.
-pub fn runs_safe()
-    ensures { RunsSafe }
+/// The history of every schedule keeps the promises, each under the premises that it needs.
+pub fn runs_keep_promises()
+    ensures { RunsKeepPromises }
 {}
 
 /// Every header has a setting, of which the two laws before speak.

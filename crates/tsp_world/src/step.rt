@@ -2,9 +2,8 @@
 ghost use Rattle.std.specs.Prelude.{◌≡◌, ◌≤◌, ◌+◌, ◌^◌, ℕ, length, ◌+ℤ◌, pos, true};
 ghost use Rattle.tsp_base.specs.Performs.{Performs};
 ghost use Rattle.tsp_base.specs.Headers.{Keeps};
-ghost use Rattle.tsp_rules.specs.Answers.{Turn, Got};
+ghost use Rattle.tsp_rules.specs.Answers.{Turn, Got, answers};
 ghost use Rattle.tsp_rules.specs.Tests.{is_clock_value};
-ghost use Rattle.tsp_node.specs.InForce.{answers_in_force};
 ghost use Rattle.tsp_world.specs.NodesReady.{PlaceReady, CanAct};
 ghost use Rattle.tsp_world.specs.Refusals.{room};
 ghost use Rattle.tsp_world.specs.WorldStands.{UpBegun, UpStands};
@@ -19,7 +18,7 @@ use tsp_node::Node;
 pub(crate) fn turn(place: &mut Option<Node>, tick: u64, desk: &mut Pad)
     requires tick { tick ≤ 2 ^ 61 }
     requires able { CanAct desk.old.spare tick place.old }
-    ensures row { Performs UpBegun UpStands (answers_in_force Turn) tick (record { 0 = 0 }) place.old place.new desk.old.placed.items desk.new.placed.items }
+    ensures row { Performs UpBegun UpStands (answers Turn) tick (record { 0 = 0 }) place.old place.new desk.old.placed.items desk.new.placed.items }
     ensures ready { (count : ℕ) → PlaceReady count tick place.old → PlaceReady count tick place.new }
     ensures few { (count : ℕ) → PlaceReady count tick place.old → length desk.new.placed.items ≤ length desk.old.placed.items + room count }
 {
@@ -32,7 +31,7 @@ pub(crate) fn turn(place: &mut Option<Node>, tick: u64, desk: &mut Pad)
 pub(crate) fn take(place: &mut Option<Node>, tick: u64, from: Place, taken: &Taken, desk: &mut Pad)
     requires tick { tick ≤ 2 ^ 61 }
     requires able { CanAct desk.old.spare tick place.old }
-    ensures row { Performs UpBegun UpStands (answers_in_force (Got from taken.now)) tick (record { 0 = 0 }) place.old place.new desk.old.placed.items desk.new.placed.items }
+    ensures row { Performs UpBegun UpStands (answers (Got from taken.now)) tick (record { 0 = 0 }) place.old place.new desk.old.placed.items desk.new.placed.items }
     ensures ready { (count : ℕ) → PlaceReady count tick place.old → PlaceReady count tick place.new }
     ensures few { (count : ℕ) → PlaceReady count tick place.old → length desk.new.placed.items ≤ length desk.old.placed.items + room count }
 {

@@ -42,10 +42,10 @@ pub struct World {
 
 impl World {
     ghost use Rattle.tsp_base.specs.Headers.{HeaderValue};
-    ghost use Rattle.tsp_base.specs.Safe.{Safe};
     ghost use Rattle.tsp_base.specs.Setting.{Setting};
     ghost use Rattle.tsp_base.specs.declared.event.Event.{Event};
-    ghost use Rattle.tsp_world.specs.Refusals.{refusal, scene, Allowed, IsRefusal};
+    ghost use Rattle.tsp_world.specs.Promises.{Promises};
+    ghost use Rattle.tsp_world.specs.Refusals.{refusal, scene, actor, Allowed, IsRefusal};
     ghost use Rattle.tsp_world.specs.Run.{event_at, OnFirstPort, posted_time, run};
     ghost use Rattle.tsp_world.specs.Setting.{SetBy};
     ghost use Rattle.tsp_world.specs.WorldStands.{WorldStands, scene_of, IsReady, Happens, Stays};
@@ -114,17 +114,18 @@ impl World {
         requires time { event_at e.now ≤ 1000000000000000 }
         requires port { OnFirstPort e.now }
         ensures stands { (header : HeaderValue) (events : List Event) → WorldStands header events self.old → OnOk result (WorldStands header (e.now ∷ events) self.new) }
-        ensures safe { (header : HeaderValue) (events : List Event) (setting : Setting) → WorldStands header events self.old → SetBy header setting → OnOk result (Safe setting (run header (e.now ∷ events))) }
+        ensures promises { (header : HeaderValue) (events : List Event) (setting : Setting) → WorldStands header events self.old → SetBy header setting → OnOk result (Promises setting (run header (e.now ∷ events))) }
         ensures kept { (header : HeaderValue) (events : List Event) → WorldStands header events self.old → OnErr result (WorldStands header events self.new) }
         ensures fault { (header : HeaderValue) (events : List Event) → WorldStands header events self.old → MatchResult result (λ _. refusal (scene header events) e.now ≡ None) (λ f. IsRefusal (refusal (scene header events) e.now) f) }
     {
-        if let Some(fault) = self.refusal(e) {
+        let node = self.actor(e);
+        if let Some(fault) = self.refusal(e, node) {
             return Err(fault);
         }
         if self.make_room().is_err() {
             return Err(EventFault::OutOfMemory);
         }
-        match self.happen(e) {
+        match self.happen(e, node) {
             Ok(()) => Ok(()),
             Err(_) => Err(EventFault::OutOfMemory),
         }
@@ -145,13 +146,14 @@ impl World {
         Ok(())
     }
 
-    /// Lets an event happen that nothing refuses. The refusal is want of memory for a boot, and the world
+    /// Lets an event happen that nothing refuses, and at which this node acts. The refusal is want of memory for a boot, and the world
     /// still stands for what it stood for.
-    fn happen(&mut self, e: &Event) -> Result<(), AllocError>
+    fn happen(&mut self, e: &Event, node: Option<u32>) -> Result<(), AllocError>
         requires ready { IsReady self.old }
         requires time { event_at e.now ≤ 1000000000000000 }
         requires port { OnFirstPort e.now }
         requires allowed { Allowed (scene_of self.old) e.now }
+        requires actor { node ≡ actor (scene_of self.old) e.now }
         ensures happens { OnOk result (Happens e.now self.old self.new) }
         ensures kept { OnErr result (Stays self.old self.new) }
     {
@@ -162,7 +164,7 @@ impl World {
                 Ok(())
             }
             Event::Take { at, datagram } => {
-                self.take(*at, *datagram);
+                self.take(*at, *datagram, node);
                 Ok(())
             }
             Event::Bytes {

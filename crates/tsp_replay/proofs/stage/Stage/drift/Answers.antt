@@ -6,5 +6,5 @@ use Rattle.tsp_replay.proofs.stage.Stage.drift.Goals as goal
 
 pub returns-in-Ok-Drift-clause-next : goal.returns-in-Ok-Drift-clause-next
 returns-in-Ok-Drift-clause-next c =
-    Advances-drift c.in-Ok-Drift.drift c.args.line.now c.new.result c.head_line.result (c.in-Ok-Drift.is ∙ ap (λ i. Ok i) c.in-Ok-Drift.field-0-is) c.head_line.ensures.one
-    (subst (λ i. SpellsHead 2 c.args.line.now i) c.in-Ok-Drift.field-0-is c.in-Ok-Drift.ensures.reads) c.new.ensures
+    Advances-drift c.args.version c.in-Ok-Drift.drift c.args.line.now c.drifted.result c.head_line.result (c.in-Ok-Drift.is ∙ ap (λ i. Ok i) c.in-Ok-Drift.field-0-is) c.head_line.ensures.one
+    (subst (λ i. SpellsHead 2 c.args.line.now i) c.in-Ok-Drift.field-0-is c.in-Ok-Drift.ensures.reads) c.drifted.ensures

@@ -81,7 +81,7 @@ returns-in-Ok-clause-happens c header events w none =
     (subst (λ v. Performs (Unbooted v c.args.word (to_z w64 (of_z w64 c.wall_at-wall.result))) NodeStands boots c.tick-tick.result first_port tt node world.desk.placed.items acts) config_is c.in-Ok.ensures.row)) in
     let begun : Unbooted config c.args.word (line.wall +ℤ pos x) past tt = record { cause = refl; of = record { own = refl; name = refl; may = refl; strict = refl; peers = refl } } in
     WorldStands-acted header events (Boot c.args.at c.args.node c.args.word) boots step world c.note.new.self nodes acts
-    w none refl refl (in_header header events world len w c.args.node c.requires.node) (search rules)
+    w (search rules) none refl refl (in_header header events world len w c.args.node c.requires.node) (search rules)
     (booted.acts past begun ∙ ap (λ ps. ps ++ placed first_port (boots x past)) c.requires.ready.idle)
     (subst (λ t. Notes c.args.at c.args.node t world.header nodes world.events world.sent.items acts c.note.new.self) tick_is c.note.ensures)
     (λ place is. elim (set_cases world.nodes.items c.args.node c.args.node (Some node) place is) [

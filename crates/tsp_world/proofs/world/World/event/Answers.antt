@@ -6,8 +6,8 @@ use Rattle.tsp_world.specs.declared.world.World.{World}
 use Rattle.tsp_world.specs.Refusals.{scene, refusal}
 use Rattle.tsp_world.specs.WorldStands.{scene_of, WorldStands}
 use Rattle.tsp_world.proofs.RefusalLemmas.{refusal-alike}
-use Rattle.tsp_world.proofs.RunSafe.{runs-safe}
-use Rattle.tsp_world.proofs.WorldLemmas.{Alike-stands}
+use Rattle.tsp_world.proofs.RunPromises.{runs-keep-promises}
+use Rattle.tsp_world.proofs.WorldLemmas.{Alike-stands, accepted}
 use Rattle.tsp_world.proofs.world.World.event.Goals as goal
 use Rattle.std.specs.Prelude.{List, ◌∷◌}
 
@@ -31,5 +31,5 @@ returns-in-Ok-clause-stands c = λ header events w.
 pub returns-in-Ok-clause-fault : goal.returns-in-Ok-clause-fault
 returns-in-Ok-clause-fault c = λ header events w. sym (refuses header events c.args.self.now c.args.e.now w) ∙ sym c.refusal.ensures ∙ c.in_default.is
 
-pub returns-in-Ok-clause-safe : goal.returns-in-Ok-clause-safe
-returns-in-Ok-clause-safe c = λ header events setting w set. runs-safe header setting (c.args.e.now ∷ events) set (returns-in-Ok-clause-stands c header events w).valid
+pub returns-in-Ok-clause-promises : goal.returns-in-Ok-clause-promises
+returns-in-Ok-clause-promises c = λ header events setting w set. runs-keep-promises header setting (c.args.e.now ∷ events) set (accepted header (c.args.e.now ∷ events) _ (returns-in-Ok-clause-stands c header events w))

@@ -4,8 +4,7 @@ use Rattle.std.proofs.Math.ListN.{set}
 use Rattle.tsp_base.specs.Joins.{first_port}
 use Rattle.tsp_base.specs.Performs.{Performs}
 use Rattle.tsp_base.specs.Ticks.{tick_at}
-use Rattle.tsp_rules.specs.Answers.{Got}
-use Rattle.tsp_node.specs.InForce.{answers_in_force}
+use Rattle.tsp_rules.specs.Answers.{Got, answers}
 use Rattle.tsp_world.specs.NodesReady.{PlaceReady}
 use Rattle.tsp_world.specs.Refusals.{room}
 use Rattle.tsp_world.specs.Setup.{node_line}
@@ -44,13 +43,13 @@ note-requires c =
     }
 
 pub returns : goal.returns
-returns c cause header events e w at none up happens =
+returns c cause header events e w at range none up happens =
     let world = c.args.self.now in
     let len : vec_len world.nodes ≡ length world.nodes.items = search rules in
     let tick_is = c.tick-tick.ensures.tick ∙ ap (λ h. tick_at (node_line h c.args.node).rate c.args.at) w.header_is in
-    let row = answers_in_force (Got c.args.from c.args.taken.now) in
+    let row = answers (Got c.args.from c.args.taken.now) in
     let acts = c.take.new.desk.placed.items in
     WorldStands-handed header events e row (record { at = c.args.at; node = c.args.node; cause = cause }) world c.note.new.self c.index_mut-place.result.now c.take.new.place acts
-    w none happens at (in_header header events world len w c.args.node c.requires.node) c.requires.ready.idle up (there (goal.at.returns c).After-index_mut-place)
+    w range none happens at (in_header header events world len w c.args.node c.requires.node) c.requires.ready.idle up (there (goal.at.returns c).After-index_mut-place)
     (subst (λ t. Performs UpBegun UpStands row t first_port c.index_mut-place.result.now c.take.new.place world.desk.placed.items acts) tick_is c.take.ensures.row)
     (subst (λ t. Notes c.args.at c.args.node t world.header (set world.nodes.items c.args.node c.take.new.place) world.events world.sent.items acts c.note.new.self) tick_is c.note.ensures)

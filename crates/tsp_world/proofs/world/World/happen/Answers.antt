@@ -1,12 +1,12 @@
 -- Each kind of event, as nothing refuses it.
-use Rattle.std.proofs.Common.{◌≡◌, ◌≤◌, ◌+◌, ◌∙◌, ℕ, refl, subst, arith, Some, rules, vec_len, length}
+use Rattle.std.proofs.Common.{◌≡◌, ◌≤◌, ◌<◌, ◌+◌, ◌∙◌, ℕ, List, refl, subst, arith, Some, rules, vec_len, length}
 use Rattle.tsp_base.specs.declared.event.Event.{Event}
 use Rattle.tsp_base.specs.declared.event.Event.TheVariants.{Bytes}
 use Rattle.tsp_base.specs.History.{Handed}
+use Rattle.tsp_codec.specs.Numbers.{octet_at}
 use Rattle.tsp_codec.specs.Taken.{taken_of}
-use Rattle.tsp_rules.specs.Answers.{Got}
+use Rattle.tsp_rules.specs.Answers.{Got, answers}
 use Rattle.tsp_world.specs.declared.world.World.{World}
-use Rattle.tsp_node.specs.InForce.{answers_in_force}
 use Rattle.tsp_world.specs.Refusals.{Allowed, scene, actor, room}
 use Rattle.tsp_world.specs.WorldStands.{scene_of, HappensBy}
 use Rattle.tsp_world.proofs.RefusalLemmas.{refusal-none, up-down}
@@ -43,10 +43,10 @@ returns-in-Bytes-clause-happens c header events =
     let at = c.in-Bytes.at in
     let node = c.in-Bytes.node in
     let e : Event = Bytes at node c.in-Bytes.port c.in-Bytes.from c.in-Bytes.octets in
-    let hands : HappensBy (answers_in_force (Got c.in-Bytes.from (taken_of c.in-Bytes.octets))) at node world c.bytes.new.self =
-    subst (λ o. HappensBy (answers_in_force (Got c.in-Bytes.from (taken_of o))) at node world c.bytes.new.self) c.octets.ensures.value c.bytes.ensures in
+    let hands : HappensBy (answers (Got c.in-Bytes.from (taken_of c.in-Bytes.octets))) at node world c.bytes.new.self =
+    subst (λ o. HappensBy (answers (Got c.in-Bytes.from (taken_of o))) at node world c.bytes.new.self) c.octets.ensures.value c.bytes.ensures.happens in
     rw c.in-Bytes.is
     (λ w none.
     let len : vec_len world.nodes ≡ length world.nodes.items = search rules in
     let up = (Alike-stands header events world len w).up node ∙ up-down (scene header events) node (refusal-none (scene header events) e none).up in
-    hands Handed header events e w refl none up refl)
+    hands Handed header events e w refl (λ i. subst (λ (o : List ℕ). octet_at o i < 256) c.octets.ensures.value (c.bytes.ensures.range i)) none up refl)

@@ -1,5 +1,7 @@
 -- No node is up, and each is set up as the header says.
 use Rattle.std.proofs.Common.{◌≡◌, refl, sym, subst, rules, Some, None, slice_get, []}
+use Rattle.std.proofs.lemmas.List.Elements.{All-nil}
+use Rattle.tsp_world.specs.Ranges.{IsInRange}
 use Rattle.tsp_world.specs.WorldStands.{PlaceStands}
 use Rattle.tsp_world.proofs.SetCases.{slice_get-replicate}
 use Rattle.tsp_world.proofs.world.World.new.Goals as goal
@@ -16,6 +18,7 @@ invariant_of-result-clause-ready c = record {
 pub returns : goal.returns
 returns c = record {
   header_is = refl;
+  ranges = All-nil IsInRange;
   valid = tt;
   count = refl;
   last = refl;

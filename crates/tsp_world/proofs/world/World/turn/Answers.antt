@@ -6,8 +6,7 @@ use Rattle.tsp_base.specs.declared.event.Event.TheVariants.{Turn}
 use Rattle.tsp_base.specs.History.{Turned}
 use Rattle.tsp_base.specs.Performs.{Performs}
 use Rattle.tsp_base.specs.Ticks.{tick_at}
-use Rattle.tsp_rules.specs.Answers.{Turn as NoInput}
-use Rattle.tsp_node.specs.InForce.{answers_in_force}
+use Rattle.tsp_rules.specs.Answers.{Turn as NoInput, answers}
 use Rattle.tsp_world.specs.NodesReady.{PlaceReady}
 use Rattle.tsp_world.specs.Refusals.{scene, room}
 use Rattle.tsp_world.specs.Setup.{node_line}
@@ -53,7 +52,7 @@ returns c header events w none =
     let tick_is = c.tick-tick.ensures.tick ∙ ap (λ h. tick_at (node_line h c.args.node).rate c.args.at) w.header_is in
     let up = (Alike-stands header events world len w).up c.args.node ∙ up-down (scene header events) c.args.node (refusal-none (scene header events) (Turn c.args.at c.args.node) none).up in
     let acts = c.turn.new.desk.placed.items in
-    WorldStands-handed header events (Turn c.args.at c.args.node) (answers_in_force NoInput) (record { at = c.args.at; node = c.args.node; cause = Turned }) world c.note.new.self c.index_mut-place.result.now c.turn.new.place acts
-    w none refl refl (in_header header events world len w c.args.node c.requires.node) c.requires.ready.idle up (there (goal.at.returns c).After-index_mut-place)
-    (subst (λ t. Performs UpBegun UpStands (answers_in_force NoInput) t first_port c.index_mut-place.result.now c.turn.new.place world.desk.placed.items acts) tick_is c.turn.ensures.row)
+    WorldStands-handed header events (Turn c.args.at c.args.node) (answers NoInput) (record { at = c.args.at; node = c.args.node; cause = Turned }) world c.note.new.self c.index_mut-place.result.now c.turn.new.place acts
+    w tt none refl refl (in_header header events world len w c.args.node c.requires.node) c.requires.ready.idle up (there (goal.at.returns c).After-index_mut-place)
+    (subst (λ t. Performs UpBegun UpStands (answers NoInput) t first_port c.index_mut-place.result.now c.turn.new.place world.desk.placed.items acts) tick_is c.turn.ensures.row)
     (subst (λ t. Notes c.args.at c.args.node t world.header (set world.nodes.items c.args.node c.turn.new.place) world.events world.sent.items acts c.note.new.self) tick_is c.note.ensures)
