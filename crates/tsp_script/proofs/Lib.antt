@@ -12,3 +12,5 @@ pub mod Apart
 pub mod Lengths
 pub mod OneEvent
 pub mod OneHead
+pub mod NodeNames
+pub mod StormDraws

@@ -3,3 +3,4 @@ pub mod Schedules
 pub mod Texts
 pub mod Traces
 pub mod Words
+pub mod Storms

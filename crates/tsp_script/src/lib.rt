@@ -13,6 +13,7 @@ mod net_line;
 pub mod numbers;
 #[cfg(test)]
 mod schedule_tests;
+pub mod storm;
 #[cfg(test)]
 mod tests;
 pub mod trace;

@@ -1,0 +1,14 @@
+use Rattle.std.proofs.Common.{◌≡◌, ◌≤◌, ◌<◌, ◌+◌, ◌∙◌, subst, ap}
+use Rattle.tsp_script.specs.Storms.{StormValue, moved, drawn, as_event}
+use Rattle.tsp_script.proofs.StormDraws.{draw-ask, draw-request}
+use Rattle.tsp_script.proofs.storm.Storm.choose.Goals as goal
+
+pub returns-then-c-lt7-clause-next : goal.returns-then-c-lt7-clause-next
+returns-then-c-lt7-clause-next c =
+    let booted : c.args.self.now.nodes ≤ c.args.self.now.given = subst (λ (v : StormValue). v.nodes ≤ v.given) c.self.view_is c.if-self.false in
+    c.ask.ensures.next ∙ draw-ask c.args.posted _ c.draw.result c.draw-c.result c.args.self.now c.draw.new.self c.draw-c.new.self booted c.draw.ensures.moves c.draw-c.ensures.moves (ap (λ (v : StormValue). v.at + c.draw.result) c.self.view_is) c.draw.ensures.value c.draw-c.ensures.value c.if-c-lt4.false c.if-c-lt7.true
+
+pub returns-else-c-lt7-clause-next : goal.returns-else-c-lt7-clause-next
+returns-else-c-lt7-clause-next c =
+    let booted : c.args.self.now.nodes ≤ c.args.self.now.given = subst (λ (v : StormValue). v.nodes ≤ v.given) c.self.view_is c.if-self.false in
+    ap (λ e. as_event e) c.request.ensures.next ∙ draw-request c.args.posted _ c.draw.result c.draw-c.result c.args.self.now c.draw.new.self c.draw-c.new.self booted c.draw.ensures.moves c.draw-c.ensures.moves (ap (λ (v : StormValue). v.at + c.draw.result) c.self.view_is) c.draw.ensures.value c.draw-c.ensures.value c.if-c-lt7.false
