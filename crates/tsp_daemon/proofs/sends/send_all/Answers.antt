@@ -1,0 +1,25 @@
+use Rattle.std.proofs.Common.{rules, arith, ◌≡◌, ◌∙◌, ◌++◌, ap, sym, append_assoc, get_or}
+use Rattle.tsp_base.specs.declared.act.Placed.{Placed}
+use Rattle.tsp_daemon.specs.Posts.{send_of}
+use Rattle.tsp_daemon.proofs.SendLemmas.{TriesAll-trans, sends_here}
+use Rattle.tsp_daemon.proofs.sends.send_all.Goals as goal
+
+pub loop-placed-preserved : goal.loop-placed-preserved
+loop-placed-preserved g c =
+    let tried = c.loop-placed.invariant.tried in
+    let item : Placed = c.placed-item.result in
+    let item_is : get_or c.args.acts.now c.loop-placed.placed-index item ≡ item = search rules in
+    let here = sends_here c.args.acts.now c.loop-placed.placed-index item (search rules) item_is in
+    let e = c.in_ok-send_one.ensures in
+    record {
+      tried = (
+        tried.0 ++ send_of item.act,
+        TriesAll-trans _ _ _ tried.0 (send_of item.act) tried.1 e.ok,
+        tried.2 ∙ ap (λ ps. tried.0 ++ ps) here ∙ sym (append_assoc tried.0 (send_of item.act) _),
+      );
+      arrivals = e.same.0 ∙ c.loop-placed.invariant.arrivals;
+      calls = e.same.1 ∙ c.loop-placed.invariant.calls;
+      stranger = e.same.2 ∙ c.loop-placed.invariant.stranger;
+      faults = e.later.0 ∙ c.loop-placed.invariant.faults;
+      send_faults = omega (arith, c.loop-placed.invariant.send_faults, e.later.1);
+    }

@@ -1,0 +1,36 @@
+use Rattle.std.proofs.Common.{◌≡◌, ◌∙◌, ◌+◌, ◌*◌, ap, arith, subst, length, List, Some}
+use Rattle.tsp_base.specs.declared.place.PeerId.{PeerId}
+use Rattle.tsp_node.specs.NodeStands.{peers_in, room_of}
+use Rattle.tsp_query.specs.Ends.{Tells}
+use Rattle.tsp_daemon.specs.Sessions.{after_turns}
+use Rattle.tsp_daemon.proofs.SessionLemmas.{serves_until, turns_more}
+use Rattle.tsp_daemon.proofs.serve.serve.Goals as goal
+
+pub returns-in-Err-clause-serves : goal.returns-in-Err-clause-serves
+returns-in-Err-clause-serves g c s at = serves_until c.args.turns c.loop.counter s _ _ _ _ _ _ c.in-Err.end (search arith) (c.in-Err.ensures.turns (after_turns c.loop.counter s) (c.loop.invariant.at s at))
+
+pub loop-preserved : goal.loop-preserved
+loop-preserved g c =
+    let room = room_of (length (peers_in c.args.node)) in
+    let same : room_of (length (peers_in c.loop.node)) ≡ room = ap (λ (ps : List PeerId). room_of (length ps)) c.loop.invariant.peers in
+    let more : (c.loop.counter + 1) * room ≡ c.loop.counter * room + room = grind arith in
+    record {
+      at = λ s at. turns_more c.loop.counter s _ _ _ _ _ _ _ _ (c.in_default.ensures.turns (after_turns c.loop.counter s) (c.loop.invariant.at s at));
+      lives = c.in_default.ensures.lives;
+      clock = c.in_default.ensures.clock;
+      turns = c.in_default.ensures.counts.0 ∙ ap (λ n. n + 1) c.loop.invariant.turns;
+      posts = (let posts = c.in_default.ensures.counts.1 in omega (arith, posts, c.loop.invariant.posts, same, more));
+      peers = c.in_default.ensures.peers ∙ c.loop.invariant.peers;
+      faults = c.in_default.ensures.still.0 (λ e. cc) ∙ c.loop.invariant.faults;
+      send_faults = omega (arith, c.loop.invariant.send_faults, c.turn.ensures.later.1);
+      writes = c.in_default.ensures.still.1 (λ e. cc) ∙ c.loop.invariant.writes;
+      last = omega (arith, c.loop.invariant.last, c.turn.ensures.later.3);
+    }
+
+pub returns-clause-serves : goal.returns-clause-serves
+returns-clause-serves g c s at =
+    let all : c.loop.counter ≡ c.args.turns = search arith in
+    let end = c.loop.invariant.at s at in (
+      subst (λ n. Tells (after_turns n s).outside (g.L.Link.arrivals c.loop.link) (g.L.Link.tried c.loop.link) (g.L.Link.calls c.loop.link) (g.T.Ticker.readings c.loop.ticker) (g.T.Ticker.last c.loop.ticker)) all end.tells,
+      end.written_is ∙ ap (λ n. Some (after_turns n s).written) all,
+    )

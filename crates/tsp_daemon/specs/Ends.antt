@@ -1,0 +1,82 @@
+-- How a daemon's session ends, and what is then sent and written.
+use Rattle.std.specs.Prelude.{◌≡◌, ◌⊎◌, ℕ, ◌<◌, ◌≤◌, List, ◌++◌, length, take, Option, Some}
+use Rattle.std.specs.Option.{option_map}
+use Rattle.tsp_base.specs.History.{Past}
+use Rattle.tsp_codec.specs.Taken.{taken_of}
+use Rattle.tsp_io.specs.Links.{Arrival, Tried}
+use Rattle.tsp_io.specs.Streams.{Grows}
+use Rattle.tsp_io.specs.declared.link.Recv.{Recv}
+use Rattle.tsp_io.specs.declared.link.Recv.TheVariants.{Datagram}
+use Rattle.tsp_node.specs.declared.node.Node.{Node}
+use Rattle.tsp_node.specs.NodeStands.{NodeStands}
+use Rattle.tsp_query.specs.Ends.{Tells}
+use Rattle.tsp_rules.specs.Answers.{Given, Turn, Got}
+use Rattle.tsp_daemon.specs.declared.course.Course.{Course}
+use Rattle.tsp_daemon.specs.declared.end.ServeEnd.{ServeEnd}
+use Rattle.tsp_daemon.specs.declared.end.ServeEnd.TheVariants.{Done, LinkFault, WriteFault, OutOfMemory}
+use Rattle.tsp_daemon.specs.Posts.{sends_of}
+use Rattle.tsp_daemon.specs.Sessions.{Session, acts_in, shown, turned, after_turns, unheard}
+
+-- what a node is given by what a receive gave
+abbrev pub given_by : Recv → List ℕ → Given
+given_by (Datagram from count) octets = Got from (taken_of (take count octets))
+given_by _ octets = Turn
+
+-- the octets that a receive counts lie in the buffer
+abbrev pub IsCount : Recv → ℕ → Type 0
+IsCount (Datagram from count) room = count ≤ room
+IsCount _ room = Unit {0}
+
+-- these sends more were tried
+abbrev pub TriesAll : List Tried → Option (List Tried) → Option (List Tried) → Type 0
+TriesAll sends tried more = more ≡ option_map (λ ts. ts ++ sends) tried
+
+-- of these sends some were tried, from the first on
+abbrev pub TriesSome : List Tried → Option (List Tried) → Option (List Tried) → Type 0
+TriesSome sends tried more = (part : List Tried) × (rest : List Tried) × (sends ≡ part ++ rest) × TriesAll part tried more
+
+-- of this text a part was written, from its front on
+abbrev pub WritesSome : List ℕ → Option (List ℕ) → Option (List ℕ) → Type 0
+WritesSome text written now = (part : List ℕ) × (rest : List ℕ) × (text ≡ part ++ rest) × Grows written now part
+
+-- the same, and it isn't the whole
+abbrev pub CutsShort : List ℕ → Option (List ℕ) → Option (List ℕ) → Type 0
+CutsShort text written now = (part : List ℕ) × (rest : List ℕ) × (0 < length rest) × (text ≡ part ++ rest) × Grows written now part
+
+-- how far the writing of a text has come that ends so
+abbrev pub TellsUntil : List ℕ → Option (List ℕ) → Option (List ℕ) → ServeEnd → Type 0
+TellsUntil text written now Done = ⊥
+TellsUntil text written now LinkFault = ⊥
+TellsUntil text written now WriteFault = CutsShort text written now
+TellsUntil text written now OutOfMemory = WritesSome text written now
+
+-- how far sends and, after them, the writing of a text have come that end so
+abbrev pub FinishesUntil : List Tried → List ℕ → Option (List Tried) → Option (List Tried) → Option (List ℕ) → Option (List ℕ) → ServeEnd → Type 0
+FinishesUntil sends text tried more written now OutOfMemory = (TriesSome sends tried more × (now ≡ written)) ⊎ (TriesAll sends tried more × WritesSome text written now)
+FinishesUntil sends text tried more written now end = TriesAll sends tried more × TellsUntil text written now end
+
+-- the node stands for some past
+pub record Lives (node : Node) : Type 0 where
+  pub past : Past
+  pub stands : NodeStands past node
+
+-- the node, the course and what is told of the outside are where a session has come to
+pub record IsAt (s : Session) (node : Node) (course : Course) (arrivals : Option (List Arrival)) (tried : Option (List Tried)) (calls : Option ℕ) (readings : Option (List ℕ)) (last : ℕ) (written : Option (List ℕ)) : Type 0 where
+  pub stands : NodeStands s.past node
+  pub turns_is : course.turns ≡ s.turns
+  pub posts_is : course.posts ≡ s.posts
+  pub tells : Tells s.outside arrivals tried calls readings last
+  pub written_is : written ≡ Some s.written
+
+-- a turn after this session ends the daemon
+abbrev pub EndsTurn : Session → Option (List Arrival) → Option (List Tried) → Option ℕ → Option (List ℕ) → ℕ → Option (List ℕ) → ServeEnd → Type 0
+EndsTurn s arrivals tried calls readings last written Done = ⊥
+EndsTurn s arrivals tried calls readings last written LinkFault = Tells (unheard s.outside) arrivals tried calls readings last × (written ≡ Some s.written)
+EndsTurn s arrivals tried calls readings last written WriteFault = Tells (turned s).outside arrivals tried calls readings last × CutsShort (shown s) (Some s.written) written
+EndsTurn s arrivals tried calls readings last written OutOfMemory =
+    (TriesSome (sends_of (acts_in s)) (Some s.outside.tried) tried × (written ≡ Some s.written)) ⊎ (TriesAll (sends_of (acts_in s)) (Some s.outside.tried) tried × WritesSome (shown s) (Some s.written) written)
+
+-- how a session of so many turns ends: all were taken, or one of them ended it
+abbrev pub Serves : ℕ → Session → Option (List Arrival) → Option (List Tried) → Option ℕ → Option (List ℕ) → ℕ → Option (List ℕ) → ServeEnd → Type 0
+Serves turns s arrivals tried calls readings last written Done = Tells (after_turns turns s).outside arrivals tried calls readings last × (written ≡ Some (after_turns turns s).written)
+Serves turns s arrivals tried calls readings last written end = (i : ℕ) × (i < turns) × EndsTurn (after_turns i s) arrivals tried calls readings last written end

@@ -1,0 +1,4 @@
+pub mod Ends
+pub mod Posts
+pub mod Sessions
+pub mod Waits

@@ -1,0 +1,36 @@
+-- What acts send, and the lines in which they are shown.
+use Rattle.std.specs.Prelude.{ℕ, ◌+◌, Bool, if◌then◌else◌, List, [], ◌∷◌, ◌++◌, length, All}
+use Rattle.tsp_base.specs.declared.act.Act.{Act}
+use Rattle.tsp_base.specs.declared.act.Act.TheVariants.{Post}
+use Rattle.tsp_base.specs.declared.act.Placed.{Placed}
+use Rattle.tsp_codec.specs.Canon.{canon}
+use Rattle.tsp_fit.specs.Strangers.{IsKnown}
+use Rattle.tsp_io.specs.Links.{Tried}
+use Rattle.tsp_script.specs.Traces.{trace_text}
+
+-- the send that an act asks for: a post goes to its addressee, in its one written spelling
+abbrev pub send_of : Act → List Tried
+send_of (Post to datagram) = (to, canon datagram) ∷ []
+send_of _ = []
+
+-- the sends that acts ask for, in order
+abbrev pub sends_of : List Placed → List Tried
+sends_of [] = []
+sends_of (p ∷ rest) = send_of p.act ++ sends_of rest
+
+-- the line of an act of a turn, with its line feed; the daemon's node has number 0
+abbrev pub line_of : ℕ → ℕ → ℕ → Placed → List ℕ
+line_of turn tick number p = trace_text turn 0 tick number p ++ 10 ∷ []
+
+-- the lines of the acts of a turn, of which the first post has this number
+abbrev pub lines_of : ℕ → ℕ → ℕ → List Placed → List ℕ
+lines_of turn tick number [] = []
+lines_of turn tick number (p ∷ rest) = line_of turn tick number p ++ lines_of turn tick (number + length (send_of p.act)) rest
+
+-- the lines, where they are shown
+abbrev pub shown_lines : Bool → ℕ → ℕ → ℕ → List Placed → List ℕ
+shown_lines shown turn tick number acts = if shown then lines_of turn tick number acts else []
+
+-- acts post to a stranger only where this holds
+abbrev pub AreKnown : Bool → List Placed → Type 0
+AreKnown stranger acts = All (λ p. IsKnown stranger p.act) acts

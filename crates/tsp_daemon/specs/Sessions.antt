@@ -1,0 +1,80 @@
+-- A session of the daemon: what its node does turn after turn, what is sent, and what is shown.
+use Rattle.std.specs.Prelude.{ℕ, zero, suc, ◌+◌, ◌||◌, List, ◌++◌, length, take, None, Some}
+use Rattle.tsp_base.specs.declared.act.Placed.{Placed}
+use Rattle.tsp_base.specs.History.{Turned, Past, plain}
+use Rattle.tsp_base.specs.Joins.{first_port}
+use Rattle.tsp_base.specs.NodeFacts.{tracing}
+use Rattle.tsp_base.specs.Rows.{grown, in_step, placed}
+use Rattle.tsp_codec.specs.Taken.{taken_of}
+use Rattle.tsp_io.specs.Counts.{one_more}
+use Rattle.tsp_io.specs.Links.{Arrival}
+use Rattle.tsp_query.specs.Asked.{next_arrival, rest_of}
+use Rattle.tsp_query.specs.Clocks.{reading}
+use Rattle.tsp_query.specs.Ends.{Outside, heard}
+use Rattle.tsp_rules.specs.Answers.{Given, Turn, Got, answers}
+use Rattle.tsp_daemon.specs.Posts.{sends_of, shown_lines}
+
+-- how far a session has come
+pub record Session : Type 0 where
+  -- the node's past
+  pub past : Past
+  -- what is to arrive and to be read, and what was sent and called
+  pub outside : Outside
+  -- the turns taken; the next one's number is one more
+  pub turns : ℕ
+  -- the datagrams posted; this is the next one's number
+  pub posts : ℕ
+  -- the octets written
+  pub written : List ℕ
+
+-- what a node is given by what arrives, of which 512 octets are read
+abbrev pub given_of : Arrival → Given
+given_of None = Turn
+given_of (Some (from, octets)) = Got from (taken_of (take 512 octets))
+
+-- the tick counter is read once
+abbrev pub read_once : Outside → Outside
+read_once o = record o { readings = rest_of o.readings; last = reading o.last o.readings 0 }
+
+-- a receive failed after the first reading of a turn
+abbrev pub unheard : Outside → Outside
+unheard o = record (read_once o) { calls = one_more o.calls }
+
+-- what a turn finds when its node steps: a reading, one arrival or nothing, and a second reading
+abbrev pub waited : Outside → Outside
+waited o = heard (read_once o)
+
+-- the tick of a turn's step: the second reading
+abbrev pub tick_of : Session → ℕ
+tick_of s = (waited s.outside).last
+
+-- the past when the step of a turn begins at this tick
+abbrev pub begun : ℕ → Past → Past
+begun x past = in_step (record { at = x; node = 0; cause = Turned }) x past
+
+-- the acts of a turn: what the node answers to what came, at the second reading
+abbrev pub acts_in : Session → List Placed
+acts_in s = placed first_port (answers (given_of (next_arrival s.outside.arrivals)) (tick_of s) (begun (tick_of s) s.past))
+
+-- the node's past after a turn
+abbrev pub past_after : Session → Past
+past_after s = grown (tick_of s) (begun (tick_of s) s.past) (answers (given_of (next_arrival s.outside.arrivals)) (tick_of s) (begun (tick_of s) s.past))
+
+-- the text that a turn shows: the lines of its acts, where the trace was on before the turn or is on after it
+abbrev pub shown : Session → List ℕ
+shown s = shown_lines (tracing (plain s.past.seen) || tracing (plain (past_after s).seen)) (s.turns + 1) (tick_of s) s.posts (acts_in s)
+
+-- a turn
+abbrev pub turned : Session → Session
+turned s = record {
+  past = past_after s;
+  outside = record (waited s.outside) { tried = s.outside.tried ++ sends_of (acts_in s) };
+  turns = s.turns + 1;
+  posts = s.posts + length (sends_of (acts_in s));
+  written = s.written ++ shown s;
+}
+
+-- so many turns
+abbrev pub after_turns : ℕ → Session → Session
+after_turns zero s = s
+after_turns (suc n) s = turned (after_turns n s)
