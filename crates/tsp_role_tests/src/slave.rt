@@ -1,6 +1,6 @@
 //! A follower that is corrected, hears the correction again, and is corrected once more; and a port that is
 //! asked to back two candidates.
-ghost use Rattle.std.specs.Prelude.{◌≡◌, ◌≤◌, length, IfOk};
+ghost use Rattle.std.specs.Prelude.{◌≡◌, ◌<◌, ◌≤◌, length, IfOk};
 ghost use Rattle.tsp_base.specs.Frames.{IsTick};
 
 use std::alloc::{AllocError, Global};
@@ -23,9 +23,10 @@ use tsp_slave::take::slave_take;
 
 const PORT: Port = Port(0);
 
-const MASTER: PeerId = PeerId(1);
+/// The places of two peers among the port's.
+const MASTER: usize = 1;
 
-const OTHER: PeerId = PeerId(2);
+const OTHER: usize = 2;
 
 /// A node with one port, and the acts of its last step.
 #[derive(Drop)]
@@ -49,7 +50,7 @@ impl Node {
             may: false,
             strict: false,
         };
-        let mut station = Station::new(alloc, me, &[PeerId(0), MASTER, OTHER], 0)?;
+        let mut station = Station::new(alloc, me, &[PeerId(0), PeerId(1), PeerId(2)], 0)?;
         let mut pad = Pad::new(alloc);
         pad.reserve(22)?;
         slave_ring(&mut station, Alarm::Quiet, 80_000_000, PORT, &mut pad);
@@ -61,10 +62,11 @@ impl Node {
         })
     }
 
-    /// The number of acts that a message makes, and what the clock shows then.
-    fn takes(&mut self, tick: u64, from: PeerId, m: Option<Message>) -> Result<(usize, i64), Fail>
+    /// The number of acts that a message of the peer at a place makes, and what the clock shows then.
+    fn takes(&mut self, tick: u64, place: usize, m: Option<Message>) -> Result<(usize, i64), Fail>
         requires tick { IsTick tick }
         requires later { self.old.clock.at ≤ tick }
+        requires place { place < 3 }
         requires peers { length self.old.station.peers ≡ 3 }
         ensures peers { length self.new.station.peers ≡ 3 }
         ensures clock { self.new.clock.at ≤ tick }
@@ -72,6 +74,7 @@ impl Node {
         self.pad.clear();
         self.pad.reserve(22)?;
         if let Some(m) = m {
+            let from = self.station.peers()[place];
             slave_take(
                 &mut self.station,
                 &mut self.last,
@@ -118,12 +121,37 @@ fn corrects_once(rt: HostRuntime) -> Result<(), Fail> {
     assert_eq!(rt; node.takes(83_000_000, MASTER, m)?, (3, 83_005_000));
     let m = message(Kind::SetTime, 9, Some(100_000_000));
     assert_eq!(rt; node.takes(84_000_000, MASTER, m)?, (3, 100_000_000));
-    assert!(rt; node.station.role == Role::Follow(MASTER));
+    assert!(rt; node.station.role == Role::Follow(PeerId(1)));
     assert!(rt;
         node.last.tick() == Some(84_000_000) && node.last.name().octets() == b"b".as_slice()
     );
     node.last.moved(84_000_001);
     assert!(rt; node.last.tick() == Some(84_000_001));
+    Ok(())
+}
+
+#[test]
+fn reports_another_master_and_takes_a_quit(rt: HostRuntime) -> Result<(), Fail> {
+    let Ok(clock) = Clock::boot(0, 0, 7) else {
+        panic!(rt; "the wall is in range");
+    };
+    let mut node = Node::new(rt.alloc(), clock)?;
+    let m = message(Kind::MasterUp, 0, None);
+    assert_eq!(rt; node.takes(81_000_000, MASTER, m)?.0, 3);
+    // A CONFLICT begins to the master, and no second one while it is open.
+    let m = message(Kind::MasterAck, 0, None);
+    assert_eq!(rt; node.takes(82_000_000, OTHER, m)?.0, 1);
+    let m = message(Kind::MasterUp, 0, None);
+    assert_eq!(rt; node.takes(82_000_001, OTHER, m)?.0, 0);
+    let m = message(Kind::Ack, 32_775, None);
+    assert_eq!(rt; node.takes(82_000_002, MASTER, m)?.0, 1);
+    let m = message(Kind::MasterUp, 0, None);
+    assert_eq!(rt; node.takes(82_000_003, OTHER, m)?.0, 1);
+    // A QUIT is noted and acknowledged, and a follower stays with its master.
+    let m = message(Kind::Quit, 40_000, None);
+    assert_eq!(rt; node.takes(83_000_000, OTHER, m)?.0, 2);
+    assert!(rt; node.station.role == Role::Follow(PeerId(1)));
+    assert!(rt; node.last.name().octets() == b"b".as_slice());
     Ok(())
 }
 
@@ -143,6 +171,6 @@ fn backs_one_candidate(rt: HostRuntime) -> Result<(), Fail> {
     let m = message(Kind::Election, 50_001, None);
     assert_eq!(rt; node.takes(141_000_000, MASTER, m)?, (3, 141_000_000));
     assert!(rt; node.station.role == Role::Loose);
-    assert!(rt; !node.station.hold.may_back(141_000_000, OTHER));
+    assert!(rt; !node.station.hold.may_back(141_000_000, PeerId(2)));
     Ok(())
 }

@@ -1,4 +1,4 @@
-//! Tests of what a port stands on: its clock, its station, its roles, and the node with one port.
+//! Tests of a port's roles, and of what it answers to clients.
 //!
 //! They stand apart from the crates that they try, so that each of those is proved once.
 #![tactic(auto)]
@@ -6,10 +6,8 @@
 #[cfg(test)]
 mod candidate;
 #[cfg(test)]
-mod clock;
+mod clients;
 #[cfg(test)]
-mod node;
+mod resolve;
 #[cfg(test)]
 mod slave;
-#[cfg(test)]
-mod station;

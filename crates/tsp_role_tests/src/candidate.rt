@@ -26,7 +26,7 @@ const PORT: Port = Port(0);
 
 const OTHER: PeerId = PeerId(1);
 
-/// A station of peer 0 of two, which booted at tick 0 with the word 7.
+/// A station of peer 2 of two, which booted at tick 0 with the word 7.
 fn station(alloc: Global) -> Result<Station, AllocError>
     ensures { IfOk result (λ s. length s.peers ≡ 2) }
 {
@@ -38,13 +38,13 @@ fn station_in(alloc: Global, strict: bool) -> Result<Station, AllocError>
     ensures { IfOk result (λ s. length s.peers ≡ 2) }
 {
     let me = Me {
-        own: PeerId(0),
+        own: PeerId(2),
         name: Name::empty(),
         word: 7,
         may: true,
         strict,
     };
-    Station::new(alloc, me, &[PeerId(0), OTHER], 0)
+    Station::new(alloc, me, &[OTHER, PeerId(2)], 0)
 }
 
 /// Lets the station stand at this tick.
@@ -91,7 +91,8 @@ fn told(
         Message::of(kind, number, Body::Nothing, name),
         Clock::boot(0, 0, 7),
     ) {
-        candidate_take(station, last, &clock, tick, OTHER, &m, PORT, pad);
+        let other = station.peers()[0];
+        candidate_take(station, last, &clock, tick, other, &m, PORT, pad);
     }
     Ok(())
 }
@@ -121,7 +122,7 @@ fn counts_who_accepts(rt: HostRuntime) -> Result<(), Fail> {
     match pad.acts() {
         [role, back, alarm, ask] => {
             assert!(rt; matches!(role.act, Act::Become(Role::Candidate)));
-            assert!(rt; matches!(back.act, Act::Back(PeerId(0))));
+            assert!(rt; matches!(back.act, Act::Back(PeerId(2))));
             assert!(rt; matches!(alarm.act, Act::Arm(Alarm::Window, 405_000_000)));
             assert!(rt; posts(&ask.act, Kind::Election, 32_775));
         }
