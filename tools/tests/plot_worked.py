@@ -118,7 +118,7 @@ class BestSample(unittest.TestCase):
 
     def test_first_of_the_shortest(self):
         events = [schedule.event_of(line) for line in self.EVENTS]
-        read = schedule.Schedule(1000, [schedule.Node('a', 0, 0, True), schedule.Node('b', 0, 0, False)], events)
+        read = schedule.Schedule(False, 1000, [schedule.Node('a', 0, 0, True), schedule.Node('b', 0, 0, False)], events)
         acts = []
         for line in self.LINES.split('\n'):
             if words := line.split():

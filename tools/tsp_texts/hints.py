@@ -98,7 +98,9 @@ EVENTS = {
     'bytes': [AT, TIME, literal('bytes'), NODE, Field('P', 'the sender: a peer\'s number, or `-`', peer),
               Field('HEX', 'octets in hexadecimal', octets)],
 }
-FIRST = [literal('tsp-schedule'), Field('1', 'the version, 1', lambda given, _: None if given == '1' else '`1` belongs here')]
+FIRST = [literal('tsp-schedule'), Field('VERSION', 'the version, 1 or 2', lambda given, _: None if given in ('1', '2') else '`1` belongs here, or `2` for strict elections')]
+STRICT = [literal('strict')]
+NO_STRICT = '`strict` stands behind `tsp-schedule 2`, where elections are strict'
 DRIFT = [literal('drift'), number('P', 'the greatest drift in parts in a million', 0, schedule.MOST_DRIFT)]
 
 
@@ -163,7 +165,7 @@ def explain_event(line, nodes):
         return explain(line, [AT])
     if words[0] == 'node':
         return 1, 'a node stands in the header, before the first event'
-    if words[0] in ('drift', 'tsp-schedule'):
+    if words[0] in ('drift', 'strict', 'tsp-schedule'):
         return 1, f'`{words[0]}` stands in the header'
     if words[0] != 'at':
         return 1, AT.hint(words[0], nodes) if words[0].lower() == 'at' else '`at` begins an event, and `end` ends a schedule'

@@ -12,6 +12,9 @@ MOST_EVENTS = 200_000
 MOST_DRIFT = 1000
 FARTHEST = 10**15
 
+# The title of each version, and whether its elections are strict.
+TITLES = {b'tsp-schedule 1': False, b'tsp-schedule 2': True}
+
 NUMBER = rb'(0|[1-9][0-9]*)'
 SIGNED = rb'(0|-?[1-9][0-9]*)'
 PEER = rb'(-|0|[1-9][0-9]*)'
@@ -44,6 +47,7 @@ class Event(NamedTuple):
 
 class Schedule(NamedTuple):
     """A whole schedule. Events are numbered from 1, so the first stands at place 0."""
+    strict: bool
     drift: int
     nodes: list
     events: list
@@ -114,12 +118,16 @@ def read(path):
     with open(path, 'rb') as file:
         lines = lines_of(file.read())
     drift = drift_of(lines[1]) if len(lines) > 1 else None
-    if not lines or lines[0] != b'tsp-schedule 1' or drift is None:
-        raise NotASchedule(1 if not lines or lines[0] != b'tsp-schedule 1' else 2)
+    if not lines or lines[0] not in TITLES or drift is None:
+        raise NotASchedule(1 if not lines or lines[0] not in TITLES else 2)
+    strict = TITLES[lines[0]]
+    if strict and lines[2:3] != [b'strict']:
+        raise NotASchedule(3)
     nodes, events = [], []
-    for number, line in enumerate(lines[2:], start=3):
+    first = 4 if strict else 3
+    for number, line in enumerate(lines[first - 1:], start=first):
         if line == b'end' and nodes:
-            return Schedule(drift, nodes, events)
+            return Schedule(strict, drift, nodes, events)
         is_node = not events and line.startswith(b'node ')
         value = node_of(line, drift) if is_node else event_of(line)
         if value is None or not (is_node or nodes):

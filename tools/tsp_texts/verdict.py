@@ -23,7 +23,7 @@ class Reader:
     """Reads a schedule line by line, and knows what a line may be at its place."""
 
     def __init__(self):
-        self.drift, self.nodes = None, []
+        self.strict, self.drift, self.nodes = False, None, []
         self.events, self.time, self.up = 0, 0, set()
         self.number, self.ended, self.stopped = 0, False, False
 
@@ -31,14 +31,17 @@ class Reader:
         """The fault of the next line, or None."""
         self.number += 1
         if self.number == 1:
-            return None if line == b'tsp-schedule 1' else self.header(*hints.explain(line, hints.FIRST))
+            self.strict = schedule.TITLES.get(line, False)
+            return None if line in schedule.TITLES else self.header(*hints.explain(line, hints.FIRST))
         if self.number == 2:
             self.drift = schedule.drift_of(line)
             return self.header(*hints.explain(line, hints.DRIFT)) if self.drift is None else None
+        if self.number == 3 and self.strict:
+            return None if line == b'strict' else self.header(*hints.explain(line, hints.STRICT))
         if not self.events and not self.ended and line.startswith(b'node '):
             return self.node(line)
         if not self.nodes:
-            return self.header(1, 'a node\'s line belongs here: node NAME RATE WALL FLAG')
+            return self.header(1, hints.NO_STRICT if line == b'strict' and self.number == 3 else 'a node\'s line belongs here: node NAME RATE WALL FLAG')
         return self.event(line)
 
     def header(self, field, hint):
