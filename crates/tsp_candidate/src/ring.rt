@@ -1,6 +1,6 @@
 //! How the time of a candidature ends: the port leads, or it gives way.
 ghost use Rattle.std.specs.Prelude.{◌≡◌, ℕ, ◌+◌, ◌≤◌, length};
-ghost use Rattle.tsp_base.specs.Frames.{IsTick, PutsAtMost};
+ghost use Rattle.tsp_base.specs.Frames.{IsTick, PutsAtMost, PutsExactly};
 ghost use Rattle.tsp_base.specs.History.{Past};
 ghost use Rattle.tsp_base.specs.Performs.{Performs};
 ghost use Rattle.tsp_base.specs.Rows.{either_by};
@@ -75,7 +75,7 @@ pub(crate) fn give_way<D: Desk>(station: &mut Station, tick: u64, port: Port, de
     requires tick { IsTick tick }
     requires room { 2 ≤ D.spare desk.old }
     ensures row { Performs Stands Stands yields tick port station.old station.new (D.acts desk.old) (D.acts desk.new) }
-    ensures room { PutsAtMost 2 (D.spare desk.old) (D.spare desk.new) (D.acts desk.old) (D.acts desk.new) }
+    ensures room { PutsExactly 2 (D.spare desk.old) (D.spare desk.new) (D.acts desk.old) (D.acts desk.new) }
     ensures port { IsSamePort station.old station.new }
 {
     station.become_role(Role::Loose, port, desk);

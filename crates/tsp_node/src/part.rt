@@ -4,7 +4,7 @@ ghost use Rattle.tsp_base.specs.declared.act.Act.TheVariants.{Boot, Become};
 ghost use Rattle.tsp_base.specs.declared.alarm.Alarm.TheVariants.{Quiet};
 ghost use Rattle.tsp_base.specs.declared.constants.TheConstants.{QUIET};
 ghost use Rattle.tsp_base.specs.declared.role.Role.TheVariants.{Starting};
-ghost use Rattle.tsp_base.specs.Frames.{IsTick, PutsAtMost};
+ghost use Rattle.tsp_base.specs.Frames.{IsTick, PutsAtMost, PutsExactly};
 ghost use Rattle.tsp_base.specs.History.{Past, Booted, Step};
 ghost use Rattle.tsp_base.specs.Performs.{Performs};
 ghost use Rattle.tsp_base.specs.Rows.{grown, puts, arms, ◌followed_by◌};
@@ -77,7 +77,7 @@ impl Part {
         requires tick { IsTick tick }
         ensures row { (clock : ClockValue) → Performs PartStands PartStands (puts (Become Starting) followed_by arms Quiet QUIET) tick port (self.old, clock) (self.new, clock) (D.acts desk.old) (D.acts desk.new) }
         ensures peers { self.new.station.peers ≡ self.old.station.peers }
-        ensures room { PutsAtMost 2 (D.spare desk.old) (D.spare desk.new) (D.acts desk.old) (D.acts desk.new) }
+        ensures room { PutsExactly 2 (D.spare desk.old) (D.spare desk.new) (D.acts desk.old) (D.acts desk.new) }
     {
         self.station.become_role(Role::Starting, port, desk);
         self.station.arm(Alarm::Quiet, tick, QUIET, port, desk);

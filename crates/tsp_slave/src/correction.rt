@@ -1,7 +1,7 @@
 //! A follower's corrections: each acts once, and its repeats are only acknowledged.
 ghost use Rattle.std.specs.Prelude.{◌≡◌, ℕ, ◌==◌, ◌&&◌, ◌≤◌, true, Option, Some};
 ghost use Rattle.tsp_base.specs.declared.constants.TheConstants.{GAP};
-ghost use Rattle.tsp_base.specs.Frames.{IsTick, PutsAtMost};
+ghost use Rattle.tsp_base.specs.Frames.{IsTick, PutsAtMost, PutsExactly};
 ghost use Rattle.tsp_base.specs.Hold.{is_past};
 ghost use Rattle.tsp_base.specs.Performs.{Performs};
 ghost use Rattle.tsp_base.specs.PortFacts.{Received, said};
@@ -79,7 +79,7 @@ fn change_clock<D: Desk>(
     requires room { 1 ≤ D.spare desk.old }
     ensures row { (station : Station) (took : Option Received) → correcting_of (said took) ≡ Some (record { from = from; number = number }) → Performs SlaveStands SlaveStands (changes_clock change) tick port
         (station, (last.old, (clock.old, took))) (station, (last.new, (clock.new, took))) (D.acts desk.old) (D.acts desk.new) }
-    ensures room { PutsAtMost 1 (D.spare desk.old) (D.spare desk.new) (D.acts desk.old) (D.acts desk.new) }
+    ensures room { PutsExactly 1 (D.spare desk.old) (D.spare desk.new) (D.acts desk.old) (D.acts desk.new) }
     ensures clock { clock.new.at ≤ tick }
 {
     last.took(tick, from, number);
@@ -101,7 +101,7 @@ fn confirm<D: Desk>(
     requires tick { IsTick tick }
     requires room { 2 ≤ D.spare desk.old }
     ensures row { Performs Stands Stands (confirms from number) tick port station.old station.new (D.acts desk.old) (D.acts desk.new) }
-    ensures room { PutsAtMost 2 (D.spare desk.old) (D.spare desk.new) (D.acts desk.old) (D.acts desk.new) }
+    ensures room { PutsExactly 2 (D.spare desk.old) (D.spare desk.new) (D.acts desk.old) (D.acts desk.new) }
     ensures port { IsSamePort station.old station.new }
 {
     station.arm_elect(tick, port, desk);

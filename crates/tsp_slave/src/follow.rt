@@ -5,7 +5,7 @@ ghost use Rattle.tsp_base.specs.declared.alarm.Alarm.TheVariants.{Elect};
 ghost use Rattle.tsp_base.specs.declared.place.PeerId.{PeerId};
 ghost use Rattle.tsp_base.specs.declared.role.Role.TheVariants.{Follow};
 ghost use Rattle.tsp_base.specs.Alarms.{with_deadline, none_armed};
-ghost use Rattle.tsp_base.specs.Frames.{IsTick, PutsAtMost};
+ghost use Rattle.tsp_base.specs.Frames.{IsTick, PutsAtMost, PutsExactly};
 ghost use Rattle.tsp_base.specs.Performs.{Performs};
 ghost use Rattle.tsp_base.specs.PortFacts.{Received, name_in};
 ghost use Rattle.tsp_rules.specs.CommonRows.{follow_row, tells_ticket};
@@ -47,7 +47,7 @@ pub fn follow<D: Desk>(
     ensures begun { station.new.begun ≡ station.old.begun }
     ensures peers { station.new.peers ≡ station.old.peers }
     ensures last { last.new ≡ record last.old { name = name.now } }
-    ensures room { PutsAtMost 3 (D.spare desk.old) (D.spare desk.new) (D.acts desk.old) (D.acts desk.new) }
+    ensures room { PutsExactly 3 (D.spare desk.old) (D.spare desk.new) (D.acts desk.old) (D.acts desk.new) }
 {
     station.become_role(Role::Follow(p), port, desk);
     last.keep_name(name);
@@ -66,7 +66,7 @@ pub(crate) fn tell_ticket<D: Desk>(
     requires room { 1 ≤ D.spare desk.old }
     ensures row { (x : ℕ) (last : LastValue) (took : Option Received) → Performs SlaveStands SlaveStands (tells_ticket p) x port
         (station.now, (last, (clock.now, took))) (station.now, (last, (clock.now, took))) (D.acts desk.old) (D.acts desk.new) }
-    ensures room { PutsAtMost 1 (D.spare desk.old) (D.spare desk.new) (D.acts desk.old) (D.acts desk.new) }
+    ensures room { PutsExactly 1 (D.spare desk.old) (D.spare desk.new) (D.acts desk.old) (D.acts desk.new) }
 {
     station.post(p, Kind::SlaveUp, clock.ticket(), port, desk);
 }

@@ -1,7 +1,7 @@
 //! The alarms of a port that is Starting, Loose or follows.
 ghost use Rattle.std.specs.Prelude.{◌≡◌, ℕ, ◌+◌, ◌≤◌, false, length};
 ghost use Rattle.tsp_base.specs.declared.alarm.Alarm.TheVariants.{Elect};
-ghost use Rattle.tsp_base.specs.Frames.{IsTick, PutsAtMost};
+ghost use Rattle.tsp_base.specs.Frames.{IsTick, PutsAtMost, PutsExactly};
 ghost use Rattle.tsp_base.specs.Performs.{Performs};
 ghost use Rattle.tsp_rules.specs.CommonRows.{searches};
 ghost use Rattle.tsp_rules.specs.SlaveRows.{quiet_rings, rings_or_late, search_rings, elect_rings, loosens};
@@ -62,7 +62,7 @@ fn end_search<D: Desk>(station: &mut Station, tick: u64, port: Port, desk: &mut 
     requires tick { IsTick tick }
     requires room { 2 ≤ D.spare desk.old }
     ensures row { Performs Stands Stands search_rings tick port station.old station.new (D.acts desk.old) (D.acts desk.new) }
-    ensures room { PutsAtMost 2 (D.spare desk.old) (D.spare desk.new) (D.acts desk.old) (D.acts desk.new) }
+    ensures room { PutsExactly 2 (D.spare desk.old) (D.spare desk.new) (D.acts desk.old) (D.acts desk.new) }
     ensures port { IsSamePort station.old station.new }
 {
     ring_or_late(station, Alarm::Search, tick, port, desk);
@@ -92,7 +92,7 @@ fn miss_master<D: Desk>(station: &mut Station, tick: u64, port: Port, desk: &mut
 fn ring_or_late<D: Desk>(station: &mut Station, alarm: Alarm, tick: u64, port: Port, desk: &mut D)
     requires room { 1 ≤ D.spare desk.old }
     ensures row { Performs Stands Stands (rings_or_late alarm) tick port station.old station.new (D.acts desk.old) (D.acts desk.new) }
-    ensures room { PutsAtMost 1 (D.spare desk.old) (D.spare desk.new) (D.acts desk.old) (D.acts desk.new) }
+    ensures room { PutsExactly 1 (D.spare desk.old) (D.spare desk.new) (D.acts desk.old) (D.acts desk.new) }
     ensures port { IsSamePort station.old station.new }
 {
     if station.is_in_time(alarm, tick) {
