@@ -24,6 +24,7 @@ for document in README.md docs/*.md examples/README.md; do
     done <"$out/links"
 done
 tools/definitions --check || fail 'docs/DEFINITIONS.md is out of date: tools/definitions writes it'
+python3 tools/tests/proofs.py || fail 'docs/PROOFS.md names what is not there'
 [ "$count" -ge 4 ] || fail "only $count examples were tried"
 for tool in tools/tsp-*; do
     [ -e "man/${tool#tools/}.1" ] || fail "$tool has no page"
