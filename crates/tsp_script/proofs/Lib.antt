@@ -14,3 +14,7 @@ pub mod OneEvent
 pub mod OneHead
 pub mod NodeNames
 pub mod StormDraws
+pub mod ActCases
+pub mod ActTexts
+pub mod WordTables
+pub mod ActParts

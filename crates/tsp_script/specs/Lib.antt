@@ -4,3 +4,5 @@ pub mod Texts
 pub mod Traces
 pub mod Words
 pub mod Storms
+pub mod ActLines
+pub mod Verbs

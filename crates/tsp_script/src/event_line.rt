@@ -113,7 +113,7 @@ fn port_of(word: &[u8]) -> Option<Port>
 }
 
 /// The place that a word names: a peer's number, or a dash for somebody else.
-fn place_of(word: &[u8]) -> Option<Place>
+pub(crate) fn place_of(word: &[u8]) -> Option<Place>
     ensures reads { (p : Place) → IsPlace p → word.now ≡ place_text p → result ≡ Some p }
     ensures range { IfSome result IsPlace }
 {

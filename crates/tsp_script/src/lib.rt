@@ -1,6 +1,12 @@
 //! The texts: schedule lines, message lines and trace lines.
 #![tactic(auto)]
 
+pub mod act_laws;
+mod act_parts;
+pub mod act_reader;
+#[cfg(test)]
+mod act_tests;
+mod act_words;
 pub mod acts;
 pub mod event_line;
 pub mod head_line;
@@ -17,4 +23,5 @@ pub mod storm;
 #[cfg(test)]
 mod tests;
 pub mod trace;
+mod verbs;
 pub mod words;

@@ -1,0 +1,24 @@
+-- An act with the word of a post is a post, and every other act has no number.
+use Rattle.std.proofs.Common.{◌≡◌, ◌≢◌, ℕ, ◌<◌, ◌^◌, List, ◌∷◌, ◌++◌, refl}
+use Rattle.std.specs.Prelude.{decimal}
+use Rattle.tsp_base.specs.declared.act.Act.{Act}
+use Rattle.tsp_base.specs.declared.act.Act.TheVariants.{Post}
+use Rattle.tsp_base.specs.declared.datagram.Datagram.{Datagram}
+use Rattle.tsp_base.specs.declared.place.Place.{Place}
+use Rattle.tsp_script.specs.ActLines.{IsAct, IsNumberOf}
+use Rattle.tsp_script.specs.Ranges.{IsDatagram}
+use Rattle.tsp_script.specs.Schedules.{IsPlace}
+use Rattle.tsp_script.specs.Texts.{message_text}
+use Rattle.tsp_script.specs.Traces.{place_text}
+use Rattle.tsp_script.specs.Verbs.{verb_of, rest_of_act}
+use Rattle.tsp_script.specs.declared.verbs.Verb.TheVariants.{Post as PostWord}
+
+pub post_case : (Holds : ℕ → Act → Type 0) (rest : List ℕ) (number : ℕ) (a : Act) → IsAct a → IsNumberOf a number → PostWord ≡ verb_of a → rest ≡ rest_of_act number a
+    → ((to : Place) (d : Datagram) → number < 2 ^ 64 → IsPlace to → IsDatagram d → rest ≡ decimal number ++ 32 ∷ (place_text to ++ 32 ∷ message_text d) → Holds number (Post to d)) → Holds number a
+post_case Holds rest number (Post to d) is n v r h = h to d n is.0 is.1 r
+post_case Holds rest number _ is n v r h = absurd (cc)
+
+-- an act that is no post has the number 0
+pub other_case : (rest : List ℕ) (number : ℕ) (a : Act) → IsNumberOf a number → PostWord ≢ verb_of a → rest ≡ rest_of_act number a → (number ≡ 0) × (rest ≡ rest_of_act 0 a)
+other_case rest number (Post to d) n v r = absurd (v refl)
+other_case rest number _ n v r = (n, r)

@@ -1,0 +1,206 @@
+//! Reads what stands behind an act's word.
+//!
+//! Each function here reads at least every text that is written; a text may be read too that no act is
+//! written as. `act_of` writes what was read again and compares, so that it reads no other spelling.
+ghost use Rattle.std.specs.Prelude.{◌≡◌, ◌≢◌, ℕ, ◌^◌, ◌<◌, ◌++◌, ◌∷◌, ℤ, Bool, true, false, decimal, Some, IfSome, IsSomeAnd};
+ghost use Rattle.std.specs.Fmt.{signed_decimal};
+ghost use Rattle.std.specs.Int.{w64};
+ghost use Rattle.std.specs.Int.RustNames.{FitsSigned};
+ghost use Rattle.tsp_base.specs.declared.act.Act.{Act};
+ghost use Rattle.tsp_base.specs.declared.alarm.Alarm.{Alarm};
+ghost use Rattle.tsp_base.specs.declared.datagram.Datagram.{Datagram};
+ghost use Rattle.tsp_base.specs.declared.datagram.Taken.{Taken};
+ghost use Rattle.tsp_base.specs.declared.place.PeerId.{PeerId};
+ghost use Rattle.tsp_base.specs.declared.place.Place.{Place};
+ghost use Rattle.tsp_base.specs.declared.role.Role.{Role};
+ghost use Rattle.tsp_script.specs.ActLines.{IsAct, IsSilent, IsNumberOf, IsTaken, IsRole};
+ghost use Rattle.tsp_script.specs.Ranges.{IsDatagram};
+ghost use Rattle.tsp_script.specs.Schedules.{IsPlace};
+ghost use Rattle.tsp_script.specs.Texts.{message_text};
+ghost use Rattle.tsp_script.specs.Traces.{alarm_word, role_text, place_text, taken_text};
+ghost use Rattle.tsp_script.specs.Verbs.{way_text, switch_text};
+
+use crate::act_words::{alarm_of, fault_of};
+use crate::event_line::place_of;
+use crate::message_reader::message_of;
+use crate::numbers::{long_of, next_number, next_signed, number_of, short_of, signed_of};
+use crate::words::{cut, is_same};
+use tsp_base::act::Act;
+use tsp_base::alarm::Alarm;
+use tsp_base::datagram::{Datagram, Taken};
+use tsp_base::place::{PeerId, Place};
+use tsp_base::role::Role;
+
+/// A peer's number.
+pub(crate) fn read_peer(text: &[u8]) -> Option<PeerId>
+    ensures reads { (p : PeerId) → p.0 < 2 ^ 32 → text.now ≡ decimal p.0 → result ≡ Some p }
+    ensures range { IfSome result (λ p. p.0 < 2 ^ 32) }
+{
+    let number = number_of(text)?;
+    let number = long_of(number)?;
+    Some(PeerId(number))
+}
+
+/// What was taken, behind the place that it came from.
+fn taken_of(text: &[u8]) -> Option<Taken>
+    ensures reads { (t : Taken) → IsTaken t → text.now ≡ taken_text t → result ≡ Some t }
+    ensures range { IfSome result IsTaken }
+{
+    let (word, rest) = cut(text);
+    if is_same(word, b"refused") {
+        return Some(Taken::Bad(fault_of(rest)?));
+    }
+    match message_of(text) {
+        Ok(datagram) => Some(Taken::Good(datagram)),
+        Err(_) => None,
+    }
+}
+
+/// What follows `took`.
+pub(crate) fn read_took(text: &[u8]) -> Option<Act>
+    ensures reads { (from : Place) (t : Taken) → IsPlace from → IsTaken t → text.now ≡ place_text from ++ 32 ∷ taken_text t → result ≡ Some (Act.Took from t) }
+    ensures range { IfSome result IsSilent }
+{
+    let (from, rest) = cut(text);
+    let from = place_of(from)?;
+    let taken = taken_of(rest)?;
+    Some(Act::Took(from, taken))
+}
+
+/// What follows `post`: the datagram's number, and the act.
+pub(crate) fn read_post(text: &[u8]) -> Option<(u64, Act)>
+    ensures reads { (number : ℕ) (to : Place) (d : Datagram) → number < 2 ^ 64 → IsPlace to → IsDatagram d → text.now ≡ decimal number ++ 32 ∷ (place_text to ++ 32 ∷ message_text d)
+        → IsSomeAnd result (λ r. (r.0 ≡ number) × (r.1 ≡ Act.Post to d)) }
+    ensures range { IfSome result (λ r. (r.0 < 2 ^ 64) × IsAct r.1 × IsNumberOf r.1 r.0) }
+{
+    let (number, rest) = next_number(text)?;
+    let (to, rest) = cut(rest);
+    let to = place_of(to)?;
+    match message_of(rest) {
+        Ok(datagram) => Some((number, Act::Post(to, datagram))),
+        Err(_) => None,
+    }
+}
+
+/// A role.
+fn role_of(text: &[u8]) -> Option<Role>
+    ensures reads { (r : Role) → IsRole r → text.now ≡ role_text r → result ≡ Some r }
+    ensures range { IfSome result IsRole }
+{
+    if is_same(text, b"starting") {
+        return Some(Role::Starting);
+    }
+    if is_same(text, b"loose") {
+        return Some(Role::Loose);
+    }
+    if is_same(text, b"candidate") {
+        return Some(Role::Candidate);
+    }
+    if is_same(text, b"master") {
+        return Some(Role::Master);
+    }
+    let (_, rest) = cut(text);
+    Some(Role::Follow(read_peer(rest)?))
+}
+
+/// What follows `become`.
+pub(crate) fn read_become(text: &[u8]) -> Option<Act>
+    ensures reads { (r : Role) → IsRole r → text.now ≡ role_text r → result ≡ Some (Act.Become r) }
+    ensures range { IfSome result IsSilent }
+{
+    Some(Act::Become(role_of(text)?))
+}
+
+/// What follows `arm`.
+pub(crate) fn read_arm(text: &[u8]) -> Option<Act>
+    ensures reads { (a : Alarm) (at : ℕ) → at < 2 ^ 64 → text.now ≡ alarm_word a ++ 32 ∷ decimal at → result ≡ Some (Act.Arm a at) }
+    ensures range { IfSome result IsSilent }
+{
+    let (alarm, rest) = cut(text);
+    let alarm = alarm_of(alarm)?;
+    let at = number_of(rest)?;
+    Some(Act::Arm(alarm, at))
+}
+
+/// What follows `sample`.
+pub(crate) fn read_sample(text: &[u8]) -> Option<Act>
+    ensures reads { (p : PeerId) (counter : ℕ) (diff err : ℤ) (ticket : ℕ) → p.0 < 2 ^ 32 → counter < 2 ^ 64 → FitsSigned w64 diff → FitsSigned w64 err → ticket < 2 ^ 16
+        → text.now ≡ decimal p.0 ++ 32 ∷ (decimal counter ++ 32 ∷ (signed_decimal diff ++ 32 ∷ (signed_decimal err ++ 32 ∷ decimal ticket)))
+        → result ≡ Some (Act.Sample p counter diff err ticket) }
+    ensures range { IfSome result IsSilent }
+{
+    let (peer, rest) = next_number(text)?;
+    let peer = long_of(peer)?;
+    let (counter, rest) = next_number(rest)?;
+    let (diff, rest) = next_signed(rest)?;
+    let (err, rest) = next_signed(rest)?;
+    let ticket = number_of(rest)?;
+    let ticket = short_of(ticket)?;
+    Some(Act::Sample {
+        peer: PeerId(peer),
+        counter,
+        diff,
+        err,
+        ticket,
+    })
+}
+
+/// What follows `close`.
+pub(crate) fn read_close(text: &[u8]) -> Option<Act>
+    ensures reads { (count : ℕ) (lo width mean : ℤ) → count < 2 ^ 32 → FitsSigned w64 lo → FitsSigned w64 width → FitsSigned w64 mean
+        → text.now ≡ decimal count ++ 32 ∷ (signed_decimal lo ++ 32 ∷ (signed_decimal width ++ 32 ∷ signed_decimal mean))
+        → result ≡ Some (Act.Close count lo width mean) }
+    ensures range { IfSome result IsSilent }
+{
+    let (count, rest) = next_number(text)?;
+    let count = long_of(count)?;
+    let (lo, rest) = next_signed(rest)?;
+    let (width, rest) = next_signed(rest)?;
+    let mean = signed_of(rest)?;
+    Some(Act::Close {
+        count,
+        lo,
+        width,
+        mean,
+    })
+}
+
+/// Whether the word is the first of two, if it is one of them.
+fn choice_of(word: &[u8], yes: &[u8], no: &[u8]) -> Option<bool>
+    requires apart { yes.now ≢ no.now }
+    ensures yes { word.now ≡ yes.now → result ≡ Some true }
+    ensures no { word.now ≡ no.now → result ≡ Some false }
+{
+    if is_same(word, yes) {
+        return Some(true);
+    }
+    if is_same(word, no) {
+        return Some(false);
+    }
+    None
+}
+
+/// What follows `correct`.
+pub(crate) fn read_correct(text: &[u8]) -> Option<Act>
+    ensures reads { (amount : ℤ) (stepped : Bool) (shown : ℤ) → FitsSigned w64 amount → FitsSigned w64 shown → text.now ≡ signed_decimal amount ++ 32 ∷ (way_text stepped ++ 32 ∷ signed_decimal shown)
+        → result ≡ Some (Act.Correct amount stepped shown) }
+    ensures range { IfSome result IsSilent }
+{
+    let (amount, rest) = next_signed(text)?;
+    let (way, rest) = cut(rest);
+    let stepped = choice_of(way, b"step", b"slew")?;
+    let shown = signed_of(rest)?;
+    Some(Act::Correct {
+        amount,
+        stepped,
+        shown,
+    })
+}
+
+/// What follows `trace`.
+pub(crate) fn read_trace_act(text: &[u8]) -> Option<Act>
+    ensures reads { (on : Bool) → text.now ≡ switch_text on → result ≡ Some (Act.Trace on) }
+    ensures range { IfSome result IsSilent }
+{
+    Some(Act::Trace(choice_of(text, b"on", b"off")?))
+}
