@@ -1,3 +1,4 @@
 pub mod AskLemmas
 pub mod QueryLemmas
 pub mod SampleLemmas
+pub mod ToldLemmas

@@ -6,20 +6,21 @@ use Rattle.tsp_base.specs.Messages.{MessageValue, body_fits}
 use Rattle.tsp_base.specs.declared.datagram.Datagram.{Datagram}
 use Rattle.tsp_base.specs.declared.datagram.Datagram.TheVariants.{Message}
 use Rattle.tsp_base.specs.declared.kind.Kind.{Kind}
-use Rattle.tsp_base.specs.declared.kind.Kind.TheVariants.{Msite, Test}
-use Rattle.tsp_base.specs.declared.message.Body.TheVariants.{Nothing}
+use Rattle.tsp_base.specs.declared.kind.Kind.TheVariants.{Msite, SetDate, Test}
+use Rattle.tsp_base.specs.declared.message.Body.{Body}
+use Rattle.tsp_base.specs.declared.message.Body.TheVariants.{Nothing, Time}
 use Rattle.tsp_io.specs.Links.{Arrival, Tried}
 use Rattle.tsp_query.specs.Asked.{rest_of}
 use Rattle.tsp_query.specs.Clocks.{reading}
 use Rattle.tsp_query.specs.Ends.{Outside, Tells, Asks}
-use Rattle.tsp_query.specs.Queries.{read_twice, trace_kind, message, stamp, diff_in, end_of, QueryEnds, master_in, heard_in}
+use Rattle.tsp_query.specs.Queries.{read_twice, trace_kind, message_with, question_of, stamp, diff_in, end_of, QueryEnds, master_in, heard_in, date_in}
 use Rattle.tsp_query.specs.declared.ask.Asked.{Asked}
 use Rattle.tsp_query.specs.declared.ask.Asked.TheVariants.{Answer, NoAnswer, LinkFault, OutOfMemory}
 use Rattle.tsp_query.specs.declared.question.Question.{Question}
-use Rattle.tsp_query.specs.declared.question.Question.TheVariants.{OfNumber, OfWord}
+use Rattle.tsp_query.specs.declared.question.Question.TheVariants.{OfWord}
 use Rattle.tsp_query.specs.declared.query.QueryEnd.{QueryEnd}
 
--- the messages of queries carry nothing
+-- the messages of queries carry nothing, but for the one that sets the date
 pub fits-msite : body_fits Msite Nothing ≡ true
 unfolding body_fits carries_time carries_hops
 fits-msite = refl
@@ -33,17 +34,22 @@ unfolding body_fits carries_time carries_hops
 fits-trace true = refl
 fits-trace false = refl
 
--- asking by a message of equal parts is asking by the query's message
-pub asks-message : (kind : Kind) (w word : ℕ) (name : List ℕ) (m : MessageValue) (o : Outside) (tried : Option (List Tried)) (calls : Option ℕ) (end : Asked)
-    → m ≡ record { kind = kind; number = w % 65536; body = Nothing; name = name } → name ≡ codes "timedc" → w ≡ word
-    → Asks (Message m) (OfNumber (w % 65536)) o tried calls end → Asks (message kind word) (OfNumber (word % 65536)) o tried calls end
-asks-message kind w word name m o tried calls end e f s h =
-    let P : MessageValue → Type 0 = λ (x : MessageValue). Asks (Message x) (OfNumber (w % 65536)) o tried calls end in
-    let Q : List ℕ → Type 0 = λ (n : List ℕ). Asks (Message (record { kind = kind; number = w % 65536; body = Nothing; name = n })) (OfNumber (w % 65536)) o tried calls end in
-    let R : ℕ → Type 0 = λ (v : ℕ). Asks (message kind v) (OfNumber (v % 65536)) o tried calls end in
-    subst R s (subst Q f (subst P e h))
+pub fits-date : (time : ℤ) → body_fits SetDate (Time time) ≡ true
+unfolding body_fits carries_time
+fits-date time = refl
 
--- asking in the words of the two queries that a message asks
+-- asking by a message of equal parts is asking by the query's message
+pub asks-message : (kind : Kind) (body : Body) (dates : Bool) (w word : ℕ) (name : List ℕ) (m : MessageValue) (q : Question) (o : Outside) (tried : Option (List Tried)) (calls : Option ℕ) (end : Asked)
+    → m ≡ record { kind = kind; number = w % 65536; body = body; name = name } → name ≡ codes "timedc" → q ≡ question_of dates (w % 65536) → w ≡ word
+    → Asks (Message m) q o tried calls end → Asks (message_with kind body word) (question_of dates (word % 65536)) o tried calls end
+asks-message kind body dates w word name m q o tried calls end e f t s h =
+    let O : Question → Type 0 = λ (x : Question). Asks (Message m) x o tried calls end in
+    let P : MessageValue → Type 0 = λ (x : MessageValue). Asks (Message x) (question_of dates (w % 65536)) o tried calls end in
+    let Q : List ℕ → Type 0 = λ (n : List ℕ). Asks (Message (record { kind = kind; number = w % 65536; body = body; name = n })) (question_of dates (w % 65536)) o tried calls end in
+    let R : ℕ → Type 0 = λ (v : ℕ). Asks (message_with kind body v) (question_of dates (v % 65536)) o tried calls end in
+    subst R s (subst Q f (subst P e (subst O t h)))
+
+-- asking in the words of the queries that a message asks
 pub ends-master : (request : Datagram) (q : Question) (o : Outside) (tried : Option (List Tried)) (calls : Option ℕ) (asked : Asked)
     → Asks request q (read_twice o) tried calls asked → QueryEnds request q master_in o tried calls (end_of master_in asked)
 ends-master request q o tried calls (Answer d tick) h = (d, tick, h, refl)
@@ -57,6 +63,13 @@ ends-heard request q o tried calls (Answer d tick) h = (d, tick, h, refl)
 ends-heard request q o tried calls NoAnswer h = h
 ends-heard request q o tried calls LinkFault h = h
 ends-heard request q o tried calls OutOfMemory h = h
+
+pub ends-date : (request : Datagram) (q : Question) (o : Outside) (tried : Option (List Tried)) (calls : Option ℕ) (asked : Asked)
+    → Asks request q (read_twice o) tried calls asked → QueryEnds request q date_in o tried calls (end_of date_in asked)
+ends-date request q o tried calls (Answer d tick) h = (d, tick, h, refl)
+ends-date request q o tried calls NoAnswer h = h
+ends-date request q o tried calls LinkFault h = h
+ends-date request q o tried calls OutOfMemory h = h
 
 -- what is told once the tick counter was read twice
 pub tells-twice : (o : Outside) (arrivals : Option (List Arrival)) (tried : Option (List Tried)) (calls : Option ℕ) (readings now : Option (List ℕ)) (last sent : ℕ) (later : ℕ)

@@ -5,24 +5,32 @@ use Rattle.tsp_base.specs.declared.datagram.Datagram.TheVariants.{Message, Stamp
 use Rattle.tsp_base.specs.declared.datagram.Taken.{Taken}
 use Rattle.tsp_base.specs.declared.datagram.Taken.TheVariants.{Good, Bad}
 use Rattle.tsp_base.specs.declared.kind.Kind.{Kind}
-use Rattle.tsp_base.specs.declared.kind.Kind.TheVariants.{Ack}
+use Rattle.tsp_base.specs.declared.kind.Kind.TheVariants.{Ack, DateAck}
 use Rattle.tsp_base.specs.declared.place.Place.{Place}
 use Rattle.tsp_base.specs.declared.place.Place.TheVariants.{Peer, Stranger}
 use Rattle.tsp_base.specs.declared.stamp.Stamp.TheVariants.{Request, Reply}
 use Rattle.tsp_codec.specs.Taken.{taken_of}
 use Rattle.tsp_io.specs.Links.{Arrival}
 use Rattle.tsp_query.specs.declared.question.Question.{Question}
-use Rattle.tsp_query.specs.declared.question.Question.TheVariants.{OfNumber, OfWord}
+use Rattle.tsp_query.specs.declared.question.Question.TheVariants.{OfNumber, OfDate, OfWord}
 
 -- whether a message acknowledges
 abbrev pub is_ack : Kind → Bool
 is_ack Ack = true
 is_ack _ = false
 
--- an acknowledgment with the question's number, or a reply with its word and counter 0
+-- whether a message acknowledges, or says that the date was set
+abbrev pub is_date_answer : Kind → Bool
+is_date_answer Ack = true
+is_date_answer DateAck = true
+is_date_answer _ = false
+
+-- an acknowledgment with the question's number, where it sets the date a DATEACK too, or a reply with its word and counter 0
 abbrev pub answers : Question → Datagram → Bool
 answers (OfNumber number) (Message m) = is_ack m.kind && (m.number == number)
 answers (OfNumber number) (StampOf s) = false
+answers (OfDate number) (Message m) = is_date_answer m.kind && (m.number == number)
+answers (OfDate number) (StampOf s) = false
 answers (OfWord word) (Message m) = false
 answers (OfWord word) (StampOf (Request w c)) = false
 answers (OfWord word) (StampOf (Reply r)) = (r.word == word) && (r.counter == 0)

@@ -4,8 +4,9 @@ use Rattle.tsp_base.specs.Samples.{sample_diff, sample_err}
 use Rattle.tsp_base.specs.declared.datagram.Datagram.{Datagram}
 use Rattle.tsp_base.specs.declared.datagram.Datagram.TheVariants.{Message, Stamp as StampOf}
 use Rattle.tsp_base.specs.declared.kind.Kind.{Kind}
-use Rattle.tsp_base.specs.declared.kind.Kind.TheVariants.{TraceOn, TraceOff}
-use Rattle.tsp_base.specs.declared.message.Body.TheVariants.{Nothing}
+use Rattle.tsp_base.specs.declared.kind.Kind.TheVariants.{TraceOn, TraceOff, SetDate, DateAck}
+use Rattle.tsp_base.specs.declared.message.Body.{Body}
+use Rattle.tsp_base.specs.declared.message.Body.TheVariants.{Nothing, Time}
 use Rattle.tsp_base.specs.declared.stamp.Stamp.TheVariants.{Request, Reply}
 use Rattle.tsp_io.specs.Links.{Tried}
 use Rattle.tsp_query.specs.Asked.{rest_of}
@@ -14,8 +15,9 @@ use Rattle.tsp_query.specs.Ends.{Outside, Asks}
 use Rattle.tsp_query.specs.declared.ask.Asked.{Asked}
 use Rattle.tsp_query.specs.declared.ask.Asked.TheVariants.{Answer, NoAnswer as Unanswered, LinkFault as Faulty, OutOfMemory as Refused}
 use Rattle.tsp_query.specs.declared.question.Question.{Question}
+use Rattle.tsp_query.specs.declared.question.Question.TheVariants.{OfNumber, OfDate}
 use Rattle.tsp_query.specs.declared.query.QueryEnd.{QueryEnd}
-use Rattle.tsp_query.specs.declared.query.QueryEnd.TheVariants.{Master, Diff, Heard, NoAnswer, LinkFault, OutOfMemory}
+use Rattle.tsp_query.specs.declared.query.QueryEnd.TheVariants.{Master, Diff, Heard, Date, NoAnswer, LinkFault, OutOfMemory}
 
 -- what is held once the tick counter was read twice
 abbrev pub read_twice : Outside → Outside
@@ -26,9 +28,22 @@ abbrev pub trace_kind : Bool → Kind
 trace_kind true = TraceOn
 trace_kind false = TraceOff
 
--- the message that asks, numbered by the word
+-- the message that asks, with this body and numbered by the word
+abbrev pub message_with : Kind → Body → ℕ → Datagram
+message_with kind body word = Message (record { kind = kind; number = word % 65536; body = body; name = codes "timedc" })
+
+-- the message that asks and carries nothing
 abbrev pub message : Kind → ℕ → Datagram
-message kind word = Message (record { kind = kind; number = word % 65536; body = Nothing; name = codes "timedc" })
+message kind word = message_with kind Nothing word
+
+-- the message that sets the date
+abbrev pub date_message : ℤ → ℕ → Datagram
+date_message time word = message_with SetDate (Time time) word
+
+-- what an answer repeats of a message with this number, which sets the date or doesn't
+abbrev pub question_of : Bool → ℕ → Question
+question_of true number = OfDate number
+question_of false number = OfNumber number
 
 -- the stamp request that asks
 abbrev pub stamp : ℕ → Datagram
@@ -60,6 +75,20 @@ master_in d tick = Master (name_in d)
 -- the answer to whether a daemon hears
 abbrev pub heard_in : Datagram → ℕ → QueryEnd
 heard_in d tick = Heard
+
+-- whether a message says that the date was set
+abbrev pub is_date_ack : Kind → Bool
+is_date_ack DateAck = true
+is_date_ack _ = false
+
+-- whether a datagram says that the date was set; an acknowledgment says that it was passed on
+abbrev pub says_set : Datagram → Bool
+says_set (Message m) = is_date_ack m.kind
+says_set (StampOf s) = false
+
+-- the answer to a date
+abbrev pub date_in : Datagram → ℕ → QueryEnd
+date_in d tick = Date (says_set d)
 
 -- a datagram is a reply
 abbrev pub IsReplied : Datagram → Type 0

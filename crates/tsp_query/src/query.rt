@@ -8,13 +8,14 @@ ghost use Rattle.tsp_io.specs.Counts.{Rose};
 ghost use Rattle.tsp_query.specs.Asked.{rest_of};
 ghost use Rattle.tsp_query.specs.Clocks.{reading};
 ghost use Rattle.tsp_query.specs.Ends.{Outside, Tells, Asks};
-ghost use Rattle.tsp_query.specs.Queries.{read_twice, message, stamp, QueryEnds, end_of, trace_kind, name_in, master_in, heard_in, reading_in, IsReplied, diff_in};
+ghost use Rattle.tsp_query.specs.Queries.{read_twice, message, message_with, date_message, question_of, stamp, QueryEnds, end_of, trace_kind, name_in, master_in, heard_in, says_set, date_in, reading_in, IsReplied, diff_in};
 
 use crate::ask::{Asked, ask};
 use crate::question::Question;
 use tsp_base::datagram::Datagram;
 use tsp_base::kind::Kind;
 use tsp_base::message::{Body, Message};
+use tsp_base::micros::Micros;
 use tsp_base::name::Name;
 use tsp_base::stamp::Stamp;
 use tsp_io::link::Link;
@@ -29,6 +30,8 @@ pub enum QueryEnd {
     Diff(i64, i64),
     /// The daemon hears.
     Heard,
+    /// The network's date was set (true), or is passed on to whoever sets it (false).
+    Date(bool),
     /// None of eight receives gave an answer, and none failed.
     NoAnswer,
     /// The send or a receive failed.
@@ -82,19 +85,36 @@ fn client() -> Name
     }
 }
 
-/// Asks by a message that carries nothing but its number and the client's name.
-fn ask_by_message<L: Link, T: Ticker>(link: &mut L, ticker: &mut T, kind: Kind) -> Asked
-    requires { body_fits kind Body.Nothing ≡ true }
+/// What an answer repeats of a message with this number, which sets the date or doesn't.
+fn question_of(dates: bool, number: u16) -> Question
+    ensures { result ≡ question_of dates number }
+{
+    if dates {
+        Question::OfDate(number)
+    } else {
+        Question::OfNumber(number)
+    }
+}
+
+/// Asks by a message with this body, the client's name and a number; it sets the date or doesn't.
+fn ask_by_message<L: Link, T: Ticker>(
+    link: &mut L,
+    ticker: &mut T,
+    kind: Kind,
+    body: Body,
+    dates: bool,
+) -> Asked
+    requires { body_fits kind body ≡ true }
     ensures asks { (o : Outside) (word : ℕ) → Tells o (L.arrivals link.old) (L.tried link.old) (L.calls link.old) (T.readings ticker.old) (T.last ticker.old) → T.word_is ticker.old ≡ Some word
-        → Asks (message kind word) (Question.OfNumber (word % 65536)) (read_twice o) (L.tried link.new) (L.calls link.new) result }
+        → Asks (message_with kind body word) (question_of dates (word % 65536)) (read_twice o) (L.tried link.new) (L.calls link.new) result }
     ensures later { (L.faults link.old ≤ L.faults link.new) × (L.send_faults link.old ≤ L.send_faults link.new) × (T.last ticker.old ≤ T.last ticker.new) }
     ensures cause { result ≡ Asked.LinkFault → Rose (L.faults link.old) (L.faults link.new) ⊎ Rose (L.send_faults link.old) (L.send_faults link.new) }
     ensures still { result ≢ Asked.LinkFault → (L.faults link.new ≡ L.faults link.old) × (L.send_faults link.new ≡ L.send_faults link.old) }
 {
     let start = begin(ticker);
     let number = (start.word % 65536) as u16;
-    let request = Datagram::Message(Message::new(kind, number, Body::Nothing, client()));
-    ask(link, ticker, &request, Question::OfNumber(number))
+    let request = Datagram::Message(Message::new(kind, number, body, client()));
+    ask(link, ticker, &request, question_of(dates, number))
 }
 
 /// What asking comes to where each answer says the same: that the daemon hears.
@@ -133,7 +153,7 @@ pub fn msite<L: Link, T: Ticker>(link: &mut L, ticker: &mut T) -> QueryEnd
     ensures cause { result ≡ QueryEnd.LinkFault → Rose (L.faults link.old) (L.faults link.new) ⊎ Rose (L.send_faults link.old) (L.send_faults link.new) }
     ensures still { result ≢ QueryEnd.LinkFault → (L.faults link.new ≡ L.faults link.old) × (L.send_faults link.new ≡ L.send_faults link.old) }
 {
-    master_end(ask_by_message(link, ticker, Kind::Msite))
+    master_end(ask_by_message(link, ticker, Kind::Msite, Body::Nothing, false))
 }
 
 /// Asks whether the daemon hears.
@@ -144,7 +164,7 @@ pub fn election<L: Link, T: Ticker>(link: &mut L, ticker: &mut T) -> QueryEnd
     ensures cause { result ≡ QueryEnd.LinkFault → Rose (L.faults link.old) (L.faults link.new) ⊎ Rose (L.send_faults link.old) (L.send_faults link.new) }
     ensures still { result ≢ QueryEnd.LinkFault → (L.faults link.new ≡ L.faults link.old) × (L.send_faults link.new ≡ L.send_faults link.old) }
 {
-    heard_end(ask_by_message(link, ticker, Kind::Test))
+    heard_end(ask_by_message(link, ticker, Kind::Test, Body::Nothing, false))
 }
 
 /// The message that switches a trace on or off.
@@ -162,7 +182,34 @@ pub fn trace<L: Link, T: Ticker>(on: bool, link: &mut L, ticker: &mut T) -> Quer
     ensures cause { result ≡ QueryEnd.LinkFault → Rose (L.faults link.old) (L.faults link.new) ⊎ Rose (L.send_faults link.old) (L.send_faults link.new) }
     ensures still { result ≢ QueryEnd.LinkFault → (L.faults link.new ≡ L.faults link.old) × (L.send_faults link.new ≡ L.send_faults link.old) }
 {
-    heard_end(ask_by_message(link, ticker, trace_kind(on)))
+    let kind = trace_kind(on);
+    heard_end(ask_by_message(link, ticker, kind, Body::Nothing, false))
+}
+
+/// What asking comes to where the answer says whether the date was set.
+fn date_end(asked: Asked) -> QueryEnd
+    ensures { result ≡ end_of date_in asked }
+{
+    match asked {
+        Asked::Answer(Datagram::Message(message), _) => {
+            QueryEnd::Date(matches!(message.kind(), Kind::DateAck))
+        }
+        Asked::Answer(Datagram::Stamp(_), _) => QueryEnd::Date(false),
+        Asked::NoAnswer => QueryEnd::NoAnswer,
+        Asked::LinkFault => QueryEnd::LinkFault,
+        Asked::OutOfMemory => QueryEnd::OutOfMemory,
+    }
+}
+
+/// Sets the network's date, in microseconds. A daemon that leads sets it, one that follows passes it on to its master.
+pub fn setdate<L: Link, T: Ticker>(time: Micros, link: &mut L, ticker: &mut T) -> QueryEnd
+    ensures asks { (o : Outside) (word : ℕ) → Tells o (L.arrivals link.old) (L.tried link.old) (L.calls link.old) (T.readings ticker.old) (T.last ticker.old) → T.word_is ticker.old ≡ Some word
+        → QueryEnds (date_message time word) (Question.OfDate (word % 65536)) date_in o (L.tried link.new) (L.calls link.new) result }
+    ensures later { (L.faults link.old ≤ L.faults link.new) × (L.send_faults link.old ≤ L.send_faults link.new) × (T.last ticker.old ≤ T.last ticker.new) }
+    ensures cause { result ≡ QueryEnd.LinkFault → Rose (L.faults link.old) (L.faults link.new) ⊎ Rose (L.send_faults link.old) (L.send_faults link.new) }
+    ensures still { result ≢ QueryEnd.LinkFault → (L.faults link.new ≡ L.faults link.old) × (L.send_faults link.new ≡ L.send_faults link.old) }
+{
+    date_end(ask_by_message(link, ticker, Kind::SetDate, Body::Time(time), true))
 }
 
 /// The reading of a reply.

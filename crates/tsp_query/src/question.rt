@@ -13,6 +13,8 @@ use tsp_codec::read;
 pub enum Question {
     /// The number of a message, which an acknowledgment answers.
     OfNumber(u16),
+    /// The number of a message that sets the date, which an acknowledgment or a DATEACK answers.
+    OfDate(u16),
     /// The word of a stamp request with counter 0, which a reply answers.
     OfWord(u64),
 }
@@ -25,6 +27,12 @@ fn answers(question: Question, datagram: &Datagram) -> bool
         Question::OfNumber(number) => match datagram {
             Datagram::Message(message) => {
                 matches!(message.kind(), Kind::Ack) && message.number() == number
+            }
+            Datagram::Stamp(_) => false,
+        },
+        Question::OfDate(number) => match datagram {
+            Datagram::Message(message) => {
+                matches!(message.kind(), Kind::Ack | Kind::DateAck) && message.number() == number
             }
             Datagram::Stamp(_) => false,
         },

@@ -1,6 +1,7 @@
 //! Worked queries over links and tickers in memory.
-use crate::query::{QueryEnd, clockdiff, election, msite, trace};
+use crate::query::{QueryEnd, clockdiff, election, msite, setdate, trace};
 use std::alloc::{AllocError, Global};
+use tsp_base::micros::Micros;
 use tsp_base::place::{PeerId, Place};
 use tsp_io::memory_link::MemoryLink;
 use tsp_io::memory_ticker::MemoryTicker;
@@ -121,5 +122,26 @@ fn asks_how_far_a_clock_is(rt: HostRuntime) -> Result<(), AllocError> {
     let end = clockdiff(&mut link, &mut ticker);
     assert!(rt; matches!(end, QueryEnd::Diff(100, 401)));
     assert!(rt; link.tried() == 1 && ticker.left() == 0);
+    Ok(())
+}
+
+/// A date that is acknowledged was passed on, and one that a DATEACK answers was set. It goes out with its time.
+#[test]
+fn sets_a_date(rt: HostRuntime) -> Result<(), AllocError> {
+    let alloc = rt.alloc();
+    let mut wanted = [0; 76];
+    wanted[..19].copy_from_slice(&[
+        22, 1, 0, 2, 0, 0, 0, 100, 0, 0, 0, 0, b't', b'i', b'm', b'e', b'd', b'c', 0,
+    ]);
+    for (kind, set) in [(2, false), (16, true)] {
+        let mut link = link_with(alloc, DAEMON, &message(kind, b'a'), &[])?;
+        let Some(time) = Micros::of(100_000_000) else {
+            panic!(rt; "the time is in its range");
+        };
+        let end = setdate(time, &mut link, &mut ticker(alloc)?);
+        assert!(rt; matches!(end, QueryEnd::Date(date) if date == set));
+        assert!(rt; link.tried() == 1 && link.tried_to(0) == DAEMON);
+        assert!(rt; link.tried_octets(0) == wanted.as_slice());
+    }
     Ok(())
 }
