@@ -1,0 +1,33 @@
+use Rattle.std.proofs.Common.{◌∙◌, inl, inr, refl}
+use Rattle.tsp_query.specs.Told.{bound}
+use Rattle.tsp_query.proofs.ToldLemmas.{Tells_bound, Says_from}
+use Rattle.tsp_asking.proofs.ask.ask.Goals as goal
+
+pub returns-in-Bound-clause-asks : goal.returns-in-Bound-clause-asks
+returns-in-Bound-clause-asks g c = λ o wall word written k.
+    let tells = Tells_bound o _ _ _ _ _ _ _ _ c.bind.ensures.same.0 c.bind.ensures.same.1 c.bind.ensures.counted k.tells in
+    inr (record {
+      end = c.ask_bound-end.result;
+      comes = c.ask_bound-end.ensures.comes (bound o) wall word tells k.wall_is k.word_is;
+      says = Says_from _ _ _ _ _ _ _ written k.written_is c.tell.ensures.says;
+    })
+
+pub returns-in-Failed-clause-asks : goal.returns-in-Failed-clause-asks
+returns-in-Failed-clause-asks g c = λ o wall word written k. inl (record {
+  cause = inl refl;
+  tells = Tells_bound o _ _ _ _ _ _ _ _ c.bind.ensures.same.0 c.bind.ensures.same.1 c.bind.ensures.counted k.tells;
+  written_is = k.written_is;
+})
+
+pub returns-in-OutOfMemory-clause-asks : goal.returns-in-OutOfMemory-clause-asks
+returns-in-OutOfMemory-clause-asks g c = λ o wall word written k. inl (record {
+  cause = inr refl;
+  tells = Tells_bound o _ _ _ _ _ _ _ _ c.bind.ensures.same.0 c.bind.ensures.same.1 c.bind.ensures.counted k.tells;
+  written_is = k.written_is;
+})
+
+pub returns-in-Bound-clause-linked : goal.returns-in-Bound-clause-linked
+returns-in-Bound-clause-linked g c = λ h.
+    let bound = c.bind.ensures.still (λ e. cc) in
+    let asked = c.ask_bound-end.ensures.still (λ e. h (c.tell.ensures.linked e)) in
+    (asked.0 ∙ bound, asked.1 ∙ c.bind.ensures.later.1)
