@@ -8,6 +8,7 @@ ghost use Rattle.tsp_base.specs.Frames.{IsTick, PutsAtMost, PutsExactly};
 ghost use Rattle.tsp_base.specs.History.{Past, Booted, Step};
 ghost use Rattle.tsp_base.specs.Performs.{Performs};
 ghost use Rattle.tsp_base.specs.Rows.{grown, puts, arms, ◌followed_by◌};
+ghost use Rattle.tsp_rules.specs.GateRows.{loosens_master};
 ghost use Rattle.tsp_rules.specs.RoundRows.{abandons_going};
 ghost use Rattle.tsp_rules.specs.Tests.{is_master};
 ghost use Rattle.tsp_acks.specs.Peers.{IsPeers};
@@ -107,6 +108,21 @@ impl Part {
     {
         if self.master.abandon(&mut self.station) {
             desk.put(port, Act::Abandon);
+        }
+    }
+
+    /// Gives its lead up where it leads: the port follows nobody, and waits for a master anew. At most two acts.
+    pub fn loosen<D: Desk>(&mut self, tick: u64, port: Port, desk: &mut D)
+        requires room { 2 ≤ D.spare desk.old }
+        requires tick { IsTick tick }
+        ensures row { (clock : ClockValue) → Performs PartStands PartStands loosens_master tick port (self.old, clock) (self.new, clock) (D.acts desk.old) (D.acts desk.new) }
+        ensures peers { self.new.station.peers ≡ self.old.station.peers }
+        ensures room { PutsAtMost 2 (D.spare desk.old) (D.spare desk.new) (D.acts desk.old) (D.acts desk.new) }
+    {
+        if self.leads() {
+            self.station.become_role(Role::Loose, port, desk);
+            self.station.arm_elect(tick, port, desk);
+            self.part_from(true);
         }
     }
 
