@@ -1,0 +1,61 @@
+-- The earliest of several ports' deadlines.
+use Rattle.std.specs.Prelude.{◌≡◌, ◌⊎◌, ℕ, zero, suc, min, List, [], ◌∷◌, ◌++◌, length, Option, None, Some, slice_get}
+use Rattle.std.proofs.Common.{refl, sym, ◌∙◌, ap, inl, inr, arith}
+use Rattle.tsp_base.specs.Alarms.{earlier, least_deadline}
+use Rattle.tsp_base.specs.History.{Past}
+use Rattle.tsp_rules.specs.NodeRows.{NodePast, on_port}
+use Rattle.tsp_sends.specs.Slots.{sending_to}
+use Rattle.tsp_sends.specs.Treating.{IsEarliest}
+use Rattle.tsp_acks.specs.declared.station.Station.{Station}
+use Rattle.tsp_acks.specs.Stands.{Stands}
+use Rattle.tsp_node.specs.declared.part.Part.{Part}
+use Rattle.tsp_node.specs.NodeStands.{due_of}
+use Rattle.tsp_node.proofs.DueLemmas.{IsEarliest-open}
+use Rattle.tsp_gateway.specs.declared.gateway.Gateway.{Gateway}
+use Rattle.tsp_gateway.specs.Dues.{IsNodeDue, IsPartDue, IsPortDue, least_of}
+use Rattle.tsp_gateway.specs.GatewayStands.{GatewayStands, port_at}
+
+earlier_none : (a : Option ℕ) → earlier a None ≡ a
+earlier_none None = refl
+earlier_none (Some x) = refl
+
+min_assoc : (x y z : ℕ) → min (min x y) z ≡ min x (min y z)
+min_assoc x y z = omega arith
+
+earlier_assoc : (a b c : Option ℕ) → earlier (earlier a b) c ≡ earlier a (earlier b c)
+earlier_assoc None b c = refl
+earlier_assoc (Some x) None c = refl
+earlier_assoc (Some x) (Some y) None = refl
+earlier_assoc (Some x) (Some y) (Some z) = ap Some (min_assoc x y z)
+
+-- one deadline more
+pub least_of-append : (ds : List (Option ℕ)) (d : Option ℕ) → least_of (ds ++ d ∷ []) ≡ earlier (least_of ds) d
+least_of-append [] d = earlier_none d
+least_of-append (o ∷ rest) d = ap (λ x. earlier o x) (least_of-append rest d) ∙ sym (earlier_assoc o (least_of rest) d)
+
+-- what stands in a list with one entry more stands in the list, or is that entry
+pub get-append : {A : Type 0} (ds : List A) (d x : A) (q : ℕ) → slice_get (ds ++ d ∷ []) q ≡ Some x → (slice_get ds q ≡ Some x) ⊎ ((q ≡ length ds) × (d ≡ x))
+get-append [] d x zero e = inr (refl, cc)
+get-append [] d x (suc q) e = absurd (cc)
+get-append (o ∷ rest) d x zero e = inl e
+get-append (o ∷ rest) d x (suc q) e = elim (get-append rest d x q e) [ inl h ↦ inl h | inr h ↦ inr (ap suc h.0, h.1) ]
+
+-- a port's deadline by what the node keeps of it is that of its past
+IsPortDue-of : (past : Past) (station : Station) (due : Option ℕ) (sends : Option ℕ) → Stands past station → IsEarliest (sending_to station.sends) sends → due ≡ earlier (least_deadline station.alarms) sends → IsPortDue past.seen due
+IsPortDue-of past station due sends s first e = record {
+  sends = sends;
+  first = IsEarliest-open past station sends s first;
+  due_is = let a = s.alarms in cc;
+}
+
+-- the earliest of all ports' deadlines is that of the node's past
+pub IsNodeDue-of : (past : NodePast) (g : Gateway) (dues : List (Option ℕ)) (at : ℕ) → GatewayStands past g → length dues ≡ length g.ports.items
+    → ((q : ℕ) (due : Option ℕ) → slice_get dues q ≡ Some due → (part : Part) × (slice_get g.ports.items q ≡ Some part) × IsPartDue part due) → at ≡ due_of (least_of dues) → IsNodeDue past at
+IsNodeDue-of past g dues at s many each e = record {
+  dues = dues;
+  many = many ∙ s.many;
+  each = λ q due there.
+      let d = each q due there in
+      IsPortDue-of (on_port (port_at q) past) d.0.station due d.2.sends (s.ports q d.0 d.1).station d.2.first d.2.due_is;
+  at_is = e;
+}

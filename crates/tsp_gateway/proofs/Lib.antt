@@ -1,0 +1,15 @@
+pub mod AnyLemmas
+pub mod AsideLemmas
+pub mod BootLemmas
+pub mod DueLemmas
+pub mod JudgeLemmas
+pub mod LiftLemmas
+pub mod LoopLemmas
+pub mod PostLemmas
+pub mod RoomLemmas
+pub mod StirLemmas
+pub mod StepLemmas
+pub mod TakeLemmas
+pub mod TellLemmas
+pub mod TurnLemmas
+pub mod PortOfLemmas

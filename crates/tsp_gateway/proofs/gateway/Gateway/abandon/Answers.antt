@@ -1,0 +1,23 @@
+-- What the port does is what the node does.
+use Rattle.std.proofs.Common.{◌≡◌, [], true, false, Bool, if◌then◌else◌, ◌∷◌, refl}
+use Rattle.tsp_base.specs.declared.act.Act.TheVariants.{Abandon}
+use Rattle.tsp_base.specs.declared.place.Port.{Port}
+use Rattle.tsp_base.specs.Rows.{either_by, nothing, placed, puts}
+use Rattle.tsp_rules.specs.NodeRows.{abandons_on, on}
+use Rattle.tsp_rules.specs.RoundRows.{abandons, abandons_going}
+use Rattle.tsp_rules.proofs.Emits.{Emits_more, Rounding}
+use Rattle.tsp_node.proofs.EmitsRows.{emits_abandons}
+use Rattle.tsp_gateway.proofs.LiftLemmas.{All_here, All_same, part_there}
+use Rattle.tsp_gateway.specs.GatewayStands.{port_at}
+use Rattle.tsp_gateway.proofs.gateway.Gateway.abandon.Goals as goal
+
+placed-where : (q : Port) (b : Bool) → placed q (if b then Abandon ∷ [] else []) ≡ (if b then record { port = q; act = Abandon } ∷ [] else [])
+placed-where q true = refl
+placed-where q false = refl
+
+pub returns-clause-row : goal.returns-clause-row
+unfolding abandons_on on abandons_going either_by abandons puts nothing
+returns-clause-row g c x =
+    let there = part_there c.args.self.now c.args.r c.index_mut.result.now c.requires.port c.index_mut.ensures.value in
+    All_same (abandons_on (port_at c.args.r)) (λ past h. placed-where (port_at c.args.r) _)
+    (All_here (Emits_more (Rounding ∷ []) refl emits_abandons) there refl refl (rw c.port_at.ensures at (c.abandon.ensures.row x c.args.self.now.clock)))

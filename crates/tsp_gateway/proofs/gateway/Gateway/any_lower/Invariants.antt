@@ -1,0 +1,9 @@
+-- So far none was found.
+use Rattle.std.specs.Prelude.{◌≡◌, ℕ, ◌<◌, false}
+use Rattle.tsp_rules.specs.NodeRows.{NodePast}
+use Rattle.tsp_gateway.specs.GatewayStands.{GatewayStands, port_at}
+use Rattle.tsp_gateway.specs.PortFacts.{asked_on}
+use Rattle.tsp_gateway.proofs.gateway.Gateway.any_lower.Given as goal
+
+abbrev pub invariant-loop-r : goal.invariant-loop-r
+invariant-loop-r l = (past : NodePast) → GatewayStands past l.self → (k : ℕ) → k < l.r → asked_on l.asked past (port_at k) ≡ false

@@ -1,0 +1,37 @@
+-- A post to each other peer, where the port is awake.
+use Rattle.std.proofs.Common.{◌≡◌, ◌∙◌, ap, false, refl, sym, true}
+use Rattle.std.specs.Prelude.{not}
+use Rattle.tsp_base.specs.declared.role.Role.{Role}
+use Rattle.tsp_rules.specs.GateRows.{is_awake_on, reposts, reposts_on}
+use Rattle.tsp_rules.specs.Tests.{is_starting_role}
+use Rattle.tsp_gateway.specs.GatewayStands.{port_at}
+use Rattle.tsp_gateway.proofs.AnyLemmas.{station_there}
+use Rattle.tsp_gateway.proofs.LiftLemmas.{All_nothing, All_same, part_there}
+use Rattle.tsp_gateway.proofs.PostLemmas.{All_posted, emits_reposts}
+use Rattle.tsp_gateway.proofs.gateway.Gateway.forward_on.Goals as goal
+
+pub returns-then-is_awake-clause-row : goal.returns-then-is_awake-clause-row
+unfolding reposts_on reposts
+returns-then-is_awake-clause-row g c x =
+    let r = c.args.r in
+    let m = c.args.m.now in
+    let there = part_there c.args.self.now r c.index.result.now c.requires.port c.index.ensures in
+    All_same (reposts_on m (port_at r))
+    (λ past h.
+    let s = station_there past c.args.self.now r c.index.result.now c.station-station.result.now c.requires.port c.index.ensures c.station-station.ensures h in
+    let awake : is_awake_on past (port_at r) ≡ true = ap (λ (role : Role). not (is_starting_role role)) (sym s.role) ∙ sym c.is_awake.ensures ∙ c.if-is_awake.true in
+    rw awake refl)
+    (All_posted r (reposts m) m c.requires.kind (emits_reposts m c.requires.kind refl) there (rw (c.port_at.ensures, c.station-station.ensures) at c.repost.ensures.acts)
+    (λ past h. let s = h.first.station in rw (s.own, s.peers) refl))
+
+pub returns-else-is_awake-clause-row : goal.returns-else-is_awake-clause-row
+unfolding reposts_on
+returns-else-is_awake-clause-row g c x =
+    let r = c.args.r in
+    let m = c.args.m.now in
+    All_same (reposts_on m (port_at r))
+    (λ past h.
+    let s = station_there past c.args.self.now r c.index.result.now c.station-station.result.now c.requires.port c.index.ensures c.station-station.ensures h in
+    let asleep : is_awake_on past (port_at r) ≡ false = ap (λ (role : Role). not (is_starting_role role)) (sym s.role) ∙ sym c.is_awake.ensures ∙ c.if-is_awake.false in
+    rw asleep refl)
+    All_nothing

@@ -1,0 +1,22 @@
+-- What the port does is what the node does.
+use Rattle.std.proofs.Common.{refl}
+use Rattle.tsp_base.specs.declared.act.Act.TheVariants.{Become}
+use Rattle.tsp_base.specs.declared.alarm.Alarm.TheVariants.{Elect}
+use Rattle.tsp_base.specs.declared.role.Role.TheVariants.{Loose}
+use Rattle.tsp_base.specs.Rows.{arms, nothing, puts}
+use Rattle.tsp_rules.specs.CandidateRows.{yields}
+use Rattle.tsp_rules.specs.CommonRows.{arms_elect}
+use Rattle.tsp_rules.specs.GateRows.{loosens_master}
+use Rattle.tsp_rules.specs.Tests.{delay_at, is_master_at}
+use Rattle.tsp_rules.proofs.Emits.{Emits, Emits_arms, Emits_either, Emits_nothing, Emits_puts, Emits_reading, Emits_then}
+use Rattle.tsp_gateway.proofs.LiftLemmas.{All_here, part_there, still_sorts}
+use Rattle.tsp_gateway.proofs.gateway.Gateway.give_up.Goals as goal
+
+emits-loosens : Emits still_sorts loosens_master
+unfolding loosens_master yields arms_elect
+emits-loosens = Emits_either is_master_at _ nothing (Emits_then (puts (Become Loose)) _ (Emits_puts (Become Loose) refl) (Emits_reading delay_at (arms Elect) (λ long. Emits_arms Elect long refl))) Emits_nothing
+
+pub returns-clause-row : goal.returns-clause-row
+returns-clause-row g c =
+    let there = part_there c.args.self.now c.args.q c.index_mut.result.now c.requires.port c.index_mut.ensures.value in
+    All_here emits-loosens there refl refl (rw c.port_at.ensures at (c.loosen.ensures.row c.args.self.now.clock))

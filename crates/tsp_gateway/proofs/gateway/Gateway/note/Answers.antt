@@ -1,0 +1,18 @@
+-- What was taken leaves all ports as they are.
+use Rattle.std.proofs.Common.{refl}
+use Rattle.tsp_base.specs.declared.act.Act.TheVariants.{Took}
+use Rattle.tsp_base.specs.Rows.{puts}
+use Rattle.tsp_rules.proofs.Emits.{Emits_puts}
+use Rattle.tsp_node.specs.NodeStands.{TakeStands}
+use Rattle.tsp_node.proofs.NodeLemmas.{PartTook_took, Performs_put}
+use Rattle.tsp_gateway.proofs.LiftLemmas.{All_idle}
+use Rattle.tsp_gateway.proofs.gateway.Gateway.note.Goals as goal
+
+pub returns-clause-row : goal.returns-clause-row
+unfolding puts
+returns-clause-row g c =
+    let from = c.args.from in
+    let taken = c.args.taken.now in
+    All_idle c.requires.port (Emits_puts (Took from taken) refl) (λ x past. refl)
+    (λ part there. Performs_put {p = TakeStands} {q = TakeStands} (Took from taken) (rw (c.port_at.ensures, c.copy.ensures) at c.put.ensures.acts)
+    (λ past h. record { first = (PartTook_took from taken c.args.tick past (part, c.args.self.now.clock) h.first).stands; second = h.second }))

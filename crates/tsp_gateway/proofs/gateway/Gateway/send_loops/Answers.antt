@@ -1,0 +1,29 @@
+-- A post to each other peer.
+use Rattle.std.proofs.Common.{◌≡◌, ◌∙◌, ap, refl}
+use Rattle.tsp_base.specs.declared.kind.Kind.TheVariants.{Loop}
+use Rattle.tsp_base.specs.Kinds.{carries_hops, carries_time}
+use Rattle.tsp_base.specs.Messages.{MessageValue, body_fits}
+use Rattle.tsp_base.specs.Rows.{others}
+use Rattle.tsp_rules.specs.GateRows.{sends_loops}
+use Rattle.tsp_acks.specs.declared.station.Station.{Station}
+use Rattle.tsp_gateway.specs.GatewayStands.{port_at}
+use Rattle.tsp_gateway.proofs.LiftLemmas.{part_there}
+use Rattle.tsp_gateway.proofs.PostLemmas.{All_posted, emits_loops, loops_are}
+use Rattle.tsp_gateway.proofs.gateway.Gateway.send_loops.Goals as goal
+
+pub new-message-requires : goal.new-message-requires
+unfolding body_fits carries_time carries_hops
+new-message-requires g c = refl
+
+pub returns-clause-row : goal.returns-clause-row
+unfolding sends_loops
+returns-clause-row g c x =
+    let q = c.args.q in
+    let there = part_there c.args.self.now q c.index.result.now c.requires.port c.index.ensures in
+    let kind : c.new-message.result.kind ≡ Loop = ap (λ (m : MessageValue). m.kind) c.new-message.ensures in
+    let name = c.copy-name.ensures in
+    All_posted q (sends_loops (port_at q)) c.new-message.result kind (emits_loops (port_at q) refl) there (rw (c.port_at.ensures, c.station-station.ensures) at c.repost.ensures.acts)
+    (λ past h.
+    let s = h.first.station in
+    let one : c.copy-name.result ≡ past.name = name ∙ ap (λ (st : Station). st.me.name) c.station-station.ensures ∙ s.name in
+    rw (c.new-message.ensures, one, s.own, s.peers) (loops_are (port_at q) past.name (others past.own past.peers)))

@@ -1,0 +1,36 @@
+-- When a node of several ports is to be looked at next.
+use Rattle.std.specs.Prelude.{◌≡◌, ℕ, List, [], ◌∷◌, length, Option, None, Some, slice_get}
+use Rattle.tsp_base.specs.Alarms.{earlier, least_deadline}
+use Rattle.tsp_base.specs.History.{Seen, view}
+use Rattle.tsp_base.specs.PortFacts.{armed}
+use Rattle.tsp_base.specs.SendFacts.{open_send}
+use Rattle.tsp_rules.specs.NodeRows.{NodePast}
+use Rattle.tsp_sends.specs.Slots.{sending_to}
+use Rattle.tsp_sends.specs.Treating.{IsEarliest}
+use Rattle.tsp_node.specs.declared.part.Part.{Part}
+use Rattle.tsp_node.specs.NodeStands.{due_of}
+use Rattle.tsp_gateway.specs.GatewayStands.{port_at}
+
+-- the earliest of some deadlines
+abbrev pub least_of : List (Option ℕ) → Option ℕ
+least_of [] = None
+least_of (o ∷ rest) = earlier o (least_of rest)
+
+-- the earliest deadline of a port's armed alarms and open sends
+pub record IsPortDue (seen : List Seen) (due : Option ℕ) : Type 0 where
+  pub sends : Option ℕ
+  pub first : IsEarliest (λ p. open_send p seen) sends
+  pub due_is : due ≡ earlier (least_deadline (armed seen)) sends
+
+-- the same, by what the node keeps of the port
+pub record IsPartDue (part : Part) (due : Option ℕ) : Type 0 where
+  pub sends : Option ℕ
+  pub first : IsEarliest (sending_to part.station.sends) sends
+  pub due_is : due ≡ earlier (least_deadline part.station.alarms) sends
+
+-- the earliest deadline over all ports; the greatest number of 64 bits where nothing is armed
+pub record IsNodeDue (past : NodePast) (at : ℕ) : Type 0 where
+  pub dues : List (Option ℕ)
+  pub many : length dues ≡ length past.ports
+  pub each : (q : ℕ) (due : Option ℕ) → slice_get dues q ≡ Some due → IsPortDue (view (port_at q) past.lines) due
+  pub at_is : at ≡ due_of (least_of dues)

@@ -1,0 +1,49 @@
+-- How a node of several ports is set up, and what a past of it has of that.
+use Rattle.std.specs.Prelude.{◌≡◌, ℕ, ℤ, Bool, true, false, List, [], ◌∷◌, map}
+use Rattle.tsp_base.specs.declared.place.PeerId.{PeerId}
+use Rattle.tsp_base.specs.History.{Booted}
+use Rattle.tsp_base.specs.Peers.{is_among}
+use Rattle.tsp_rules.specs.NodeRows.{NodePast, PortSetup}
+use Rattle.tsp_rules.specs.Tests.{is_clock_value}
+use Rattle.tsp_acks.specs.Peers.{IsPeers}
+use Rattle.tsp_node.specs.declared.fault.BootFault.{BootFault}
+use Rattle.tsp_node.specs.declared.fault.BootFault.TheVariants.{Peers, Range, OutOfMemory}
+
+-- a node's host name, whether it may be master, whether a candidate needs a majority, and its ports in their order
+pub record GateConfigValue : Type 0 where
+  pub name : List ℕ
+  pub may : Bool
+  pub strict : Bool
+  pub ports : List PortSetup
+
+-- a node can have such a port: at most 1,000 peers, strictly ascending, its own number among them
+pub record IsPortSetup (s : PortSetup) : Type 0 where
+  pub peers : IsPeers s.peers
+  pub own : is_among s.own s.peers ≡ true
+
+-- a node can have each of these ports
+abbrev pub ArePorts : List PortSetup → Type 0
+ArePorts [] = Unit {0}
+ArePorts (s ∷ rest) = IsPortSetup s × ArePorts rest
+
+-- a past of a node that is set up so
+pub record IsOfNode (c : GateConfigValue) (past : NodePast) : Type 0 where
+  pub name : past.name ≡ c.name
+  pub may : past.may ≡ c.may
+  pub strict : past.strict ≡ c.strict
+  pub ports : past.ports ≡ c.ports
+
+-- a node that is set up so and boots in this step, with this word and at this wall clock
+pub record UnbootedNode (c : GateConfigValue) (word : ℕ) (wall : ℤ) (past : NodePast) (nobody : Unit {0}) : Type 0 where
+  pub cause : past.step.cause ≡ Booted word wall
+  pub of : IsOfNode c past
+
+-- why a node that is set up so doesn't boot at this wall clock
+abbrev pub GateBootsNot : GateConfigValue → ℤ → BootFault → Type 0
+GateBootsNot c wall Peers = ArePorts c.ports → ⊥
+GateBootsNot c wall Range = ArePorts c.ports × (is_clock_value wall ≡ false)
+GateBootsNot c wall OutOfMemory = ArePorts c.ports × (is_clock_value wall ≡ true)
+
+-- the peers of each of these ports
+abbrev pub peers_of_ports : List PortSetup → List (List PeerId)
+peers_of_ports = map (λ (s : PortSetup). s.peers)

@@ -1,0 +1,11 @@
+pub mod Dues
+pub mod GateConfigs
+pub mod GateInputs
+pub mod GatewayStands
+pub mod Laws
+pub mod PartsFresh
+pub mod PortFacts
+pub mod PortOf
+pub mod Rooms
+pub mod RoundAlarms
+pub mod Untold

@@ -1,0 +1,32 @@
+-- How much room a step of a node with several ports takes.
+use Rattle.std.specs.Prelude.{ℕ, ◌+◌, ◌*◌, List, [], ◌∷◌, length, map, slice_index_or}
+use Rattle.tsp_base.specs.declared.place.PeerId.{PeerId}
+use Rattle.tsp_node.specs.declared.part.Part.{Part}
+use Rattle.tsp_node.specs.NodeStands.{room_of}
+use Rattle.tsp_gateway.specs.declared.gateway.Gateway.{Gateway}
+
+-- the peers of each port
+abbrev pub ports_in : Gateway → List (List PeerId)
+ports_in g = map (λ (part : Part). part.station.peers) g.ports.items
+
+-- how many peers a port has
+abbrev pub peers_at : ℕ → List (List PeerId) → ℕ
+peers_at q ports = length (slice_index_or ports q [])
+
+-- how many acts a step may take: as many as a node of each port alone, together
+abbrev pub room_of_ports : List (List PeerId) → ℕ
+room_of_ports [] = 0
+room_of_ports (peers ∷ rest) = room_of (length peers) + room_of_ports rest
+
+-- how many acts a port may take when its turn comes, and how many all together
+abbrev pub turn_room : ℕ → ℕ
+turn_room peers = 20 * peers + 80
+
+abbrev pub turns_room : List (List PeerId) → ℕ
+turns_room [] = 0
+turns_room (peers ∷ rest) = turn_room (length peers) + turns_room rest
+
+-- how many peers all ports have together
+abbrev pub all_peers : List (List PeerId) → ℕ
+all_peers [] = 0
+all_peers (peers ∷ rest) = length peers + all_peers rest

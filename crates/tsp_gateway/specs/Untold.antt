@@ -1,0 +1,33 @@
+-- A node one of whose ports has corrected its clock, before the other ports are told.
+use Rattle.std.specs.Prelude.{◌≡◌, ◌≢◌, ◌==◌, ℕ, Bool, true, false, not, List, length, None, Some, slice_get}
+use Rattle.tsp_base.specs.declared.place.Port.{Port}
+use Rattle.tsp_base.specs.History.{dids}
+use Rattle.tsp_base.specs.NodeFacts.{tracing}
+use Rattle.tsp_rules.specs.GateRows.{other_ports, ports_from}
+use Rattle.tsp_rules.specs.NodeRows.{NodePast, on_port}
+use Rattle.tsp_clock.specs.Clocks.{ClockValue}
+use Rattle.tsp_node.specs.declared.part.Part.{Part}
+use Rattle.tsp_node.specs.NodeStands.{PartStands, PortStands, PortValue, port_in}
+use Rattle.tsp_gateway.specs.declared.gateway.Gateway.{Gateway}
+use Rattle.tsp_gateway.specs.GatewayStands.{port_at}
+
+-- what a port is once it is told of a correction at this tick
+abbrev pub told : ℕ → Part → ClockValue → PortValue
+told x part clock = record (port_in (part, clock)) { last = record { tick = Some x; taken = None; name = part.last.name } }
+
+-- port q stands, and each other port stands once it is told
+pub record Untold (q x : ℕ) (past : NodePast) (g : Gateway) : Type 0 where
+  pub many : length g.ports.items ≡ length past.ports
+  pub traces : tracing (dids past.lines) ≡ g.tracing
+  pub here : (part : Part) → slice_get g.ports.items q ≡ Some part → PartStands (on_port (port_at q) past) (part, g.clock)
+  pub others : (r : ℕ) (part : Part) → slice_get g.ports.items r ≡ Some part → r ≢ q → PortStands (on_port (port_at r) past) (told x part g.clock)
+
+-- the ports whose rounds a correction ends: the others, or all
+abbrev pub upset_ports : Bool → Port → ℕ → NodePast → List Port
+upset_ports true q x past = ports_from 0 past.ports
+upset_ports false q x past = other_ports q past
+
+-- whether a port is one of these
+abbrev pub is_upset : Bool → ℕ → Port → Bool
+is_upset true q r = true
+is_upset false q r = not (r.0 == q)

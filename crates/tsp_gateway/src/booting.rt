@@ -1,0 +1,98 @@
+//! How a node of several ports begins a life.
+ghost use Rattle.std.specs.Prelude.{◌≡◌, ◌≤◌, ◌<◌, ◌*◌, ℤ, true, length, [], ◌∷◌, IfOk, IfErr};
+ghost use Rattle.tsp_base.specs.declared.act.Act.TheVariants.{Boot};
+ghost use Rattle.tsp_base.specs.declared.place.PeerId.{PeerId};
+ghost use Rattle.tsp_base.specs.Frames.{IsTick, PutsAtMost};
+ghost use Rattle.tsp_base.specs.Joins.{first_port};
+ghost use Rattle.tsp_rules.specs.GateRows.{all_ports, boots_on};
+ghost use Rattle.tsp_rules.specs.NodePerforms.{PerformsAll};
+ghost use Rattle.tsp_rules.specs.NodeRows.{NodePast, for_ports, reading_all, spread};
+ghost use Rattle.tsp_rules.specs.Tests.{is_clock_value};
+ghost use Rattle.tsp_gateway.specs.GateConfigs.{ArePorts, GateBootsNot, UnbootedNode, peers_of_ports};
+ghost use Rattle.tsp_gateway.specs.GatewayStands.{GatewayStands, clock_at, port_at};
+ghost use Rattle.tsp_gateway.specs.PartsFresh.{AreFresh};
+ghost use Rattle.tsp_gateway.specs.Rooms.{ports_in};
+
+use crate::config::GateConfig;
+use crate::gateway::{Gateway, port_at};
+use std::alloc::{AllocError, Global};
+use tsp_base::desk::Desk;
+use tsp_clock::clock::Clock;
+use tsp_node::{BootFault, Part};
+
+/// What a node that boots is on each of its ports. Fails only where memory is refused.
+fn parts_of(
+    alloc: Global,
+    config: &GateConfig,
+    tick: u64,
+    word: u64,
+) -> Result<Vec<Part>, AllocError>
+    requires { ArePorts config.now.ports }
+    ensures { IfOk result (λ parts. AreFresh config.now word tick parts.items) }
+{
+    let mut parts = Vec::with_capacity(alloc, 4)?;
+    for q in 0..config.ports() {
+        let part = Part::new(alloc, config.me(q, word), config.peers(q), tick)?;
+        parts.push(part)?;
+    }
+    Ok(parts)
+}
+
+impl Gateway {
+    /// A node that has put Boot and nothing more, or why it doesn't boot.
+    pub(crate) fn new(
+        alloc: Global,
+        config: &GateConfig,
+        tick: u64,
+        wall: i64,
+        word: u64,
+    ) -> Result<Gateway, BootFault>
+        requires ports { 1 ≤ length config.now.ports }
+        requires tick { IsTick tick }
+        ensures stands { IfOk result (λ g. (past : NodePast) → UnbootedNode config.now word wall past tt → GatewayStands (spread tick past (record { port = first_port; act = Boot } ∷ [])) g) }
+        ensures ok { IfOk result (λ g. ArePorts config.now.ports × (is_clock_value wall ≡ true) × (ports_in g ≡ peers_of_ports config.now.ports) × (clock_at g ≡ tick)) }
+        ensures err { IfErr result (λ fault. GateBootsNot config.now wall fault) }
+    {
+        if !config.are_ports() {
+            return Err(BootFault::Peers);
+        }
+        let Ok(clock) = Clock::boot(tick, wall, word) else {
+            return Err(BootFault::Range);
+        };
+        let Ok(ports) = parts_of(alloc, config, tick, word) else {
+            return Err(BootFault::OutOfMemory);
+        };
+        Ok(Gateway {
+            clock,
+            tracing: false,
+            ports,
+        })
+    }
+
+    /// Begins a life on every port, right after the boot.
+    pub(crate) fn begin_all<D: Desk>(&mut self, tick: u64, desk: &mut D)
+        requires tick { IsTick tick }
+        requires room { 2 * length (ports_in self.old) ≤ D.spare desk.old }
+        ensures row { PerformsAll GatewayStands GatewayStands (reading_all all_ports (for_ports boots_on)) tick self.old self.new (D.acts desk.old) (D.acts desk.new) }
+        ensures ports { ports_in self.new ≡ ports_in self.old }
+        ensures clock { clock_at self.new ≡ clock_at self.old }
+        ensures room { PutsAtMost (2 * length (ports_in self.old)) (D.spare desk.old) (D.spare desk.new) (D.acts desk.old) (D.acts desk.new) }
+    {
+        for q in 0..self.ports.len() {
+            self.begin(q, tick, desk);
+        }
+    }
+
+    /// Begins a life on a port.
+    fn begin<D: Desk>(&mut self, q: usize, tick: u64, desk: &mut D)
+        requires port { q < length (ports_in self.old) }
+        requires tick { IsTick tick }
+        requires room { 2 ≤ D.spare desk.old }
+        ensures row { PerformsAll GatewayStands GatewayStands (boots_on (port_at q)) tick self.old self.new (D.acts desk.old) (D.acts desk.new) }
+        ensures ports { ports_in self.new ≡ ports_in self.old }
+        ensures clock { clock_at self.new ≡ clock_at self.old }
+        ensures room { PutsAtMost 2 (D.spare desk.old) (D.spare desk.new) (D.acts desk.old) (D.acts desk.new) }
+    {
+        self.ports[q].begin(tick, port_at(q), desk);
+    }
+}

@@ -1,0 +1,85 @@
+//! What is read of a node from outside.
+ghost use Rattle.std.specs.Prelude.{◌≡◌, ◌<◌, length};
+ghost use Rattle.tsp_base.specs.Frames.{IsTick};
+ghost use Rattle.tsp_base.specs.History.{dids};
+ghost use Rattle.tsp_base.specs.NodeFacts.{tracing};
+ghost use Rattle.tsp_rules.specs.NodeRows.{NodePast};
+ghost use Rattle.tsp_node.specs.NodeStands.{due_of};
+ghost use Rattle.tsp_gateway.specs.Dues.{IsNodeDue, IsPartDue};
+ghost use Rattle.tsp_gateway.specs.PortOf.{port_of};
+
+use crate::gateway::{FIRST, Gateway, port_at};
+use tsp_base::alarms::earlier;
+use tsp_base::place::{PeerId, Port};
+use tsp_node::Part;
+
+impl Gateway {
+    ghost use Rattle.tsp_gateway.specs.GatewayStands.{GatewayStands};
+    ghost use Rattle.tsp_gateway.specs.PortOf.{setups_in};
+    ghost use Rattle.tsp_gateway.specs.Rooms.{ports_in, room_of_ports};
+
+    /// How many acts a step may take: room for so many is to be on the desk.
+    pub fn room(&self) -> usize
+        ensures { result ≡ room_of_ports (ports_in self.now) }
+    {
+        let mut room = 0;
+        for part in &self.ports {
+            room += 24 * part.station().peers().len() + 256;
+        }
+        room
+    }
+
+    /// When it is to be looked at next, in its own ticks: the earliest deadline of an armed alarm or an open
+    /// send of any port, which may lie in the past; `u64::MAX` where there is none.
+    pub fn due(&self) -> u64
+        ensures past { (past : NodePast) → GatewayStands past self.now → IsNodeDue past result }
+    {
+        let mut due = None;
+        for part in &self.ports {
+            due = earlier(due, due_on(part));
+        }
+        match due {
+            Some(at) => at,
+            None => u64::MAX,
+        }
+    }
+
+    /// Whether its trace is on.
+    pub fn tracing(&self) -> bool
+        ensures value { result ≡ self.now.tracing }
+        ensures past { (past : NodePast) → GatewayStands past self.now → result ≡ tracing (dids past.lines) }
+    {
+        self.tracing
+    }
+
+    /// The lowest port that has a peer other than as its own number, and port 0 where none has it.
+    pub fn port_of(&self, p: PeerId) -> Port
+        ensures value { result ≡ port_of p (setups_in self.now) }
+        ensures past { (past : NodePast) → GatewayStands past self.now → result ≡ port_of p past.ports }
+        ensures inside { result.0 < length (ports_in self.now) }
+    {
+        self.place_of(p)
+    }
+
+    /// The same, by what the node keeps of its ports.
+    fn place_of(&self, p: PeerId) -> Port
+        ensures value { result ≡ port_of p (setups_in self.now) }
+        ensures inside { result.0 < length (ports_in self.now) }
+    {
+        for q in 0..self.ports.len() {
+            let station = self.ports[q].station();
+            if station.me.own.0 != p.0 && station.peers.has(p) {
+                return port_at(q);
+            }
+        }
+        FIRST
+    }
+}
+
+/// The earliest deadline of a port.
+fn due_on(part: &Part) -> Option<u64>
+    ensures { IsPartDue part.now result }
+{
+    let station = part.station();
+    earlier(station.alarms.least(), station.sends.least())
+}

@@ -1,0 +1,70 @@
+//! The steps of a node that is up.
+ghost use Rattle.std.specs.Prelude.{◌≡◌, ◌≤◌, ◌<◌, length};
+ghost use Rattle.tsp_base.specs.Frames.{IsTick, PutsAtMost};
+ghost use Rattle.tsp_rules.specs.GateRows.{GotOn, NodeTurn, answers_all};
+ghost use Rattle.tsp_rules.specs.NodePerforms.{PerformsAll};
+ghost use Rattle.tsp_gateway.specs.GateInputs.{ComesOn, given_on};
+
+use crate::gateway::Gateway;
+use tsp_base::datagram::Taken;
+use tsp_base::desk::Desk;
+use tsp_base::input::Input;
+use tsp_base::place::{Place, Port};
+use tsp_codec::read;
+
+impl Gateway {
+    ghost use Rattle.tsp_gateway.specs.GatewayStands.{GatewayBegun, GatewayStands, clock_at};
+    ghost use Rattle.tsp_gateway.specs.Rooms.{ports_in, room_of_ports};
+
+    /// A step with an input on one of its ports: its timers are looked at, and what octets it brings are read and
+    /// taken.
+    pub fn step<D: Desk>(&mut self, tick: u64, input: &Input, desk: &mut D)
+        requires port { ComesOn (length (ports_in self.old)) input.now }
+        requires room { room_of_ports (ports_in self.old) ≤ D.spare desk.old }
+        requires tick { IsTick tick }
+        requires later { clock_at self.old ≤ tick }
+        ensures row { PerformsAll GatewayBegun GatewayStands (answers_all (given_on input.now)) tick self.old self.new (D.acts desk.old) (D.acts desk.new) }
+        ensures ports { ports_in self.new ≡ ports_in self.old }
+        ensures clock { clock_at self.new ≤ tick }
+        ensures room { PutsAtMost (room_of_ports (ports_in self.old)) (D.spare desk.old) (D.spare desk.new) (D.acts desk.old) (D.acts desk.new) }
+    {
+        match input {
+            Input::Turn => self.turn(tick, desk),
+            Input::Bytes { port, from, octets } => self.take(
+                tick,
+                *port,
+                *from,
+                &read(octets),
+                desk,
+            ),
+        }
+    }
+
+    /// A step in which only its timers are looked at.
+    pub fn turn<D: Desk>(&mut self, tick: u64, desk: &mut D)
+        requires room { room_of_ports (ports_in self.old) ≤ D.spare desk.old }
+        requires tick { IsTick tick }
+        requires later { clock_at self.old ≤ tick }
+        ensures row { PerformsAll GatewayBegun GatewayStands (answers_all NodeTurn) tick self.old self.new (D.acts desk.old) (D.acts desk.new) }
+        ensures ports { ports_in self.new ≡ ports_in self.old }
+        ensures clock { clock_at self.new ≤ tick }
+        ensures room { PutsAtMost (room_of_ports (ports_in self.old)) (D.spare desk.old) (D.spare desk.new) (D.acts desk.old) (D.acts desk.new) }
+    {
+        self.turn_ports(tick, desk);
+    }
+
+    /// A step that takes octets from somebody on one of its ports, as they were read.
+    pub fn take<D: Desk>(&mut self, tick: u64, port: Port, from: Place, taken: &Taken, desk: &mut D)
+        requires port { port.0 < length (ports_in self.old) }
+        requires room { room_of_ports (ports_in self.old) ≤ D.spare desk.old }
+        requires tick { IsTick tick }
+        requires later { clock_at self.old ≤ tick }
+        ensures row { PerformsAll GatewayBegun GatewayStands (answers_all (GotOn port from taken.now)) tick self.old self.new (D.acts desk.old) (D.acts desk.new) }
+        ensures ports { ports_in self.new ≡ ports_in self.old }
+        ensures clock { clock_at self.new ≤ tick }
+        ensures room { PutsAtMost (room_of_ports (ports_in self.old)) (D.spare desk.old) (D.spare desk.new) (D.acts desk.old) (D.acts desk.new) }
+    {
+        self.turn_ports(tick, desk);
+        self.take_in(tick, port.0 as usize, from, taken, desk);
+    }
+}

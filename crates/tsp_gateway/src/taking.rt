@@ -1,0 +1,169 @@
+//! What a node takes on one of its ports.
+ghost use Rattle.std.specs.Prelude.{◌≡◌, ◌≢◌, ◌≤◌, ◌<◌, ◌+◌, ◌*◌, true, length};
+ghost use Rattle.tsp_base.specs.declared.act.Act.TheVariants.{Took};
+ghost use Rattle.tsp_base.specs.declared.datagram.Datagram.TheVariants.{Message as MessageOf};
+ghost use Rattle.tsp_base.specs.declared.datagram.Taken.TheVariants.{Good};
+ghost use Rattle.tsp_base.specs.declared.kind.Kind.TheVariants.{Loop};
+ghost use Rattle.tsp_base.specs.Frames.{IsTick, PutsAtMost};
+ghost use Rattle.tsp_base.specs.Rows.{puts};
+ghost use Rattle.tsp_base.specs.SendFacts.{sets_date};
+ghost use Rattle.tsp_rules.specs.Answers.{takes};
+ghost use Rattle.tsp_rules.specs.GateRows.{takes_loop, takes_message, takes_on};
+ghost use Rattle.tsp_rules.specs.NodePerforms.{PerformsAll};
+ghost use Rattle.tsp_rules.specs.NodeRows.{on};
+ghost use Rattle.tsp_gateway.specs.GateInputs.{HoldsNoMessage};
+ghost use Rattle.tsp_gateway.specs.GatewayStands.{GatewayStands, clock_at, port_at};
+ghost use Rattle.tsp_gateway.specs.Rooms.{all_peers, peers_at, ports_in};
+
+use crate::gateway::{Gateway, port_at};
+use tsp_base::act::Act;
+use tsp_base::datagram::{Datagram, Taken};
+use tsp_base::desk::Desk;
+use tsp_base::kind::Kind;
+use tsp_base::message::Message;
+use tsp_base::place::Place;
+
+impl Gateway {
+    /// Takes octets from somebody on a port, as they were read.
+    pub(crate) fn take_in<D: Desk>(
+        &mut self,
+        tick: u64,
+        q: usize,
+        from: Place,
+        taken: &Taken,
+        desk: &mut D,
+    )
+        requires port { q < length (ports_in self.old) }
+        requires room { 2 * peers_at q (ports_in self.old) + all_peers (ports_in self.old) + 24 ≤ D.spare desk.old }
+        requires tick { IsTick tick }
+        requires later { clock_at self.old ≤ tick }
+        ensures row { PerformsAll GatewayStands GatewayStands (takes_on (port_at q) from taken.now) tick self.old self.new (D.acts desk.old) (D.acts desk.new) }
+        ensures ports { ports_in self.new ≡ ports_in self.old }
+        ensures clock { clock_at self.new ≤ tick }
+        ensures room { PutsAtMost (2 * peers_at q (ports_in self.old) + all_peers (ports_in self.old) + 24) (D.spare desk.old) (D.spare desk.new) (D.acts desk.old) (D.acts desk.new) }
+    {
+        match taken {
+            Taken::Good(Datagram::Message(m)) => match m.kind() {
+                Kind::Loop => self.take_loop(tick, q, from, m, taken, desk),
+                _ => self.take_message(tick, q, from, m, taken, desk),
+            },
+            _ => self.take_other(tick, q, from, taken, desk),
+        }
+    }
+
+    /// Takes a message that is no LOOP. Where that corrects the clock, the rounds of the other ports are given
+    /// up; where it was a date, the port's own too.
+    fn take_message<D: Desk>(
+        &mut self,
+        tick: u64,
+        q: usize,
+        from: Place,
+        m: &Message,
+        taken: &Taken,
+        desk: &mut D,
+    )
+        requires is { taken.now ≡ Good (MessageOf m.now) }
+        requires port { q < length (ports_in self.old) }
+        requires room { 2 * peers_at q (ports_in self.old) + 24 ≤ D.spare desk.old }
+        requires tick { IsTick tick }
+        requires later { clock_at self.old ≤ tick }
+        ensures row { PerformsAll GatewayStands GatewayStands (takes_message (port_at q) from m.now) tick self.old self.new (D.acts desk.old) (D.acts desk.new) }
+        ensures ports { ports_in self.new ≡ ports_in self.old }
+        ensures clock { clock_at self.new ≤ tick }
+        ensures room { PutsAtMost (2 * peers_at q (ports_in self.old) + 24) (D.spare desk.old) (D.spare desk.new) (D.acts desk.old) (D.acts desk.new) }
+    {
+        let steer = self.steers(q);
+        let charge = self.in_charge(q);
+        let clock = &mut self.clock;
+        let tracing = &mut self.tracing;
+        if self.ports[q].take(
+            clock,
+            tracing,
+            steer,
+            charge,
+            tick,
+            from,
+            taken,
+            port_at(q),
+            desk,
+        ) {
+            self.upset(q, sets_date(m.kind()), tick, desk);
+        }
+    }
+
+    /// Takes a LOOP.
+    fn take_loop<D: Desk>(
+        &mut self,
+        tick: u64,
+        q: usize,
+        from: Place,
+        m: &Message,
+        taken: &Taken,
+        desk: &mut D,
+    )
+        requires is { taken.now ≡ Good (MessageOf m.now) }
+        requires kind { m.now.kind ≡ Loop }
+        requires port { q < length (ports_in self.old) }
+        requires room { 2 * peers_at q (ports_in self.old) + all_peers (ports_in self.old) + 24 ≤ D.spare desk.old }
+        requires tick { IsTick tick }
+        requires later { clock_at self.old ≤ tick }
+        ensures row { PerformsAll GatewayStands GatewayStands (takes_loop (port_at q) from m.now) tick self.old self.new (D.acts desk.old) (D.acts desk.new) }
+        ensures ports { ports_in self.new ≡ ports_in self.old }
+        ensures clock { clock_at self.new ≤ tick }
+        ensures room { PutsAtMost (2 * peers_at q (ports_in self.old) + all_peers (ports_in self.old) + 24) (D.spare desk.old) (D.spare desk.new) (D.acts desk.old) (D.acts desk.new) }
+    {
+        self.note(tick, q, from, taken, desk);
+        if self.hears(q, from) {
+            self.judge_loop(q, m, tick, desk);
+        }
+    }
+
+    /// Notes that octets were taken, and does nothing with them.
+    fn note<D: Desk>(&mut self, tick: u64, q: usize, from: Place, taken: &Taken, desk: &mut D)
+        requires port { q < length (ports_in self.old) }
+        requires room { 1 ≤ D.spare desk.old }
+        ensures row { PerformsAll GatewayStands GatewayStands (on (port_at q) (puts (Took from taken.now))) tick self.old self.new (D.acts desk.old) (D.acts desk.new) }
+        ensures ports { ports_in self.new ≡ ports_in self.old }
+        ensures clock { clock_at self.new ≡ clock_at self.old }
+        ensures room { PutsAtMost 1 (D.spare desk.old) (D.spare desk.new) (D.acts desk.old) (D.acts desk.new) }
+    {
+        desk.put(port_at(q), Act::Took(from, taken.copy()));
+    }
+
+    /// Takes octets that spell no message, or nothing: they don't correct the clock.
+    fn take_other<D: Desk>(&mut self, tick: u64, q: usize, from: Place, taken: &Taken, desk: &mut D)
+        requires other { HoldsNoMessage taken.now }
+        requires port { q < length (ports_in self.old) }
+        requires room { 2 * peers_at q (ports_in self.old) + 24 ≤ D.spare desk.old }
+        requires tick { IsTick tick }
+        requires later { clock_at self.old ≤ tick }
+        ensures row { PerformsAll GatewayStands GatewayStands (on (port_at q) (takes true true from taken.now)) tick self.old self.new (D.acts desk.old) (D.acts desk.new) }
+        ensures ports { ports_in self.new ≡ ports_in self.old }
+        ensures clock { clock_at self.new ≤ tick }
+        ensures room { PutsAtMost (2 * peers_at q (ports_in self.old) + 24) (D.spare desk.old) (D.spare desk.new) (D.acts desk.old) (D.acts desk.new) }
+    {
+        let clock = &mut self.clock;
+        let tracing = &mut self.tracing;
+        let _ = self.ports[q].take(
+            clock,
+            tracing,
+            true,
+            true,
+            tick,
+            from,
+            taken,
+            port_at(q),
+            desk,
+        );
+    }
+}
+
+/// Whether messages of this kind set a date.
+fn sets_date(kind: Kind) -> bool
+    ensures { result ≡ sets_date kind }
+{
+    matches!(
+        kind,
+        Kind::Date | Kind::SetDate | Kind::DateReq | Kind::SetDateReq
+    )
+}
