@@ -5,58 +5,59 @@ use Rattle.std.proofs.lemmas.Bool.{ne_eqb, cases_lt}
 use Rattle.std.proofs.lemmas.List.Elements.{All-cons}
 use Rattle.std.proofs.lemmas.Option.{slice_get-get_or}
 use Rattle.std.proofs.Math.ListN.{set}
-use Rattle.tsp_base.specs.Joins.{first_port}
-use Rattle.tsp_base.specs.declared.act.Act.{Act}
 use Rattle.tsp_base.specs.declared.act.Placed.{Placed}
 use Rattle.tsp_base.specs.declared.event.Event.{Event}
 use Rattle.tsp_base.specs.Headers.{HeaderValue, IsHeader}
-use Rattle.tsp_base.specs.History.{Step, Past, Line, of, view, dids, plain}
+use Rattle.tsp_base.specs.History.{Begins, Step, Line, of, dids}
+use Rattle.tsp_base.specs.Joins.{first_port, line_of}
 use Rattle.tsp_base.specs.NodeFacts.{up}
-use Rattle.tsp_base.specs.Performs.{Performs}
-use Rattle.tsp_base.specs.Rows.{Row, placed, grown, in_step}
-use Rattle.tsp_node.specs.declared.node.Node.{Node}
+use Rattle.tsp_rules.specs.NodePerforms.{PerformsAll}
+use Rattle.tsp_rules.specs.NodeRows.{NodePast, NodeRow, in_node_step, spread}
+use Rattle.tsp_gateway.specs.declared.gateway.Gateway.{Gateway}
+use Rattle.tsp_gateway.specs.GatewayStands.{GatewayStands}
 use Rattle.tsp_world.specs.declared.world.World.{World}
-use Rattle.tsp_node.specs.NodeStands.{NodeStands}
-use Rattle.tsp_world.specs.Ranges.{Accepted, IsInRange}
-use Rattle.tsp_world.specs.Refusals.{scene, refusal}
-use Rattle.tsp_world.specs.Run.{run, joins, happening, steps, step_tick, event_at}
-use Rattle.tsp_world.specs.Setup.{past_of}
-use Rattle.tsp_world.specs.WorldStands.{WorldStands, PlaceStands, UpBegun, UpStands, Notes, Passes, rests, up_at, is_node, scene_of}
-use Rattle.tsp_node.proofs.StepLemmas.{NodeStands_step, Begun_in_step}
-use Rattle.tsp_world.proofs.RefusalLemmas.{Alike, some_same}
-use Rattle.tsp_world.proofs.RunLemmas.{joins-own, joins-other, posts-joins, up-added, up-seen}
+use Rattle.tsp_run.specs.Networks.{networks}
+use Rattle.tsp_run.specs.Ranges.{Accepted, IsInRange}
+use Rattle.tsp_run.specs.Refusals.{scene, refusal}
+use Rattle.tsp_run.specs.Run.{run, joins, happening, steps, step_tick, event_at}
+use Rattle.tsp_run.specs.Setup.{past_of, rests}
+use Rattle.tsp_world.specs.WorldStands.{WorldStands, PlaceStands, UpBegun, UpStands, Notes, Passes, up_at, is_node, scene_of}
+use Rattle.tsp_gateway.proofs.StepLemmas.{GatewayStands_step, GatewayBegun_in_step}
+use Rattle.tsp_run.proofs.NetworkLemmas.{some_same}
+use Rattle.tsp_run.proofs.RefusalLemmas.{Alike}
+use Rattle.tsp_run.proofs.RunLemmas.{stepped_own, stepped_other, posts_stepped, up_joined}
 use Rattle.tsp_world.proofs.SetCases.{set_cases}
 
 -- what the place of a node stands for after a step by this row
-pub PlaceStands-acted : (header : HeaderValue) (history : List Line) (row : Row) (step : Step) (node : Node) →
+pub PlaceStands-acted : (header : HeaderValue) (history : List Line) (row : NodeRow) (step : Step) (node : Gateway) →
     let x = step_tick header step in
-    let past = in_step step x (past_of header step history) in
-    NodeStands (grown x past (row x past)) node → up (plain (grown x past (row x past)).seen) ≡ true → PlaceStands header (joins (Some (steps header history row step)) history) step.node (Some node)
+    let past = in_node_step step x (past_of header step history) in
+    GatewayStands (spread x past (row x past)) node → up (dids (spread x past (row x past)).lines) ≡ true → PlaceStands header (joins (Some (steps header history row step)) history) step.node (Some node)
 unfolding steps
 PlaceStands-acted header history row step node h u =
     let x = step_tick header step in
-    let past = in_step step x (past_of header step history) in
-    let seen = joins-own step.node step x (row x past) history (eq-eqb step.node step.node refl) in
-    let now = joins (Some (steps header history row step)) history in (
-      up-seen step.node now ∙ ap (λ s. up (plain s)) seen ∙ u,
-      subst (λ s. NodeStands (record (past_of header (rests step.node) history) { seen = s }) node) (sym seen) (NodeStands_step (rests step.node) (grown x past (row x past)) node h),
+    let past = in_node_step step x (past_of header step history) in
+    let now : List Line = joins (Some (steps header history row step)) history in
+    let lines : of step.node now ≡ (spread x past (row x past)).lines = stepped_own step.node step x (row x past) history (eq-eqb step.node step.node refl) in (
+      ap (λ l. up (dids l)) lines ∙ u,
+      subst (λ l. GatewayStands (record (past_of header (rests step.node) now) { lines = l }) node) (sym lines) (GatewayStands_step (rests step.node) (spread x past (row x past)) node h),
     )
 
 -- and what that of another node does
-pub PlaceStands-other : (header : HeaderValue) (history : List Line) (row : Row) (step : Step) (n : ℕ) (place : Option Node) → n ≢ step.node →
+pub PlaceStands-other : (header : HeaderValue) (history : List Line) (row : NodeRow) (step : Step) (n : ℕ) (place : Option Gateway) → n ≢ step.node →
     PlaceStands header history n place → PlaceStands header (joins (Some (steps header history row step)) history) n place
 unfolding steps
 PlaceStands-other header history row step n place other h =
     let x = step_tick header step in
-    let acts = row x (in_step step x (past_of header step history)) in
-    let same : of n (joins (Some (steps header history row step)) history) ≡ of n history = joins-other n step x acts history (ne_eqb step.node n (λ e. other (sym e))) in
+    let acts = row x (in_node_step step x (past_of header step history)) in
+    let same : of n (joins (Some (steps header history row step)) history) ≡ of n history = stepped_other n step x acts history (ne_eqb step.node n (λ e. other (sym e))) in
     by_place place h same where
-      by_place : (place : Option Node) → PlaceStands header history n place → of n (joins (Some (steps header history row step)) history) ≡ of n history → PlaceStands header (joins (Some (steps header history row step)) history) n place
-      by_place (Some node) h same = (rw same h.0, subst (λ l. NodeStands (record (past_of header (rests n) history) { seen = view first_port l }) node) (sym same) h.1)
+      by_place : (place : Option Gateway) → PlaceStands header history n place → of n (joins (Some (steps header history row step)) history) ≡ of n history → PlaceStands header (joins (Some (steps header history row step)) history) n place
+      by_place (Some node) h same = (rw same h.0, subst (λ l. GatewayStands (record (past_of header (rests n) history) { lines = l }) node) (sym same) h.1)
       by_place None h same = rw same h
 
-by_node : (header : HeaderValue) (history : List Line) (row : Row) (step : Step) (nodes : List (Option Node)) (n : ℕ) (place : Option Node) → slice_get nodes n ≡ Some place →
-    ((place : Option Node) → slice_get nodes step.node ≡ Some place → PlaceStands header (joins (Some (steps header history row step)) history) step.node place) →
+by_node : (header : HeaderValue) (history : List Line) (row : NodeRow) (step : Step) (nodes : List (Option Gateway)) (n : ℕ) (place : Option Gateway) → slice_get nodes n ≡ Some place →
+    ((place : Option Gateway) → slice_get nodes step.node ≡ Some place → PlaceStands header (joins (Some (steps header history row step)) history) step.node place) →
     (n ≢ step.node → PlaceStands header history n place) → (b : Bool) → (n == step.node) ≡ b → PlaceStands header (joins (Some (steps header history row step)) history) n place
 by_node header history row step nodes n place is own other true e =
     let same : n ≡ step.node = eqb-true n step.node e in
@@ -66,25 +67,25 @@ by_node header history row step nodes n place is own other false e =
     PlaceStands-other header history row step n place not_own (other not_own)
 
 -- a world whose node has acted and that has noted it stands for the event too
-pub WorldStands-acted : (header : HeaderValue) (events : List Event) (e : Event) (row : Row) (step : Step) (old new : World) (nodes : List (Option Node)) (acts : List Placed) →
+pub WorldStands-acted : (header : HeaderValue) (events : List Event) (e : Event) (row : NodeRow) (step : Step) (old new : World) (nodes : List (Option Gateway)) (acts : List Placed) →
     WorldStands header events old → IsInRange e → refusal (scene header events) e ≡ None → happening header (run header events) e ≡ Some (steps header (run header events) row step) →
     event_at e ≡ step.at → step.node < length header.nodes → length nodes ≡ length old.nodes.items →
-    acts ≡ placed first_port (row (step_tick header step) (in_step step (step_tick header step) (past_of header step (run header events)))) →
+    acts ≡ row (step_tick header step) (in_node_step step (step_tick header step) (past_of header step (run header events))) →
     Notes step.at step.node (step_tick header step) old.header nodes old.events old.sent.items acts new →
-    ((place : Option Node) → slice_get nodes step.node ≡ Some place → PlaceStands header (joins (Some (steps header (run header events) row step)) (run header events)) step.node place) →
-    ((n : ℕ) (place : Option Node) → n ≢ step.node → slice_get nodes n ≡ Some place → slice_get old.nodes.items n ≡ Some place) →
+    ((place : Option Gateway) → slice_get nodes step.node ≡ Some place → PlaceStands header (joins (Some (steps header (run header events) row step)) (run header events)) step.node place) →
+    ((n : ℕ) (place : Option Gateway) → n ≢ step.node → slice_get nodes n ≡ Some place → slice_get old.nodes.items n ≡ Some place) →
     WorldStands header (e ∷ events) new
 unfolding steps
 WorldStands-acted header events e row step old new nodes acts w range none happens at inside same_length acts_are noted own others =
     let x : ℕ = step_tick header step in
-    let done : List Act = row x (in_step step x (past_of header step (run header events))) in
+    let done : List Placed = row x (in_node_step step x (past_of header step (run header events))) in
     record {
       header_is = noted.header_is ∙ w.header_is;
       ranges = All-cons IsInRange e events range w.ranges;
       valid = (none, w.valid);
       count = (let a = noted.events_are in let b = w.count in omega (arith, a, b));
       last = noted.last_is ∙ sym at;
-      sent = rw happens (noted.sent_is ∙ (rw (acts_are, w.sent) (sym (posts-joins step x done (run header events)))));
+      sent = rw happens (noted.sent_is ∙ (rw (acts_are, w.sent) (sym (posts_stepped step x done (run header events)))));
       lines = rw happens (noted.lines_are ∙ (rw (acts_are, w.sent, w.count) refl));
       places = ap (λ v. length v) noted.nodes_are ∙ same_length ∙ w.places;
       nodes = λ n place is.
@@ -92,43 +93,43 @@ WorldStands-acted header events e row step old new nodes acts w range none happe
           rw happens (by_node header (run header events) row step nodes n place is_mid own (λ q. w.nodes n place (others n place q is_mid)) (n == step.node) refl);
       nobody = λ n past.
           let other : (step.node == n) ≡ false = ne_eqb step.node n (λ q. absurd (omega (arith, q, past, inside))) in
-          rw happens (ap (λ l. up (dids l)) (joins-other n step x done (run header events) other) ∙ w.nobody n past);
+          rw happens (ap (λ l. up (dids l)) (stepped_other n step x done (run header events) other) ∙ w.nobody n past);
     }
 
 -- where a place has a node that is up, there it is
-up_place : (places : List (Option Node)) (n : ℕ) (o : Option (Option Node)) → slice_get places n ≡ o → is_node o ≡ true → (node : Node) × (slice_get places n ≡ Some (Some node))
+up_place : (places : List (Option Gateway)) (n : ℕ) (o : Option (Option Gateway)) → slice_get places n ≡ o → is_node o ≡ true → (node : Gateway) × (slice_get places n ≡ Some (Some node))
 up_place places n None e up = absurd (true≢false (sym up))
 up_place places n (Some None) e up = absurd (true≢false (sym up))
 up_place places n (Some (Some node)) e up = (node, e)
 
 -- a node that is up begins a step
-UpBegun-from : (header : HeaderValue) (history : List Line) (step : Step) (x : ℕ) (place : Option Node) (node : Node) → place ≡ Some node → NodeStands (past_of header (rests step.node) history) node → UpBegun (in_step step x (past_of header step history)) place
+UpBegun-from : (header : HeaderValue) (history : List Line) (step : Step) (x : ℕ) (place : Option Gateway) (node : Gateway) → place ≡ Some node → GatewayStands (past_of header (rests step.node) history) node → UpBegun (in_node_step step x (past_of header step history)) place
 UpBegun-from header history step x place node is h =
-    subst (λ p. UpBegun (in_step step x (past_of header step history)) p) (sym is) (Begun_in_step step x (past_of header step history) node (NodeStands_step step (past_of header (rests step.node) history) node h))
+    subst (λ p. UpBegun (in_node_step step x (past_of header step history)) p) (sym is) (GatewayBegun_in_step step x (past_of header step history) node (GatewayStands_step step (past_of header (rests step.node) history) node h))
 
 -- and ends it
-PlaceStands-ended : (header : HeaderValue) (history : List Line) (row : Row) (step : Step) (place : Option Node) →
+PlaceStands-ended : (header : HeaderValue) (history : List Line) (row : NodeRow) (step : Step) (place : Option Gateway) →
     let x = step_tick header step in
-    let past = in_step step x (past_of header step history) in
-    UpStands (grown x past (row x past)) place → up (plain (grown x past (row x past)).seen) ≡ true → PlaceStands header (joins (Some (steps header history row step)) history) step.node place
+    let past = in_node_step step x (past_of header step history) in
+    UpStands (spread x past (row x past)) place → up (dids (spread x past (row x past)).lines) ≡ true → PlaceStands header (joins (Some (steps header history row step)) history) step.node place
 PlaceStands-ended header history row step None h u = absurd h
 PlaceStands-ended header history row step (Some node) h u = PlaceStands-acted header history row step node h u
 
 -- a world whose node, which is up, has acted by a row
-pub WorldStands-handed : (header : HeaderValue) (events : List Event) (e : Event) (row : Row) (step : Step) (old new : World) (before after : Option Node) (acts : List Placed) →
+pub WorldStands-handed : (header : HeaderValue) (events : List Event) (e : Event) (row : NodeRow) (step : Step) (old new : World) (before after : Option Gateway) (acts : List Placed) →
     WorldStands header events old → IsInRange e → refusal (scene header events) e ≡ None → happening header (run header events) e ≡ Some (steps header (run header events) row step) →
     event_at e ≡ step.at → step.node < length header.nodes → old.desk.placed.items ≡ [] → up_at old.nodes.items step.node ≡ true → slice_get old.nodes.items step.node ≡ Some before →
-    Performs UpBegun UpStands row (step_tick header step) first_port before after old.desk.placed.items acts →
+    PerformsAll UpBegun UpStands row (step_tick header step) before after old.desk.placed.items acts →
     Notes step.at step.node (step_tick header step) old.header (set old.nodes.items step.node after) old.events old.sent.items acts new → WorldStands header (e ∷ events) new
 WorldStands-handed header events e row step old new before after acts w range none happens at inside idle is_up there did noted =
     let x : ℕ = step_tick header step in
-    let past : Past = in_step step x (past_of header step (run header events)) in
+    let past : NodePast = in_node_step step x (past_of header step (run header events)) in
     let found = up_place old.nodes.items step.node (slice_get old.nodes.items step.node) refl is_up in
     let stood : PlaceStands header (run header events) step.node (Some found.0) = w.nodes step.node (Some found.0) found.1 in
     let begun : UpBegun past before = UpBegun-from header (run header events) step x before found.0 (some_same (sym there ∙ found.1)) stood.1 in
-    let now : UpStands (grown x past (row x past)) after = did.stands past begun in
-    let acts_are : acts ≡ placed first_port (row x past) = did.acts past begun ∙ ap (λ ps. ps ++ placed first_port (row x past)) idle in
-    let is_up_now : up (plain (grown x past (row x past)).seen) ≡ true = up-added step x (row x past) past.seen (sym (up-seen step.node (run header events)) ∙ stood.0) in
+    let now : UpStands (spread x past (row x past)) after = did.stands past begun in
+    let acts_are : acts ≡ row x past = did.acts past begun ∙ ap (λ ps. ps ++ row x past) idle in
+    let is_up_now : up (dids (spread x past (row x past)).lines) ≡ true = up_joined step x (row x past) past.lines stood.0 in
     WorldStands-acted header events e row step old new (set old.nodes.items step.node after) acts w range none happens at inside (length-set old.nodes.items step.node after) acts_are noted
     (λ place is. elim (set_cases old.nodes.items step.node step.node after place is) [
       | inl h ↦ subst (λ p. PlaceStands header (joins (Some (steps header (run header events) row step)) (run header events)) step.node p) h.1 (PlaceStands-ended header (run header events) row step after now is_up_now)
@@ -151,7 +152,7 @@ WorldStands-passed header events e old new w range none happens passed = record 
   nobody = λ n past. rw happens (w.nobody n past);
 }
 
-up_at-stands : (header : HeaderValue) (history : List Line) (n : ℕ) (o : Option (Option Node)) → ((place : Option Node) → o ≡ Some place → PlaceStands header history n place) → (o ≡ None → up (dids (of n history)) ≡ false) → is_node o ≡ up (dids (of n history))
+up_at-stands : (header : HeaderValue) (history : List Line) (n : ℕ) (o : Option (Option Gateway)) → ((place : Option Gateway) → o ≡ Some place → PlaceStands header history n place) → (o ≡ None → up (dids (of n history)) ≡ false) → is_node o ≡ up (dids (of n history))
 up_at-stands header history n None there none = sym (none refl)
 up_at-stands header history n (Some None) there none = sym (there None refl)
 up_at-stands header history n (Some (Some node)) there none = sym (there (Some node) refl).0
@@ -160,6 +161,7 @@ up_at-stands header history n (Some (Some node)) there none = sym (there (Some n
 pub Alike-stands : (header : HeaderValue) (events : List Event) (world : World) → vec_len world.nodes ≡ length world.nodes.items → WorldStands header events world → Alike (scene_of world) (scene header events)
 Alike-stands header events world len w = record {
   nodes = len ∙ w.places;
+  networks = ap networks w.header_is;
   last = w.last;
   events = w.count;
   posts = w.sent;

@@ -1,30 +1,46 @@
 -- What is true of a world's nodes and of what they are set up with, so that each can be booted and can act.
-use Rattle.std.specs.Prelude.{◌≡◌, ℕ, ◌≤◌, List, length, Option, Some, slice_get}
-use Rattle.tsp_base.specs.Headers.{HeaderValue, IsHeader}
+use Rattle.std.specs.Prelude.{◌≡◌, ℕ, ◌≤◌, ◌<◌, true, List, [], ◌∷◌, length, Option, None, Some, slice_get}
+use Rattle.tsp_base.specs.declared.place.Port.{Port}
+use Rattle.tsp_base.specs.Headers.{HeaderValue, IsHeader, is_whole}
 use Rattle.tsp_base.specs.Ticks.{tick_at}
-use Rattle.tsp_node.specs.declared.node.Node.{Node}
-use Rattle.tsp_node.specs.Configs.{ConfigValue}
-use Rattle.tsp_node.specs.NodeStands.{peers_in, clock_at, room_of}
-use Rattle.tsp_world.specs.Setup.{node_line, peers_below, configs_below}
+use Rattle.tsp_gateway.specs.declared.gateway.Gateway.{Gateway}
+use Rattle.tsp_gateway.specs.GateConfigs.{GateConfigValue, peers_of_ports}
+use Rattle.tsp_gateway.specs.GatewayStands.{clock_at}
+use Rattle.tsp_gateway.specs.Rooms.{ports_in, room_of_ports}
+use Rattle.tsp_rules.specs.NodeRows.{PortSetup}
+use Rattle.tsp_run.specs.Networks.{networks, numbers_below, ports_on, room}
+use Rattle.tsp_run.specs.Setup.{node_line}
+use Rattle.tsp_world.specs.Configs.{configs_below}
 
--- a node has so many nodes as peers, and its clock was last corrected at this tick or before
-abbrev pub NodeReady : ℕ → ℕ → Node → Type 0
-NodeReady count x node = (peers_in node ≡ peers_below count) × (clock_at node ≤ x)
+-- a node has these ports, and its clock was last corrected at this tick or before
+abbrev pub NodeReady : List PortSetup → ℕ → Gateway → Type 0
+NodeReady ports x node = (ports_in node ≡ peers_of_ports ports) × (clock_at node ≤ x)
 
 -- the same of a place whose node is up
-abbrev pub PlaceReady : ℕ → ℕ → Option Node → Type 0
-PlaceReady count x place = (node : Node) → place ≡ Some node → NodeReady count x node
+abbrev pub PlaceReady : List PortSetup → ℕ → Option Gateway → Type 0
+PlaceReady ports x place = (node : Gateway) → place ≡ Some node → NodeReady ports x node
 
 -- a node that is up finds room for the acts of a step, and its clock was last corrected at this tick or before
-abbrev pub CanAct : ℕ → ℕ → Option Node → Type 0
-CanAct spare x place = (node : Node) → place ≡ Some node → (room_of (length (peers_in node)) ≤ spare) × (clock_at node ≤ x)
+abbrev pub CanAct : ℕ → ℕ → Option Gateway → Type 0
+CanAct spare x place = (node : Gateway) → place ≡ Some node → (room_of_ports (ports_in node) ≤ spare) × (clock_at node ≤ x)
+
+-- and it has this port
+abbrev pub CanTake : ℕ → ℕ → Port → Option Gateway → Type 0
+CanTake spare x port place = (node : Gateway) → place ≡ Some node → (room_of_ports (ports_in node) ≤ spare) × (clock_at node ≤ x) × (port.0 < length (ports_in node))
 
 -- all places are ready at a true time, each at its own tick
-abbrev pub PlacesReady : HeaderValue → List (Option Node) → ℕ → Type 0
-PlacesReady header nodes at = (n : ℕ) (place : Option Node) → slice_get nodes n ≡ Some place → PlaceReady (length header.nodes) (tick_at (node_line header n).rate at) place
+abbrev pub PlacesReady : HeaderValue → List (Option Gateway) → ℕ → Type 0
+PlacesReady header nodes at = (n : ℕ) (place : Option Gateway) → slice_get nodes n ≡ Some place → PlaceReady (ports_on n (networks header)) (tick_at (node_line header n).rate at) place
 
--- the header is one of a schedule, the nodes are set up as it says, and they can act at the last event's time or later
-pub record NodesReady (header : HeaderValue) (nodes : List (Option Node)) (configs : List ConfigValue) (last : ℕ) : Type 0 where
+-- the header is one of a schedule, one network holds all nodes, the nodes are set up as the header says, and they can act at the last event's time or later
+pub record NodesReady (header : HeaderValue) (one : List (List ℕ)) (nodes : List (Option Gateway)) (configs : List GateConfigValue) (last : ℕ) : Type 0 where
   pub header_is : IsHeader header
+  pub whole : is_whole header ≡ true
+  pub one_is : one ≡ numbers_below (length header.nodes) ∷ []
   pub configs_are : configs ≡ configs_below header (length header.nodes)
   pub places : PlacesReady header nodes last
+
+-- how much room a step takes at which this node acts
+abbrev pub wanted : HeaderValue → Option ℕ → ℕ
+wanted header None = 0
+wanted header (Some n) = room (ports_on n (networks header))

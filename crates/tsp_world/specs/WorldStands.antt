@@ -3,49 +3,46 @@ use Rattle.std.specs.Prelude.{◌≡◌, ℕ, ◌+◌, ◌≤◌, Bool, true, fa
 use Rattle.tsp_base.specs.declared.act.Placed.{Placed}
 use Rattle.tsp_base.specs.declared.event.Event.{Event}
 use Rattle.tsp_base.specs.Headers.{HeaderValue}
-use Rattle.tsp_base.specs.History.{Cause, Step, Turned, Line, Past, of, dids}
+use Rattle.tsp_base.specs.History.{Cause, Step, Line, of, dids}
 use Rattle.tsp_base.specs.NodeFacts.{up}
-use Rattle.tsp_base.specs.Rows.{Row}
-use Rattle.tsp_node.specs.declared.node.Node.{Node}
-use Rattle.tsp_world.specs.declared.posted.Posted.{Posted}
+use Rattle.tsp_gateway.specs.declared.gateway.Gateway.{Gateway}
+use Rattle.tsp_gateway.specs.GatewayStands.{GatewayBegun, GatewayStands}
+use Rattle.tsp_rules.specs.NodeRows.{NodePast, NodeRow}
+use Rattle.tsp_run.specs.declared.posted.Posted.{Posted}
 use Rattle.tsp_world.specs.declared.world.World.{World}
-use Rattle.tsp_node.specs.NodeStands.{NodeStands, Begun}
-use Rattle.tsp_world.specs.Ranges.{IsInRange}
-use Rattle.tsp_world.specs.Refusals.{Scene, Valid, scene, refusal, room}
-use Rattle.tsp_world.specs.Run.{run, posts, last_at, gained, event_at, happening, steps, posts_from, told_from}
-use Rattle.tsp_world.specs.Setup.{past_of}
-
--- the past of a node outside of any step
-abbrev pub rests : ℕ → Step
-rests n = record { at = 0; node = n; cause = Turned }
+use Rattle.tsp_run.specs.Networks.{networks}
+use Rattle.tsp_run.specs.Ranges.{IsInRange}
+use Rattle.tsp_run.specs.Refusals.{Scene, Valid, scene, refusal}
+use Rattle.tsp_run.specs.Run.{run, posts, last_at, gained, event_at, happening, steps, posts_from, told_from}
+use Rattle.tsp_run.specs.Setup.{past_of, rests}
 
 -- a place of the world's nodes: a node that is up and stands for its past, or one that hasn't booted
-abbrev pub PlaceStands : HeaderValue → List Line → ℕ → Option Node → Type 0
-PlaceStands header history n (Some node) = (up (dids (of n history)) ≡ true) × NodeStands (past_of header (rests n) history) node
+abbrev pub PlaceStands : HeaderValue → List Line → ℕ → Option Gateway → Type 0
+PlaceStands header history n (Some node) = (up (dids (of n history)) ≡ true) × GatewayStands (past_of header (rests n) history) node
 PlaceStands header history n None = up (dids (of n history)) ≡ false
 
 -- a place whose node is up and stands for this past
-abbrev pub UpStands : Past → Option Node → Type 0
+abbrev pub UpStands : NodePast → Option Gateway → Type 0
 UpStands past None = ⊥
-UpStands past (Some node) = NodeStands past node
+UpStands past (Some node) = GatewayStands past node
 
 -- a place whose node is up, and whose step has just begun
-abbrev pub UpBegun : Past → Option Node → Type 0
+abbrev pub UpBegun : NodePast → Option Gateway → Type 0
 UpBegun past None = ⊥
-UpBegun past (Some node) = Begun past node
+UpBegun past (Some node) = GatewayBegun past node
 
 -- whether a place of the world's nodes has a node that is up
-abbrev pub is_node : Option (Option Node) → Bool
+abbrev pub is_node : Option (Option Gateway) → Bool
 is_node None = false
 is_node (Some None) = false
 is_node (Some (Some node)) = true
 
-abbrev pub up_at : List (Option Node) → ℕ → Bool
+abbrev pub up_at : List (Option Gateway) → ℕ → Bool
 up_at places n = is_node (slice_get places n)
 
 -- what decides on refusals, as the world has it
 abbrev pub scene_of : World → Scene
-scene_of world = record { nodes = vec_len world.nodes; last = world.last; events = world.events; posts = world.sent.items; up = up_at world.nodes.items }
+scene_of world = record { nodes = vec_len world.nodes; networks = networks world.header; last = world.last; events = world.events; posts = world.sent.items; up = up_at world.nodes.items }
 
 -- a world stands for a header and the events that it accepted, the newest first
 pub record WorldStands (header : HeaderValue) (events : List Event) (world : World) : Type 0 where
@@ -57,15 +54,15 @@ pub record WorldStands (header : HeaderValue) (events : List Event) (world : Wor
   pub sent : world.sent.items ≡ posts (run header events)
   pub lines : world.lines.items ≡ gained header events
   pub places : length world.nodes.items ≡ length header.nodes
-  pub nodes : (n : ℕ) (place : Option Node) → slice_get world.nodes.items n ≡ Some place → PlaceStands header (run header events) n place
+  pub nodes : (n : ℕ) (place : Option Gateway) → slice_get world.nodes.items n ≡ Some place → PlaceStands header (run header events) n place
   pub nobody : (n : ℕ) → length header.nodes ≤ n → up (dids (of n (run header events))) ≡ false
 
--- there is room on the desk for a step's acts, and in the lists for its lines and posts
-pub record IsReady (world : World) : Type 0 where
-  pub desk : room (vec_len world.nodes) ≤ world.desk.spare
+-- there is so much room on the desk for a step's acts, and in the lists for its lines and posts
+pub record IsReady (wanted : ℕ) (world : World) : Type 0 where
+  pub desk : wanted ≤ world.desk.spare
   pub idle : world.desk.placed.items ≡ []
-  pub lines : room (vec_len world.nodes) ≤ vec_capacity world.lines
-  pub sent : vec_len world.sent + room (vec_len world.nodes) ≤ vec_capacity world.sent
+  pub lines : wanted ≤ vec_capacity world.lines
+  pub sent : vec_len world.sent + wanted ≤ vec_capacity world.sent
 
 -- the world stands for what it stood for
 abbrev pub Stays : World → World → Type 0
@@ -76,21 +73,20 @@ abbrev pub Happens : Event → World → World → Type 0
 Happens e old new = (header : HeaderValue) (events : List Event) → WorldStands header events old → refusal (scene header events) e ≡ None → WorldStands header (e ∷ events) new
 
 -- a step of a node that is up has happened by this row, whatever event it was and for whatever cause
-abbrev pub HappensBy : Row → ℕ → ℕ → World → World → Type 0
+abbrev pub HappensBy : NodeRow → ℕ → ℕ → World → World → Type 0
 HappensBy row at node old new =
     (cause : Cause) (header : HeaderValue) (events : List Event) (e : Event) → WorldStands header events old → event_at e ≡ at → IsInRange e → refusal (scene header events) e ≡ None → up_at old.nodes.items node ≡ true →
     happening header (run header events) e ≡ Some (steps header (run header events) row (record { at = at; node = node; cause = cause })) → WorldStands header (e ∷ events) new
 
 -- the acts on the desk can be noted: there is room, and no limit is met
 pub record CanNote (world : World) : Type 0 where
-  pub acts : length world.desk.placed.items ≤ room (vec_len world.nodes)
-  pub lines : room (vec_len world.nodes) ≤ vec_capacity world.lines
-  pub sent : vec_len world.sent + room (vec_len world.nodes) ≤ vec_capacity world.sent
+  pub lines : length world.desk.placed.items ≤ vec_capacity world.lines
+  pub sent : vec_len world.sent + length world.desk.placed.items ≤ vec_capacity world.sent
   pub few_events : world.events < 200000
-  pub few_posts : vec_len world.sent + room (vec_len world.nodes) ≤ 1000000
+  pub few_posts : vec_len world.sent + length world.desk.placed.items ≤ 1000000
 
 -- an event at this time was noted by a world with this header, these nodes, so many events and these posts: these acts as lines and as posts
-pub record Notes (at node tick : ℕ) (header : HeaderValue) (nodes : List (Option Node)) (events : ℕ) (sent : List Posted) (acts : List Placed) (new : World) : Type 0 where
+pub record Notes (at node tick : ℕ) (header : HeaderValue) (nodes : List (Option Gateway)) (events : ℕ) (sent : List Posted) (acts : List Placed) (new : World) : Type 0 where
   pub header_is : new.header ≡ header
   pub nodes_are : new.nodes.items ≡ nodes
   pub events_are : new.events ≡ events + 1

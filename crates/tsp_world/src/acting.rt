@@ -1,5 +1,5 @@
 //! How an event makes a node of a world act.
-ghost use Rattle.std.specs.Prelude.{◌≡◌, ℕ, ◌≤◌, ◌<◌, ◌+◌, ◌^◌, vec_len, slice_get, Some, OnOk, OnErr};
+ghost use Rattle.std.specs.Prelude.{◌≡◌, ℕ, ◌≤◌, ◌<◌, ◌+◌, ◌^◌, length, vec_len, slice_get, Some, OnOk, OnErr};
 ghost use Rattle.tsp_base.specs.declared.event.Event.{Event};
 ghost use Rattle.tsp_base.specs.declared.datagram.Taken.{Taken};
 ghost use Rattle.tsp_base.specs.declared.place.Place.{Place};
@@ -7,13 +7,15 @@ ghost use Rattle.tsp_base.specs.Headers.{Keeps};
 ghost use Rattle.tsp_base.specs.Ticks.{tick_at};
 ghost use Rattle.tsp_codec.specs.Numbers.{octet_at};
 ghost use Rattle.tsp_codec.specs.Taken.{taken_of};
-ghost use Rattle.tsp_rules.specs.Answers.{Got, answers};
-ghost use Rattle.tsp_world.specs.Refusals.{Allowed, actor, goes_to, room};
-ghost use Rattle.tsp_world.specs.declared.posted.Posted.{Posted};
-ghost use Rattle.tsp_world.specs.Setup.{node_line, config_of};
+ghost use Rattle.tsp_rules.specs.GateRows.{GotOn, answers_all};
+ghost use Rattle.tsp_run.specs.declared.posted.Posted.{Posted};
+ghost use Rattle.tsp_run.specs.Networks.{networks, ports_on, room};
+ghost use Rattle.tsp_run.specs.Refusals.{Allowed, actor};
+ghost use Rattle.tsp_run.specs.Run.{goes_to};
+ghost use Rattle.tsp_run.specs.Setup.{node_line};
+ghost use Rattle.tsp_world.specs.NodesReady.{wanted};
 ghost use Rattle.tsp_world.specs.WorldStands.{scene_of, IsReady, Happens, HappensBy, Stays, CanNote, Notes, Passes};
 
-use crate::arrival::Arrival;
 use crate::step;
 use crate::tell::{send, tell};
 use crate::world::World;
@@ -21,9 +23,12 @@ use std::alloc::AllocError;
 use tsp_base::datagram::Taken;
 use tsp_base::drift::tick_at;
 use tsp_base::header::NodeLine;
-use tsp_base::place::{PeerId, Place};
+use tsp_base::place::{PeerId, Place, Port};
 use tsp_codec::read;
-use tsp_node::{BootFault, Config, Node};
+use tsp_gateway::Gateway;
+use tsp_node::BootFault;
+use tsp_run::address::Address;
+use tsp_run::arrival::Arrival;
 
 impl World {
     /// The line of a node in the header.
@@ -47,19 +52,19 @@ impl World {
 
     /// A node boots. The refusal is want of memory, and the world still stands for what it stood for.
     pub(crate) fn boot(&mut self, at: u64, node: u32, word: u64) -> Result<(), AllocError>
-        requires ready { IsReady self.old }
+        requires ready { IsReady (room (ports_on node (networks self.old.header))) self.old }
         requires time { at ≤ 1000000000000000 }
         requires order { self.old.last ≤ at }
         requires node { node < vec_len self.old.nodes }
         requires events { self.old.events < 200000 }
-        requires posts { vec_len self.old.sent + room (vec_len self.old.nodes) ≤ 1000000 }
+        requires posts { vec_len self.old.sent + room (ports_on node (networks self.old.header)) ≤ 1000000 }
         ensures happens { OnOk result (Happens (Event.Boot at node word) self.old self.new) }
         ensures kept { OnErr result (Stays self.old self.new) }
     {
         let tick = self.tick(node, at);
         let wall = step::wall_at(self.line(node), tick);
         let config = &self.configs[node as usize];
-        match Node::boot(self.alloc, config, tick, wall, word, &mut self.desk) {
+        match Gateway::boot(self.alloc, config, tick, wall, word, &mut self.desk) {
             Ok(booted) => {
                 self.last = at;
                 self.nodes[node as usize] = Some(booted);
@@ -74,12 +79,12 @@ impl World {
 
     /// A node's timers are looked at.
     pub(crate) fn turn(&mut self, at: u64, node: u32)
-        requires ready { IsReady self.old }
+        requires ready { IsReady (room (ports_on node (networks self.old.header))) self.old }
         requires time { at ≤ 1000000000000000 }
         requires order { self.old.last ≤ at }
         requires node { node < vec_len self.old.nodes }
         requires events { self.old.events < 200000 }
-        requires posts { vec_len self.old.sent + room (vec_len self.old.nodes) ≤ 1000000 }
+        requires posts { vec_len self.old.sent + room (ports_on node (networks self.old.header)) ≤ 1000000 }
         ensures { Happens (Event.Turn at node) self.old self.new }
     {
         let tick = self.tick(node, at);
@@ -90,66 +95,68 @@ impl World {
     }
 
     /// A posted datagram reaches its addressee, or nobody.
-    pub(crate) fn take(&mut self, at: u64, k: u64, node: Option<u32>)
-        requires ready { IsReady self.old }
+    pub(crate) fn take(&mut self, at: u64, k: u64)
+        requires ready { IsReady (wanted self.old.header (actor (scene_of self.old) (Event.Take at k))) self.old }
         requires time { at ≤ 1000000000000000 }
         requires order { self.old.last ≤ at }
         requires allowed { Allowed (scene_of self.old) (Event.Take at k) }
-        requires actor { node ≡ actor (scene_of self.old) (Event.Take at k) }
         ensures { Happens (Event.Take at k) self.old self.new }
     {
-        match node {
-            Some(node) => {
-                let arrival = self.arrival(k, node);
-                self.hand(at, node, arrival.from, &arrival.taken)
+        match self.address(k) {
+            Some(address) => {
+                let arrival = self.arrival(k, address);
+                self.hand(at, address.node, address.port, arrival.from, &arrival.taken)
             }
             None => self.pass(at),
         }
     }
 
-    /// What the datagram with this number brings to its addressee. A reader takes from its written spelling what
+    /// What the datagram with this number brings to where it goes. A reader takes from its written spelling what
     /// was posted, so nothing needs to be written or read.
-    fn arrival(&self, k: u64, node: u32) -> Arrival
-        requires { goes_to (vec_len self.now.nodes) (slice_get self.now.sent.items k) ≡ Some node }
-        ensures { (p : Posted) → slice_get self.now.sent.items k ≡ Some p → result ≡ record { node = node; from = Place.Peer (record { 0 = p.from }); taken = Taken.Good p.datagram } }
+    fn arrival(&self, k: u64, address: Address) -> Arrival
+        requires { goes_to (networks self.now.header) (slice_get self.now.sent.items k) ≡ Some address }
+        ensures { (p : Posted) → slice_get self.now.sent.items k ≡ Some p → result ≡ record { node = address.node; port = address.port; from = Place.Peer (record { 0 = p.from }); taken = Taken.Good p.datagram } }
     {
         let posted = &self.sent[k as usize];
         Arrival {
-            node,
+            node: address.node,
+            port: address.port,
             from: Place::Peer(PeerId(posted.from)),
             taken: Taken::Good(posted.datagram.copy()),
         }
     }
 
-    /// Octets are handed to a node.
-    pub(crate) fn bytes(&mut self, at: u64, node: u32, from: Place, octets: &[u8])
-        requires ready { IsReady self.old }
+    /// Octets are handed to a node on a port.
+    pub(crate) fn bytes(&mut self, at: u64, node: u32, port: Port, from: Place, octets: &[u8])
+        requires ready { IsReady (room (ports_on node (networks self.old.header))) self.old }
         requires time { at ≤ 1000000000000000 }
         requires order { self.old.last ≤ at }
         requires node { node < vec_len self.old.nodes }
         requires events { self.old.events < 200000 }
-        requires posts { vec_len self.old.sent + room (vec_len self.old.nodes) ≤ 1000000 }
-        ensures happens { HappensBy (answers (Got from (taken_of octets.now))) at node self.old self.new }
+        requires posts { vec_len self.old.sent + room (ports_on node (networks self.old.header)) ≤ 1000000 }
+        requires port { port.0 < length (ports_on node (networks self.old.header)) }
+        ensures happens { HappensBy (answers_all (GotOn port from (taken_of octets.now))) at node self.old self.new }
         ensures range { (i : ℕ) → octet_at octets.now i < 256 }
     {
         let taken = read(octets);
-        self.hand(at, node, from, &taken);
+        self.hand(at, node, port, from, &taken);
     }
 
-    /// A node takes what was read of octets.
-    fn hand(&mut self, at: u64, node: u32, from: Place, taken: &Taken)
-        requires ready { IsReady self.old }
+    /// A node takes on a port what was read of octets.
+    fn hand(&mut self, at: u64, node: u32, port: Port, from: Place, taken: &Taken)
+        requires ready { IsReady (room (ports_on node (networks self.old.header))) self.old }
         requires time { at ≤ 1000000000000000 }
         requires order { self.old.last ≤ at }
         requires node { node < vec_len self.old.nodes }
         requires events { self.old.events < 200000 }
-        requires posts { vec_len self.old.sent + room (vec_len self.old.nodes) ≤ 1000000 }
-        ensures { HappensBy (answers (Got from taken.now)) at node self.old self.new }
+        requires posts { vec_len self.old.sent + room (ports_on node (networks self.old.header)) ≤ 1000000 }
+        requires port { port.0 < length (ports_on node (networks self.old.header)) }
+        ensures { HappensBy (answers_all (GotOn port from taken.now)) at node self.old self.new }
     {
         let tick = self.tick(node, at);
         self.last = at;
         let place = &mut self.nodes[node as usize];
-        step::take(place, tick, from, taken, &mut self.desk);
+        step::take(place, tick, port, from, taken, &mut self.desk);
         self.note(node, tick);
     }
 

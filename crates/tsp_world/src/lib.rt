@@ -1,13 +1,12 @@
-//! All nodes of a schedule and all datagrams that they posted: events in, acts out.
+//! All nodes of a schedule, on all their networks, and all datagrams that they posted: events in, acts out.
 #![tactic(auto)]
 
 mod acting;
-mod arrival;
-pub mod laws;
-pub mod line;
-pub mod posted;
+mod joining;
 mod refusals;
 mod refusing;
+#[cfg(test)]
+mod relay_tests;
 mod setup;
 mod step;
 mod tell;

@@ -1,10 +1,14 @@
 //! Why an event is refused.
-ghost use Rattle.std.specs.Prelude.{◌≡◌, ◌≤◌, ◌<◌, ◌+◌, ◌*◌, ℕ, length, None};
-ghost use Rattle.tsp_world.specs.Refusals.{first_of, time_back, unknown, unknown_place, no_node, no_datagram, down_at, is_full, limit, room};
-ghost use Rattle.tsp_world.specs.Run.{event_at, node_at};
+ghost use Rattle.std.specs.Prelude.{◌≡◌, ◌≤◌, ℕ, length, nat_lt, if◌then◌else◌, None, Some, IfSome};
+ghost use Rattle.tsp_base.specs.declared.event.EventFault.TheVariants.{NoNode};
+ghost use Rattle.tsp_run.specs.Networks.{ports_on};
+ghost use Rattle.tsp_run.specs.Refusals.{Scene, first_of, time_back, unknown, unknown_place, lacks_port, no_node, no_datagram, down_at, is_crowded, limit};
+ghost use Rattle.tsp_run.specs.Run.{event_at};
 
+use crate::joining::port_count;
 use tsp_base::event::{Event, EventFault};
-use tsp_base::place::Place;
+use tsp_base::members::Members;
+use tsp_base::place::{Place, Port};
 
 /// How many events a world accepts.
 pub const MOST_EVENTS: u64 = 200_000;
@@ -54,16 +58,38 @@ fn unknown_place(nodes: u32, from: Place) -> Option<EventFault>
     }
 }
 
-/// The event names a number that no node has.
-pub(crate) fn no_node(nodes: u32, e: &Event) -> Option<EventFault>
-    ensures { result ≡ no_node nodes e.now }
+/// The node has no such port.
+fn lacks_port(nodes: u32, nets: &[Members], n: u32, port: Port) -> Option<EventFault>
+    requires { length nets.now ≤ 64 }
+    ensures { (s : Scene) → s.nodes ≡ nodes → s.networks ≡ nets.now → result ≡ lacks_port s n port }
+{
+    if (port.0 as usize) < port_count(nets, n) {
+        None
+    } else {
+        Some(EventFault::NoNode(n, nodes))
+    }
+}
+
+/// The event names a number that no node has, or a port that its node lacks.
+pub(crate) fn no_node(nodes: u32, nets: &[Members], e: &Event) -> Option<EventFault>
+    requires { length nets.now ≤ 64 }
+    ensures { (s : Scene) → s.nodes ≡ nodes → s.networks ≡ nets.now → result ≡ no_node s e.now }
 {
     match e {
         Event::Boot { node, .. } => unknown(nodes, *node),
         Event::Turn { node, .. } => unknown(nodes, *node),
         Event::Take { .. } => None,
-        Event::Bytes { node, from, .. } => {
-            first_of(unknown(nodes, *node), unknown_place(nodes, *from))
+        Event::Bytes {
+            node,
+            port,
+            from,
+            ..
+        } => {
+            let later = first_of(
+                lacks_port(nodes, nets, *node, *port),
+                unknown_place(nodes, *from),
+            );
+            first_of(unknown(nodes, *node), later)
         }
     }
 }
@@ -91,19 +117,25 @@ pub(crate) fn down_at(up: bool, n: u32) -> Option<EventFault>
     if up { None } else { Some(EventFault::NotUp(n)) }
 }
 
-/// How many acts a step of a node with so many peers puts at the most.
-pub(crate) fn room(peers: u32) -> u64
-    ensures { result ≡ room peers }
+/// There is room for no more posts, where a node would act that wants so much room.
+fn is_crowded(posted: u64, wanted: Option<u64>) -> bool
+    requires posted { posted ≤ 1000000 }
+    requires wanted { IfSome wanted (λ w. w ≤ 200000) }
+    ensures { result ≡ is_crowded posted wanted }
 {
-    24 * peers as u64 + 256
+    match wanted {
+        Some(wanted) => posted + wanted > MOST_POSTS,
+        None => false,
+    }
 }
 
-/// There is room for no more events, or for no more posts of a node that would act.
-pub(crate) fn limit(nodes: u32, events: u64, posted: u64, acts: bool) -> Option<EventFault>
-    requires { posted ≤ 1000000 }
-    ensures { result ≡ limit nodes events posted acts }
+/// There is room for no more events, or for no more posts of a node that would act and wants so much room.
+pub(crate) fn limit(events: u64, posted: u64, wanted: Option<u64>) -> Option<EventFault>
+    requires posted { posted ≤ 1000000 }
+    requires wanted { IfSome wanted (λ w. w ≤ 200000) }
+    ensures { result ≡ limit events posted wanted }
 {
-    if events >= MOST_EVENTS || acts && posted + room(nodes) > MOST_POSTS {
+    if events >= MOST_EVENTS || is_crowded(posted, wanted) {
         Some(EventFault::Limit(events, posted))
     } else {
         None
@@ -119,15 +151,5 @@ pub(crate) fn time_of(e: &Event) -> u64
         Event::Turn { at, .. } => *at,
         Event::Take { at, .. } => *at,
         Event::Bytes { at, .. } => *at,
-    }
-}
-
-/// The node at a place, if that is a node's.
-pub(crate) fn node_at(nodes: u32, to: Place) -> Option<u32>
-    ensures { result ≡ node_at nodes to }
-{
-    match to {
-        Place::Peer(p) => { if p.0 < nodes { Some(p.0) } else { None } }
-        Place::Stranger => None,
     }
 }

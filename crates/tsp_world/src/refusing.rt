@@ -1,11 +1,15 @@
 //! What decides whether a world refuses an event.
-ghost use Rattle.std.specs.Prelude.{◌≡◌, ◌≤◌, vec_len};
-ghost use Rattle.tsp_world.specs.Refusals.{refusal, not_up, down, actor};
+ghost use Rattle.std.specs.Prelude.{◌≡◌, ◌≤◌, length, vec_len, slice_get, IfSome};
+ghost use Rattle.tsp_run.specs.Networks.{networks};
+ghost use Rattle.tsp_run.specs.Refusals.{refusal, not_up, down, actor, room_at};
+ghost use Rattle.tsp_run.specs.Run.{goes_to};
 ghost use Rattle.tsp_world.specs.WorldStands.{scene_of, up_at};
 
-use crate::refusals;
 use crate::world::World;
+use crate::{joining, refusals};
 use tsp_base::event::{Event, EventFault};
+use tsp_base::members::Members;
+use tsp_run::address::Address;
 
 impl World {
     /// The number of nodes.
@@ -16,7 +20,23 @@ impl World {
         self.header.nodes().len() as u32
     }
 
-    /// The node that would act at an event: of a datagram its addressee; none where it goes to no node.
+    /// The networks: those of the header, or that of all nodes where it names none.
+    pub(crate) fn networks(&self) -> &[Members]
+        ensures networks { result.now ≡ networks self.now.header }
+        ensures few { length result.now ≤ 64 }
+    {
+        joining::networks_of(&self.header, self.one.as_slice())
+    }
+
+    /// Where the datagram with this number goes: to a port of its addressee; None where it goes nowhere.
+    pub(crate) fn address(&self, k: u64) -> Option<Address>
+        ensures { result ≡ goes_to (networks self.now.header) (slice_get self.now.sent.items k) }
+    {
+        let posted = self.sent.get(k as usize)?;
+        joining::address_of(self.networks(), posted.from, posted.port, posted.to)
+    }
+
+    /// The node that would act at an event: of a datagram its addressee; none where it goes nowhere.
     pub(crate) fn actor(&self, e: &Event) -> Option<u32>
         ensures { result ≡ actor (scene_of self.now) e.now }
     {
@@ -24,10 +44,21 @@ impl World {
             Event::Boot { node, .. } => Some(*node),
             Event::Turn { node, .. } => Some(*node),
             Event::Take { datagram, .. } => {
-                let posted = self.sent.get(*datagram as usize)?;
-                refusals::node_at(self.count(), posted.to)
+                let address = self.address(*datagram)?;
+                Some(address.node)
             }
             Event::Bytes { node, .. } => Some(*node),
+        }
+    }
+
+    /// The room that a step of this node wants, if a node acts.
+    pub(crate) fn room(&self, node: Option<u32>) -> Option<u64>
+        ensures room { result ≡ room_at (networks self.now.header) node }
+        ensures few { IfSome result (λ w. w ≤ 200000) }
+    {
+        match node {
+            Some(n) => Some(joining::room_of(self.networks(), n)),
+            None => None,
         }
     }
 
@@ -36,10 +67,11 @@ impl World {
         requires { node ≡ actor (scene_of self.now) e.now }
         ensures { result ≡ refusal (scene_of self.now) e.now }
     {
-        let limit = refusals::limit(self.count(), self.events, self.posted(), node.is_some());
+        let limit = refusals::limit(self.events, self.posted(), self.room(node));
         let later = refusals::first_of(self.not_up(e, node), limit);
         let unknown = refusals::first_of(refusals::no_datagram(self.posted(), e), later);
-        let placed = refusals::first_of(refusals::no_node(self.count(), e), unknown);
+        let absent = refusals::no_node(self.count(), self.networks(), e);
+        let placed = refusals::first_of(absent, unknown);
         refusals::first_of(refusals::time_back(refusals::time_of(e), self.last), placed)
     }
 

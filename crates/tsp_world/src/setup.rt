@@ -1,42 +1,93 @@
 //! What the nodes of a schedule are set up with.
-ghost use Rattle.std.specs.Prelude.{◌≡◌, length, IfOk};
-ghost use Rattle.tsp_world.specs.Setup.{peers_below, configs_below};
+ghost use Rattle.std.specs.Prelude.{◌≡◌, ◌≤◌, [], ◌∷◌, ◌++◌, length, IfOk, OnOk};
+ghost use Rattle.tsp_run.specs.Networks.{networks, numbers_below, peers_on, ports_on};
+ghost use Rattle.tsp_world.specs.Configs.{configs_below};
 
 use std::alloc::{AllocError, Global};
-use tsp_base::header::Header;
+use tsp_base::header::{Header, NodeLine};
+use tsp_base::members::Members;
 use tsp_base::place::PeerId;
-use tsp_node::Config;
+use tsp_gateway::GateConfig;
 
-/// What each node of a header is set up with, in order: all nodes are its peers. The refusal is want of
-/// memory.
-pub(crate) fn configs_of(alloc: Global, header: &Header) -> Result<Vec<Config>, AllocError>
+/// The network of so many nodes. The refusal is want of memory.
+pub(crate) fn all_nodes(alloc: Global, count: u32) -> Result<Vec<Members>, AllocError>
+    requires { count ≤ 64 }
+    ensures { IfOk result (λ v. v.items ≡ numbers_below count ∷ []) }
+{
+    let mut numbers = Vec::new(alloc);
+    for number in 0..count {
+        numbers.push(number)?;
+    }
+    let mut one = Vec::new(alloc);
+    match Members::of(numbers.as_slice()) {
+        Some(members) => one.push(members)?,
+        None => unreachable!(),
+    }
+    Ok(one)
+}
+
+/// What each node of a header is set up with, in order, on these networks. The refusal is want of memory.
+pub(crate) fn configs_of(
+    alloc: Global,
+    header: &Header,
+    nets: &[Members],
+) -> Result<Vec<GateConfig>, AllocError>
+    requires nets { nets.now ≡ networks header.now }
     ensures { IfOk result (λ v. v.items ≡ configs_below header.now (length header.now.nodes)) }
 {
-    let nodes = header.nodes();
-    let peers = peers_below(alloc, nodes.len() as u32)?;
     let mut configs = Vec::new(alloc);
-    for (number, line) in nodes.iter().enumerate() {
-        let own = PeerId(number as u32);
-        let config = Config::new(
-            alloc,
-            line.name.copy(),
-            own,
-            peers.as_slice(),
-            line.may,
-            header.strict(),
-        )?;
+    for (number, line) in header.nodes().iter().enumerate() {
+        let config = config_of(alloc, line, header.strict(), number as u32, nets)?;
         configs.push(config)?;
     }
     Ok(configs)
 }
 
-/// The peers with numbers below this one, ascending.
-fn peers_below(alloc: Global, count: u32) -> Result<Vec<PeerId>, AllocError>
-    ensures { IfOk result (λ v. v.items ≡ peers_below count) }
+/// What a node is set up with on these networks. The refusal is want of memory.
+fn config_of(
+    alloc: Global,
+    line: &NodeLine,
+    strict: bool,
+    number: u32,
+    nets: &[Members],
+) -> Result<GateConfig, AllocError>
+    ensures { IfOk result (λ c. c ≡ record { name = line.now.name; may = line.now.may; strict = strict; ports = ports_on number nets.now }) }
+{
+    let mut config = GateConfig::new(alloc, line.name.copy(), line.may, strict)?;
+    for net in nets {
+        join(alloc, &mut config, number, net)?;
+    }
+    Ok(config)
+}
+
+/// Gives a node a port on a network, where it is on it. The refusal is want of memory: a node is on 4 networks at
+/// the most.
+fn join(
+    alloc: Global,
+    config: &mut GateConfig,
+    number: u32,
+    net: &Members,
+) -> Result<(), AllocError>
+    ensures { OnOk result (config.new ≡ record config.old { ports = config.old.ports ++ ports_on number (net.now ∷ []) }) }
+{
+    if !net.numbers().contains(&number) {
+        return Ok(());
+    }
+    let peers = peers_of(alloc, net)?;
+    match config.port(PeerId(number), peers.as_slice()) {
+        Ok(()) => Ok(()),
+        Err(_) => Err(AllocError),
+    }
+}
+
+/// The members of a network, as its ports have them as peers. The refusal is want of memory.
+fn peers_of(alloc: Global, net: &Members) -> Result<Vec<PeerId>, AllocError>
+    ensures { IfOk result (λ v. v.items ≡ peers_on net.now) }
 {
     let mut peers = Vec::new(alloc);
-    for number in 0..count {
-        peers.push(PeerId(number))?;
+    let numbers = net.numbers();
+    for number in numbers {
+        peers.push(PeerId(*number))?;
     }
     Ok(peers)
 }

@@ -1,42 +1,50 @@
 //! One node's step.
-ghost use Rattle.std.specs.Prelude.{◌≡◌, ◌≤◌, ◌+◌, ◌^◌, ℕ, length, ◌+ℤ◌, pos, true};
-ghost use Rattle.tsp_base.specs.Performs.{Performs};
+ghost use Rattle.std.specs.Prelude.{◌≡◌, ◌≤◌, ◌+◌, ◌^◌, ℕ, List, length, ◌+ℤ◌, pos, true};
 ghost use Rattle.tsp_base.specs.Headers.{Keeps};
-ghost use Rattle.tsp_rules.specs.Answers.{Turn, Got, answers};
+ghost use Rattle.tsp_rules.specs.GateRows.{GotOn, NodeTurn, answers_all};
+ghost use Rattle.tsp_rules.specs.NodePerforms.{PerformsAll};
+ghost use Rattle.tsp_rules.specs.NodeRows.{PortSetup};
 ghost use Rattle.tsp_rules.specs.Tests.{is_clock_value};
-ghost use Rattle.tsp_world.specs.NodesReady.{PlaceReady, CanAct};
-ghost use Rattle.tsp_world.specs.Refusals.{room};
+ghost use Rattle.tsp_run.specs.Networks.{room};
+ghost use Rattle.tsp_world.specs.NodesReady.{PlaceReady, CanAct, CanTake};
 ghost use Rattle.tsp_world.specs.WorldStands.{UpBegun, UpStands};
 
 use tsp_base::datagram::Taken;
 use tsp_base::header::NodeLine;
 use tsp_base::pad::Pad;
-use tsp_base::place::Place;
-use tsp_node::Node;
+use tsp_base::place::{Place, Port};
+use tsp_gateway::Gateway;
 
 /// The timers of a node are looked at, if it is up.
-pub(crate) fn turn(place: &mut Option<Node>, tick: u64, desk: &mut Pad)
+pub(crate) fn turn(place: &mut Option<Gateway>, tick: u64, desk: &mut Pad)
     requires tick { tick ≤ 2 ^ 61 }
     requires able { CanAct desk.old.spare tick place.old }
-    ensures row { Performs UpBegun UpStands (answers Turn) tick (record { 0 = 0 }) place.old place.new desk.old.placed.items desk.new.placed.items }
-    ensures ready { (count : ℕ) → PlaceReady count tick place.old → PlaceReady count tick place.new }
-    ensures few { (count : ℕ) → PlaceReady count tick place.old → length desk.new.placed.items ≤ length desk.old.placed.items + room count }
+    ensures row { PerformsAll UpBegun UpStands (answers_all NodeTurn) tick place.old place.new desk.old.placed.items desk.new.placed.items }
+    ensures ready { (ports : List PortSetup) → PlaceReady ports tick place.old → PlaceReady ports tick place.new }
+    ensures few { (ports : List PortSetup) → PlaceReady ports tick place.old → length desk.new.placed.items ≤ length desk.old.placed.items + room ports }
 {
     if let Some(node) = place {
         node.turn(tick, desk);
     }
 }
 
-/// A node takes what was read of octets, if it is up.
-pub(crate) fn take(place: &mut Option<Node>, tick: u64, from: Place, taken: &Taken, desk: &mut Pad)
+/// A node takes on a port what was read of octets, if it is up.
+pub(crate) fn take(
+    place: &mut Option<Gateway>,
+    tick: u64,
+    port: Port,
+    from: Place,
+    taken: &Taken,
+    desk: &mut Pad,
+)
     requires tick { tick ≤ 2 ^ 61 }
-    requires able { CanAct desk.old.spare tick place.old }
-    ensures row { Performs UpBegun UpStands (answers (Got from taken.now)) tick (record { 0 = 0 }) place.old place.new desk.old.placed.items desk.new.placed.items }
-    ensures ready { (count : ℕ) → PlaceReady count tick place.old → PlaceReady count tick place.new }
-    ensures few { (count : ℕ) → PlaceReady count tick place.old → length desk.new.placed.items ≤ length desk.old.placed.items + room count }
+    requires able { CanTake desk.old.spare tick port place.old }
+    ensures row { PerformsAll UpBegun UpStands (answers_all (GotOn port from taken.now)) tick place.old place.new desk.old.placed.items desk.new.placed.items }
+    ensures ready { (ports : List PortSetup) → PlaceReady ports tick place.old → PlaceReady ports tick place.new }
+    ensures few { (ports : List PortSetup) → PlaceReady ports tick place.old → length desk.new.placed.items ≤ length desk.old.placed.items + room ports }
 {
     if let Some(node) = place {
-        node.take(tick, from, taken, desk);
+        node.take(tick, port, from, taken, desk);
     }
 }
 

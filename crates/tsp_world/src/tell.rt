@@ -1,10 +1,11 @@
 //! An event's acts, as lines and as posted datagrams.
 ghost use Rattle.std.specs.Prelude.{◌≡◌, ◌≤◌, ◌<◌, ◌^◌, ◌+◌, ◌++◌, [], ◌∷◌, ℕ, length, vec_len, vec_capacity};
-ghost use Rattle.tsp_world.specs.Run.{told_from, told_line, posts_by, number_of, posts_from, posted_by};
+ghost use Rattle.tsp_run.specs.Run.{told_from, told_line, posts_by, number_of, posts_from, posted_by};
 
-use crate::line::Line;
-use crate::posted::Posted;
 use tsp_base::act::{Act, Placed};
+use tsp_base::place::Port;
+use tsp_run::line::Line;
+use tsp_run::posted::Posted;
 
 /// Puts a value behind the others, where there is room.
 fn push<T: Drop>(held: &mut Vec<T>, value: T)
@@ -96,14 +97,14 @@ pub(crate) fn send(sent: &mut Vec<Posted>, acts: &[Placed], at: u64, node: u32)
     ensures capacity { vec_capacity sent.old ≤ vec_capacity sent.new }
 {
     for placed in acts {
-        send_one(sent, &placed.act, at, node);
+        send_one(sent, &placed.act, at, node, placed.port);
     }
 }
 
-/// Notes the datagram that an act posts, if it posts one.
-fn send_one(sent: &mut Vec<Posted>, act: &Act, at: u64, node: u32)
+/// Notes the datagram that an act posts on a port, if it posts one.
+fn send_one(sent: &mut Vec<Posted>, act: &Act, at: u64, node: u32, port: Port)
     requires room { vec_len sent.old < vec_capacity sent.old }
-    ensures sent { sent.new.items ≡ sent.old.items ++ posted_by at node act.now }
+    ensures sent { sent.new.items ≡ sent.old.items ++ posted_by at node port act.now }
     ensures len { vec_len sent.new ≤ vec_len sent.old + 1 }
     ensures capacity { vec_capacity sent.old ≤ vec_capacity sent.new }
 {
@@ -112,6 +113,7 @@ fn send_one(sent: &mut Vec<Posted>, act: &Act, at: u64, node: u32)
             let posted = Posted {
                 at,
                 from: node,
+                port,
                 to: *to,
                 datagram: datagram.copy(),
             };

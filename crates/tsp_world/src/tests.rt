@@ -1,8 +1,7 @@
 //! Schedules that were worked out by hand.
 ghost use Rattle.std.specs.Prelude.{◌≤◌, IfSome};
-ghost use Rattle.tsp_world.specs.Run.{event_at, OnFirstPort};
+ghost use Rattle.tsp_run.specs.Run.{event_at};
 
-use crate::line::Line;
 use crate::world::World;
 use std::alloc::Global;
 use tsp_base::act::{Act, Placed};
@@ -16,6 +15,7 @@ use tsp_base::place::{PeerId, Place, Port};
 use tsp_base::role::Role;
 use tsp_base::stamp::Stamp;
 use tsp_codec::encode;
+use tsp_run::line::Line;
 
 /// A request for a clock's stamp, with the word 1 and the counter 2.
 const REQUEST: [u8; 28] = [
@@ -31,23 +31,22 @@ enum What {
     Turn(u32),
     /// This datagram is taken.
     Take(u64),
-    /// This node is handed the request as from here.
-    Ask(u32, Place),
+    /// This node is handed the request on this port as from here.
+    Ask(u32, u8, Place),
 }
 
 /// The event that does this at a true time.
 fn event_of(at: u32, what: What) -> Option<Event>
-    ensures time { IfSome result (λ e. event_at e ≤ 1000000000000000) }
-    ensures port { IfSome result (λ e. OnFirstPort e) }
+    ensures { IfSome result (λ e. event_at e ≤ 1000000000000000) }
 {
     let at = at as u64;
     match what {
         What::Boot(node, word) => Some(Event::Boot { at, node, word }),
         What::Turn(node) => Some(Event::Turn { at, node }),
         What::Take(datagram) => Some(Event::Take { at, datagram }),
-        What::Ask(node, from) => {
+        What::Ask(node, port, from) => {
             let octets = Octets::of(&REQUEST)?;
-            let port = Port(0);
+            let port = Port(port);
             Some(Event::Bytes {
                 at,
                 node,
@@ -81,20 +80,46 @@ fn world_of(alloc: Global, drift: u32, clocks: &[(i32, i64)]) -> Option<World>
         };
         header.push(line).ok()?;
     }
-    if header.nodes().is_empty() {
-        None
-    } else {
-        World::new(alloc, header).ok()
+    world_in(alloc, header)
+}
+
+/// A world of a whole header with some nodes.
+fn world_in(alloc: Global, header: Header) -> Option<World> {
+    if header.nodes().is_empty() || !header.whole() {
+        return None;
     }
+    World::new(alloc, header).ok()
+}
+
+/// A world of three nodes, of which the first is on a network with each other one.
+fn world_of_two_networks(alloc: Global) -> Option<World> {
+    let mut header = Header::new(alloc, 0, false);
+    for _ in 0..3 {
+        let line = NodeLine {
+            name: Name::empty(),
+            rate: 0,
+            wall: 0,
+            may: true,
+        };
+        header.push(line).ok()?;
+    }
+    header.net(&[0, 1]).ok()?;
+    header.net(&[0, 2]).ok()?;
+    world_in(alloc, header)
 }
 
 fn line(event: u64, node: u32, tick: u64, number: Option<u64>, act: Act) -> Line {
+    line_on(0, event, node, tick, number, act)
+}
+
+fn line_on(port: u8, event: u64, node: u32, tick: u64, number: Option<u64>, act: Act) -> Line {
+    let port = Port(port);
     Line {
         event,
         node,
         tick,
         number,
-        placed: Placed { port: Port(0), act },
+        placed: Placed { port, act },
     }
 }
 
@@ -177,7 +202,7 @@ fn answers_a_stranger(rt: HostRuntime) {
     assert_eq!(rt; happens(&mut world, 10, What::Turn(0)), None);
     assert!(rt; world.acts().is_empty());
     assert_eq!(rt;
-        happens(&mut world, 20, What::Ask(0, Place::Stranger)),
+        happens(&mut world, 20, What::Ask(0, 0, Place::Stranger)),
         None
     );
     assert!(rt;
@@ -202,7 +227,7 @@ fn carries_a_reply_to_its_node(rt: HostRuntime) {
     for (at, what) in [
         (0, What::Boot(1, 40_000)),
         (1_000_000, What::Boot(0, 32_773)),
-        (2_000_000, What::Ask(0, second)),
+        (2_000_000, What::Ask(0, 0, second)),
     ] {
         assert_eq!(rt; happens(&mut world, at, what), None);
     }
@@ -221,7 +246,7 @@ fn carries_a_reply_to_its_node(rt: HostRuntime) {
         assert!(rt; tells(&world, &[line(event, 1, 2_998_500, None, taken)]));
     }
     assert_eq!(rt;
-        happens(&mut world, 4_000_000, What::Ask(1, Place::Stranger)),
+        happens(&mut world, 4_000_000, What::Ask(1, 0, Place::Stranger)),
         None
     );
     let answer = post(Place::Stranger, reply(7232, 3_997_993));
@@ -259,4 +284,49 @@ fn refuses_by_the_first_cause(rt: HostRuntime) {
         assert_eq!(rt; happens(&mut world, at, what), fault);
     }
     assert_eq!(rt; world.events(), 2);
+}
+
+/// A node of two networks boots on both ports; what it posts on one reaches that network alone, and a port that
+/// it lacks is refused.
+#[test]
+fn carries_a_reply_on_its_network(rt: HostRuntime) {
+    let Some(mut world) = world_of_two_networks(rt.alloc()) else {
+        panic!(rt; "no world");
+    };
+    assert_eq!(rt; happens(&mut world, 0, What::Boot(0, 5)), None);
+    assert!(rt;
+        tells(
+            &world,
+            &[
+                line(1, 0, 0, None, Act::Boot),
+                line(1, 0, 0, None, Act::Become(Role::Starting)),
+                line(1, 0, 0, None, Act::Arm(Alarm::Quiet, 80_000_000)),
+                line_on(1, 1, 0, 0, None, Act::Become(Role::Starting)),
+                line_on(1, 1, 0, 0, None, Act::Arm(Alarm::Quiet, 80_000_000)),
+            ]
+        )
+    );
+    let (first, last) = (Place::Peer(PeerId(0)), Place::Peer(PeerId(2)));
+    assert_eq!(rt; happens(&mut world, 10, What::Ask(0, 1, last)), None);
+    assert!(rt;
+        tells(
+            &world,
+            &[
+                line_on(1, 2, 0, 10, None, took(last, request())),
+                line_on(1, 2, 0, 10, Some(0), post(last, reply(5, 10))),
+            ]
+        )
+    );
+    for (at, what, fault) in [
+        (20, What::Take(0), Some(EventFault::NotUp(2))),
+        (20, What::Ask(0, 2, last), Some(EventFault::NoNode(0, 3))),
+        (20, What::Boot(2, 6), None),
+        (30, What::Take(0), None),
+    ] {
+        assert_eq!(rt; happens(&mut world, at, what), fault);
+    }
+    assert!(rt; tells(&world, &[line(4, 2, 30, None, took(first, reply(5, 10)))]));
+    assert_eq!(rt; happens(&mut world, 40, What::Ask(0, 0, last)), None);
+    assert_eq!(rt; happens(&mut world, 40, What::Take(1)), None);
+    assert!(rt; world.acts().is_empty());
 }

@@ -1,29 +1,33 @@
 //! All nodes of a schedule and all datagrams that they posted.
-ghost use Rattle.std.specs.Prelude.{◌≡◌, ◌≤◌, [], ◌∷◌, List, length, vec_len, IfOk, OnOk, OnErr, MatchResult, slice_get, None};
+ghost use Rattle.std.specs.Prelude.{◌≡◌, ◌≤◌, [], ◌∷◌, List, true, length, vec_len, IfOk, OnOk, OnErr, MatchResult, slice_get, None};
+ghost use Rattle.tsp_base.specs.Headers.{is_whole};
 ghost use Rattle.tsp_world.specs.NodesReady.{NodesReady};
 
-use crate::line::Line;
-use crate::posted::Posted;
-use crate::refusals;
-use crate::setup::configs_of;
+use crate::joining::networks_of;
+use crate::setup::{all_nodes, configs_of};
 use std::alloc::{AllocError, Global};
 use tsp_base::desk::Desk;
 use tsp_base::event::{Event, EventFault};
 use tsp_base::header::Header;
+use tsp_base::members::Members;
 use tsp_base::pad::Pad;
-use tsp_node::{Config, Node};
+use tsp_gateway::{GateConfig, Gateway};
+use tsp_run::line::Line;
+use tsp_run::posted::Posted;
 
 /// The nodes and the posted datagrams; the lines of the last event.
 #[derive(Drop)]
 pub struct World {
     /// What a boot takes memory from.
     pub(crate) alloc: Global,
-    /// The nodes' clocks and names.
+    /// The nodes' clocks, names and networks.
     pub(crate) header: Header,
+    /// The network of all nodes, which they are on where the header names none.
+    pub(crate) one: Vec<Members>,
     /// What each node is set up with.
-    pub(crate) configs: Vec<Config>,
+    pub(crate) configs: Vec<GateConfig>,
     /// The nodes that are up, each in its place.
-    pub(crate) nodes: Vec<Option<Node>>,
+    pub(crate) nodes: Vec<Option<Gateway>>,
     /// The datagrams that were posted, each under its number.
     pub(crate) sent: Vec<Posted>,
     /// The lines of the last event.
@@ -37,26 +41,29 @@ pub struct World {
     ghost places: { vec_len nodes ≡ length header.nodes },
     ghost few_events: { events ≤ 200000 },
     ghost few_posts: { vec_len sent ≤ 1000000 },
-    ghost ready: { NodesReady header nodes.items configs.items last },
+    ghost ready: { NodesReady header one.items nodes.items configs.items last },
 }
 
 impl World {
     ghost use Rattle.tsp_base.specs.Headers.{HeaderValue};
     ghost use Rattle.tsp_base.specs.Setting.{Setting};
     ghost use Rattle.tsp_base.specs.declared.event.Event.{Event};
-    ghost use Rattle.tsp_world.specs.Promises.{Promises};
-    ghost use Rattle.tsp_world.specs.Refusals.{refusal, scene, actor, Allowed, IsRefusal};
-    ghost use Rattle.tsp_world.specs.Run.{event_at, OnFirstPort, posted_time, run};
-    ghost use Rattle.tsp_world.specs.Setting.{SetBy};
+    ghost use Rattle.tsp_run.specs.Promises.{Promises};
+    ghost use Rattle.tsp_run.specs.Refusals.{refusal, scene, actor, Allowed, IsRefusal};
+    ghost use Rattle.tsp_run.specs.Run.{event_at, posted_time, run};
+    ghost use Rattle.tsp_run.specs.Setting.{SetBy};
+    ghost use Rattle.tsp_world.specs.NodesReady.{wanted};
     ghost use Rattle.tsp_world.specs.WorldStands.{WorldStands, scene_of, IsReady, Happens, Stays};
 
     /// No event has happened. Takes memory for the nodes and for what they are set up with; the refusal is
     /// want of memory, and drops the header.
     pub fn new(alloc: Global, header: Header) -> Result<World, AllocError>
-        requires { 1 ≤ length header.nodes }
+        requires some { 1 ≤ length header.nodes }
+        requires whole { is_whole header ≡ true }
         ensures { IfOk result (λ world. WorldStands header [] world) }
     {
-        let configs = configs_of(alloc, &header)?;
+        let one = all_nodes(alloc, header.nodes().len() as u32)?;
+        let configs = configs_of(alloc, &header, networks_of(&header, one.as_slice()))?;
         let mut nodes = Vec::new(alloc);
         for _ in header.nodes() {
             nodes.push(None)?;
@@ -64,6 +71,7 @@ impl World {
         Ok(World {
             alloc,
             header,
+            one,
             configs,
             nodes,
             sent: Vec::new(alloc),
@@ -106,13 +114,12 @@ impl World {
     }
 
     /// Lets an event happen, or says for which first cause it can't: `TimeBack` where its time is below the
-    /// last one's, `NoNode` for a number that no node has, `NoDatagram` for one that was never posted,
+    /// last one's, `NoNode` for a number that no node has or a port that its node lacks, `NoDatagram` for one that was never posted,
     /// `NotUp` where the node that would act hasn't booted, `Limit` where 200,000 events are there or the
     /// node's posts might pass 1,000,000. A refusal leaves the world as it was, want of memory too. The history
     /// of the events accepted so far keeps the promises.
     pub fn event(&mut self, e: &Event) -> Result<(), EventFault>
         requires time { event_at e.now ≤ 1000000000000000 }
-        requires port { OnFirstPort e.now }
         ensures stands { (header : HeaderValue) (events : List Event) → WorldStands header events self.old → OnOk result (WorldStands header (e.now ∷ events) self.new) }
         ensures promises { (header : HeaderValue) (events : List Event) (setting : Setting) → WorldStands header events self.old → SetBy header setting → OnOk result (Promises setting (run header (e.now ∷ events))) }
         ensures kept { (header : HeaderValue) (events : List Event) → WorldStands header events self.old → OnErr result (WorldStands header events self.new) }
@@ -122,7 +129,7 @@ impl World {
         if let Some(fault) = self.refusal(e, node) {
             return Err(fault);
         }
-        if self.make_room().is_err() {
+        if self.make_room(node).is_err() {
             return Err(EventFault::OutOfMemory);
         }
         match self.happen(e, node) {
@@ -131,14 +138,18 @@ impl World {
         }
     }
 
-    /// Makes room for a step's acts, its lines and its posts. The refusal is want of memory, and the world
-    /// still stands for what it stood for.
-    fn make_room(&mut self) -> Result<(), AllocError>
+    /// Makes room for the acts of a step at which this node acts, its lines and its posts. The refusal is want
+    /// of memory, and the world still stands for what it stood for.
+    fn make_room(&mut self, node: Option<u32>) -> Result<(), AllocError>
         ensures stands { Stays self.old self.new }
-        ensures ready { OnOk result (IsReady self.new) }
+        ensures ready { OnOk result (IsReady (wanted self.old.header node) self.new) }
         ensures same { scene_of self.new ≡ scene_of self.old }
+        ensures header { self.new.header ≡ self.old.header }
     {
-        let room = refusals::room(self.count()) as usize;
+        let room = match self.room(node) {
+            Some(room) => room as usize,
+            None => 0,
+        };
         self.desk.clear();
         self.desk.reserve(room)?;
         self.lines.reserve(room)?;
@@ -149,9 +160,8 @@ impl World {
     /// Lets an event happen that nothing refuses, and at which this node acts. The refusal is want of memory for a boot, and the world
     /// still stands for what it stood for.
     fn happen(&mut self, e: &Event, node: Option<u32>) -> Result<(), AllocError>
-        requires ready { IsReady self.old }
+        requires ready { IsReady (wanted self.old.header node) self.old }
         requires time { event_at e.now ≤ 1000000000000000 }
-        requires port { OnFirstPort e.now }
         requires allowed { Allowed (scene_of self.old) e.now }
         requires actor { node ≡ actor (scene_of self.old) e.now }
         ensures happens { OnOk result (Happens e.now self.old self.new) }
@@ -164,17 +174,17 @@ impl World {
                 Ok(())
             }
             Event::Take { at, datagram } => {
-                self.take(*at, *datagram, node);
+                self.take(*at, *datagram);
                 Ok(())
             }
             Event::Bytes {
                 at,
                 node,
+                port,
                 from,
                 octets,
-                ..
             } => {
-                self.bytes(*at, *node, *from, octets.octets());
+                self.bytes(*at, *node, *port, *from, octets.octets());
                 Ok(())
             }
         }

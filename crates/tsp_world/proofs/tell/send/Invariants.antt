@@ -1,6 +1,6 @@
 -- What was noted, and what is still to be noted.
 use Rattle.std.proofs.Common.{◌≡◌, ◌≤◌, ◌+◌, ◌++◌, drop, vec_len, vec_capacity}
-use Rattle.tsp_world.specs.Run.{posts_from}
+use Rattle.tsp_run.specs.Run.{posts_from}
 use Rattle.tsp_world.proofs.tell.send.Given as goal
 
 abbrev pub invariant-loop-placed : goal.invariant-loop-placed

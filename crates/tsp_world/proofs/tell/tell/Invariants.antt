@@ -1,6 +1,6 @@
 -- What was told, and what is still to be told.
 use Rattle.std.proofs.Common.{◌≡◌, ◌≤◌, ◌+◌, ◌++◌, drop, vec_len, vec_capacity}
-use Rattle.tsp_world.specs.Run.{told_from}
+use Rattle.tsp_run.specs.Run.{told_from}
 use Rattle.tsp_world.proofs.tell.tell.Given as goal
 
 abbrev pub invariant-loop-placed : goal.invariant-loop-placed

@@ -3,10 +3,10 @@ use Rattle.std.proofs.Common.{◌≡◌, ◌∙◌, refl, sym, inl, inr, rules}
 use Rattle.tsp_base.specs.declared.event.Event.{Event}
 use Rattle.tsp_base.specs.Headers.{HeaderValue}
 use Rattle.tsp_world.specs.declared.world.World.{World}
-use Rattle.tsp_world.specs.Refusals.{scene, refusal}
+use Rattle.tsp_run.specs.Refusals.{scene, refusal}
 use Rattle.tsp_world.specs.WorldStands.{scene_of, WorldStands}
-use Rattle.tsp_world.proofs.RefusalLemmas.{refusal-alike}
-use Rattle.tsp_world.proofs.RunPromises.{runs-keep-promises}
+use Rattle.tsp_run.proofs.RefusalLemmas.{refusal-alike}
+use Rattle.tsp_run.proofs.RunPromises.{runs-keep-promises}
 use Rattle.tsp_world.proofs.WorldLemmas.{Alike-stands, accepted}
 use Rattle.tsp_world.proofs.world.World.event.Goals as goal
 use Rattle.std.specs.Prelude.{List, ◌∷◌}

@@ -1,38 +1,42 @@
 -- Each kind of event, as nothing refuses it.
-use Rattle.std.proofs.Common.{◌≡◌, ◌≤◌, ◌<◌, ◌+◌, ◌∙◌, ℕ, List, refl, subst, arith, Some, rules, vec_len, length}
+use Rattle.std.proofs.Common.{◌≡◌, ◌≤◌, ◌<◌, ◌+◌, ◌∙◌, ℕ, List, refl, sym, subst, arith, Some, rules, vec_len, length}
 use Rattle.tsp_base.specs.declared.event.Event.{Event}
-use Rattle.tsp_base.specs.declared.event.Event.TheVariants.{Bytes}
+use Rattle.tsp_base.specs.declared.event.Event.TheVariants.{Boot, Turn, Bytes}
 use Rattle.tsp_base.specs.History.{Handed}
 use Rattle.tsp_codec.specs.Numbers.{octet_at}
 use Rattle.tsp_codec.specs.Taken.{taken_of}
-use Rattle.tsp_rules.specs.Answers.{Got, answers}
+use Rattle.tsp_rules.specs.GateRows.{GotOn, answers_all}
+use Rattle.tsp_run.specs.Networks.{networks, ports_on, room}
+use Rattle.tsp_run.specs.Refusals.{Allowed, scene, actor}
+use Rattle.tsp_run.proofs.RefusalLemmas.{refusal-none, up-down}
 use Rattle.tsp_world.specs.declared.world.World.{World}
-use Rattle.tsp_world.specs.Refusals.{Allowed, scene, actor, room}
 use Rattle.tsp_world.specs.WorldStands.{scene_of, HappensBy}
-use Rattle.tsp_world.proofs.RefusalLemmas.{refusal-none, up-down}
 use Rattle.tsp_world.proofs.WorldLemmas.{Alike-stands}
 use Rattle.tsp_world.proofs.world.World.happen.Goals as goal
 
-posts_room : (world : World) (e : Event) (n : ℕ) → Allowed (scene_of world) e → actor (scene_of world) e ≡ Some n → vec_len world.sent + room (vec_len world.nodes) ≤ 1000000
+posts_room : (world : World) (e : Event) (n : ℕ) → Allowed (scene_of world) e → actor (scene_of world) e ≡ Some n → vec_len world.sent + room (ports_on n (networks world.header)) ≤ 1000000
 posts_room world e n a is =
     let few = a.posts n is in
     let len : vec_len world.sent ≡ length world.sent.items = search rules in
     omega (arith, few, len)
 
 pub boot-requires-clause-node : goal.boot-requires-clause-node
-boot-requires-clause-node c = (subst (λ e. Allowed (scene_of c.args.self.now) e) c.in-Boot.is c.requires.allowed).node c.in-Boot.node refl
+boot-requires-clause-node c = (subst (λ e. Allowed (scene_of c.args.self.now) e) c.in-Boot.is c.requires.allowed).node
 
 pub boot-requires-clause-posts : goal.boot-requires-clause-posts
 boot-requires-clause-posts c = posts_room c.args.self.now _ c.in-Boot.node (subst (λ e. Allowed (scene_of c.args.self.now) e) c.in-Boot.is c.requires.allowed) refl
 
 pub turn-requires-clause-node : goal.turn-requires-clause-node
-turn-requires-clause-node c = (subst (λ e. Allowed (scene_of c.args.self.now) e) c.in-Turn.is c.requires.allowed).node c.in-Turn.node refl
+turn-requires-clause-node c = (subst (λ e. Allowed (scene_of c.args.self.now) e) c.in-Turn.is c.requires.allowed).node
 
 pub turn-requires-clause-posts : goal.turn-requires-clause-posts
 turn-requires-clause-posts c = posts_room c.args.self.now _ c.in-Turn.node (subst (λ e. Allowed (scene_of c.args.self.now) e) c.in-Turn.is c.requires.allowed) refl
 
 pub bytes-requires-clause-node : goal.bytes-requires-clause-node
-bytes-requires-clause-node c = (subst (λ e. Allowed (scene_of c.args.self.now) e) c.in-Bytes.is c.requires.allowed).node c.in-Bytes.node refl
+bytes-requires-clause-node c = (subst (λ e. Allowed (scene_of c.args.self.now) e) c.in-Bytes.is c.requires.allowed).node.0
+
+pub bytes-requires-clause-port : goal.bytes-requires-clause-port
+bytes-requires-clause-port c = (subst (λ e. Allowed (scene_of c.args.self.now) e) c.in-Bytes.is c.requires.allowed).node.1
 
 pub bytes-requires-clause-posts : goal.bytes-requires-clause-posts
 bytes-requires-clause-posts c = posts_room c.args.self.now _ c.in-Bytes.node (subst (λ e. Allowed (scene_of c.args.self.now) e) c.in-Bytes.is c.requires.allowed) refl
@@ -43,8 +47,8 @@ returns-in-Bytes-clause-happens c header events =
     let at = c.in-Bytes.at in
     let node = c.in-Bytes.node in
     let e : Event = Bytes at node c.in-Bytes.port c.in-Bytes.from c.in-Bytes.octets in
-    let hands : HappensBy (answers (Got c.in-Bytes.from (taken_of c.in-Bytes.octets))) at node world c.bytes.new.self =
-    subst (λ o. HappensBy (answers (Got c.in-Bytes.from (taken_of o))) at node world c.bytes.new.self) c.octets.ensures.value c.bytes.ensures.happens in
+    let hands : HappensBy (answers_all (GotOn c.in-Bytes.port c.in-Bytes.from (taken_of c.in-Bytes.octets))) at node world c.bytes.new.self =
+    subst (λ o. HappensBy (answers_all (GotOn c.in-Bytes.port c.in-Bytes.from (taken_of o))) at node world c.bytes.new.self) c.octets.ensures.value c.bytes.ensures.happens in
     rw c.in-Bytes.is
     (λ w none.
     let len : vec_len world.nodes ≡ length world.nodes.items = search rules in

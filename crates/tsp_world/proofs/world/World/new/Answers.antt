@@ -1,7 +1,8 @@
 -- No node is up, and each is set up as the header says.
-use Rattle.std.proofs.Common.{◌≡◌, refl, sym, subst, rules, Some, None, slice_get, []}
+use Rattle.std.proofs.Common.{◌≡◌, ◌∙◌, ap, refl, sym, subst, rules, length, Some, None, slice_get, [], ◌∷◌}
+use Rattle.tsp_run.specs.Networks.{numbers_below}
 use Rattle.std.proofs.lemmas.List.Elements.{All-nil}
-use Rattle.tsp_world.specs.Ranges.{IsInRange}
+use Rattle.tsp_run.specs.Ranges.{IsInRange}
 use Rattle.tsp_world.specs.WorldStands.{PlaceStands}
 use Rattle.tsp_world.proofs.SetCases.{slice_get-replicate}
 use Rattle.tsp_world.proofs.world.World.new.Goals as goal
@@ -9,6 +10,8 @@ use Rattle.tsp_world.proofs.world.World.new.Goals as goal
 pub invariant_of-result-clause-ready : goal.invariant_of-result-clause-ready
 invariant_of-result-clause-ready c = record {
   header_is = c.nodes-items.ensures.valid;
+  whole = c.requires.whole;
+  one_is = c.in_ok-one.ensures ∙ ap (λ l. numbers_below (length l) ∷ []) c.nodes.ensures.nodes;
   configs_are = c.in_ok-configs.ensures;
   places = λ n place is node up.
       let none = slice_get-replicate c.loop.index n None place (subst (λ ps. slice_get ps n ≡ Some place) c.loop.invariant.none is) in

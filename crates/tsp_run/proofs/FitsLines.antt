@@ -1,0 +1,213 @@
+-- The lines of one step fit the history before it.
+use Rattle.std.specs.Prelude.{◌≡◌, ◌⊎◌, ℕ, ◌+◌, ◌<◌, ◌≤◌, ◌^◌, ◌==◌, ◌||◌, Bool, true, false, if◌then◌else◌, List, [], ◌∷◌, length, None, refl}
+use Rattle.std.proofs.Common.{sym, ap, subst, inl, inr, arith, eq-eqb, eqb-true, true≢false}
+use Rattle.tsp_base.specs.Joins.{first_port, joined, line_of}
+use Rattle.tsp_base.specs.declared.act.Act.{Act}
+use Rattle.tsp_base.specs.declared.act.Placed.{Placed}
+use Rattle.tsp_base.specs.declared.act.Act.TheVariants.{Boot, Took, Post}
+use Rattle.tsp_base.specs.declared.datagram.Taken.{Taken}
+use Rattle.tsp_base.specs.declared.place.Place.{Place}
+use Rattle.tsp_base.specs.declared.place.PeerId.{PeerId}
+use Rattle.tsp_base.specs.declared.place.Port.{Port}
+use Rattle.tsp_base.specs.DeedFits.{ActFits}
+use Rattle.tsp_base.specs.Fits.{Alive, TookFits, LineFits, Fits}
+use Rattle.tsp_base.specs.History.{Cause, Booted, Turned, Came, Handed, Step, Deed, Begins, Acts, Did, Line, Seen, Here, of, view, seen_as, is_shared, dids}
+use Rattle.tsp_base.specs.NodeFacts.{time_of, up, up_after}
+use Rattle.tsp_base.specs.Places.{Within}
+use Rattle.tsp_base.specs.PortFacts.{role}
+use Rattle.tsp_base.specs.Setting.{Setting, setup_of}
+use Rattle.tsp_base.specs.Setup.{Setup}
+use Rattle.tsp_base.specs.RoundFacts.{exchange, exchange_after}
+use Rattle.tsp_base.specs.StepFacts.{StepEnds, is_unbacked, is_unbacked_after, owes, owes_after}
+use Rattle.tsp_base.specs.Takings.{posted, posted_after}
+use Rattle.tsp_base.specs.Ticks.{tick_at}
+use Rattle.std.proofs.lemmas.Bool.{cases_lt}
+use Rattle.tsp_base.proofs.PlaceLemmas.{Within-through}
+use Rattle.tsp_base.proofs.ViewPlaces.{port-same, sees-own}
+use Rattle.tsp_run.specs.Networks.{ports_on}
+use Rattle.tsp_fit.specs.PortFits.{PortFits}
+
+-- a line on one of so many ports, or of the whole node
+abbrev pub IsOn : ℕ → Line → Type 0
+IsOn ports l = is_shared l.did.deed ≡ false → l.port.0 < ports
+
+-- all lines are such
+abbrev pub AreOn : ℕ → List Line → Type 0
+AreOn ports [] = Unit {0}
+AreOn ports (l ∷ before) = IsOn ports l × AreOn ports before
+
+-- each line is on a port that its node has, or of the whole node
+abbrev pub ArePlaced : List (List ℕ) → List Line → Type 0
+ArePlaced nets [] = Unit {0}
+ArePlaced nets (l ∷ before) = IsOn (length (ports_on l.did.step.node nets)) l × ArePlaced nets before
+
+pub of_placed : (nets : List (List ℕ)) (n : ℕ) (h : List Line) → ArePlaced nets h → AreOn (length (ports_on n nets)) (of n h)
+of_placed nets n [] f = tt
+of_placed nets n (l ∷ before) f = by_case (l.did.step.node == n) refl (of_placed nets n before f.1) where
+  by_case : (b : Bool) → (l.did.step.node == n) ≡ b → AreOn (length (ports_on n nets)) (of n before) → AreOn (length (ports_on n nets)) (if b then l ∷ of n before else of n before)
+  by_case true e o = (subst (λ m. IsOn (length (ports_on m nets)) l) (eqb-true l.did.step.node n e) f.0, o)
+  by_case false e o = o
+
+-- the acts of a step are on its node's ports
+abbrev pub ActsOn : ℕ → List Placed → Type 0
+ActsOn ports [] = Unit {0}
+ActsOn ports (p ∷ rest) = (is_shared (Acts p.act) ≡ false → p.port.0 < ports) × ActsOn ports rest
+
+-- a port that has no lines of its own
+record Bystander (seen : List Seen) : Type 0 where
+  pub backs : is_unbacked seen ≡ false
+  pub owed : owes seen ≡ None
+  pub idle : (p : PeerId) (c : ℕ) → exchange p c seen ≡ []
+
+shared-here : (d : Did) (seen : List Seen) → Bystander seen → (deed : Deed) → deed ≡ d.deed → is_shared deed ≡ true → Bystander (Here d ∷ seen)
+shared-here d seen b Begins is e = record { backs = (let i = is in subst (λ k. is_unbacked_after k d.step.node (is_unbacked seen) ≡ false) is refl); owed = subst (λ k. owes_after k (role seen) (owes seen) ≡ None) is refl; idle = λ p c. subst (λ k. exchange_after p c k (Here d ∷ seen) (exchange p c seen) ≡ []) is (b.idle p c) }
+shared-here d seen b (Acts Boot) is e = record { backs = subst (λ k. is_unbacked_after k d.step.node (is_unbacked seen) ≡ false) is b.backs; owed = subst (λ k. owes_after k (role seen) (owes seen) ≡ None) is b.owed; idle = λ p c. subst (λ k. exchange_after p c k (Here d ∷ seen) (exchange p c seen) ≡ []) is refl }
+shared-here d seen b _ is e = absurd (true≢false (sym e))
+
+or-true : (a : Bool) → (a || true) ≡ true
+or-true true = refl
+or-true false = refl
+
+bystands : (ports : ℕ) (q : Port) → ports ≤ q.0 → (ls : List Line) → AreOn ports ls → Bystander (view q ls)
+bystands ports q past [] f = record { backs = refl; owed = refl; idle = λ p c. refl }
+bystands ports q past (l ∷ before) f = by_case (l.port.0 == q.0) refl (is_shared l.did.deed) refl (bystands ports q past before f.1) where
+  by_case : (a : Bool) → (l.port.0 == q.0) ≡ a → (b : Bool) → is_shared l.did.deed ≡ b → Bystander (view q before) → Bystander (seen_as (a || b) l.did ∷ view q before)
+  by_case a e true i s = subst (λ b. Bystander (seen_as b l.did ∷ view q before)) (sym (or-true a)) (shared-here l.did (view q before) s l.did.deed refl i)
+  by_case true e false i s = let same = eqb-true l.port.0 q.0 e in let less = f.0 i in absurd (omega (arith, same, less, past))
+  by_case false e false i s = record { backs = s.backs; owed = s.owed; idle = s.idle }
+
+bystander_ends : (seen : List Seen) → Bystander seen → StepEnds seen
+bystander_ends seen b = record {
+  backs = b.backs;
+  follows = λ p e. let o = b.owed in let bad : ⊥ = cc in absurd bad;
+  exchanges = λ p c request older e. let i = b.idle p c in let bad : ⊥ = cc in absurd bad;
+}
+
+or-left : (a : Bool) → (a || false) ≡ true → a ≡ true
+or-left true e = refl
+or-left false e = e
+
+-- each port of a node ends its step well, if those do that it has
+pub all_end : (ports : ℕ) (q : Port) (ls : List Line) → AreOn ports ls → (q.0 < ports → StepEnds (view q ls)) → StepEnds (view q ls)
+all_end ports q ls f ends = elim (cases_lt q.0 ports) [
+  | inl has ↦ ends has
+  | inr past ↦ bystander_ends (view q ls) (bystands ports q past ls f)
+]
+
+boot_or : (a : Act) → (a ≡ Boot) ⊎ (is_shared (Acts a) ≡ false)
+boot_or Boot = inl refl
+boot_or _ = inr refl
+
+-- an act owes to its own port alone, and a boot to none
+act_fits : (setting : Setting) (n : ℕ) (p : Placed) (d : Did) (q : Port) (ls : List Line) → (is_shared (Acts p.act) ≡ false → ActFits (setup_of setting n p.port) p.act d (view p.port ls)) → ((p.port.0 == q.0) || is_shared (Acts p.act)) ≡ true →
+    ActFits (setup_of setting n q) p.act d (view q ls)
+act_fits setting n p d q ls f e = elim (boot_or p.act) [
+  | inl boot ↦ subst (λ k. ActFits (setup_of setting n q) k d (view q ls)) (sym boot) tt
+  | inr own ↦ subst (λ r. ActFits (setup_of setting n r) p.act d (view r ls)) (port-same p.port q (or-left (p.port.0 == q.0) (subst (λ b. ((p.port.0 == q.0) || b) ≡ true) own e))) (f own)
+]
+
+-- what a step's line of an act takes, over the history before the step
+abbrev pub TakenOk : Setting → Step → ℕ → List Line → Port → Act → Type 0
+TakenOk setting step x history port (Took from t) = TookFits step.cause setting (line_of step x port (Acts (Took from t))) history from t
+TakenOk setting step x history port _ = Unit {0}
+
+abbrev pub AllTaken : Setting → Step → ℕ → List Line → List Placed → Type 0
+AllTaken setting step x history [] = Unit {0}
+AllTaken setting step x history (p ∷ rest) = TakenOk setting step x history p.port p.act × AllTaken setting step x history rest
+
+-- each act of a step is of a node that is up, or is its boot
+abbrev pub AllAlive : Setting → Step → ℕ → Bool → List Placed → Type 0
+AllAlive setting step x is_up [] = Unit {0}
+AllAlive setting step x is_up (p ∷ rest) = Alive setting (Acts p.act) (record { step = step; tick = x; deed = Acts p.act }) is_up × AllAlive setting step x (up_after (Acts p.act) is_up) rest
+
+taken_more : (setting : Setting) (step : Step) (x : ℕ) (port : Port) (history h : List Line) (from : Place) (t : Taken) → Within history h → (cause : Cause) → step.cause ≡ cause →
+    TookFits cause setting (line_of step x port (Acts (Took from t))) history from t → TookFits cause setting (line_of step x port (Acts (Took from t))) h from t
+taken_more setting step x port history h from t w (Came k) is f = record { post = f.post; older = f.older; place = Within-through (f.post ∷ f.older) history h f.place w; number = f.number; datagram = f.datagram; deed = f.deed; net = f.net; from_is = f.from_is; taken_is = f.taken_is }
+taken_more setting step x port history h from t w Handed is f = f
+taken_more setting step x port history h from t w (Booted word wall) is f = f
+taken_more setting step x port history h from t w Turned is f = f
+
+one_line : (step : Step) (x : ℕ) (port : Port) (deed : Deed) (h : List Line) → of step.node (line_of step x port deed ∷ h) ≡ line_of step x port deed ∷ of step.node h
+one_line step x port deed h = let same : (step.node == step.node) ≡ true = eq-eqb step.node step.node refl in rw same refl
+
+-- a longer past fits only if the shorter one does
+head_off : (setup : Setup) (b : Bool) (d : Did) (seen : List Seen) → PortFits setup (seen_as b d ∷ seen) → PortFits setup seen
+head_off setup true d seen f = f.1
+head_off setup false d seen f = f
+
+fits_before : (setup : Setup) (q : Port) (step : Step) (x : ℕ) (acts : List Placed) (h : List Line) → PortFits setup (view q (of step.node (joined step x acts h))) → PortFits setup (view q (of step.node h))
+fits_before setup q step x [] h f = f
+fits_before setup q step x (p ∷ rest) h f =
+    let l = line_of step x p.port (Acts p.act) in
+    let longer = fits_before setup q step x rest (l ∷ h) f in
+    head_off setup ((p.port.0 == q.0) || is_shared (Acts p.act)) l.did (view q (of step.node h)) (subst (λ ls. PortFits setup (view q ls)) (one_line step x p.port (Acts p.act) h) longer)
+
+-- what an act owes to its own port
+owes_here : (setup : Setup) (step : Step) (x : ℕ) (p : Placed) (h : List Line) → PortFits setup (view p.port (of step.node (line_of step x p.port (Acts p.act) ∷ h))) → ActFits setup p.act (record { step = step; tick = x; deed = Acts p.act }) (view p.port (of step.node h))
+owes_here setup step x p h f =
+    let l = line_of step x p.port (Acts p.act) in
+    let fits : PortFits setup (seen_as ((p.port.0 == p.port.0) || is_shared (Acts p.act)) l.did ∷ view p.port (of step.node h)) = subst (λ ls. PortFits setup (view p.port ls)) (one_line step x p.port (Acts p.act) h) f in
+    (subst (λ b. PortFits setup (seen_as b l.did ∷ view p.port (of step.node h))) (sees-own p.port (is_shared (Acts p.act))) fits).0
+
+took_is : (setting : Setting) (step : Step) (x : ℕ) (history : List Line) (port : Port) (a : Act) (from : Place) (t : Taken) → a ≡ Took from t → TakenOk setting step x history port a → TookFits step.cause setting (line_of step x port (Acts (Took from t))) history from t
+took_is setting step x history port a from t e f = subst (λ k. TakenOk setting step x history port k) e f
+
+some_deed : (a : Act) (from : Place) (t : Taken) → Acts a ≡ Acts (Took from t) → a ≡ Took from t
+some_deed a from t e = ap act_in e where
+  act_in : Deed → Act
+  act_in Begins = a
+  act_in (Acts b) = b
+
+-- one act more
+act_line : (setting : Setting) (step : Step) (x : ℕ) (history : List Line) (port : Port) (d : Deed) (before : List Line) (p : Placed) → x ≡ tick_at (setting.rate step.node) step.at → Within history (line_of step x port d ∷ before) →
+    posted (dids (line_of step x port d ∷ before)) < 2 ^ 64 → Alive setting (Acts p.act) (record { step = step; tick = x; deed = Acts p.act }) (up (dids (of step.node (line_of step x port d ∷ before)))) →
+    TakenOk setting step x history p.port p.act → (is_shared (Acts p.act) ≡ false → ActFits (setup_of setting step.node p.port) p.act (record { step = step; tick = x; deed = Acts p.act }) (view p.port (of step.node (line_of step x port d ∷ before)))) →
+    LineFits setting (line_of step x p.port (Acts p.act)) (line_of step x port d ∷ before)
+act_line setting step x history port d before p tick w few alive took fits = record {
+  order = omega arith;
+  tick = tick;
+  few = few;
+  step = refl;
+  alive = alive;
+  took = λ from t e.
+      let is = some_deed p.act from t e in
+      subst (λ k. TookFits step.cause setting (line_of step x p.port (Acts k)) (line_of step x port d ∷ before) from t) (sym is)
+      (taken_more setting step x p.port history (line_of step x port d ∷ before) from t w step.cause refl (took_is setting step x history p.port p.act from t is took));
+  deeds = λ q sees. act_fits setting step.node p (record { step = step; tick = x; deed = Acts p.act }) q (of step.node (line_of step x port d ∷ before)) fits sees;
+}
+
+posted_more : (d : Deed) (n : ℕ) → posted_after d n ≤ n + 1
+posted_more (Acts (Post to datagram)) n = omega arith
+posted_more _ n = omega arith
+
+-- all acts of a step
+pub acts_fit : (ports : ℕ) (setting : Setting) (step : Step) (x : ℕ) (history : List Line) (acts : List Placed) (port : Port) (d : Deed) (before : List Line) → x ≡ tick_at (setting.rate step.node) step.at →
+    ActsOn ports acts → Within history (line_of step x port d ∷ before) → posted (dids (line_of step x port d ∷ before)) + length acts < 2 ^ 64 →
+    AllAlive setting step x (up (dids (of step.node (line_of step x port d ∷ before)))) acts → AllTaken setting step x history acts →
+    ((q : Port) → q.0 < ports → PortFits (setup_of setting step.node q) (view q (of step.node (joined step x acts (line_of step x port d ∷ before))))) → Fits setting (line_of step x port d ∷ before) →
+    Fits setting (joined step x acts (line_of step x port d ∷ before))
+acts_fit ports setting step x history [] port d before tick on w few alive took fits f = f
+acts_fit ports setting step x history (p ∷ rest) port d before tick on w few alive took fits f =
+    let h = line_of step x port d ∷ before in
+    let up_is : up (dids (of step.node (line_of step x p.port (Acts p.act) ∷ h))) ≡ up_after (Acts p.act) (up (dids (of step.node h))) = ap (λ l. up (dids l)) (one_line step x p.port (Acts p.act) h) in
+    let own = λ (e : is_shared (Acts p.act) ≡ false).
+    owes_here (setup_of setting step.node p.port) step x p h (fits_before (setup_of setting step.node p.port) p.port step x rest (line_of step x p.port (Acts p.act) ∷ h) (fits p.port (on.0 e))) in
+    let line = act_line setting step x history port d before p tick w (omega (arith, few)) alive.0 took.0 own in
+    let more = posted_more (Acts p.act) (posted (dids h)) in
+    acts_fit ports setting step x history rest p.port (Acts p.act) h tick on.1 (inr w)
+    (omega (arith, few, more))
+    (subst (λ b. AllAlive setting step x b rest) (sym up_is) alive.1) took.1 fits
+    (line, f)
+
+-- the mark of a step
+pub mark_line : (ports : ℕ) (setting : Setting) (step : Step) (x : ℕ) (history : List Line) → x ≡ tick_at (setting.rate step.node) step.at → AreOn ports (of step.node history) → time_of (dids history) ≤ step.at → posted (dids history) < 2 ^ 64 →
+    ((q : Port) → q.0 < ports → StepEnds (view q (of step.node history))) → LineFits setting (line_of step x first_port Begins) history
+mark_line ports setting step x history tick on order few ends = record {
+  order = order;
+  tick = tick;
+  few = few;
+  step = tt;
+  alive = tt;
+  took = λ from t e. let bad : ⊥ = cc in absurd bad;
+  deeds = λ q sees. all_end ports q (of step.node history) on (ends q);
+}

@@ -1,0 +1,24 @@
+-- The nodes of a header.
+use Rattle.std.specs.Prelude.{ℕ, ◌≤◌, length, nat_abs}
+use Rattle.std.proofs.Common.{sym, subst, arith, inl, inr}
+use Rattle.std.proofs.lemmas.Bool.{cases_lt}
+use Rattle.std.proofs.lemmas.List.{get_or_past}
+use Rattle.tsp_base.specs.declared.header.NodeLine.{NodeLine}
+use Rattle.tsp_base.specs.Headers.{HeaderValue, IsHeader}
+use Rattle.tsp_base.specs.Names.{IsName}
+use Rattle.tsp_fit.proofs.SoundFacts.{no_name}
+use Rattle.tsp_run.specs.Setup.{node_line, nobody}
+
+-- no node's clock passes the drift
+pub rate-node_line : (header : HeaderValue) → IsHeader header → (n : ℕ) → nat_abs (node_line header n).rate ≤ header.drift
+rate-node_line header is n = elim (cases_lt n (length header.nodes)) [
+  | inl within ↦ (is.kept n nobody within).rate
+  | inr past ↦ subst (λ (l : NodeLine). nat_abs l.rate ≤ header.drift) (sym (get_or_past header.nodes n nobody past)) (omega arith)
+]
+
+-- each node has a name
+pub name-node_line : (header : HeaderValue) → IsHeader header → (n : ℕ) → IsName (node_line header n).name
+name-node_line header is n = elim (cases_lt n (length header.nodes)) [
+  | inl within ↦ (is.kept n nobody within).name
+  | inr past ↦ subst (λ (l : NodeLine). IsName l.name) (sym (get_or_past header.nodes n nobody past)) no_name
+]

@@ -1,0 +1,14 @@
+pub mod AnswersFit
+pub mod CalmPorts
+pub mod FitsLines
+pub mod GatewayRunTold
+pub mod HeaderLines
+pub mod NetworkLemmas
+pub mod PostPlaces
+pub mod RefusalLemmas
+pub mod RunFits
+pub mod RunLemmas
+pub mod RunPromises
+pub mod SettingLemmas
+pub mod SoundLemmas
+pub mod SoundPorts

@@ -1,0 +1,271 @@
+-- The history of every schedule fits.
+use Rattle.std.specs.Prelude.{◌≡◌, ℕ, ◌+◌, ◌*◌, ◌<◌, ◌≤◌, ◌^◌, ◌==◌, pos, ◌+ℤ◌, Bool, true, false, List, [], ◌∷◌, length, Option, None, Some, slice_get, All, refl}
+use Rattle.std.proofs.Common.{sym, ap, subst, inr, arith, ◌∙◌, eq-eqb, eqb-true}
+use Rattle.std.proofs.lemmas.List.Elements.{All-head, All-tail}
+use Rattle.tsp_base.specs.Joins.{first_port, joined, line_of, stepped}
+use Rattle.tsp_base.specs.declared.act.Act.TheVariants.{Took, Post}
+use Rattle.tsp_base.specs.declared.act.Placed.{Placed}
+use Rattle.tsp_base.specs.declared.event.Event.{Event}
+use Rattle.tsp_base.specs.declared.event.Event.TheVariants.{Boot as BootAt, Turn, Take, Bytes}
+use Rattle.tsp_base.specs.declared.place.Place.TheVariants.{Peer}
+use Rattle.tsp_base.specs.declared.place.Port.{Port}
+use Rattle.tsp_base.specs.Fits.{Fits, TookFits}
+use Rattle.tsp_base.specs.Headers.{HeaderValue, IsHeader}
+use Rattle.tsp_base.specs.History.{Booted, Turned, Came, Handed, Step, Begins, Acts, Line, of, view, dids}
+use Rattle.tsp_base.specs.NodeFacts.{time_of, up}
+use Rattle.tsp_base.specs.Setting.{Alone, Named, Setting, setup_of}
+use Rattle.tsp_base.specs.Takings.{posted, peer_of}
+use Rattle.tsp_base.specs.Ticks.{tick_at}
+use Rattle.tsp_base.proofs.PlaceLemmas.{Within-all}
+use Rattle.tsp_base.proofs.TickLemmas.{tick_at-near}
+use Rattle.tsp_codec.specs.Canon.{canon}
+use Rattle.tsp_codec.specs.Taken.{taken_of}
+use Rattle.tsp_rules.specs.GateRows.{NodeGiven, NodeTurn, GotOn, answers_all, boots_all}
+use Rattle.tsp_rules.specs.NodeRows.{NodePast, NodeRow, PortSetup, in_node_step, on_port, port_setup, spread}
+use Rattle.tsp_fit.specs.PortFits.{PortFits, setup_in}
+use Rattle.tsp_fit.specs.Sound.{IsSound, IsSoundDeed}
+use Rattle.tsp_fit.proofs.GateFacts.{AllPorts}
+use Rattle.tsp_fit.proofs.GateLeads.{GivenOn, answers_all_lead}
+use Rattle.tsp_fit.proofs.Known.{Fresh, Rests}
+use Rattle.tsp_fit.proofs.NodeLeads.{begins_all, boots_all_lead}
+use Rattle.tsp_fit.proofs.RunLeads.{ends_of, rests_later, rests_seen, nothing-done}
+use Rattle.tsp_run.specs.declared.address.Address.{Address}
+use Rattle.tsp_run.specs.declared.posted.Posted.{Posted}
+use Rattle.tsp_run.specs.Networks.{networks, network_from, ports_on, address_of, room}
+use Rattle.tsp_run.specs.Ranges.{IsInRange}
+use Rattle.tsp_run.specs.Refusals.{Valid, scene, refusal, actor, down, node_in}
+use Rattle.tsp_run.specs.Run.{run, joins, happening, steps, step_tick, boot_step, event_at, last_at, posts, reaches, arrives, arrives_at, goes_to}
+use Rattle.tsp_run.specs.Setting.{SetBy, RunsFit, named_or}
+use Rattle.tsp_run.specs.Setup.{node_line, past_of, rests}
+use Rattle.tsp_run.proofs.AnswersFit.{StepOk, turn_ok, got_ok, boot_ok}
+use Rattle.tsp_run.proofs.FitsLines.{ActsOn, AllAlive, ArePlaced, acts_fit, all_end, mark_line, of_placed}
+use Rattle.tsp_run.proofs.HeaderLines.{name-node_line}
+use Rattle.tsp_run.proofs.NetworkLemmas.{few_ports, goes_there, set_up}
+use Rattle.tsp_run.proofs.PostPlaces.{length-posts, post_at}
+use Rattle.tsp_run.proofs.RefusalLemmas.{allowed, handed-port, refusal-none, up-down}
+use Rattle.tsp_run.proofs.RunLemmas.{stepped_own, stepped_other}
+use Rattle.tsp_run.proofs.SoundLemmas.{line_sound, octets_sound, sound_read}
+use Rattle.tsp_run.proofs.SoundPorts.{IsSoundInput, SoundNode, sound_answers_all, sound_begins, sound_boots_all}
+
+-- what is known of a run: its lines fit and are on their nodes' ports, its time is that of its last event, each port of each node is at rest, and each node took and posted what has its parts in their ranges
+pub record Ran (header : HeaderValue) (setting : Setting) (t : ℕ) (h : List Line) : Type 0 where
+  pub fits : Fits setting h
+  pub placed : ArePlaced (networks header) h
+  pub time : time_of (dids h) ≤ t
+  pub nodes : (n : ℕ) → AllPorts (λ r. Rests) (tick_at (setting.rate n) t) (past_of header (rests n) h)
+  pub sound : (n : ℕ) → SoundNode (past_of header (rests n) h)
+
+joined-placed : (nets : List (List ℕ)) (step : Step) (x : ℕ) (acts : List Placed) (h : List Line) → ActsOn (length (ports_on step.node nets)) acts → ArePlaced nets h → ArePlaced nets (joined step x acts h)
+joined-placed nets step x [] h on p = p
+joined-placed nets step x (a ∷ rest) h on p = joined-placed nets step x rest (line_of step x a.port (Acts a.act) ∷ h) on.1 (on.0, p)
+
+joined-time : (step : Step) (x : ℕ) (acts : List Placed) (h : List Line) → time_of (dids h) ≤ step.at → time_of (dids (joined step x acts h)) ≤ step.at
+joined-time step x [] h e = e
+joined-time step x (a ∷ rest) h e = joined-time step x rest (line_of step x a.port (Acts a.act) ∷ h) (omega arith)
+
+-- ticks don't fall
+ticks-rise : (setting : Setting) (n s t : ℕ) → s ≤ t → tick_at (setting.rate n) s ≤ tick_at (setting.rate n) t
+ticks-rise setting n s t le = (tick_at-near (setting.rate n) s t (let a = setting.rates n in let b = setting.small in omega (arith, a, b)) le).mono
+
+-- after a step each port of each node is at rest
+node_after : (header : HeaderValue) (setting : Setting) (t : ℕ) (h : List Line) (step : Step) (x : ℕ) (acts : List Placed) → t ≤ step.at → ((n : ℕ) → AllPorts (λ r. Rests) (tick_at (setting.rate n) t) (past_of header (rests n) h)) →
+    AllPorts (λ r. Rests) x (spread x (in_node_step step x (past_of header step h)) acts) → x ≡ tick_at (setting.rate step.node) step.at → (n : ℕ) (b : Bool) → (step.node == n) ≡ b →
+    AllPorts (λ r. Rests) (tick_at (setting.rate n) step.at) (past_of header (rests n) (stepped step x acts h))
+node_after header setting t h step x acts later nodes after tick_is n true e =
+    let now : List Line = stepped step x acts h in
+    let same : step.node ≡ n = eqb-true step.node n e in
+    let own : (step.node == step.node) ≡ true = eq-eqb step.node step.node refl in
+    let here : AllPorts (λ r. Rests) x (past_of header (rests step.node) now) = λ r has.
+    rests_seen x (on_port r (spread x (in_node_step step x (past_of header step h)) acts)) (on_port r (past_of header (rests step.node) now)) refl refl (ap (λ l. view r l) (sym (stepped_own step.node step x acts h own))) (after r has) in
+    subst (λ k. AllPorts (λ r. Rests) (tick_at (setting.rate k) step.at) (past_of header (rests k) now)) same (subst (λ k. AllPorts (λ r. Rests) k (past_of header (rests step.node) now)) tick_is here)
+node_after header setting t h step x acts later nodes after tick_is n false e = λ r has.
+    let now : List Line = stepped step x acts h in
+    rests_seen (tick_at (setting.rate n) step.at) (on_port r (past_of header (rests n) h)) (on_port r (past_of header (rests n) now)) refl refl (ap (λ l. view r l) (sym (stepped_other n step x acts h e)))
+    (rests_later (tick_at (setting.rate n) t) (tick_at (setting.rate n) step.at) (on_port r (past_of header (rests n) h)) (ticks-rise setting n t step.at later) (nodes n r has))
+
+-- after a step whose acts are sound all nodes' are
+sound_after : (header : HeaderValue) (h : List Line) (step : Step) (x : ℕ) (acts : List Placed) → ((n : ℕ) → SoundNode (past_of header (rests n) h)) → SoundNode (spread x (in_node_step step x (past_of header step h)) acts) →
+    (n : ℕ) (b : Bool) → (step.node == n) ≡ b → SoundNode (past_of header (rests n) (stepped step x acts h))
+sound_after header h step x acts nodes after n true e =
+    let now : List Line = stepped step x acts h in
+    let same : step.node ≡ n = eqb-true step.node n e in
+    let own : (step.node == step.node) ≡ true = eq-eqb step.node step.node refl in
+    subst (λ k. SoundNode (past_of header (rests k) now)) same
+    (subst (λ l. SoundNode (record (past_of header (rests step.node) now) { lines = l })) (sym (stepped_own step.node step x acts h own)) (record { name = after.name; word_fits = after.word_fits; ports = after.ports; lines = after.lines }))
+sound_after header h step x acts nodes after n false e =
+    let now : List Line = stepped step x acts h in
+    let s = nodes n in
+    subst (λ l. SoundNode (record (past_of header (rests n) now) { lines = l })) (sym (stepped_other n step x acts h e)) (record { name = s.name; word_fits = s.word_fits; ports = s.ports; lines = s.lines })
+
+-- what a node's port is set up with is what its past says
+setup_is : (header : HeaderValue) (setting : Setting) (step : Step) (h : List Line) (q : Port) → SetBy header setting → q.0 < length (ports_on step.node (networks header)) → setup_in (on_port q (past_of header step h)) ≡ setup_of setting step.node q
+setup_is header setting step h q set has =
+    let nets : List (List ℕ) = networks header in
+    let s = set_up step.node q.0 0 0 nets has in
+    let found : network_from step.node q.0 0 0 nets ≡ Some s.j =
+    ap (λ k. network_from step.node k 0 0 nets) (let e : q.0 ≡ 0 + q.0 = omega arith in e) ∙ s.network ∙ ap (λ k. Some k) (let e : 0 + s.j ≡ s.j = omega arith in e) in
+    let net : setting.net step.node q ≡ Named s.j = set.net_is step.node q ∙ ap (λ o. named_or (Alone step.node q.0) o) found in
+    let members : (port_setup q (past_of header step h)).peers ≡ setting.members (setting.net step.node q) =
+    ap (λ (k : PortSetup). k.peers) s.setup ∙ sym (ap setting.members net ∙ set.members_are (Named s.j)) in
+    let name : (node_line header step.node).name ≡ setting.name step.node = sym (set.name_is step.node) in
+    let strict : header.strict ≡ setting.strict = sym set.strict_is in
+    rw (name, members, strict) refl
+
+-- each port has its node's number
+own_is : (header : HeaderValue) (step : Step) (h : List Line) (q : Port) → q.0 < length (ports_on step.node (networks header)) → (port_setup q (past_of header step h)).own.0 ≡ step.node
+own_is header step h q has = ap (λ (k : PortSetup). k.own.0) (set_up step.node q.0 0 0 (networks header) has).setup
+
+-- a step by a row that keeps what is known of each port
+by_row : (header : HeaderValue) (setting : Setting) (t : ℕ) (h : List Line) (step : Step) (row : NodeRow) → SetBy header setting → Ran header setting t h → t ≤ step.at → posted (dids h) + (109 * room (ports_on step.node (networks header)) + 266) < 2 ^ 64 →
+    (AllPorts (λ r. Fresh) (step_tick header step) (in_node_step step (step_tick header step) (past_of header step h)) →
+    AllPorts (λ r. Rests) (step_tick header step) (spread (step_tick header step) (in_node_step step (step_tick header step) (past_of header step h)) (row (step_tick header step) (in_node_step step (step_tick header step) (past_of header step h))))) →
+    (SoundNode (in_node_step step (step_tick header step) (past_of header step h)) → SoundNode (spread (step_tick header step) (in_node_step step (step_tick header step) (past_of header step h)) (row (step_tick header step) (in_node_step step (step_tick header step) (past_of header step h))))) →
+    StepOk (length (ports_on step.node (networks header))) (room (ports_on step.node (networks header))) setting step (step_tick header step) h (up (dids (of step.node h))) (row (step_tick header step) (in_node_step step (step_tick header step) (past_of header step h))) →
+    Ran header setting step.at (joins (Some (steps header h row step)) h)
+unfolding steps
+by_row header setting t h step row set r later few leads soundly ok =
+    let x : ℕ = step_tick header step in
+    let nets : List (List ℕ) = networks header in
+    let ports : ℕ = length (ports_on step.node nets) in
+    let base : NodePast = past_of header step h in
+    let past : NodePast = in_node_step step x base in
+    let acts : List Placed = row x past in
+    let mark : Line = line_of step x first_port Begins in
+    let tick_is : x ≡ tick_at (setting.rate step.node) step.at = ap (λ k. tick_at k step.at) (sym (set.rate_is step.node)) in
+    let rested : AllPorts (λ r. Rests) x base = λ q has.
+    rests_seen x (on_port q (past_of header (rests step.node) h)) (on_port q base) refl refl refl
+    (subst (λ k. Rests k (on_port q (past_of header (rests step.node) h))) (sym tick_is)
+    (rests_later (tick_at (setting.rate step.node) t) (tick_at (setting.rate step.node) step.at) (on_port q (past_of header (rests step.node) h)) (ticks-rise setting step.node t step.at later) (r.nodes step.node q has))) in
+    let after : AllPorts (λ r. Rests) x (spread x past acts) = leads (begins_all step x x base (omega arith) (λ q has. own_is header step h q has) rested) in
+    let line = mark_line ports setting step x h tick_is (of_placed nets step.node h r.placed) (let b = r.time in omega (arith, b, later)) (omega (arith, few)) (λ q has. ends_of (rested q has)) in
+    let own : (step.node == step.node) ≡ true = eq-eqb step.node step.node refl in
+    let up_is : up (dids (of step.node (mark ∷ h))) ≡ up (dids (of step.node h)) = rw own refl in
+    let most = ok.few in
+    record {
+      fits = acts_fit ports setting step x h acts first_port Begins h tick_is ok.on (inr (Within-all h)) (omega (arith, few, most))
+          (subst (λ b. AllAlive setting step x b acts) (sym up_is) ok.alive) ok.taken
+          (λ q has. subst (λ l. PortFits (setup_of setting step.node q) (view q l)) (sym (stepped_own step.node step x acts h own)) (subst (λ k. PortFits k (view q (joined step x acts (mark ∷ of step.node h)))) (setup_is header setting step h q set has) (after q has).fits))
+          (line, r.fits);
+      placed = joined-placed nets step x acts (mark ∷ h) ok.on ((λ e. let bad : ⊥ = cc in absurd bad), r.placed);
+      time = joined-time step x acts (mark ∷ h) (omega arith);
+      nodes = λ n. node_after header setting t h step x acts later r.nodes after tick_is n (step.node == n) refl;
+      sound = λ n. sound_after header h step x acts r.sound (soundly (sound_begins step x base (let s = r.sound step.node in record { name = s.name; word_fits = s.word_fits; ports = s.ports; lines = s.lines }))) n (step.node == n) refl;
+    }
+
+-- the posts leave room
+few_posts : (header : HeaderValue) (before : List Event) (e : Event) (n : ℕ) → refusal (scene header before) e ≡ None → actor (scene header before) e ≡ Some n → posted (dids (run header before)) + (109 * room (ports_on n (networks header)) + 266) < 2 ^ 64
+few_posts header before e n none acts =
+    let a = allowed (scene header before) e none in
+    let some = a.posts n acts in
+    let same = length-posts (run header before) in
+    omega (arith, some, same)
+
+up_seen : (header : HeaderValue) (before : List Event) (n : ℕ) → down (scene header before).up (Some n) ≡ None → up (dids (of n (run header before))) ≡ true
+up_seen header before n e = up-down (scene header before) n e
+
+module _ {header : HeaderValue} {setting : Setting} (is : IsHeader header) (set : SetBy header setting) where
+  by_answers : (before : List Event) (e : Event) (step : Step) (g : NodeGiven) → Ran header setting (last_at before) (run header before) → refusal (scene header before) e ≡ None → actor (scene header before) e ≡ Some step.node →
+      (scene header before).last ≤ step.at → up (dids (of step.node (run header before))) ≡ true → GivenOn g (past_of header step (run header before)) → IsSoundInput g →
+      StepOk (length (ports_on step.node (networks header))) (room (ports_on step.node (networks header))) setting step (step_tick header step) (run header before) true (answers_all g (step_tick header step) (in_node_step step (step_tick header step) (past_of header step (run header before)))) →
+      Ran header setting step.at (joins (Some (steps header (run header before) (answers_all g) step)) (run header before))
+  by_answers before e step g r none acts later is_up given sound ok =
+      let x : ℕ = step_tick header step in
+      let past : NodePast = in_node_step step x (past_of header step (run header before)) in
+      by_row header setting (last_at before) (run header before) step (answers_all g) set r later (few_posts header before e step.node none acts)
+      (λ fresh. (answers_all_lead g).run x past (given-in g given, fresh)) ((sound_answers_all g sound).run x past)
+      (subst (λ b. StepOk (length (ports_on step.node (networks header))) (room (ports_on step.node (networks header))) setting step x (run header before) b (answers_all g x past)) (sym is_up) ok)
+    where
+      given-in : (g : NodeGiven) → GivenOn g (past_of header step (run header before)) → GivenOn g (in_node_step step (step_tick header step) (past_of header step (run header before)))
+      given-in NodeTurn h = tt
+      given-in (GotOn q from t) h = h
+
+  -- what reaches a node was posted to it, on the network of its port
+  came : (before : List Event) (at k : ℕ) (p : Posted) (a : Address) → IsSound p.datagram → slice_get (posts (run header before)) k ≡ Some p → address_of (networks header) p.from p.port p.to ≡ Some a →
+      TookFits (Came k) setting (line_of (record { at = at; node = a.node; cause = Came k }) (step_tick header (record { at = at; node = a.node; cause = Came k })) a.port (Acts (Took (Peer (peer_of p.from)) (taken_of (canon p.datagram))))) (run header before)
+      (Peer (peer_of p.from)) (taken_of (canon p.datagram))
+  came before at k p a sound there goes =
+      let o = post_at (run header before) k p there in
+      let g = goes_there (networks header) p.from p.port p.to a goes in
+      record {
+        post = o.post;
+        older = o.older;
+        place = o.place;
+        number = o.number;
+        datagram = p.datagram;
+        deed = o.deed ∙ ap (λ t. Acts (Post t p.datagram)) g.to_is;
+        net = ap (λ n. setting.net n o.post.port) o.from ∙ (ap (λ q. setting.net p.from q) o.port ∙ (set.net_is p.from p.port ∙ (g.net ∙ sym (set.net_is a.node a.port))));
+        from_is = ap (λ f. Peer (peer_of f)) (sym o.from);
+        taken_is = sound_read p.datagram sound;
+      }
+
+  -- what was posted has its parts in their ranges
+  pub post_sound : (before : List Event) (t k : ℕ) (p : Posted) → Ran header setting t (run header before) → slice_get (posts (run header before)) k ≡ Some p → IsSound p.datagram
+  post_sound before t k p r there =
+      let a = post_at (run header before) k p there in
+      subst (λ d. IsSoundDeed d) a.deed (line_sound (run header before) a.post a.older a.place (r.sound a.post.did.step.node).lines)
+
+  four : (n : ℕ) → length (ports_on n (networks header)) ≤ 4
+  four n = few_ports header is n
+
+  nobody-acts : (before : List Event) (at k : ℕ) → Ran header setting (last_at before) (run header before) → refusal (scene header before) (Take at k) ≡ None → Ran header setting at (run header before)
+  nobody-acts before at k r none = record {
+    fits = r.fits;
+    placed = r.placed;
+    time = (let b = r.time in let c = (allowed (scene header before) (Take at k) none).time in omega (arith, b, c));
+    nodes = λ n q has. rests_later (tick_at (setting.rate n) (last_at before)) (tick_at (setting.rate n) at) (on_port q (past_of header (rests n) (run header before))) (ticks-rise setting n (last_at before) at (allowed (scene header before) (Take at k) none).time) (r.nodes n q has);
+    sound = r.sound;
+  }
+
+  taken_step : (before : List Event) (at k : ℕ) (o : Option Posted) → Ran header setting (last_at before) (run header before) → refusal (scene header before) (Take at k) ≡ None → slice_get (posts (run header before)) k ≡ o →
+      Ran header setting at (joins (reaches header (run header before) at k (arrives (networks header) o)) (run header before))
+  taken_step before at k None r none there = nobody-acts before at k r none
+  taken_step before at k (Some p) r none there = arrived (address_of (networks header) p.from p.port p.to) refl where
+    arrived : (o : Option Address) → address_of (networks header) p.from p.port p.to ≡ o → Ran header setting at (joins (reaches header (run header before) at k (arrives_at p o)) (run header before))
+    arrived None e = nobody-acts before at k r none
+    arrived (Some a) e =
+        let allow = allowed (scene header before) (Take at k) none in
+        let sound = post_sound before (last_at before) k p r there in
+        let step : Step = record { at = at; node = a.node; cause = Came k } in
+        let goes : node_in (goes_to (networks header) (slice_get (posts (run header before)) k)) ≡ Some a.node = ap (λ q. node_in (goes_to (networks header) q)) there ∙ ap (λ q. node_in q) e in
+        let is_up : up (dids (of a.node (run header before))) ≡ true = up_seen header before a.node (ap (λ q. down (scene header before).up q) (sym goes) ∙ allow.up) in
+        let has = (goes_there (networks header) p.from p.port p.to a e).has in
+        by_answers before (Take at k) step (GotOn a.port (Peer (peer_of p.from)) (taken_of (canon p.datagram))) r none goes allow.time is_up has
+        (rw (sound_read p.datagram sound) sound)
+        (got_ok setting step (step_tick header step) (run header before) (in_node_step step (step_tick header step) (past_of header step (run header before))) a.port (Peer (peer_of p.from)) (taken_of (canon p.datagram)) (four a.node) has (came before at k p a sound there e))
+
+  event_ran : (before : List Event) (e : Event) → Ran header setting (last_at before) (run header before) → IsInRange e → refusal (scene header before) e ≡ None → Ran header setting (event_at e) (joins (happening header (run header before) e) (run header before))
+  event_ran before (BootAt at node word) r range none =
+      let allow = allowed (scene header before) (BootAt at node word) none in
+      let step : Step = boot_step header at node word in
+      let x : ℕ = step_tick header step in
+      let past : NodePast = in_node_step step x (past_of header step (run header before)) in
+      by_row header setting (last_at before) (run header before) step boots_all set r allow.time (few_posts header before (BootAt at node word) node none refl)
+      (boots_all_lead.run x past) (sound_boots_all x past word _ refl range)
+      (boot_ok setting step x (run header before) (up (dids (of node (run header before)))) past word (four node) (ap (λ w. Booted word (w +ℤ pos (tick_at (node_line header node).rate at))) (sym (set.wall_is node))))
+  event_ran before (Turn at node) r range none =
+      let allow = allowed (scene header before) (Turn at node) none in
+      let step : Step = record { at = at; node = node; cause = Turned } in
+      by_answers before (Turn at node) step NodeTurn r none refl allow.time (up_seen header before node allow.up) tt tt (turn_ok setting step (step_tick header step) (run header before) (in_node_step step (step_tick header step) (past_of header step (run header before))) (four node))
+  event_ran before (Take at k) r range none = taken_step before at k (slice_get (posts (run header before)) k) r none refl
+  event_ran before (Bytes at node port from octets) r range none =
+      let allow = allowed (scene header before) (Bytes at node port from octets) none in
+      let step : Step = record { at = at; node = node; cause = Handed } in
+      let has = handed-port (scene header before) at node port from octets (refusal-none (scene header before) (Bytes at node port from octets) none).node in
+      by_answers before (Bytes at node port from octets) step (GotOn port from (taken_of octets)) r none refl allow.time (up_seen header before node allow.up) has (octets_sound octets range)
+      (got_ok setting step (step_tick header step) (run header before) (in_node_step step (step_tick header step) (past_of header step (run header before))) port from (taken_of octets) (four node) has tt)
+
+  pub ran : (events : List Event) → All IsInRange events → Valid header events → Ran header setting (last_at events) (run header events)
+  ran [] ranges v = record {
+    fits = tt;
+    placed = tt;
+    time = omega arith;
+    nodes = λ n q has. nothing-done (tick_at (setting.rate n) 0) (on_port q (past_of header (rests n) []));
+    sound = λ n. record { name = name-node_line header is n; word_fits = omega arith; ports = four n; lines = tt };
+  }
+  ran (e ∷ before) ranges v = event_ran before e (ran before (All-tail IsInRange e before ranges) v.1) (All-head IsInRange e before ranges) v.0
+
+-- the history of every schedule fits, and ends where a step ends
+pub runs-fit : RunsFit
+runs-fit header setting events set s =
+    let r = ran s.header_is set events s.ranges s.valid in
+    (r.fits, λ n q. all_end (length (ports_on n (networks header))) q (of n (run header events)) (of_placed (networks header) n (run header events) r.placed) (λ has. ends_of (r.nodes n q has)))

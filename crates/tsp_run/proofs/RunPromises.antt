@@ -1,0 +1,50 @@
+-- The history of every schedule keeps the promises.
+use Rattle.std.specs.Prelude.{◌≡◌, ℕ, List, ◌∷◌, Some, slice_get}
+use Rattle.tsp_base.specs.declared.constants.TheConstants.{LIFE}
+use Rattle.tsp_base.specs.declared.datagram.Taken.TheVariants.{Good}
+use Rattle.tsp_base.specs.declared.event.Event.{Event}
+use Rattle.tsp_base.specs.Fits.{Fits}
+use Rattle.tsp_base.specs.Headers.{HeaderValue}
+use Rattle.tsp_base.specs.History.{Line}
+use Rattle.tsp_base.specs.Premises.{FewAt, HonestAt, TakenWithinAt}
+use Rattle.tsp_base.specs.Setting.{Setting}
+use Rattle.tsp_base.proofs.EverywhereLemmas.{Everywhere-from, Everywhere-within}
+use Rattle.tsp_codec.specs.Canon.{canon}
+use Rattle.tsp_codec.specs.Taken.{taken_of}
+use Rattle.tsp_date.specs.Dated.{Dated, DateConfirmedAt, SetsAt}
+use Rattle.tsp_dated.proofs.ConfirmedDate.{date_confirmed}
+use Rattle.tsp_dated.proofs.SetProof.{sets_at}
+use Rattle.tsp_looped.proofs.ChainProof.{looped_in}
+use Rattle.tsp_safe.proofs.OneWinnerProof.{one_winner}
+use Rattle.tsp_safe.proofs.OwnFitsProof.{fits_at}
+use Rattle.tsp_safe.proofs.SafeProof.{safe}
+use Rattle.tsp_run.specs.declared.posted.Posted.{Posted}
+use Rattle.tsp_run.specs.Ranges.{Accepted}
+use Rattle.tsp_run.specs.Run.{last_at, posts, run}
+use Rattle.tsp_run.specs.Setting.{RunsKeepPromises}
+use Rattle.tsp_run.proofs.RunFits.{post_sound, ran, runs-fit}
+use Rattle.tsp_run.proofs.SettingLemmas.{each-is-set}
+use Rattle.tsp_run.proofs.SoundLemmas.{sound_read}
+
+dated : (setting : Setting) (world : List Line) → Fits setting world → Dated setting world
+dated setting world f = record {
+  sets = Everywhere-from (SetsAt setting) world (λ l s w. sets_at setting l s (fits_at setting (l ∷ s) world f w));
+  confirmed = λ honest life few. Everywhere-from DateConfirmedAt world (λ l s w.
+      date_confirmed setting l s (fits_at setting (l ∷ s) world f w) (Everywhere-within HonestAt (l ∷ s) world honest w) (Everywhere-within (TakenWithinAt LIFE) (l ∷ s) world life w) (Everywhere-within FewAt (l ∷ s) world few w));
+}
+
+pub runs-keep-promises : RunsKeepPromises
+runs-keep-promises header setting events set s =
+    let f = runs-fit header setting events set s in
+    record {
+      safe = safe setting (run header events) f.0 f.1;
+      one_winner = λ strict h l w. one_winner setting (run header events) strict f.0 h l w;
+      dated = dated setting (run header events) f.0;
+      looped = looped_in setting (run header events) f.0;
+    }
+
+-- what the posts of a schedule's run carry is read as it was posted
+pub posted-read : (header : HeaderValue) (events : List Event) → Accepted header events → (k : ℕ) (p : Posted) → slice_get (posts (run header events)) k ≡ Some p → taken_of (canon p.datagram) ≡ Good p.datagram
+posted-read header events s k p there =
+    let set = each-is-set header s.header_is in
+    sound_read p.datagram (post_sound s.header_is set.1 events (last_at events) k p (ran s.header_is set.1 events s.ranges s.valid) there)

@@ -1,0 +1,25 @@
+-- Every header has a setting.
+use Rattle.std.specs.Prelude.{refl}
+use Rattle.tsp_run.specs.Networks.{networks}
+use Rattle.tsp_run.specs.Setting.{EachIsSet, members_of, network_of}
+use Rattle.tsp_run.specs.Setup.{node_line}
+use Rattle.tsp_run.proofs.HeaderLines.{rate-node_line}
+use Rattle.tsp_run.proofs.NetworkLemmas.{own_member, ports_apart}
+
+pub each-is-set : EachIsSet
+each-is-set header is = (
+  record {
+    drift = header.drift;
+    rate = λ n. (node_line header n).rate;
+    wall = λ n. (node_line header n).wall;
+    name = λ n. (node_line header n).name;
+    strict = header.strict;
+    net = network_of (networks header);
+    members = members_of (networks header);
+    small = is.small;
+    rates = λ n. rate-node_line header is n;
+    apart = ports_apart (networks header);
+    own = own_member (networks header);
+  },
+  record { rate_is = λ n. refl; wall_is = λ n. refl; name_is = λ n. refl; drift_is = refl; strict_is = refl; net_is = λ n q. refl; members_are = λ k. refl },
+)

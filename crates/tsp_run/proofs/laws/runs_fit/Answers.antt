@@ -1,0 +1,5 @@
+use Rattle.tsp_run.proofs.laws.runs_fit.Goals as goal
+use Rattle.tsp_run.proofs.RunFits.{runs-fit}
+
+pub returns : goal.returns
+returns c = runs-fit

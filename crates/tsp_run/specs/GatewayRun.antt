@@ -1,0 +1,105 @@
+-- A run on two networks, written out: a node joins both, follows on both, and is corrected on one.
+use Rattle.std.specs.Prelude.{◌≡◌, ℕ, pos, false, List, [], ◌∷◌, codes, Option, None, Some}
+use Rattle.tsp_base.specs.declared.act.Act.{Act}
+use Rattle.tsp_base.specs.declared.act.Act.TheVariants.{Boot, Took, Post, Become, Arm, Ring, Correct}
+use Rattle.tsp_base.specs.declared.alarm.Alarm.TheVariants.{Quiet, Search, Elect}
+use Rattle.tsp_base.specs.declared.datagram.Datagram.TheVariants.{Message}
+use Rattle.tsp_base.specs.declared.datagram.Taken.TheVariants.{Good}
+use Rattle.tsp_base.specs.declared.event.Event.{Event}
+use Rattle.tsp_base.specs.declared.event.Event.TheVariants.{Boot as BootAt, Turn, Bytes}
+use Rattle.tsp_base.specs.declared.event.EventFault.TheVariants.{NoNode}
+use Rattle.tsp_base.specs.declared.header.NodeLine.{NodeLine}
+use Rattle.tsp_base.specs.declared.kind.Kind.TheVariants.{AdjTime, Ack, MasterReq, MasterUp, SlaveUp}
+use Rattle.tsp_base.specs.declared.place.Place.TheVariants.{Peer}
+use Rattle.tsp_base.specs.declared.role.Role.TheVariants.{Starting, Loose, Follow}
+use Rattle.tsp_base.specs.Headers.{HeaderValue}
+use Rattle.tsp_base.specs.Messages.{MessageValue}
+use Rattle.tsp_base.specs.Rows.{bare, timed}
+use Rattle.tsp_base.specs.Takings.{peer_of as peer}
+use Rattle.tsp_run.specs.declared.line.Line.{Line}
+use Rattle.tsp_run.specs.Refusals.{refusal, scene, Valid}
+use Rattle.tsp_run.specs.Run.{told}
+
+abbrev pub slave_named : List ℕ → NodeLine
+slave_named name = record { name = name; rate = pos 0; wall = pos 0; may = false }
+
+-- g is on a network with a, and on one with b
+abbrev pub two_networks : HeaderValue
+two_networks = record {
+  drift = 0;
+  strict = false;
+  nodes = slave_named (codes "g") ∷ slave_named (codes "a") ∷ slave_named (codes "b") ∷ [];
+  nets = (0 ∷ 1 ∷ []) ∷ (0 ∷ 2 ∷ []) ∷ [];
+}
+
+-- the octets of a message without number and time, of this kind and with a name of one letter
+abbrev pub spelled : ℕ → ℕ → List ℕ
+spelled kind letter = kind ∷ 1 ∷ 0 ∷ 0 ∷ 0 ∷ 0 ∷ 0 ∷ 0 ∷ 0 ∷ 0 ∷ 0 ∷ 0 ∷ letter ∷ 0 ∷ []
+
+-- those of an ADJTIME numbered 7 by some microseconds
+abbrev pub spelled_adjtime : ℕ → ℕ → List ℕ
+spelled_adjtime micros letter = 1 ∷ 1 ∷ 0 ∷ 7 ∷ 0 ∷ 0 ∷ 0 ∷ 0 ∷ 0 ∷ 0 ∷ 0 ∷ micros ∷ letter ∷ 0 ∷ []
+
+-- g is handed this on a port, as from a node
+abbrev pub hands_g : ℕ → ℕ → ℕ → List ℕ → Event
+hands_g at port from octets = Bytes at 0 (record { 0 = port }) (Peer (peer from)) octets
+
+-- what happens, the newest first
+abbrev pub six_events : List Event
+six_events =
+    hands_g 84000000 0 1 (spelled_adjtime 10 97) ∷
+    hands_g 83000000 1 2 (spelled_adjtime 1 98) ∷
+    hands_g 82000000 0 1 (spelled 6 97) ∷
+    hands_g 81000000 1 2 (spelled 6 98) ∷
+    Turn 80000000 0 ∷
+    BootAt 0 0 7 ∷
+    []
+
+-- the line of an act of g on a port
+abbrev pub g_line : ℕ → ℕ → ℕ → Option ℕ → Act → Line
+g_line event tick port number act = record { event = event; node = 0; tick = tick; number = number; placed = record { port = record { 0 = port }; act = act } }
+
+-- the line of a taking
+abbrev pub g_takes : ℕ → ℕ → ℕ → ℕ → MessageValue → Line
+g_takes event tick port from m = g_line event tick port None (Took (Peer (peer from)) (Good (Message m)))
+
+-- the line of a post
+abbrev pub g_posts : ℕ → ℕ → ℕ → ℕ → ℕ → MessageValue → Line
+g_posts event tick port k to m = g_line event tick port (Some k) (Post (Peer (peer to)) (Message m))
+
+-- what is told of it
+abbrev pub told_of_six : List Line
+told_of_six =
+    g_line 1 0 0 None Boot ∷
+    g_line 1 0 0 None (Become Starting) ∷
+    g_line 1 0 0 None (Arm Quiet 80000000) ∷
+    g_line 1 0 1 None (Become Starting) ∷
+    g_line 1 0 1 None (Arm Quiet 80000000) ∷
+    g_line 2 80000000 0 None (Ring Quiet) ∷
+    g_line 2 80000000 0 None (Become Loose) ∷
+    g_line 2 80000000 0 None (Arm Search 85000000) ∷
+    g_posts 2 80000000 0 0 1 (bare MasterReq 0 (codes "g")) ∷
+    g_line 2 80000000 1 None (Ring Quiet) ∷
+    g_line 2 80000000 1 None (Become Loose) ∷
+    g_line 2 80000000 1 None (Arm Search 85000000) ∷
+    g_posts 2 80000000 1 1 2 (bare MasterReq 0 (codes "g")) ∷
+    g_takes 3 81000000 1 2 (bare MasterUp 0 (codes "b")) ∷
+    g_line 3 81000000 1 None (Become (Follow (peer 2))) ∷
+    g_line 3 81000000 1 None (Arm Elect 381000007) ∷
+    g_posts 3 81000000 1 2 2 (bare SlaveUp 7 (codes "g")) ∷
+    g_takes 4 82000000 0 1 (bare MasterUp 0 (codes "a")) ∷
+    g_line 4 82000000 0 None (Become (Follow (peer 1))) ∷
+    g_line 4 82000000 0 None (Arm Elect 382000007) ∷
+    g_posts 4 82000000 0 3 1 (bare SlaveUp 7 (codes "g")) ∷
+    g_takes 5 83000000 1 2 (timed AdjTime 7 (pos 1) (codes "b")) ∷
+    g_takes 6 84000000 0 1 (timed AdjTime 7 (pos 10) (codes "a")) ∷
+    g_line 6 84000000 0 None (Correct (pos 10) false (pos 84000000)) ∷
+    g_line 6 84000000 0 None (Arm Elect 384000007) ∷
+    g_posts 6 84000000 0 4 1 (bare Ack 7 (codes "g")) ∷
+    []
+
+-- nothing refuses the six events, they do what is told of them, and an event on a port that g lacks is refused
+pub record JoinsTwoNetworks : Type 0 where
+  pub valid : Valid two_networks six_events
+  pub told_is : told two_networks six_events ≡ told_of_six
+  pub refused : refusal (scene two_networks six_events) (hands_g 84000000 2 1 (0 ∷ [])) ≡ Some (NoNode 0 3)

@@ -1,0 +1,49 @@
+-- What a schedule's run is set in.
+use Rattle.std.specs.Prelude.{◌≡◌, ℕ, List, [], ◌∷◌, Option, None, Some, slice_index_or}
+use Rattle.tsp_base.specs.declared.event.Event.{Event}
+use Rattle.tsp_base.specs.declared.place.PeerId.{PeerId}
+use Rattle.tsp_base.specs.declared.place.Port.{Port}
+use Rattle.tsp_base.specs.Fits.{Fits, Finished}
+use Rattle.tsp_base.specs.Headers.{HeaderValue, IsHeader}
+use Rattle.tsp_base.specs.Setting.{Alone, Named, Network, Setting}
+use Rattle.tsp_base.specs.Takings.{peer_of}
+use Rattle.tsp_run.specs.Promises.{Promises}
+use Rattle.tsp_run.specs.Ranges.{Accepted}
+use Rattle.tsp_run.specs.Run.{run}
+use Rattle.tsp_run.specs.Networks.{network_at, networks, peers_on}
+use Rattle.tsp_run.specs.Setup.{node_line}
+
+abbrev pub named_or : Network → Option ℕ → Network
+named_or alone None = alone
+named_or alone (Some k) = Named k
+
+-- the network of a node's port: the header's network that makes it, and nobody else's for a port that the node doesn't have
+abbrev pub network_of : List (List ℕ) → ℕ → Port → Network
+network_of nets n q = named_or (Alone n q.0) (network_at n q nets)
+
+-- who is on it
+abbrev pub members_of : List (List ℕ) → Network → List PeerId
+members_of nets (Named k) = peers_on (slice_index_or nets k [])
+members_of nets (Alone n q) = peer_of n ∷ []
+
+-- a setting has the header's drift, rates, walls, names and networks, and elections are as strict as the header says
+pub record SetBy (header : HeaderValue) (setting : Setting) : Type 0 where
+  pub rate_is : (n : ℕ) → setting.rate n ≡ (node_line header n).rate
+  pub wall_is : (n : ℕ) → setting.wall n ≡ (node_line header n).wall
+  pub name_is : (n : ℕ) → setting.name n ≡ (node_line header n).name
+  pub drift_is : setting.drift ≡ header.drift
+  pub strict_is : setting.strict ≡ header.strict
+  pub net_is : (n : ℕ) (q : Port) → setting.net n q ≡ network_of (networks header) n q
+  pub members_are : (k : Network) → setting.members k ≡ members_of (networks header) k
+
+-- the history of every schedule fits, and ends where a step ends
+abbrev pub RunsFit : Type 0
+RunsFit = (header : HeaderValue) (setting : Setting) (events : List Event) → SetBy header setting → Accepted header events → Fits setting (run header events) × Finished (run header events)
+
+-- the history of every schedule keeps the promises
+abbrev pub RunsKeepPromises : Type 0
+RunsKeepPromises = (header : HeaderValue) (setting : Setting) (events : List Event) → SetBy header setting → Accepted header events → Promises setting (run header events)
+
+-- every header sets its nodes up somehow
+abbrev pub EachIsSet : Type 0
+EachIsSet = (header : HeaderValue) → IsHeader header → (setting : Setting) × SetBy header setting

@@ -1,0 +1,21 @@
+-- A node that has booted is up.
+use Rattle.std.specs.Prelude.{◌≡◌, ℕ, true, [], ◌∷◌, refl}
+use Rattle.std.proofs.Common.{sym, subst}
+use Rattle.tsp_base.specs.declared.act.Act.TheVariants.{Boot}
+use Rattle.tsp_base.specs.declared.act.Placed.{Placed}
+use Rattle.std.specs.Prelude.{List}
+use Rattle.tsp_base.specs.History.{Acts, dids}
+use Rattle.tsp_base.specs.Joins.{first_port, line_of}
+use Rattle.tsp_base.specs.NodeFacts.{up}
+use Rattle.tsp_base.specs.Rows.{puts}
+use Rattle.tsp_rules.specs.GateRows.{all_ports, boots_all, boots_on}
+use Rattle.tsp_rules.specs.NodeRows.{NodePast, on, ◌and_then◌, reading_all, for_ports, spread}
+use Rattle.tsp_rules.proofs.NodeRowLemmas.{spread_append}
+use Rattle.tsp_run.proofs.RunLemmas.{up_joined}
+
+pub boots-up : (x : ℕ) (past : NodePast) → up (dids (spread x past (boots_all x past)).lines) ≡ true
+unfolding boots_all on puts ◌and_then◌
+boots-up x past =
+    let boot : List Placed = record { port = first_port; act = Boot } ∷ [] in
+    let rest = reading_all all_ports (for_ports boots_on) x (spread x past boot) in
+    subst (λ (z : NodePast). up (dids z.lines) ≡ true) (sym (spread_append x past boot rest)) (up_joined past.step x rest (spread x past boot).lines refl)

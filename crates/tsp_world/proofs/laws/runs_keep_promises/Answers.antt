@@ -1,5 +1,0 @@
-use Rattle.tsp_world.proofs.laws.runs_keep_promises.Goals as goal
-use Rattle.tsp_world.proofs.RunPromises.{runs-keep-promises}
-
-pub returns : goal.returns
-returns c = runs-keep-promises
