@@ -11,12 +11,12 @@ use Rattle.tsp_lines.specs.declared.treat.Outcome.TheVariants.{Ok as Done}
 use Rattle.tsp_script.specs.declared.event_line.EventItem.TheVariants.{Event as EventOf}
 use Rattle.tsp_script.specs.declared.head_line.HeadItem.TheVariants.{NotHead}
 use Rattle.tsp_script.specs.Schedules.{SpellsEvent, SpellsHead}
-use Rattle.tsp_world.specs.Refusals.{scene, refusal}
-use Rattle.tsp_world.specs.Run.{gained}
+use Rattle.tsp_run.specs.Refusals.{scene, refusal}
+use Rattle.tsp_run.specs.Run.{gained}
 use Rattle.tsp_replay.specs.Meaning.{IsScheduleText, Replays, replaying}
-use Rattle.tsp_replay.specs.Schedules.{Progress, Untitled, Titled, Drifted, Heading, Running, Ended, RunsOn, GoesOn, Reaches, IsCause, Refuses, RefusesRun, RefusesHeading, Limits, LimitsRun, Lacks, IsEnded, IsNoLine, OnOnePort, next_place, new_header}
+use Rattle.tsp_replay.specs.Schedules.{Progress, Untitled, Titled, Drifted, Heading, Running, Ended, RunsOn, GoesOn, Reaches, IsCause, Refuses, RefusesRun, RefusesHeading, Limits, LimitsRun, Lacks, IsEnded, IsComplete, next_place, new_header}
 use Rattle.tsp_replay.specs.Traces.{lines_text, trace, written_at}
-use Rattle.tsp_replay.proofs.OneReading.{Reaches-one, GoesOn-not_refused, GoesOn-not_limited, same_event, node_end, end_later}
+use Rattle.tsp_replay.proofs.OneReading.{Reaches-one, GoesOn-not_refused, GoesOn-not_limited, same_event, end_kept}
 use Rattle.tsp_replay.proofs.TraceLemmas.{reverse-more, trace-more}
 
 -- a fault has one cause
@@ -32,25 +32,13 @@ IsCause-one OutOfMemory cause other c d = absurd c
 same_refusal : (header : HeaderValue) (events : List Event) (e f : Event) (fault other : EventFault) → e ≡ f → refusal (scene header events) e ≡ Some fault → refusal (scene header events) f ≡ Some other → fault ≡ other
 same_refusal header events e f fault other s r t = let p : Some fault ≡ Some other = sym r ∙ ap (λ x. refusal (scene header events) x) s ∙ t in cc
 
--- the line of an event on the first port is one that replays take
-no_line : (line : List ℕ) (e : Event) → IsNoLine line → SpellsEvent line (EventOf e) → OnOnePort e → ⊥
-no_line line e (inl none) s port = none (EventOf e) s
-no_line line e (inr (f, t, n)) s port = n (subst (λ k. OnOnePort k) (same_event line e f s t) port)
-
 RefusesRun-one : (header : HeaderValue) (events : List Event) (line cause other : List ℕ) → RefusesRun header events line cause → RefusesRun header events line other → cause ≡ other
 RefusesRun-one header events line cause other (inl r) (inl s) = r.1 ∙ sym s.1
-RefusesRun-one header events line cause other (inl r) (inr s) = absurd (no_line line s.0 r.0 s.2 s.3)
-RefusesRun-one header events line cause other (inr r) (inl s) = absurd (no_line line r.0 s.0 r.2 r.3)
-RefusesRun-one header events line cause other (inr (e, fault, spells, port, r, c)) (inr (f, faults, others, there, s, d)) =
+RefusesRun-one header events line cause other (inl r) (inr s) = absurd (r.0 (EventOf s.0) s.2)
+RefusesRun-one header events line cause other (inr r) (inl s) = absurd (s.0 (EventOf r.0) r.2)
+RefusesRun-one header events line cause other (inr (e, fault, spells, r, c)) (inr (f, faults, others, s, d)) =
     let same = same_refusal header events e f fault faults (same_event line e f spells others) r s in
     IsCause-one faults cause other (subst (λ x. IsCause x cause) same c) d
-
--- a line that the header refuses isn't the first line behind a header with nodes
-heading_end : (header : HeaderValue) (line : List ℕ) → RefusesHeading header line → SpellsHead (next_place header) line NotHead → 0 < length header.nodes → ⊥
-heading_end header line (inl none) s n = none NotHead s
-heading_end header line (inr (inl (node, t, k))) s n = node_end (next_place header) line node t s
-heading_end header line (inr (inr (inr later))) s n = end_later header line s later
-heading_end header line (inr (inr (inl (t, e)))) s n = let z : length header.nodes ≡ 0 = ap length e in omega (arith, z, n)
 
 -- a line is refused for one cause, and passes no limit
 Refuses-one : (p : Progress) (line cause other : List ℕ) → Refuses p line cause → Refuses p line other → cause ≡ other
@@ -58,15 +46,15 @@ Refuses-one Untitled line cause other r s = r.1 ∙ sym s.1
 Refuses-one (Titled version) line cause other r s = r.1 ∙ sym s.1
 Refuses-one (Drifted drift) line cause other r s = r.1 ∙ sym s.1
 Refuses-one (Heading header) line cause other (inl r) (inl s) = r.1 ∙ sym s.1
-Refuses-one (Heading header) line cause other (inl r) (inr s) = absurd (heading_end header line r.0 s.0 s.1)
-Refuses-one (Heading header) line cause other (inr r) (inl s) = absurd (heading_end header line s.0 r.0 r.1)
+Refuses-one (Heading header) line cause other (inl r) (inr s) = absurd (end_kept header line s.0 s.1 r.0)
+Refuses-one (Heading header) line cause other (inr r) (inl s) = absurd (end_kept header line r.0 r.1 s.0)
 Refuses-one (Heading header) line cause other (inr r) (inr s) = RefusesRun-one header [] line cause other r.2 s.2
 Refuses-one (Running header events) line cause other r s = RefusesRun-one header events line cause other r s
 Refuses-one (Ended header events) line cause other r s = r ∙ sym s
 
 run_within : (header : HeaderValue) (events : List Event) (line cause : List ℕ) → RefusesRun header events line cause → LimitsRun header events line → ⊥
-run_within header events line cause (inl r) (e, a, b, spells, port, l) = no_line line e r.0 spells port
-run_within header events line cause (inr (e, fault, spells, port, r, c)) (f, a, b, others, there, l) =
+run_within header events line cause (inl r) (e, a, b, spells, l) = r.0 (EventOf e) spells
+run_within header events line cause (inr (e, fault, spells, r, c)) (f, a, b, others, l) =
     let same = same_refusal header events e f fault (Limit a b) (same_event line e f spells others) r l in
     subst (λ x. IsCause x cause) same c
 
@@ -74,22 +62,19 @@ Refuses-within : (p : Progress) (line cause : List ℕ) → Refuses p line cause
 Refuses-within Untitled line cause r l = l
 Refuses-within (Titled version) line cause r l = l
 Refuses-within (Drifted drift) line cause r l = l
-Refuses-within (Heading header) line cause (inl r) l = heading_end header line r.0 l.0 l.1
+Refuses-within (Heading header) line cause (inl r) l = end_kept header line l.0 l.1 r.0
 Refuses-within (Heading header) line cause (inr r) l = run_within header [] line cause r.2 l.2
 Refuses-within (Running header events) line cause r l = run_within header events line cause r l
 Refuses-within (Ended header events) line cause r l = l
 
 -- the input may not end for one cause, and only before the last line
-nodes_apart : (header : HeaderValue) → header.nodes ≡ [] → 0 < length header.nodes → ⊥
-nodes_apart header e n = let z : length header.nodes ≡ 0 = ap length e in omega (arith, z, n)
-
 Lacks-one : (p : Progress) (cause other : List ℕ) → Lacks p cause → Lacks p other → cause ≡ other
 Lacks-one Untitled cause other r s = r ∙ sym s
 Lacks-one (Titled version) cause other r s = r ∙ sym s
 Lacks-one (Drifted drift) cause other r s = r ∙ sym s
 Lacks-one (Heading header) cause other (inl r) (inl s) = r.1 ∙ sym s.1
-Lacks-one (Heading header) cause other (inl r) (inr s) = absurd (nodes_apart header r.0 s.0)
-Lacks-one (Heading header) cause other (inr r) (inl s) = absurd (nodes_apart header s.0 r.0)
+Lacks-one (Heading header) cause other (inl r) (inr s) = absurd (r.0 s.0)
+Lacks-one (Heading header) cause other (inr r) (inl s) = absurd (s.0 r.0)
 Lacks-one (Heading header) cause other (inr r) (inr s) = r.1 ∙ sym s.1
 Lacks-one (Running header events) cause other r s = r ∙ sym s
 Lacks-one (Ended header events) cause other r s = absurd r
@@ -115,7 +100,8 @@ written_more (Titled version) line to g = ([], ap written_at g.2 ∙ by_version 
   by_version false = refl
 written_more (Drifted drift) line to g = ([], ap written_at g.1)
 written_more (Heading header) line to (inl g) = ([], ap written_at g.3)
-written_more (Heading header) line to (inr g) = run_more header [] line to g.2
+written_more (Heading header) line to (inr (inl g)) = ([], ap written_at g.3)
+written_more (Heading header) line to (inr (inr g)) = run_more header [] line to g.2
 written_more (Running header events) line to g = run_more header events line to g
 written_more (Ended header events) line to g = absurd g
 

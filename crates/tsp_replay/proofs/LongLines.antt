@@ -21,7 +21,7 @@ use Rattle.tsp_script.specs.declared.head_line.HeadItem.TheVariants.{Title, Drif
 use Rattle.tsp_script.specs.Schedules.{event_text, port_text, node_text, numbers_text, net_text, flag_text, IsPlace, IsEvent, IsHexOf, IsNodeLine, IsNetLine, IsTitle, IsNotHead, SpellsEvent, SpellsHead}
 use Rattle.tsp_script.proofs.EventLines.{short_hex}
 use Rattle.tsp_script.proofs.Lengths.{number_length, signed_length}
-use Rattle.tsp_replay.specs.Schedules.{Progress, Untitled, Titled, Drifted, Heading, Running, Ended, next_place, Refuses}
+use Rattle.tsp_replay.specs.Schedules.{Progress, Untitled, Titled, Drifted, Heading, Running, Ended, next_place, Refuses, IsComplete}
 use Rattle.tsp_replay.specs.Stages.{StageStands}
 use Rattle.tsp_replay.specs.declared.stage.Stage.TheVariants.{Titled as AtTitled, Drifted as AtDrifted, Heading as AtHeading, Running as AtRunning}
 use Rattle.tsp_world.specs.declared.world.World.{World}
@@ -168,11 +168,11 @@ not_head header line start l s a b = (
   },
 )
 
-pub Refuses-none : (header : HeaderValue) (line : List ℕ) → SpellsHead (next_place header) line NotHead → header.nodes ≡ [] → Refuses (Heading header) line (codes "header")
-Refuses-none header line s e = inl (inr (inr (inl (s, e))), refl)
+pub Refuses-none : (header : HeaderValue) (line : List ℕ) → SpellsHead (next_place header) line NotHead → ¬ IsComplete header → Refuses (Heading header) line (codes "header")
+Refuses-none header line s e = inl (inr (inr (inr (inl (s, e)))), refl)
 
-pub Refuses-other : (header : HeaderValue) (line : List ℕ) → 1024 < length line → SpellsHead (next_place header) line NotHead → 0 < length header.nodes → Refuses (Heading header) line (codes "line")
-Refuses-other header line l s h = inr (s, h, inl (inl (SpellsEvent-long line l), refl))
+pub Refuses-other : (header : HeaderValue) (line : List ℕ) → 1024 < length line → SpellsHead (next_place header) line NotHead → IsComplete header → Refuses (Heading header) line (codes "line")
+Refuses-other header line l s h = inr (s, h, inl (SpellsEvent-long line l, refl))
 
 -- at a stage a long line is refused as where that stage stands
 pub Refuses-titled : (p : Progress) (version : ℕ) (line : List ℕ) → StageStands p (AtTitled version) → 1024 < length line → Refuses p line (codes "header")
@@ -204,9 +204,5 @@ Refuses-running Untitled world line s l = absurd s
 Refuses-running (Titled version) world line s l = absurd s
 Refuses-running (Drifted drift) world line s l = absurd s
 Refuses-running (Heading header) world line s l = absurd s
-Refuses-running (Running header events) world line s l = inl (inl (SpellsEvent-long line l), refl)
+Refuses-running (Running header events) world line s l = inl (SpellsEvent-long line l, refl)
 Refuses-running (Ended header events) world line s l = absurd s
-
-pub nodes_none : (xs ys : List NodeLine) → xs ≡ ys → true ≡ (length xs == 0) → ys ≡ []
-nodes_none [] ys e t = sym e
-nodes_none (x ∷ xs) ys e t = let n : length (x ∷ xs) ≡ 0 = eqb-true (length (x ∷ xs)) 0 (sym t) in absurd (omega (arith, n))

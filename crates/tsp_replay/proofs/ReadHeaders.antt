@@ -5,8 +5,9 @@ use Rattle.std.proofs.lemmas.List.Elements.{All-push}
 use Rattle.tsp_base.specs.declared.event.Event.{Event}
 use Rattle.tsp_base.specs.declared.header.NodeLine.{NodeLine}
 use Rattle.tsp_base.specs.Headers.{HeaderValue, IsHeader, Keeps}
+use Rattle.tsp_base.proofs.HeaderLemmas.{IsHeader-joined}
 use Rattle.tsp_replay.specs.Meaning.{IsSchedule}
-use Rattle.tsp_replay.specs.Schedules.{Progress, Untitled, Titled, Drifted, Heading, Running, Ended, Takes, new_header, RunsOn, GoesOn, Reaches}
+use Rattle.tsp_replay.specs.Schedules.{Progress, Untitled, Titled, Drifted, Heading, Running, Ended, Takes, TakesNet, new_header, RunsOn, GoesOn, Reaches}
 
 -- the header that was read so far keeps its ranges
 abbrev KeepsHeader : Progress → Type 0
@@ -37,6 +38,9 @@ one_node header node h t = record {
   few_ports = h.few_ports;
 }
 
+one_net : (header : HeaderValue) (m : List ℕ) → IsHeader header → TakesNet header m → IsHeader (record header { nets = header.nets ++ m ∷ [] })
+one_net header m h t = IsHeader-joined header m h t.few t.joins
+
 run_header : (header : HeaderValue) (events : List Event) (line : List ℕ) (to : Progress) → IsHeader header → RunsOn header events line to → KeepsHeader to
 run_header header events line to h (inl g) = subst (λ p. KeepsHeader p) (sym g.3) h
 run_header header events line to h (inr g) = subst (λ p. KeepsHeader p) (sym g.1) h
@@ -49,7 +53,8 @@ goes_header (Titled version) line to h g = subst (λ p. KeepsHeader p) (sym g.2)
   by_version false = no_nodes g.0 false g.1.1
 goes_header (Drifted drift) line to h g = subst (λ p. KeepsHeader p) (sym g.1) (no_nodes drift true h)
 goes_header (Heading header) line to h (inl g) = subst (λ p. KeepsHeader p) (sym g.3) (one_node header g.0 h g.2)
-goes_header (Heading header) line to h (inr g) = run_header header [] line to h g.2
+goes_header (Heading header) line to h (inr (inl g)) = subst (λ p. KeepsHeader p) (sym g.3) (one_net header g.0 h g.2)
+goes_header (Heading header) line to h (inr (inr g)) = run_header header [] line to h g.2
 goes_header (Running header events) line to h g = run_header header events line to h g
 goes_header (Ended header events) line to h g = absurd g
 

@@ -12,16 +12,16 @@ use Rattle.tsp_lines.specs.declared.treatment.Stop.TheVariants.{Bad, Limit, Writ
 use Rattle.tsp_script.specs.declared.event_line.EventItem.{EventItem}
 use Rattle.tsp_script.specs.declared.event_line.EventItem.TheVariants.{Event as EventOf, End}
 use Rattle.tsp_script.specs.declared.head_line.HeadItem.{HeadItem}
-use Rattle.tsp_script.specs.declared.head_line.HeadItem.TheVariants.{Title, Drift, Strict, Node, NotHead}
+use Rattle.tsp_script.specs.declared.head_line.HeadItem.TheVariants.{Title, Drift, Strict, Node, Net, NotHead}
 use Rattle.tsp_script.specs.declared.line_fault.LineFault.{LineFault}
 use Rattle.tsp_script.specs.Schedules.{SpellsEvent, SpellsHead}
 use Rattle.tsp_world.specs.declared.world.World.{World}
-use Rattle.tsp_world.specs.Refusals.{scene, refusal, IsRefusal}
+use Rattle.tsp_run.specs.Refusals.{scene, refusal, IsRefusal}
 use Rattle.tsp_world.specs.WorldStands.{WorldStands}
 use Rattle.tsp_replay.specs.declared.stage.Stage.{Stage}
 use Rattle.tsp_replay.specs.declared.stage.Stage.TheVariants.{Titled as AtTitled, Drifted as AtDrifted, Heading as AtHeading, Running as AtRunning, Ended as AtEnded}
-use Rattle.tsp_replay.specs.Schedules.{Progress, Untitled, Titled, Drifted, Heading, Running, Ended, GoesOn, RunsOn, Takes, OnOnePort, next_place, new_header, IsCause, drifted}
-use Rattle.tsp_replay.specs.Stages.{StageStands, Advances, AdvancesRun, Halts, HaltsRun, HaltsFirst, HaltsNode, HaltsPort, HaltsEvent, StopsFor}
+use Rattle.tsp_replay.specs.Schedules.{Progress, Untitled, Titled, Drifted, Heading, Running, Ended, GoesOn, RunsOn, Takes, TakesNet, IsComplete, next_place, new_header, IsCause, drifted}
+use Rattle.tsp_replay.specs.Stages.{StageStands, Advances, AdvancesRun, Halts, HaltsRun, HaltsFirst, HaltsNode, HaltsNet, HaltsEvent, StopsFor}
 
 pub MatchResult-map : {A B : Type 0} {P R : A → Type 0} {Q S : B → Type 0} (r : Result A B) → MatchResult r P Q → ((a : A) → P a → R a) → ((b : B) → Q b → S b) → MatchResult r R S
 MatchResult-map (Ok a) h f g = f a h
@@ -69,18 +69,11 @@ HaltsEvent-stops header events e fault WriteFault s i = absurd (no_write fault s
 HaltsEvent-stops header events e fault OutOfMemory s i = tt
 
 -- where an event is refused, so is its line
-pub HaltsRun-event : (header : HeaderValue) (events : List Event) (e : Event) (line : List ℕ) (stop : Stop) → SpellsEvent line (EventOf e) → HaltsPort header events e stop → HaltsRun header events line stop
-HaltsRun-event header events e line (Bad cause) s (inl h) = inl (inr (e, s, h.0), h.1)
-HaltsRun-event header events e line (Bad cause) s (inr h) = inr (e, h.1.0, s, h.0, h.1.1, h.1.2)
-HaltsRun-event header events e line Limit s h = (e, h.1.0, h.1.1, s, h.0, h.1.2)
+pub HaltsRun-event : (header : HeaderValue) (events : List Event) (e : Event) (line : List ℕ) (stop : Stop) → SpellsEvent line (EventOf e) → HaltsEvent header events e stop → HaltsRun header events line stop
+HaltsRun-event header events e line (Bad cause) s h = inr (e, h.0, s, h.1, h.2)
+HaltsRun-event header events e line Limit s h = (e, h.0, h.1, s, h.2)
 HaltsRun-event header events e line WriteFault s h = h
 HaltsRun-event header events e line OutOfMemory s h = tt
-
-pub HaltsPort-event : (header : HeaderValue) (events : List Event) (e : Event) (stop : Stop) → OnOnePort e → HaltsEvent header events e stop → HaltsPort header events e stop
-HaltsPort-event header events e (Bad cause) port h = inr (port, h)
-HaltsPort-event header events e Limit port h = (port, h)
-HaltsPort-event header events e WriteFault port h = h
-HaltsPort-event header events e OutOfMemory port h = tt
 
 event_same : (r : Result EventItem LineFault) (e other : Event) → r ≡ Ok (EventOf e) → r ≡ Ok (EventOf other) → other ≡ e
 event_same r e other p q = cc
@@ -95,10 +88,10 @@ only_event header events e line r is one other (inr g) = absurd (event_not_end r
 
 -- a line of an event that nothing refuses is accepted
 pub AdvancesRun-event : (header : HeaderValue) (events : List Event) (e : Event) (line : List ℕ) (next : Stage) (r : Result EventItem LineFault) → r ≡ Ok (EventOf e) → ((item : EventItem) → SpellsEvent line item → r ≡ Ok item) →
-    SpellsEvent line (EventOf e) → refusal (scene header events) e ≡ None → OnOnePort e → StageStands (Running header (e ∷ events)) next → AdvancesRun header events line next
-AdvancesRun-event header events e line next r is one spells none port stands = record {
+    SpellsEvent line (EventOf e) → refusal (scene header events) e ≡ None → StageStands (Running header (e ∷ events)) next → AdvancesRun header events line next
+AdvancesRun-event header events e line next r is one spells none stands = record {
   to = Running header (e ∷ events);
-  goes = inl (e, spells, none, refl, port);
+  goes = inl (e, spells, none, refl);
   stands = stands;
   only = only_event header events e line r is one;
 }
@@ -154,13 +147,23 @@ Advances-strict drift line held spells held_is = record {
 node_same : (r : Result HeadItem LineFault) (n other : NodeLine) → r ≡ Ok (Node n) → r ≡ Ok (Node other) → other ≡ n
 node_same r n other p q = cc
 
+node_net : (r : Result HeadItem LineFault) (n : NodeLine) (m : List ℕ) → r ≡ Ok (Node n) → r ≡ Ok (Net m) → ⊥
+node_net r n m p q = cc
+
+net_same : (r : Result HeadItem LineFault) (m other : List ℕ) → r ≡ Ok (Net m) → r ≡ Ok (Net other) → other ≡ m
+net_same r m other p q = cc
+
+net_head : (r : Result HeadItem LineFault) (m : List ℕ) → r ≡ Ok (Net m) → r ≡ Ok NotHead → ⊥
+net_head r m p q = cc
+
 node_head : (r : Result HeadItem LineFault) (n : NodeLine) → r ≡ Ok (Node n) → r ≡ Ok NotHead → ⊥
 node_head r n p q = cc
 
 only_node : (header : HeaderValue) (n : NodeLine) (line : List ℕ) (r : Result HeadItem LineFault) → r ≡ Ok (Node n) → ((item : HeadItem) → SpellsHead (next_place header) line item → r ≡ Ok item) →
     (other : Progress) → GoesOn (Heading header) line other → other ≡ Heading (record header { nodes = header.nodes ++ n ∷ [] })
 only_node header n line r is one other (inl g) = g.3 ∙ ap (λ k. Heading (record header { nodes = header.nodes ++ k ∷ [] })) (node_same r n g.0 is (one (Node g.0) g.1))
-only_node header n line r is one other (inr g) = absurd (node_head r n is (one NotHead g.0))
+only_node header n line r is one other (inr (inl g)) = absurd (node_net r n g.0 is (one (Net g.0) g.1))
+only_node header n line r is one other (inr (inr g)) = absurd (node_head r n is (one NotHead g.0))
 
 -- a node that the header can take is accepted
 pub Advances-node : (header : HeaderValue) (n : NodeLine) (line : List ℕ) (next : Stage) (r : Result HeadItem LineFault) → r ≡ Ok (Node n) → ((item : HeadItem) → SpellsHead (next_place header) line item → r ≡ Ok item) → SpellsHead (next_place header) line (Node n) →
@@ -179,29 +182,53 @@ Halts-node header n line Limit spells h = absurd h
 Halts-node header n line WriteFault spells h = h
 Halts-node header n line OutOfMemory spells h = tt
 
+only_net : (header : HeaderValue) (m : List ℕ) (line : List ℕ) (r : Result HeadItem LineFault) → r ≡ Ok (Net m) → ((item : HeadItem) → SpellsHead (next_place header) line item → r ≡ Ok item) →
+    (other : Progress) → GoesOn (Heading header) line other → other ≡ Heading (record header { nets = header.nets ++ m ∷ [] })
+only_net header m line r is one other (inl g) = absurd (node_net r g.0 m (one (Node g.0) g.1) is)
+only_net header m line r is one other (inr (inl g)) = g.3 ∙ ap (λ k. Heading (record header { nets = header.nets ++ k ∷ [] })) (net_same r m g.0 is (one (Net g.0) g.1))
+only_net header m line r is one other (inr (inr g)) = absurd (net_head r m is (one NotHead g.0))
+
+-- a network that the header can take is accepted
+pub Advances-net : (header : HeaderValue) (m : List ℕ) (line : List ℕ) (next : Stage) (r : Result HeadItem LineFault) → r ≡ Ok (Net m) → ((item : HeadItem) → SpellsHead (next_place header) line item → r ≡ Ok item) → SpellsHead (next_place header) line (Net m) →
+    TakesNet header m → next ≡ AtHeading (record header { nets = header.nets ++ m ∷ [] }) → Advances (Heading header) line next
+Advances-net header m line next r is one spells takes next_is = record {
+  to = Heading (record header { nets = header.nets ++ m ∷ [] });
+  goes = inr (inl (m, spells, takes, refl));
+  stands = subst (λ s. StageStands (Heading (record header { nets = header.nets ++ m ∷ [] })) s) (sym next_is) refl;
+  only = only_net header m line r is one;
+}
+
+-- and one that it can't take is refused
+pub Halts-net : (header : HeaderValue) (m : List ℕ) (line : List ℕ) (stop : Stop) → SpellsHead (next_place header) line (Net m) → HaltsNet header m stop → Halts (Heading header) line stop
+Halts-net header m line (Bad cause) spells h = inl (inr (inr (inl (m, spells, h.0))), h.1)
+Halts-net header m line Limit spells h = absurd h
+Halts-net header m line WriteFault spells h = h
+Halts-net header m line OutOfMemory spells h = tt
+
 only_first : (header : HeaderValue) (line : List ℕ) (next : Stage) (r : Result HeadItem LineFault) → r ≡ Ok NotHead → ((item : HeadItem) → SpellsHead (next_place header) line item → r ≡ Ok item) → (a : AdvancesRun header [] line next) →
     (other : Progress) → GoesOn (Heading header) line other → other ≡ a.to
 only_first header line next r is one a other (inl g) = absurd (node_head r g.0 (one (Node g.0) g.1) is)
-only_first header line next r is one a other (inr g) = a.only other g.2
+only_first header line next r is one a other (inr (inl g)) = absurd (net_head r g.0 (one (Net g.0) g.1) is)
+only_first header line next r is one a other (inr (inr g)) = a.only other g.2
 
--- the first line behind the nodes is accepted as any line behind the header
+-- the first line behind the header is accepted as any line behind the header
 pub Advances-first : (header : HeaderValue) (line : List ℕ) (next : Stage) (r : Result HeadItem LineFault) → r ≡ Ok NotHead → ((item : HeadItem) → SpellsHead (next_place header) line item → r ≡ Ok item) → SpellsHead (next_place header) line NotHead →
-    0 < length header.nodes → AdvancesRun header [] line next → Advances (Heading header) line next
+    IsComplete header → AdvancesRun header [] line next → Advances (Heading header) line next
 Advances-first header line next r is one spells some a = record {
   to = a.to;
-  goes = inr (spells, some, a.goes);
+  goes = inr (inr (spells, some, a.goes));
   stands = a.stands;
   only = only_first header line next r is one a;
 }
 
 pub Halts-first : (header : HeaderValue) (line : List ℕ) (stop : Stop) → SpellsHead (next_place header) line NotHead → HaltsFirst header line stop → Halts (Heading header) line stop
-Halts-first header line (Bad cause) spells (inl h) = inl (inr (inr (inl (spells, h.0))), h.1)
+Halts-first header line (Bad cause) spells (inl h) = inl (inr (inr (inr (inl (spells, h.0)))), h.1)
 Halts-first header line (Bad cause) spells (inr h) = inr (spells, h.0, h.1)
 Halts-first header line Limit spells h = (spells, h.0, h.1)
 Halts-first header line WriteFault spells h = h
 Halts-first header line OutOfMemory spells h = tt
 
-pub HaltsFirst-run : (header : HeaderValue) (line : List ℕ) (stop : Stop) → 0 < length header.nodes → HaltsRun header [] line stop → HaltsFirst header line stop
+pub HaltsFirst-run : (header : HeaderValue) (line : List ℕ) (stop : Stop) → IsComplete header → HaltsRun header [] line stop → HaltsFirst header line stop
 HaltsFirst-run header line (Bad cause) some h = inr (some, h)
 HaltsFirst-run header line Limit some h = (some, h)
 HaltsFirst-run header line WriteFault some h = h

@@ -9,7 +9,7 @@ use Rattle.std.proofs.lemmas.List.{reverse-append}
 use Rattle.std.proofs.lemmas.Grind.{flat_map-append}
 use Rattle.tsp_base.specs.declared.event.Event.{Event}
 use Rattle.tsp_base.specs.Headers.{HeaderValue}
-use Rattle.tsp_world.specs.Run.{told, gained}
+use Rattle.tsp_run.specs.Run.{told, gained}
 use Rattle.tsp_replay.specs.declared.stage.Stage.{Stage}
 use Rattle.tsp_replay.specs.declared.stage.Stage.TheVariants.{Untitled as AtUntitled, Titled as AtTitled, Drifted as AtDrifted, Heading as AtHeading, Running as AtRunning, Ended as AtEnded}
 use Rattle.tsp_replay.specs.Schedules.{Progress, Untitled, Titled, Drifted, Heading, Running, Ended, GoesOn, RunsOn, new_header}
@@ -81,7 +81,8 @@ written_at-more (Titled version) line to next g s = by_version (version == 2) g.
   by_version false e s = ap written_at e ∙ ap (λ ls. lines_text ls) (sym (heading_told _ next (subst (λ p. StageStands p next) e s)))
 written_at-more (Drifted drift) line to next g s = ap written_at g.1 ∙ ap (λ ls. lines_text ls) (sym (heading_told _ next (subst (λ p. StageStands p next) g.1 s)))
 written_at-more (Heading header) line to next (inl g) s = ap written_at g.3 ∙ ap (λ ls. lines_text ls) (sym (heading_told _ next (subst (λ p. StageStands p next) g.3 s)))
-written_at-more (Heading header) line to next (inr g) s = run_written header [] line to next g.2 s
+written_at-more (Heading header) line to next (inr (inl g)) s = ap written_at g.3 ∙ ap (λ ls. lines_text ls) (sym (heading_told _ next (subst (λ p. StageStands p next) g.3 s)))
+written_at-more (Heading header) line to next (inr (inr g)) s = run_written header [] line to next g.2 s
 written_at-more (Running header events) line to next g s = run_written header events line to next g s
 written_at-more (Ended header events) line to next g s = absurd g
 

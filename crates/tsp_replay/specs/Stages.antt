@@ -10,9 +10,9 @@ use Rattle.tsp_lines.specs.declared.treatment.Stop.{Stop}
 use Rattle.tsp_lines.specs.declared.treatment.Stop.TheVariants.{Bad, Limit, WriteFault, OutOfMemory}
 use Rattle.tsp_replay.specs.declared.stage.Stage.{Stage}
 use Rattle.tsp_replay.specs.declared.stage.Stage.TheVariants.{Untitled as AtUntitled, Titled as AtTitled, Drifted as AtDrifted, Heading as AtHeading, Running as AtRunning, Ended as AtEnded}
-use Rattle.tsp_replay.specs.Schedules.{Progress, Untitled, Titled, Drifted, Heading, Running, Ended, GoesOn, RunsOn, Reaches, Refuses, RefusesRun, Limits, LimitsRun, Takes, OnOnePort, IsCause, new_header}
-use Rattle.tsp_world.specs.declared.line.Line.{Line}
-use Rattle.tsp_world.specs.Refusals.{scene, refusal}
+use Rattle.tsp_replay.specs.Schedules.{Progress, Untitled, Titled, Drifted, Heading, Running, Ended, GoesOn, RunsOn, Reaches, Refuses, RefusesRun, Limits, LimitsRun, Takes, TakesNet, IsComplete, IsCause, new_header}
+use Rattle.tsp_run.specs.declared.line.Line.{Line}
+use Rattle.tsp_run.specs.Refusals.{scene, refusal}
 use Rattle.tsp_world.specs.WorldStands.{WorldStands}
 
 -- a stage stands for how far the lines have come
@@ -57,10 +57,10 @@ HaltsRun header events line Limit = LimitsRun header events line
 HaltsRun header events line WriteFault = ⊥
 HaltsRun header events line OutOfMemory = Unit {0}
 
--- the first line behind the nodes was not accepted: there are no nodes, or as any line behind the header
+-- the first line behind the header was not accepted: the header may not end, or as any line behind it
 abbrev pub HaltsFirst : HeaderValue → List ℕ → Stop → Type 0
-HaltsFirst header line (Bad cause) = ((header.nodes ≡ []) × (cause ≡ codes "header")) ⊎ ((0 < length header.nodes) × RefusesRun header [] line cause)
-HaltsFirst header line Limit = (0 < length header.nodes) × LimitsRun header [] line
+HaltsFirst header line (Bad cause) = ((¬ IsComplete header) × (cause ≡ codes "header")) ⊎ (IsComplete header × RefusesRun header [] line cause)
+HaltsFirst header line Limit = IsComplete header × LimitsRun header [] line
 HaltsFirst header line WriteFault = ⊥
 HaltsFirst header line OutOfMemory = Unit {0}
 
@@ -71,19 +71,19 @@ HaltsNode header node Limit = ⊥
 HaltsNode header node WriteFault = ⊥
 HaltsNode header node OutOfMemory = Unit {0}
 
+-- a network was not accepted
+abbrev pub HaltsNet : HeaderValue → List ℕ → Stop → Type 0
+HaltsNet header members (Bad cause) = (¬ TakesNet header members) × (cause ≡ codes "header")
+HaltsNet header members Limit = ⊥
+HaltsNet header members WriteFault = ⊥
+HaltsNet header members OutOfMemory = Unit {0}
+
 -- an event was refused
 abbrev pub HaltsEvent : HeaderValue → List Event → Event → Stop → Type 0
 HaltsEvent header events e (Bad cause) = (fault : EventFault) × (refusal (scene header events) e ≡ Some fault) × IsCause fault cause
 HaltsEvent header events e Limit = (a : ℕ) × (b : ℕ) × (refusal (scene header events) e ≡ Some (NoRoom a b))
 HaltsEvent header events e WriteFault = ⊥
 HaltsEvent header events e OutOfMemory = Unit {0}
-
--- an event was refused, or is on another port than the first
-abbrev pub HaltsPort : HeaderValue → List Event → Event → Stop → Type 0
-HaltsPort header events e (Bad cause) = ((¬ OnOnePort e) × (cause ≡ codes "line")) ⊎ (OnOnePort e × HaltsEvent header events e (Bad cause))
-HaltsPort header events e Limit = OnOnePort e × HaltsEvent header events e Limit
-HaltsPort header events e WriteFault = ⊥
-HaltsPort header events e OutOfMemory = Unit {0}
 
 -- how a refused event stops the replay
 abbrev pub StopsFor : EventFault → Stop → Type 0

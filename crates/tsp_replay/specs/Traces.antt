@@ -3,8 +3,8 @@ use Rattle.std.specs.Prelude.{ℕ, List, [], ◌∷◌, ◌++◌, flat_map, Opti
 use Rattle.tsp_base.specs.declared.event.Event.{Event}
 use Rattle.tsp_base.specs.Headers.{HeaderValue}
 use Rattle.tsp_script.specs.Traces.{trace_text}
-use Rattle.tsp_world.specs.declared.line.Line.{Line}
-use Rattle.tsp_world.specs.Run.{told}
+use Rattle.tsp_run.specs.declared.line.Line.{Line}
+use Rattle.tsp_run.specs.Run.{told}
 use Rattle.tsp_replay.specs.Schedules.{Progress, Untitled, Titled, Drifted, Heading, Running, Ended}
 
 -- a post's number; other acts have none, and their lines show none

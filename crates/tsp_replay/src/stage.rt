@@ -3,20 +3,21 @@ ghost use Rattle.std.specs.Prelude.{◌≡◌, ◌≢◌, ◌<◌, ◌≤◌, �
 ghost use Rattle.tsp_base.specs.Headers.{HeaderValue};
 ghost use Rattle.tsp_base.specs.declared.event.Event.{Event};
 ghost use Rattle.tsp_script.specs.Schedules.{IsEvent};
-ghost use Rattle.tsp_world.specs.Refusals.{refusal, scene};
+ghost use Rattle.tsp_run.specs.Refusals.{refusal, scene};
 ghost use Rattle.tsp_world.specs.WorldStands.{WorldStands};
-ghost use Rattle.tsp_replay.specs.Schedules.{Progress, Untitled, Titled, Drifted, Heading, Running, Takes, OnOnePort, next_place, drifted, new_header, Lacks, IsEnded, Refuses};
-ghost use Rattle.tsp_replay.specs.Stages.{StageStands, Advances, Halts, AdvancesRun, HaltsRun, HaltsNode, HaltsFirst, HaltsPort, HaltsEvent, told_at};
+ghost use Rattle.tsp_replay.specs.Schedules.{Progress, Untitled, Titled, Drifted, Heading, Running, Takes, TakesNet, IsComplete, next_place, drifted, new_header, Lacks, IsEnded, Refuses};
+ghost use Rattle.tsp_replay.specs.Stages.{StageStands, Advances, Halts, AdvancesRun, HaltsRun, HaltsNode, HaltsNet, HaltsFirst, HaltsEvent, told_at};
 
 use crate::faults::stop_of;
 use std::alloc::Global;
 use tsp_base::event::Event;
 use tsp_base::header::{Header, HeaderFault, NodeLine};
+use tsp_base::members::Members;
 use tsp_lines::cause::Cause;
 use tsp_lines::treatment::Stop;
+use tsp_run::line::Line;
 use tsp_script::event_line::{EventItem, event_line};
 use tsp_script::head_line::{HeadItem, head_line};
-use tsp_world::line::Line;
 use tsp_world::world::World;
 
 /// What was read of a schedule.
@@ -28,7 +29,7 @@ pub enum Stage {
     Titled(u32),
     /// The title of the second version and the drift: `strict` has to follow.
     Drifted(Header),
-    /// The header up to some nodes.
+    /// The header up to some nodes and networks.
     Heading(Header),
     /// The header and some events, one at least.
     Running(World),
@@ -68,14 +69,11 @@ fn next_place(header: &Header) -> u32
     }
 }
 
-/// Whether a node with one port can take an event; replays take no other yet.
-fn is_on_one_port(e: &Event) -> bool
-    ensures { MatchBool result (OnOnePort e.now) (¬ OnOnePort e.now) }
+/// Whether a header may end: it has a node, and where it has networks each node is on one.
+fn is_complete(header: &Header) -> bool
+    ensures { MatchBool result (IsComplete header.now) (¬ IsComplete header.now) }
 {
-    match e {
-        Event::Bytes { port, .. } => port.0 == 0,
-        Event::Boot { .. } | Event::Turn { .. } | Event::Take { .. } => true,
-    }
+    !header.nodes().is_empty() && header.whole()
 }
 
 impl Stage {
@@ -144,16 +142,17 @@ impl Stage {
         }
     }
 
-    /// Reads a line where a node is expected. `strict` stands before the nodes, and replays take no networks yet.
+    /// Reads a line where a node or a network is expected. `strict` stands before the nodes, and nodes stand before
+    /// networks.
     fn head(alloc: Global, header: Header, line: &[u8]) -> Result<Stage, Stop>
         ensures next { MatchResult result (Advances (Heading header) line.now) (Halts (Heading header) line.now) }
         ensures kind { result ≢ Err Stop.WriteFault }
     {
         match head_line(line, next_place(&header)) {
             Ok(HeadItem::Node(node)) => Stage::node(header, node),
+            Ok(HeadItem::Net(members)) => Stage::net(header, &members),
             Ok(HeadItem::NotHead) => Stage::first(alloc, header, line),
             Ok(HeadItem::Strict) => Err(bad_header()),
-            Ok(HeadItem::Net(_)) => Err(bad_header()),
             Ok(_) => unreachable!(),
             Err(_) => Err(bad_header()),
         }
@@ -174,12 +173,24 @@ impl Stage {
         }
     }
 
-    /// Reads the first line behind the nodes.
-    fn first(alloc: Global, header: Header, line: &[u8]) -> Result<Stage, Stop>
-        ensures next { MatchResult result (λ next. (0 < length header.nodes) × AdvancesRun header [] line.now next) (HaltsFirst header line.now) }
+    /// Adds a network to the header.
+    fn net(mut header: Header, members: &Members) -> Result<Stage, Stop>
+        ensures next { MatchResult result (λ next. TakesNet header members.now × (next ≡ Stage.Heading (record header { nets = header.nets ++ members.now ∷ [] }))) (HaltsNet header members.now) }
         ensures kind { result ≢ Err Stop.WriteFault }
     {
-        if header.nodes().is_empty() {
+        match header.net(members.numbers()) {
+            Ok(()) => Ok(Stage::Heading(header)),
+            Err(HeaderFault::OutOfMemory) => Err(Stop::OutOfMemory),
+            Err(_) => Err(bad_header()),
+        }
+    }
+
+    /// Reads the first line behind the header, which may end where it has a node and is whole.
+    fn first(alloc: Global, header: Header, line: &[u8]) -> Result<Stage, Stop>
+        ensures next { MatchResult result (λ next. IsComplete header × AdvancesRun header [] line.now next) (HaltsFirst header line.now) }
+        ensures kind { result ≢ Err Stop.WriteFault }
+    {
+        if !is_complete(&header) {
             return Err(bad_header());
         }
         match World::new(alloc, header) {
@@ -194,29 +205,15 @@ impl Stage {
         ensures kind { result ≢ Err Stop.WriteFault }
     {
         match event_line(line) {
-            Ok(EventItem::Event(e)) => Stage::on_one_port(world, &e),
+            Ok(EventItem::Event(e)) => Stage::happen(world, &e),
             Ok(EventItem::End) => Ok(Stage::Ended),
             Err(_) => Err(Stop::Bad(Cause::of(b"line"))),
         }
     }
 
-    /// Lets an event happen, if a node with one port can take it.
-    fn on_one_port(world: World, e: &Event) -> Result<Stage, Stop>
-        requires { IsEvent e.now }
-        ensures next { (header : HeaderValue) (events : List Event) → WorldStands header events world → MatchResult result
-            (λ next. (refusal (scene header events) e.now ≡ None) × OnOnePort e.now × StageStands (Running header (e.now ∷ events)) next) (HaltsPort header events e.now) }
-        ensures kind { result ≢ Err Stop.WriteFault }
-    {
-        if !is_on_one_port(e) {
-            return Err(Stop::Bad(Cause::of(b"line")));
-        }
-        Stage::happen(world, e)
-    }
-
     /// Lets an event happen.
     fn happen(mut world: World, e: &Event) -> Result<Stage, Stop>
-        requires event { IsEvent e.now }
-        requires port { OnOnePort e.now }
+        requires { IsEvent e.now }
         ensures next { (header : HeaderValue) (events : List Event) → WorldStands header events world → MatchResult result
             (λ next. (refusal (scene header events) e.now ≡ None) × StageStands (Running header (e.now ∷ events)) next) (HaltsEvent header events e.now) }
         ensures kind { result ≢ Err Stop.WriteFault }
@@ -241,7 +238,7 @@ impl Stage {
         }
     }
 
-    /// For what cause a long line is refused where a node is expected.
+    /// For what cause a long line is refused where a node or a network is expected.
     fn head_refuses_long(header: &Header, start: &[u8]) -> Cause
         ensures { (line : List ℕ) → 1024 < length line → start.now ≡ take 8 line → Refuses (Heading header.now) line result }
     {
@@ -251,7 +248,7 @@ impl Stage {
         if is_net(start) {
             return Cause::of(b"header");
         }
-        if header.nodes().is_empty() {
+        if !is_complete(header) {
             return Cause::of(b"header");
         }
         Cause::of(b"line")
@@ -285,10 +282,10 @@ impl Stage {
     fn head_lacks(header: &Header) -> Cause
         ensures { Lacks (Heading header.now) result }
     {
-        if header.nodes().is_empty() {
-            Cause::of(b"header")
-        } else {
+        if is_complete(header) {
             Cause::of(b"no-end")
+        } else {
+            Cause::of(b"header")
         }
     }
 }

@@ -9,8 +9,8 @@ use crate::stage::Stage;
 use tsp_io::sink::Sink;
 use tsp_lines::output::{Output, Unwritten};
 use tsp_lines::treatment::Stop;
+use tsp_run::line::Line;
 use tsp_script::trace::placed_text;
-use tsp_world::line::Line;
 
 /// Hands over the lines of the last event's acts.
 pub(crate) fn tell_stage<K: Sink>(

@@ -4,7 +4,7 @@ use Rattle.std.specs.Prelude.{OnErr}
 use Rattle.std.specs.declared.result.Result.{Result}
 use Rattle.std.proofs.lemmas.List.{drop_more}
 use Rattle.tsp_lines.proofs.Outputs.{Hands-trans}
-use Rattle.tsp_world.specs.declared.line.Line.{Line}
+use Rattle.tsp_run.specs.declared.line.Line.{Line}
 use Rattle.tsp_replay.specs.Traces.{lines_text, line_text}
 use Rattle.tsp_replay.proofs.tell.tell.Goals as goal
 

@@ -1,5 +1,4 @@
-use Rattle.std.proofs.Common.{rules}
-use Rattle.tsp_replay.proofs.LongLines.{Refuses-node, Refuses-net, Refuses-none, Refuses-other, not_head, nodes_none}
+use Rattle.tsp_replay.proofs.LongLines.{Refuses-node, Refuses-net, Refuses-none, Refuses-other, not_head}
 use Rattle.std.proofs.lemmas.Bool.{MatchBool-at_true, MatchBool-at_false}
 use Rattle.tsp_replay.proofs.stage.Stage.head_refuses_long.Goals as goal
 
@@ -9,12 +8,12 @@ returns-then-is_node c = λ line l e. rw c.of.ensures (Refuses-node c.args.heade
 pub returns-then-is_net : goal.returns-then-is_net
 returns-then-is_net c = λ line l e. rw c.of-then-is_net.ensures (Refuses-net c.args.header.now line c.args.start.now l e (MatchBool-at_true _ _ c.if-is_net.true c.is_net.ensures))
 
-pub returns-then-is_empty : goal.returns-then-is_empty
-returns-then-is_empty c = λ line l e.
+pub returns-then-not-is_complete : goal.returns-then-not-is_complete
+returns-then-not-is_complete c = λ line l e.
     let behind = not_head c.args.header.now line c.args.start.now l e (MatchBool-at_false _ _ c.if-is_node.false c.is_node.ensures) (MatchBool-at_false _ _ c.if-is_net.false c.is_net.ensures) in
-    rw c.of-then-is_empty.ensures (Refuses-none c.args.header.now line behind (nodes_none _ _ c.nodes.ensures.nodes c.if-is_empty.ensures))
+    rw c.of-then-not-is_complete.ensures (Refuses-none c.args.header.now line behind (MatchBool-at_false _ _ c.if-not-is_complete.true c.is_complete.ensures))
 
 pub returns : goal.returns
 returns c = λ line l e.
     let behind = not_head c.args.header.now line c.args.start.now l e (MatchBool-at_false _ _ c.if-is_node.false c.is_node.ensures) (MatchBool-at_false _ _ c.if-is_net.false c.is_net.ensures) in
-    rw c.of-2.ensures (Refuses-other c.args.header.now line l behind (search rules))
+    rw c.of-2.ensures (Refuses-other c.args.header.now line l behind (MatchBool-at_true _ _ c.if-not-is_complete.false c.is_complete.ensures))

@@ -9,8 +9,8 @@ returns-in-Ok-Event-clause-next c header events w =
     let line = c.args.line.now in
     let is = c.in-Ok-Event.is ∙ ap (λ i. Ok i) c.in-Ok-Event.field-0-is in
     let spells = subst (λ i. SpellsEvent line i) c.in-Ok-Event.field-0-is c.in-Ok-Event.ensures.reads in
-    MatchResult-map c.on_one_port.result (c.on_one_port.ensures.next header events w)
-    (λ next h. AdvancesRun-event header events c.in-Ok-Event.e line next c.event_line.result is c.event_line.ensures.one spells h.0 h.1 h.2)
+    MatchResult-map c.happen.result (c.happen.ensures.next header events w)
+    (λ next h. AdvancesRun-event header events c.in-Ok-Event.e line next c.event_line.result is c.event_line.ensures.one spells h.0 h.1)
     (λ stop h. HaltsRun-event header events c.in-Ok-Event.e line stop spells h)
 
 pub returns-in-Ok-End-clause-next : goal.returns-in-Ok-End-clause-next
