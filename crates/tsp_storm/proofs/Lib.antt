@@ -1,0 +1,7 @@
+pub mod Tallies
+pub mod Draws
+pub mod Ends
+pub mod Heads
+pub mod Mades
+pub mod Steps
+pub mod Ups

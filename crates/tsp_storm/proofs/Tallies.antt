@@ -1,0 +1,55 @@
+-- What is counted of a run grows by what is counted of each event.
+use Rattle.std.specs.Prelude.{◌≡◌, ℕ, suc, ◌+◌, List, ◌++◌, length, if◌then◌else◌, Bool, refl}
+use Rattle.std.proofs.Common.{sym, ap, ◌∙◌, subst}
+use Rattle.std.proofs.lemmas.List.Sums.{sum_by-append}
+use Rattle.tsp_base.specs.declared.act.Act.{Act}
+use Rattle.tsp_storm.specs.declared.counts.Counts.{Counts}
+use Rattle.tsp_storm.specs.declared.making.Making.{Making}
+use Rattle.tsp_storm.specs.declared.making.Stopped.{Stopped}
+use Rattle.tsp_storm.specs.declared.making.Stopped.TheVariants.{Limit, OutOfMemory}
+use Rattle.tsp_storm.specs.Answers.{SumsUp, Halts}
+use Rattle.tsp_storm.specs.Makings.{MakingStands, StopsFor}
+use Rattle.tsp_storm.specs.Schedules.{header_of, events_of, posted_in}
+use Rattle.tsp_storm.specs.Summaries.{acts_like, is_took, is_correct, is_mastership, Counted, summary_text}
+use Rattle.tsp_storm.proofs.Steps.{made_now}
+use Rattle.tsp_words.specs.declared.storm.StormWords.{StormWords}
+use Rattle.tsp_run.specs.declared.line.Line.{Line}
+use Rattle.tsp_run.specs.Refusals.{Valid}
+use Rattle.tsp_run.specs.Run.{told, gained}
+
+like_append : (is_such : Act → Bool) (xs ys : List Line) → acts_like is_such (xs ++ ys) ≡ acts_like is_such xs + acts_like is_such ys
+like_append is_such xs ys = sum_by-append (λ (l : Line). if is_such l.placed.act then 1 else 0) xs ys
+
+one_more : (is_such : Act → Bool) (s : StormWords) (n old new : ℕ) (lines : List Line) → lines ≡ gained (header_of s) (events_of s (suc n)) → old ≡ acts_like is_such (told (header_of s) (events_of s n)) → new ≡ old + acts_like is_such lines →
+    new ≡ acts_like is_such (told (header_of s) (events_of s (suc n)))
+one_more is_such s n old new lines is was now =
+    now ∙ ap (λ k. k + acts_like is_such lines) was ∙ ap (λ ls. acts_like is_such (told (header_of s) (events_of s n)) + acts_like is_such ls) is
+    ∙ sym (like_append is_such (told (header_of s) (events_of s n)) (gained (header_of s) (events_of s (suc n))))
+
+-- the counts after one event more
+pub counted_more : (s : StormWords) (n : ℕ) (old new : Counts) (lines : List Line) → Counted (told (header_of s) (events_of s n)) old → lines ≡ gained (header_of s) (events_of s (suc n)) →
+    new.took ≡ old.took + acts_like is_took lines → new.corrects ≡ old.corrects + acts_like is_correct lines → new.masters ≡ old.masters + acts_like is_mastership lines → Counted (told (header_of s) (events_of s (suc n))) new
+counted_more s n old new lines c is took corrects masters = record {
+  took = one_more is_took s n old.took new.took lines is c.took took;
+  corrects = one_more is_correct s n old.corrects new.corrects lines is c.corrects corrects;
+  masters = one_more is_mastership s n old.masters new.masters lines is c.masters masters;
+}
+
+summary_same : (events other posted sent took taken corrects corrected masters mastered : ℕ) → events ≡ other → posted ≡ sent → took ≡ taken → corrects ≡ corrected → masters ≡ mastered → summary_text events posted took corrects masters ≡ summary_text other sent taken corrected mastered
+summary_same events other posted sent took taken corrects corrected masters mastered a b c d e = rw (a, b, c, d, e) refl
+
+-- a whole schedule was counted
+pub sums_up : (s : StormWords) (m : Making) (posted : ℕ) (counts : Counts) → MakingStands s m → m.storm.given ≡ s.events → posted ≡ length m.world.sent.items → Counted (told (header_of s) (events_of s s.events)) counts →
+    SumsUp s (record { events = s.events; posted = posted; counts = counts })
+sums_up s m posted counts st all sent c = (
+  subst (λ n. Valid (header_of s) (events_of s n)) all st.world.valid,
+  summary_same s.events (length (events_of s s.events)) posted (posted_in (header_of s) (events_of s s.events)) counts.took _ counts.corrects _ counts.masters _
+      (sym all ∙ (made_now s m st).count ∙ ap (λ n. length (events_of s n)) all)
+      (sent ∙ ap (λ ps. length ps) st.world.sent ∙ ap (λ n. posted_in (header_of s) (events_of s n)) all)
+      c.took c.corrects c.masters,
+)
+
+-- where a step stops, the schedule stops
+pub halts : (s : StormWords) (n : ℕ) (stop : Stopped) → StopsFor s n stop → Halts s stop
+halts s n (Limit number) h = (n, h.1, h.0)
+halts s n OutOfMemory h = tt

@@ -1,0 +1,21 @@
+-- What a schedule in the making stands for.
+use Rattle.std.specs.Prelude.{◌≡◌, ℕ, ◌+◌}
+use Rattle.tsp_storm.specs.declared.making.Making.{Making}
+use Rattle.tsp_storm.specs.declared.making.Stopped.{Stopped}
+use Rattle.tsp_storm.specs.declared.making.Stopped.TheVariants.{Limit, OutOfMemory}
+use Rattle.tsp_storm.specs.Answers.{StopsAfter}
+use Rattle.tsp_storm.specs.Schedules.{header_of, events_of, made}
+use Rattle.tsp_words.specs.Storms.{IsStorm}
+use Rattle.tsp_words.specs.declared.storm.StormWords.{StormWords}
+use Rattle.tsp_world.specs.WorldStands.{WorldStands}
+
+-- as many events of the schedule of these words were made as the generator has given, and the world has accepted them
+pub record MakingStands (s : StormWords) (m : Making) : Type 0 where
+  pub words : IsStorm s
+  pub generator : m.storm ≡ (made s m.storm.given).generator
+  pub world : WorldStands (header_of s) (events_of s m.storm.given) m.world
+
+-- why the event after so many wasn't made
+abbrev pub StopsFor : StormWords → ℕ → Stopped → Type 0
+StopsFor s n (Limit number) = (number ≡ n + 1) × StopsAfter s n
+StopsFor s n OutOfMemory = Unit {0}

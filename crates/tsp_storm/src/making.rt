@@ -1,0 +1,119 @@
+//! A schedule in the making: the generator, and the world that its events happen in.
+ghost use Rattle.std.specs.Prelude.{◌≡◌, ◌<◌, ◌≤◌, ◌+◌, List, None, Some, IfOk, IfErr, OnOk, length};
+ghost use Rattle.tsp_base.specs.Headers.{HeaderValue};
+ghost use Rattle.tsp_base.specs.declared.event.Event.{Event};
+ghost use Rattle.tsp_script.specs.Schedules.{IsEvent};
+ghost use Rattle.tsp_script.specs.Storms.{storm_take};
+ghost use Rattle.tsp_storm.specs.Makings.{MakingStands, StopsFor};
+ghost use Rattle.tsp_storm.specs.Schedules.{next_event, event_after};
+ghost use Rattle.tsp_words.specs.Storms.{IsStorm};
+ghost use Rattle.tsp_world.specs.WorldStands.{WorldStands};
+
+use crate::header::begin;
+use std::alloc::{AllocError, Global};
+use tsp_base::event::{Event, EventFault};
+use tsp_run::line::Line;
+use tsp_script::storm::{Draw, Storm};
+use tsp_words::storm::StormWords;
+use tsp_world::world::World;
+
+/// Why no event more was made.
+#[derive(Clone, Copy, PartialEq, Eq, Debug)]
+pub enum Stopped {
+    /// There is no room for the event with this number, from 1 on.
+    Limit(u64),
+    /// There was no memory.
+    OutOfMemory,
+}
+
+/// The generator, and the world.
+#[derive(Drop)]
+pub struct Making {
+    storm: Storm,
+    world: World,
+}
+
+/// The event that comes after those of a world.
+fn draw(storm: &mut Storm, world: &World) -> Event
+    requires some { 1 ≤ storm.old.nodes }
+    requires named { storm.old.named ≡ storm.old.nodes }
+    requires few { storm.old.given < 200000 }
+    requires quiet { storm.old.asked ≡ None }
+    ensures next { (header : HeaderValue) (events : List Event) → WorldStands header events world.now → (result, storm.new) ≡ next_event header events storm.old }
+    ensures range { IsEvent result }
+{
+    let posted = world.posted();
+    match storm.next(posted, None) {
+        Draw::Event(e) => e,
+        Draw::Ask(k) => match world.posted_at(k) {
+            Some(time) => answer(storm, posted, k, time),
+            None => unreachable!(),
+        },
+    }
+}
+
+/// The event after a question for this datagram, which was posted at this time.
+fn answer(storm: &mut Storm, posted: u64, k: u64, time: u64) -> Event
+    requires named { storm.old.named ≡ storm.old.nodes }
+    requires few { storm.old.given < 200000 }
+    requires asked { storm.old.asked ≡ Some k }
+    ensures next { (result, storm.new) ≡ storm_take k time storm.old }
+    ensures range { IsEvent result }
+{
+    match storm.next(posted, Some(time)) {
+        Draw::Event(e) => e,
+        Draw::Ask(_) => unreachable!(),
+    }
+}
+
+impl Making {
+    /// A schedule without events: a node for each of the words' nodes, and none is up. The refusal is want
+    /// of memory.
+    pub fn begin(alloc: Global, words: &StormWords) -> Result<Making, AllocError>
+        requires { IsStorm words.now }
+        ensures stands { IfOk result (λ m. MakingStands words.now m) }
+        ensures none { IfOk result (λ m. m.storm.given ≡ 0) }
+    {
+        let begun = begin(alloc, words)?;
+        let world = World::new(alloc, begun.header)?;
+        Ok(Making {
+            storm: begun.storm,
+            world,
+        })
+    }
+
+    /// One event more, which happens in the world: `Limit` exactly where there is no room for it, with its
+    /// number, from 1 on.
+    pub fn step(&mut self, words: &StormWords) -> Result<Event, Stopped>
+        requires stands { MakingStands words.now self.old }
+        requires more { self.old.storm.given < words.now.events }
+        ensures stands { OnOk result (MakingStands words.now self.new) }
+        ensures given { OnOk result (self.new.storm.given ≡ self.old.storm.given + 1) }
+        ensures event { IfOk result (λ e. e ≡ event_after words.now self.old.storm.given) }
+        ensures stops { IfErr result (λ stop. StopsFor words.now self.old.storm.given stop) }
+    {
+        let e = draw(&mut self.storm, &self.world);
+        match self.world.event(&e) {
+            Ok(()) => Ok(e),
+            Err(fault) => match fault {
+                EventFault::Limit(events, _) => Err(Stopped::Limit(events + 1)),
+                EventFault::OutOfMemory => Err(Stopped::OutOfMemory),
+                _ => unreachable!(),
+            },
+        }
+    }
+
+    /// The lines of the last event's acts.
+    pub fn acts(&self) -> &[Line]
+        ensures { result.now ≡ self.now.world.lines.items }
+    {
+        self.world.acts()
+    }
+
+    /// How many datagrams were posted.
+    pub fn posted(&self) -> u64
+        ensures { result ≡ length self.now.world.sent.items }
+    {
+        self.world.posted()
+    }
+}
