@@ -1,7 +1,6 @@
 -- From what a replay comes to, to the headline.
-use Rattle.std.specs.Prelude.{◌≡◌, ◌⊎◌, ℕ, ◌==◌, Bool, true, false, if◌then◌else◌, List, [], ◌∷◌, ◌++◌, reverse, Option, All}
-use Rattle.std.proofs.Common.{sym, ap, ◌∙◌, inl, inr, subst, append-nil, arith, length, take, drop, take-append-drop, ◌<◌, map, get_or}
-use Rattle.std.proofs.lemmas.List.{length-drop}
+use Rattle.std.specs.Prelude.{◌≡◌, ℕ, ◌==◌, Bool, true, false, if◌then◌else◌, List, [], ◌∷◌, ◌++◌, reverse, Option, All}
+use Rattle.std.proofs.Common.{sym, ap, ◌∙◌, inl, inr, subst, append-nil}
 use Rattle.std.proofs.lemmas.List.Elements.{All-cons, All-nil}
 use Rattle.hex.proofs.HexLemmas.{decode_of-ok}
 use Rattle.tsp_base.specs.declared.event.Event.{Event}
@@ -12,9 +11,9 @@ use Rattle.tsp_script.specs.declared.event_line.EventItem.TheVariants.{Event as 
 use Rattle.tsp_script.specs.Schedules.{SpellsEvent}
 use Rattle.tsp_replay.specs.Schedules.{Progress, Untitled, Titled, Drifted, Heading, Running, Ended, Reaches, GoesOn, RunsOn, IsEnded, new_header}
 use Rattle.tsp_replay.specs.Traces.{written_at, trace}
-use Rattle.tsp_world.specs.Ranges.{Accepted, IsInRange}
-use Rattle.tsp_world.specs.Refusals.{Valid}
-use Rattle.tsp_world.proofs.RunPromises.{runs-keep-promises}
+use Rattle.tsp_run.specs.Ranges.{Accepted, IsInRange}
+use Rattle.tsp_run.specs.Refusals.{Valid}
+use Rattle.tsp_run.proofs.RunPromises.{runs-keep-promises}
 use Rattle.tsp_lines.specs.declared.limits.TheConstants.{MOST_INPUT}
 use Rattle.tsp_lines.specs.Lines.{NoFeed, AreLines, IsInput, IsOver}
 use Rattle.tsp_lines.specs.Outcomes.{Comes}
@@ -22,8 +21,8 @@ use Rattle.tsp_lines.specs.declared.treat.Outcome.TheVariants.{Ok as Done}
 use Rattle.tsp_replay.specs.Meaning.{IsSchedule, replaying}
 use Rattle.tsp_replay.proofs.ReadHeaders.{IsSchedule-header}
 use Rattle.tsp_cli.specs.declared.status.Status.{Status}
-use Rattle.tsp_cli.specs.declared.status.Status.TheVariants.{Ok, WriteFault, OutOfMemory}
-use Rattle.tsp_cli.specs.Commands.{EndsAs, Says}
+use Rattle.tsp_cli.specs.declared.status.Status.TheVariants.{Ok}
+use Rattle.tsp_cli.specs.Lines.{EndsAs}
 use Rattle.tsp_cli.specs.Headline.{PrintsHistory}
 
 -- the events that were read so far are in their ranges, and nothing refuses them
@@ -54,7 +53,8 @@ goes_valid (Titled version) line to v g = subst (λ p. KeepsValid p) (sym g.2) (
   by_version false = tt
 goes_valid (Drifted drift) line to v g = subst (λ p. KeepsValid p) (sym g.1) tt
 goes_valid (Heading header) line to v (inl g) = subst (λ p. KeepsValid p) (sym g.3) tt
-goes_valid (Heading header) line to v (inr g) = run_valid header [] line to (tt, All-nil IsInRange) g.2
+goes_valid (Heading header) line to v (inr (inl g)) = subst (λ p. KeepsValid p) (sym g.3) tt
+goes_valid (Heading header) line to v (inr (inr g)) = run_valid header [] line to (tt, All-nil IsInRange) g.2
 goes_valid (Running header events) line to v g = run_valid header events line to v g
 goes_valid (Ended header events) line to v g = absurd g
 
@@ -89,12 +89,3 @@ Comes-prints input left written now c =
 -- where a replay's status is the best, it printed the history of a schedule
 pub EndsAs-prints : (input left written now : Option (List ℕ)) (status : Status) → EndsAs replaying input left written now status → status ≡ Ok → PrintsHistory input left written now
 EndsAs-prints input left written now status e is = Comes-prints input left written now (subst {A = Status} (λ s. EndsAs replaying input left written now s) is e)
-
--- not all of a text was written
-pub Says-cut : (text : List ℕ) (status given : Status) (written now : Option (List ℕ)) (at : ℕ) → (given ≡ WriteFault) ⊎ (given ≡ OutOfMemory) → at < length text → Grows written now (take at text) → Says text status written now given
-Says-cut text status given written now at w l g = inr (w, (take at text, drop at text, omega (arith, length-drop at text, l), sym (take-append-drop at text), g))
-
--- the text of the first of some items, of which there is only one text
-pub item_text : {A : Type 0} (f : A → List ℕ) (xs : List A) (x : A) (text : List ℕ) → map f xs ≡ text ∷ [] → x ≡ get_or xs 0 x → f x ≡ text
-item_text f [] x text m is = cc
-item_text f (y ∷ ys) x text m is = let e : f y ≡ text = cc in ap f is ∙ e

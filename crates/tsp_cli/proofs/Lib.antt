@@ -1,3 +1,4 @@
+pub mod CommandLemmas
 pub mod HeadlineLemmas
 pub mod RunLemmas
 pub mod Statuses

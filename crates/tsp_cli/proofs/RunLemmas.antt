@@ -1,6 +1,6 @@
 -- From what a treatment comes to, to how a command's run ends.
-use Rattle.std.specs.Prelude.{◌≡◌, ◌⊎◌, ℕ, ◌<◌, ◌≤◌, List, length, Option, Some, Bool, true}
-use Rattle.std.proofs.Common.{sym, ◌∙◌, inl, inr, subst, refl, ap, arith, slice_index_or}
+use Rattle.std.specs.Prelude.{◌≡◌, ◌⊎◌, ℕ, ◌≤◌, List, length, Option, Some, Bool, true}
+use Rattle.std.proofs.Common.{sym, inl, inr, subst, refl, ap}
 use Rattle.tsp_io.specs.Counts.{Rose}
 use Rattle.tsp_lines.specs.declared.limits.TheConstants.{MOST_INPUT}
 use Rattle.tsp_lines.specs.declared.treat.Outcome.{Outcome}
@@ -10,8 +10,8 @@ use Rattle.tsp_lines.specs.Meanings.{Meaning}
 use Rattle.tsp_lines.specs.Outcomes.{Comes, KeepsUp}
 use Rattle.tsp_lines.proofs.OneAnswer.{Agrees-outcome}
 use Rattle.tsp_cli.specs.declared.status.Status.{Status}
-use Rattle.tsp_cli.specs.declared.status.Status.TheVariants.{Ok, OutOfMemory}
-use Rattle.tsp_cli.specs.Commands.{Command, Replay, Show, Pack, Icmp, word_of, meaning_of, IsTextOf, EndsAs, AgreesAs, Runs}
+use Rattle.tsp_cli.specs.declared.status.Status.TheVariants.{Ok, Usage, LinkFault, OutOfMemory}
+use Rattle.tsp_cli.specs.Lines.{LineCommand, meaning_of, IsTextOf, EndsAs, AgreesAs, Runs}
 use Rattle.tsp_cli.specs.Statuses.{status_of}
 
 -- the status of a treatment says what the treatment came to
@@ -45,7 +45,7 @@ status_same o p (inl e) = inl (ap status_of e)
 status_same o p (inr e) = inr (ap status_of e)
 
 -- a treatment is the run of a command
-pub Runs-treated : (command : Command) (input left written now : Option (List ℕ)) (ended : Bool) (reads reads_now writes writes_now : ℕ) (o : Outcome) (status : Status) → status ≡ status_of o
+pub Runs-treated : (command : LineCommand) (input left written now : Option (List ℕ)) (ended : Bool) (reads reads_now writes writes_now : ℕ) (o : Outcome) (status : Status) → status ≡ status_of o
     → Comes (meaning_of command) MOST_INPUT input left written now o → Answers (meaning_of command) MOST_INPUT input written now o → KeepsUp (meaning_of command) MOST_INPUT input left written now
     → ((octets : List ℕ) → input ≡ Some octets → length octets ≤ MOST_INPUT → IsTextOf command octets → ¬ Rose reads reads_now → ¬ Rose writes writes_now → (o ≡ Done) ⊎ (o ≡ NoMemory))
     → (o ≡ NotRead → Rose reads reads_now) → (o ≡ NotWritten → Rose writes writes_now) → (o ≡ Done → ended ≡ true) → Runs command input left written now ended reads reads_now writes writes_now status
@@ -58,32 +58,20 @@ Runs-treated command input left written now ended reads reads_now writes writes_
   whole = λ e. whole (status_ok o e);
 })
 
-letters_differ : (x a b : ℕ) → a < b → x ≡ a → x ≡ b → ⊥
-letters_differ x a b lt p q = omega (arith, lt, p, q)
+-- no treatment of lines ends by the link
+pub status_unlinked : (o : Outcome) → status_of o ≡ LinkFault → ⊥
+status_unlinked Done e = cc
+status_unlinked Refused e = cc
+status_unlinked NotRead e = cc
+status_unlinked NotWritten e = cc
+status_unlinked Limited e = cc
+status_unlinked NoMemory e = cc
 
--- a word's first letter
-abbrev first_letter : List ℕ → ℕ
-first_letter word = slice_index_or word 0 0
-
--- a word is one command's
-word_one : (a b : Command) → word_of a ≡ word_of b → a ≡ b
-word_one Replay Replay e = refl
-word_one Replay Show e = cc
-word_one Replay Pack e = cc
-word_one Replay Icmp e = cc
-word_one Show Replay e = cc
-word_one Show Show e = refl
-word_one Show Pack e = absurd (letters_differ 115 112 115 (omega arith) (ap first_letter e) refl)
-word_one Show Icmp e = absurd (letters_differ 115 105 115 (omega arith) (ap first_letter e) refl)
-word_one Pack Replay e = cc
-word_one Pack Show e = absurd (letters_differ 115 112 115 (omega arith) (ap first_letter (sym e)) refl)
-word_one Pack Pack e = refl
-word_one Pack Icmp e = absurd (letters_differ 112 105 112 (omega arith) (ap first_letter e) refl)
-word_one Icmp Replay e = cc
-word_one Icmp Show e = absurd (letters_differ 115 105 115 (omega arith) (ap first_letter (sym e)) refl)
-word_one Icmp Pack e = absurd (letters_differ 112 105 112 (omega arith) (ap first_letter (sym e)) refl)
-word_one Icmp Icmp e = refl
-
--- what holds of the command of a word holds of each command with this word
-pub for_word : (P : Command → Type 0) (command : Command) (word : List ℕ) → word ≡ word_of command → P command → (other : Command) → word ≡ word_of other → P other
-for_word P command word is holds other e = subst P (word_one command other (sym is ∙ e)) holds
+-- no treatment of lines ends as a wrong use
+pub status_used : (o : Outcome) → status_of o ≡ Usage → ⊥
+status_used Done e = cc
+status_used Refused e = cc
+status_used NotRead e = cc
+status_used NotWritten e = cc
+status_used Limited e = cc
+status_used NoMemory e = cc

@@ -1,98 +1,109 @@
--- The words of commands, and what a command comes to.
-use Rattle.std.specs.Prelude.{◌≡◌, ◌⊎◌, ℕ, ◌<◌, ◌≤◌, List, [], ◌∷◌, ◌++◌, length, Option, Some, Bool, true, codes}
-use Rattle.tsp_cli.specs.declared.status.Status.{Status}
-use Rattle.tsp_cli.specs.declared.status.Status.TheVariants.{Ok, Usage, Bad, ReadFault, WriteFault, LinkFault, NoAnswer, Limit, OutOfMemory}
-use Rattle.tsp_cli.specs.Statuses.{status_of}
-use Rattle.tsp_convert.specs.Packs.{AreMessageLines, pack_meaning}
-use Rattle.tsp_convert.specs.Shows.{AreHexLines, show_meaning}
+-- What each command of the program comes to.
+use Rattle.std.specs.Prelude.{◌≡◌, ◌⊎◌, ℕ, ◌==◌, ℤ, Bool, true, false, List, Option, Some, length}
+use Rattle.tsp_asking.specs.declared.end.Asking.{Asking}
+use Rattle.tsp_asking.specs.Asks.{AsksAs}
 use Rattle.tsp_io.specs.Counts.{Rose}
-use Rattle.tsp_io.specs.Streams.{Grows}
-use Rattle.tsp_lines.specs.declared.limits.TheConstants.{MOST_INPUT}
-use Rattle.tsp_lines.specs.declared.treat.Outcome.{Outcome}
-use Rattle.tsp_lines.specs.declared.treat.Outcome.TheVariants.{Ok as Done, Bad as Refused, ReadFault as NotRead, WriteFault as NotWritten, Limit as Limited, OutOfMemory as NoMemory}
-use Rattle.tsp_lines.specs.Answers.{IsAnswer, Agrees}
-use Rattle.tsp_lines.specs.Meanings.{Meaning}
-use Rattle.tsp_lines.specs.Outcomes.{Comes, KeepsUp}
-use Rattle.tsp_records.specs.Meaning.{AreExchangeLines, averaging}
-use Rattle.tsp_replay.specs.Meaning.{IsScheduleText, replaying}
+use Rattle.tsp_query.specs.Ends.{Outside}
+use Rattle.tsp_query.specs.Told.{Told, Knows}
+use Rattle.tsp_rules.specs.Tests.{is_clock_value}
+use Rattle.tsp_storm.specs.declared.run.StormEnd.{StormEnd}
+use Rattle.tsp_storm.specs.Answers.{IsAnswer, Agrees, HasRoom, StormsAs}
+use Rattle.tsp_serving.specs.declared.end.Served.{Served}
+use Rattle.tsp_serving.specs.Serving.{ServesAs}
+use Rattle.tsp_words.specs.Commands.{words_of, IsCommand}
+use Rattle.tsp_words.specs.declared.command.Command.{Command}
+use Rattle.tsp_words.specs.declared.command.Command.TheVariants.{Replay, Show, Pack, Serve, Ask, Storm, Icmp, Audit}
+use Rattle.tsp_words.specs.declared.query.Query.{Query}
+use Rattle.tsp_words.specs.declared.serve.ServeWords.{ServeWords}
+use Rattle.tsp_words.specs.declared.storm.StormWords.{StormWords}
+use Rattle.tsp_cli.specs.declared.status.Status.{Status}
+use Rattle.tsp_cli.specs.declared.status.Status.TheVariants.{Ok, NoAnswer, OutOfMemory}
+use Rattle.tsp_cli.specs.Lines.{LineCommand, Replay as Replays, Show as Shows, Pack as Packs, Icmp as Averages, Runs}
+use Rattle.tsp_cli.specs.Statuses.{status_of_served, status_of_asking, status_of_storm}
 
--- a command that reads lines from the source and writes to the sink
-pub data Command : Type 0 where
-  Replay : Command
-  Show : Command
-  Pack : Command
-  Icmp : Command
+-- what the four objects of a run are at one moment: what is left of the source, whether it gave its end, what sink, link and ticker tell, and the counts of failed reads, of failed writes, of failed binds and receives, and of failed sends
+pub record Now : Type 0 where
+  pub left : Option (List ℕ)
+  pub ended : Bool
+  pub told : Told
+  pub reads : ℕ
+  pub writes : ℕ
+  pub links : ℕ
+  pub sends : ℕ
 
--- a command's word
-abbrev pub word_of : Command → List ℕ
-word_of Replay = codes "replay"
-word_of Show = codes "show"
-word_of Pack = codes "pack"
-word_of Icmp = codes "icmp"
+-- whether a command is one that the program does: a daemon has one port, and no claimed history is judged yet
+abbrev pub is_built : Command → Bool
+is_built (Serve s) = length s.ports == 1
+is_built Audit = false
+is_built _ = true
 
--- what lines mean to a command
-abbrev pub meaning_of : Command → Meaning
-meaning_of Replay = replaying
-meaning_of Show = show_meaning
-meaning_of Pack = pack_meaning
-meaning_of Icmp = averaging
+-- the words are none of a command that the program does
+abbrev pub IsUnbuilt : List (List ℕ) → Type 0
+IsUnbuilt words = (c : Command) → IsCommand c → words ≡ words_of c → is_built c ≡ true → ⊥
 
--- octets are input of a command of which nothing is refused: a schedule's text, datagrams in hexadecimal, message lines, or lines of exchanges
-abbrev pub IsTextOf : Command → List ℕ → Type 0
-IsTextOf Replay octets = IsScheduleText octets
-IsTextOf Show octets = AreHexLines octets
-IsTextOf Pack octets = AreMessageLines octets
-IsTextOf Icmp octets = AreExchangeLines octets
+-- a command that reads lines runs
+abbrev pub RunsLines : LineCommand → Now → Now → Status → Type 0
+RunsLines c old new status = Runs c old.left new.left old.told.written new.told.written new.ended old.reads new.reads old.writes new.writes status
 
--- the words are a command's word alone
-abbrev pub IsCommand : List (List ℕ) → Command → Type 0
-IsCommand words command = words ≡ word_of command ∷ []
+-- a daemon runs
+pub record RunsDaemon (s : ServeWords) (old new : Told) (links links_now writes writes_now : ℕ) (status : Status) : Type 0 where
+  -- how it ended
+  pub served : Served
+  pub status_is : status ≡ status_of_served served
+  -- where the outside is told: what was sent and written, and what came of the wall clock
+  pub serves : (o : Outside) (wall : ℤ) (word : ℕ) (written : List ℕ) → Knows o wall word written old → ServesAs s o wall word written new served
+  -- at a told wall clock in its range, where no count rose but that of failed sends: the status is Ok, or there was no memory
+  pub complete : (wall : ℤ) → old.wall ≡ Some wall → is_clock_value wall ≡ true → ¬ Rose links links_now → ¬ Rose writes writes_now → (status ≡ Ok) ⊎ (status ≡ OutOfMemory)
 
--- the words are no command's
-abbrev pub IsNoCommand : List (List ℕ) → Type 0
-IsNoCommand words = (command : Command) → ¬ IsCommand words command
+-- a question to a daemon runs
+pub record RunsQuery (q : Query) (old new : Told) (links links_now sends sends_now writes writes_now : ℕ) (status : Status) : Type 0 where
+  -- how it ended
+  pub asking : Asking
+  pub status_is : status ≡ status_of_asking asking
+  -- where the outside is told: the one datagram that was sent, the answer among what came, and the line of it
+  pub asks : (o : Outside) (wall : ℤ) (word : ℕ) (written : List ℕ) → Knows o wall word written old → AsksAs q o wall word written new asking
+  -- where no count rose: the status is Ok or NoAnswer, or there was no memory
+  pub complete : ¬ Rose links links_now → ¬ Rose sends sends_now → ¬ Rose writes writes_now → (status ≡ Ok) ⊎ (status ≡ NoAnswer) ⊎ (status ≡ OutOfMemory)
 
--- what a status says of an input whose lines mean this, of what is left of it, and of what was written
-abbrev pub EndsAs : Meaning → Option (List ℕ) → Option (List ℕ) → Option (List ℕ) → Option (List ℕ) → Status → Type 0
-EndsAs m input left written now Ok = Comes m MOST_INPUT input left written now Done
-EndsAs m input left written now Usage = ⊥
-EndsAs m input left written now Bad = Comes m MOST_INPUT input left written now Refused
-EndsAs m input left written now ReadFault = Comes m MOST_INPUT input left written now NotRead
-EndsAs m input left written now WriteFault = Comes m MOST_INPUT input left written now NotWritten
-EndsAs m input left written now LinkFault = ⊥
-EndsAs m input left written now NoAnswer = ⊥
-EndsAs m input left written now Limit = Comes m MOST_INPUT input left written now Limited
-EndsAs m input left written now OutOfMemory = Comes m MOST_INPUT input left written now NoMemory
+-- a schedule is made of a number, and run
+pub record RunsStorm (s : StormWords) (written now : Option (List ℕ)) (writes writes_now : ℕ) (status : Status) : Type 0 where
+  -- how it ended
+  pub end : StormEnd
+  pub status_is : status ≡ status_of_storm end
+  -- what was written: the summary of the run, the number of the event for which there was no room, or a part of either
+  pub storms : StormsAs s written now end
+  -- end and text are the answer to the words, but for a failed write and want of memory
+  pub answers : (e : StormEnd) (text : List ℕ) → IsAnswer s e text → Agrees e text written now end
+  -- where there is room for each event and no write failed: the status is Ok, or there was no memory
+  pub complete : HasRoom s → ¬ Rose writes writes_now → (status ≡ Ok) ⊎ (status ≡ OutOfMemory)
 
--- what a status says of the answer to the input, which is this outcome with this output
-abbrev pub AgreesAs : Outcome → List ℕ → Option (List ℕ) → Option (List ℕ) → Status → Type 0
-AgreesAs outcome output written now Ok = Agrees outcome output written now Done
-AgreesAs outcome output written now Usage = ⊥
-AgreesAs outcome output written now Bad = Agrees outcome output written now Refused
-AgreesAs outcome output written now ReadFault = Agrees outcome output written now NotRead
-AgreesAs outcome output written now WriteFault = Agrees outcome output written now NotWritten
-AgreesAs outcome output written now LinkFault = ⊥
-AgreesAs outcome output written now NoAnswer = ⊥
-AgreesAs outcome output written now Limit = Agrees outcome output written now Limited
-AgreesAs outcome output written now OutOfMemory = Agrees outcome output written now NoMemory
+-- what a command does that the program does
+abbrev pub Does : Command → Now → Now → Status → Type 0
+Does Replay old new status = RunsLines Replays old new status
+Does Show old new status = RunsLines Shows old new status
+Does Pack old new status = RunsLines Packs old new status
+Does Icmp old new status = RunsLines Averages old new status
+Does (Serve s) old new status = RunsDaemon s old.told new.told old.links new.links old.writes new.writes status
+Does (Ask a q) old new status = RunsQuery q old.told new.told old.links new.links old.sends new.sends old.writes new.writes status
+Does (Storm s) old new status = RunsStorm s old.told.written new.told.written old.writes new.writes status
+Does Audit old new status = ⊥
 
--- how a command's run ends. The counts are those of failed reads and failed writes, before and after
-pub record Runs (command : Command) (input left written now : Option (List ℕ)) (ended : Bool) (reads reads_now writes writes_now : ℕ) (status : Status) : Type 0 where
-  -- what the status says of input and output
-  pub ends : EndsAs (meaning_of command) input left written now status
-  -- of a told input: the status agrees with the answer to it
-  pub answers : (octets : List ℕ) (outcome : Outcome) (output : List ℕ) → input ≡ Some octets → IsAnswer (meaning_of command) MOST_INPUT octets outcome output → AgreesAs outcome output written now status
-  -- of a told input, where no count rose: the status is that of the answer, or there was no memory
-  pub decided : (octets : List ℕ) (outcome : Outcome) (output : List ℕ) → input ≡ Some octets → IsAnswer (meaning_of command) MOST_INPUT octets outcome output → ¬ Rose reads reads_now → ¬ Rose writes writes_now → (status ≡ status_of outcome) ⊎ (status ≡ OutOfMemory)
-  -- of a told input of at most 64 MiB of which nothing is refused, where no count rose: the status is Ok, or there was no memory
-  pub complete : (octets : List ℕ) → input ≡ Some octets → length octets ≤ MOST_INPUT → IsTextOf command octets → ¬ Rose reads reads_now → ¬ Rose writes writes_now → (status ≡ Ok) ⊎ (status ≡ OutOfMemory)
-  -- output keeps up with what was read
-  pub keeps_up : KeepsUp (meaning_of command) MOST_INPUT input left written now
-  -- with Ok the source gave its end
-  pub whole : status ≡ Ok → ended ≡ true
+-- the same, or there was no memory for the command's parts, and nothing has changed
+abbrev pub DoesOrNot : Command → Now → Now → Status → Type 0
+DoesOrNot c old new status = ((status ≡ OutOfMemory) × (new ≡ old)) ⊎ Does c old new status
 
--- what a status says where a text was to be written and then this status given: all of it was, or a part that isn't the whole
-abbrev pub Says : List ℕ → Status → Option (List ℕ) → Option (List ℕ) → Status → Type 0
-Says text status written now answer =
-    ((answer ≡ status) × Grows written now text)
-    ⊎ (((answer ≡ WriteFault) ⊎ (answer ≡ OutOfMemory)) × ((part : List ℕ) × (rest : List ℕ) × (0 < length rest) × (text ≡ part ++ rest) × Grows written now part))
+-- which objects a command leaves as they are: one that reads lines the link and the ticker, one of a daemon's the source, and a storm all three
+abbrev pub Untouched : {S L T : Type 0} → Command → S → S → L → L → T → T → Type 0
+Untouched (Serve s) source source_now link link_now ticker ticker_now = source_now ≡ source
+Untouched (Ask a q) source source_now link link_now ticker ticker_now = source_now ≡ source
+Untouched (Storm s) source source_now link link_now ticker ticker_now = (source_now ≡ source) × (link_now ≡ link) × (ticker_now ≡ ticker)
+Untouched _ source source_now link link_now ticker ticker_now = (link_now ≡ link) × (ticker_now ≡ ticker)
+
+-- a command is a question to a daemon
+abbrev pub IsAsk : Command → Type 0
+IsAsk (Ask a q) = Unit {0}
+IsAsk _ = ⊥
+
+-- the words are those of a question to a daemon
+abbrev pub IsQuestion : List (List ℕ) → Type 0
+IsQuestion words = (c : Command) × IsAsk c × IsCommand c × (words ≡ words_of c)

@@ -8,10 +8,10 @@ use Rattle.tsp_lines.specs.declared.limits.TheConstants.{MOST_INPUT}
 use Rattle.tsp_lines.specs.Lines.{IsInput, IsOver}
 use Rattle.tsp_replay.specs.Meaning.{IsSchedule}
 use Rattle.tsp_replay.specs.Traces.{trace}
-use Rattle.tsp_world.specs.Promises.{Promises}
-use Rattle.tsp_world.specs.Ranges.{Accepted}
-use Rattle.tsp_world.specs.Run.{run}
-use Rattle.tsp_world.specs.Setting.{SetBy}
+use Rattle.tsp_run.specs.Promises.{Promises}
+use Rattle.tsp_run.specs.Ranges.{Accepted}
+use Rattle.tsp_run.specs.Run.{run}
+use Rattle.tsp_run.specs.Setting.{SetBy}
 
 -- the input was the text of a schedule whose header and events are in their ranges and of which no event is refused, nothing of it is left, and what was written is exactly the trace of its run, whose history keeps the promises
 abbrev pub PrintsHistory : Option (List ℕ) → Option (List ℕ) → Option (List ℕ) → Option (List ℕ) → Type 0

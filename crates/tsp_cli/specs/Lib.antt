@@ -1,4 +1,5 @@
 pub mod Commands
 pub mod Headline
+pub mod Lines
 pub mod Statuses
 pub mod Usage

@@ -1,9 +1,15 @@
 -- The exit status of each way to end.
 use Rattle.std.specs.Prelude.{ℕ}
+use Rattle.tsp_asking.specs.declared.end.Asking.{Asking}
+use Rattle.tsp_asking.specs.declared.end.Asking.TheVariants.{Answered, NoAnswer as Unanswered, LinkFault as NotAsked, WriteFault as Untold, OutOfMemory as Unasked}
 use Rattle.tsp_cli.specs.declared.status.Status.{Status}
 use Rattle.tsp_cli.specs.declared.status.Status.TheVariants.{Ok as Done, Usage, Bad, ReadFault, WriteFault, LinkFault, NoAnswer, Limit, OutOfMemory}
 use Rattle.tsp_lines.specs.declared.treat.Outcome.{Outcome}
 use Rattle.tsp_lines.specs.declared.treat.Outcome.TheVariants.{Ok as Treated, Bad as Refused, ReadFault as NotRead, WriteFault as NotWritten, Limit as Limited, OutOfMemory as NoMemory}
+use Rattle.tsp_storm.specs.declared.run.StormEnd.{StormEnd}
+use Rattle.tsp_storm.specs.declared.run.StormEnd.TheVariants.{Done as Summed, Limit as Full, WriteFault as Unsaid, OutOfMemory as Unmade}
+use Rattle.tsp_serving.specs.declared.end.Served.{Served}
+use Rattle.tsp_serving.specs.declared.end.Served.TheVariants.{Done as AllTurns, BadWall, LinkFault as NotHeard, WriteFault as NotShown, OutOfMemory as Unserved}
 
 -- the exit status
 abbrev pub status_number : Status → ℕ
@@ -25,3 +31,26 @@ status_of NotRead = ReadFault
 status_of NotWritten = WriteFault
 status_of Limited = Limit
 status_of NoMemory = OutOfMemory
+
+-- the status of what a daemon comes to
+abbrev pub status_of_served : Served → Status
+status_of_served AllTurns = Done
+status_of_served BadWall = Bad
+status_of_served NotHeard = LinkFault
+status_of_served NotShown = WriteFault
+status_of_served Unserved = OutOfMemory
+
+-- the status of what a question comes to
+abbrev pub status_of_asking : Asking → Status
+status_of_asking Answered = Done
+status_of_asking Unanswered = NoAnswer
+status_of_asking NotAsked = LinkFault
+status_of_asking Untold = WriteFault
+status_of_asking Unasked = OutOfMemory
+
+-- the status of what a storm comes to
+abbrev pub status_of_storm : StormEnd → Status
+status_of_storm Summed = Done
+status_of_storm Full = Limit
+status_of_storm Unsaid = WriteFault
+status_of_storm Unmade = OutOfMemory

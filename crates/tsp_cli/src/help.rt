@@ -4,18 +4,34 @@ ghost use Rattle.tsp_cli.specs.Usage.{IsAlone};
 
 /// What `--help` prints.
 pub const HELP: &[u8] = b"\
-tsp: the time synchronization protocol, from octets to octets
+tsp: the time synchronization protocol, as a replay, a daemon and questions to one
 
     tsp replay     reads a schedule, writes every act of its run
     tsp show       reads lines of hexadecimal, writes each datagram as a message line
     tsp pack       reads message lines, writes each datagram as a line of hexadecimal
     tsp icmp       reads exchanges of ICMP Timestamp messages, writes offsets and corrections
+    tsp serve LOCAL NAME FLAG TURNS PEER..
+                   runs a daemon at the address LOCAL for so many turns: FLAG is m where it may be
+                   master, x where it may by a majority of its peers, and s where it may not
+    tsp msite ADDR
+                   asks the daemon at an address who is master
+    tsp clockdiff ADDR
+                   asks how far its clock is from this machine's
+    tsp trace ADDR on
+                   begins its trace; off in the place of on ends it
+    tsp election ADDR
+                   asks whether it hears, and tells it to stand for election
+    tsp date ADDR TIME
+                   sets the network's date: microseconds since 1970
+    tsp storm SEED NODES EVENTS
+                   makes a schedule from a number, runs it, and counts what comes of it
     tsp --help     prints this text
     tsp --version  prints the program's version
 
-Input is standard input, output is standard output. A refused line ends a command with the
-words `bad LINE CAUSE`. The exit status is 0 where all went well, 1 for other words, 2 for a
-refused line, 3 and 4 for a failed read and write, 7 for a limit and 8 for want of memory.
+An address is A.B.C.D:PORT. Input is standard input, output is standard output. A refused line
+ends a command with the words `bad LINE CAUSE`. The exit status is 0 where all went well, 1 for
+other words, 2 for a refused line or clock, 3 and 4 for a failed read and write, 5 for a network
+that fails, 6 for no answer, 7 for a limit and 8 for want of memory.
 ";
 
 /// What `--version` prints.

@@ -1,6 +1,6 @@
 //! Runs of the program over memory at the limits, whose answers were worked out by hand.
-use crate::run::run;
 use crate::status::Status;
+use crate::tests::run_lines;
 use std::alloc::{AllocError, Global};
 use tsp_io::memory::{MemorySink, MemorySource};
 
@@ -10,7 +10,7 @@ fn ends(alloc: Global, input: &[u8], status: Status, last: &str) -> Result<bool,
     words.push(String::from_str(alloc, "replay")?)?;
     let mut source = MemorySource::new(alloc, input, &[])?;
     let mut sink = MemorySink::new(alloc, &[])?;
-    let got = run(alloc, words.as_slice(), &mut source, &mut sink);
+    let got = run_lines(alloc, words.as_slice(), &mut source, &mut sink)?;
     Ok(got == status && sink.written().ends_with(last.as_bytes()))
 }
 

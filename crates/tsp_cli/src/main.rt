@@ -1,14 +1,19 @@
-//! The program: one call over standard input and standard output.
+//! The program: one call over standard input, standard output, a UDP socket and the machine's clocks.
 #![tactic(auto)]
 
 mod help;
 #[cfg(test)]
 mod limit_tests;
+#[cfg(test)]
+mod link_tests;
+#[cfg(test)]
+mod net_tests;
 mod run;
 mod status;
 #[cfg(test)]
 mod tests;
 
+use log::{Log, warn};
 use run::{run, say};
 use status::Status;
 use std::alloc::AllocError;
@@ -16,7 +21,9 @@ use std::io::ErrorKind;
 use std::process::ExitCode;
 use std::rt::Env;
 use std::{env, io};
+use tsp_io::clock::MachineTicker;
 use tsp_io::machine::{Reading, Writing};
+use tsp_io::udp::UdpLink;
 
 /// The words after the program's name: none where one of them isn't UTF-8, and no answer where memory
 /// for them is refused.
@@ -29,20 +36,38 @@ fn words_of(rt: &(impl Env + AllocGlobal)) -> Result<Vec<String>, AllocError> {
     }
 }
 
-/// Does what the words ask for, over standard input and standard output.
-fn answer(rt: &HostRuntime, words: &[String]) -> Status {
+/// Does what the words ask for, over the machine's own streams, network and clocks.
+fn answer(rt: HostRuntime, words: &[String]) -> Status {
+    let mut sink = Writing::new(io::writer(&rt));
+    if let Some(text) = help::asked(words) {
+        return say(&mut sink, text, Status::Ok);
+    }
     let mut source = Reading::new(rt.reader());
-    let mut sink = Writing::new(io::writer(rt));
-    match help::asked(words) {
-        Some(text) => say(&mut sink, text, Status::Ok),
-        None => run(rt.alloc(), words, &mut source, &mut sink),
+    let mut link = UdpLink::new(rt, rt.alloc());
+    let mut ticker = MachineTicker::new(rt);
+    run(
+        rt.alloc(),
+        words,
+        &mut source,
+        &mut sink,
+        &mut link,
+        &mut ticker,
+    )
+}
+
+/// Logs how the program ends, where it doesn't end well.
+fn warn_of(rt: &impl Log, status: Status) {
+    let number = status.number();
+    if number != 0 {
+        warn!(rt; "ended with status {number}");
     }
 }
 
 fn main(rt: HostRuntime) -> ExitCode {
     let status = match words_of(&rt) {
-        Ok(words) => answer(&rt, words.as_slice()),
+        Ok(words) => answer(rt, words.as_slice()),
         Err(_) => Status::OutOfMemory,
     };
+    warn_of(&rt, status);
     ExitCode::from(status.number())
 }

@@ -1,18 +1,33 @@
 //! The top call.
-ghost use Rattle.std.specs.Prelude.{◌≡◌, ◌≢◌, ◌≤◌, ◌⊎◌, [], ◌∷◌, false, map, codes, string_bytes};
+ghost use Rattle.std.specs.Prelude.{◌≡◌, ◌≢◌, ◌≤◌, ◌⊎◌, [], ◌∷◌, true, false, length, map, codes, string_bytes};
 ghost use Rattle.tsp_io.specs.Counts.{Rose};
-ghost use Rattle.tsp_cli.specs.Commands.{Command, IsCommand, IsNoCommand, word_of, Runs, Says};
+ghost use Rattle.tsp_words.specs.Commands.{IsCommand, words_of};
+ghost use Rattle.tsp_words.specs.Serves.{IsServe};
+ghost use Rattle.tsp_words.specs.Storms.{IsStorm};
+ghost use Rattle.tsp_words.specs.declared.command.Command.{Command};
+ghost use Rattle.tsp_cli.specs.Commands.{is_built, IsUnbuilt, Does, DoesOrNot, RunsDaemon, RunsQuery, RunsStorm, Untouched, IsAsk, IsQuestion};
 ghost use Rattle.tsp_cli.specs.Headline.{PrintsHistory};
+ghost use Rattle.tsp_cli.specs.Lines.{Says};
 ghost use Rattle.tsp_cli.specs.Usage.{usage_line};
 
 use crate::status::Status;
 use std::alloc::Global;
+use tsp_asking::ask::ask;
 use tsp_convert::run::{pack, show};
+use tsp_io::addr::Addr;
+use tsp_io::link::Link;
 use tsp_io::sink::Sink;
 use tsp_io::source::Source;
+use tsp_io::ticker::Ticker;
 use tsp_lines::output::{Unwritten, write_all};
 use tsp_records::average;
 use tsp_replay::run::replay;
+use tsp_serving::serve::serve_words;
+use tsp_storm::run::storm;
+use tsp_words::command::{Command, command_of};
+use tsp_words::query::Query;
+use tsp_words::serve::ServeWords;
+use tsp_words::storm::StormWords;
 
 /// Writes a text, and then answers with this status; with another one where not all of it was written.
 pub fn say<K: Sink>(sink: &mut K, text: &[u8], status: Status) -> Status
@@ -32,46 +47,130 @@ pub fn say<K: Sink>(sink: &mut K, text: &[u8], status: Status) -> Status
 
 /// Does what the words after the program's name ask for.
 ///
-/// `replay`, `show`, `pack` and `icmp`, each alone, read the source to its end and write to the sink; any other
-/// words are `Usage`, and nothing is read. The status and the output are the answer to the input, if no
-/// read and no write fails and there is memory; an input of at most 64 MiB of which nothing is refused
-/// ends with `Ok`.
-pub fn run<S: Source, K: Sink>(
+/// `replay`, `show`, `pack` and `icmp`, each alone, read the source to its end and write to the sink; link and ticker
+/// are left alone. `serve` runs a daemon over link and ticker, and the questions `msite`, `clockdiff`, `trace`,
+/// `election` and `date` ask one; these leave the source alone. `storm` makes a schedule, runs it and writes a summary; it
+/// touches the sink alone. Any other words are `Usage`, and nothing but the sink is touched.
+///
+/// Of each command it is said what was read, sent and written with each status (`specs/Commands.antt`). A fault of
+/// reading, of writing or of the link comes only where that object's count rose: for the link the count of failed binds
+/// and receives, or, for a question, that of failed sends. With valid input, where no count rises, a run ends with `Ok`
+/// (a question: with `Ok` or `NoAnswer`), or for want of memory.
+pub fn run<S: Source, K: Sink, L: Link, T: Ticker>(
     alloc: Global,
     words: &[String],
     source: &mut S,
     sink: &mut K,
+    link: &mut L,
+    ticker: &mut T,
 ) -> Status
     requires open { S.ended source.old ≡ false }
-    ensures runs { (command : Command) → IsCommand (map string_bytes words.now) command → Runs command (S.left source.old) (S.left source.new) (K.written sink.old) (K.written sink.new) (S.ended source.new) (S.faults source.old) (S.faults source.new) (K.faults sink.old) (K.faults sink.new) result }
+    ensures does { (command : Command) → IsCommand command → map string_bytes words.now ≡ words_of command → is_built command ≡ true → DoesOrNot command (record { left = S.left source.old; ended = S.ended source.old; told = record { arrivals = L.arrivals link.old; tried = L.tried link.old; calls = L.calls link.old; readings = T.readings ticker.old; last = T.last ticker.old; wall = T.wall_is ticker.old; word = T.word_is ticker.old; written = K.written sink.old }; reads = S.faults source.old; writes = K.faults sink.old; links = L.faults link.old; sends = L.send_faults link.old }) (record { left = S.left source.new; ended = S.ended source.new; told = record { arrivals = L.arrivals link.new; tried = L.tried link.new; calls = L.calls link.new; readings = T.readings ticker.new; last = T.last ticker.new; wall = T.wall_is ticker.new; word = T.word_is ticker.new; written = K.written sink.new }; reads = S.faults source.new; writes = K.faults sink.new; links = L.faults link.new; sends = L.send_faults link.new }) result }
     ensures headline { map string_bytes words.now ≡ codes "replay" ∷ [] → result ≡ Status.Ok → PrintsHistory (S.left source.old) (S.left source.new) (K.written sink.old) (K.written sink.new) }
-    ensures usage { IsNoCommand (map string_bytes words.now) → Says usage_line Status.Usage (K.written sink.old) (K.written sink.new) result × (source.new ≡ source.old) }
-    ensures later { (S.faults source.old ≤ S.faults source.new) × (K.faults sink.old ≤ K.faults sink.new) }
+    ensures usage { IsUnbuilt (map string_bytes words.now) → Says usage_line Status.Usage (K.written sink.old) (K.written sink.new) result × (source.new ≡ source.old) × (link.new ≡ link.old) × (ticker.new ≡ ticker.old) }
+    ensures exact { result ≡ Status.Usage → IsUnbuilt (map string_bytes words.now) }
+    ensures untouched { (command : Command) → IsCommand command → map string_bytes words.now ≡ words_of command → Untouched command source.old source.new link.old link.new ticker.old ticker.new }
+    ensures link { result ≡ Status.LinkFault → Rose (L.faults link.old) (L.faults link.new) ⊎ (IsQuestion (map string_bytes words.now) × Rose (L.send_faults link.old) (L.send_faults link.new)) }
+    ensures later { (S.faults source.old ≤ S.faults source.new) × (K.faults sink.old ≤ K.faults sink.new) × (L.faults link.old ≤ L.faults link.new) × (L.send_faults link.old ≤ L.send_faults link.new) × (T.last ticker.old ≤ T.last ticker.new) }
     ensures read { result ≡ Status.ReadFault → Rose (S.faults source.old) (S.faults source.new) × (S.ended source.new ≡ false) }
     ensures write { result ≡ Status.WriteFault → Rose (K.faults sink.old) (K.faults sink.new) }
-    ensures still { (result ≢ Status.ReadFault → S.faults source.new ≡ S.faults source.old) × (result ≢ Status.WriteFault → K.faults sink.new ≡ K.faults sink.old) }
+    ensures still { (result ≢ Status.ReadFault → S.faults source.new ≡ S.faults source.old) × (result ≢ Status.WriteFault → K.faults sink.new ≡ K.faults sink.old) × (result ≢ Status.LinkFault → L.faults link.new ≡ L.faults link.old) }
 {
-    match words {
-        [word] => run_word(alloc, word.as_str(), source, sink),
-        _ => say(sink, b"usage\n", Status::Usage),
+    match command_of(alloc, words) {
+        Ok(Some(command)) => run_command(alloc, &command, source, sink, link, ticker),
+        Ok(None) => say(sink, b"usage\n", Status::Usage),
+        Err(_) => Status::OutOfMemory,
     }
 }
 
-/// Does what one word asks for.
-fn run_word<S: Source, K: Sink>(alloc: Global, word: &str, source: &mut S, sink: &mut K) -> Status
+/// Does what a command asks for; a command that isn't built is `Usage`.
+fn run_command<S: Source, K: Sink, L: Link, T: Ticker>(
+    alloc: Global,
+    command: &Command,
+    source: &mut S,
+    sink: &mut K,
+    link: &mut L,
+    ticker: &mut T,
+) -> Status
     requires open { S.ended source.old ≡ false }
-    ensures runs { (command : Command) → word.now ≡ word_of command → Runs command (S.left source.old) (S.left source.new) (K.written sink.old) (K.written sink.new) (S.ended source.new) (S.faults source.old) (S.faults source.new) (K.faults sink.old) (K.faults sink.new) result }
-    ensures usage { IsNoCommand (word.now ∷ []) → Says usage_line Status.Usage (K.written sink.old) (K.written sink.new) result × (source.new ≡ source.old) }
-    ensures later { (S.faults source.old ≤ S.faults source.new) × (K.faults sink.old ≤ K.faults sink.new) }
+    requires command { IsCommand command.now }
+    ensures does { is_built command.now ≡ true → Does command.now (record { left = S.left source.old; ended = S.ended source.old; told = record { arrivals = L.arrivals link.old; tried = L.tried link.old; calls = L.calls link.old; readings = T.readings ticker.old; last = T.last ticker.old; wall = T.wall_is ticker.old; word = T.word_is ticker.old; written = K.written sink.old }; reads = S.faults source.old; writes = K.faults sink.old; links = L.faults link.old; sends = L.send_faults link.old }) (record { left = S.left source.new; ended = S.ended source.new; told = record { arrivals = L.arrivals link.new; tried = L.tried link.new; calls = L.calls link.new; readings = T.readings ticker.new; last = T.last ticker.new; wall = T.wall_is ticker.new; word = T.word_is ticker.new; written = K.written sink.new }; reads = S.faults source.new; writes = K.faults sink.new; links = L.faults link.new; sends = L.send_faults link.new }) result }
+    ensures usage { is_built command.now ≡ false → Says usage_line Status.Usage (K.written sink.old) (K.written sink.new) result × (source.new ≡ source.old) × (link.new ≡ link.old) × (ticker.new ≡ ticker.old) }
+    ensures exact { result ≡ Status.Usage → is_built command.now ≡ false }
+    ensures untouched { Untouched command.now source.old source.new link.old link.new ticker.old ticker.new }
+    ensures link { result ≡ Status.LinkFault → Rose (L.faults link.old) (L.faults link.new) ⊎ (IsAsk command.now × Rose (L.send_faults link.old) (L.send_faults link.new)) }
+    ensures later { (S.faults source.old ≤ S.faults source.new) × (K.faults sink.old ≤ K.faults sink.new) × (L.faults link.old ≤ L.faults link.new) × (L.send_faults link.old ≤ L.send_faults link.new) × (T.last ticker.old ≤ T.last ticker.new) }
     ensures read { result ≡ Status.ReadFault → Rose (S.faults source.old) (S.faults source.new) × (S.ended source.new ≡ false) }
     ensures write { result ≡ Status.WriteFault → Rose (K.faults sink.old) (K.faults sink.new) }
-    ensures still { (result ≢ Status.ReadFault → S.faults source.new ≡ S.faults source.old) × (result ≢ Status.WriteFault → K.faults sink.new ≡ K.faults sink.old) }
+    ensures still { (result ≢ Status.ReadFault → S.faults source.new ≡ S.faults source.old) × (result ≢ Status.WriteFault → K.faults sink.new ≡ K.faults sink.old) × (result ≢ Status.LinkFault → L.faults link.new ≡ L.faults link.old) }
 {
-    match word {
-        "replay" => Status::of(replay(alloc, source, sink)),
-        "show" => Status::of(show(alloc, source, sink)),
-        "pack" => Status::of(pack(alloc, source, sink)),
-        "icmp" => Status::of(average(alloc, source, sink)),
-        _ => say(sink, b"usage\n", Status::Usage),
+    match command {
+        Command::Replay => Status::of(replay(alloc, source, sink)),
+        Command::Show => Status::of(show(alloc, source, sink)),
+        Command::Pack => Status::of(pack(alloc, source, sink)),
+        Command::Icmp => Status::of(average(alloc, source, sink)),
+        Command::Serve(words) => run_daemon(alloc, words, sink, link, ticker),
+        Command::Ask(daemon, query) => run_query(*daemon, query, sink, link, ticker),
+        Command::Storm(words) => run_storm(alloc, words, sink),
+        // Not built yet.
+        Command::Audit => say(sink, b"usage\n", Status::Usage),
     }
+}
+
+/// Runs a daemon of one port; more ports aren't built yet.
+fn run_daemon<K: Sink, L: Link, T: Ticker>(
+    alloc: Global,
+    words: &ServeWords,
+    sink: &mut K,
+    link: &mut L,
+    ticker: &mut T,
+) -> Status
+    requires { IsServe words.now }
+    ensures runs { length words.now.ports ≡ 1 → RunsDaemon words.now (record { arrivals = L.arrivals link.old; tried = L.tried link.old; calls = L.calls link.old; readings = T.readings ticker.old; last = T.last ticker.old; wall = T.wall_is ticker.old; word = T.word_is ticker.old; written = K.written sink.old }) (record { arrivals = L.arrivals link.new; tried = L.tried link.new; calls = L.calls link.new; readings = T.readings ticker.new; last = T.last ticker.new; wall = T.wall_is ticker.new; word = T.word_is ticker.new; written = K.written sink.new }) (L.faults link.old) (L.faults link.new) (K.faults sink.old) (K.faults sink.new) result }
+    ensures usage { length words.now.ports ≢ 1 → Says usage_line Status.Usage (K.written sink.old) (K.written sink.new) result × (link.new ≡ link.old) × (ticker.new ≡ ticker.old) }
+    ensures exact { result ≡ Status.Usage → length words.now.ports ≢ 1 }
+    ensures link { result ≡ Status.LinkFault → Rose (L.faults link.old) (L.faults link.new) }
+    ensures later { (K.faults sink.old ≤ K.faults sink.new) × (L.faults link.old ≤ L.faults link.new) × (L.send_faults link.old ≤ L.send_faults link.new) × (T.last ticker.old ≤ T.last ticker.new) }
+    ensures write { result ≡ Status.WriteFault → Rose (K.faults sink.old) (K.faults sink.new) }
+    ensures still { (result ≢ Status.WriteFault → K.faults sink.new ≡ K.faults sink.old) × (result ≢ Status.LinkFault → L.faults link.new ≡ L.faults link.old) }
+    ensures unread { result ≢ Status.ReadFault }
+{
+    if words.ports.count() == 1 {
+        Status::of_served(serve_words(alloc, words, sink, link, ticker))
+    } else {
+        say(sink, b"usage\n", Status::Usage)
+    }
+}
+
+/// Asks a daemon.
+fn run_query<K: Sink, L: Link, T: Ticker>(
+    daemon: Addr,
+    query: &Query,
+    sink: &mut K,
+    link: &mut L,
+    ticker: &mut T,
+) -> Status
+    ensures runs { RunsQuery query.now (record { arrivals = L.arrivals link.old; tried = L.tried link.old; calls = L.calls link.old; readings = T.readings ticker.old; last = T.last ticker.old; wall = T.wall_is ticker.old; word = T.word_is ticker.old; written = K.written sink.old }) (record { arrivals = L.arrivals link.new; tried = L.tried link.new; calls = L.calls link.new; readings = T.readings ticker.new; last = T.last ticker.new; wall = T.wall_is ticker.new; word = T.word_is ticker.new; written = K.written sink.new }) (L.faults link.old) (L.faults link.new) (L.send_faults link.old) (L.send_faults link.new) (K.faults sink.old) (K.faults sink.new) result }
+    ensures used { result ≢ Status.Usage }
+    ensures link { result ≡ Status.LinkFault → Rose (L.faults link.old) (L.faults link.new) ⊎ Rose (L.send_faults link.old) (L.send_faults link.new) }
+    ensures later { (K.faults sink.old ≤ K.faults sink.new) × (L.faults link.old ≤ L.faults link.new) × (L.send_faults link.old ≤ L.send_faults link.new) × (T.last ticker.old ≤ T.last ticker.new) }
+    ensures write { result ≡ Status.WriteFault → Rose (K.faults sink.old) (K.faults sink.new) }
+    ensures still { (result ≢ Status.WriteFault → K.faults sink.new ≡ K.faults sink.old) × (result ≢ Status.LinkFault → L.faults link.new ≡ L.faults link.old) }
+    ensures unread { result ≢ Status.ReadFault }
+{
+    Status::of_asking(ask(daemon, query, sink, link, ticker))
+}
+
+/// Makes a schedule, runs it, and writes the summary of its run.
+fn run_storm<K: Sink>(alloc: Global, words: &StormWords, sink: &mut K) -> Status
+    requires { IsStorm words.now }
+    ensures runs { RunsStorm words.now (K.written sink.old) (K.written sink.new) (K.faults sink.old) (K.faults sink.new) result }
+    ensures later { K.faults sink.old ≤ K.faults sink.new }
+    ensures write { result ≡ Status.WriteFault → Rose (K.faults sink.old) (K.faults sink.new) }
+    ensures still { result ≢ Status.WriteFault → K.faults sink.new ≡ K.faults sink.old }
+    ensures unread { result ≢ Status.ReadFault }
+    ensures unlinked { result ≢ Status.LinkFault }
+    ensures used { result ≢ Status.Usage }
+{
+    Status::of_storm(storm(alloc, words, sink))
 }

@@ -1,8 +1,11 @@
 //! How the program ends.
 ghost use Rattle.std.specs.Prelude.{◌≡◌};
-ghost use Rattle.tsp_cli.specs.Statuses.{status_number, status_of};
+ghost use Rattle.tsp_cli.specs.Statuses.{status_number, status_of, status_of_served, status_of_asking, status_of_storm};
 
+use tsp_asking::end::Asking;
 use tsp_lines::treat::Outcome;
+use tsp_serving::end::Served;
+use tsp_storm::run::StormEnd;
 
 /// What a run comes to; the number is the program's exit status, 0 to 8 in this order.
 #[derive(Clone, Copy, PartialEq, Eq, Debug)]
@@ -11,13 +14,13 @@ pub enum Status {
     Ok,
     /// The words are no command.
     Usage,
-    /// A line or an event was refused.
+    /// A line or an event was refused, or a daemon's wall clock.
     Bad,
     /// A read failed.
     ReadFault,
     /// A write failed.
     WriteFault,
-    /// A call of the network failed.
+    /// A bind or a receive failed, or a question's send.
     LinkFault,
     /// A query had no answer.
     NoAnswer,
@@ -45,6 +48,44 @@ impl Status {
             Outcome::WriteFault => Status::WriteFault,
             Outcome::Limit => Status::Limit,
             Outcome::OutOfMemory => Status::OutOfMemory,
+        }
+    }
+
+    /// The status of what a daemon comes to.
+    pub fn of_served(served: Served) -> Status
+        ensures { result ≡ status_of_served served }
+    {
+        match served {
+            Served::Done => Status::Ok,
+            Served::BadWall => Status::Bad,
+            Served::LinkFault => Status::LinkFault,
+            Served::WriteFault => Status::WriteFault,
+            Served::OutOfMemory => Status::OutOfMemory,
+        }
+    }
+
+    /// The status of what a storm comes to.
+    pub fn of_storm(end: StormEnd) -> Status
+        ensures { result ≡ status_of_storm end }
+    {
+        match end {
+            StormEnd::Done => Status::Ok,
+            StormEnd::Limit => Status::Limit,
+            StormEnd::WriteFault => Status::WriteFault,
+            StormEnd::OutOfMemory => Status::OutOfMemory,
+        }
+    }
+
+    /// The status of what a question to a daemon comes to.
+    pub fn of_asking(asking: Asking) -> Status
+        ensures { result ≡ status_of_asking asking }
+    {
+        match asking {
+            Asking::Answered => Status::Ok,
+            Asking::NoAnswer => Status::NoAnswer,
+            Asking::LinkFault => Status::LinkFault,
+            Asking::WriteFault => Status::WriteFault,
+            Asking::OutOfMemory => Status::OutOfMemory,
         }
     }
 }

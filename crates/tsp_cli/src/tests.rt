@@ -1,9 +1,14 @@
 //! Runs of the program over memory, whose traces and refusals were worked out by hand.
+ghost use Rattle.std.specs.Prelude.{◌≡◌, false};
+
 use crate::run::run;
 use crate::status::Status;
 use std::alloc::{AllocError, Global};
 use std::process::Abort;
 use tsp_io::memory::{MemorySink, MemorySource};
+use tsp_io::memory_link::MemoryLink;
+use tsp_io::memory_ticker::MemoryTicker;
+use tsp_io::source::Source;
 
 /// A schedule of one node that boots, is turned, and answers a stranger's stamp.
 const ANSWERS: &str = "\
@@ -129,6 +134,21 @@ struct Row {
     written: &'static str,
 }
 
+/// A run of a command that reads lines: its link and its ticker aren't touched.
+pub(crate) fn run_lines<S: Source>(
+    alloc: Global,
+    words: &[String],
+    source: &mut S,
+    sink: &mut MemorySink,
+) -> Result<Status, AllocError>
+    requires { S.ended source.old ≡ false }
+{
+    let mut link = MemoryLink::new(alloc, &[0])?;
+    let mut ticker = MemoryTicker::new(alloc, &[0], 0, 0)?;
+    let status = run(alloc, words, source, sink, &mut link, &mut ticker);
+    Ok(status)
+}
+
 /// Whether the run comes to what the row says.
 fn comes(alloc: Global, row: &Row) -> Result<bool, AllocError> {
     let mut words = Vec::new(alloc);
@@ -137,7 +157,7 @@ fn comes(alloc: Global, row: &Row) -> Result<bool, AllocError> {
     }
     let mut source = MemorySource::new(alloc, row.input.as_bytes(), row.reads)?;
     let mut sink = MemorySink::new(alloc, row.writes)?;
-    let status = run(alloc, words.as_slice(), &mut source, &mut sink);
+    let status = run_lines(alloc, words.as_slice(), &mut source, &mut sink)?;
     Ok(status == row.status && sink.written() == row.written.as_bytes())
 }
 
@@ -200,30 +220,16 @@ fn replays(rt: HostRuntime) {
     }
 }
 
-/// Networks and ports are read, and refused: each node has one port. `strict` is the third line of the second
-/// version, and of no other.
+/// `strict` is the third line of the second version, and of no other.
 #[test]
-fn refuses_what_needs_ports(rt: HostRuntime) {
+fn strict_has_its_place(rt: HostRuntime) {
     for (input, written) in [
         ("tsp-schedule 2\ndrift 0\nstrict\n", "bad 4 header\n"),
         ("tsp-schedule 2\ndrift 0\nnode a 0 0 m\n", "bad 3 header\n"),
         ("tsp-schedule 1\ndrift 0\nstrict\n", "bad 3 header\n"),
-        ("tsp-schedule 1\ndrift 0\nnet 0\n", "bad 3 header\n"),
-        (
-            "tsp-schedule 1\ndrift 0\nnode a 0 0 m\nnet 0\n",
-            "bad 4 header\n",
-        ),
         (
             "tsp-schedule 1\ndrift 0\nnode a 0 0 m\nstrict\n",
             "bad 4 line\n",
-        ),
-        (
-            "tsp-schedule 1\ndrift 0\nnode a 0 0 m\nat 0 bytes 0/1 - 00\n",
-            "bad 4 line\n",
-        ),
-        (
-            "tsp-schedule 1\ndrift 0\nnode a 0 0 m\nat 0 bytes 0 - 00\n",
-            "bad 4 not-up 0\n",
         ),
     ] {
         let row = plain(&["replay"], input, Status::Bad, written);
@@ -284,7 +290,7 @@ fn a_failed_read_ends_the_replay(rt: HostRuntime) -> Result<(), AllocError> {
     words.push(String::from_str(alloc, "replay")?)?;
     let mut source = MemorySource::new(alloc, ANSWERS.as_bytes(), &[1])?.in_pieces(66);
     let mut sink = MemorySink::new(alloc, &[])?;
-    let status = run(alloc, words.as_slice(), &mut source, &mut sink);
+    let status = run_lines(alloc, words.as_slice(), &mut source, &mut sink)?;
     let written = "1 0 0 0 boot\n1 0 0 0 become starting\n1 0 0 0 arm quiet 80000000\n";
     assert!(rt; status == Status::ReadFault && sink.written() == written.as_bytes());
     Ok(())
@@ -310,7 +316,7 @@ fn long_lines_are_refused(rt: HostRuntime) -> Result<(), AllocError> {
         words.push(String::from_str(alloc, "replay")?)?;
         let mut source = MemorySource::new(alloc, input.as_bytes(), &[])?;
         let mut sink = MemorySink::new(alloc, &[])?;
-        let status = run(alloc, words.as_slice(), &mut source, &mut sink);
+        let status = run_lines(alloc, words.as_slice(), &mut source, &mut sink)?;
         assert!(rt; status == Status::Bad && sink.written() == written.as_bytes());
     }
     Ok(())

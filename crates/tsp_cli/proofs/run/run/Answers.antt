@@ -1,14 +1,52 @@
-use Rattle.std.proofs.Common.{◌≡◌, ◌∙◌, codes, string_bytes}
-use Rattle.tsp_cli.specs.Commands.{word_of, Replay}
-use Rattle.tsp_cli.proofs.HeadlineLemmas.{EndsAs-prints, item_text}
+use Rattle.std.proofs.Common.{inl, inr, refl}
+use Rattle.tsp_words.specs.declared.command.Command.TheVariants.{Replay}
+use Rattle.tsp_cli.proofs.CommandLemmas.{command_same, does_as, untouched_as, command_read, command_none, not_built, words_unbuilt, link_fault, Untouched-same, Says-nothing, Replay_prints}
 use Rattle.tsp_cli.proofs.run.run.Goals as goal
 
-pub returns-in-len1-clause-headline : goal.returns-in-len1-clause-headline
-returns-in-len1-clause-headline g c = λ words ok.
-    let word : c.as_str.result.now ≡ codes "replay" = c.as_str.ensures.value ∙ item_text string_bytes c.args.words.now c.word-item.result (codes "replay") words c.word-item.is in
-    EndsAs-prints _ _ _ _ c.run_word.result (c.run_word.ensures.runs Replay word).ends ok
+pub run_command-requires-clause-command : goal.run_command-requires-clause-command
+run_command-requires-clause-command g c = (command_read _ _ _ c.in-Ok-Some.field-0-is c.in-Ok-Some.ensures.reads).0
 
-pub returns-in-len1-clause-runs : goal.returns-in-len1-clause-runs
-returns-in-len1-clause-runs g c = λ command words.
-    let word : c.as_str.result.now ≡ word_of command = c.as_str.ensures.value ∙ item_text string_bytes c.args.words.now c.word-item.result (word_of command) words c.word-item.is in
-    c.run_word.ensures.runs command word
+pub returns-in-Ok-Some-clause-does : goal.returns-in-Ok-Some-clause-does
+returns-in-Ok-Some-clause-does g c = λ command is words built.
+    let same = command_same _ _ command c.in-Ok-Some.field-0-is (c.in-Ok-Some.ensures.one command is words) in
+    inr (does_as _ command _ _ c.run_command.result same c.run_command.ensures.does built)
+
+pub returns-in-Ok-Some-clause-headline : goal.returns-in-Ok-Some-clause-headline
+returns-in-Ok-Some-clause-headline g c = λ words ok.
+    let same = command_same _ _ Replay c.in-Ok-Some.field-0-is (c.in-Ok-Some.ensures.one Replay tt words) in
+    Replay_prints _ _ _ c.run_command.result same c.run_command.ensures.does ok
+
+pub returns-in-Ok-Some-clause-usage : goal.returns-in-Ok-Some-clause-usage
+returns-in-Ok-Some-clause-usage g c = λ unbuilt. c.run_command.ensures.usage (not_built _ _ unbuilt (command_read _ _ _ c.in-Ok-Some.field-0-is c.in-Ok-Some.ensures.reads))
+
+pub returns-in-Ok-Some-clause-untouched : goal.returns-in-Ok-Some-clause-untouched
+returns-in-Ok-Some-clause-untouched g c = λ command is words.
+    let same = command_same _ _ command c.in-Ok-Some.field-0-is (c.in-Ok-Some.ensures.one command is words) in
+    untouched_as _ command _ _ _ _ _ _ same c.run_command.ensures.untouched
+
+pub returns-in-Ok-Some-clause-link : goal.returns-in-Ok-Some-clause-link
+returns-in-Ok-Some-clause-link g c = λ e. link_fault _ _ _ _ _ _ (command_read _ _ _ c.in-Ok-Some.field-0-is c.in-Ok-Some.ensures.reads) (c.run_command.ensures.link e)
+
+pub returns-in-Ok-None-clause-does : goal.returns-in-Ok-None-clause-does
+returns-in-Ok-None-clause-does g c = λ command is words built. absurd (command_none _ _ c.in-Ok-None.field-0-is c.in-Ok-None.ensures.reads command is words)
+
+pub returns-in-Ok-None-clause-headline : goal.returns-in-Ok-None-clause-headline
+returns-in-Ok-None-clause-headline g c = λ words ok. absurd (command_none _ _ c.in-Ok-None.field-0-is c.in-Ok-None.ensures.reads Replay tt words)
+
+pub returns-in-Ok-None-clause-untouched : goal.returns-in-Ok-None-clause-untouched
+returns-in-Ok-None-clause-untouched g c = λ command is words. Untouched-same command _ _ _
+
+pub returns-in-Err-clause-does : goal.returns-in-Err-clause-does
+returns-in-Err-clause-does g c = λ command is words built. inl (refl, refl)
+
+pub returns-in-Err-clause-usage : goal.returns-in-Err-clause-usage
+returns-in-Err-clause-usage g c = λ unbuilt. (Says-nothing _, refl, refl, refl)
+
+pub returns-in-Err-clause-untouched : goal.returns-in-Err-clause-untouched
+returns-in-Err-clause-untouched g c = λ command is words. Untouched-same command _ _ _
+
+pub returns-in-Ok-Some-clause-exact : goal.returns-in-Ok-Some-clause-exact
+returns-in-Ok-Some-clause-exact g c = λ e. words_unbuilt _ _ _ c.in-Ok-Some.field-0-is c.in-Ok-Some.ensures.one (c.run_command.ensures.exact e)
+
+pub returns-in-Ok-None-clause-exact : goal.returns-in-Ok-None-clause-exact
+returns-in-Ok-None-clause-exact g c = λ e command is words built. command_none _ _ c.in-Ok-None.field-0-is c.in-Ok-None.ensures.reads command is words

@@ -1,9 +1,9 @@
 use Rattle.std.proofs.Common.{inl, inr, refl}
-use Rattle.tsp_cli.proofs.HeadlineLemmas.{Says-cut}
+use Rattle.tsp_query.proofs.ToldLemmas.{Says_cut}
 use Rattle.tsp_cli.proofs.run.say.Goals as goal
 
 pub returns-in-WriteFault-clause-says : goal.returns-in-WriteFault-clause-says
-returns-in-WriteFault-clause-says g c = Says-cut _ _ _ _ _ c.in-Err.cut.at (inl refl) c.in-Err.ensures.cut.0 c.in-Err.ensures.cut.1
+returns-in-WriteFault-clause-says g c = Says_cut _ _ _ _ _ _ _ _ c.in-Err.cut.at refl (inl refl) c.in-Err.ensures.cut.0 c.in-Err.ensures.cut.1
 
 pub returns-in-OutOfMemory-clause-says : goal.returns-in-OutOfMemory-clause-says
-returns-in-OutOfMemory-clause-says g c = Says-cut _ _ _ _ _ c.in-Err.cut.at (inr refl) c.in-Err.ensures.cut.0 c.in-Err.ensures.cut.1
+returns-in-OutOfMemory-clause-says g c = Says_cut _ _ _ _ _ _ _ _ c.in-Err.cut.at refl (inr refl) c.in-Err.ensures.cut.0 c.in-Err.ensures.cut.1

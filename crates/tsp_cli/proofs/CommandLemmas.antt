@@ -1,0 +1,244 @@
+-- From what the words ask for, and from how a daemon or a question ends, to how the program does.
+use Rattle.std.specs.Prelude.{◌≡◌, ◌⊎◌, ◌≤◌, ◌<◌, ℕ, ◌==◌, ℤ, Bool, true, false, List, [], ◌++◌, length, Option, None, Some, IfSome, IfOk, MatchOption, codes}
+use Rattle.std.specs.declared.result.Result.{Result}
+use Rattle.std.proofs.Common.{sym, ◌∙◌, inl, inr, subst, refl, ap, arith, eqb-true}
+use Rattle.tsp_asking.specs.declared.end.Asking.{Asking}
+use Rattle.tsp_asking.specs.declared.end.Asking.TheVariants.{Answered, NoAnswer as Unanswered, LinkFault as NotAsked, WriteFault as Untold, OutOfMemory as Unasked}
+use Rattle.tsp_asking.specs.Asks.{AsksAs}
+use Rattle.tsp_io.specs.Counts.{Rose}
+use Rattle.tsp_lines.proofs.Outputs.{Grows-nil}
+use Rattle.tsp_query.proofs.AskLemmas.{of_some}
+use Rattle.tsp_query.specs.Ends.{Outside}
+use Rattle.tsp_query.specs.Told.{Told, Knows}
+use Rattle.tsp_rules.specs.Tests.{is_clock_value}
+use Rattle.tsp_storm.specs.declared.run.StormEnd.{StormEnd}
+use Rattle.tsp_storm.specs.declared.run.StormEnd.TheVariants.{Done as Summed, Limit as Full, WriteFault as Unsaid, OutOfMemory as Unmade}
+use Rattle.tsp_storm.specs.Answers.{IsAnswer, Agrees, HasRoom, StormsAs}
+use Rattle.tsp_serving.specs.declared.end.Served.{Served}
+use Rattle.tsp_serving.specs.declared.end.Served.TheVariants.{Done as AllTurns, BadWall, LinkFault as NotHeard, WriteFault as NotShown, OutOfMemory as Unserved}
+use Rattle.tsp_serving.specs.Serving.{ServesAs}
+use Rattle.tsp_words.specs.Commands.{words_of, IsCommand, IsNoCommand}
+use Rattle.tsp_words.specs.declared.command.Command.{Command}
+use Rattle.tsp_words.specs.declared.command.Command.TheVariants.{Replay, Show, Pack, Serve, Ask, Storm, Icmp, Audit}
+use Rattle.tsp_words.specs.declared.query.Query.{Query}
+use Rattle.tsp_words.specs.declared.serve.ServeWords.{ServeWords}
+use Rattle.tsp_words.specs.declared.storm.StormWords.{StormWords}
+use Rattle.tsp_cli.specs.declared.status.Status.{Status}
+use Rattle.tsp_cli.specs.declared.status.Status.TheVariants.{Ok, Usage, ReadFault, WriteFault, LinkFault, NoAnswer, OutOfMemory}
+use Rattle.tsp_cli.specs.Commands.{Now, is_built, IsUnbuilt, Does, IsAsk, IsQuestion, Untouched, RunsDaemon, RunsQuery, RunsStorm}
+use Rattle.tsp_cli.specs.Headline.{PrintsHistory}
+use Rattle.tsp_cli.specs.Lines.{Says}
+use Rattle.tsp_cli.specs.Statuses.{status_of_served, status_of_asking, status_of_storm}
+use Rattle.tsp_cli.specs.Usage.{usage_line}
+use Rattle.tsp_cli.proofs.HeadlineLemmas.{EndsAs-prints}
+
+-- a command that is left as it is leaves all objects
+pub Untouched-same : {S L T : Type 0} (c : Command) (source : S) (link : L) (ticker : T) → Untouched c source source link link ticker ticker
+Untouched-same Replay source link ticker = (refl, refl)
+Untouched-same Show source link ticker = (refl, refl)
+Untouched-same Pack source link ticker = (refl, refl)
+Untouched-same (Serve s) source link ticker = refl
+Untouched-same (Ask a q) source link ticker = refl
+Untouched-same (Storm s) source link ticker = (refl, refl, refl)
+Untouched-same Icmp source link ticker = (refl, refl)
+Untouched-same Audit source link ticker = (refl, refl)
+
+-- nothing was written of the words of a wrong use, for want of memory
+pub Says-nothing : (written : Option (List ℕ)) → Says usage_line Usage written written OutOfMemory
+Says-nothing written = inr (inr refl, ([], usage_line, omega arith, refl, Grows-nil written))
+
+-- a daemon's status is never a failed read's
+pub served_unread : (s : Served) → status_of_served s ≡ ReadFault → ⊥
+served_unread AllTurns e = cc
+served_unread BadWall e = cc
+served_unread NotHeard e = cc
+served_unread NotShown e = cc
+served_unread Unserved e = cc
+
+-- nor a wrong use's
+pub served_used : (s : Served) → status_of_served s ≡ Usage → ⊥
+served_used AllTurns e = cc
+served_used BadWall e = cc
+served_used NotHeard e = cc
+served_used NotShown e = cc
+served_used Unserved e = cc
+
+-- a daemon ends by its link only where its session did
+pub served_linked : (s : Served) → status_of_served s ≡ LinkFault → s ≡ NotHeard
+served_linked AllTurns e = cc
+served_linked BadWall e = cc
+served_linked NotHeard e = refl
+served_linked NotShown e = cc
+served_linked Unserved e = cc
+
+-- a daemon ends by a write only where its session did
+pub served_written : (s : Served) → status_of_served s ≡ WriteFault → s ≡ NotShown
+served_written AllTurns e = cc
+served_written BadWall e = cc
+served_written NotHeard e = cc
+served_written NotShown e = refl
+served_written Unserved e = cc
+
+served_complete : (s : Served) (links links_now writes writes_now : ℕ) (told : Option ℤ) (wall : ℤ) → (s ≡ BadWall → IfSome told (λ w. is_clock_value w ≡ false)) → (s ≡ NotHeard → Rose links links_now) → (s ≡ NotShown → Rose writes writes_now)
+    → told ≡ Some wall → is_clock_value wall ≡ true → ¬ Rose links links_now → ¬ Rose writes writes_now → (status_of_served s ≡ Ok) ⊎ (status_of_served s ≡ OutOfMemory)
+served_complete AllTurns links links_now writes writes_now told wall bad heard shown is within l w = inl refl
+served_complete BadWall links links_now writes writes_now told wall bad heard shown is within l w =
+    let out : is_clock_value wall ≡ false = of_some (λ (x : ℤ). is_clock_value x ≡ false) told wall (bad refl) is in
+    let apart : true ≡ false = sym within ∙ out in
+    absurd (cc)
+served_complete NotHeard links links_now writes writes_now told wall bad heard shown is within l w = absurd (l (heard refl))
+served_complete NotShown links links_now writes writes_now told wall bad heard shown is within l w = absurd (w (shown refl))
+served_complete Unserved links links_now writes writes_now told wall bad heard shown is within l w = inr refl
+
+-- from how a daemon ends, to how the program does
+pub RunsDaemon-served : (s : ServeWords) (old new : Told) (links links_now writes writes_now : ℕ) (served : Served) (status : Status) → status ≡ status_of_served served
+    → ((o : Outside) (wall : ℤ) (word : ℕ) (written : List ℕ) → Knows o wall word written old → ServesAs s o wall word written new served)
+    → (served ≡ BadWall → IfSome old.wall (λ w. is_clock_value w ≡ false)) → (served ≡ NotHeard → Rose links links_now) → (served ≡ NotShown → Rose writes writes_now)
+    → RunsDaemon s old new links links_now writes writes_now status
+RunsDaemon-served s old new links links_now writes writes_now served status e serves bad heard shown = record {
+  served = served;
+  status_is = e;
+  serves = serves;
+  complete = λ wall is within l w. subst (λ (x : Status). (x ≡ Ok) ⊎ (x ≡ OutOfMemory)) (sym e) (served_complete served links links_now writes writes_now old.wall wall bad heard shown is within l w);
+}
+
+-- a question's status is never a failed read's
+pub asking_unread : (a : Asking) → status_of_asking a ≡ ReadFault → ⊥
+asking_unread Answered e = cc
+asking_unread Unanswered e = cc
+asking_unread NotAsked e = cc
+asking_unread Untold e = cc
+asking_unread Unasked e = cc
+
+-- nor a wrong use's
+pub asking_used : (a : Asking) → status_of_asking a ≡ Usage → ⊥
+asking_used Answered e = cc
+asking_used Unanswered e = cc
+asking_used NotAsked e = cc
+asking_used Untold e = cc
+asking_used Unasked e = cc
+
+-- a question ends by its link only where asking did
+pub asking_linked : (a : Asking) → status_of_asking a ≡ LinkFault → a ≡ NotAsked
+asking_linked Answered e = cc
+asking_linked Unanswered e = cc
+asking_linked NotAsked e = refl
+asking_linked Untold e = cc
+asking_linked Unasked e = cc
+
+-- a question ends by a write only where its line's did
+pub asking_written : (a : Asking) → status_of_asking a ≡ WriteFault → a ≡ Untold
+asking_written Answered e = cc
+asking_written Unanswered e = cc
+asking_written NotAsked e = cc
+asking_written Untold e = refl
+asking_written Unasked e = cc
+
+asking_complete : (a : Asking) (links links_now sends sends_now writes writes_now : ℕ) → (a ≡ NotAsked → Rose links links_now ⊎ Rose sends sends_now) → (a ≡ Untold → Rose writes writes_now)
+    → ¬ Rose links links_now → ¬ Rose sends sends_now → ¬ Rose writes writes_now → (status_of_asking a ≡ Ok) ⊎ (status_of_asking a ≡ NoAnswer) ⊎ (status_of_asking a ≡ OutOfMemory)
+asking_complete Answered links links_now sends sends_now writes writes_now asked told l s w = inl refl
+asking_complete Unanswered links links_now sends sends_now writes writes_now asked told l s w = inr (inl refl)
+asking_complete NotAsked links links_now sends sends_now writes writes_now asked told l s w = absurd (elim (asked refl) [ inl r ↦ l r | inr r ↦ s r ])
+asking_complete Untold links links_now sends sends_now writes writes_now asked told l s w = absurd (w (told refl))
+asking_complete Unasked links links_now sends sends_now writes writes_now asked told l s w = inr (inr refl)
+
+-- from how a question ends, to how the program does
+pub RunsQuery-asked : (q : Query) (old new : Told) (links links_now sends sends_now writes writes_now : ℕ) (asking : Asking) (status : Status) → status ≡ status_of_asking asking
+    → ((o : Outside) (wall : ℤ) (word : ℕ) (written : List ℕ) → Knows o wall word written old → AsksAs q o wall word written new asking)
+    → (asking ≡ NotAsked → Rose links links_now ⊎ Rose sends sends_now) → (asking ≡ Untold → Rose writes writes_now)
+    → RunsQuery q old new links links_now sends sends_now writes writes_now status
+RunsQuery-asked q old new links links_now sends sends_now writes writes_now asking status e asks asked told = record {
+  asking = asking;
+  status_is = e;
+  asks = asks;
+  complete = λ l s w. subst (λ (x : Status). (x ≡ Ok) ⊎ (x ≡ NoAnswer) ⊎ (x ≡ OutOfMemory)) (sym e) (asking_complete asking links links_now sends sends_now writes writes_now asked told l s w);
+}
+
+-- a storm's status is none of a source's, a link's or a wrong use's
+pub storm_unread : (e : StormEnd) → status_of_storm e ≡ ReadFault → ⊥
+storm_unread Summed e = cc
+storm_unread Full e = cc
+storm_unread Unsaid e = cc
+storm_unread Unmade e = cc
+
+pub storm_unlinked : (e : StormEnd) → status_of_storm e ≡ LinkFault → ⊥
+storm_unlinked Summed e = cc
+storm_unlinked Full e = cc
+storm_unlinked Unsaid e = cc
+storm_unlinked Unmade e = cc
+
+pub storm_used : (e : StormEnd) → status_of_storm e ≡ Usage → ⊥
+storm_used Summed e = cc
+storm_used Full e = cc
+storm_used Unsaid e = cc
+storm_used Unmade e = cc
+
+-- a storm ends by a write only where its summary or its limit wasn't written
+pub storm_written : (e : StormEnd) → status_of_storm e ≡ WriteFault → e ≡ Unsaid
+storm_written Summed e = cc
+storm_written Full e = cc
+storm_written Unsaid e = refl
+storm_written Unmade e = cc
+
+storm_ends : (e : StormEnd) → (e ≡ Summed) ⊎ (e ≡ Unmade) → (status_of_storm e ≡ Ok) ⊎ (status_of_storm e ≡ OutOfMemory)
+storm_ends e h = elim h [ inl s ↦ inl (ap (λ (x : StormEnd). status_of_storm x) s) | inr s ↦ inr (ap (λ (x : StormEnd). status_of_storm x) s) ]
+
+-- from how a storm ends, to how the program does
+pub RunsStorm-ended : (s : StormWords) (written now : Option (List ℕ)) (writes writes_now : ℕ) (end : StormEnd) (status : Status) → status ≡ status_of_storm end
+    → StormsAs s written now end → ((e : StormEnd) (text : List ℕ) → IsAnswer s e text → Agrees e text written now end)
+    → (HasRoom s → ¬ Rose writes writes_now → (end ≡ Summed) ⊎ (end ≡ Unmade)) → RunsStorm s written now writes writes_now status
+RunsStorm-ended s written now writes writes_now end status e storms answers complete = record {
+  end = end;
+  status_is = e;
+  storms = storms;
+  answers = answers;
+  complete = λ room w. subst (λ (x : Status). (x ≡ Ok) ⊎ (x ≡ OutOfMemory)) (sym e) (storm_ends end (complete room w));
+}
+
+-- words are one command's
+pub command_same : (x : Option Command) (d c : Command) → x ≡ Some d → x ≡ Some c → d ≡ c
+command_same x d c p q = cc
+
+-- what a command does, the same command does
+pub does_as : (d c : Command) (old new : Now) (status : Status) → d ≡ c → (is_built d ≡ true → Does d old new status) → is_built c ≡ true → Does c old new status
+does_as d c old new status e does = subst (λ (x : Command). is_built x ≡ true → Does x old new status) e does
+
+-- what a command leaves as it is, the same command leaves
+pub untouched_as : {S L T : Type 0} (d c : Command) (source source_now : S) (link link_now : L) (ticker ticker_now : T) → d ≡ c → Untouched d source source_now link link_now ticker ticker_now → Untouched c source source_now link link_now ticker ticker_now
+untouched_as d c source source_now link link_now ticker ticker_now e h = subst (λ (x : Command). Untouched x source source_now link link_now ticker ticker_now) e h
+
+-- what is said of a command that was read
+pub command_read : (x : Option Command) (d : Command) (words : List (List ℕ)) → x ≡ Some d → MatchOption x (IsNoCommand words) (λ c. IsCommand c × (words ≡ words_of c)) → IsCommand d × (words ≡ words_of d)
+command_read x d words e h = subst (λ (y : Option Command). MatchOption y (IsNoCommand words) (λ c. IsCommand c × (words ≡ words_of c))) e h
+
+-- no command was read
+pub command_none : (x : Option Command) (words : List (List ℕ)) → x ≡ None → MatchOption x (IsNoCommand words) (λ c. IsCommand c × (words ≡ words_of c)) → IsNoCommand words
+command_none x words e h = subst (λ (y : Option Command). MatchOption y (IsNoCommand words) (λ c. IsCommand c × (words ≡ words_of c))) e h
+
+not_true : (b : Bool) → (b ≡ true → ⊥) → b ≡ false
+not_true true f = absurd (f refl)
+not_true false f = refl
+
+-- a command of words that ask for nothing that is built isn't built
+pub not_built : (words : List (List ℕ)) (d : Command) → IsUnbuilt words → IsCommand d × (words ≡ words_of d) → is_built d ≡ false
+not_built words d unbuilt read = not_true (is_built d) (unbuilt d read.0 read.1)
+
+-- so many ports aren't one
+pub ports_unbuilt : (ports : ℕ) → (ports ≡ 1 → ⊥) → (ports == 1) ≡ false
+ports_unbuilt ports h = not_true (ports == 1) (λ e. h (eqb-true ports 1 e))
+
+-- words of a command that isn't built ask for nothing that is
+pub words_unbuilt : (x : Option Command) (d : Command) (words : List (List ℕ)) → x ≡ Some d → ((c : Command) → IsCommand c → words ≡ words_of c → x ≡ Some c) → is_built d ≡ false → IsUnbuilt words
+words_unbuilt x d words e one unbuilt c is same built =
+    let d_is : d ≡ c = command_same x d c e (one c is same) in
+    let bad : true ≡ false = sym built ∙ ap (λ (y : Command). is_built y) (sym d_is) ∙ unbuilt in
+    cc
+
+-- a replay that ends well prints a history
+pub Replay_prints : (d : Command) (old new : Now) (status : Status) → d ≡ Replay → (is_built d ≡ true → Does d old new status) → status ≡ Ok → PrintsHistory old.left new.left old.told.written new.told.written
+Replay_prints d old new status e does ok =
+    EndsAs-prints _ _ _ _ status (does_as d Replay old new status e does refl).ends ok
+
+-- the link's fault is that of a bind or a receive, or of a question's send
+pub link_fault : (words : List (List ℕ)) (d : Command) (links links_now sends sends_now : ℕ) → IsCommand d × (words ≡ words_of d) → Rose links links_now ⊎ (IsAsk d × Rose sends sends_now) → Rose links links_now ⊎ (IsQuestion words × Rose sends sends_now)
+link_fault words d links links_now sends sends_now read h = elim h [ inl r ↦ inl r | inr r ↦ inr ((d, r.0, read.0, read.1), r.1) ]

@@ -1,0 +1,106 @@
+//! Replays of schedules with networks, whose traces and refusals were worked out by hand.
+use crate::status::Status;
+use crate::tests::run_lines;
+use std::alloc::{AllocError, Global};
+use tsp_io::memory::{MemorySink, MemorySource};
+
+/// A node that joins two networks, follows on both and is corrected on the lower port alone; the last event is on
+/// a port that it lacks.
+const JOINS: &str = "\
+tsp-schedule 1
+drift 0
+node g 0 0 s
+node a 0 0 s
+node b 0 0 s
+net 0 1
+net 0 2
+at 0 boot 0 7
+at 80000000 turn 0
+at 81000000 bytes 0/1 2 0601000000000000000000006200
+at 82000000 bytes 0 1 0601000000000000000000006100
+at 83000000 bytes 0/1 2 0101000700000000000000016200
+at 84000000 bytes 0 1 01010007000000000000000a6100
+at 84000000 bytes 0/2 1 00
+";
+
+/// What is written of that.
+const JOINED: &str = "\
+1 0 0 0 boot
+1 0 0 0 become starting
+1 0 0 0 arm quiet 80000000
+1 0 1 0 become starting
+1 0 1 0 arm quiet 80000000
+2 0 0 80000000 ring quiet
+2 0 0 80000000 become loose
+2 0 0 80000000 arm search 85000000
+2 0 0 80000000 post 0 1 masterreq 0 g
+2 0 1 80000000 ring quiet
+2 0 1 80000000 become loose
+2 0 1 80000000 arm search 85000000
+2 0 1 80000000 post 1 2 masterreq 0 g
+3 0 1 81000000 took 2 masterup 0 b
+3 0 1 81000000 become follow 2
+3 0 1 81000000 arm elect 381000007
+3 0 1 81000000 post 2 2 slaveup 7 g
+4 0 0 82000000 took 1 masterup 0 a
+4 0 0 82000000 become follow 1
+4 0 0 82000000 arm elect 382000007
+4 0 0 82000000 post 3 1 slaveup 7 g
+5 0 1 83000000 took 2 adjtime 7 1 b
+6 0 0 84000000 took 1 adjtime 7 10 a
+6 0 0 84000000 correct 10 slew 84000000
+6 0 0 84000000 arm elect 384000007
+6 0 0 84000000 post 4 1 ack 7 g
+bad 14 no-node 0 3
+";
+
+/// Whether a replay of this input ends with this status and writes this.
+fn ends(alloc: Global, input: &str, status: Status, written: &str) -> Result<bool, AllocError> {
+    let mut words = Vec::new(alloc);
+    words.push(String::from_str(alloc, "replay")?)?;
+    let mut source = MemorySource::new(alloc, input.as_bytes(), &[])?;
+    let mut sink = MemorySink::new(alloc, &[])?;
+    let got = run_lines(alloc, words.as_slice(), &mut source, &mut sink)?;
+    Ok(got == status && sink.written() == written.as_bytes())
+}
+
+/// A node of two networks is corrected on the port that steers.
+#[test]
+fn a_gateway_follows_on_two_networks(rt: HostRuntime) -> Result<(), AllocError> {
+    assert!(rt; ends(rt.alloc(), JOINS, Status::Bad, JOINED)?);
+    Ok(())
+}
+
+/// Networks stand behind the nodes, ascending and of nodes that there are, each node in 4 at the most; and a header
+/// that has networks ends only where each node is in one.
+#[test]
+fn networks_have_their_place(rt: HostRuntime) -> Result<(), AllocError> {
+    let alloc = rt.alloc();
+    for (lines, written) in [
+        ("net 0\n", "bad 3 header\n"),
+        ("node a 0 0 m\nnet\n", "bad 4 line\n"),
+        ("node a 0 0 m\nnet 1\n", "bad 4 header\n"),
+        ("node a 0 0 m\nnode b 0 0 m\nnet 1 0\n", "bad 5 header\n"),
+        ("node a 0 0 m\nnet 0\nnode b 0 0 m\n", "bad 5 header\n"),
+        (
+            "node a 0 0 m\nnet 0\nnet 0\nnet 0\nnet 0\nnet 0\n",
+            "bad 8 header\n",
+        ),
+        ("node a 0 0 m\nnode b 0 0 m\nnet 0\n", "bad 6 header\n"),
+        ("node a 0 0 m\nnode b 0 0 m\nnet 0\nend\n", "bad 6 header\n"),
+        ("node a 0 0 m\nnet 0\n", "bad 5 no-end\n"),
+        ("node a 0 0 m\nnet 0\nend\nnet 0\n", "bad 6 after-end\n"),
+        ("node a 0 0 m\nat 0 bytes 0/1 - 00\n", "bad 4 no-node 0 1\n"),
+        ("node a 0 0 m\nat 0 bytes 0/1 7 00\n", "bad 4 no-node 0 1\n"),
+        ("node a 0 0 m\nat 0 bytes 0/0 - 00\n", "bad 4 line\n"),
+        ("node a 0 0 m\nat 0 bytes 0/256 - 00\n", "bad 4 line\n"),
+        ("node a 0 0 m\nat 0 bytes 0 - 00\n", "bad 4 not-up 0\n"),
+    ] {
+        let input = format!(in alloc; "tsp-schedule 1\ndrift 0\n{lines}")?;
+        assert!(rt;
+            ends(alloc, input.as_str(), Status::Bad, written)?,
+            "{written}"
+        );
+    }
+    Ok(())
+}
