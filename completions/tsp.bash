@@ -1,9 +1,21 @@
 # Completion of bash for tsp and its tools.
 
+# A column of the hosts file's list: 2 has names, 3 addresses. (tsp-launch stands in a folder that PATH may lack)
+_tsp_hosts() {
+    PATH=$PATH:/usr/sbin tsp-launch --list 2>/dev/null | cut -d ' ' -f "$1"
+}
+
+# (bash makes three words of an address, as it ends words at a colon)
 _tsp() {
-    if [ "$COMP_CWORD" -eq 1 ]; then
-        mapfile -t COMPREPLY < <(compgen -W 'replay show pack icmp --help --version' -- "${COMP_WORDS[COMP_CWORD]}")
-    fi
+    local before=${COMP_WORDS[*]:1:COMP_CWORD-1}
+    case ${before// : /:} in
+    '') mapfile -t COMPREPLY < <(compgen -W 'replay show pack icmp serve msite clockdiff trace election date storm --help --version' -- "$2") ;;
+    serve | msite | clockdiff | trace | election | date) mapfile -t COMPREPLY < <(compgen -W "$(_tsp_hosts 3)" -- "$2") ;;
+    'trace '*:*' '*) ;;
+    'trace '*:*[0-9]) mapfile -t COMPREPLY < <(compgen -W 'on off' -- "$2") ;;
+    'serve '*:*[0-9]' '*' '*) ;;
+    'serve '*:*[0-9]' '*) mapfile -t COMPREPLY < <(compgen -W 'm s x' -- "$2") ;;
+    esac
 }
 
 # The files of a word: schedules, traces and folders, or any where it begins another name.
@@ -40,8 +52,29 @@ _tsp_sim() {
     esac
 }
 
+_tsp_launch() {
+    case $3 in
+    --program | -p) mapfile -t COMPREPLY < <(compgen -c -- "$2") ;;
+    --file | -f) mapfile -t COMPREPLY < <(compgen -f -- "$2") ;;
+    --self | -s) mapfile -t COMPREPLY < <(compgen -W "$(_tsp_hosts 2)" -- "$2") ;;
+    --turns | -t | --wait | -w) ;;
+    *) mapfile -t COMPREPLY < <(compgen -W '--print --list --file --self --turns --wait --trace --program --help' -- "$2") ;;
+    esac
+}
+
+_tsp_status() {
+    case $3 in
+    --program | -p) mapfile -t COMPREPLY < <(compgen -c -- "$2") ;;
+    --file | -f) mapfile -t COMPREPLY < <(compgen -f -- "$2") ;;
+    --tries | -t) ;;
+    *) mapfile -t COMPREPLY < <(compgen -W '--csv --file --tries --program --help' -- "$2") ;;
+    esac
+}
+
 shopt -s extglob
 complete -F _tsp tsp
 complete -o filenames -F _tsp_lint tsp-lint
 complete -o filenames -F _tsp_plot tsp-plot
 complete -F _tsp_sim tsp-sim
+complete -o filenames -F _tsp_launch tsp-launch
+complete -o filenames -F _tsp_status tsp-status

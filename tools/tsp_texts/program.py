@@ -6,6 +6,10 @@ import sys
 import threading
 
 
+# The program warns of a status other than 0; its tools say themselves what came of a run.
+QUIET = {'stderr': subprocess.DEVNULL}
+
+
 def run_tool(main):
     """Runs a tool. Where nobody reads its output any more, it ends as one that the system ends for that."""
     try:
@@ -25,7 +29,7 @@ def home():
 def find(named=None, build=True):
     """The program to run: the one that is named, that of TSP_PROGRAM, the repository's own, or `tsp` of PATH; or None.
 
-    The repository's own is built where it must be, unless `build` is false: then it is none where it isn't built.
+    The repository's own is built where it must be, unless `build` is false: then it is none where it was never built.
     """
     named = named or os.environ.get('TSP_PROGRAM')
     if named:
@@ -33,8 +37,14 @@ def find(named=None, build=True):
     top = home()
     if top is None:
         return shutil.which('tsp')
-    built = os.path.exists(os.path.join(top, 'crates', 'tsp_cli', 'out', 'tsp_cli'))
-    return os.path.join(top, 'tsp') if build or built else None
+    built = os.path.join(top, 'crates', 'tsp_cli', 'out', 'tsp_cli')
+    return ready(os.path.join(top, 'tsp'), built) if build or os.path.exists(built) else None
+
+
+def ready(script, built):
+    """The program that a script builds, which says how far that is; the script itself where it can't."""
+    ended = subprocess.run([script, 'show'], stdin=subprocess.DEVNULL, check=False)
+    return script if ended.returncode else built
 
 
 def needed(named=None):
@@ -48,7 +58,7 @@ def needed(named=None):
 def verdict(program, text):
     """How `replay` ends on this text: its status, and its last line where it wrote one."""
     last = b''
-    with subprocess.Popen([program, 'replay'], stdin=subprocess.PIPE, stdout=subprocess.PIPE) as run:
+    with subprocess.Popen([program, 'replay'], stdin=subprocess.PIPE, stdout=subprocess.PIPE, **QUIET) as run:
         # (what it writes is read while it reads, so neither waits for the other)
         feeder = threading.Thread(target=feed, args=(run.stdin, text))
         feeder.start()
