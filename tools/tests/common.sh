@@ -21,6 +21,29 @@ has() {
     command -v "$1" >/dev/null
 }
 
+# Sets `program` to the program, or to that of TSP_PROGRAM; one that has no serve yet ends the check.
+serving_program() {
+    program=${TSP_PROGRAM:-crates/tsp_cli/out/tsp_cli}
+    [ -n "${TSP_PROGRAM:-}" ] || ./tsp show </dev/null || fail "the program isn't there"
+    # (an address that isn't this machine's can't be bound, and other words are refused before)
+    status=0
+    "$program" serve 192.0.2.1:525 a s 1 >"$out/said" 2>"$out/told" || status=$?
+    [ "$status" -ne 1 ] || { skip 'the program has no serve yet' 'a running daemon'; exit; }
+    [ "$status" -eq 5 ] || fail "an address that isn't this machine's ends with status $status"
+}
+
+# So many ports of this machine that nobody has.
+free_ports() {
+    python3 - "$1" <<'END'
+import socket
+import sys
+sockets = [socket.socket(socket.AF_INET, socket.SOCK_DGRAM) for _ in range(int(sys.argv[1]))]
+for each in sockets:
+    each.bind(('127.0.0.1', 0))
+print(*[each.getsockname()[1] for each in sockets])
+END
+}
+
 out=$(mktemp -d)
 trap 'rm -rf "$out"' EXIT
 

@@ -22,18 +22,35 @@ wants() {
 }
 
 wants 'replay ' tsp r
-wants 'show ' tsp s
+wants 'show ' tsp sh
+wants 'serve ' tsp se
+wants 'off on ' tsp trace 127.0.0.1:525 ''
+wants 'm s x ' tsp serve 127.0.0.1:525 a ''
 wants ' ' tsp replay ''
 wants '--loss ' tsp-sim --lo
 wants 'examples/first.tsp ' tsp-lint examples/first
 wants 'examples/first.trace examples/first.tsp ' tsp-plot examples/first
+
+# Hosts are those of the hosts file.
+ln -s "$PWD/tools/tsp-launch" "$out/bin/tsp-launch"
+export TSP_HOSTS="$PWD/daemon/hosts"
+wants '192.0.2.40:5525 ' tsp clockdiff 192.0.2.4
+wants '192.0.2.11:525 192.0.2.12:525 192.0.2.13:525 192.0.2.40:5525 ' tsp trace ''
+wants 'off on ' tsp trace 192.0.2.11 : 525 ''
+wants 'm s x ' tsp serve 192.0.2.11 : 525 alpha ''
+wants ' ' tsp serve 192.0.2.11:525 alpha m ''
+wants ' ' tsp trace 192.0.2.11:525 on ''
+wants 'alpha ' tsp-launch -s al
+wants 'daemon/hosts ' tsp-status --file daemon/h
+TSP_HOSTS=$out/none
+wants ' ' tsp-launch -s ''
 
 # The commands are those of the program's help.
 ./tsp --help | sed -n 's/^    tsp \([a-z-]*\) .*/\1/p' | sort >"$out/commands"
 complete_words tsp '' | cmp -s - "$out/commands" || fail 'the commands are others than those of tsp --help'
 
 # The options are those of each tool's help.
-for tool in tsp-lint tsp-plot tsp-sim; do
+for tool in tsp-lint tsp-plot tsp-sim tsp-launch tsp-status; do
     "tools/$tool" --help | grep -o -e '--[a-z]*' | sort -u >"$out/options"
     [ "$tool" != tsp-lint ] || echo --help >>"$out/options"
     complete_words "$tool" -- >"$out/completed"

@@ -27,6 +27,6 @@ tools/definitions --check || fail 'docs/DEFINITIONS.md is out of date: tools/def
 python3 tools/tests/proofs.py || fail 'docs/PROOFS.md names what is not there'
 [ "$count" -ge 4 ] || fail "only $count examples were tried"
 for tool in tools/tsp-*; do
-    [ -e "man/${tool#tools/}.1" ] || fail "$tool has no page"
+    [ -e "man/${tool#tools/}.1" ] || [ -e "man/${tool#tools/}.8" ] || fail "$tool has no page"
 done
 echo "$check: $count examples, and what is pointed to"

@@ -16,7 +16,7 @@ while IFS= read -r case; do
     wanted=${rest%% |*} hint=${rest#* | }
     sed "$script" tools/tests/lint.tsp >"$out/broken.tsp"
     status=0
-    "$TSP_PROGRAM" replay <"$out/broken.tsp" >"$out/trace" || status=$?
+    "$TSP_PROGRAM" replay <"$out/broken.tsp" >"$out/trace" 2>"$out/warning" || status=$?
     if [ "$wanted" = ok ]; then
         [ "$status" -eq 0 ] || fail "$script: replay ends with status $status"
         tools/tsp-lint "$out/broken.tsp" >"$out/said" || fail "$script: tsp-lint ends with status $?"
@@ -38,7 +38,7 @@ refuses() {
     wanted=$1 verdict=$2
     cat >"$out/large.tsp"
     status=0
-    "$TSP_PROGRAM" replay <"$out/large.tsp" | tail -n 1 >"$out/last"
+    "$TSP_PROGRAM" replay <"$out/large.tsp" 2>"$out/warning" | tail -n 1 >"$out/last"
     [ "$(cat "$out/last")" = "$verdict" ] || fail "replay ends with '$(cat "$out/last")', not '$verdict'"
     tools/tsp-lint - <"$out/large.tsp" >"$out/said" || status=$?
     [ "$status" -eq "$wanted" ] || fail "$verdict: tsp-lint ends with status $status"

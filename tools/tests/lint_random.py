@@ -34,7 +34,7 @@ def spoiled(text, draw):
 
 def said(program, text):
     """The refusal of `replay`, or None."""
-    run = subprocess.run([program, 'replay'], input=text, stdout=subprocess.PIPE, check=False)
+    run = subprocess.run([program, 'replay'], input=text, stdout=subprocess.PIPE, stderr=subprocess.DEVNULL, check=False)
     return run.stdout.decode().splitlines()[-1] if run.returncode else None
 
 

@@ -15,21 +15,22 @@ text_of() {
     LC_ALL=C.UTF-8 MANWIDTH=240 man -P cat -l "$1" | sed 's/.\x08//g'
 }
 
-for tool in tsp-lint tsp-plot tsp-sim; do
+for tool in tsp-lint tsp-plot tsp-sim tsp-launch tsp-status; do
+    page=$(echo "man/$tool".[1-8])
     "tools/$tool" --help | grep -o -e '--[a-z]*' | sort -u >"$out/options"
-    text_of "man/$tool.1" | sed -n '/^OPTIONS/,/^EXIT STATUS/p' | grep -o -e '--[a-z]*' | sort -u >"$out/told"
+    text_of "$page" | sed -n '/^OPTIONS/,/^EXIT STATUS/p' | grep -o -e '--[a-z]*' | sort -u >"$out/told"
     [ "$tool" != tsp-lint ] || echo --help >>"$out/options"
-    sort -u "$out/options" | cmp -s - "$out/told" || fail "man/$tool.1 tells of other options than $tool --help"
+    sort -u "$out/options" | cmp -s - "$out/told" || fail "$page tells of other options than $tool --help"
 done
 
 # The examples: what stands behind `$` is run, and what follows up to the next `$` or empty line is what it gives.
 mkdir "$out/try"
 for tool in tools/tsp-*; do ln -s "$PWD/$tool" "$out/bin/${tool#tools/}"; done
 ln -s "$PWD/tsp" "$out/bin/tsp"
-cp examples/election.tsp "$out/try"
+cp examples/election.tsp daemon/hosts "$out/try"
 sed '6s/turn 0/turn a/' tools/tests/lint.tsp >"$out/try/broken.tsp"
 count=0
-for page in man/*.1; do
+for page in man/*.[18]; do
     text_of "$page" | sed -n '/^EXAMPLES/,/^SEE ALSO/p' | sed 's/^       //' >"$out/examples"
     awk -v out="$out/example" '
         /^\$ / { at++; file = out "-" at; print substr($0, 3) > (file ".sh"); printf "" > (file ".wanted"); next }
@@ -44,5 +45,5 @@ for page in man/*.1; do
     done
     rm -f "$out"/example-*
 done
-[ "$count" -ge 8 ] || fail "only $count examples were tried"
+[ "$count" -ge 11 ] || fail "only $count examples were tried"
 echo "$check: each page of man, and $count examples"

@@ -1,0 +1,131 @@
+#!/bin/sh
+# The daemon, and the questions to it, over the loopback: what stands between two processes, which no proof speaks of.
+# It takes half a minute at the most, and leaves nothing behind. Usage: .ci/daemon.sh [PROGRAM]
+set -eu
+cd "$(dirname "$0")/.."
+program=${1:-crates/tsp_cli/out/tsp_cli}
+began=$(date +%s)
+
+fail() {
+    echo ".ci/daemon.sh: $1" >&2
+    exit 1
+}
+
+out=$(mktemp -d)
+running=
+stop() {
+    for process in $running; do kill "$process" 2>/dev/null || :; done
+    wait
+    rm -rf "$out"
+}
+trap stop EXIT
+trap 'exit 130' INT
+trap 'exit 143' TERM HUP
+
+# Five ports of which nobody makes use, as the system gives them.
+ports=$(python3 -c '
+import socket
+held = [socket.socket(socket.AF_INET, socket.SOCK_DGRAM) for _ in range(5)]
+for s in held: s.bind(("127.0.0.1", 0))
+print(*(s.getsockname()[1] for s in held))')
+# shellcheck disable=SC2086  # five words
+set -- $ports
+alpha=127.0.0.1:$1 beta=127.0.0.1:$2 alone=127.0.0.1:$3 dead=127.0.0.1:$4 nobody=127.0.0.1:$5
+
+# Sends these octets from one address to another, and prints the octets that come back within a second. Without a
+# third word what comes back isn't waited for: it goes to a port that is closed by then.
+exchange() {
+    python3 - "$@" <<'PYTHON'
+import socket, sys
+def address(text):
+    host, port = text.split(":")
+    return host, int(port)
+local, to, octets = address(sys.argv[1]), address(sys.argv[2]), bytes.fromhex(sys.argv[3])
+with socket.socket(socket.AF_INET, socket.SOCK_DGRAM) as s:
+    s.setsockopt(socket.SOL_SOCKET, socket.SO_REUSEADDR, 1)
+    s.bind(local)
+    s.settimeout(1)
+    s.sendto(octets, to)
+    if len(sys.argv) > 4:
+        print(s.recv(512).hex())
+PYTHON
+}
+
+# How a command ends that is to end so, and what it writes.
+wants() {
+    wanted=$1 text=$2
+    shift 2
+    status=0
+    "$program" "$@" >"$out/text" 2>"$out/warning" || status=$?
+    [ "$status" -eq "$wanted" ] || fail "'$*' ends with status $status"
+    [ "$(cat "$out/text")" = "$text" ] || fail "'$*' writes '$(cat "$out/text")'"
+    if [ "$wanted" -eq 0 ]; then
+        [ ! -s "$out/warning" ] || fail "'$*' warns"
+    else
+        grep -q "ended with status $wanted\$" "$out/warning" || fail "'$*' doesn't warn"
+        [ "$(wc -l <"$out/warning")" -eq 1 ] || fail "'$*' warns more than once"
+    fi
+}
+
+# Two daemons that know each other: one takes three turns, and the other is ended from outside.
+"$program" serve "$alpha" alpha m 1000 "$beta" >"$out/alpha" 2>"$out/alpha.warning" &
+a=$!
+running="$running $a"
+"$program" serve "$beta" beta s 3 "$alpha" >"$out/beta" 2>"$out/beta.warning" &
+b=$!
+running="$running $b"
+
+# Questions that nobody answers wait eight seconds, beside all else.
+(status=0; "$program" msite "$nobody" >"$out/nobody" 2>/dev/null || status=$?; echo "$status" >>"$out/nobody") &
+silent=$!
+sleep 0.5
+
+# A second daemon doesn't get the port.
+wants 5 '' serve "$alpha" gamma m 1
+
+# Stamps and messages are answered in their written spelling.
+exchange "$dead" "$alpha" 80010000000000000000000100000000000000020000000000000000 answer >"$out/reply" || fail 'a stamp request has no reply'
+exchange "$dead" "$alpha" 1301000300000000000000007800 answer >>"$out/reply" || fail 'a question for the master has no answer'
+"$program" show <"$out/reply" >"$out/shown" || fail 'an answer is no datagram'
+"$program" pack <"$out/shown" >"$out/packed" || fail 'an answer is no line'
+cmp -s "$out/reply" "$out/packed" || fail 'an answer is spelled in another way than it is written'
+grep -q '^reply [0-9]* 1 2 -*[0-9]*$' "$out/shown" || fail 'a stamp request has another reply'
+[ "$(sed -n 2p "$out/shown")" = 'ack 3 %' ] || fail 'a question for the master has another answer'
+
+# The questions: in the quiet time there is no master, and nobody stands for election.
+wants 0 'no master' msite "$alpha"
+"$program" clockdiff "$alpha" >"$out/diff" || fail "'clockdiff' ends with status $?"
+awk 'NF != 3 || $1 != "clockdiff" || $2 > 10000 || $2 < -10000 || $3 > 1000000 { exit 1 }' "$out/diff" || fail "'clockdiff' writes '$(cat "$out/diff")'"
+[ ! -s "$out/alpha" ] || fail 'a daemon writes without being asked'
+wants 0 'trace on' trace "$alpha" on
+wants 0 'no master' msite "$alpha"
+grep -q ' trace on$' "$out/alpha" || fail "the trace doesn't begin"
+grep -q ' took - msite [0-9]* timedc$' "$out/alpha" || fail "the trace doesn't show a question"
+wants 0 'trace off' trace "$alpha" off
+
+# A daemon whose answers go to a closed port takes its turns: a peer's, from the peer's own port, and a stranger's.
+"$program" serve "$alone" alone m 5 "$dead" >"$out/alone" 2>"$out/alone.warning" &
+l=$!
+running="$running $l"
+sleep 0.2
+for from in "$dead" "$nobody" "$dead"; do
+    exchange "$from" "$alone" 80010000000000000000000100000000000000020000000000000000
+done
+wait "$l" || fail "a daemon whose peer is dead ends with status $?"
+
+# The turns are over, and SIGTERM ends what has more of them.
+wait "$b" || fail "a daemon ends with status $? after its turns"
+election=0
+"$program" election "$alpha" >"$out/election" 2>/dev/null || election=$?
+[ "$election" -eq 6 ] && [ "$(cat "$out/election")" = 'no answer' ] || fail "'election' in the quiet time gives another answer"
+kill "$a"
+status=0
+wait "$a" 2>/dev/null || status=$?
+[ "$status" -eq 143 ] || fail "a daemon that is told to end ends with status $status"
+wait "$silent"
+[ "$(tr '\n' ' ' <"$out/nobody")" = 'no answer 6 ' ] || fail 'a question to nobody gives another answer'
+running=
+
+spent=$(($(date +%s) - began))
+[ "$spent" -le 30 ] || fail "it took $spent s"
+echo ".ci/daemon.sh: two daemons and the questions to them, in $spent s"

@@ -1,0 +1,172 @@
+#!/bin/sh
+# tsp-launch reads hosts files: from a good one it gives each host its words, and of a faulty one it names the line.
+. "$(dirname "$0")/common.sh"
+unset TSP_HOSTS TSP_SELF TSP_TURNS TSP_WAIT TSP_TRACE TSP_PROGRAM
+hosts=tools/tests/launch.hosts
+
+# A name service: one address as getent gives it, two, one that no other host can reach, none, and one that comes late.
+cat >"$out/bin/getent" <<'END'
+#!/bin/sh
+answer() { printf '%s\n' "$1     STREAM $2" "$1     DGRAM  " "$1     RAW    "; }
+case $1:$2 in
+ahostsv4:one.example) answer 192.0.2.50 "$2" ;;
+ahostsv4:two.example) answer 192.0.2.51 "$2"; answer 192.0.2.52 "$2" ;;
+ahostsv4:self.example) answer 127.0.1.1 "$2" ;;
+ahostsv4:late.example) echo asked >>"$ASKED"; [ "$(wc -l <"$ASKED")" -lt 3 ] || answer 192.0.2.53 "$2" ;;
+*) exit 2 ;;
+esac
+END
+chmod +x "$out/bin/getent"
+export ASKED="$out/asked"
+
+# Wants this status of tsp-launch with these words, and the variables that `given` names.
+given=''
+ends() {
+    wanted=$1
+    shift
+    status=0
+    # shellcheck disable=SC2086  # words
+    env $given tools/tsp-launch "$@" >"$out/said" 2>"$out/told" </dev/null || status=$?
+    [ "$status" -eq "$wanted" ] || fail "'$*' ends with status $status: $(cat "$out/told")"
+}
+
+# Wants these words for this host.
+gives() {
+    ends 0 --print --file "$hosts" --self "$1"
+    [ "$(cat "$out/said")" = "$2" ] || fail "$1 is given '$(cat "$out/said")'"
+    [ ! -s "$out/told" ] || fail "$1: $(cat "$out/told")"
+}
+
+# Wants status 78 and this alone on standard error.
+refuses() {
+    text=$1
+    shift
+    ends 78 "$@"
+    [ ! -s "$out/said" ] || fail "'$*' prints '$(cat "$out/said")'"
+    [ "$(cat "$out/told")" = "tsp-launch: $text" ] || fail "'$*': it says '$(cat "$out/told")'"
+}
+
+# Each host has its own line first, and the others of its network as peers.
+gives alpha 'serve 192.0.2.11:525 alpha m 1000000000 192.0.2.12:526 192.0.2.1:525'
+gives beta 'serve 192.0.2.12:526 beta s 1000000000 192.0.2.11:525 192.0.2.1:525'
+gives gamma 'serve 198.51.100.7:525 gamma s 1000000000 192.0.2.1:525'
+gives beta.example.org 'serve 192.0.2.12:526 beta s 1000000000 192.0.2.11:525 192.0.2.1:525'
+given="TSP_HOSTS=$hosts TSP_SELF=gamma TSP_TURNS=7"
+ends 0 -n
+given=''
+[ "$(cat "$out/said")" = 'serve 198.51.100.7:525 gamma s 7 192.0.2.1:525' ] || fail "the variables give '$(cat "$out/said")'"
+ends 0 --list -f "$hosts"
+printf '%s\n' '1 alpha 192.0.2.11:525 master' '1 beta 192.0.2.12:526 slave' '1 gate 192.0.2.1:525 master' '2 gamma 198.51.100.7:525 slave' '2 gate 192.0.2.1:525 master' |
+    cmp -s - "$out/said" || fail "the hosts are listed as '$(cat "$out/said")'"
+
+# A host in two networks is a gateway. Its words have a + between its networks, when they are let through.
+refuses "$hosts:8: gate stands in more than one network: gateways aren't served yet" -n -f "$hosts" -s gate
+sed '/|| not_yet$/d' tools/tsp-launch >"$out/lifted"
+sh "$out/lifted" -n -f "$hosts" -s gate >"$out/said" || fail 'a gateway is refused for another cause'
+[ "$(cat "$out/said")" = 'serve 192.0.2.1:525 gate m 1000000000 192.0.2.11:525 192.0.2.12:526 + 198.51.100.7:525' ] || fail "a gateway is given '$(cat "$out/said")'"
+for case in '9: beta stands in two networks of gate, which can have it as a peer once|beta 192.0.2.12:526 slave' \
+    '14: gate stands in more than four networks|+\ngate 192.0.2.1 master\n+\ngate 192.0.2.1 master\n+\ngate 192.0.2.1 master'; do
+    { cat "$hosts"; printf '%b\n' "${case#*|}"; } >"$out/hosts"
+    status=0
+    sh "$out/lifted" -n -f "$out/hosts" -s gate >"$out/said" 2>"$out/told" || status=$?
+    [ "$status" -eq 78 ] && [ "$(cat "$out/told")" = "tsp-launch: $out/hosts:${case%%|*}" ] || fail "a gateway gives '$(cat "$out/said" "$out/told")'"
+done
+printf 'gate 192.0.2.1 master\n+\nalpha 192.0.2.11 slave\n+\nbeta 192.0.2.12 slave\ngate 192.0.2.1 master\n+\ngate 192.0.2.1 master\n' >"$out/hosts"
+sh "$out/lifted" -n -f "$out/hosts" -s gate >"$out/said" || fail 'a gateway without peers in a network is refused'
+[ "$(cat "$out/said")" = 'serve 192.0.2.1:525 gate m 1000000000 + 192.0.2.12:525 +' ] || fail "a gateway is given '$(cat "$out/said")'"
+
+# The host's own name, if it is alone; a last line without its line feed; a name, and one of a host name's own dots; all on one machine.
+printf '%s 192.0.2.1 strict' "$(uname -n)" >"$out/hosts"
+ends 0 -n -f "$out/hosts"
+[ "$(cat "$out/said")" = "serve 192.0.2.1:525 $(uname -n) x 1000000000" ] || fail "this host is given '$(cat "$out/said")'"
+printf 'a.b one.example:9 strict\na 127.0.0.1 slave\n' | sed 2d >"$out/hosts"
+ends 0 -n -f "$out/hosts" -s a.b
+[ "$(cat "$out/said")" = 'serve 192.0.2.50:9 a.b x 1000000000' ] || fail "a name gives '$(cat "$out/said")'"
+printf 'a 127.0.0.1:1 master\nb 127.0.0.1:2 slave\n' >"$out/hosts"
+ends 0 -n -f "$out/hosts" -s b
+[ "$(cat "$out/said")" = 'serve 127.0.0.1:2 b s 1000000000 127.0.0.1:1' ] || fail "one machine gives '$(cat "$out/said")'"
+
+# A host that needs no majority beside one that does is told of once, and let be.
+printf '%s\n' 'a 10.0.0.1 strict' 'b 10.0.0.2 slave' 'c 10.0.0.3 master' 'd 10.0.0.4 strict' >"$out/hosts"
+ends 0 -n -f "$out/hosts" -s a
+[ "$(cat "$out/told")" = "tsp-launch: $out/hosts:3: master and strict in one network: elections are strict only where no host is master" ] || fail "$(cat "$out/told")"
+
+# Each faulty line.
+count=0
+while IFS= read -r case; do
+    case $case in '#'*) continue ;; esac
+    sed "${case%% | *}" "$hosts" >"$out/hosts"
+    refuses "$out/hosts:${case#* | }" -n -f "$out/hosts" -s alpha
+    count=$((count + 1))
+done <tools/tests/launch.cases
+[ "$count" -ge 40 ] || fail "only $count cases were tried"
+
+# Files and words.
+refuses "$out/none: there is no such file" -n -f "$out/none" -s alpha
+refuses "$out: it can't be read" -n -f "$out" -s alpha
+refuses "$hosts: no line for this host, delta" -n -f "$hosts" -s delta
+printf '# nobody\n\n' >"$out/hosts"
+refuses "$out/hosts: no host stands in it" -n -f "$out/hosts" -s alpha
+awk 'BEGIN { for (i = 1; i <= 1001; i++) printf "n%d 10.0.%d.%d master\n", i, i / 250, i % 250 + 1 }' >"$out/hosts"
+refuses "$out/hosts: n1 has more than 999 peers" -n -f "$out/hosts" -s n1
+sed -i 1001d "$out/hosts"
+ends 0 -n -f "$out/hosts" -s n1000
+[ "$(wc -w <"$out/said")" -eq 1004 ] || fail 'a thousand hosts are not 999 peers'
+printf '%s 10.0.0.1 slave\n' "$(printf '%0255d' 0)" >"$out/hosts"
+ends 0 -n -f "$out/hosts" -s "$(printf '%0255d' 0)"
+sed -i 's/^/0/' "$out/hosts"
+refuses "$out/hosts:1: the name has more than 255 letters" -n -f "$out/hosts" -s alpha
+for turns in 0 01 1000000001 -1 x ''; do
+    refuses "turns '$turns': a number from 1 to 1000000000" -n -f "$hosts" -s alpha --turns="$turns"
+done
+refuses "wait 'x': a number of seconds from 0 to 86400" -n -f "$hosts" -s alpha -w x
+refuses '-q: tsp-launch --help says which words there are' -q
+refuses '-f: a word is missing behind it' -n -f
+given=TSP_TRACE=yes
+refuses "trace 'yes': on or off" -n -f "$hosts" -s alpha
+given=''
+refuses "there is no program $out/none" -f "$hosts" -s alpha -p "$out/none"
+
+# A name is looked up again, as long as that was asked for.
+printf 'late late.example master\n' >"$out/hosts"
+: >"$ASKED"
+refuses "$out/hosts:1: late.example has no IPv4 address" -n -f "$out/hosts" -s late
+: >"$ASKED"
+ends 0 -n -f "$out/hosts" -s late -w 5
+[ "$(cat "$out/said")" = 'serve 192.0.2.53:525 late m 1000000000' ] || fail 'a name that comes late is not waited for'
+[ "$(cat "$out/told")" = "tsp-launch: $out/hosts:1: late.example has no IPv4 address yet; names are looked up for 5 s more" ] || fail "$(cat "$out/told")"
+
+# The daemon is started with the words, and ends with its own status. Where that is asked for it is told to trace, until it answers.
+cat >"$out/fake" <<'END'
+#!/bin/sh
+echo "$*" >>"$CALLS"
+case $1 in
+serve) for _ in $(seq "$PATIENCE"); do [ "$(wc -l <"$CALLS")" -ge "$WANTED" ] || sleep 0.5; done; exit "$STATUS" ;;
+trace) [ "$(wc -l <"$CALLS")" -ge 3 ] || exit 6; echo trace on ;;
+esac
+END
+chmod +x "$out/fake"
+export CALLS="$out/calls" WANTED=1 PATIENCE=40 STATUS
+for STATUS in 0 1 2 4 5 8; do
+    : >"$CALLS"
+    ends "$STATUS" -f "$hosts" -s gamma -p "$out/fake"
+    [ "$(cat "$CALLS")" = 'serve 198.51.100.7:525 gamma s 1000000000 192.0.2.1:525' ] || fail "the program is called as '$(cat "$CALLS")'"
+done
+: >"$CALLS"
+given='WANTED=3 STATUS=0'
+ends 0 -f "$hosts" -s alpha -p "$out/fake" --trace
+printf '%s\n' 'serve 192.0.2.11:525 alpha m 1000000000 192.0.2.12:526 192.0.2.1:525' 'trace 192.0.2.11:525 on' 'trace 192.0.2.11:525 on' >"$out/wanted"
+sort "$CALLS" | cmp -s - "$out/wanted" || fail "the daemon is asked to trace as '$(cat "$CALLS")'"
+[ "$(cat "$out/told")" = 'tsp-launch: in the trace peer 0 is alpha, 1 beta, 2 gate' ] || fail "$(cat "$out/told")"
+[ ! -s "$out/said" ] || fail 'what the questions answer is printed'
+: >"$CALLS"
+given='WANTED=9 PATIENCE=2 STATUS=5 TSP_TRACE=on'
+ends 5 -f "$hosts" -s alpha -p "$out/fake"
+given=''
+calls=$(wc -l <"$CALLS")
+sleep 2.2
+[ "$(wc -l <"$CALLS")" -le $((calls + 1)) ] || fail 'a daemon that has ended is still asked to trace'
+
+# The example of a hosts file is a good one.
+ends 0 -n -f daemon/hosts -s printer
+echo "$check: words of good hosts files, $count faulty lines, and starts"

@@ -1,0 +1,58 @@
+#!/bin/sh
+# systemd reads the unit without a word, finds it well shut off, and starts the daemon again but where that is no use.
+. "$(dirname "$0")/common.sh"
+unit=daemon/tsp.service
+
+# What a key of the unit says, over all its lines.
+says() {
+    sed -n "s/^$1=//p" "$unit" | paste -sd ' '
+}
+
+[ "$(says Restart)" = always ] && [ "$(says RestartPreventExitStatus)" = '1 2 78' ] || fail 'it is not started again but for 1, 2 and 78'
+[ "$(says DynamicUser)" = yes ] || fail 'it has no user of its own'
+for key in AmbientCapabilities CapabilityBoundingSet; do
+    [ "$(says "$key")" = CAP_NET_BIND_SERVICE ] || fail "$key is '$(says "$key")'"
+done
+
+# The variables of the unit and of its defaults are those that tsp-launch reads.
+{
+    says Environment | tr ' ' '\n'
+    sed -n 's/^#\(TSP_.*\)/\1/p' daemon/tsp.default
+} | sed 's/=.*//' | sort -u >"$out/set"
+grep -o '\${TSP_[A-Z]*' tools/tsp-launch | sed 's/^..//' | sort -u >"$out/read"
+comm -23 "$out/set" "$out/read" >"$out/unread"
+[ ! -s "$out/unread" ] || fail "tsp-launch does not read $(cat "$out/unread")"
+[ "$(wc -l <"$out/set")" -ge 5 ] || fail 'too few variables are set'
+
+has systemd-analyze || { skip 'there is no systemd-analyze' "what systemd says of $unit"; exit; }
+analyze() {
+    systemd-analyze --no-pager "$@" >"$out/told" 2>&1
+}
+! analyze --help || cp "$out/told" "$out/help"
+if grep -q -e --offline "$out/help" && grep -q -e --threshold "$out/help"; then
+    analyze security --offline=true --threshold=20 "$unit" || fail "$(tail -n 1 "$out/told")"
+    exposure=$(sed -n 's/.*exposure level for [^:]*: \([0-9.]*\).*/\1/p' "$out/told")
+else
+    skip 'this systemd-analyze knows no unit that is not installed' 'how well the unit is shut off'
+    exposure='not known'
+fi
+
+# A root with the unit, what it starts, and the units that it names.
+root=$out/root
+install -d "$root/usr/lib/systemd/system" "$root/usr/sbin" "$root/etc/default"
+install -m 644 "$unit" "$root/usr/lib/systemd/system"
+install -m 755 tools/tsp-launch "$root/usr/sbin"
+for folder in /usr/lib/systemd/system /lib/systemd/system; do
+    [ ! -d "$folder" ] || { cp -r "$folder"/*.target "$root/usr/lib/systemd/system" 2>/dev/null || :; }
+done
+if grep -q -e --root "$out/help"; then
+    analyze verify --man=no --root="$root" tsp.service || :
+    [ ! -s "$out/told" ] || fail "$(head -n 1 "$out/told")"
+    # (and it would say so if something were wrong)
+    sed -i 's/^ProtectHome=/ProtectHouse=/' "$root/usr/lib/systemd/system/tsp.service"
+    analyze verify --man=no --root="$root" tsp.service || :
+    grep -q ProtectHouse "$out/told" || fail 'systemd-analyze verify finds no fault where there is one'
+else
+    skip 'this systemd-analyze knows no other root' 'what it says of the unit'
+fi
+echo "$check: read without a word, exposure $exposure"
