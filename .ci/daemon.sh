@@ -104,10 +104,13 @@ grep -q ' took - msite [0-9]* timedc$' "$out/alpha" || fail "the trace doesn't s
 wants 0 'trace off' trace "$alpha" off
 
 # A daemon whose answers go to a closed port takes its turns: a peer's, from the peer's own port, and a stranger's.
-"$program" serve "$alone" alone m 5 "$dead" >"$out/alone" 2>"$out/alone.warning" &
+# It stands for election by a majority alone, and answers like any other.
+"$program" serve "$alone" alone x 6 "$dead" >"$out/alone" 2>"$out/alone.warning" &
 l=$!
 running="$running $l"
 sleep 0.2
+exchange "$nobody" "$alone" 80010000000000000000000100000000000000020000000000000000 answer >"$out/reply" || fail 'a daemon of strict elections has no reply'
+"$program" show <"$out/reply" | grep -q '^reply [0-9]* 1 2 -*[0-9]*$' || fail 'a daemon of strict elections has another reply'
 for from in "$dead" "$nobody" "$dead"; do
     exchange "$from" "$alone" 80010000000000000000000100000000000000020000000000000000
 done
