@@ -74,7 +74,7 @@ impl Dates {
 
     /// No date was set or passed on yet, on a port with these peers.
     ///
-    /// The answer is an error only where memory is wanting; no later call takes any.
+    /// Fails only where memory is refused; no later call takes any.
     pub fn new(alloc: Global, peers: &[PeerId]) -> Result<Dates, AllocError>
         ensures peers { IfOk result (λ d. peers_of d.dated ≡ peers.now) }
         ensures stands { IfOk result (λ d. (x : ℕ) (past : Past) → past.peers ≡ peers.now → DatesStand (grown x past (Boot ∷ [])) d) }

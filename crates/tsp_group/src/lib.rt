@@ -1,4 +1,19 @@
 //! The averaging: a largest set of clocks that agree, and its mean.
+//!
+//! A caller adds each clock's difference to [`Values`], its own 0 among them, asks for the [`largest`] group within a span, and then for its
+//! [`mean`] and each clock's [`correction`]. All are microseconds:
+//!
+//! ```
+//! let mut values = Values::new(alloc, 4)?;
+//! for diff in [0, 400, 900, 70_000] {
+//!     values.add(diff);
+//! }
+//! let group = largest(&mut values, 20_000);
+//! assert_eq!(mean(&group), 433);
+//! assert_eq!(correction(433, 900), -467);
+//! ```
+//!
+//! One sort, and then each value is looked at twice at most.
 #![tactic(auto)]
 
 mod group;

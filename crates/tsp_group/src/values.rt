@@ -31,7 +31,7 @@ impl Model for Values {
 impl Values {
     /// The empty list with room for so many values, which no call has looked at.
     ///
-    /// The answer is an error only where memory is wanting; no later call takes any.
+    /// Fails only where memory is refused; no later call takes any.
     pub fn new(alloc: Global, room: usize) -> Result<Values, AllocError>
         requires { room < 2 ^ 32 }
         ensures { IfOk result (λ v. v ≡ record { items = []; room = room; looks = 0 }) }

@@ -37,7 +37,7 @@ impl Model for Rounds {
 impl Rounds {
     /// No request was posted to any of these peers.
     ///
-    /// The answer is an error only where memory is wanting; no later call takes any.
+    /// Fails only where memory is refused; no later call takes any.
     pub(crate) fn new(alloc: Global, peers: &[PeerId]) -> Result<Rounds, AllocError>
         requires { IsPeers peers.now }
         ensures peers { IfOk result (λ r. r.exchanges.peers ≡ map (λ p. p.0) peers.now) }

@@ -67,7 +67,7 @@ fn unmeasure_each(entries: &mut [Entry])
 impl Slaves {
     /// Nothing is known of any of these peers.
     ///
-    /// The answer is an error only where memory is wanting; no later call takes any.
+    /// Fails only where memory is refused; no later call takes any.
     pub(crate) fn new(alloc: Global, peers: &[PeerId]) -> Result<Slaves, AllocError>
         requires { IsPeers peers.now }
         ensures peers { IfOk result (λ s. peers_of s ≡ peers.now) }

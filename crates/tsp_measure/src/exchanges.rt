@@ -48,7 +48,7 @@ fn place_of(peers: &[u32], peer: u32) -> Option<usize>
 impl Exchanges {
     /// No exchange with any of the peers, which stand in ascending order.
     ///
-    /// The answer is an error only where memory is wanting; no later call takes any.
+    /// Fails only where memory is refused; no later call takes any.
     pub fn new(alloc: Global, peers: &[PeerId]) -> Result<Exchanges, AllocError>
         requires { IsAscending (map (λ p. p.0) peers.now) }
         ensures peers { IfOk result (λ x. x.peers ≡ map (λ p. p.0) peers.now) }

@@ -80,7 +80,7 @@ impl Tally {
 
     /// Takes one more line, with the difference that it gives, if it gives one.
     ///
-    /// The answer is an error only where memory is wanting.
+    /// Fails only where memory is refused.
     pub(crate) fn take(&mut self, difference: Option<Best>) -> Result<(), AllocError>
         requires { 0 < self.old.left }
         ensures { OnOk result (self.new ≡ record { bests = with_difference self.old.bests difference; left = self.old.left - 1 }) }
@@ -103,7 +103,7 @@ impl Tally {
 
 /// The largest group of the own clock, which differs by nothing, and of these.
 ///
-/// The answer is an error only where memory is wanting.
+/// Fails only where memory is refused.
 pub(crate) fn group_in(alloc: Global, bests: &[Best]) -> Result<Group, AllocError>
     requires { length bests.now ≤ 1000 }
     ensures value { IfOk result (λ g. g ≡ group_in bests.now) }

@@ -36,7 +36,7 @@ impl Resolve {
 
     /// No rival was found yet on a port with these peers.
     ///
-    /// The answer is an error only where memory is wanting; no later call takes any.
+    /// Fails only where memory is refused; no later call takes any.
     pub fn new(alloc: Global, peers: &[PeerId]) -> Result<Resolve, AllocError>
         ensures many { IfOk result (λ r. length r.marks ≡ length peers.now) }
         ensures stands { IfOk result (λ r. (x : ℕ) (past : Past) → past.peers ≡ peers.now → ResolveStands (grown x past (Boot ∷ [])) r) }

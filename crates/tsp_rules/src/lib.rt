@@ -1,4 +1,7 @@
 //! The rules of a port as rows: what it does at each alarm and for each datagram. They are definitions alone.
+//!
+//! Read `specs/` from the bottom up: a role's file has its rows, `NodeRows` puts them together for a port, `GateRows` for a node of several. [`worked`] shows
+//! them at work, event by event.
 #![tactic(auto)]
 
 pub mod worked;
