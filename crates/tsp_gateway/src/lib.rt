@@ -16,7 +16,7 @@
 //! let mut gateway = Gateway::boot(alloc, &config, 0, 1_000_000, 17, &mut desk)?;
 //! desk.clear();
 //! desk.reserve(gateway.room())?;
-//! gateway.step(gateway.due(), &Input::Turn, &mut desk);
+//! gateway.step(80_000_000, &Input::Turn, &mut desk);
 //! ```
 //!
 //! A step takes no memory and refuses nothing. What it puts is exactly what the rules say for its past: the clause `row` of each call.
