@@ -11,13 +11,13 @@ const KINDS: [&str; 24] = [
 
 const LIMIT: i64 = 2_147_483_648_000_000;
 
-enum Body {
+pub(crate) enum Body {
     Nothing,
     Time(i64),
     Hops(u8),
 }
 
-enum Datagram {
+pub(crate) enum Datagram {
     Message { kind: usize, number: u16, body: Body, name: Vec<u8> },
     Request { word: u64, counter: u64 },
     Reply { ticket: u16, word: u64, counter: u64, reading: i64 },
@@ -36,7 +36,7 @@ fn digit(octet: u8) -> Option<u8> {
     }
 }
 
-fn octets_of(line: &[u8], octets: &mut Vec<u8>) -> Option<()> {
+pub(crate) fn octets_of(line: &[u8], octets: &mut Vec<u8>) -> Option<()> {
     if line.len() % 2 != 0 || line.len() > 1024 {
         return None;
     }
@@ -58,7 +58,7 @@ fn time_at(octets: &[u8]) -> Option<i64> {
     (micros.abs() <= 999_999 && (-LIMIT..LIMIT).contains(&value)).then_some(value)
 }
 
-fn decode(octets: &[u8]) -> Result<Datagram, &'static str> {
+pub(crate) fn decode(octets: &[u8]) -> Result<Datagram, &'static str> {
     if octets.len() < 13 {
         return Err("short");
     }
@@ -71,9 +71,9 @@ fn decode(octets: &[u8]) -> Result<Datagram, &'static str> {
     let number = u16::from_be_bytes([octets[2], octets[3]]);
     match octets[0] {
         kind @ 1..=24 => {
-            let room = &octets[12..octets.len().min(76)];
+            let room = &octets[12..octets.len().min(268)];
             let Some(end) = room.iter().position(|octet| *octet == 0) else {
-                return Err(if room.len() < 64 { "no-end" } else { "name-too-long" });
+                return Err(if room.len() < 256 { "no-end" } else { "name-too-long" });
             };
             let kind = usize::from(kind);
             let body = match kind {
@@ -104,7 +104,7 @@ fn decode(octets: &[u8]) -> Result<Datagram, &'static str> {
     }
 }
 
-fn write_line(out: &mut impl Write, datagram: &Datagram) -> io::Result<()> {
+pub(crate) fn write_line(out: &mut impl Write, datagram: &Datagram) -> io::Result<()> {
     match datagram {
         Datagram::Request { word, counter } => writeln!(out, "request {word} {counter}"),
         Datagram::Reply { ticket, word, counter, reading } => {
@@ -132,7 +132,7 @@ fn write_line(out: &mut impl Write, datagram: &Datagram) -> io::Result<()> {
 }
 
 /// The number, where it is written in the one way that it has.
-fn number_of<T: str::FromStr>(word: &str) -> Option<T> {
+pub(crate) fn number_of<T: str::FromStr>(word: &str) -> Option<T> {
     let digits = word.strip_prefix('-').unwrap_or(word);
     let plain = digits == "0" && word == "0" || !digits.starts_with(['0', '+']);
     if plain { word.parse().ok() } else { None }
@@ -158,7 +158,7 @@ fn name_of(text: &str) -> Option<Vec<u8>> {
         name.push(octet);
         rest = after;
     }
-    (!name.is_empty() && name.len() <= 63 && !name.contains(&0)).then_some(name)
+    (!name.is_empty() && name.len() <= 255 && !name.contains(&0)).then_some(name)
 }
 
 fn datagram_of(line: &[u8]) -> Option<Datagram> {
@@ -218,7 +218,7 @@ fn encode(datagram: &Datagram, octets: &mut Vec<u8>) {
                 }
             }
             octets.extend_from_slice(name);
-            octets.resize(76, 0);
+            octets.resize(if name.len() <= 63 { 76 } else { 268 }, 0);
         }
     }
 }

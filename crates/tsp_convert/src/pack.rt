@@ -16,31 +16,44 @@ use tsp_io::sink::Sink;
 use tsp_lines::cause::Cause;
 use tsp_lines::output::Output;
 use tsp_lines::treatment::{Stop, Treatment};
-use tsp_script::message_reader::message_of;
-use tsp_script::numbers::append_hex;
+use tsp_script::message_reader::message_in;
+use tsp_script::numbers::{append, append_hex};
 
-/// The octets of the datagram of a message line, in hexadecimal and with a line feed.
-fn packed(line: &[u8]) -> Result<ArrayVec<u8, 1024>, Cause>
+/// Writes the octets of the datagram of a message line, in hexadecimal and with a line feed.
+fn packed(line: &[u8], text: &mut ArrayVec<u8, 1024>) -> Result<(), Cause>
     requires { length line.now ≤ 1024 }
     ensures { MatchResult result
-        (λ text. (array_vec_len text ≤ 1024) × ((d : Datagram) × IsLineOf line.now d × (text.items ≡ close (encode_lower (canon d)))))
+        (λ _. (d : Datagram) × IsLineOf line.now d × (text.new.items ≡ close (encode_lower (canon d))))
         (λ cause. RefusesMessage line.now cause) }
 {
-    let Ok(datagram) = message_of(line) else {
+    let Ok(datagram) = message_in(line, text) else {
         return Err(Cause::of(b"message"));
     };
-    let mut text = ArrayVec::new();
-    append_hex(&mut text, encode(&datagram).as_slice());
-    let _ = text.try_push(b'\n');
-    Ok(text)
+    text.clear();
+    append_hex(text, encode(&datagram).as_slice());
+    append(text, b"\n");
+    Ok(())
 }
 
 /// Takes message lines, and gives the octets that are written for each one's datagram in hexadecimal,
 /// in lower case.
 ///
 /// A line is refused with the cause `message` where no datagram is written as this line.
-#[derive(Clone, Copy, Debug)]
-pub struct Pack;
+///
+/// It keeps the place of a line's text, so that no line makes it.
+#[derive(Drop)]
+pub struct Pack {
+    text: ArrayVec<u8, 1024>,
+}
+
+impl Pack {
+    /// No line was taken.
+    pub fn new() -> Pack {
+        Pack {
+            text: ArrayVec::new(),
+        }
+    }
+}
 
 impl Treatment for Pack {
     ghost meaning = { pack_meaning };
@@ -57,8 +70,8 @@ impl Treatment for Pack {
         output: &mut Output,
         sink: &mut K,
     ) -> Result<(), Stop> {
-        match packed(line) {
-            Ok(text) => hand_over(text.as_slice(), output, sink),
+        match packed(line, &mut self.text) {
+            Ok(()) => hand_over(self.text.as_slice(), output, sink),
             Err(cause) => Err(Stop::Bad(cause)),
         }
     }

@@ -33,7 +33,7 @@ pub fn show<S: Source, K: Sink>(alloc: Global, source: &mut S, sink: &mut K) -> 
     ensures complete { (octets : List ℕ) → S.left source.old ≡ Some octets → length octets ≤ MOST_INPUT → AreHexLines octets → ¬ Rose (S.faults source.old) (S.faults source.new) → ¬ Rose (K.faults sink.old) (K.faults sink.new)
         → (result ≡ Outcome.Ok) ⊎ (result ≡ Outcome.OutOfMemory) }
 {
-    treat_all(alloc, MOST_INPUT, source, sink, &mut Show)
+    treat_all(alloc, MOST_INPUT, source, sink, &mut Show::new())
 }
 
 /// Reads message lines, and writes the octets of each one's datagram in hexadecimal.
@@ -54,5 +54,5 @@ pub fn pack<S: Source, K: Sink>(alloc: Global, source: &mut S, sink: &mut K) -> 
     ensures complete { (octets : List ℕ) → S.left source.old ≡ Some octets → length octets ≤ MOST_INPUT → AreMessageLines octets → ¬ Rose (S.faults source.old) (S.faults source.new) → ¬ Rose (K.faults sink.old) (K.faults sink.new)
         → (result ≡ Outcome.Ok) ⊎ (result ≡ Outcome.OutOfMemory) }
 {
-    treat_all(alloc, MOST_INPUT, source, sink, &mut Pack)
+    treat_all(alloc, MOST_INPUT, source, sink, &mut Pack::new())
 }

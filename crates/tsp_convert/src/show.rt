@@ -16,24 +16,26 @@ use tsp_lines::cause::Cause;
 use tsp_lines::output::Output;
 use tsp_lines::treatment::{Stop, Treatment};
 use tsp_script::acts::fault_word;
-use tsp_script::messages::message_text;
-use tsp_script::numbers::octets_of;
+use tsp_script::messages::append_datagram;
+use tsp_script::numbers::{append, octets_in};
 
-/// The message line of the datagram whose octets the line has in hexadecimal, with a line feed.
-fn shown(line: &[u8]) -> Result<ArrayVec<u8, 1024>, Cause>
+/// Writes the message line of the datagram whose octets the line has in hexadecimal, with a line feed. Its octets
+/// come into the buffer.
+fn shown(line: &[u8], buffer: &mut [u8; 512], text: &mut ArrayVec<u8, 1024>) -> Result<(), Cause>
     requires { length line.now ≤ 1024 }
     ensures { MatchResult result
-        (λ text. (array_vec_len text ≤ 1024) × ((d : Datagram) × IsHexOf line.now d × (text.items ≡ close (message_text d))))
+        (λ _. (d : Datagram) × IsHexOf line.now d × (text.new.items ≡ close (message_text d)))
         (λ cause. RefusesHex line.now cause) }
 {
-    let Some(octets) = octets_of(line) else {
+    let Some(count) = octets_in(line, buffer) else {
         return Err(Cause::of(b"hex"));
     };
-    match decode(octets.as_slice()) {
+    match decode(&buffer[..count]) {
         Ok(datagram) => {
-            let mut text = message_text(&datagram);
-            let _ = text.try_push(b'\n');
-            Ok(text)
+            text.clear();
+            append_datagram(text, &datagram);
+            append(text, b"\n");
+            Ok(())
         }
         Err(fault) => Err(Cause::of(fault_word(fault))),
     }
@@ -43,8 +45,23 @@ fn shown(line: &[u8]) -> Result<ArrayVec<u8, 1024>, Cause>
 ///
 /// A line is refused with the cause `hex` where it isn't pairs of hexadecimal digits or has more than
 /// 1,024 octets, and else with the word of the fault for which its octets spell no datagram.
-#[derive(Clone, Copy, Debug)]
-pub struct Show;
+///
+/// It keeps the places of a line's octets and of its text, so that no line makes them.
+#[derive(Drop)]
+pub struct Show {
+    octets: [u8; 512],
+    text: ArrayVec<u8, 1024>,
+}
+
+impl Show {
+    /// No line was taken.
+    pub fn new() -> Show {
+        Show {
+            octets: [0; 512],
+            text: ArrayVec::new(),
+        }
+    }
+}
 
 impl Treatment for Show {
     ghost meaning = { show_meaning };
@@ -61,8 +78,8 @@ impl Treatment for Show {
         output: &mut Output,
         sink: &mut K,
     ) -> Result<(), Stop> {
-        match shown(line) {
-            Ok(text) => hand_over(text.as_slice(), output, sink),
+        match shown(line, &mut self.octets, &mut self.text) {
+            Ok(()) => hand_over(self.text.as_slice(), output, sink),
             Err(cause) => Err(Stop::Bad(cause)),
         }
     }

@@ -9,6 +9,7 @@ pub mod NetLines
 pub mod Outcomes
 pub mod Ports
 pub mod Apart
+pub mod Digits
 pub mod Lengths
 pub mod OneEvent
 pub mod OneHead

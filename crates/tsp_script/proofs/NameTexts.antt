@@ -1,6 +1,7 @@
 -- Laws of name texts.
 use Rattle.std.proofs.Common.{◌≡◌, ℕ, ◌<◌, ◌≤◌, List, [], ◌∷◌, ◌++◌, zero, suc, length, take, drop, refl, ap, sym, ◌∙◌, arith, true, false, Bool, Result, Ok, Err, Some, ◌^◌, append_assoc}
 use Rattle.std.specs.Result.{result_ok}
+use Rattle.std.specs.List.{AllPass}
 use Rattle.std.specs.Prelude.{MatchResult, flat_map, if◌then◌else◌}
 use Rattle.std.proofs.lemmas.Grind.{common_steps}
 use Rattle.hex.specs.Hex.{encode_lower, encode_with, decode_sized, IsBytes}
@@ -102,3 +103,30 @@ pub name_made : (r : Result (List ℕ) NameFault) (octets name : List ℕ) → I
 name_made (Ok x) octets name n e g = ap Some (g.1 ∙ sym e)
 name_made (Err TooLong) octets name n e g = absurd (omega (arith, n.short, ap length e))
 name_made (Err HasNul) octets name n e g = absurd (n.no_nul (rw e g.1))
+
+-- an octet that stands for itself is its own text
+plain_one : (c : ℕ) → is_plain c ≡ true → escaped c ≡ c ∷ []
+plain_one c h = rw h refl
+
+-- octets that stand for themselves are their own text
+pub plain_text : (xs : List ℕ) → AllPass is_plain xs → flat_map escaped xs ≡ xs
+plain_text [] h = refl
+plain_text (c ∷ cs) h =
+    let e : is_plain c ≡ true = h 0 0 (omega arith) in
+    let t : flat_map escaped cs ≡ cs = plain_text cs (λ k d b. h (suc k) d (omega (arith, b))) in
+    rw (plain_one c e, t) refl
+
+plain_case : (b : Bool) (c : ℕ) (cs text : List ℕ) → is_plain c ≡ b → AllPass is_plain text → (AllPass is_plain (flat_map escaped cs) → cs ≡ flat_map escaped cs)
+    → text ≡ (if b then c ∷ [] else 37 ∷ encode_lower (c ∷ [])) ++ flat_map escaped cs → c ∷ cs ≡ text
+plain_case true c cs text p h more e =
+    let t : AllPass is_plain (c ∷ flat_map escaped cs) = rw e at h in
+    ap (λ x. c ∷ x) (more (λ k d b. t (suc k) d (omega (arith, b)))) ∙ sym e
+plain_case false c cs text p h more e =
+    let t : AllPass is_plain (37 ∷ (encode_lower (c ∷ []) ++ flat_map escaped cs)) = rw e at h in
+    let z : is_plain 37 ≡ true = t 0 0 (omega arith) in
+    absurd (true_or_false (is_plain 37) z refl)
+
+-- a text of octets that stand for themselves is the text of these octets alone
+pub plain_name : (name text : List ℕ) → AllPass is_plain text → text ≡ flat_map escaped name → name ≡ text
+plain_name [] text h e = sym e
+plain_name (c ∷ cs) text h e = plain_case (is_plain c) c cs text refl h (λ t. plain_name cs (flat_map escaped cs) t refl) e

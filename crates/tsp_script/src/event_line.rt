@@ -1,5 +1,5 @@
 //! The lines of a schedule behind its header.
-ghost use Rattle.std.specs.Prelude.{◌≡◌, ℕ, ◌^◌, ◌<◌, ◌≤◌, ◌+◌, ◌++◌, ◌∷◌, List, [], length, decimal, codes, IfSome, IsSomeAnd};
+ghost use Rattle.std.specs.Prelude.{◌≡◌, ◌≢◌, ℕ, ◌^◌, ◌<◌, ◌≤◌, ◌+◌, ◌++◌, ◌∷◌, List, [], length, decimal, codes, IfSome, IsSomeAnd};
 ghost use Rattle.arrayvec.specs.ArrayVec.{array_vec_len};
 ghost use Rattle.hex.specs.Hex.{decode_of};
 ghost use Rattle.tsp_base.specs.declared.event.Event.{Event};
@@ -10,9 +10,11 @@ ghost use Rattle.tsp_script.specs.Schedules.{event_text, port_text, NamesPort, I
 ghost use Rattle.tsp_script.specs.Traces.{place_text};
 
 use crate::acts::append_place;
+use crate::head_line::after;
 use crate::line_fault::LineFault;
 use crate::numbers::{
-    append, append_next_number, append_number, long_of, next_number, number_of, octets_of,
+    append, append_next_number, append_number, front_number, long_of, next_number, number_of,
+    octets_in,
 };
 use crate::words::{cut, is_same, part};
 use arrayvec::ArrayVec;
@@ -143,6 +145,7 @@ fn read_turn(at: u64, line: &[u8]) -> Option<Event>
     requires { at ≤ 1000000000000000 }
     ensures reads { (node : ℕ) → node < 2 ^ 32 → line.now ≡ decimal node → result ≡ Some (Event.Turn at node) }
     ensures range { IfSome result (λ e. IsEvent e × IsHexOf [] e) }
+    ensures spells { IfSome result (λ e. SpellsRest at (codes "turn") line.now e) }
 {
     let node = number_of(line)?;
     let node = long_of(node)?;
@@ -154,6 +157,7 @@ fn read_take(at: u64, line: &[u8]) -> Option<Event>
     requires { at ≤ 1000000000000000 }
     ensures reads { (datagram : ℕ) → datagram < 2 ^ 64 → line.now ≡ decimal datagram → result ≡ Some (Event.Take at datagram) }
     ensures range { IfSome result (λ e. IsEvent e × IsHexOf [] e) }
+    ensures spells { IfSome result (λ e. SpellsRest at (codes "take") line.now e) }
 {
     let datagram = number_of(line)?;
     Some(Event::Take { at, datagram })
@@ -193,11 +197,12 @@ fn handed_of(hex: &[u8]) -> Option<Octets>
     if hex.len() > 600 {
         return None;
     }
-    let octets = octets_of(hex)?;
-    if octets.is_empty() {
+    let mut buffer = [0u8; 512];
+    let count = octets_in(hex, &mut buffer)?;
+    if count == 0 {
         return None;
     }
-    Octets::of(octets.as_slice())
+    Octets::of(&buffer[..count])
 }
 
 /// Reads an event's line, and gives its hexadecimal too: none but for `bytes`.
@@ -241,6 +246,67 @@ pub fn event_line(line: &[u8]) -> Result<EventItem, LineFault>
     if is_same(line, b"end") {
         return Ok(EventItem::End);
     }
+    match common_event(line) {
+        Some(event) => Ok(EventItem::Event(event)),
+        None => any_event(line),
+    }
+}
+
+/// The event of a line as most are: a turn, a take, or octets on port 0. None too where the line is another event's.
+fn common_event(line: &[u8]) -> Option<Event>
+    ensures { IfSome result (λ e. SpellsEvent line.now (EventItem.Event e)) }
+{
+    let line = after(line, b"at ")?;
+    let (at, line) = front_number(line)?;
+    if at > SCHEDULE_END {
+        return None;
+    }
+    if let Some(rest) = after(line, b"turn ") {
+        return read_turn(at, rest);
+    }
+    if let Some(rest) = after(line, b"take ") {
+        return read_take(at, rest);
+    }
+    let rest = after(line, b"bytes ")?;
+    common_bytes(at, rest)
+}
+
+/// Reads what follows `bytes`, of octets on port 0.
+fn common_bytes(at: u64, line: &[u8]) -> Option<Event>
+    requires { at ≤ 1000000000000000 }
+    ensures { IfSome result (λ e. IsEvent e × ((hex : List ℕ) × IsHexOf hex e × (codes "at " ++ (decimal at ++ 32 ∷ (codes "bytes " ++ line.now)) ≡ event_text e hex))) }
+{
+    let (node, line) = front_number(line)?;
+    let node = long_of(node)?;
+    let (from, hex) = front_place(line)?;
+    let octets = handed_of(hex)?;
+    Some(Event::Bytes {
+        at,
+        node,
+        port: Port(0),
+        from,
+        octets,
+    })
+}
+
+/// The place that stands before the first space, and what follows the space.
+fn front_place(line: &[u8]) -> Option<(Place, &[u8])>
+    ensures { IfSome result (λ r. IsPlace r.0 × (line.now ≡ place_text r.0 ++ 32 ∷ r.1.now)) }
+{
+    if let Some(rest) = after(line, b"- ") {
+        return Some((Place::Stranger, rest));
+    }
+    let (number, rest) = front_number(line)?;
+    let number = long_of(number)?;
+    Some((Place::Peer(PeerId(number)), rest))
+}
+
+/// The event of a line of any kind, which is written again and compared.
+fn any_event(line: &[u8]) -> Result<EventItem, LineFault>
+    requires { line.now ≢ codes "end" }
+    ensures reads { ReadsEvent line.now result }
+    ensures one { (item : EventItem) → SpellsEvent line.now item → result ≡ Ok item }
+{
     let Some((event, hex)) = read_event(line) else {
         return Err(LineFault::Bad);
     };

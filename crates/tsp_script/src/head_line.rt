@@ -123,7 +123,7 @@ fn node_text(node: &NodeLine) -> ArrayVec<u8, 1024>
 }
 
 /// What follows this beginning in a line that has it.
-fn after<'a>(line: &'a [u8], front: &[u8]) -> Option<&'a [u8]>
+pub(crate) fn after<'a>(line: &'a [u8], front: &[u8]) -> Option<&'a [u8]>
     ensures { MatchOption result ((rest : List ℕ) → line.now ≡ front.now ++ rest → ⊥) (λ r. line.now ≡ front.now ++ r.now) }
 {
     if line.len() < front.len() {

@@ -1,7 +1,7 @@
 //! Reads message lines.
 //!
 //! Each function here reads at least every line that is written; a line may be read too that no value is
-//! written as. `message_of` writes what was read again and compares, so that it reads no other spelling.
+//! written as. `message_in` writes what was read again and compares, so that it reads no other spelling.
 ghost use Rattle.std.specs.Prelude.{◌≡◌, ℕ, ◌^◌, ◌<◌, ◌++◌, ◌∷◌, List, decimal, codes, true, IsSomeAnd};
 ghost use Rattle.std.specs.Fmt.{signed_decimal};
 ghost use Rattle.tsp_base.specs.Kinds.{kind_word};
@@ -13,10 +13,11 @@ ghost use Rattle.tsp_script.specs.Ranges.{IsBody, IsMessage, IsDatagram};
 ghost use Rattle.tsp_script.specs.Texts.{body_text, name_text, message_text, ReadsMessage, IsTimeBody, IsHopsBody};
 
 use crate::line_fault::LineFault;
-use crate::messages::message_text;
+use crate::messages::append_datagram;
 use crate::names::name_of;
 use crate::numbers::{next_number, next_signed, number_of, short_of, signed_of};
 use crate::words::{cut, is_same};
+use arrayvec::ArrayVec;
 use tsp_base::datagram::Datagram;
 use tsp_base::kind::Kind;
 use tsp_base::message::{Body, Message};
@@ -125,10 +126,20 @@ pub fn message_of(line: &[u8]) -> Result<Datagram, LineFault>
     ensures reads { ReadsMessage line.now result }
     ensures one { (d : Datagram) → IsDatagram d → line.now ≡ message_text d → result ≡ Ok d }
 {
+    message_in(line, &mut ArrayVec::new())
+}
+
+/// The same, in a place for the line as it is written, which a caller of many lines keeps.
+pub fn message_in(line: &[u8], written: &mut ArrayVec<u8, 1024>) -> Result<Datagram, LineFault>
+    ensures reads { ReadsMessage line.now result }
+    ensures one { (d : Datagram) → IsDatagram d → line.now ≡ message_text d → result ≡ Ok d }
+{
     let Some(datagram) = read_message(line) else {
         return Err(LineFault::Bad);
     };
-    if is_same(message_text(&datagram).as_slice(), line) {
+    written.clear();
+    append_datagram(written, &datagram);
+    if is_same(written.as_slice(), line) {
         Ok(datagram)
     } else {
         Err(LineFault::Bad)

@@ -1,5 +1,6 @@
 //! Name texts.
-ghost use Rattle.std.specs.Prelude.{◌≡◌, ℕ, ◌+◌, ◌*◌, ◌^◌, ◌≤◌, ◌<◌, ◌++◌, [], ◌∷◌, List, length, flat_map, IfSome, IsSomeAnd};
+ghost use Rattle.std.specs.Prelude.{◌≡◌, ◌≢◌, ℕ, ◌+◌, ◌*◌, ◌^◌, ◌≤◌, ◌<◌, ◌++◌, [], ◌∷◌, List, length, flat_map, IfSome, IsSomeAnd, codes, MatchBool};
+ghost use Rattle.std.specs.List.{AllPass};
 ghost use Rattle.arrayvec.specs.ArrayVec.{array_vec_len};
 ghost use Rattle.hex.specs.Hex.{encode_lower, IsBytes};
 ghost use Rattle.tsp_base.specs.Names.{IsName};
@@ -15,6 +16,18 @@ fn is_plain(octet: u8) -> bool
     ensures { result ≡ is_plain octet }
 {
     32 < octet && octet < 127 && octet != b'%'
+}
+
+/// Whether each of these octets stands for itself.
+fn are_plain(octets: &[u8]) -> bool
+    ensures { MatchBool result (AllPass is_plain octets.now) (¬ AllPass is_plain octets.now) }
+{
+    for octet in octets {
+        if !is_plain(*octet) {
+            return false;
+        }
+    }
+    true
 }
 
 fn append_octet(out: &mut ArrayVec<u8, 1024>, octet: u8)
@@ -35,6 +48,19 @@ fn append_octets(out: &mut ArrayVec<u8, 1024>, octets: &[u8])
     ensures text { out.new.items ≡ out.old.items ++ flat_map escaped octets.now }
     ensures short { array_vec_len out.new ≤ array_vec_len out.old + 3 * length octets.now }
     ensures range { IsBytes octets.now }
+{
+    if are_plain(octets) {
+        append(out, octets);
+    } else {
+        append_each(out, octets);
+    }
+}
+
+/// The same, octet by octet.
+fn append_each(out: &mut ArrayVec<u8, 1024>, octets: &[u8])
+    requires { array_vec_len out.old + 3 * length octets.now ≤ 1024 }
+    ensures text { out.new.items ≡ out.old.items ++ flat_map escaped octets.now }
+    ensures short { array_vec_len out.new ≤ array_vec_len out.old + 3 * length octets.now }
 {
     for octet in octets {
         append_octet(out, *octet);
@@ -90,6 +116,17 @@ pub(crate) fn name_of(text: &[u8]) -> Option<Name>
     if is_same(text, b"%") {
         return Some(Name::empty());
     }
+    if are_plain(text) {
+        return Name::of(text).ok();
+    }
+    unescaped(text)
+}
+
+/// The name that has this text, read octet by octet. A text of no name may be read too.
+fn unescaped(text: &[u8]) -> Option<Name>
+    requires { text.now ≢ codes "%" }
+    ensures { (name : List ℕ) → IsName name → IsBytes name → text.now ≡ name_text name → result ≡ Some name }
+{
     let mut octets = ArrayVec::<u8, 255>::new();
     let mut rest = text;
     while !rest.is_empty() {

@@ -1,5 +1,5 @@
 //! Numbers and octets as text.
-ghost use Rattle.std.specs.Prelude.{◌≡◌, ℕ, ◌+◌, ◌*◌, ◌^◌, ◌≤◌, ◌<◌, ◌++◌, length, decimal, IfSome, IfNone, Ok, MatchBool, IsErr, ℤ, List, IsSomeAnd, ◌∷◌};
+ghost use Rattle.std.specs.Prelude.{◌≡◌, ℕ, ◌+◌, ◌*◌, ◌^◌, ◌≤◌, ◌<◌, ◌++◌, length, take, decimal, IfSome, IfNone, Ok, MatchBool, IsErr, ℤ, List, IsSomeAnd, ◌∷◌};
 ghost use Rattle.std.specs.Int.{w64};
 ghost use Rattle.std.specs.Int.RustNames.{FitsSigned};
 ghost use Rattle.std.specs.Fmt.{signed_decimal};
@@ -7,10 +7,13 @@ ghost use Rattle.arrayvec.specs.ArrayVec.{array_vec_len};
 ghost use Rattle.tsp_script.specs.Texts.{space};
 ghost use Rattle.hex.specs.Hex.{decode_of, encode_lower};
 
-use crate::words::cut;
+use crate::words::{cut, mark_at};
 use arrayvec::ArrayVec;
 use itoa::Buffer;
 use std::str;
+
+/// A number to which a digit may be added without a sum past 64 bits.
+const MOST_TO_EXTEND: u64 = 1_000_000_000_000_000_000;
 
 /// Writes octets as they stand.
 pub fn append(out: &mut ArrayVec<u8, 1024>, piece: &[u8])
@@ -89,6 +92,46 @@ pub fn number_of(word: &[u8]) -> Option<u64>
     ensures found { IfSome result (λ n. word.now ≡ decimal n) }
     ensures reads { (n : ℕ) → n < 2 ^ 64 → word.now ≡ decimal n → result ≡ Some n }
 {
+    match by_digits(word) {
+        Some(number) => Some(number),
+        None => parsed(word),
+    }
+}
+
+/// The number that the word is the decimal text of, digit by digit; None too where it has 20 digits.
+fn by_digits(word: &[u8]) -> Option<u64>
+    ensures { IfSome result (λ n. (n < 2 ^ 64) × (word.now ≡ decimal n)) }
+{
+    let (first, rest) = word.split_first()?;
+    if *first == b'0' {
+        return if rest.is_empty() { Some(0) } else { None };
+    }
+    if *first < b'0' || *first > b'9' {
+        return None;
+    }
+    more_digits((*first - b'0') as u64, rest)
+}
+
+/// The number whose digits are those of a number and then these; None too where it has 20 digits.
+fn more_digits(front: u64, digits: &[u8]) -> Option<u64>
+    requires { 0 < front }
+    ensures { IfSome result (λ n. (n < 2 ^ 64) × (decimal n ≡ decimal front ++ digits.now)) }
+{
+    let mut number = front;
+    for digit in digits {
+        if *digit < b'0' || *digit > b'9' || number > MOST_TO_EXTEND {
+            return None;
+        }
+        number = number * 10 + (*digit - b'0') as u64;
+    }
+    Some(number)
+}
+
+/// The same as `number_of`, of a word of any length.
+fn parsed(word: &[u8]) -> Option<u64>
+    ensures found { IfSome result (λ n. word.now ≡ decimal n) }
+    ensures reads { (n : ℕ) → n < 2 ^ 64 → word.now ≡ decimal n → result ≡ Some n }
+{
     let Ok(text) = str::from_utf8(word) else {
         return None;
     };
@@ -147,13 +190,23 @@ pub fn octets_of(line: &[u8]) -> Option<ArrayVec<u8, 512>>
     ensures none { IfNone result (IsErr (decode_of line.now)) }
 {
     let mut buffer = [0u8; 512];
+    let count = octets_in(line, &mut buffer)?;
+    let mut octets = ArrayVec::new();
+    let _ = octets.try_extend_from_slice(&buffer[..count]);
+    Some(octets)
+}
+
+/// The same, at the front of a buffer; gives how many they are.
+pub fn octets_in(line: &[u8], buffer: &mut [u8; 512]) -> Option<usize>
+    requires { length line.now ≤ 1024 }
+    ensures found { IfSome result (λ n. (n ≤ 512) × (decode_of line.now ≡ Ok (take n buffer.new))) }
+    ensures none { IfNone result (IsErr (decode_of line.now)) }
+{
     let count = line.len() / 2;
     if hex::decode_to_slice(line, &mut buffer[..count]).is_err() {
         return None;
     }
-    let mut octets = ArrayVec::new();
-    let _ = octets.try_extend_from_slice(&buffer[..count]);
-    Some(octets)
+    Some(count)
 }
 
 /// The number that stands before the first space, and what follows the space. A line without a space
@@ -163,6 +216,16 @@ pub(crate) fn next_number(line: &[u8]) -> Option<(u64, &[u8])>
 {
     let (word, rest) = cut(line);
     let number = number_of(word)?;
+    Some((number, rest))
+}
+
+/// The number that stands before the first space, and what follows the space; None where there is no space.
+pub(crate) fn front_number(line: &[u8]) -> Option<(u64, &[u8])>
+    ensures { IfSome result (λ r. (r.0 < 2 ^ 64) × (line.now ≡ decimal r.0 ++ 32 ∷ r.1.now)) }
+{
+    let place = mark_at(line, b' ')?;
+    let (_, rest) = line.split_at(place + 1);
+    let number = number_of(line.split_at(place).0)?;
     Some((number, rest))
 }
 

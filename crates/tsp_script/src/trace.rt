@@ -1,5 +1,6 @@
 //! Lines of a trace.
-ghost use Rattle.std.specs.Prelude.{◌≡◌};
+ghost use Rattle.std.specs.Prelude.{◌≡◌, ◌+◌, ◌≤◌, ◌++◌};
+ghost use Rattle.arrayvec.specs.ArrayVec.{array_vec_len};
 ghost use Rattle.tsp_script.specs.Traces.{trace_text};
 
 use crate::acts::append_act;
@@ -40,11 +41,27 @@ pub fn placed_text(
     ensures { result.items ≡ trace_text event node tick number placed.now }
 {
     let mut out = ArrayVec::new();
-    append_number(&mut out, event);
-    append_next_number(&mut out, node as u64);
-    append_next_number(&mut out, placed.port.0 as u64);
-    append_next_number(&mut out, tick);
-    append(&mut out, b" ");
-    append_act(&mut out, number, &placed.act);
+    append_placed(&mut out, event, node, tick, number, placed);
     out
+}
+
+/// Writes the trace's line of an act, without a line end, in at most 949 octets. The number is read for a post
+/// alone.
+pub fn append_placed(
+    out: &mut ArrayVec<u8, 1024>,
+    event: u64,
+    node: u32,
+    tick: u64,
+    number: u64,
+    placed: &Placed,
+)
+    requires { array_vec_len out.old + 949 ≤ 1024 }
+    ensures { out.new.items ≡ out.old.items ++ trace_text event node tick number placed.now }
+{
+    append_number(out, event);
+    append_next_number(out, node as u64);
+    append_next_number(out, placed.port.0 as u64);
+    append_next_number(out, tick);
+    append(out, b" ");
+    append_act(out, number, &placed.act);
 }

@@ -3,11 +3,18 @@ ghost use Rattle.std.specs.Prelude.{◌≡◌, ℕ, ◌<◌, ◌++◌, ◌∷◌
 ghost use Rattle.tsp_script.specs.Words.{before_mark, after_mark, first_word, after_word};
 
 /// The place of the first octet of this value.
-fn mark_at(line: &[u8], mark: u8) -> Option<usize>
+pub(crate) fn mark_at(line: &[u8], mark: u8) -> Option<usize>
     ensures { MatchOption result (¬ Contains line.now mark)
         (λ i. (i < length line.now) × ¬ Contains (take i line.now) mark × (slice_index_or line.now i 0 ≡ mark)) }
 {
-    line.iter().position(|x| *x == mark)
+    let mut i = 0;
+    for octet in line {
+        if *octet == mark {
+            return Some(i);
+        }
+        i += 1;
+    }
+    None
 }
 
 /// What stands before the first octet of this value, and behind it: all and nothing where there is none.

@@ -1,24 +1,11 @@
-use Rattle.std.proofs.Common.{◌∙◌, sym, ap, Some, refl, rules}
-use Rattle.tsp_script.proofs.NameTexts.{name_begins, name_empty, one_more, can_read, all_read, name_made}
+use Rattle.std.proofs.Common.{◌∙◌, sym, ap, Some}
+use Rattle.tsp_script.proofs.NameTexts.{name_begins, name_empty, plain_name, name_made}
 use Rattle.tsp_script.proofs.names.name_of.Goals as goal
 
 pub returns-then-is_same : goal.returns-then-is_same
 returns-then-is_same c = λ name n b e.
     ap Some (c.empty.ensures ∙ sym (name_empty name (sym c.if-is_same.ensures ∙ e)))
 
-pub loop-rest-init : goal.loop-rest-init
-loop-rest-init c = λ name n b e. (name, rw c.new-octets.ensures refl, name_begins c.args.text.now name c.if-is_same.ensures e)
-
-pub returns-in_err-octet : goal.returns-in_err-octet
-returns-in_err-octet c = λ name n b e.
-    let left = c.loop-rest.invariant name n b e in
-    let front = can_read name c.loop-rest.octets.items c.loop-rest.rest.now b (search rules) left in
-    absurd (c.in_err-octet.ensures.reads front.0 front.1 front.2 front.3)
-
-pub loop-rest-preserved : goal.loop-rest-preserved
-loop-rest-preserved c = λ name n b e.
-    one_more name c.loop-rest.octets.items _ c.loop-rest.rest.now c.in_ok-octet.after.now c.in_ok-octet.octet b (search rules) c.in_ok-octet.ensures.reads c.in-Ok.ensures.ok (c.loop-rest.invariant name n b e)
-
-pub returns : goal.returns
-returns c = λ name n b e.
-    c.ok.ensures.value ∙ name_made c.of.result _ name n (all_read name c.loop-rest.octets.items c.loop-rest.rest.now (search rules) (c.loop-rest.invariant name n b e) ∙ sym c.as_slice.ensures.value) c.of.ensures
+pub returns-then-are_plain : goal.returns-then-are_plain
+returns-then-are_plain c = λ name n b e.
+    c.ok.ensures.value ∙ name_made c.of.result _ name n (plain_name name _ c.if-are_plain.ensures (name_begins _ name c.if-is_same.ensures e)) c.of.ensures

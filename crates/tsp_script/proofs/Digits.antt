@@ -1,0 +1,38 @@
+-- How a number's text grows by a digit.
+use Rattle.std.proofs.Common.{◌≡◌, ℕ, ◌+◌, ◌-◌, ◌*◌, ◌/◌, ◌%◌, ◌<◌, ◌≤◌, List, [], ◌∷◌, ◌++◌, length, take, slice_index_or, arith, append_assoc, ap, ◌∙◌, sym, Option, Some, None}
+use Rattle.std.specs.Prelude.{decimal, IfSome, ◌^◌}
+use Rattle.std.proofs.lemmas.Fmt.{decimal_step, decimal_digit}
+use Rattle.std.proofs.lemmas.List.{take_more}
+
+-- a digit behind a number that isn't 0
+pub decimal-digit : (n d : ℕ) → 0 < n → n ≤ 1000000000000000000 → 48 ≤ d → d < 58 → decimal (n * 10 + (d - 48)) ≡ decimal n ++ d ∷ []
+decimal-digit n d some small low high =
+    let q : (n * 10 + (d - 48)) / 10 ≡ n = omega arith in
+    let r : 48 + (n * 10 + (d - 48)) % 10 ≡ d = omega arith in
+    let s = decimal_step (n * 10 + (d - 48)) (omega arith) (omega arith) in
+    rw (q, r) at s
+
+-- one digit more of those behind a number
+pub digits-more : (front n k : ℕ) (ds : List ℕ) → k < length ds → 0 < n → n ≤ 1000000000000000000 → 48 ≤ slice_index_or ds k 0 → slice_index_or ds k 0 < 58 → decimal n ≡ decimal front ++ take k ds
+    → decimal (n * 10 + (slice_index_or ds k 0 - 48)) ≡ decimal front ++ take (k + 1) ds
+digits-more front n k ds h some small low high e =
+    let s = decimal-digit n (slice_index_or ds k 0) some small low high in
+    rw (take_more ds k 0 h) (rw e at s ∙ append_assoc (decimal front) (take k ds) (slice_index_or ds k 0 ∷ []))
+
+-- a first digit and those behind it
+pub digits-whole : (first n : ℕ) (word rest : List ℕ) → word ≡ first ∷ rest → 48 ≤ first → first < 58 → decimal n ≡ decimal (first - 48) ++ rest → word ≡ decimal n
+digits-whole first n word rest e low high m =
+    let q : 48 + (first - 48) ≡ first = omega arith in
+    let s = decimal_digit (first - 48) (omega arith) in
+    e ∙ sym (m ∙ (rw q at (ap (λ x. x ++ rest) s)))
+
+-- a lone first digit 0
+pub zero-alone : (first : ℕ) (word rest : List ℕ) → word ≡ first ∷ rest → first ≡ 48 → length rest ≡ 0 → word ≡ decimal 0
+zero-alone first word [] e f n = e ∙ (ap (λ x. x ∷ []) f ∙ sym (decimal_digit 0 (omega arith)))
+zero-alone first word (x ∷ xs) e f n = absurd (omega arith)
+
+-- the number of a first digit and those behind it, if there is one
+pub whole-if_some : (r : Option ℕ) (first : ℕ) (word rest : List ℕ) → word ≡ first ∷ rest → 48 ≤ first → first < 58 → IfSome r (λ n. (n < 2 ^ 64) × (decimal n ≡ decimal (first - 48) ++ rest))
+    → IfSome r (λ n. (n < 2 ^ 64) × (word ≡ decimal n))
+whole-if_some None first word rest e low high h = h
+whole-if_some (Some n) first word rest e low high h = (h.0, digits-whole first n word rest e low high h.1)
