@@ -12,3 +12,5 @@ pub mod Buffers
 pub mod OneCut
 pub mod OneAnswer
 pub mod KeepingUp
+pub mod WholeInputs
+pub mod Gatherings

@@ -1,3 +1,4 @@
+pub mod Gatherings
 pub mod Lines
 pub mod Outputs
 pub mod Meanings

@@ -7,6 +7,10 @@
 
 mod buffer;
 pub mod cause;
+mod gather;
+mod gathered;
+#[cfg(test)]
+mod gathered_tests;
 pub mod laws;
 pub mod limits;
 pub mod next;
@@ -17,4 +21,5 @@ pub mod refusal;
 #[cfg(test)]
 mod tests;
 pub mod treat;
+pub mod treat_gathered;
 pub mod treatment;

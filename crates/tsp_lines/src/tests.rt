@@ -12,8 +12,8 @@ use tsp_io::sink::Sink;
 
 /// Gives up to three lines back; refuses the line `!`, a long line and an empty input, and passes a limit at `#`.
 #[derive(Drop)]
-struct Echo {
-    lines: u32,
+pub(crate) struct Echo {
+    pub(crate) lines: u32,
 }
 
 impl Treatment for Echo {

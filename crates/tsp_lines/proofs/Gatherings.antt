@@ -1,0 +1,41 @@
+-- What reads add to the octets that were gathered.
+use Rattle.std.proofs.Common.{◌≡◌, ℕ, ◌<◌, ◌≤◌, ◌+◌, inl, inr, List, [], ◌++◌, refl, sym, ap, ◌∙◌, append-nil, subst, length, length-append, arith}
+use Rattle.std.specs.Prelude.{Bool, false}
+use Rattle.std.specs.declared.option.Option.{Option}
+use Rattle.tsp_io.specs.Streams.{Gives}
+use Rattle.tsp_lines.specs.Gatherings.{Adds, Gathers, ReadsPart}
+use Rattle.tsp_lines.specs.declared.gather.Added.TheVariants.{More, End, Fault}
+use Rattle.tsp_lines.specs.declared.gather.Ungathered.{Ungathered}
+use Rattle.tsp_lines.specs.declared.gather.Ungathered.TheVariants.{ReadFault, OutOfMemory}
+use Rattle.tsp_lines.proofs.Streams.{Gives-trans}
+
+-- the input's end was met
+pub Gathers-end : (limit most : ℕ) (input left rest : Option (List ℕ)) (ended : Bool) (octets now : List ℕ) → Gives input left octets → length octets ≤ limit → Adds most left rest ended octets now End → Gathers limit input rest ended now
+Gathers-end limit most input left rest ended octets now g h a =
+    let e : length now ≡ length octets = ap length a.3 in
+    (subst (Gives input rest) (append-nil octets ∙ sym a.3) (Gives-trans input left rest octets [] g a.2), inl (omega (arith, h, e), a.1, a.0))
+
+-- an octet past the limit was read
+pub Gathers-past : (limit : ℕ) (input left : Option (List ℕ)) (ended : Bool) (octets : List ℕ) → Gives input left octets → length octets ≤ limit + 1 → limit < length octets → ended ≡ false → Gathers limit input left ended octets
+Gathers-past limit input left ended octets g most past e = (g, inr (omega (arith, most, past), e))
+
+-- more was read
+pub Gives-more : (most : ℕ) (input left rest : Option (List ℕ)) (ended : Bool) (octets now : List ℕ) → Gives input left octets → Adds most left rest ended octets now More → Gives input rest now
+Gives-more most input left rest ended octets now g a = subst (Gives input rest) (sym a.1.4) (Gives-trans input left rest octets a.1.0 g a.1.1)
+
+-- how much more
+pub more_added : (most : ℕ) (left rest : Option (List ℕ)) (ended : Bool) (octets now : List ℕ) → Adds most left rest ended octets now More → (length octets < length now) × (length now ≤ length octets + most)
+more_added most left rest ended octets now a =
+    let e : length now ≡ length (octets ++ a.1.0) = ap length a.1.4 in
+    (omega (arith, e, length-append octets a.1.0, a.1.2), omega (arith, e, length-append octets a.1.0, a.1.3))
+
+fault_added : (most : ℕ) (left rest : Option (List ℕ)) (ended : Bool) (octets now : List ℕ) (fault : Ungathered) → Adds most left rest ended octets now (Fault fault) → fault ≡ ReadFault → (ended ≡ false) × (rest ≡ left)
+fault_added most left rest ended octets now ReadFault a e = a
+fault_added most left rest ended octets now OutOfMemory a e = let no : ⊥ = cc in absurd no
+
+-- the read failed
+pub ReadsPart-fault : (limit most : ℕ) (input left rest : Option (List ℕ)) (ended : Bool) (octets now : List ℕ) (fault : Ungathered) → Gives input left octets → length octets ≤ limit → Adds most left rest ended octets now (Fault fault) → fault ≡ ReadFault
+    → ReadsPart limit input rest × (ended ≡ false)
+ReadsPart-fault limit most input left rest ended octets now fault g h a e =
+    let f = fault_added most left rest ended octets now fault a e in
+    ((octets, subst (λ r. Gives input r octets) (sym f.1) g, h), f.0)
