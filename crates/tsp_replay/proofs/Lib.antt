@@ -1,5 +1,4 @@
-pub mod LongLines
-pub mod StageLemmas
+pub mod Places
 pub mod TraceLemmas
 pub mod TreatLemmas
 pub mod OneReading

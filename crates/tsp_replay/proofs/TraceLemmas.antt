@@ -10,10 +10,12 @@ use Rattle.std.proofs.lemmas.Grind.{flat_map-append}
 use Rattle.tsp_base.specs.declared.event.Event.{Event}
 use Rattle.tsp_base.specs.Headers.{HeaderValue}
 use Rattle.tsp_run.specs.Run.{told, gained}
-use Rattle.tsp_replay.specs.declared.stage.Stage.{Stage}
-use Rattle.tsp_replay.specs.declared.stage.Stage.TheVariants.{Untitled as AtUntitled, Titled as AtTitled, Drifted as AtDrifted, Heading as AtHeading, Running as AtRunning, Ended as AtEnded}
-use Rattle.tsp_replay.specs.Schedules.{Progress, Untitled, Titled, Drifted, Heading, Running, Ended, GoesOn, RunsOn, new_header}
-use Rattle.tsp_replay.specs.Stages.{StageStands, told_at}
+use Rattle.tsp_course.specs.declared.stage.Stage.{Stage}
+use Rattle.tsp_course.specs.declared.stage.Stage.TheVariants.{Untitled as AtUntitled, Titled as AtTitled, Drifted as AtDrifted, Heading as AtHeading, Running as AtRunning}
+use Rattle.tsp_course.specs.Schedules.{Progress, Untitled, Titled, Drifted, Heading, Running, Ended, new_header}
+use Rattle.tsp_replay.proofs.Places.{GoesOn, RunsOn, StageStands}
+use Rattle.tsp_replay.specs.declared.replayed.Replayed.{Replayed}
+use Rattle.tsp_replay.specs.Stages.{told_at}
 use Rattle.tsp_replay.specs.Traces.{line_text, lines_text, trace, written_at}
 
 -- one line more, read back
@@ -24,47 +26,42 @@ reverse-more xs x = reverse-append xs (x ∷ [])
 pub trace-more : (header : HeaderValue) (events : List Event) (e : Event) → trace header (e ∷ events) ≡ trace header events ++ lines_text (gained header (e ∷ events))
 trace-more header events e = flat_map-append line_text (told header events) (gained header (e ∷ events))
 
-titled_told : (version : ℕ) (stage : Stage) → StageStands (Titled version) stage → told_at stage ≡ []
+titled_told : (version : ℕ) (stage : Stage Replayed) → StageStands (Titled version) stage → told_at stage ≡ []
 titled_told version AtUntitled s = absurd s
 titled_told version (AtTitled read) s = refl
 titled_told version (AtDrifted held) s = absurd s
 titled_told version (AtHeading held) s = absurd s
-titled_told version (AtRunning world) s = absurd s
-titled_told version AtEnded s = absurd s
+titled_told version (AtRunning run) s = absurd s
 
-drifted_told : (drift : ℕ) (stage : Stage) → StageStands (Drifted drift) stage → told_at stage ≡ []
+drifted_told : (drift : ℕ) (stage : Stage Replayed) → StageStands (Drifted drift) stage → told_at stage ≡ []
 drifted_told drift AtUntitled s = absurd s
 drifted_told drift (AtTitled read) s = absurd s
 drifted_told drift (AtDrifted held) s = refl
 drifted_told drift (AtHeading held) s = absurd s
-drifted_told drift (AtRunning world) s = absurd s
-drifted_told drift AtEnded s = absurd s
+drifted_told drift (AtRunning run) s = absurd s
 
-heading_told : (header : HeaderValue) (stage : Stage) → StageStands (Heading header) stage → told_at stage ≡ []
+heading_told : (header : HeaderValue) (stage : Stage Replayed) → StageStands (Heading header) stage → told_at stage ≡ []
 heading_told header AtUntitled s = absurd s
 heading_told header (AtTitled read) s = absurd s
 heading_told header (AtDrifted held) s = absurd s
 heading_told header (AtHeading held) s = refl
-heading_told header (AtRunning world) s = absurd s
-heading_told header AtEnded s = absurd s
+heading_told header (AtRunning run) s = absurd s
 
-running_told : (header : HeaderValue) (events : List Event) (stage : Stage) → StageStands (Running header events) stage → told_at stage ≡ gained header events
+running_told : (header : HeaderValue) (events : List Event) (stage : Stage Replayed) → StageStands (Running header events) stage → told_at stage ≡ gained header events
 running_told header events AtUntitled s = absurd s
 running_told header events (AtTitled read) s = absurd s
 running_told header events (AtDrifted held) s = absurd s
 running_told header events (AtHeading held) s = absurd s
-running_told header events (AtRunning world) s = s.lines
-running_told header events AtEnded s = absurd s
+running_told header events (AtRunning run) s = ap (λ o. if o then [] else run.course.world.lines.items) s.0 ∙ s.1.lines
 
-ended_told : (header : HeaderValue) (events : List Event) (stage : Stage) → StageStands (Ended header events) stage → told_at stage ≡ []
+ended_told : (header : HeaderValue) (events : List Event) (stage : Stage Replayed) → StageStands (Ended header events) stage → told_at stage ≡ []
 ended_told header events AtUntitled s = absurd s
 ended_told header events (AtTitled read) s = absurd s
 ended_told header events (AtDrifted held) s = absurd s
 ended_told header events (AtHeading held) s = absurd s
-ended_told header events (AtRunning world) s = absurd s
-ended_told header events AtEnded s = refl
+ended_told header events (AtRunning run) s = ap (λ o. if o then [] else run.course.world.lines.items) s.0
 
-run_written : (header : HeaderValue) (events : List Event) (line : List ℕ) (to : Progress) (next : Stage) → RunsOn header events line to → StageStands to next → written_at to ≡ trace header events ++ lines_text (told_at next)
+run_written : (header : HeaderValue) (events : List Event) (line : List ℕ) (to : Progress) (next : Stage Replayed) → RunsOn header events line to → StageStands to next → written_at to ≡ trace header events ++ lines_text (told_at next)
 run_written header events line to next (inl g) s =
     let stands : StageStands (Running header (g.0 ∷ events)) next = subst (λ p. StageStands p next) g.3 s in
     ap written_at g.3 ∙ trace-more header events g.0 ∙ ap (λ ls. trace header events ++ lines_text ls) (sym (running_told header (g.0 ∷ events) next stands))
@@ -73,7 +70,7 @@ run_written header events line to next (inr g) s =
     ap written_at g.1 ∙ sym (append-nil (trace header events)) ∙ ap (λ ls. trace header events ++ lines_text ls) (sym (ended_told header events next stands))
 
 -- what is written grows by the lines of the last event
-pub written_at-more : (p : Progress) (line : List ℕ) (to : Progress) (next : Stage) → GoesOn p line to → StageStands to next → written_at to ≡ written_at p ++ lines_text (told_at next)
+pub written_at-more : (p : Progress) (line : List ℕ) (to : Progress) (next : Stage Replayed) → GoesOn p line to → StageStands to next → written_at to ≡ written_at p ++ lines_text (told_at next)
 written_at-more Untitled line to next g s = ap written_at g.2 ∙ ap (λ ls. lines_text ls) (sym (titled_told g.0 next (subst (λ p. StageStands p next) g.2 s)))
 written_at-more (Titled version) line to next g s = by_version (version == 2) g.2 s where
   by_version : (strict : Bool) → to ≡ (if strict then Drifted g.0 else Heading (new_header g.0 false)) → StageStands to next → written_at to ≡ lines_text (told_at next)

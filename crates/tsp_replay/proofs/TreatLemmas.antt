@@ -6,27 +6,30 @@ use Rattle.tsp_lines.specs.declared.treatment.Stop.TheVariants.{Bad, Limit, Writ
 use Rattle.tsp_lines.specs.Meanings.{Goes, StopsAt}
 use Rattle.tsp_lines.specs.Outputs.{Hands}
 use Rattle.tsp_lines.proofs.Outputs.{Hands-nil}
-use Rattle.tsp_replay.specs.declared.stage.Stage.{Stage}
+use Rattle.tsp_course.specs.declared.stage.Stage.{Stage}
 use Rattle.tsp_replay.specs.Meaning.{replaying, Replays}
-use Rattle.tsp_replay.specs.Schedules.{Progress, Reaches}
-use Rattle.tsp_replay.specs.Stages.{StageStands, Stands, Advances, Halts, told_at, Untold}
+use Rattle.tsp_course.specs.Schedules.{Progress}
+use Rattle.tsp_replay.specs.Schedules.{Reaches}
+use Rattle.tsp_replay.specs.declared.replayed.Replayed.{Replayed}
+use Rattle.tsp_replay.proofs.Places.{StageStands, Advances, Halts}
+use Rattle.tsp_replay.specs.Stages.{Stands, told_at, Untold}
 use Rattle.tsp_replay.specs.Traces.{lines_text, written_at}
 use Rattle.tsp_replay.proofs.TraceLemmas.{reverse-more, written_at-more}
 
-accepted : (lines : List (List ℕ)) (text line : List ℕ) (p : Progress) (next : Stage) → Reaches (reverse lines) p → text ≡ written_at p → Advances p line next → Replays (lines ++ line ∷ []) (text ++ lines_text (told_at next))
+accepted : (lines : List (List ℕ)) (text line : List ℕ) (p : Progress) (next : Stage Replayed) → Reaches (reverse lines) p → text ≡ written_at p → Advances p line next → Replays (lines ++ line ∷ []) (text ++ lines_text (told_at next))
 accepted lines text line p next reaches text_is a = (
   a.to,
   subst (λ ls. Reaches ls a.to) (sym (reverse-more lines line)) (p, reaches, a.goes),
-  ap (λ t. t ++ lines_text (told_at next)) text_is ∙ sym (written_at-more p line a.to next a.goes a.stands),
+  ap (λ t. t ++ lines_text (told_at next)) text_is ∙ sym (written_at-more p line a.to next a.goes a.stands_for),
 )
 
-stands_more : (lines : List (List ℕ)) (line : List ℕ) (next : Stage) → ((q : Progress) → Reaches (reverse lines) q → Advances q line next) → Stands next (lines ++ line ∷ [])
+stands_more : (lines : List (List ℕ)) (line : List ℕ) (next : Stage Replayed) → ((q : Progress) → Reaches (reverse lines) q → Advances q line next) → Stands next (lines ++ line ∷ [])
 stands_more lines line next advances r reaches = one (subst (λ ls. Reaches ls r) (reverse-more lines line) reaches) where
   one : Reaches (line ∷ reverse lines) r → StageStands r next
-  one h = let a = advances h.0 h.1 in subst (λ q. StageStands q next) (sym (a.only r h.2)) a.stands
+  one h = let a = advances h.0 h.1 in subst (λ q. StageStands q next) (sym (a.only r h.2)) a.stands_for
 
 -- an accepted line whose output was handed over
-pub Goes-advances : (lines : List (List ℕ)) (text line : List ℕ) (p : Progress) (next : Stage) (written now : Option (List ℕ)) (held keeps : List ℕ) → Reaches (reverse lines) p → text ≡ written_at p →
+pub Goes-advances : (lines : List (List ℕ)) (text line : List ℕ) (p : Progress) (next : Stage Replayed) (written now : Option (List ℕ)) (held keeps : List ℕ) → Reaches (reverse lines) p → text ≡ written_at p →
     ((q : Progress) → Reaches (reverse lines) q → Advances q line next) → Hands written held now keeps (lines_text (told_at next)) → Goes replaying (Stands next) lines text line written held now keeps
 Goes-advances lines text line p next written now held keeps reaches text_is advances hands = (
   lines_text (told_at next),
@@ -36,7 +39,7 @@ Goes-advances lines text line p next written now held keeps reaches text_is adva
 )
 
 -- an accepted line whose output was not handed over whole
-pub StopsAt-untold : (lines : List (List ℕ)) (text line : List ℕ) (p : Progress) (next : Stage) (written now : Option (List ℕ)) (held keeps : List ℕ) (stop : Stop) → Reaches (reverse lines) p → text ≡ written_at p →
+pub StopsAt-untold : (lines : List (List ℕ)) (text line : List ℕ) (p : Progress) (next : Stage Replayed) (written now : Option (List ℕ)) (held keeps : List ℕ) (stop : Stop) → Reaches (reverse lines) p → text ≡ written_at p →
     Advances p line next → Untold (lines_text (told_at next)) written held now keeps stop → StopsAt replaying lines text line written held now keeps stop
 StopsAt-untold lines text line p next written now held keeps (Bad cause) reaches text_is a h = absurd h
 StopsAt-untold lines text line p next written now held keeps Limit reaches text_is a h = absurd h

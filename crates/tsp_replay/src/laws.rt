@@ -4,7 +4,8 @@ ghost use Rattle.tsp_base.specs.declared.event.Event.{Event};
 ghost use Rattle.tsp_base.specs.Headers.{HeaderValue, IsHeader};
 ghost use Rattle.tsp_lines.specs.Definite.{IsDefinite};
 ghost use Rattle.tsp_replay.specs.Meaning.{IsSchedule, replaying};
-ghost use Rattle.tsp_replay.specs.Schedules.{Progress, Reaches};
+ghost use Rattle.tsp_course.specs.Schedules.{Progress};
+ghost use Rattle.tsp_replay.specs.Schedules.{Reaches};
 
 /// A text is one schedule's at most.
 pub fn one_schedule_of_a_text()

@@ -3,9 +3,8 @@
 //! [`run::replay`] is the whole command. Under it [`replay::Replay`] is the treatment of the lines, and [`stage::Stage`] what they have come to: a header in the making, then a world.
 #![tactic(auto)]
 
-mod faults;
 pub mod laws;
 pub mod replay;
+mod replayed;
 pub mod run;
-pub mod stage;
 mod tell;

@@ -1,10 +1,10 @@
 //! The replay as a treatment of lines.
 ghost use Rattle.std.specs.Prelude.{◌≡◌};
 
-use crate::stage::Stage;
+use crate::replayed::Replayed;
 use crate::tell::tell_stage;
 use std::alloc::Global;
-use std::mem;
+use tsp_course::stage::Stage;
 use tsp_io::sink::Sink;
 use tsp_lines::cause::Cause;
 use tsp_lines::output::Output;
@@ -14,12 +14,10 @@ use tsp_lines::treatment::{Stop, Treatment};
 #[derive(Drop)]
 pub struct Replay {
     alloc: Global,
-    stage: Stage,
+    stage: Stage<Replayed>,
 }
 
 impl Replay {
-    ghost use Rattle.tsp_replay.specs.Schedules.{Progress, Untitled};
-
     /// No line was read. Takes no memory.
     pub fn new(alloc: Global) -> Replay
         ensures { result.stage ≡ Stage.Untitled }
@@ -49,12 +47,8 @@ impl Treatment for Replay {
         output: &mut Output,
         sink: &mut K,
     ) -> Result<(), Stop> {
-        let stage = mem::replace(&mut self.stage, Stage::Ended);
-        match stage.next(self.alloc, line) {
-            Ok(next) => {
-                self.stage = next;
-                tell_stage(&self.stage, output, sink)
-            }
+        match self.stage.advance(self.alloc, line) {
+            Ok(()) => tell_stage(&self.stage, output, sink),
             Err(stop) => Err(stop),
         }
     }

@@ -2,19 +2,41 @@
 ghost use Rattle.std.specs.Prelude.{◌≡◌, ◌≢◌, ◌≤◌, ◌<◌, ◌++◌, ℕ, List, [], length, OnOk, OnErr, MatchResult};
 ghost use Rattle.tsp_io.specs.Counts.{Rose};
 ghost use Rattle.tsp_lines.specs.Outputs.{Hands};
-ghost use Rattle.tsp_replay.specs.Stages.{told_at, Untold};
+ghost use Rattle.tsp_replay.specs.Stages.{told_at, told_by, Untold};
 ghost use Rattle.tsp_replay.specs.Traces.{line_text, lines_text, number_in};
 
-use crate::stage::Stage;
+use crate::replayed::Replayed;
+use tsp_course::run::Run;
+use tsp_course::stage::Stage;
 use tsp_io::sink::Sink;
 use tsp_lines::output::{Output, Unwritten};
 use tsp_lines::treatment::Stop;
 use tsp_run::line::Line;
 use tsp_script::trace::placed_text;
 
+/// The lines of the last event's acts; none where the last line was no event.
+fn told(stage: &Stage<Replayed>) -> &[Line]
+    ensures { result.now ≡ told_at stage.now }
+{
+    match stage {
+        Stage::Running(run) => told_by(run),
+        _ => &[],
+    }
+}
+
+/// The same, behind the header.
+fn told_by(run: &Run<Replayed>) -> &[Line]
+    ensures { result.now ≡ told_by run.now }
+{
+    if run.over {
+        return &[];
+    }
+    run.course.world.acts()
+}
+
 /// Hands over the lines of the last event's acts.
 pub(crate) fn tell_stage<K: Sink>(
-    stage: &Stage,
+    stage: &Stage<Replayed>,
     output: &mut Output,
     sink: &mut K,
 ) -> Result<(), Stop>
@@ -24,7 +46,7 @@ pub(crate) fn tell_stage<K: Sink>(
     ensures cause { result ≡ Err Stop.WriteFault → Rose (K.faults sink.old) (K.faults sink.new) × (0 < length output.new) }
     ensures still { result ≢ Err Stop.WriteFault → K.faults sink.new ≡ K.faults sink.old }
 {
-    match tell(stage.told(), output, sink) {
+    match tell(told(stage), output, sink) {
         Ok(()) => Ok(()),
         Err(Unwritten::WriteFault) => Err(Stop::WriteFault),
         Err(Unwritten::OutOfMemory) => Err(Stop::OutOfMemory),

@@ -1,5 +1,6 @@
-use Rattle.tsp_replay.proofs.OneReading.{Reaches-one}
+use Rattle.tsp_course.proofs.OneReading.{Reaches-one}
+use Rattle.tsp_replay.specs.Schedules.{refused}
 use Rattle.tsp_replay.proofs.laws.one_place_of_lines.Goals as goal
 
 pub returns : goal.returns
-returns c = Reaches-one
+returns c = Reaches-one refused

@@ -1,21 +1,21 @@
 -- The stage goes on or halts, and what it tells is handed over.
-use Rattle.std.proofs.Common.{◌≡◌, subst, sym, reverse}
-use Rattle.tsp_replay.specs.Schedules.{Progress, Reaches}
-use Rattle.tsp_replay.specs.Stages.{StageStands, Advances}
-use Rattle.tsp_replay.proofs.StageLemmas.{MatchResult-map}
+use Rattle.std.proofs.Common.{reverse}
+use Rattle.tsp_course.proofs.StageLemmas.{MatchResult-map}
+use Rattle.tsp_course.specs.Schedules.{Progress}
+use Rattle.tsp_replay.specs.Schedules.{Reaches}
+use Rattle.tsp_replay.proofs.Places.{Advances}
 use Rattle.tsp_replay.proofs.TreatLemmas.{Goes-advances, StopsAt-untold, StopsAt-halts}
 use Rattle.tsp_replay.proofs.replay.ReplayTreatment.treat.Goals as goal
 
 pub returns-in-Ok-clause-treats : goal.returns-in-Ok-clause-treats
 returns-in-Ok-clause-treats g c lines text stands accepts room =
     let line = c.args.line.now in
-    let old : c.replace-stage.result ≡ c.args.self.now.stage = c.replace-stage.ensures.value in
-    let advances : (q : Progress) → Reaches (reverse lines) q → Advances q line c.in-Ok.next = λ q r. c.in-Ok.ensures.next q (subst (λ s. StageStands q s) (sym old) (stands q r)) in
+    let next = c.advance.new.self in
+    let advances : (q : Progress) → Reaches (reverse lines) q → Advances q line next = λ q r. c.in-Ok.ensures.next q (stands q r) in
     MatchResult-map c.tell_stage.result c.tell_stage.ensures.tells
-    (λ _ h. Goes-advances lines text line accepts.0 c.in-Ok.next _ _ _ _ accepts.1 accepts.2 advances h)
-    (λ stop h. StopsAt-untold lines text line accepts.0 c.in-Ok.next _ _ _ _ stop accepts.1 accepts.2 (advances accepts.0 accepts.1) h)
+    (λ _ h. Goes-advances lines text line accepts.0 next _ _ _ _ accepts.1 accepts.2 advances h)
+    (λ stop h. StopsAt-untold lines text line accepts.0 next _ _ _ _ stop accepts.1 accepts.2 (advances accepts.0 accepts.1) h)
 
 pub returns-in-Err-clause-treats : goal.returns-in-Err-clause-treats
 returns-in-Err-clause-treats g c lines text stands accepts room =
-    let old : c.replace-stage.result ≡ c.args.self.now.stage = c.replace-stage.ensures.value in
-    StopsAt-halts lines text c.args.line.now accepts.0 _ _ c.in-Err.stop accepts.1 (c.in-Err.ensures.next accepts.0 (subst (λ s. StageStands accepts.0 s) (sym old) (stands accepts.0 accepts.1)))
+    StopsAt-halts lines text c.args.line.now accepts.0 _ _ c.in-Err.stop accepts.1 (c.in-Err.ensures.next accepts.0 (stands accepts.0 accepts.1))

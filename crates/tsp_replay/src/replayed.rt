@@ -1,0 +1,34 @@
+//! The world of a replay, as what the events of a schedule meet.
+
+use std::alloc::{AllocError, Global};
+use tsp_base::event::{Event, EventFault};
+use tsp_base::header::Header;
+use tsp_course::course::Course;
+use tsp_world::world::World;
+
+/// The world of a replay.
+#[derive(Drop)]
+pub struct Replayed {
+    /// Its nodes, and the lines of the last event.
+    pub world: World,
+}
+
+impl Course for Replayed {
+    ghost use Rattle.tsp_replay.specs.Schedules.{refused};
+    ghost use Rattle.tsp_replay.specs.Stages.{stands};
+
+    ghost refused = { refused };
+
+    ghost stands = { stands };
+
+    fn begin(alloc: Global, header: Header) -> Result<Replayed, AllocError> {
+        match World::new(alloc, header) {
+            Ok(world) => Ok(Replayed { world }),
+            Err(fault) => Err(fault),
+        }
+    }
+
+    fn event(&mut self, e: &Event) -> Result<(), EventFault> {
+        self.world.event(e)
+    }
+}
