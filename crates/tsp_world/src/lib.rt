@@ -5,14 +5,9 @@
 #![tactic(auto)]
 
 mod acting;
-mod joining;
 mod refusals;
 mod refusing;
-#[cfg(test)]
-mod relay_tests;
 mod setup;
 mod step;
 mod tell;
-#[cfg(test)]
-mod tests;
 pub mod world;

@@ -5,10 +5,10 @@ ghost use Rattle.tsp_run.specs.Networks.{ports_on};
 ghost use Rattle.tsp_run.specs.Refusals.{Scene, first_of, time_back, unknown, unknown_place, lacks_port, no_node, no_datagram, down_at, is_crowded, limit};
 ghost use Rattle.tsp_run.specs.Run.{event_at};
 
-use crate::joining::port_count;
 use tsp_base::event::{Event, EventFault};
 use tsp_base::members::Members;
 use tsp_base::place::{Place, Port};
+use tsp_nets::port_count;
 
 /// How many events a world accepts.
 pub const MOST_EVENTS: u64 = 200_000;

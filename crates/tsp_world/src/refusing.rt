@@ -5,10 +5,11 @@ ghost use Rattle.tsp_run.specs.Refusals.{refusal, not_up, down, actor, room_at};
 ghost use Rattle.tsp_run.specs.Run.{goes_to};
 ghost use Rattle.tsp_world.specs.WorldStands.{scene_of, up_at};
 
+use crate::refusals;
 use crate::world::World;
-use crate::{joining, refusals};
 use tsp_base::event::{Event, EventFault};
 use tsp_base::members::Members;
+use tsp_nets::{address_of, networks_of, room_of};
 use tsp_run::address::Address;
 
 impl World {
@@ -25,7 +26,7 @@ impl World {
         ensures networks { result.now ≡ networks self.now.header }
         ensures few { length result.now ≤ 64 }
     {
-        joining::networks_of(&self.header, self.one.as_slice())
+        networks_of(&self.header, self.one.as_slice())
     }
 
     /// Where the datagram with this number goes: to a port of its addressee; None where it goes nowhere.
@@ -33,7 +34,7 @@ impl World {
         ensures { result ≡ goes_to (networks self.now.header) (slice_get self.now.sent.items k) }
     {
         let posted = self.sent.get(k as usize)?;
-        joining::address_of(self.networks(), posted.from, posted.port, posted.to)
+        address_of(self.networks(), posted.from, posted.port, posted.to)
     }
 
     /// The node that would act at an event: of a datagram its addressee; none where it goes nowhere.
@@ -57,7 +58,7 @@ impl World {
         ensures few { IfSome result (λ w. w ≤ 200000) }
     {
         match node {
-            Some(n) => Some(joining::room_of(self.networks(), n)),
+            Some(n) => Some(room_of(self.networks(), n)),
             None => None,
         }
     }

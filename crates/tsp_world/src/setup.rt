@@ -1,6 +1,6 @@
 //! What the nodes of a schedule are set up with.
 ghost use Rattle.std.specs.Prelude.{◌≡◌, ◌≤◌, [], ◌∷◌, ◌++◌, length, IfOk, OnOk};
-ghost use Rattle.tsp_run.specs.Networks.{networks, numbers_below, peers_on, ports_on};
+ghost use Rattle.tsp_run.specs.Networks.{networks, peers_on, ports_on};
 ghost use Rattle.tsp_world.specs.Configs.{configs_below};
 
 use std::alloc::{AllocError, Global};
@@ -8,23 +8,6 @@ use tsp_base::header::{Header, NodeLine};
 use tsp_base::members::Members;
 use tsp_base::place::PeerId;
 use tsp_gateway::GateConfig;
-
-/// The network of so many nodes. The refusal is want of memory.
-pub(crate) fn all_nodes(alloc: Global, count: u32) -> Result<Vec<Members>, AllocError>
-    requires { count ≤ 64 }
-    ensures { IfOk result (λ v. v.items ≡ numbers_below count ∷ []) }
-{
-    let mut numbers = Vec::new(alloc);
-    for number in 0..count {
-        numbers.push(number)?;
-    }
-    let mut one = Vec::new(alloc);
-    match Members::of(numbers.as_slice()) {
-        Some(members) => one.push(members)?,
-        None => unreachable!(),
-    }
-    Ok(one)
-}
 
 /// What each node of a header is set up with, in order, on these networks. The refusal is want of memory.
 pub(crate) fn configs_of(

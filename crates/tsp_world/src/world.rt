@@ -3,8 +3,7 @@ ghost use Rattle.std.specs.Prelude.{◌≡◌, ◌≤◌, [], ◌∷◌, List, t
 ghost use Rattle.tsp_base.specs.Headers.{is_whole};
 ghost use Rattle.tsp_world.specs.NodesReady.{NodesReady};
 
-use crate::joining::networks_of;
-use crate::setup::{all_nodes, configs_of};
+use crate::setup::configs_of;
 use std::alloc::{AllocError, Global};
 use tsp_base::desk::Desk;
 use tsp_base::event::{Event, EventFault};
@@ -12,6 +11,7 @@ use tsp_base::header::Header;
 use tsp_base::members::Members;
 use tsp_base::pad::Pad;
 use tsp_gateway::{GateConfig, Gateway};
+use tsp_nets::{all_nodes, networks_of};
 use tsp_run::line::Line;
 use tsp_run::posted::Posted;
 

@@ -1,0 +1,139 @@
+//! Which networks the nodes of a schedule are on, and by which ports.
+//!
+//! A header names its networks, or has one of all its nodes: [`networks_of`] gives them, over [`all_nodes`] where it names none. Where a datagram
+//! goes that a port posts, [`address_of`] says, and how many acts a node's step may put [`room_of`].
+#![tactic(auto)]
+
+ghost use Rattle.std.specs.Prelude.{◌≡◌, ◌≤◌, [], ◌∷◌, length, IfOk};
+ghost use Rattle.tsp_base.specs.Headers.{has_member};
+ghost use Rattle.tsp_run.specs.Networks.{networks, numbers_below, network_at, port_from, ports_on, address_of, room};
+
+use std::alloc::{AllocError, Global};
+use tsp_base::header::Header;
+use tsp_base::members::Members;
+use tsp_base::place::{Place, Port};
+use tsp_run::address::Address;
+
+#[cfg(test)]
+mod tests;
+
+/// The network of so many nodes. The refusal is want of memory.
+pub fn all_nodes(alloc: Global, count: u32) -> Result<Vec<Members>, AllocError>
+    requires { count ≤ 64 }
+    ensures { IfOk result (λ v. v.items ≡ numbers_below count ∷ []) }
+{
+    let mut numbers = Vec::new(alloc);
+    for number in 0..count {
+        numbers.push(number)?;
+    }
+    let mut one = Vec::new(alloc);
+    match Members::of(numbers.as_slice()) {
+        Some(members) => one.push(members)?,
+        None => unreachable!(),
+    }
+    Ok(one)
+}
+
+/// The networks of a header: its own, or this one of all nodes where it names none.
+pub fn networks_of<'a>(header: &'a Header, one: &'a [Members]) -> &'a [Members]
+    requires { one.now ≡ numbers_below (length header.now.nodes) ∷ [] }
+    ensures networks { result.now ≡ networks header.now }
+    ensures few { length result.now ≤ 64 }
+{
+    let nets = header.nets();
+    if nets.is_empty() { one } else { nets }
+}
+
+/// Whether a node is on a network.
+fn has(net: &Members, n: u32) -> bool
+    ensures { result ≡ has_member n net.now }
+{
+    net.numbers().contains(&n)
+}
+
+/// How many ports a node has.
+pub fn port_count(nets: &[Members], n: u32) -> usize
+    requires { length nets.now ≤ 64 }
+    ensures count { result ≡ length (ports_on n nets.now) }
+    ensures few { result ≤ 64 }
+{
+    let mut count = 0;
+    for net in nets {
+        if has(net, n) {
+            count += 1;
+        }
+    }
+    count
+}
+
+/// How many acts a node puts in a step at the most.
+pub fn room_of(nets: &[Members], n: u32) -> u64
+    requires { length nets.now ≤ 64 }
+    ensures room { result ≡ room (ports_on n nets.now) }
+    ensures few { result ≤ 200000 }
+{
+    let mut room = 0;
+    for net in nets {
+        if has(net, n) {
+            room += 24 * net.numbers().len() as u64 + 256;
+        }
+    }
+    room
+}
+
+/// The number of the network of a node's port; None where the node has no such port.
+fn network_at(nets: &[Members], n: u32, port: Port) -> Option<u32>
+    requires { length nets.now ≤ 64 }
+    ensures { result ≡ network_at n port nets.now }
+{
+    let mut passed: u32 = 0;
+    let mut number: u32 = 0;
+    for net in nets {
+        if has(net, n) {
+            if passed == port.0 as u32 {
+                return Some(number);
+            }
+            passed += 1;
+        }
+        number += 1;
+    }
+    None
+}
+
+/// By which port a node is on a network; None where it isn't on it.
+fn port_on(nets: &[Members], n: u32, network: u32) -> Option<u8>
+    requires { length nets.now ≤ 64 }
+    ensures { result ≡ port_from n network 0 0 nets.now }
+{
+    let mut passed: u8 = 0;
+    let mut number: u32 = 0;
+    for net in nets {
+        if number == network {
+            return if has(net, n) { Some(passed) } else { None };
+        }
+        if has(net, n) {
+            passed += 1;
+        }
+        number += 1;
+    }
+    None
+}
+
+/// Where a datagram goes that a node posts on a port: to its addressee's port on the same network. None where
+/// the addressee is no node, or has no port there.
+pub fn address_of(nets: &[Members], from: u32, port: Port, to: Place) -> Option<Address>
+    requires { length nets.now ≤ 64 }
+    ensures { result ≡ address_of nets.now from port to }
+{
+    match to {
+        Place::Peer(p) => {
+            let network = network_at(nets, from, port)?;
+            let on = port_on(nets, p.0, network)?;
+            Some(Address {
+                node: p.0,
+                port: Port(on),
+            })
+        }
+        Place::Stranger => None,
+    }
+}
