@@ -22,15 +22,16 @@ trap stop EXIT
 trap 'exit 130' INT
 trap 'exit 143' TERM HUP
 
-# Five ports of which nobody makes use, as the system gives them.
+# Eight ports of which nobody makes use, as the system gives them.
 ports=$(python3 -c '
 import socket
-held = [socket.socket(socket.AF_INET, socket.SOCK_DGRAM) for _ in range(5)]
+held = [socket.socket(socket.AF_INET, socket.SOCK_DGRAM) for _ in range(8)]
 for s in held: s.bind(("127.0.0.1", 0))
 print(*(s.getsockname()[1] for s in held))')
-# shellcheck disable=SC2086  # five words
+# shellcheck disable=SC2086  # eight words
 set -- $ports
 alpha=127.0.0.1:$1 beta=127.0.0.1:$2 alone=127.0.0.1:$3 dead=127.0.0.1:$4 nobody=127.0.0.1:$5
+west=127.0.0.1:$6 gate=127.0.0.1:$7 east=127.0.0.1:$8
 
 # Sends these octets from one address to another, and prints the octets that come back within a second. Without a
 # third word what comes back isn't waited for: it goes to a port that is closed by then.
@@ -116,12 +117,29 @@ for from in "$dead" "$nobody" "$dead"; do
 done
 wait "$l" || fail "a daemon whose peer is dead ends with status $?"
 
+# A daemon between two networks takes a peer's question on the port whose peer it is, a stranger's on port 0, and answers each.
+"$program" serve "$gate" gate m 1000 "$west" + "$east" >"$out/gate" 2>"$out/gate.warning" &
+g=$!
+running="$running $g"
+sleep 0.2
+wants 0 'trace on' trace "$gate" on
+for from in "$west" "$east" "$nobody"; do
+    exchange "$from" "$gate" 1301000300000000000000007800 answer >"$out/reply" || fail 'a daemon on two networks has no answer'
+    [ "$("$program" show <"$out/reply")" = 'ack 3 %' ] || fail 'a daemon on two networks has another answer'
+done
+wants 0 'trace off' trace "$gate" off
+grep ' took [12-] msite 3 x$' "$out/gate" | cut -d ' ' -f 3,5- >"$out/ports"
+printf '%s\n' '0 took 1 msite 3 x' '1 took 2 msite 3 x' '0 took - msite 3 x' | cmp -s - "$out/ports" || fail "a daemon on two networks takes '$(cat "$out/ports")'"
+
 # The turns are over, and SIGTERM ends what has more of them.
 wait "$b" || fail "a daemon ends with status $? after its turns"
 election=0
 "$program" election "$alpha" >"$out/election" 2>/dev/null || election=$?
 [ "$election" -eq 6 ] && [ "$(cat "$out/election")" = 'no answer' ] || fail "'election' in the quiet time gives another answer"
-kill "$a"
+kill "$a" "$g"
+status=0
+wait "$g" 2>/dev/null || status=$?
+[ "$status" -eq 143 ] || fail "a daemon on two networks that is told to end ends with status $status"
 status=0
 wait "$a" 2>/dev/null || status=$?
 [ "$status" -eq 143 ] || fail "a daemon that is told to end ends with status $status"
@@ -131,4 +149,4 @@ running=
 
 spent=$(($(date +%s) - began))
 [ "$spent" -le 30 ] || fail "it took $spent s"
-echo ".ci/daemon.sh: two daemons and the questions to them, in $spent s"
+echo ".ci/daemon.sh: daemons, one of them on two networks, and the questions to them, in $spent s"

@@ -59,20 +59,17 @@ ends 0 --list -f "$hosts"
 printf '%s\n' '1 alpha 192.0.2.11:525 master' '1 beta 192.0.2.12:526 slave' '1 gate 192.0.2.1:525 master' '2 gamma 198.51.100.7:525 slave' '2 gate 192.0.2.1:525 master' |
     cmp -s - "$out/said" || fail "the hosts are listed as '$(cat "$out/said")'"
 
-# A host in two networks is a gateway. Its words have a + between its networks, when they are let through.
-refuses "$hosts:8: gate stands in more than one network: gateways aren't served yet" -n -f "$hosts" -s gate
-sed '/|| not_yet$/d' tools/tsp-launch >"$out/lifted"
-sh "$out/lifted" -n -f "$hosts" -s gate >"$out/said" || fail 'a gateway is refused for another cause'
-[ "$(cat "$out/said")" = 'serve 192.0.2.1:525 gate m 1000000000 192.0.2.11:525 192.0.2.12:526 + 198.51.100.7:525' ] || fail "a gateway is given '$(cat "$out/said")'"
+# A host in two networks is a gateway. Its words have a + between its networks.
+gives gate 'serve 192.0.2.1:525 gate m 1000000000 192.0.2.11:525 192.0.2.12:526 + 198.51.100.7:525'
 for case in '9: beta stands in two networks of gate, which can have it as a peer once|beta 192.0.2.12:526 slave' \
     '14: gate stands in more than four networks|+\ngate 192.0.2.1 master\n+\ngate 192.0.2.1 master\n+\ngate 192.0.2.1 master'; do
     { cat "$hosts"; printf '%b\n' "${case#*|}"; } >"$out/hosts"
     status=0
-    sh "$out/lifted" -n -f "$out/hosts" -s gate >"$out/said" 2>"$out/told" || status=$?
+    sh tools/tsp-launch -n -f "$out/hosts" -s gate >"$out/said" 2>"$out/told" || status=$?
     [ "$status" -eq 78 ] && [ "$(cat "$out/told")" = "tsp-launch: $out/hosts:${case%%|*}" ] || fail "a gateway gives '$(cat "$out/said" "$out/told")'"
 done
 printf 'gate 192.0.2.1 master\n+\nalpha 192.0.2.11 slave\n+\nbeta 192.0.2.12 slave\ngate 192.0.2.1 master\n+\ngate 192.0.2.1 master\n' >"$out/hosts"
-sh "$out/lifted" -n -f "$out/hosts" -s gate >"$out/said" || fail 'a gateway without peers in a network is refused'
+sh tools/tsp-launch -n -f "$out/hosts" -s gate >"$out/said" || fail 'a gateway without peers in a network is refused'
 [ "$(cat "$out/said")" = 'serve 192.0.2.1:525 gate m 1000000000 + 192.0.2.12:525 +' ] || fail "a gateway is given '$(cat "$out/said")'"
 
 # The host's own name, if it is alone; a last line without its line feed; a name, and one of a host name's own dots; all on one machine.

@@ -1,7 +1,7 @@
 -- From what the words ask for, and from how a daemon or a question ends, to how the program does.
-use Rattle.std.specs.Prelude.{◌≡◌, ◌⊎◌, ◌≤◌, ◌<◌, ℕ, ◌==◌, ℤ, Bool, true, false, List, [], ◌++◌, length, Option, None, Some, IfSome, IfOk, MatchOption, codes}
+use Rattle.std.specs.Prelude.{◌≡◌, ◌⊎◌, ◌≤◌, ◌<◌, ℕ, ℤ, Bool, true, false, List, [], ◌++◌, length, Option, None, Some, IfSome, IfOk, MatchOption, codes}
 use Rattle.std.specs.declared.result.Result.{Result}
-use Rattle.std.proofs.Common.{sym, ◌∙◌, inl, inr, subst, refl, ap, arith, eqb-true}
+use Rattle.std.proofs.Common.{sym, ◌∙◌, inl, inr, subst, refl, ap, arith}
 use Rattle.tsp_asking.specs.declared.end.Asking.{Asking}
 use Rattle.tsp_asking.specs.declared.end.Asking.TheVariants.{Answered, NoAnswer as Unanswered, LinkFault as NotAsked, WriteFault as Untold, OutOfMemory as Unasked}
 use Rattle.tsp_asking.specs.Asks.{AsksAs}
@@ -222,10 +222,6 @@ not_true false f = refl
 -- a command of words that ask for nothing that is built isn't built
 pub not_built : (words : List (List ℕ)) (d : Command) → IsUnbuilt words → IsCommand d × (words ≡ words_of d) → is_built d ≡ false
 not_built words d unbuilt read = not_true (is_built d) (unbuilt d read.0 read.1)
-
--- so many ports aren't one
-pub ports_unbuilt : (ports : ℕ) → (ports ≡ 1 → ⊥) → (ports == 1) ≡ false
-ports_unbuilt ports h = not_true (ports == 1) (λ e. h (eqb-true ports 1 e))
 
 -- words of a command that isn't built ask for nothing that is
 pub words_unbuilt : (x : Option Command) (d : Command) (words : List (List ℕ)) → x ≡ Some d → ((c : Command) → IsCommand c → words ≡ words_of c → x ≡ Some c) → is_built d ≡ false → IsUnbuilt words

@@ -1,5 +1,5 @@
 -- What each command of the program comes to.
-use Rattle.std.specs.Prelude.{◌≡◌, ◌⊎◌, ℕ, ◌==◌, ℤ, Bool, true, false, List, Option, Some, length}
+use Rattle.std.specs.Prelude.{◌≡◌, ◌⊎◌, ℕ, ℤ, Bool, true, false, List, Option, Some}
 use Rattle.tsp_asking.specs.declared.end.Asking.{Asking}
 use Rattle.tsp_asking.specs.Asks.{AsksAs}
 use Rattle.tsp_io.specs.Counts.{Rose}
@@ -31,9 +31,8 @@ pub record Now : Type 0 where
   pub links : ℕ
   pub sends : ℕ
 
--- whether a command is one that the program does: a daemon has one port, and no claimed history is judged yet
+-- whether a command is one that the program does: no claimed history is judged yet
 abbrev pub is_built : Command → Bool
-is_built (Serve s) = length s.ports == 1
 is_built Audit = false
 is_built _ = true
 

@@ -12,7 +12,8 @@ tsp: the time synchronization protocol, as a replay, a daemon and questions to o
     tsp icmp       reads exchanges of ICMP Timestamp messages, writes offsets and corrections
     tsp serve LOCAL NAME FLAG TURNS PEER..
                    runs a daemon at the address LOCAL for so many turns: FLAG is m where it may be
-                   master, x where it may by a majority of its peers, and s where it may not
+                   master, x where it may by a majority of its peers, and s where it may not; a word + among
+                   the PEERs begins the next network that the daemon joins
     tsp msite ADDR
                    asks the daemon at an address who is master
     tsp clockdiff ADDR

@@ -8,6 +8,8 @@ mod limit_tests;
 mod link_tests;
 #[cfg(test)]
 mod net_tests;
+#[cfg(test)]
+mod port_tests;
 mod run;
 mod status;
 #[cfg(test)]

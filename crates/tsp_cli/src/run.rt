@@ -1,5 +1,5 @@
 //! The top call.
-ghost use Rattle.std.specs.Prelude.{◌≡◌, ◌≢◌, ◌≤◌, ◌⊎◌, [], ◌∷◌, true, false, length, map, codes, string_bytes};
+ghost use Rattle.std.specs.Prelude.{◌≡◌, ◌≢◌, ◌≤◌, ◌⊎◌, [], ◌∷◌, true, false, map, codes, string_bytes};
 ghost use Rattle.tsp_io.specs.Counts.{Rose};
 ghost use Rattle.tsp_words.specs.Commands.{IsCommand, words_of};
 ghost use Rattle.tsp_words.specs.Serves.{IsServe};
@@ -117,7 +117,7 @@ fn run_command<S: Source, K: Sink, L: Link, T: Ticker>(
     }
 }
 
-/// Runs a daemon of one port; more ports aren't built yet.
+/// Runs a daemon.
 fn run_daemon<K: Sink, L: Link, T: Ticker>(
     alloc: Global,
     words: &ServeWords,
@@ -126,20 +126,15 @@ fn run_daemon<K: Sink, L: Link, T: Ticker>(
     ticker: &mut T,
 ) -> Status
     requires { IsServe words.now }
-    ensures runs { length words.now.ports ≡ 1 → RunsDaemon words.now (record { arrivals = L.arrivals link.old; tried = L.tried link.old; calls = L.calls link.old; readings = T.readings ticker.old; last = T.last ticker.old; wall = T.wall_is ticker.old; word = T.word_is ticker.old; written = K.written sink.old }) (record { arrivals = L.arrivals link.new; tried = L.tried link.new; calls = L.calls link.new; readings = T.readings ticker.new; last = T.last ticker.new; wall = T.wall_is ticker.new; word = T.word_is ticker.new; written = K.written sink.new }) (L.faults link.old) (L.faults link.new) (K.faults sink.old) (K.faults sink.new) result }
-    ensures usage { length words.now.ports ≢ 1 → Says usage_line Status.Usage (K.written sink.old) (K.written sink.new) result × (link.new ≡ link.old) × (ticker.new ≡ ticker.old) }
-    ensures exact { result ≡ Status.Usage → length words.now.ports ≢ 1 }
+    ensures runs { RunsDaemon words.now (record { arrivals = L.arrivals link.old; tried = L.tried link.old; calls = L.calls link.old; readings = T.readings ticker.old; last = T.last ticker.old; wall = T.wall_is ticker.old; word = T.word_is ticker.old; written = K.written sink.old }) (record { arrivals = L.arrivals link.new; tried = L.tried link.new; calls = L.calls link.new; readings = T.readings ticker.new; last = T.last ticker.new; wall = T.wall_is ticker.new; word = T.word_is ticker.new; written = K.written sink.new }) (L.faults link.old) (L.faults link.new) (K.faults sink.old) (K.faults sink.new) result }
+    ensures used { result ≢ Status.Usage }
     ensures link { result ≡ Status.LinkFault → Rose (L.faults link.old) (L.faults link.new) }
     ensures later { (K.faults sink.old ≤ K.faults sink.new) × (L.faults link.old ≤ L.faults link.new) × (L.send_faults link.old ≤ L.send_faults link.new) × (T.last ticker.old ≤ T.last ticker.new) }
     ensures write { result ≡ Status.WriteFault → Rose (K.faults sink.old) (K.faults sink.new) }
     ensures still { (result ≢ Status.WriteFault → K.faults sink.new ≡ K.faults sink.old) × (result ≢ Status.LinkFault → L.faults link.new ≡ L.faults link.old) }
     ensures unread { result ≢ Status.ReadFault }
 {
-    if words.ports.count() == 1 {
-        Status::of_served(serve_words(alloc, words, sink, link, ticker))
-    } else {
-        say(sink, b"usage\n", Status::Usage)
-    }
+    Status::of_served(serve_words(alloc, words, sink, link, ticker))
 }
 
 /// Asks a daemon.

@@ -1,3 +1,4 @@
 pub mod LineLemmas
 pub mod SendLemmas
 pub mod SessionLemmas
+pub mod StrangerLemmas

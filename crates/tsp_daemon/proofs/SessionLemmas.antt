@@ -1,39 +1,36 @@
 -- How a turn lengthens a session.
-use Rattle.std.specs.Prelude.{◌≡◌, ◌<◌, ◌+◌, ◌||◌, ℕ, suc, Bool, true, false, List, [], ◌∷◌, ◌++◌, length, take, Option, Some, refl, All}
+use Rattle.std.specs.Prelude.{◌≡◌, ◌<◌, ◌+◌, ◌||◌, ℕ, suc, Bool, List, [], ◌∷◌, ◌++◌, length, take, Option, Some, refl}
 use Rattle.std.specs.Option.{option_map}
 use Rattle.std.proofs.Common.{ap, sym, subst, ◌∙◌, append-nil, arith, inl}
-use Rattle.std.proofs.lemmas.List.Elements.{All-map, All-weaker}
-use Rattle.tsp_base.specs.declared.act.Act.{Act}
-use Rattle.tsp_base.specs.declared.act.Act.TheVariants.{Post}
 use Rattle.tsp_base.specs.declared.act.Placed.{Placed}
 use Rattle.tsp_base.specs.declared.place.Place.TheVariants.{Peer, Stranger}
-use Rattle.tsp_base.specs.History.{Turned, Past, plain}
-use Rattle.tsp_base.specs.Joins.{first_port}
+use Rattle.tsp_base.specs.History.{Turned, dids}
 use Rattle.tsp_base.specs.NodeFacts.{tracing}
-use Rattle.tsp_base.specs.Performs.{Performs}
-use Rattle.tsp_base.specs.Rows.{grown}
 use Rattle.tsp_codec.specs.Taken.{taken_of}
-use Rattle.tsp_fit.specs.Strangers.{IsKnown, StrangersAreAnswered, is_strange}
-use Rattle.tsp_fit.proofs.CalmSteps.{strangers-answered}
+use Rattle.tsp_gateway.specs.declared.gateway.Gateway.{Gateway}
+use Rattle.tsp_gateway.specs.GatewayStands.{GatewayStands, GatewayBegun}
+use Rattle.tsp_gateway.specs.PortOf.{setups_in}
+use Rattle.tsp_gateway.proofs.PortOfLemmas.{setups-stand}
+use Rattle.tsp_gateway.proofs.StepLemmas.{GatewayBegun_in_step}
 use Rattle.tsp_io.specs.Clocks.{TakesReading}
 use Rattle.tsp_io.specs.Counts.{one_more}
 use Rattle.tsp_io.specs.Links.{Arrival, Tried, Receives, TakesDatagram, TakesNothing}
 use Rattle.tsp_io.specs.Streams.{Grows}
 use Rattle.tsp_io.specs.declared.link.Recv.{Recv}
 use Rattle.tsp_io.specs.declared.link.Recv.TheVariants.{Datagram, Nothing, Failed}
-use Rattle.tsp_node.specs.declared.node.Node.{Node}
-use Rattle.tsp_node.specs.NodeStands.{NodeStands, Begun}
 use Rattle.tsp_query.specs.Asked.{next_arrival, rest_of}
 use Rattle.tsp_query.specs.Clocks.{reading}
 use Rattle.tsp_query.specs.Ends.{Outside, Tells}
-use Rattle.tsp_rules.specs.Answers.{Given, Turn, Got, answers}
-use Rattle.tsp_node.proofs.StepLemmas.{Begun_in_step}
+use Rattle.tsp_rules.specs.GateRows.{NodeGiven, NodeTurn, GotOn, answers_all}
+use Rattle.tsp_rules.specs.NodePerforms.{PerformsAll}
+use Rattle.tsp_rules.specs.NodeRows.{NodePast, PortSetup, spread}
 use Rattle.tsp_daemon.specs.declared.course.Course.{Course}
 use Rattle.tsp_daemon.specs.declared.end.ServeEnd.{ServeEnd}
 use Rattle.tsp_daemon.specs.declared.end.ServeEnd.TheVariants.{Done, LinkFault, WriteFault, OutOfMemory}
 use Rattle.tsp_daemon.specs.Ends.{given_by, TriesAll, FinishesUntil, Lives, IsAt, EndsTurn, Serves}
 use Rattle.tsp_daemon.specs.Posts.{sends_of, shown_lines, AreKnown}
-use Rattle.tsp_daemon.specs.Sessions.{Session, given_of, unheard, waited, tick_of, begun, acts_in, past_after, shown, turned, after_turns}
+use Rattle.tsp_daemon.specs.Sessions.{Session, port_from, given_of, unheard, waited, tick_of, begun, acts_in, past_after, shown, turned, after_turns}
+use Rattle.tsp_daemon.proofs.StrangerLemmas.{is_strange_on, known_any, known_steps}
 
 -- a told reading is the next
 pub reading_taken : (xs : List ℕ) (readings rest : Option (List ℕ)) (last tick : ℕ) → readings ≡ Some xs → TakesReading readings rest last tick → (rest ≡ Some (rest_of xs)) × (tick ≡ reading last xs 0)
@@ -41,30 +38,30 @@ reading_taken [] readings rest last tick is takes = subst (λ r. TakesReading r 
 reading_taken (x ∷ xs) readings rest last tick is takes = subst (λ r. TakesReading r rest last tick) is takes
 
 -- a told arrival is the next, and the node is given it
-received_is : (arriving : List Arrival) (arrivals rest : Option (List Arrival)) (stranger now : Bool) (r : Recv) (buf : List ℕ) → arrivals ≡ Some arriving → (r ≡ Failed → ⊥) → Receives arrivals rest stranger now r buf →
-    (rest ≡ Some (rest_of arriving)) × (given_by r buf ≡ given_of (next_arrival arriving))
-received_is arriving arrivals rest stranger now (Datagram from count) buf is ok got = by_datagram (subst (λ a. TakesDatagram a rest from (take count buf)) is got.1) where
-  by_datagram : TakesDatagram (Some arriving) rest from (take count buf) → (rest ≡ Some (rest_of arriving)) × (given_by (Datagram from count) buf ≡ given_of (next_arrival arriving))
-  by_datagram t = (t.3 ∙ ap (λ (xs : List Arrival). Some (rest_of xs)) (sym t.2), ap (λ (o : List ℕ). Got from (taken_of o)) t.4 ∙ ap (λ (xs : List Arrival). given_of (next_arrival xs)) (sym t.2))
-received_is arriving arrivals rest stranger now Nothing buf is ok got = by_nothing arriving (subst (λ a. TakesNothing a rest) is got.0) where
-  by_nothing : (xs : List Arrival) → TakesNothing (Some xs) rest → (rest ≡ Some (rest_of xs)) × (Turn ≡ given_of (next_arrival xs))
+received_is : (ports : List PortSetup) (arriving : List Arrival) (arrivals rest : Option (List Arrival)) (stranger now : Bool) (r : Recv) (buf : List ℕ) → arrivals ≡ Some arriving → (r ≡ Failed → ⊥) → Receives arrivals rest stranger now r buf →
+    (rest ≡ Some (rest_of arriving)) × (given_by ports r buf ≡ given_of ports (next_arrival arriving))
+received_is ports arriving arrivals rest stranger now (Datagram from count) buf is ok got = by_datagram (subst (λ a. TakesDatagram a rest from (take count buf)) is got.1) where
+  by_datagram : TakesDatagram (Some arriving) rest from (take count buf) → (rest ≡ Some (rest_of arriving)) × (given_by ports (Datagram from count) buf ≡ given_of ports (next_arrival arriving))
+  by_datagram t = (t.3 ∙ ap (λ (xs : List Arrival). Some (rest_of xs)) (sym t.2), ap (λ (o : List ℕ). GotOn (port_from ports from) from (taken_of o)) t.4 ∙ ap (λ (xs : List Arrival). given_of ports (next_arrival xs)) (sym t.2))
+received_is ports arriving arrivals rest stranger now Nothing buf is ok got = by_nothing arriving (subst (λ a. TakesNothing a rest) is got.0) where
+  by_nothing : (xs : List Arrival) → TakesNothing (Some xs) rest → (rest ≡ Some (rest_of xs)) × (NodeTurn ≡ given_of ports (next_arrival xs))
   by_nothing [] t = (t, refl)
-  by_nothing (a ∷ after) t = (t.1, ap (λ (b : Arrival). given_of b) (sym t.0))
-received_is arriving arrivals rest stranger now Failed buf is ok got = absurd (ok refl)
+  by_nothing (a ∷ after) t = (t.1, ap (λ (b : Arrival). given_of ports b) (sym t.0))
+received_is ports arriving arrivals rest stranger now Failed buf is ok got = absurd (ok refl)
 
 -- what a turn has read and heard when its node steps
-pub record Waits (o : Outside) (r : Recv) (buf : List ℕ) (tick : ℕ) (arrivals : Option (List Arrival)) (tried : Option (List Tried)) (calls : Option ℕ) (readings : Option (List ℕ)) (last : ℕ) : Type 0 where
+pub record Waits (ports : List PortSetup) (o : Outside) (r : Recv) (buf : List ℕ) (tick : ℕ) (arrivals : Option (List Arrival)) (tried : Option (List Tried)) (calls : Option ℕ) (readings : Option (List ℕ)) (last : ℕ) : Type 0 where
   pub tells : Tells (waited o) arrivals tried calls readings last
-  pub given_is : given_by r buf ≡ given_of (next_arrival o.arrivals)
+  pub given_is : given_by ports r buf ≡ given_of ports (next_arrival o.arrivals)
   pub tick_is : tick ≡ (waited o).last
 
-pub waits_is : (o : Outside) (arrivals now_arrivals : Option (List Arrival)) (tried now_tried : Option (List Tried)) (calls now_calls : Option ℕ) (readings between now_readings : Option (List ℕ)) (last first last_between tick now_last : ℕ) (stranger now : Bool) (r : Recv) (buf : List ℕ) →
+pub waits_is : (ports : List PortSetup) (o : Outside) (arrivals now_arrivals : Option (List Arrival)) (tried now_tried : Option (List Tried)) (calls now_calls : Option ℕ) (readings between now_readings : Option (List ℕ)) (last first last_between tick now_last : ℕ) (stranger now : Bool) (r : Recv) (buf : List ℕ) →
     Tells o arrivals tried calls readings last → TakesReading readings between last first → last_between ≡ first → Receives arrivals now_arrivals stranger now r buf → (r ≡ Failed → ⊥) → now_tried ≡ tried → now_calls ≡ option_map one_more calls →
-    TakesReading between now_readings last_between tick → now_last ≡ tick → Waits o r buf tick now_arrivals now_tried now_calls now_readings now_last
-waits_is o arrivals now_arrivals tried now_tried calls now_calls readings between now_readings last first last_between tick now_last stranger now r buf t one one_is got ok same counted two two_is =
+    TakesReading between now_readings last_between tick → now_last ≡ tick → Waits ports o r buf tick now_arrivals now_tried now_calls now_readings now_last
+waits_is ports o arrivals now_arrivals tried now_tried calls now_calls readings between now_readings last first last_between tick now_last stranger now r buf t one one_is got ok same counted two two_is =
     let a = reading_taken o.readings readings between last first t.readings_are one in
     let b = reading_taken (rest_of o.readings) between now_readings last_between tick a.0 two in
-    let c = received_is o.arrivals arrivals now_arrivals stranger now r buf t.arrivals_are ok got in
+    let c = received_is ports o.arrivals arrivals now_arrivals stranger now r buf t.arrivals_are ok got in
     let from : last_between ≡ reading o.last o.readings 0 = one_is ∙ a.1 ∙ ap (λ n. reading n o.readings 0) t.last_is in
     let to : tick ≡ (waited o).last = b.1 ∙ ap (λ n. reading n (rest_of o.readings) 0) from in
     record {
@@ -95,33 +92,35 @@ unheard_is o arrivals now_arrivals tried now_tried calls now_calls readings betw
     }
 
 -- what a turn's step has come to
-pub record Steps (s : Session) (next : Node) (course : Course) (tick : ℕ) (acts : List Placed) (on : Bool) : Type 0 where
-  pub stands : NodeStands (past_after s) next
+pub record Steps (s : Session) (next : Gateway) (course : Course) (tick : ℕ) (acts : List Placed) (on : Bool) : Type 0 where
+  pub stands : GatewayStands (past_after s) next
   pub acts_are : acts ≡ acts_in s
   pub text_is : shown_lines on (course.turns + 1) tick course.posts acts ≡ shown s
 
-pub steps_is : (s : Session) (node next : Node) (course : Course) (r : Recv) (buf : List ℕ) (tick : ℕ) (acts : List Placed) (arrivals : Option (List Arrival)) (tried : Option (List Tried)) (calls : Option ℕ) (readings : Option (List ℕ)) (last : ℕ) (before after on : Bool) →
-    NodeStands s.past node → course.turns ≡ s.turns → course.posts ≡ s.posts → Waits s.outside r buf tick arrivals tried calls readings last →
-    Performs Begun NodeStands (answers (given_by r buf)) tick first_port node next [] acts → before ≡ tracing (plain s.past.seen) → ((past : Past) → NodeStands past next → after ≡ tracing (plain past.seen)) → on ≡ (before || after) → Steps s next course tick acts on
+pub steps_is : (s : Session) (node next : Gateway) (course : Course) (r : Recv) (buf : List ℕ) (tick : ℕ) (acts : List Placed) (arrivals : Option (List Arrival)) (tried : Option (List Tried)) (calls : Option ℕ) (readings : Option (List ℕ)) (last : ℕ) (before after on : Bool) →
+    GatewayStands s.past node → course.turns ≡ s.turns → course.posts ≡ s.posts → Waits s.past.ports s.outside r buf tick arrivals tried calls readings last →
+    PerformsAll GatewayBegun GatewayStands (answers_all (given_by (setups_in node) r buf)) tick node next [] acts → before ≡ tracing (dids s.past.lines) → ((past : NodePast) → GatewayStands past next → after ≡ tracing (dids past.lines)) → on ≡ (before || after) → Steps s next course tick acts on
 steps_is s node next course r buf tick acts arrivals tried calls readings last before after on stands turns posts w row before_is after_is on_is =
-    let begins = Begun_in_step (record { at = tick_of s; node = 0; cause = Turned }) (tick_of s) s.past node stands in
-    let here = subst (λ x. Performs Begun NodeStands (answers (given_of (next_arrival s.outside.arrivals))) x first_port node next [] acts) w.tick_is (subst (λ g. Performs Begun NodeStands (answers g) tick first_port node next [] acts) w.given_is row) in
+    let begins = GatewayBegun_in_step (record { at = tick_of s; node = 0; cause = Turned }) (tick_of s) s.past node stands in
+    let set_up = subst (λ ports. PerformsAll GatewayBegun GatewayStands (answers_all (given_by ports r buf)) tick node next [] acts) (setups-stand s.past node stands) row in
+    let given = subst (λ g. PerformsAll GatewayBegun GatewayStands (answers_all g) tick node next [] acts) w.given_is set_up in
+    let here = subst (λ x. PerformsAll GatewayBegun GatewayStands (answers_all (given_of s.past.ports (next_arrival s.outside.arrivals))) x node next [] acts) w.tick_is given in
     let are : acts ≡ acts_in s = here.acts (begun (tick_of s) s.past) begins in
-    let stands_then : NodeStands (past_after s) next = here.stands (begun (tick_of s) s.past) begins in
+    let stands_then : GatewayStands (past_after s) next = here.stands (begun (tick_of s) s.past) begins in
     record {
       stands = stands_then;
       acts_are = are;
       text_is =
-          ap (λ b. shown_lines b (course.turns + 1) tick course.posts acts) (on_is ∙ ap (λ b. b || after) before_is ∙ ap (λ b. tracing (plain s.past.seen) || b) (after_is (past_after s) stands_then))
-          ∙ ap (λ n. shown_lines (tracing (plain s.past.seen) || tracing (plain (past_after s).seen)) (n + 1) tick course.posts acts) turns
-          ∙ ap (λ x. shown_lines (tracing (plain s.past.seen) || tracing (plain (past_after s).seen)) (s.turns + 1) x course.posts acts) w.tick_is
-          ∙ ap (λ n. shown_lines (tracing (plain s.past.seen) || tracing (plain (past_after s).seen)) (s.turns + 1) (tick_of s) n acts) posts
-          ∙ ap (λ ps. shown_lines (tracing (plain s.past.seen) || tracing (plain (past_after s).seen)) (s.turns + 1) (tick_of s) s.posts ps) are;
+          ap (λ b. shown_lines b (course.turns + 1) tick course.posts acts) (on_is ∙ ap (λ b. b || after) before_is ∙ ap (λ b. tracing (dids s.past.lines) || b) (after_is (past_after s) stands_then))
+          ∙ ap (λ n. shown_lines (tracing (dids s.past.lines) || tracing (dids (past_after s).lines)) (n + 1) tick course.posts acts) turns
+          ∙ ap (λ x. shown_lines (tracing (dids s.past.lines) || tracing (dids (past_after s).lines)) (s.turns + 1) x course.posts acts) w.tick_is
+          ∙ ap (λ n. shown_lines (tracing (dids s.past.lines) || tracing (dids (past_after s).lines)) (s.turns + 1) (tick_of s) n acts) posts
+          ∙ ap (λ ps. shown_lines (tracing (dids s.past.lines) || tracing (dids (past_after s).lines)) (s.turns + 1) (tick_of s) s.posts ps) are;
     }
 
 -- the session after a whole turn
-pub turned_is : (s : Session) (next : Node) (course : Course) (r : Recv) (buf : List ℕ) (tick : ℕ) (acts : List Placed) (arrivals now_arrivals : Option (List Arrival)) (tried now_tried : Option (List Tried)) (calls now_calls : Option ℕ) (readings : Option (List ℕ)) (last : ℕ) (written now : Option (List ℕ)) (turns posts : ℕ) (on : Bool) →
-    course.turns ≡ s.turns → course.posts ≡ s.posts → written ≡ Some s.written → Waits s.outside r buf tick arrivals tried calls readings last → Steps s next course tick acts on → now_arrivals ≡ arrivals → now_calls ≡ calls →
+pub turned_is : (s : Session) (next : Gateway) (course : Course) (r : Recv) (buf : List ℕ) (tick : ℕ) (acts : List Placed) (arrivals now_arrivals : Option (List Arrival)) (tried now_tried : Option (List Tried)) (calls now_calls : Option ℕ) (readings : Option (List ℕ)) (last : ℕ) (written now : Option (List ℕ)) (turns posts : ℕ) (on : Bool) →
+    course.turns ≡ s.turns → course.posts ≡ s.posts → written ≡ Some s.written → Waits s.past.ports s.outside r buf tick arrivals tried calls readings last → Steps s next course tick acts on → now_arrivals ≡ arrivals → now_calls ≡ calls →
     TriesAll (sends_of acts) tried now_tried → Grows written now (shown_lines on (course.turns + 1) tick course.posts acts) →
     turns ≡ course.turns + 1 → posts ≡ course.posts + length (sends_of acts) →
     IsAt (turned s) next (record { turns = turns; posts = posts }) now_arrivals now_tried now_calls readings last now
@@ -140,8 +139,8 @@ turned_is s next course r buf tick acts arrivals now_arrivals tried now_tried ca
 }
 
 -- a turn was cut off when its sends or its lines were on their way
-pub ends_is : (s : Session) (next : Node) (course : Course) (r : Recv) (buf : List ℕ) (tick : ℕ) (acts : List Placed) (arrivals now_arrivals : Option (List Arrival)) (tried now_tried : Option (List Tried)) (calls now_calls : Option ℕ) (readings : Option (List ℕ)) (last : ℕ) (written now : Option (List ℕ)) (on : Bool) (end : ServeEnd) →
-    written ≡ Some s.written → Waits s.outside r buf tick arrivals tried calls readings last → Steps s next course tick acts on → now_arrivals ≡ arrivals → now_calls ≡ calls →
+pub ends_is : (s : Session) (next : Gateway) (course : Course) (r : Recv) (buf : List ℕ) (tick : ℕ) (acts : List Placed) (arrivals now_arrivals : Option (List Arrival)) (tried now_tried : Option (List Tried)) (calls now_calls : Option ℕ) (readings : Option (List ℕ)) (last : ℕ) (written now : Option (List ℕ)) (on : Bool) (end : ServeEnd) →
+    written ≡ Some s.written → Waits s.past.ports s.outside r buf tick arrivals tried calls readings last → Steps s next course tick acts on → now_arrivals ≡ arrivals → now_calls ≡ calls →
     FinishesUntil (sends_of acts) (shown_lines on (course.turns + 1) tick course.posts acts) tried now_tried written now end →
     EndsTurn s now_arrivals now_tried now_calls readings last now end
 ends_is s next course r buf tick acts arrivals now_arrivals tried now_tried calls now_calls readings last written now on end written_is w steps same counted f =
@@ -163,34 +162,25 @@ pub ends_none : (s : Session) (tried : Option (List Tried)) (arrivals : Option (
 ends_none s tried arrivals calls readings last written t w = inl (([], sends_of (acts_in s), refl, t ∙ ap (λ (ts : List Tried). Some ts) (sym (append-nil s.outside.tried))), w)
 
 -- a node that lives through a step lives
-pub lives_on : (node next : Node) (g : Given) (tick : ℕ) (acts : List Placed) → Lives node → Performs Begun NodeStands (answers g) tick first_port node next [] acts → Lives next
+pub lives_on : (node next : Gateway) (g : NodeGiven) (tick : ℕ) (acts : List Placed) → Lives node → PerformsAll GatewayBegun GatewayStands (answers_all g) tick node next [] acts → Lives next
 lives_on node next g tick acts l row = record {
-  past = grown tick (begun tick l.past) (answers g tick (begun tick l.past));
-  stands = row.stands (begun tick l.past) (Begun_in_step _ tick l.past node l.stands);
+  past = spread tick (begun tick l.past) (answers_all g tick (begun tick l.past));
+  stands = row.stands (begun tick l.past) (GatewayBegun_in_step _ tick l.past node l.stands);
 }
 
--- a post to a stranger answers one
-known_answers : StrangersAreAnswered
-known_answers = strangers-answered
+-- what may go to a stranger where one is answered
+known_by : (ports : List PortSetup) (r : Recv) (buf : List ℕ) (arrivals rest : Option (List Arrival)) (stranger now : Bool) (acts : List Placed) → Receives arrivals rest stranger now r buf → AreKnown (is_strange_on (given_by ports r buf)) acts → AreKnown now acts
+known_by ports (Datagram Stranger count) buf arrivals rest stranger now acts got k = subst (λ b. AreKnown b acts) (sym got.2) k
+known_by ports (Datagram (Peer p) count) buf arrivals rest stranger now acts got k = subst (λ b. AreKnown b acts) (sym got.2) k
+known_by ports Nothing buf arrivals rest stranger now acts got k = known_any now acts k
+known_by ports Failed buf arrivals rest stranger now acts got k = known_any now acts k
 
-known_any : (b : Bool) (a : Act) → IsKnown false a → IsKnown b a
-known_any true (Post Stranger d) k = refl
-known_any false (Post Stranger d) k = k
-known_any b (Post (Peer p) d) k = tt
-known_any b _ k = tt
-
-known_by : (r : Recv) (buf : List ℕ) (arrivals rest : Option (List Arrival)) (stranger now : Bool) (acts : List Act) → Receives arrivals rest stranger now r buf → All (IsKnown (is_strange (given_by r buf))) acts → All (IsKnown now) acts
-known_by (Datagram Stranger count) buf arrivals rest stranger now acts got k = subst (λ b. All (IsKnown b) acts) (sym got.2) k
-known_by (Datagram (Peer p) count) buf arrivals rest stranger now acts got k = subst (λ b. All (IsKnown b) acts) (sym got.2) k
-known_by Nothing buf arrivals rest stranger now acts got k = All-weaker (IsKnown false) (IsKnown now) (known_any now) acts k
-known_by Failed buf arrivals rest stranger now acts got k = All-weaker (IsKnown false) (IsKnown now) (known_any now) acts k
-
-pub acts_known : (arrivals rest : Option (List Arrival)) (stranger now : Bool) (r : Recv) (buf : List ℕ) (tick : ℕ) (node next : Node) (acts : List Placed) → Receives arrivals rest stranger now r buf → Lives node →
-    Performs Begun NodeStands (answers (given_by r buf)) tick first_port node next [] acts → AreKnown now acts
+pub acts_known : (arrivals rest : Option (List Arrival)) (stranger now : Bool) (r : Recv) (buf : List ℕ) (tick : ℕ) (node next : Gateway) (acts : List Placed) → Receives arrivals rest stranger now r buf → Lives node →
+    PerformsAll GatewayBegun GatewayStands (answers_all (given_by (setups_in node) r buf)) tick node next [] acts → AreKnown now acts
 acts_known arrivals rest stranger now r buf tick node next acts got l row =
     let past = begun tick l.past in
-    let known = known_by r buf arrivals rest stranger now (answers (given_by r buf) tick past) got (known_answers (given_by r buf) tick past) in
-    subst (λ ps. AreKnown now ps) (sym (row.acts past (Begun_in_step _ tick l.past node l.stands))) (All-map (λ (p : Placed). IsKnown now p.act) _ (answers (given_by r buf) tick past) known)
+    let given = given_by (setups_in node) r buf in
+    subst (λ ps. AreKnown now ps) (sym (row.acts past (GatewayBegun_in_step _ tick l.past node l.stands))) (known_by (setups_in node) r buf arrivals rest stranger now (answers_all given tick past) got (known_steps given tick past))
 
 -- how a turn ends is how the session ends
 pub serves_until : (turns i : ℕ) (s : Session) (arrivals : Option (List Arrival)) (tried : Option (List Tried)) (calls : Option ℕ) (readings : Option (List ℕ)) (last : ℕ) (written : Option (List ℕ)) (end : ServeEnd) → i < turns →
@@ -201,6 +191,6 @@ serves_until turns i s arrivals tried calls readings last written WriteFault les
 serves_until turns i s arrivals tried calls readings last written OutOfMemory less h = (i, less, h)
 
 -- one turn more
-pub turns_more : (i : ℕ) (s : Session) (node : Node) (course : Course) (arrivals : Option (List Arrival)) (tried : Option (List Tried)) (calls : Option ℕ) (readings : Option (List ℕ)) (last : ℕ) (written : Option (List ℕ)) →
+pub turns_more : (i : ℕ) (s : Session) (node : Gateway) (course : Course) (arrivals : Option (List Arrival)) (tried : Option (List Tried)) (calls : Option ℕ) (readings : Option (List ℕ)) (last : ℕ) (written : Option (List ℕ)) →
     IsAt (turned (after_turns i s)) node course arrivals tried calls readings last written → IsAt (after_turns (i + 1) s) node course arrivals tried calls readings last written
 turns_more i s node course arrivals tried calls readings last written h = let one : suc i ≡ i + 1 = omega arith in subst (λ n. IsAt (after_turns n s) node course arrivals tried calls readings last written) one h

@@ -1,26 +1,26 @@
 -- How a daemon's session ends, and what is then sent and written.
 use Rattle.std.specs.Prelude.{◌≡◌, ◌⊎◌, ℕ, ◌<◌, ◌≤◌, List, ◌++◌, length, take, Option, Some}
 use Rattle.std.specs.Option.{option_map}
-use Rattle.tsp_base.specs.History.{Past}
 use Rattle.tsp_codec.specs.Taken.{taken_of}
+use Rattle.tsp_gateway.specs.declared.gateway.Gateway.{Gateway}
+use Rattle.tsp_gateway.specs.GatewayStands.{GatewayStands}
 use Rattle.tsp_io.specs.Links.{Arrival, Tried}
 use Rattle.tsp_io.specs.Streams.{Grows}
 use Rattle.tsp_io.specs.declared.link.Recv.{Recv}
 use Rattle.tsp_io.specs.declared.link.Recv.TheVariants.{Datagram}
-use Rattle.tsp_node.specs.declared.node.Node.{Node}
-use Rattle.tsp_node.specs.NodeStands.{NodeStands}
 use Rattle.tsp_query.specs.Ends.{Tells}
-use Rattle.tsp_rules.specs.Answers.{Given, Turn, Got}
+use Rattle.tsp_rules.specs.GateRows.{NodeGiven, NodeTurn, GotOn}
+use Rattle.tsp_rules.specs.NodeRows.{NodePast, PortSetup}
 use Rattle.tsp_daemon.specs.declared.course.Course.{Course}
 use Rattle.tsp_daemon.specs.declared.end.ServeEnd.{ServeEnd}
 use Rattle.tsp_daemon.specs.declared.end.ServeEnd.TheVariants.{Done, LinkFault, WriteFault, OutOfMemory}
 use Rattle.tsp_daemon.specs.Posts.{sends_of}
-use Rattle.tsp_daemon.specs.Sessions.{Session, acts_in, shown, turned, after_turns, unheard}
+use Rattle.tsp_daemon.specs.Sessions.{Session, port_from, acts_in, shown, turned, after_turns, unheard}
 
--- what a node is given by what a receive gave
-abbrev pub given_by : Recv → List ℕ → Given
-given_by (Datagram from count) octets = Got from (taken_of (take count octets))
-given_by _ octets = Turn
+-- what a node with these ports is given by what a receive gave
+abbrev pub given_by : List PortSetup → Recv → List ℕ → NodeGiven
+given_by ports (Datagram from count) octets = GotOn (port_from ports from) from (taken_of (take count octets))
+given_by ports _ octets = NodeTurn
 
 -- the octets that a receive counts lie in the buffer
 abbrev pub IsCount : Recv → ℕ → Type 0
@@ -56,13 +56,13 @@ FinishesUntil sends text tried more written now OutOfMemory = (TriesSome sends t
 FinishesUntil sends text tried more written now end = TriesAll sends tried more × TellsUntil text written now end
 
 -- the node stands for some past
-pub record Lives (node : Node) : Type 0 where
-  pub past : Past
-  pub stands : NodeStands past node
+pub record Lives (node : Gateway) : Type 0 where
+  pub past : NodePast
+  pub stands : GatewayStands past node
 
 -- the node, the course and what is told of the outside are where a session has come to
-pub record IsAt (s : Session) (node : Node) (course : Course) (arrivals : Option (List Arrival)) (tried : Option (List Tried)) (calls : Option ℕ) (readings : Option (List ℕ)) (last : ℕ) (written : Option (List ℕ)) : Type 0 where
-  pub stands : NodeStands s.past node
+pub record IsAt (s : Session) (node : Gateway) (course : Course) (arrivals : Option (List Arrival)) (tried : Option (List Tried)) (calls : Option ℕ) (readings : Option (List ℕ)) (last : ℕ) (written : Option (List ℕ)) : Type 0 where
+  pub stands : GatewayStands s.past node
   pub turns_is : course.turns ≡ s.turns
   pub posts_is : course.posts ≡ s.posts
   pub tells : Tells s.outside arrivals tried calls readings last

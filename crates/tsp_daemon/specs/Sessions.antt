@@ -1,23 +1,27 @@
 -- A session of the daemon: what its node does turn after turn, what is sent, and what is shown.
 use Rattle.std.specs.Prelude.{ℕ, zero, suc, ◌+◌, ◌||◌, List, ◌++◌, length, take, None, Some}
 use Rattle.tsp_base.specs.declared.act.Placed.{Placed}
-use Rattle.tsp_base.specs.History.{Turned, Past, plain}
+use Rattle.tsp_base.specs.declared.place.Place.{Place}
+use Rattle.tsp_base.specs.declared.place.Place.TheVariants.{Peer, Stranger}
+use Rattle.tsp_base.specs.declared.place.Port.{Port}
+use Rattle.tsp_base.specs.History.{Turned, dids}
 use Rattle.tsp_base.specs.Joins.{first_port}
 use Rattle.tsp_base.specs.NodeFacts.{tracing}
-use Rattle.tsp_base.specs.Rows.{grown, in_step, placed}
 use Rattle.tsp_codec.specs.Taken.{taken_of}
+use Rattle.tsp_gateway.specs.PortOf.{port_of}
 use Rattle.tsp_io.specs.Counts.{one_more}
 use Rattle.tsp_io.specs.Links.{Arrival}
 use Rattle.tsp_query.specs.Asked.{next_arrival, rest_of}
 use Rattle.tsp_query.specs.Clocks.{reading}
 use Rattle.tsp_query.specs.Ends.{Outside, heard}
-use Rattle.tsp_rules.specs.Answers.{Given, Turn, Got, answers}
+use Rattle.tsp_rules.specs.GateRows.{NodeGiven, NodeTurn, GotOn, answers_all}
+use Rattle.tsp_rules.specs.NodeRows.{NodePast, PortSetup, in_node_step, spread}
 use Rattle.tsp_daemon.specs.Posts.{sends_of, shown_lines}
 
 -- how far a session has come
 pub record Session : Type 0 where
   -- the node's past
-  pub past : Past
+  pub past : NodePast
   -- what is to arrive and to be read, and what was sent and called
   pub outside : Outside
   -- the turns taken; the next one's number is one more
@@ -27,10 +31,15 @@ pub record Session : Type 0 where
   -- the octets written
   pub written : List ℕ
 
--- what a node is given by what arrives, of which 512 octets are read
-abbrev pub given_of : Arrival → Given
-given_of None = Turn
-given_of (Some (from, octets)) = Got from (taken_of (take 512 octets))
+-- the port on which a node takes what comes from somebody: from a peer the lowest one that has it as another's number, from a stranger the first
+abbrev pub port_from : List PortSetup → Place → Port
+port_from ports (Peer p) = port_of p ports
+port_from ports Stranger = first_port
+
+-- what a node with these ports is given by what arrives, of which 512 octets are read
+abbrev pub given_of : List PortSetup → Arrival → NodeGiven
+given_of ports None = NodeTurn
+given_of ports (Some (from, octets)) = GotOn (port_from ports from) from (taken_of (take 512 octets))
 
 -- the tick counter is read once
 abbrev pub read_once : Outside → Outside
@@ -49,20 +58,20 @@ abbrev pub tick_of : Session → ℕ
 tick_of s = (waited s.outside).last
 
 -- the past when the step of a turn begins at this tick
-abbrev pub begun : ℕ → Past → Past
-begun x past = in_step (record { at = x; node = 0; cause = Turned }) x past
+abbrev pub begun : ℕ → NodePast → NodePast
+begun x past = in_node_step (record { at = x; node = 0; cause = Turned }) x past
 
--- the acts of a turn: what the node answers to what came, at the second reading
+-- the acts of a turn, each with its port: what the node answers to what came, at the second reading
 abbrev pub acts_in : Session → List Placed
-acts_in s = placed first_port (answers (given_of (next_arrival s.outside.arrivals)) (tick_of s) (begun (tick_of s) s.past))
+acts_in s = answers_all (given_of s.past.ports (next_arrival s.outside.arrivals)) (tick_of s) (begun (tick_of s) s.past)
 
 -- the node's past after a turn
-abbrev pub past_after : Session → Past
-past_after s = grown (tick_of s) (begun (tick_of s) s.past) (answers (given_of (next_arrival s.outside.arrivals)) (tick_of s) (begun (tick_of s) s.past))
+abbrev pub past_after : Session → NodePast
+past_after s = spread (tick_of s) (begun (tick_of s) s.past) (acts_in s)
 
 -- the text that a turn shows: the lines of its acts, where the trace was on before the turn or is on after it
 abbrev pub shown : Session → List ℕ
-shown s = shown_lines (tracing (plain s.past.seen) || tracing (plain (past_after s).seen)) (s.turns + 1) (tick_of s) s.posts (acts_in s)
+shown s = shown_lines (tracing (dids s.past.lines) || tracing (dids (past_after s).lines)) (s.turns + 1) (tick_of s) s.posts (acts_in s)
 
 -- a turn
 abbrev pub turned : Session → Session

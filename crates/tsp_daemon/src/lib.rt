@@ -1,4 +1,4 @@
-//! The daemon: a node over a link, turn after turn.
+//! The daemon: a node on one network or several, over a link, turn after turn.
 //!
 //! [`serve::serve`] takes turns. Each waits for a datagram, lets the node step with what came, tries the sends that it
 //! asks for, and writes the lines of a traced step. What a session does is laid down by definitions over the node's rules

@@ -1,7 +1,8 @@
 //! The daemon's session.
-ghost use Rattle.std.specs.Prelude.{◌≡◌, ◌≢◌, ◌≤◌, ◌<◌, ◌*◌, ◌^◌, length};
+ghost use Rattle.std.specs.Prelude.{◌≡◌, ◌≢◌, ◌≤◌, ◌<◌, ◌*◌, ◌^◌};
 ghost use Rattle.tsp_io.specs.Counts.{Rose};
-ghost use Rattle.tsp_node.specs.NodeStands.{peers_in, clock_at, room_of};
+ghost use Rattle.tsp_gateway.specs.GatewayStands.{clock_at};
+ghost use Rattle.tsp_gateway.specs.Rooms.{ports_in, room_of_ports};
 ghost use Rattle.tsp_daemon.specs.Ends.{IsAt, Lives, Serves};
 ghost use Rattle.tsp_daemon.specs.Sessions.{Session};
 
@@ -10,34 +11,35 @@ use crate::end::ServeEnd;
 use crate::turn::turn;
 use std::alloc::Global;
 use tsp_base::pad::Pad;
+use tsp_gateway::Gateway;
 use tsp_io::link::Link;
 use tsp_io::sink::Sink;
 use tsp_io::ticker::Ticker;
-use tsp_node::Node;
 
 /// Runs a node over a link for so many turns; the node ends with the call.
 ///
 /// Each turn reads the ticker, receives, reads the ticker again, and lets the node step with the datagram that came, or
-/// with none. It tries one send for each datagram that the step posts, in order; one that fails is a lost datagram.
+/// with none. A peer's datagram comes on the lowest port that has the peer as another's number, and a stranger's on
+/// port 0. The turn tries one send for each datagram that the step posts, in order; one that fails is a lost datagram.
 /// Where the trace was on before the step or is on after it, the lines of its acts are written then: the turn's number
-/// from 1 stands for the event, the node has number 0, and datagrams are numbered from 0 over all turns. So they reach
-/// the sink before the next receive.
+/// from 1 stands for the event, the node has number 0, each act its port, and datagrams are numbered from 0 over all
+/// turns. So they reach the sink before the next receive.
 ///
 /// `LinkFault` comes only where a receive failed, and its count rose; `WriteFault` only where a write failed, and the
-/// sink's count rose. The node is one that stands for a past, as each does that `Node::boot` gave, and the turns are few
+/// sink's count rose. The node is one that stands for a past, as each does that `Gateway::boot` gave, and the turns are few
 /// enough that the numbers of their datagrams fit 64 bits.
 pub fn serve<K: Sink, L: Link, T: Ticker>(
     alloc: Global,
-    mut node: Node,
+    mut gateway: Gateway,
     turns: u64,
     sink: &mut K,
     link: &mut L,
     ticker: &mut T,
 ) -> ServeEnd
-    requires lives { Lives node }
-    requires later { clock_at node ≤ T.last ticker.old }
-    requires few { turns * room_of (length (peers_in node)) < 2 ^ 64 }
-    ensures serves { (s : Session) → IsAt s node (record { turns = 0; posts = 0 }) (L.arrivals link.old) (L.tried link.old) (L.calls link.old) (T.readings ticker.old) (T.last ticker.old) (K.written sink.old) →
+    requires lives { Lives gateway }
+    requires later { clock_at gateway ≤ T.last ticker.old }
+    requires few { turns * room_of_ports (ports_in gateway) < 2 ^ 64 }
+    ensures serves { (s : Session) → IsAt s gateway (record { turns = 0; posts = 0 }) (L.arrivals link.old) (L.tried link.old) (L.calls link.old) (T.readings ticker.old) (T.last ticker.old) (K.written sink.old) →
         Serves turns s (L.arrivals link.new) (L.tried link.new) (L.calls link.new) (T.readings ticker.new) (T.last ticker.new) (K.written sink.new) result }
     ensures later { (L.faults link.old ≤ L.faults link.new) × (L.send_faults link.old ≤ L.send_faults link.new) × (K.faults sink.old ≤ K.faults sink.new) × (T.last ticker.old ≤ T.last ticker.new) }
     ensures link { result ≡ ServeEnd.LinkFault → Rose (L.faults link.old) (L.faults link.new) }
@@ -47,7 +49,7 @@ pub fn serve<K: Sink, L: Link, T: Ticker>(
     let mut pad = Pad::new(alloc);
     let mut course = Course { turns: 0, posts: 0 };
     for _ in 0..turns {
-        if let Err(end) = turn(&mut node, &mut pad, &mut course, sink, link, ticker) {
+        if let Err(end) = turn(&mut gateway, &mut pad, &mut course, sink, link, ticker) {
             return end;
         }
     }

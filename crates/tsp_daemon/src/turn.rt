@@ -2,7 +2,8 @@
 ghost use Rattle.std.specs.Prelude.{◌≡◌, ◌≢◌, ◌≤◌, ◌<◌, ◌+◌, ◌^◌, length, IfErr, MatchResult, OnOk, Err};
 ghost use Rattle.tsp_io.specs.Counts.{Rose};
 ghost use Rattle.tsp_io.specs.Streams.{Grows};
-ghost use Rattle.tsp_node.specs.NodeStands.{peers_in, clock_at, room_of};
+ghost use Rattle.tsp_gateway.specs.GatewayStands.{clock_at};
+ghost use Rattle.tsp_gateway.specs.Rooms.{ports_in, room_of_ports};
 ghost use Rattle.tsp_daemon.specs.Ends.{IsAt, Lives, EndsTurn, FinishesUntil, TriesAll};
 ghost use Rattle.tsp_daemon.specs.Posts.{AreKnown, sends_of, shown_lines};
 ghost use Rattle.tsp_daemon.specs.Sessions.{Session, turned};
@@ -15,10 +16,10 @@ use crate::step::{make_room, step};
 use crate::wait::wait_until;
 use tsp_base::act::Placed;
 use tsp_base::pad::Pad;
+use tsp_gateway::Gateway;
 use tsp_io::link::{Link, Recv};
 use tsp_io::sink::Sink;
 use tsp_io::ticker::Ticker;
-use tsp_node::Node;
 
 /// Tries the sends of the acts of a turn, and then writes their lines where they are to be shown.
 fn finish<K: Sink, L: Link>(
@@ -51,7 +52,7 @@ fn finish<K: Sink, L: Link>(
 
 /// A turn: a reading, an arrival or nothing, a reading, the node's step, its sends, and the lines of a traced step.
 pub(crate) fn turn<K: Sink, L: Link, T: Ticker>(
-    node: &mut Node,
+    node: &mut Gateway,
     pad: &mut Pad,
     course: &mut Course,
     sink: &mut K,
@@ -60,15 +61,15 @@ pub(crate) fn turn<K: Sink, L: Link, T: Ticker>(
 ) -> Result<(), ServeEnd>
     requires lives { Lives node.old }
     requires later { clock_at node.old ≤ T.last ticker.old }
-    requires few { course.old.posts + room_of (length (peers_in node.old)) < 2 ^ 64 }
+    requires few { course.old.posts + room_of_ports (ports_in node.old) < 2 ^ 64 }
     requires turns { course.old.turns + 1 < 2 ^ 64 }
     ensures turns { (s : Session) → IsAt s node.old course.old (L.arrivals link.old) (L.tried link.old) (L.calls link.old) (T.readings ticker.old) (T.last ticker.old) (K.written sink.old) → MatchResult result
         (λ _. IsAt (turned s) node.new course.new (L.arrivals link.new) (L.tried link.new) (L.calls link.new) (T.readings ticker.new) (T.last ticker.new) (K.written sink.new))
         (EndsTurn s (L.arrivals link.new) (L.tried link.new) (L.calls link.new) (T.readings ticker.new) (T.last ticker.new) (K.written sink.new)) }
     ensures lives { OnOk result (Lives node.new) }
     ensures clock { OnOk result (clock_at node.new ≤ T.last ticker.new) }
-    ensures counts { OnOk result ((course.new.turns ≡ course.old.turns + 1) × (course.new.posts ≤ course.old.posts + room_of (length (peers_in node.old)))) }
-    ensures peers { OnOk result (peers_in node.new ≡ peers_in node.old) }
+    ensures counts { OnOk result ((course.new.turns ≡ course.old.turns + 1) × (course.new.posts ≤ course.old.posts + room_of_ports (ports_in node.old))) }
+    ensures ports { OnOk result (ports_in node.new ≡ ports_in node.old) }
     ensures later { (L.faults link.old ≤ L.faults link.new) × (L.send_faults link.old ≤ L.send_faults link.new) × (K.faults sink.old ≤ K.faults sink.new) × (T.last ticker.old ≤ T.last ticker.new) }
     ensures link { result ≡ Err ServeEnd.LinkFault → Rose (L.faults link.old) (L.faults link.new) }
     ensures write { result ≡ Err ServeEnd.WriteFault → Rose (K.faults sink.old) (K.faults sink.new) }

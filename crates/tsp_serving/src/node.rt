@@ -1,18 +1,20 @@
 //! The daemon's node, as its words set it up.
-ghost use Rattle.std.specs.Prelude.{◌≡◌, ◌≤◌, ◌∷◌, length, IfOk, IfErr, true, false};
+ghost use Rattle.std.specs.Prelude.{◌≡◌, ◌≤◌, ◌+◌, ◌*◌, [], ◌∷◌, ◌++◌, length, IfOk, IfErr, OnOk, true, false};
 ghost use Rattle.tsp_base.specs.Frames.{IsTick};
-ghost use Rattle.tsp_node.specs.NodeStands.{NodeStands, peers_in, clock_at};
+ghost use Rattle.tsp_gateway.specs.GatewayStands.{GatewayStands, clock_at};
+ghost use Rattle.tsp_gateway.specs.Rooms.{ports_in, room_of_ports};
 ghost use Rattle.tsp_rules.specs.Tests.{is_clock_value};
 ghost use Rattle.tsp_words.specs.Ports.{all_peers};
 ghost use Rattle.tsp_words.specs.Serves.{IsServe};
-ghost use Rattle.tsp_serving.specs.Nodes.{peers_below, may_be, is_strict, config_of, first_past};
+ghost use Rattle.tsp_serving.specs.Nodes.{port_peers, setup_of, may_be, is_strict, config_of, first_past};
 
 use std::alloc::{AllocError, Global};
 use tsp_base::desk::Desk;
 use tsp_base::pad::Pad;
 use tsp_base::place::PeerId;
+use tsp_gateway::{GateConfig, Gateway};
 use tsp_io::addr::Addr;
-use tsp_node::{BootFault, Config, Node};
+use tsp_node::BootFault;
 use tsp_words::serve::{Candidacy, ServeWords};
 
 /// Why the node doesn't boot.
@@ -35,15 +37,30 @@ pub(crate) fn addrs_of(alloc: Global, words: &ServeWords) -> Result<Vec<Addr>, A
     Ok(addrs)
 }
 
-/// The peers with numbers below this one, ascending.
-fn peers_below(alloc: Global, count: u32) -> Result<Vec<PeerId>, AllocError>
-    ensures { IfOk result (λ peers. peers.items ≡ peers_below count) }
+/// The peers of a port behind so many of earlier ports: the daemon itself, and so many more.
+fn port_peers(alloc: Global, done: u32, count: u32) -> Result<Vec<PeerId>, AllocError>
+    requires { done + count ≤ 999 }
+    ensures { IfOk result (λ peers. peers.items ≡ port_peers done count) }
 {
     let mut peers = Vec::new(alloc);
-    for number in 0..count {
-        peers.push(PeerId(number))?;
+    peers.push(PeerId(0))?;
+    for more in 0..count {
+        peers.push(PeerId(done + 1 + more))?;
     }
     Ok(peers)
+}
+
+/// Gives the node one port more, with so many peers behind those of earlier ports. The refusal is want of memory: a
+/// daemon has 4 ports at the most.
+fn join(alloc: Global, config: &mut GateConfig, done: u32, count: u32) -> Result<(), AllocError>
+    requires { done + count ≤ 999 }
+    ensures { OnOk result (config.new ≡ record config.old { ports = config.old.ports ++ setup_of done count ∷ [] }) }
+{
+    let peers = port_peers(alloc, done, count)?;
+    match config.port(PeerId(0), peers.as_slice()) {
+        Ok(()) => Ok(()),
+        Err(_) => Err(AllocError),
+    }
 }
 
 /// Whether a node may be master.
@@ -69,22 +86,20 @@ fn is_strict(candidacy: Candidacy) -> bool
 }
 
 /// What the node is set up with.
-fn config_of(alloc: Global, words: &ServeWords) -> Result<Config, AllocError>
+fn config_of(alloc: Global, words: &ServeWords) -> Result<GateConfig, AllocError>
     requires { length (all_peers words.now.ports) ≤ 999 }
     ensures { IfOk result (λ config. config ≡ config_of words.now) }
 {
-    let others = words.ports.peers(alloc)?;
-    let peers = peers_below(alloc, others.len() as u32 + 1)?;
     let may = may_be(words.candidacy);
     let strict = is_strict(words.candidacy);
-    Config::new(
-        alloc,
-        words.name.copy(),
-        PeerId(0),
-        peers.as_slice(),
-        may,
-        strict,
-    )
+    let mut config = GateConfig::new(alloc, words.name.copy(), may, strict)?;
+    let mut done = 0;
+    for port in 0..words.ports.count() {
+        let count = words.ports.get(port).len() as u32;
+        join(alloc, &mut config, done, count)?;
+        done += count;
+    }
+    Ok(config)
 }
 
 /// The node that boots at this tick and wall clock, with this word.
@@ -94,11 +109,11 @@ pub(crate) fn boot(
     tick: u64,
     wall: i64,
     word: u64,
-) -> Result<Node, Unbooted>
+) -> Result<Gateway, Unbooted>
     requires serve { IsServe words.now }
     requires tick { IsTick tick }
-    ensures stands { IfOk result (λ node. NodeStands (first_past words.now tick wall word) node) }
-    ensures peers { IfOk result (λ node. length (peers_in node) ≤ 1000) }
+    ensures stands { IfOk result (λ node. GatewayStands (first_past words.now tick wall word) node) }
+    ensures room { IfOk result (λ node. room_of_ports (ports_in node) ≤ 24 * 1003 + 4 * 256) }
     ensures clock { IfOk result (λ node. clock_at node ≡ tick) }
     ensures wall { IfOk result (λ node. is_clock_value wall ≡ true) }
     ensures cause { IfErr result (λ fault. fault ≡ Unbooted.BadWall → is_clock_value wall ≡ false) }
@@ -107,10 +122,10 @@ pub(crate) fn boot(
         return Err(Unbooted::OutOfMemory);
     };
     let mut pad = Pad::new(alloc);
-    if pad.reserve(3).is_err() {
+    if pad.reserve(12).is_err() {
         return Err(Unbooted::OutOfMemory);
     }
-    match Node::boot(alloc, &config, tick, wall, word, &mut pad) {
+    match Gateway::boot(alloc, &config, tick, wall, word, &mut pad) {
         Ok(node) => Ok(node),
         Err(BootFault::Range) => Err(Unbooted::BadWall),
         Err(BootFault::OutOfMemory) => Err(Unbooted::OutOfMemory),

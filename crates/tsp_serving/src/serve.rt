@@ -66,7 +66,7 @@ fn serve_bound<K: Sink, L: Link, T: Ticker>(
 ///
 /// The link is bound with the daemon's own address as peer 0, and then its peers in their order. The ticker's tick, wall
 /// and word are read once each, and the node boots with them; where the wall doesn't lie strictly between -2^31 and 2^31
-/// seconds, `bad wall` is written. Then the session takes its turns, as `tsp_daemon` has them. The words have one port.
+/// seconds, `bad wall` is written. Then the session takes its turns, as `tsp_daemon` has them.
 ///
 /// `LinkFault` comes only where the bind or a receive failed, and their count rose; `WriteFault` only where a write
 /// failed, and the sink's count rose.
@@ -77,8 +77,7 @@ pub fn serve_words<K: Sink, L: Link, T: Ticker>(
     link: &mut L,
     ticker: &mut T,
 ) -> Served
-    requires serve { IsServe words.now }
-    requires one { length words.now.ports ≡ 1 }
+    requires { IsServe words.now }
     ensures serves { (o : Outside) (wall : ℤ) (word : ℕ) (written : List ℕ)
         → Knows o wall word written (record { arrivals = L.arrivals link.old; tried = L.tried link.old; calls = L.calls link.old; readings = T.readings ticker.old; last = T.last ticker.old; wall = T.wall_is ticker.old; word = T.word_is ticker.old; written = K.written sink.old })
         → ServesAs words.now o wall word written (record { arrivals = L.arrivals link.new; tried = L.tried link.new; calls = L.calls link.new; readings = T.readings ticker.new; last = T.last ticker.new; wall = T.wall_is ticker.new; word = T.word_is ticker.new; written = K.written sink.new }) result }

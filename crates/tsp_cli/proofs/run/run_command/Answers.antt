@@ -1,7 +1,6 @@
-use Rattle.std.proofs.Common.{◌≡◌, ◌∙◌, sym, inl, inr, refl, eqb-true, eq-eqb, true, false}
+use Rattle.std.proofs.Common.{◌≡◌, ◌∙◌, sym, inl, inr, refl, true, false}
 use Rattle.tsp_cli.specs.Lines.{Replay, Show, Pack, Icmp}
 use Rattle.tsp_cli.proofs.RunLemmas.{Runs-treated, status_unlinked, status_used}
-use Rattle.tsp_cli.proofs.CommandLemmas.{ports_unbuilt}
 use Rattle.tsp_cli.proofs.run.run_command.Goals as goal
 
 pub returns-in-Replay-clause-does : goal.returns-in-Replay-clause-does
@@ -60,12 +59,10 @@ pub run_daemon-requires : goal.run_daemon-requires
 run_daemon-requires g c = rw c.in-Serve.is at c.requires.command
 
 pub returns-in-Serve-clause-does : goal.returns-in-Serve-clause-does
-returns-in-Serve-clause-does g c = λ built. rw c.in-Serve.is (c.run_daemon.ensures.runs (eqb-true _ 1 (rw c.in-Serve.is at built)))
+returns-in-Serve-clause-does g c = λ built. rw c.in-Serve.is c.run_daemon.ensures.runs
 
 pub returns-in-Serve-clause-usage : goal.returns-in-Serve-clause-usage
-returns-in-Serve-clause-usage g c = λ unbuilt.
-    let says = c.run_daemon.ensures.usage (λ one. let bad : true ≡ false = sym (eq-eqb _ 1 one) ∙ (rw c.in-Serve.is at unbuilt) in absurd (cc)) in
-    (says.0, refl, says.1, says.2)
+returns-in-Serve-clause-usage g c = λ unbuilt. let bad : true ≡ false = rw c.in-Serve.is at unbuilt in absurd (cc)
 
 pub returns-in-Serve-clause-untouched : goal.returns-in-Serve-clause-untouched
 returns-in-Serve-clause-untouched g c = rw c.in-Serve.is refl
@@ -101,7 +98,7 @@ pub returns-in-Icmp-clause-exact : goal.returns-in-Icmp-clause-exact
 returns-in-Icmp-clause-exact g c = λ e. absurd (status_used c.average.result (sym c.of-in-Icmp.ensures ∙ e))
 
 pub returns-in-Serve-clause-exact : goal.returns-in-Serve-clause-exact
-returns-in-Serve-clause-exact g c = λ e. rw c.in-Serve.is (ports_unbuilt _ (c.run_daemon.ensures.exact e))
+returns-in-Serve-clause-exact g c = λ e. absurd (c.run_daemon.ensures.used e)
 
 pub returns-in-Ask-clause-exact : goal.returns-in-Ask-clause-exact
 returns-in-Ask-clause-exact g c = λ e. absurd (c.run_query.ensures.used e)

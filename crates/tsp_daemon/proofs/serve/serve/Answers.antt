@@ -1,6 +1,6 @@
-use Rattle.std.proofs.Common.{◌≡◌, ◌∙◌, ◌+◌, ◌*◌, ap, arith, subst, length, List, Some}
+use Rattle.std.proofs.Common.{◌≡◌, ◌∙◌, ◌+◌, ◌*◌, ap, arith, subst, List, Some}
 use Rattle.tsp_base.specs.declared.place.PeerId.{PeerId}
-use Rattle.tsp_node.specs.NodeStands.{peers_in, room_of}
+use Rattle.tsp_gateway.specs.Rooms.{ports_in, room_of_ports}
 use Rattle.tsp_query.specs.Ends.{Tells}
 use Rattle.tsp_daemon.specs.Sessions.{after_turns}
 use Rattle.tsp_daemon.proofs.SessionLemmas.{serves_until, turns_more}
@@ -11,8 +11,8 @@ returns-in-Err-clause-serves g c s at = serves_until c.args.turns c.loop.counter
 
 pub loop-preserved : goal.loop-preserved
 loop-preserved g c =
-    let room = room_of (length (peers_in c.args.node)) in
-    let same : room_of (length (peers_in c.loop.node)) ≡ room = ap (λ (ps : List PeerId). room_of (length ps)) c.loop.invariant.peers in
+    let room = room_of_ports (ports_in c.args.gateway) in
+    let same : room_of_ports (ports_in c.loop.gateway) ≡ room = ap (λ (ps : List (List PeerId)). room_of_ports ps) c.loop.invariant.ports in
     let more : (c.loop.counter + 1) * room ≡ c.loop.counter * room + room = grind arith in
     record {
       at = λ s at. turns_more c.loop.counter s _ _ _ _ _ _ _ _ (c.in_default.ensures.turns (after_turns c.loop.counter s) (c.loop.invariant.at s at));
@@ -20,7 +20,7 @@ loop-preserved g c =
       clock = c.in_default.ensures.clock;
       turns = c.in_default.ensures.counts.0 ∙ ap (λ n. n + 1) c.loop.invariant.turns;
       posts = (let posts = c.in_default.ensures.counts.1 in omega (arith, posts, c.loop.invariant.posts, same, more));
-      peers = c.in_default.ensures.peers ∙ c.loop.invariant.peers;
+      ports = c.in_default.ensures.ports ∙ c.loop.invariant.ports;
       faults = c.in_default.ensures.still.0 (λ e. cc) ∙ c.loop.invariant.faults;
       send_faults = omega (arith, c.loop.invariant.send_faults, c.turn.ensures.later.1);
       writes = c.in_default.ensures.still.1 (λ e. cc) ∙ c.loop.invariant.writes;

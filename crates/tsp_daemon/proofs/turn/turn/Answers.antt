@@ -1,10 +1,10 @@
 use Rattle.std.proofs.Common.{rules, ◌≡◌, ◌+◌, List, [], ap, sym, subst, refl}
 use Rattle.tsp_base.specs.declared.act.Placed.{Placed}
-use Rattle.tsp_base.specs.Joins.{first_port}
-use Rattle.tsp_base.specs.Performs.{Performs}
 use Rattle.tsp_io.specs.declared.link.Recv.TheVariants.{Failed}
-use Rattle.tsp_node.specs.NodeStands.{NodeStands, Begun}
-use Rattle.tsp_rules.specs.Answers.{answers}
+use Rattle.tsp_gateway.specs.GatewayStands.{GatewayStands, GatewayBegun}
+use Rattle.tsp_gateway.specs.PortOf.{setups_in}
+use Rattle.tsp_rules.specs.GateRows.{answers_all}
+use Rattle.tsp_rules.specs.NodePerforms.{PerformsAll}
 use Rattle.tsp_daemon.specs.Ends.{given_by}
 use Rattle.tsp_daemon.specs.Posts.{AreKnown}
 use Rattle.tsp_daemon.proofs.SessionLemmas.{waits_is, steps_is, turned_is, ends_is, lives_on, acts_known}
@@ -17,16 +17,16 @@ finish-requires-clause-known g c =
 pub returns-in-Err-clause-turns : goal.returns-in-Err-clause-turns
 returns-in-Err-clause-turns g c s at =
     let ok : c.recv-received.result ≡ Failed → ⊥ = search rules in
-    let w = waits_is s.outside _ _ _ _ _ _ _ _ _ _ _ _ _ _ _ _ _ _ at.tells c.tick-first.ensures.takes c.tick-first.ensures.last c.recv-received.ensures.receives ok c.recv-received.ensures.same c.recv-received.ensures.counted c.tick-tick.ensures.takes c.tick-tick.ensures.last in
-    let row = subst (λ (ps : List Placed). Performs Begun NodeStands (answers (given_by c.recv-received.result c.recv-received.new.buf)) c.tick-tick.result first_port c.args.node.now c.step.new.node [] ps) (sym c.acts-acts.ensures) c.step.ensures.row in
+    let w = waits_is s.past.ports s.outside _ _ _ _ _ _ _ _ _ _ _ _ _ _ _ _ _ _ at.tells c.tick-first.ensures.takes c.tick-first.ensures.last c.recv-received.ensures.receives ok c.recv-received.ensures.same c.recv-received.ensures.counted c.tick-tick.ensures.takes c.tick-tick.ensures.last in
+    let row = subst (λ (ps : List Placed). PerformsAll GatewayBegun GatewayStands (answers_all (given_by (setups_in c.args.node.now) c.recv-received.result c.recv-received.new.buf)) c.tick-tick.result c.args.node.now c.step.new.node [] ps) (sym c.acts-acts.ensures) c.step.ensures.row in
     let steps = steps_is s _ _ c.args.course.now _ _ _ _ _ _ _ _ _ _ _ _ at.stands at.turns_is at.posts_is w row (c.tracing-before.ensures.past s.past at.stands) c.tracing.ensures.past c.is_shown-shown.ensures in
     ends_is s _ c.args.course.now _ _ _ _ _ _ _ _ _ _ _ _ _ _ _ c.in-Err.end at.written_is w steps c.finish.ensures.same.0 c.finish.ensures.same.1 c.in-Err.ensures.err
 
 pub returns-clause-turns : goal.returns-clause-turns
 returns-clause-turns g c s at =
     let ok : c.recv-received.result ≡ Failed → ⊥ = search rules in
-    let w = waits_is s.outside _ _ _ _ _ _ _ _ _ _ _ _ _ _ _ _ _ _ at.tells c.tick-first.ensures.takes c.tick-first.ensures.last c.recv-received.ensures.receives ok c.recv-received.ensures.same c.recv-received.ensures.counted c.tick-tick.ensures.takes c.tick-tick.ensures.last in
-    let row = subst (λ (ps : List Placed). Performs Begun NodeStands (answers (given_by c.recv-received.result c.recv-received.new.buf)) c.tick-tick.result first_port c.args.node.now c.step.new.node [] ps) (sym c.acts-acts.ensures) c.step.ensures.row in
+    let w = waits_is s.past.ports s.outside _ _ _ _ _ _ _ _ _ _ _ _ _ _ _ _ _ _ at.tells c.tick-first.ensures.takes c.tick-first.ensures.last c.recv-received.ensures.receives ok c.recv-received.ensures.same c.recv-received.ensures.counted c.tick-tick.ensures.takes c.tick-tick.ensures.last in
+    let row = subst (λ (ps : List Placed). PerformsAll GatewayBegun GatewayStands (answers_all (given_by (setups_in c.args.node.now) c.recv-received.result c.recv-received.new.buf)) c.tick-tick.result c.args.node.now c.step.new.node [] ps) (sym c.acts-acts.ensures) c.step.ensures.row in
     let steps = steps_is s _ _ c.args.course.now _ _ _ _ _ _ _ _ _ _ _ _ at.stands at.turns_is at.posts_is w row (c.tracing-before.ensures.past s.past at.stands) c.tracing.ensures.past c.is_shown-shown.ensures in
     let sent = c.in_default.ensures.ok in
     turned_is s _ c.args.course.now _ _ _ _ _ _ _ _ _ _ _ _ _ _ _ _ _ at.turns_is at.posts_is at.written_is w steps c.finish.ensures.same.0 c.finish.ensures.same.1 sent.0 sent.1 refl

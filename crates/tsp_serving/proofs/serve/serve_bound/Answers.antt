@@ -15,7 +15,7 @@ serve-requires-clause-lives g c =
     record { past = first_past c.args.words.now c.tick-tick.result c.wall-wall.result c.word-word.result; stands = rw back at c.in-Ok.ensures.stands }
 
 pub serve-requires-clause-few : goal.serve-requires-clause-few
-serve-requires-clause-few g c = turns_fit _ _ c.requires.serve.few c.in-Ok.ensures.peers
+serve-requires-clause-few g c = turns_fit _ _ c.requires.serve.few c.in-Ok.ensures.room
 
 pub returns-in-Ok-clause-serves : goal.returns-in-Ok-clause-serves
 returns-in-Ok-clause-serves g c = λ o wall word written k.

@@ -1,4 +1,4 @@
-use Rattle.std.proofs.Common.{◌∙◌, inl, inr, refl, ap, sym}
+use Rattle.std.proofs.Common.{◌∙◌, inl, inr, refl}
 use Rattle.tsp_query.specs.Told.{bound}
 use Rattle.tsp_query.proofs.ToldLemmas.{Tells_bound}
 use Rattle.tsp_serving.proofs.serve.serve_words.Goals as goal

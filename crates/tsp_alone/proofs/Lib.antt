@@ -1,0 +1,3 @@
+pub mod AloneLemmas
+pub mod RunLemmas
+pub mod SteadyLemmas

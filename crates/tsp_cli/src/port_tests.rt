@@ -1,0 +1,168 @@
+//! Runs of a daemon on two networks over a link and a ticker in memory, whose traces and datagrams were worked out by
+//! hand.
+use crate::run::run;
+use crate::status::Status;
+use std::alloc::{AllocError, Global};
+use std::process::Abort;
+use tsp_base::place::{PeerId, Place};
+use tsp_io::memory::{MemorySink, MemorySource};
+use tsp_io::memory_link::MemoryLink;
+use tsp_io::memory_ticker::MemoryTicker;
+
+/// Peer 1 on the first network, and peer 2 on the second.
+const A: Place = Place::Peer(PeerId(1));
+
+const B: Place = Place::Peer(PeerId(2));
+
+/// A daemon of six turns on two networks, with one peer on each.
+const WORDS: &[&str] = &[
+    "serve",
+    "127.0.0.1:525",
+    "g",
+    "s",
+    "6",
+    "127.0.0.1:526",
+    "+",
+    "127.0.0.1:527",
+];
+
+/// The ticks: one for the boot, and two for each turn.
+const TICKS: &[u64] = &[
+    0, 0, 10, 20, 80000000, 80000000, 81000000, 81000000, 82000000, 82000000, 83000000, 83000000,
+    84000000,
+];
+
+/// What comes in each turn: the trace is turned on; both networks are silent; each has a master; the one on the second
+/// corrects the clock in vain, and then the one on the first does.
+const COMES: &[Option<(Place, &[u8])>] = &[
+    Some((
+        Place::Stranger,
+        &[17, 1, 0, 2, 0, 0, 0, 0, 0, 0, 0, 0, b'x', 0],
+    )),
+    None,
+    Some((B, &[6, 1, 0, 0, 0, 0, 0, 0, 0, 0, 0, 0, b'b', 0])),
+    Some((A, &[6, 1, 0, 0, 0, 0, 0, 0, 0, 0, 0, 0, b'a', 0])),
+    Some((B, &[1, 1, 0, 7, 0, 0, 0, 0, 0, 0, 0, 1, b'b', 0])),
+    Some((A, &[1, 1, 0, 7, 0, 0, 0, 0, 0, 0, 0, 10, b'a', 0])),
+];
+
+/// What is shown of it.
+const SHOWN: &str = "\
+1 0 0 10 took - traceon 2 x
+1 0 0 10 trace on
+1 0 0 10 post 0 - ack 2 g
+2 0 0 80000000 ring quiet
+2 0 0 80000000 become loose
+2 0 0 80000000 arm search 85000000
+2 0 0 80000000 post 1 1 masterreq 0 g
+2 0 1 80000000 ring quiet
+2 0 1 80000000 become loose
+2 0 1 80000000 arm search 85000000
+2 0 1 80000000 post 2 2 masterreq 0 g
+3 0 1 81000000 took 2 masterup 0 b
+3 0 1 81000000 become follow 2
+3 0 1 81000000 arm elect 381000007
+3 0 1 81000000 post 3 2 slaveup 7 g
+4 0 0 82000000 took 1 masterup 0 a
+4 0 0 82000000 become follow 1
+4 0 0 82000000 arm elect 382000007
+4 0 0 82000000 post 4 1 slaveup 7 g
+5 0 1 83000000 took 2 adjtime 7 1 b
+6 0 0 84000000 took 1 adjtime 7 10 a
+6 0 0 84000000 correct 10 slew 84001000
+6 0 0 84000000 arm elect 384000007
+6 0 0 84000000 post 5 1 ack 7 g
+";
+
+/// What is sent: the acknowledgment of the trace, a request to each network for its master, a word to each of the two,
+/// and the acknowledgment of the correction.
+const SENT: &[(Place, &[u8])] = &[
+    (
+        Place::Stranger,
+        &[2, 1, 0, 2, 0, 0, 0, 0, 0, 0, 0, 0, b'g', 0],
+    ),
+    (A, &[3, 1, 0, 0, 0, 0, 0, 0, 0, 0, 0, 0, b'g', 0]),
+    (B, &[3, 1, 0, 0, 0, 0, 0, 0, 0, 0, 0, 0, b'g', 0]),
+    (B, &[7, 1, 0, 7, 0, 0, 0, 0, 0, 0, 0, 0, b'g', 0]),
+    (A, &[7, 1, 0, 7, 0, 0, 0, 0, 0, 0, 0, 0, b'g', 0]),
+    (A, &[2, 1, 0, 7, 0, 0, 0, 0, 0, 0, 0, 0, b'g', 0]),
+];
+
+/// A link over which this comes, one turn after the other.
+fn link_of(alloc: Global, comes: &[Option<(Place, &[u8])>]) -> Result<MemoryLink, AllocError> {
+    let mut link = MemoryLink::new(alloc, &[])?;
+    for one in comes {
+        match one {
+            Some((from, octets)) => link.arrive(*from, octets)?,
+            None => link.nothing()?,
+        }
+    }
+    Ok(link)
+}
+
+/// Whether octets are those of a message whose spelling begins so: zeros follow, up to 76.
+fn begins(octets: &[u8], front: &[u8]) -> bool {
+    octets.len() == 76
+        && octets.starts_with(front)
+        && octets.iter().skip(front.len()).all(|octet| *octet == 0)
+}
+
+/// Whether just these sends were tried.
+fn has_sent(link: &MemoryLink, sent: &[(Place, &[u8])]) -> bool {
+    for (i, (to, octets)) in sent.iter().enumerate() {
+        if i >= link.tried() {
+            return false;
+        }
+        if link.tried_to(i) != *to || !begins(link.tried_octets(i), octets) {
+            return false;
+        }
+    }
+    link.tried() == sent.len()
+}
+
+/// The words as the program gets them.
+fn words_of(alloc: Global, texts: &[&str]) -> Result<Vec<String>, AllocError> {
+    let mut words = Vec::new(alloc);
+    for text in texts {
+        words.push(String::from_str(alloc, text)?)?;
+    }
+    Ok(words)
+}
+
+/// Whether a daemon of these words ends with this status, has shown and sent this, and has used up its ticks.
+fn is_right(
+    alloc: Global,
+    words: &[&str],
+    status: Status,
+    shown: &str,
+    sent: &[(Place, &[u8])],
+    left: usize,
+) -> Result<bool, AllocError> {
+    let words = words_of(alloc, words)?;
+    let mut source = MemorySource::new(alloc, b"", &[0])?;
+    let mut sink = MemorySink::new(alloc, &[])?;
+    let mut link = link_of(alloc, COMES)?;
+    let mut ticker = MemoryTicker::new(alloc, TICKS, 1000, 7)?;
+    let words = words.as_slice();
+    let came = run(alloc, words, &mut source, &mut sink, &mut link, &mut ticker);
+    let text = sink.written() == shown.as_bytes();
+    Ok(came == status && text && has_sent(&link, sent) && ticker.left() == left)
+}
+
+/// Each peer's datagrams come on the network that has it, and each port's acts are shown with its number: the lowest
+/// port that follows steers the clock.
+#[test]
+fn two_networks_are_served(rt: HostRuntime) {
+    assert!(rt; is_right(rt.alloc(), WORDS, Status::Ok, SHOWN, SENT, 0) == Ok(true));
+}
+
+/// A fifth network is a wrong use, and so is a peer that stands in two networks: nothing is touched.
+#[test]
+fn more_networks_are_refused(rt: HostRuntime) {
+    let local = "127.0.0.1:525";
+    let peer = "127.0.0.1:526";
+    let five = &["serve", local, "g", "m", "1", "+", "+", "+", "+"];
+    assert!(rt; is_right(rt.alloc(), five, Status::Usage, "usage\n", &[], 13) == Ok(true));
+    let twice = &["serve", local, "g", "m", "1", peer, "+", peer];
+    assert!(rt; is_right(rt.alloc(), twice, Status::Usage, "usage\n", &[], 13) == Ok(true));
+}
