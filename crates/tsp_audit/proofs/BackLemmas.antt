@@ -1,0 +1,88 @@
+-- Backing, line by line.
+use Rattle.std.specs.Prelude.{◌≡◌, ◌==◌, ◌||◌, ◌&&◌, ◌≤◌, ◌+◌, ℕ, Bool, true, false, if◌then◌else◌, List, [], ◌∷◌, refl, MatchBool, None}
+use Rattle.std.proofs.Common.{subst, inl, inr, ◌⊎◌, eqb-true}
+use Rattle.tsp_base.specs.declared.act.Act.TheVariants.{Back, Become}
+use Rattle.tsp_base.specs.declared.constants.TheConstants.{HOLD}
+use Rattle.tsp_base.specs.declared.place.PeerId.{PeerId}
+use Rattle.tsp_base.specs.declared.place.Port.{Port}
+use Rattle.tsp_base.specs.declared.role.Role.TheVariants.{Candidate}
+use Rattle.tsp_base.specs.Everywhere.{Everywhere}
+use Rattle.tsp_base.specs.Fits.{node_of}
+use Rattle.tsp_base.specs.History.{Acts, Begins, Deed, Line, is_shared, of, seen_as, view}
+use Rattle.tsp_base.specs.OneBack.{BacksAt, HoldsAt, OneBack}
+use Rattle.tsp_base.specs.StepFacts.{is_unbacked, is_unbacked_after}
+use Rattle.tsp_base.proofs.EverywhereLemmas.{Everywhere-at, Everywhere-from}
+use Rattle.tsp_base.proofs.ViewPlaces.{or-false, port-same}
+use Rattle.tsp_audit.specs.Backing.{Backs, Settled, is_stand, is_standing}
+use Rattle.tsp_noted.specs.Holding.{Apart}
+
+kept : (b keep : Bool) → (if b then false else keep) ≡ true → keep ≡ true
+kept true keep e = let bad : ⊥ = cc in absurd bad
+kept false keep e = e
+
+standing : (deed : Deed) (own : ℕ) (keep : Bool) → is_unbacked_after deed own keep ≡ true → (keep ≡ true) ⊎ (is_standing deed ≡ true)
+standing Begins own keep e = inl (let bad : ⊥ = cc in absurd bad)
+standing (Acts (Become Candidate)) own keep e = inr refl
+standing (Acts (Back p)) own keep e = inl (kept (p.0 == own) keep e)
+standing _ own keep e = inl e
+
+own-deed : (deed : Deed) → is_standing deed ≡ true → is_shared deed ≡ false
+own-deed (Acts (Become Candidate)) e = refl
+own-deed _ e = let bad : ⊥ = cc in absurd bad
+
+-- a line makes port q of node n a candidate
+pub record Stands (l : Line) (n : ℕ) (q : Port) : Type 0 where
+  pub is : is_stand l ≡ true
+  pub node : node_of l ≡ n
+  pub port : l.port ≡ q
+
+by_port : (l : Line) (h : List Line) (n : ℕ) (q : Port) → (node_of l == n) ≡ true → (c : Bool) → ((l.port.0 == q.0) || is_shared l.did.deed) ≡ c →
+    is_unbacked (seen_as ((l.port.0 == q.0) || is_shared l.did.deed) l.did ∷ view q (of n h)) ≡ true → (is_unbacked (view q (of n h)) ≡ true) ⊎ Stands l n q
+by_port l h n q node false s e = inl (rw s at e)
+by_port l h n q node true s e = elim (standing l.did.deed l.did.step.node (is_unbacked (view q (of n h))) (rw s at e)) [
+  | inl k ↦ inl k
+  | inr k ↦ inr (record { is = k; node = eqb-true (node_of l) n node; port = port-same l.port q (or-false (l.port.0 == q.0) (is_shared l.did.deed) s (own-deed l.did.deed k)) })
+]
+
+by_node : (l : Line) (h : List Line) (n : ℕ) (q : Port) (b : Bool) → (node_of l == n) ≡ b → is_unbacked (view q (of n (l ∷ h))) ≡ true → (is_unbacked (view q (of n h)) ≡ true) ⊎ Stands l n q
+by_node l h n q true same e = by_port l h n q same ((l.port.0 == q.0) || is_shared l.did.deed) refl (rw same at e)
+by_node l h n q false same e = inl (rw same at e)
+
+-- an unbacked candidate was one before, or this line makes it one
+pub unbacked-more : (l : Line) (h : List Line) (n : ℕ) (q : Port) → is_unbacked (view q (of n (l ∷ h))) ≡ true → (is_unbacked (view q (of n h)) ≡ true) ⊎ Stands l n q
+unbacked-more l h n q e = by_node l h n q (node_of l == n) refl e
+
+pub neither : (a b r : Bool) → r ≡ (a && b) → r ≡ false → a ≡ true → b ≡ true → ⊥
+neither true true r e f p q = cc
+neither true false r e f p q = cc
+neither false b r e f p q = cc
+
+-- a Back keeps the hold where each line before stands apart from it
+pub held-decides : (b : Bool) (l : Line) (world : List Line) (p : PeerId) → l.did.deed ≡ Acts (Back p) →
+    MatchBool b (Everywhere (λ other older. Apart (node_of l) l.port l.did.tick p other) world) (Everywhere (λ other older. Apart (node_of l) l.port l.did.tick p other) world → ⊥) →
+    MatchBool b (HoldsAt l world) (HoldsAt l world → ⊥)
+held-decides true l world p deed all = λ c q other older d w n t o.
+    let same : p ≡ c = cc in
+    let apart : Apart (node_of l) l.port l.did.tick p other = Everywhere-at (λ other older. Apart (node_of l) l.port l.did.tick p other) other older world all w in
+    subst (λ (k : PeerId). (q ≡ k) ⊎ (other.did.tick + HOLD ≤ l.did.tick)) same (apart q n t o)
+held-decides false l world p deed bad = λ f. bad (Everywhere-from (λ other older. Apart (node_of l) l.port l.did.tick p other) world (λ other older w c n t o. f p c other older deed w n t o))
+
+pub backs-all : (h : List Line) → Everywhere HoldsAt h → Everywhere BacksAt h → Everywhere Backs h
+backs-all [] p q = tt
+backs-all (l ∷ t) p q = (record { holds = p.0; backs = q.0 }, backs-all t p.1 q.1)
+
+pub holds-part : (h : List Line) → Everywhere Backs h → Everywhere HoldsAt h
+holds-part [] e = tt
+holds-part (l ∷ t) e = (e.0.holds, holds-part t e.1)
+
+pub backs-part : (h : List Line) → Everywhere Backs h → Everywhere BacksAt h
+backs-part [] e = tt
+backs-part (l ∷ t) e = (e.0.backs, backs-part t e.1)
+
+-- nobody was unbacked
+pub settled : (h : List Line) → OneBack h → Settled None h
+settled h old = λ n q meant. old.ends n q
+
+pub ends-decide : (b : Bool) (h : List Line) → Everywhere Backs h → MatchBool b (Settled None h) (Settled None h → ⊥) → MatchBool b (OneBack h) (OneBack h → ⊥)
+ends-decide true h e s = record { holds = holds-part h e; backs = backs-part h e; ends = λ n q. s n q refl }
+ends-decide false h e bad = λ all. bad (settled h all)

@@ -1,0 +1,94 @@
+-- Which part fails, and what the newest event changes.
+use Rattle.std.specs.Prelude.{◌≡◌, ◌<◌, ◌≤◌, ◌+◌, ℕ, Bool, true, false, List, [], ◌∷◌, length, refl, MatchBool, Option}
+use Rattle.std.proofs.Common.{sym, ap, subst, ◌∙◌, arith, inl, inr, take}
+use Rattle.std.proofs.lemmas.List.{length-take}
+use Rattle.tsp_audit.specs.declared.premises.Premises.{Premises}
+use Rattle.tsp_audit.specs.Acting.{ActedIs}
+use Rattle.tsp_audit.specs.Judged.{FailsNow, Judges}
+use Rattle.tsp_audit.specs.Looking.{Grown}
+use Rattle.tsp_audit.specs.Parts.{Acting, ActsOnce, AllKeep, Backing, Keeps, Leading, Part, part_number}
+use Rattle.tsp_audit.specs.Settings.{HasClocks, Timely}
+use Rattle.tsp_audit.proofs.Prefixes.{history-within}
+use Rattle.tsp_base.specs.Headers.{HeaderValue}
+use Rattle.tsp_base.specs.History.{Line}
+use Rattle.tsp_base.specs.OneBack.{OneBack}
+use Rattle.tsp_base.specs.OnlyMaster.{OnlyMaster}
+use Rattle.tsp_base.specs.Places.{Within}
+use Rattle.tsp_base.specs.Setting.{Setting}
+use Rattle.tsp_base.proofs.PlaceLemmas.{Within-comparable, Within-length}
+use Rattle.tsp_noted.specs.declared.noted.Noted.{Noted}
+use Rattle.tsp_noted.specs.Histories.{history_of, line_of, noted_after}
+
+pub decided : (b : Bool) (P : Type 0) → b ≡ true → MatchBool b P (P → ⊥) → P
+decided true P e m = m
+decided false P e m = let bad : ⊥ = cc in absurd bad
+
+pub refuted : (b : Bool) (P : Type 0) → b ≡ false → MatchBool b P (P → ⊥) → P → ⊥
+refuted true P e m = let bad : ⊥ = cc in absurd bad
+refuted false P e m = m
+
+below-backing : (premises : Premises) (setting : Setting) (h : List Line) (q : Part) → part_number q < 12 → Keeps premises setting q h
+below-backing premises setting h Backing lt = let bad : ⊥ = omega (arith, lt) in absurd bad
+below-backing premises setting h Leading lt = let bad : ⊥ = omega (arith, lt) in absurd bad
+below-backing premises setting h Acting lt = let bad : ⊥ = omega (arith, lt) in absurd bad
+
+below-leading : (premises : Premises) (setting : Setting) (h : List Line) → OneBack h → (q : Part) → part_number q < 13 → Keeps premises setting q h
+below-leading premises setting h back Backing lt = back
+below-leading premises setting h back Leading lt = let bad : ⊥ = omega (arith, lt) in absurd bad
+below-leading premises setting h back Acting lt = let bad : ⊥ = omega (arith, lt) in absurd bad
+
+below-acting : (premises : Premises) (setting : Setting) (h : List Line) → OneBack h → OnlyMaster h → (q : Part) → part_number q < 14 → Keeps premises setting q h
+below-acting premises setting h back lead Backing lt = back
+below-acting premises setting h back lead Leading lt = lead
+below-acting premises setting h back lead Acting lt = let bad : ⊥ = omega (arith, lt) in absurd bad
+
+pub fails-backing : (premises : Premises) (setting : Setting) (h : List Line) → (OneBack h → ⊥) → FailsNow premises setting h 12
+fails-backing premises setting h bad = record { part = Backing; number_is = refl; fails = bad; lesser = below-backing premises setting h }
+
+pub fails-leading : (premises : Premises) (setting : Setting) (h : List Line) → OneBack h → (OnlyMaster h → ⊥) → FailsNow premises setting h 13
+fails-leading premises setting h back bad = record { part = Leading; number_is = refl; fails = bad; lesser = below-leading premises setting h back }
+
+pub fails-acting : (premises : Premises) (setting : Setting) (h : List Line) → OneBack h → OnlyMaster h → (ActsOnce premises setting h → ⊥) → FailsNow premises setting h 14
+fails-acting premises setting h back lead bad = record { part = Acting; number_is = refl; fails = bad; lesser = below-acting premises setting h back lead }
+
+after-length : (h : List Line) (ns : List Noted) → length (noted_after h ns) ≡ length h + length ns
+after-length h [] = omega arith
+after-length h (n ∷ rest) = omega (arith, after-length (line_of n ∷ h) rest)
+
+-- a history is as long as its lines
+pub history-length : (ns : List Noted) → length (history_of ns) ≡ length ns
+history-length ns = omega (arith, after-length [] ns)
+
+same-length : (s t : List Line) → Within s t → length s ≡ length t → s ≡ t
+same-length s [] w e = w
+same-length s (l ∷ t) (inl e) long = e
+same-length s (l ∷ t) (inr w) long = let bad : ⊥ = omega (arith, Within-length s t w, long) in absurd bad
+
+-- the first lines are the history that was there before
+pub prefix-is : (ns : List Noted) (h : List Line) (from : ℕ) → Within h (history_of ns) → length h ≡ from → history_of (take from ns) ≡ h
+prefix-is ns h from w long =
+    let le : from ≤ length ns = omega (arith, Within-length h (history_of ns) w, history-length ns, long) in
+    let taken : length (history_of (take from ns)) ≡ from = omega (arith, history-length (take from ns), length-take from ns) in
+    elim (Within-comparable (history_of (take from ns)) h (history_of ns) (history-within ns from) w) [
+      | inl v ↦ same-length (history_of (take from ns)) h v (taken ∙ sym long)
+      | inr v ↦ sym (same-length h (history_of (take from ns)) v (long ∙ sym taken))
+    ]
+
+-- what is judged of noted lines is judged of the history that they are
+pub looked : (premises : Premises) (header told : HeaderValue) (ns : List Noted) (w h : List Line) (from : ℕ) (acted : List ℕ) (R : Type 0) (r : Option ℕ) → told ≡ header → history_of ns ≡ w → Grown h w from → R →
+    ((setting : Setting) → HasClocks told setting → Timely (history_of ns) → R → ActedIs (history_of (take from ns)) acted → AllKeep premises setting (history_of (take from ns)) → Judges premises setting (history_of ns) r) →
+    ActedIs h acted → (setting : Setting) → HasClocks header setting → AllKeep premises setting h → Judges premises setting w r
+looked premises header told ns w h from acted R r same is grown room f a setting has keeps =
+    let first : history_of (take from ns) ≡ h = prefix-is ns h from (subst (λ (x : List Line). Within h x) (sym is) grown.within) grown.long in
+    subst (λ (x : List Line). Judges premises setting x r) is
+    (f setting (subst (λ (x : HeaderValue). HasClocks x setting) (sym same) has) (subst (λ (x : List Line). Timely x) (sym is) grown.timely) room
+    (subst (λ (x : List Line). ActedIs x acted) (sym first) a) (subst (λ (x : List Line). AllKeep premises setting x) (sym first) keeps))
+
+pub looked-acted : (ns : List Noted) (w h : List Line) (from : ℕ) (acted later : List ℕ) → history_of ns ≡ w → Grown h w from → (ActedIs (history_of (take from ns)) acted → ActedIs (history_of ns) later) → ActedIs h acted → ActedIs w later
+looked-acted ns w h from acted later is grown f a =
+    let first : history_of (take from ns) ≡ h = prefix-is ns h from (subst (λ (x : List Line). Within h x) (sym is) grown.within) grown.long in
+    subst (λ (x : List Line). ActedIs x later) is (f (subst (λ (x : List Line). ActedIs x acted) (sym first) a))
+
+-- the newest event begins no later than the history ends
+pub begins-within : (ns : List Noted) (w h : List Line) (from : ℕ) → history_of ns ≡ w → Grown h w from → from ≤ length ns
+begins-within ns w h from is grown = omega (arith, Within-length h w grown.within, grown.long, history-length ns, ap (λ (x : List Line). length x) is)

@@ -1,0 +1,213 @@
+-- What a line's step brings, and the send that its Correct takes a post of.
+use Rattle.std.specs.Prelude.{◌≡◌, ◌<◌, ◌≤◌, ◌+◌, ℕ, ℤ, pos, ◌+ℤ◌, Bool, true, false, MatchBool, MatchOption, Option, None, List, [], ◌∷◌, length, refl, is_some, Some}
+use Rattle.std.proofs.Common.{sym, ap, subst, subst₂, ◌∙◌, arith, get_or, take}
+use Rattle.std.proofs.lemmas.List.{get_or_default}
+use Rattle.tsp_base.specs.declared.act.Act.TheVariants.{Correct, Post}
+use Rattle.tsp_base.specs.declared.datagram.Datagram.TheVariants.{Message}
+use Rattle.tsp_base.specs.declared.place.PeerId.{PeerId}
+use Rattle.tsp_base.specs.declared.place.Place.TheVariants.{Peer}
+use Rattle.tsp_base.specs.Fits.{node_of}
+use Rattle.tsp_base.specs.History.{Acts, Came, Here, Line, Seen, dids, of, view}
+use Rattle.tsp_base.specs.Messages.{MessageValue}
+use Rattle.tsp_base.specs.declared.role.Role.TheVariants.{Follow}
+use Rattle.tsp_base.specs.Headers.{HeaderValue}
+use Rattle.tsp_base.specs.NodeFacts.{moved}
+use Rattle.tsp_base.specs.Once.{Brings, Obeys, ObeysAt, SpacedAt}
+use Rattle.tsp_base.specs.PortFacts.{role}
+use Rattle.tsp_base.specs.Ticks.{tick_at}
+use Rattle.tsp_base.specs.ClockAt.{clock_at}
+use Rattle.tsp_base.specs.Places.{Within}
+use Rattle.tsp_base.specs.SendFacts.{begun_to, is_correction, is_numbered}
+use Rattle.tsp_base.specs.Setting.{Setting}
+use Rattle.tsp_base.specs.Takings.{heard, peer_of, posted, time_in}
+use Rattle.tsp_base.specs.CorrectFits.{amount_of}
+use Rattle.tsp_safe.proofs.Locating.{view-line}
+use Rattle.tsp_safe.proofs.SendPlaces.{post_unique, posted-mono, posted-post, same-number}
+use Rattle.tsp_audit.proofs.Prefixes.{history-more}
+use Rattle.tsp_audit.proofs.SendPlaces.{brings-one}
+use Rattle.tsp_audit.specs.Acting.{ActsNow, BringsAt, Corrects, IsNumbered, Moves, PostsTo, TakesSend, deed_corrects}
+use Rattle.tsp_audit.specs.Settings.{HasClocks, clock_in}
+use Rattle.tsp_noted.specs.declared.noted.Noted.{Noted}
+use Rattle.tsp_noted.specs.Histories.{deed_of, history_of, line_of}
+use Rattle.tsp_noted.specs.Posts.{PostsAt}
+use Rattle.tsp_noted.specs.Spacing.{Spaced}
+use Rattle.tsp_noted.specs.Told.{PostedAt, Told}
+
+-- one line stands at an index
+pub same-noted : (ns : List Noted) (i : ℕ) (a b : Noted) → i < length ns → get_or ns i a ≡ a → get_or ns i b ≡ b → a ≡ b
+same-noted ns i a b lt p q = sym p ∙ (get_or_default ns i a b lt ∙ q)
+
+-- nothing comes that was never posted
+pub brings-few : (l : Line) (h : List Line) (k : ℕ) → l.did.step.cause ≡ Came k → posted (dids h) ≤ k → (post : Line) (older : List Line) → Brings l h post older → ⊥
+brings-few l h k cause few post older b =
+    let number : k ≡ posted (dids older) = same-number k (posted (dids older)) (sym cause ∙ b.cause) in
+    omega (arith, few, number, posted-mono (post ∷ older) h b.place, posted-post post older (Peer (peer_of (node_of l))) (Message b.message) b.deed)
+
+-- what comes was posted where the post with its number stands
+brings-there : (ns : List Noted) (l : Line) (k i : ℕ) (noted : Noted) → l.did.step.cause ≡ Came k → PostsAt ns k i → get_or ns i noted ≡ noted → (post : Line) (older : List Line) → Brings l (history_of ns) post older → post ≡ line_of noted
+brings-there ns l k i noted cause p is post older b =
+    let same : p.noted ≡ noted = same-noted ns i p.noted noted p.below p.noted_is is in
+    let number : posted (dids older) ≡ posted (dids (history_of (take i ns))) = sym (same-number k (posted (dids older)) (sym cause ∙ b.cause)) ∙ sym p.number in
+    let place : post ∷ older ≡ line_of p.noted ∷ history_of (take i ns) =
+    post_unique (history_of ns) post (line_of p.noted) older (history_of (take i ns)) (Peer (peer_of (node_of l))) p.to (Message b.message) p.datagram b.place p.within b.deed (ap deed_of p.act) number in
+    let line : post ≡ line_of p.noted = cc in
+    line ∙ ap line_of same
+
+pub brings-other : (ns : List Noted) (l : Line) (k i : ℕ) (noted : Noted) → l.did.step.cause ≡ Came k → PostsAt ns k i → get_or ns i noted ≡ noted → (PostsTo (deed_of noted.act) (node_of l) → ⊥) →
+    (post : Line) (older : List Line) → Brings l (history_of ns) post older → ⊥
+brings-other ns l k i noted cause p is bad post older b =
+    let line : post ≡ line_of noted = brings-there ns l k i noted cause p is post older b in
+    bad (record { message = b.message; is = subst (λ (m : Line). m.did.deed ≡ Acts (Post (Peer (peer_of (node_of l))) (Message b.message))) line b.deed })
+
+pub brings-found : (ns : List Noted) (l : Line) (k i : ℕ) (noted : Noted) → l.did.step.cause ≡ Came k → PostsAt ns k i → get_or ns i noted ≡ noted → PostsTo (deed_of noted.act) (node_of l) → BringsAt ns l i
+brings-found ns l k i noted cause p is posts = record {
+  below = p.below;
+  brings = λ other at.
+      let same : p.noted ≡ other = same-noted ns i p.noted other p.below p.noted_is at in
+      let mine : noted ≡ other = same-noted ns i noted other p.below is at in
+      record {
+        place = subst (λ (n : Noted). Within (line_of n ∷ history_of (take i ns)) (history_of ns)) same p.within;
+        cause = cause ∙ ap Came (sym p.number);
+        message = posts.message;
+        deed = subst (λ (n : Noted). deed_of n.act ≡ Acts (Post (Peer (peer_of (node_of l))) (Message posts.message))) mine posts.is;
+      };
+}
+
+-- a Correct that takes a numbered post of a send
+pub takes-found : (ns : List Noted) (l : Line) (i : ℕ) (noted : Noted) (k : ℕ) (a : ℤ) (s : Bool) (y : ℤ) → BringsAt ns l i → get_or ns i noted ≡ noted → l.did.deed ≡ Acts (Correct a s y) → is_some (heard (dids (of (node_of l) (history_of ns)))) ≡ true →
+    IsNumbered (deed_of noted.act) → PostedAt noted.node noted.port (history_of (take (i + 1) ns)) (begun_to (peer_of (node_of l)) (view noted.port (of noted.node (history_of (take (i + 1) ns))))) k → TakesSend l (history_of ns) k
+takes-found ns l i noted k a s y b is correct took numbered told =
+    let brings : Brings l (history_of ns) (line_of noted) (history_of (take i ns)) = b.brings noted is in
+    let more : history_of (take (i + 1) ns) ≡ line_of noted ∷ history_of (take i ns) = history-more ns i noted b.below is in
+    let deeds : Acts (Post numbered.to (Message numbered.message)) ≡ Acts (Post (Peer (peer_of (node_of l))) (Message brings.message)) = sym numbered.is ∙ brings.deed in
+    let message : numbered.message ≡ brings.message = cc in
+    let begun : begun_to (peer_of (node_of l)) (view noted.port (of noted.node (line_of noted ∷ history_of (take i ns)))) ≡ Here told.line.did ∷ view noted.port (of noted.node told.before) =
+    subst (λ (h : List Line). begun_to (peer_of (node_of l)) (view noted.port (of noted.node h)) ≡ Here told.line.did ∷ view noted.port (of noted.node told.before)) more told.is in
+    record {
+      post = line_of noted;
+      older = history_of (take i ns);
+      first = told.line.did;
+      begun = view noted.port (of noted.node told.before);
+      acts = record { amount = a; stepped = s; shown = y; correct = correct; brings = brings; took = took };
+      of_send = record {
+        message = brings.message;
+        deed = brings.deed;
+        numbered = subst (λ (m : MessageValue). is_numbered m.kind ≡ true) message numbered.numbered;
+        is = ap (λ (seen : List Seen). begun_to (peer_of (node_of l)) seen) (sym (view-line noted.node (line_of noted) (history_of (take i ns)) refl)) ∙ begun;
+      };
+      at = record {
+        line = told.line;
+        before = told.before;
+        within = subst (λ (h : List Line). Within (told.line ∷ told.before) h) more told.within;
+        node = told.node;
+        port = told.port;
+        is = refl;
+        to = told.to;
+        datagram = told.datagram;
+        deed = told.deed;
+        number = told.number;
+      };
+    }
+
+-- the post that a Correct takes is the one that its step brings
+takes-there : (ns : List Noted) (l : Line) (i : ℕ) (noted : Noted) (k : ℕ) → BringsAt ns l i → get_or ns i noted ≡ noted → (t : TakesSend l (history_of ns) k) → t.post ∷ t.older ≡ line_of noted ∷ history_of (take i ns)
+takes-there ns l i noted k b is t = brings-one l (history_of ns) t.post (line_of noted) t.older (history_of (take i ns)) t.acts.brings (b.brings noted is)
+
+pub takes-unnumbered : (ns : List Noted) (l : Line) (i : ℕ) (noted : Noted) (k : ℕ) → BringsAt ns l i → get_or ns i noted ≡ noted → (IsNumbered (deed_of noted.act) → ⊥) → TakesSend l (history_of ns) k → ⊥
+takes-unnumbered ns l i noted k b is bad t =
+    let place : t.post ∷ t.older ≡ line_of noted ∷ history_of (take i ns) = takes-there ns l i noted k b is t in
+    let line : t.post ≡ line_of noted = cc in
+    bad (record { to = Peer (peer_of (node_of l)); message = t.of_send.message; is = subst (λ (m : Line). m.did.deed ≡ Acts (Post (Peer (peer_of (node_of l))) (Message t.of_send.message))) line t.of_send.deed; numbered = t.of_send.numbered })
+
+pub takes-unbegun : (ns : List Noted) (l : Line) (i : ℕ) (noted : Noted) (k : ℕ) → BringsAt ns l i → get_or ns i noted ≡ noted →
+    begun_to (peer_of (node_of l)) (view noted.port (of noted.node (history_of (take (i + 1) ns)))) ≡ [] → TakesSend l (history_of ns) k → ⊥
+takes-unbegun ns l i noted k b is none t =
+    let place : t.post ∷ t.older ≡ line_of noted ∷ history_of (take i ns) = takes-there ns l i noted k b is t in
+    let line : t.post ≡ line_of noted = cc in
+    let rest : t.older ≡ history_of (take i ns) = cc in
+    let more : history_of (take (i + 1) ns) ≡ line_of noted ∷ history_of (take i ns) = history-more ns i noted b.below is in
+    let begun : begun_to (peer_of (node_of l)) (Here (line_of noted).did ∷ view noted.port (of noted.node (history_of (take i ns)))) ≡ Here t.first ∷ t.begun =
+    subst₂ (λ (p : Line) (o : List Line). begun_to (peer_of (node_of l)) (Here p.did ∷ view p.port (of (node_of p) o)) ≡ Here t.first ∷ t.begun) line rest t.of_send.is in
+    let empty : begun_to (peer_of (node_of l)) (view noted.port (of noted.node (line_of noted ∷ history_of (take i ns)))) ≡ [] = subst (λ (h : List Line). begun_to (peer_of (node_of l)) (view noted.port (of noted.node h)) ≡ []) more none in
+    let both : [] ≡ Here t.first ∷ t.begun = sym empty ∙ (ap (λ (seen : List Seen). begun_to (peer_of (node_of l)) seen) (view-line noted.node (line_of noted) (history_of (take i ns)) refl) ∙ begun) in
+    let bad : ⊥ = cc in
+    bad
+
+-- a follower's Correct obeys
+pub obeys-found : (setting : Setting) (ns : List Noted) (l : Line) (amount : ℤ) (master : PeerId) (i : ℕ) (noted : Noted) → BringsAt ns l i → get_or ns i noted ≡ noted → noted.node ≡ master.0 →
+    Moves (deed_of noted.act) amount (clock_at setting (node_of l) (history_of ns) l.did.step.at) → Obeys setting l (history_of ns) amount master
+obeys-found setting ns l amount master i noted b is node moves =
+    let brings : Brings l (history_of ns) (line_of noted) (history_of (take i ns)) = b.brings noted is in
+    let deeds : Acts (Post moves.to (Message moves.message)) ≡ Acts (Post (Peer (peer_of (node_of l))) (Message brings.message)) = sym moves.is ∙ brings.deed in
+    let message : moves.message ≡ brings.message = cc in
+    record {
+      post = line_of noted;
+      older = history_of (take i ns);
+      brings = brings;
+      from = ap peer_of node;
+      kind = subst (λ (m : MessageValue). is_correction m.kind ≡ true) message moves.kind;
+      amount_is = subst (λ (m : MessageValue). amount ≡ amount_of m.kind (time_in m.body) (clock_at setting (node_of l) (history_of ns) l.did.step.at)) message moves.amount_is;
+    }
+
+pub obeys-not : (setting : Setting) (ns : List Noted) (l : Line) (amount : ℤ) (master : PeerId) (i : ℕ) (noted : Noted) → BringsAt ns l i → get_or ns i noted ≡ noted →
+    (noted.node ≡ master.0 → Moves (deed_of noted.act) amount (clock_at setting (node_of l) (history_of ns) l.did.step.at) → ⊥) → Obeys setting l (history_of ns) amount master → ⊥
+obeys-not setting ns l amount master i noted b is bad o =
+    let place : o.post ∷ o.older ≡ line_of noted ∷ history_of (take i ns) = brings-one l (history_of ns) o.post (line_of noted) o.older (history_of (take i ns)) o.brings (b.brings noted is) in
+    let line : o.post ≡ line_of noted = cc in
+    bad (ap (λ (p : PeerId). p.0) (ap (λ (m : Line). peer_of (node_of m)) (sym line) ∙ o.from))
+    (record {
+      to = Peer (peer_of (node_of l));
+      message = o.brings.message;
+      is = subst (λ (m : Line). m.did.deed ≡ Acts (Post (Peer (peer_of (node_of l))) (Message o.brings.message))) line o.brings.deed;
+      kind = o.kind;
+      amount_is = o.amount_is;
+    })
+
+-- the clock by a header is that by its setting
+pub clock-set : (header : HeaderValue) (setting : Setting) (n : ℕ) (h : List Line) (at : ℕ) → HasClocks header setting → clock_in header n h at ≡ clock_at setting n h at
+clock-set header setting n h at has = subst₂ (λ (w r : ℤ). clock_in header n h at ≡ (w +ℤ moved (dids (of n h))) +ℤ pos (tick_at r at)) (sym (has.wall_is n)) (sym (has.rate_is n)) refl
+
+pub obeys-decides : (header : HeaderValue) (setting : Setting) (ns : List Noted) (l : Line) (amount : ℤ) (master : PeerId) (i : ℕ) (noted : Noted) (b : Bool) (t : ℤ) → HasClocks header setting → BringsAt ns l i → get_or ns i noted ≡ noted → noted.node ≡ master.0 →
+    t ≡ clock_in header (node_of l) (history_of ns) l.did.step.at → MatchBool b (Moves (deed_of noted.act) amount t) (Moves (deed_of noted.act) amount t → ⊥) →
+    MatchBool b (Obeys setting l (history_of ns) amount master) (Obeys setting l (history_of ns) amount master → ⊥)
+obeys-decides header setting ns l amount master i noted b t has brings is node clock m = by_case b m where
+  same : t ≡ clock_at setting (node_of l) (history_of ns) l.did.step.at
+  same = clock ∙ clock-set header setting (node_of l) (history_of ns) l.did.step.at has
+
+  by_case : (b : Bool) → MatchBool b (Moves (deed_of noted.act) amount t) (Moves (deed_of noted.act) amount t → ⊥) → MatchBool b (Obeys setting l (history_of ns) amount master) (Obeys setting l (history_of ns) amount master → ⊥)
+  by_case true good = obeys-found setting ns l amount master i noted brings is node (subst (λ (z : ℤ). Moves (deed_of noted.act) amount z) same good)
+  by_case false bad = obeys-not setting ns l amount master i noted brings is (λ e moves. bad (subst (λ (z : ℤ). Moves (deed_of noted.act) amount z) (sym same) moves))
+
+pub obeys-line : (setting : Setting) (l : Line) (h : List Line) (amount : ℤ) (s : Bool) (y : ℤ) (master : PeerId) (b : Bool) → l.did.deed ≡ Acts (Correct amount s y) → role (view l.port (of (node_of l) h)) ≡ Follow master →
+    MatchBool b (Obeys setting l h amount master) (Obeys setting l h amount master → ⊥) → MatchBool b (ObeysAt setting l h) (ObeysAt setting l h → ⊥)
+obeys-line setting l h amount s y master true deed follows good = λ q a t z d r.
+    let deeds : Acts (Correct amount s y) ≡ Acts (Correct a t z) = sym deed ∙ d in
+    let same : amount ≡ a = cc in
+    let roles : Follow master ≡ Follow q = sym follows ∙ r in
+    let who : master ≡ q = cc in
+    subst₂ (λ (z : ℤ) (p : PeerId). Obeys setting l h z p) same who good
+obeys-line setting l h amount s y master false deed follows bad = λ f. bad (f master amount s y deed follows)
+
+pub spaced-decides : (b : Bool) (l : Line) (h : List Line) (a : ℤ) (s : Bool) (y : ℤ) → l.did.deed ≡ Acts (Correct a s y) → MatchBool b (Spaced (node_of l) l.did.tick h) (Spaced (node_of l) l.did.tick h → ⊥) →
+    MatchBool b (SpacedAt l h) (SpacedAt l h → ⊥)
+spaced-decides true l h a s y deed good = λ other older c d t u x z here w n there lived. good other older d u z w n there lived
+spaced-decides false l h a s y deed bad = λ f. bad (λ other older d u z w n there lived. f other older a d s u y z deed w n there lived)
+
+pub takes-decide : (ns : List Noted) (l : Line) (i : ℕ) (noted : Noted) (r : Option ℕ) → BringsAt ns l i → get_or ns i noted ≡ noted → ActsNow l (history_of ns) → IsNumbered (deed_of noted.act) →
+    Told noted.node noted.port (history_of (take (i + 1) ns)) (begun_to (peer_of (node_of l)) (view noted.port (of noted.node (history_of (take (i + 1) ns))))) r →
+    MatchOption r ((s : ℕ) → TakesSend l (history_of ns) s → ⊥) (λ s. TakesSend l (history_of ns) s)
+takes-decide ns l i noted None b is acts numbered none = λ s t. takes-unbegun ns l i noted s b is none t
+takes-decide ns l i noted (Some k) b is acts numbered told = takes-found ns l i noted k acts.amount acts.stepped acts.shown b is acts.correct acts.took numbered told
+
+-- what was never posted is no correction, nor anything else
+pub corrects-none : (h : List Line) (k : ℕ) → posted (dids h) ≤ k → Corrects h k false
+corrects-none h k few = λ post older p m w d n. absurd (omega (arith, few, n, posted-mono (post ∷ older) h w, posted-post post older (Peer p) (Message m) d))
+
+pub corrects-at : (ns : List Noted) (k i : ℕ) (noted : Noted) (b : Bool) → PostsAt ns k i → get_or ns i noted ≡ noted → b ≡ deed_corrects (deed_of noted.act) → Corrects (history_of ns) k b
+corrects-at ns k i noted b at is corrects = λ post older p m w d n.
+    let same : at.noted ≡ noted = same-noted ns i at.noted noted at.below at.noted_is is in
+    let place : post ∷ older ≡ line_of at.noted ∷ history_of (take i ns) =
+    post_unique (history_of ns) post (line_of at.noted) older (history_of (take i ns)) (Peer p) at.to (Message m) at.datagram w at.within d (ap deed_of at.act) (n ∙ sym at.number) in
+    let line : post ≡ line_of at.noted = cc in
+    let deed : deed_of noted.act ≡ Acts (Post (Peer p) (Message m)) = sym (ap (λ (l : Line). l.did.deed) (line ∙ ap line_of same)) ∙ d in
+    sym (corrects ∙ ap deed_corrects deed)

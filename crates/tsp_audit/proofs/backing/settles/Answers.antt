@@ -1,0 +1,33 @@
+use Rattle.std.proofs.Common.{◌≡◌, ◌<◌, ◌+◌, ℕ, true, false, rules, arith, sym, ◌∙◌, subst, subst₂, inl, inr, List, ◌∷◌, length, take, get_or}
+use Rattle.tsp_base.specs.declared.place.Port.{Port}
+use Rattle.tsp_base.specs.History.{Line, of, view}
+use Rattle.tsp_base.specs.StepFacts.{is_unbacked}
+use Rattle.tsp_noted.specs.declared.noted.Noted.{Noted}
+use Rattle.tsp_noted.specs.Histories.{line_of, history_of}
+use Rattle.tsp_audit.specs.Backing.{concerns, is_stand}
+use Rattle.tsp_audit.proofs.BackLemmas.{neither, unbacked-more}
+use Rattle.tsp_audit.proofs.Prefixes.{history-more}
+use Rattle.tsp_audit.proofs.backing.settles.Goals as goal
+use Rattle.tsp_audit.proofs.backing.settles.Goals.{else-stands-via-then-stands+else-is_unbacked_at, else-stands-via-else-stands}
+
+pub loop-i-preserved : goal.loop-i-preserved
+loop-i-preserved c old n q meant e =
+    let line : Noted = c.index-lines-i.result in
+    let lines : List Noted = c.args.lines.now in
+    let i : ℕ = c.loop-i.i in
+    let here : get_or lines i line ≡ line = search rules in
+    let lt : i < length lines = omega arith in
+    let more : history_of (take (i + 1) lines) ≡ line_of line ∷ history_of (take i lines) = history-more lines i line lt here in
+    elim (unbacked-more (line_of line) (history_of (take i lines)) n q (subst (λ (h : List Line). is_unbacked (view q (of n h)) ≡ true) more e)) [
+      | inl k ↦ c.loop-i.invariant old n q meant k
+      | inr k ↦
+          let node : line.node ≡ n = k.node in
+          let port : line.port ≡ q = k.port in
+          let backed : is_unbacked (view line.port (of line.node (history_of lines))) ≡ false =
+          elim c.else-stands.branch [
+            | else-stands-via-then-stands+else-is_unbacked_at w ↦ sym w.is_unbacked_at.ensures ∙ w.if-is_unbacked_at.false
+            | else-stands-via-else-stands w ↦
+                absurd (neither (is_stand (line_of line)) (concerns c.args.node line.node) c.stands.result c.stands.ensures w.if-stands.false k.is (subst (λ (m : ℕ). concerns c.args.node m ≡ true) (sym node) meant))
+          ] in
+          subst₂ (λ (m : ℕ) (p : Port). is_unbacked (view p (of m (history_of lines))) ≡ false) node port backed
+    ]

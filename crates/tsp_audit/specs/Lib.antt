@@ -1,0 +1,9 @@
+pub mod Acting
+pub mod Backing
+pub mod Judged
+pub mod Leading
+pub mod Looking
+pub mod Named
+pub mod Parts
+pub mod Settings
+pub mod Verdicts

@@ -1,0 +1,46 @@
+-- The parts of a verdict, and what each asks of a history. Each is a promise that every run keeps.
+use Rattle.std.specs.Prelude.{◌≡◌, true, ℕ, List}
+use Rattle.tsp_audit.specs.declared.premises.Premises.{Premises}
+use Rattle.tsp_base.specs.History.{Line}
+use Rattle.tsp_base.specs.Once.{OnceConfirmed, OnceObeyed, OnceSpaced, OnceTaken}
+use Rattle.tsp_base.specs.OneBack.{OneBack}
+use Rattle.tsp_base.specs.OnlyMaster.{OnlyMaster}
+use Rattle.tsp_base.specs.Setting.{Setting}
+
+-- the parts, the least first
+pub data Part : Type 0 where
+  -- no node backs two candidates within the hold
+  Backing : Part
+  -- only masters correct
+  Leading : Part
+  -- each correction acts at most once
+  Acting : Part
+
+-- the number by which a verdict names a part
+abbrev pub part_number : Part → ℕ
+part_number Backing = 12
+part_number Leading = 13
+part_number Acting = 14
+
+-- nobody forges a peer's datagram, none lives too long, and no two boots have one word
+pub record AllKept (premises : Premises) : Type 0 where
+  pub honest : premises.honest ≡ true
+  pub life : premises.life ≡ true
+  pub words : premises.words ≡ true
+
+-- corrections of one life stand apart; a follower obeys its master; no send is taken twice; what is acknowledged was taken
+pub record ActsOnce (premises : Premises) (setting : Setting) (h : List Line) : Type 0 where
+  pub spaced : OnceSpaced h
+  pub obeyed : premises.honest ≡ true → OnceObeyed setting h
+  pub taken : AllKept premises → OnceTaken h
+  pub confirmed : AllKept premises → OnceConfirmed h
+
+-- what a part asks of a history, as far as the schedule keeps the premises that it needs
+abbrev pub Keeps : Premises → Setting → Part → List Line → Type 0
+Keeps premises setting Backing h = OneBack h
+Keeps premises setting Leading h = OnlyMaster h
+Keeps premises setting Acting h = ActsOnce premises setting h
+
+-- all parts hold
+abbrev pub AllKeep : Premises → Setting → List Line → Type 0
+AllKeep premises setting h = (part : Part) → Keeps premises setting part h

@@ -1,0 +1,23 @@
+-- What a verdict takes from a schedule's header.
+use Rattle.std.specs.Prelude.{◌≡◌, ℕ, ◌≤◌, ℤ, pos, ◌+ℤ◌, List}
+use Rattle.tsp_base.specs.Everywhere.{Everywhere}
+use Rattle.tsp_base.specs.Headers.{HeaderValue}
+use Rattle.tsp_base.specs.History.{Line, dids, of}
+use Rattle.tsp_base.specs.NodeFacts.{moved}
+use Rattle.tsp_base.specs.Setting.{Setting}
+use Rattle.tsp_base.specs.Ticks.{tick_at}
+use Rattle.tsp_run.specs.Setup.{node_line}
+
+-- a setting has the header's drift, rates and walls
+pub record HasClocks (header : HeaderValue) (setting : Setting) : Type 0 where
+  pub rate_is : (n : ℕ) → setting.rate n ≡ (node_line header n).rate
+  pub wall_is : (n : ℕ) → setting.wall n ≡ (node_line header n).wall
+  pub drift_is : setting.drift ≡ header.drift
+
+-- the clock of node n at a true time, when the history is h
+abbrev pub clock_in : HeaderValue → ℕ → List Line → ℕ → ℤ
+clock_in header n h at = ((node_line header n).wall +ℤ moved (dids (of n h))) +ℤ pos (tick_at (node_line header n).rate at)
+
+-- each line stands at a true time of a schedule
+abbrev pub Timely : List Line → Type 0
+Timely = Everywhere (λ l before. l.did.step.at ≤ 1000000000000000)

@@ -1,0 +1,61 @@
+-- The verdict on what is claimed. The newest claim is the first.
+use Rattle.std.specs.Prelude.{◌≡◌, ℕ, ◌+◌, List, ◌∷◌, length, Option, None, Some}
+use Rattle.std.specs.declared.result.Result.{Result}
+use Rattle.std.specs.declared.result.Result.TheVariants.{Ok, Err}
+use Rattle.tsp_audit.specs.declared.audit.Audit.{Audit}
+use Rattle.tsp_audit.specs.declared.premises.Premises.{Premises}
+use Rattle.tsp_audit.specs.declared.verdict.Failure.{Failure}
+use Rattle.tsp_audit.specs.declared.verdict.Verdict.{Verdict}
+use Rattle.tsp_audit.specs.declared.verdict.Verdict.TheVariants.{Holds, Fails}
+use Rattle.tsp_audit.specs.Acting.{ActedIs}
+use Rattle.tsp_audit.specs.Judged.{FailsNow}
+use Rattle.tsp_audit.specs.Parts.{AllKeep}
+use Rattle.tsp_audit.specs.Settings.{HasClocks, Timely}
+use Rattle.tsp_base.specs.declared.event.Event.{Event}
+use Rattle.tsp_base.specs.Headers.{HeaderValue}
+use Rattle.tsp_base.specs.Places.{Within}
+use Rattle.tsp_base.specs.Setting.{Setting}
+use Rattle.tsp_claims.specs.declared.audit_fault.AuditFault.{AuditFault}
+use Rattle.tsp_claims.specs.declared.audit_fault.AuditFault.TheVariants.{History, OutOfMemory}
+use Rattle.tsp_claims.specs.ClaimedHistory.{Claim, claimed}
+use Rattle.tsp_claims.specs.Fitting.{Fit, Misfit}
+use Rattle.tsp_claims.specs.Stands.{ClaimsStand, claim_of}
+use Rattle.tsp_script.specs.declared.trace.Line2.{Line2}
+
+-- all parts hold up to each of these events, and of nothing claimed
+abbrev pub AllHold : Premises → Setting → HeaderValue → List Claim → Type 0
+AllHold premises setting header claims = (older : List Claim) → Within older claims → AllKeep premises setting (claimed header older)
+
+-- the event with this number is the least up to which a part fails, and the part with this number is the least that fails up to it
+pub record FailsFirst (premises : Premises) (setting : Setting) (header : HeaderValue) (claims : List Claim) (number event : ℕ) : Type 0 where
+  pub claim : Claim
+  pub before : List Claim
+  pub place : Within (claim ∷ before) claims
+  pub event_is : length before + 1 ≡ event
+  pub fails : FailsNow premises setting (claimed header (claim ∷ before)) number
+  pub earlier : AllHold premises setting header before
+
+-- what was found: no part fails up to any event, or this one fails first
+abbrev pub IsFound : Premises → Setting → HeaderValue → List Claim → Option Failure → Type 0
+IsFound premises setting header claims None = AllHold premises setting header claims
+IsFound premises setting header claims (Some f) = FailsFirst premises setting header claims f.part f.event
+
+-- a verdict on these claims, under the premises that the whole schedule keeps
+abbrev pub IsVerdict : Premises → Setting → HeaderValue → List Claim → Verdict → Type 0
+IsVerdict premises setting header claims Holds = AllHold premises setting header claims
+IsVerdict premises setting header claims (Fails number) = (event : ℕ) × FailsFirst premises setting header claims number event
+
+-- an audit stands for the premises of a schedule, its header, and events with the acts that are claimed of them
+pub record AuditStands (premises : Premises) (header : HeaderValue) (claims : List Claim) (a : Audit) : Type 0 where
+  pub claims_stand : ClaimsStand header claims a.claims
+  pub premises_are : a.premises ≡ premises
+  pub timely : Timely (claimed header claims)
+  pub found : (setting : Setting) → HasClocks header setting → IsFound premises setting header claims a.failed
+  pub acted : a.failed ≡ None → ActedIs (claimed header claims) a.acted.items
+
+-- what a call does with an event and the lines that are claimed of it: they fit and are taken in, and this is the verdict; or this one doesn't, or memory is wanted, and nothing changes
+abbrev pub Audits : Premises → HeaderValue → List Claim → Event → List Line2 → Result Verdict AuditFault → Audit → Type 0
+Audits premises header claims e lines (Ok v) new = Fit header claims e lines × AuditStands premises header (claim_of e lines ∷ claims) new ×
+    ((setting : Setting) → HasClocks header setting → IsVerdict premises setting header (claim_of e lines ∷ claims) v)
+Audits premises header claims e lines (Err (History i)) new = Misfit header claims e lines i × AuditStands premises header claims new
+Audits premises header claims e lines (Err OutOfMemory) new = AuditStands premises header claims new

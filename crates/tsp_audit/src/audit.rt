@@ -1,0 +1,142 @@
+//! The audit of a claimed history, event by event.
+ghost use Rattle.std.specs.Prelude.{◌≡◌, ◌≤◌, ◌<◌, ◌+◌, ◌-◌, List, [], true, None, length, vec_len, vec_capacity, IfOk};
+ghost use Rattle.tsp_audit.specs.Acting.{ActedIs};
+ghost use Rattle.tsp_audit.specs.Looking.{Finds, Grown, Looks};
+ghost use Rattle.tsp_base.specs.Headers.{HeaderValue, is_whole};
+ghost use Rattle.tsp_base.specs.History.{Line};
+ghost use Rattle.tsp_claims.specs.ClaimedHistory.{Claim, claimed};
+ghost use Rattle.tsp_claims.specs.Stands.{ClaimsStand};
+
+use crate::judging::judge;
+use crate::premises::Premises;
+use crate::verdict::{Failure, Verdict, verdict_of};
+use std::alloc::{AllocError, Global};
+use tsp_base::event::Event;
+use tsp_base::header::Header;
+use tsp_claims::audit_fault::AuditFault;
+use tsp_claims::claims::Claims;
+use tsp_script::trace::Line2;
+
+/// The first failure among the lines of the newest event, which begin after so many, where all parts hold before it. `acted` are the
+/// sends of which Corrects before it have taken posts, and where nothing fails then those of all.
+fn look(claims: &Claims, premises: Premises, from: usize, acted: &mut Vec<u64>) -> Option<Failure>
+    ensures { (header : HeaderValue) (new : List Claim) (h : List Line) → ClaimsStand header new claims.now → Grown h (claimed header new) from
+        → vec_len acted.old + (length (claimed header new) - from) ≤ vec_capacity acted.old → ActedIs h acted.old.items
+        → Looks premises header new h acted.new.items result }
+{
+    let lines = claims.lines();
+    if lines.len() < from {
+        return None;
+    }
+    match judge(claims.header(), premises, lines, from, acted) {
+        None => None,
+        Some(part) => Some(Failure {
+            part,
+            event: claims.events(),
+        }),
+    }
+}
+
+/// The first failure, which is the earlier one if there is one.
+fn find(
+    failed: Option<Failure>,
+    claims: &Claims,
+    premises: Premises,
+    from: usize,
+    acted: &mut Vec<u64>,
+) -> Option<Failure>
+    ensures { (header : HeaderValue) (new : List Claim) (h : List Line) → ClaimsStand header new claims.now → Grown h (claimed header new) from
+        → vec_len acted.old + (length (claimed header new) - from) ≤ vec_capacity acted.old → (failed ≡ None → ActedIs h acted.old.items)
+        → Finds premises header new h failed acted.new.items result }
+{
+    match failed {
+        Some(failure) => Some(failure),
+        None => look(claims, premises, from, acted),
+    }
+}
+
+/// The audit of a claimed history, under the premises that its whole schedule keeps.
+#[derive(Drop)]
+pub struct Audit {
+    /// What is claimed so far.
+    pub(crate) claims: Claims,
+    /// What the whole schedule keeps.
+    pub(crate) premises: Premises,
+    /// The sends, by the numbers of the datagrams that begin them, of which Corrects have taken posts.
+    pub(crate) acted: Vec<u64>,
+    /// The first failure; from then on only fits are checked.
+    pub(crate) failed: Option<Failure>,
+}
+
+impl Audit {
+    ghost use Rattle.tsp_audit.specs.Settings.{HasClocks};
+    ghost use Rattle.tsp_audit.specs.Verdicts.{AuditStands, Audits, IsFound};
+    ghost use Rattle.tsp_base.specs.Headers.{HeaderValue};
+    ghost use Rattle.tsp_base.specs.Setting.{Setting};
+    ghost use Rattle.tsp_claims.specs.ClaimedHistory.{Claim};
+    ghost use Rattle.tsp_claims.specs.Listed.{NamesNode};
+    ghost use Rattle.tsp_run.specs.Run.{event_at};
+    ghost use Rattle.std.specs.Prelude.{List};
+
+    /// Nothing is claimed. The refusal is want of memory, and drops the header.
+    pub fn new(alloc: Global, header: Header, premises: Premises) -> Result<Audit, AllocError>
+        requires some { 1 ≤ length header.nodes }
+        requires few { length header.nodes ≤ 16 }
+        requires whole { is_whole header ≡ true }
+        ensures { IfOk result (λ audit. AuditStands premises header [] audit) }
+    {
+        match Claims::new(alloc, header) {
+            Ok(claims) => Ok(Audit {
+                claims,
+                premises,
+                acted: Vec::new(alloc),
+                failed: None,
+            }),
+            Err(refused) => Err(refused),
+        }
+    }
+
+    /// Takes in an event and the lines that are claimed of it, and gives the verdict of the history so far. `History` names
+    /// the first line that doesn't fit, or the number of lines where the event lacks something. After either fault the audit
+    /// is what it was.
+    pub fn event(&mut self, e: &Event, acts: &[Line2]) -> Result<Verdict, AuditFault>
+        requires time { event_at e.now ≤ 1000000000000000 }
+        requires node { NamesNode (length self.old.claims.header.nodes) e.now }
+        requires events { self.old.claims.events < 20000 }
+        requires lines { self.old.claims.told + length acts.now ≤ 20000 }
+        ensures { (premises : Premises) (header : HeaderValue) (claims : List Claim) → AuditStands premises header claims self.old → Audits premises header claims e.now acts.now result self.new }
+    {
+        let from = self.claims.lines().len();
+        if self.acted.reserve(acts.len() + 1).is_err() {
+            return Err(AuditFault::OutOfMemory);
+        }
+        match self.claims.event(e, acts) {
+            Ok(()) => {
+                self.failed = find(
+                    self.failed,
+                    &self.claims,
+                    self.premises,
+                    from,
+                    &mut self.acted,
+                );
+                Ok(verdict_of(self.failed))
+            }
+            Err(fault) => Err(fault),
+        }
+    }
+
+    /// What is claimed so far.
+    pub fn claims(&self) -> &Claims
+        ensures { result.now ≡ self.now.claims }
+    {
+        &self.claims
+    }
+
+    /// The first failure, if one was found.
+    pub fn failure(&self) -> Option<Failure>
+        ensures { (premises : Premises) (header : HeaderValue) (claims : List Claim) → AuditStands premises header claims self.now
+            → (setting : Setting) → HasClocks header setting → IsFound premises setting header claims result }
+    {
+        self.failed
+    }
+}

@@ -1,0 +1,173 @@
+//! Whether nodes back one candidate within the hold.
+ghost use Rattle.std.specs.Prelude.{◌≡◌, ◌≤◌, ◌&&◌, ℕ, List, ◌∷◌, length, take, MatchBool, None};
+ghost use Rattle.tsp_audit.specs.Backing.{Settled, concerns, Backs, deed_backs, is_stand, post_backs};
+ghost use Rattle.tsp_base.specs.History.{Line, of, view};
+ghost use Rattle.tsp_base.specs.OneBack.{BacksAt, HoldsAt, OneBack};
+ghost use Rattle.tsp_base.specs.StepFacts.{backed, is_unbacked};
+ghost use Rattle.tsp_noted.specs.Histories.{deed_of, line_of, history_of};
+
+use tsp_base::act::Act;
+use tsp_base::datagram::Datagram;
+use tsp_base::kind::Kind;
+use tsp_base::place::{PeerId, Place, Port};
+use tsp_base::role::Role;
+use tsp_noted::noted::Noted;
+use tsp_noted::scans::is_held;
+
+/// Whom the step of a node's port has backed last after a line, where it was `keep` before.
+fn backed_after(line: &Noted, node: u32, port: Port, keep: Option<PeerId>) -> Option<PeerId>
+    ensures { (before : List Line) → keep ≡ backed (view port (of node before)) → result ≡ backed (view port (of node (line_of line.now ∷ before))) }
+{
+    if line.node != node {
+        return keep;
+    }
+    match &line.act {
+        None => None,
+        Some(Act::Back(p)) => {
+            if line.port.0 == port.0 {
+                Some(*p)
+            } else {
+                keep
+            }
+        }
+        _ => keep,
+    }
+}
+
+/// Whom the step of a node's port has backed last.
+pub fn backed_at(lines: &[Noted], node: u32, port: Port) -> Option<PeerId>
+    ensures { result ≡ backed (view port (of node (history_of lines.now))) }
+{
+    let mut backed = None;
+    for line in lines {
+        backed = backed_after(line, node, port, backed);
+    }
+    backed
+}
+
+/// Whether a node's port is an unbacked candidate after a line, where it was `keep` before.
+fn is_unbacked_after(line: &Noted, node: u32, port: Port, keep: bool) -> bool
+    ensures { (before : List Line) → keep ≡ is_unbacked (view port (of node before)) → result ≡ is_unbacked (view port (of node (line_of line.now ∷ before))) }
+{
+    if line.node != node {
+        return keep;
+    }
+    match &line.act {
+        None => false,
+        Some(Act::Become(Role::Candidate)) => { if line.port.0 == port.0 { true } else { keep } }
+        Some(Act::Back(p)) => {
+            if line.port.0 == port.0 && p.0 == node {
+                false
+            } else {
+                keep
+            }
+        }
+        _ => keep,
+    }
+}
+
+/// Whether a node's port became a candidate in its step and hasn't yet backed itself.
+pub fn is_unbacked_at(lines: &[Noted], node: u32, port: Port) -> bool
+    ensures { result ≡ is_unbacked (view port (of node (history_of lines.now))) }
+{
+    let mut unbacked = false;
+    for line in lines {
+        unbacked = is_unbacked_after(line, node, port, unbacked);
+    }
+    unbacked
+}
+
+/// Whether a line is no Back for another candidate than its port holds, where these stand before it.
+fn holds(lines: &[Noted], line: &Noted) -> bool
+    ensures { MatchBool result (HoldsAt (line_of line.now) (history_of lines.now)) (HoldsAt (line_of line.now) (history_of lines.now) → ⊥) }
+{
+    match &line.act {
+        Some(Act::Back(p)) => is_held(lines, line.node, line.port, line.tick, *p),
+        _ => true,
+    }
+}
+
+/// Whether a line makes a node's port a candidate; with no node any node's.
+fn stands(line: &Noted, node: Option<u32>) -> bool
+    ensures { result ≡ is_stand (line_of line.now) && concerns node line.now.node }
+{
+    if let Some(node) = node
+        && line.node != node
+    {
+        return false;
+    }
+    matches!(&line.act, Some(Act::Become(Role::Candidate)))
+}
+
+/// Whether no port of the node, or with no node of any, is an unbacked candidate, where none was before `from`.
+fn settles(lines: &[Noted], from: usize, node: Option<u32>) -> bool
+    requires { from ≤ length lines.now }
+    ensures { Settled node (history_of (take from lines.now)) → MatchBool result (Settled node (history_of lines.now)) (Settled node (history_of lines.now) → ⊥) }
+{
+    for i in from..lines.len() {
+        let line = &lines[i];
+        if stands(line, node) && is_unbacked_at(lines, line.node, line.port) {
+            return false;
+        }
+    }
+    true
+}
+
+/// Whether a post's addressee was backed, if it is accepted, and whether the port backed itself, if it asks for votes.
+fn may_post(lines: &[Noted], line: &Noted, to: Place, kind: Kind) -> bool
+    ensures { let seen = view line.now.port (of line.now.node (history_of lines.now)) in result ≡ post_backs kind to (backed seen) (is_unbacked seen) }
+{
+    match kind {
+        Kind::Accept => match to {
+            Place::Peer(p) => match backed_at(lines, line.node, line.port) {
+                Some(q) => q.0 == p.0,
+                None => false,
+            },
+            Place::Stranger => true,
+        },
+        Kind::Election => !is_unbacked_at(lines, line.node, line.port),
+        _ => true,
+    }
+}
+
+/// Whether a line that is no mark keeps to whom its step has backed, where these stand before it.
+fn votes(lines: &[Noted], line: &Noted) -> bool
+    ensures { let seen = view line.now.port (of line.now.node (history_of lines.now)) in result ≡ deed_backs (deed_of line.now.act) (backed seen) (is_unbacked seen) }
+{
+    match &line.act {
+        Some(Act::Post(to, Datagram::Message(m))) => may_post(lines, line, *to, m.kind()),
+        _ => true,
+    }
+}
+
+/// Whether a line keeps to whom its step has backed, where these stand before it, and before `from` no candidate was unbacked.
+fn backs(lines: &[Noted], from: usize, line: &Noted) -> bool
+    requires { from ≤ length lines.now }
+    ensures { Settled None (history_of (take from lines.now)) → MatchBool result (BacksAt (line_of line.now) (history_of lines.now)) (BacksAt (line_of line.now) (history_of lines.now) → ⊥) }
+{
+    match &line.act {
+        None => settles(lines, from, Some(line.node)),
+        Some(_) => votes(lines, line),
+    }
+}
+
+/// Whether a line keeps the promise about backing, where these stand before it.
+fn is_backing(lines: &[Noted], from: usize, line: &Noted) -> bool
+    requires { from ≤ length lines.now }
+    ensures { Settled None (history_of (take from lines.now)) → MatchBool result (Backs (line_of line.now) (history_of lines.now)) (Backs (line_of line.now) (history_of lines.now) → ⊥) }
+{
+    holds(lines, line) && backs(lines, from, line)
+}
+
+/// Whether nobody backs two candidates within the hold in all lines, where it is so in those before `from`.
+pub fn keeps_backing(lines: &[Noted], from: usize) -> bool
+    requires { from ≤ length lines.now }
+    ensures { OneBack (history_of (take from lines.now)) → MatchBool result (OneBack (history_of lines.now)) (OneBack (history_of lines.now) → ⊥) }
+{
+    for i in from..lines.len() {
+        if !is_backing(&lines[..i], from, &lines[i]) {
+            return false;
+        }
+    }
+    settles(lines, from, None)
+}

@@ -1,0 +1,41 @@
+//! Which message a line's step brings.
+ghost use Rattle.std.specs.Prelude.{◌≡◌, ◌<◌, ◌^◌, List, length, MatchBool, MatchOption};
+ghost use Rattle.tsp_base.specs.History.{Line};
+ghost use Rattle.tsp_base.specs.Once.{Brings};
+ghost use Rattle.tsp_audit.specs.Acting.{BringsAt, PostsTo};
+ghost use Rattle.tsp_noted.specs.Histories.{deed_of, line_of, history_of};
+
+use tsp_base::act::Act;
+use tsp_base::datagram::Datagram;
+use tsp_base::place::Place;
+use tsp_noted::noted::{Noted, Why};
+use tsp_noted::posts::post_at;
+
+/// Whether a line posts a message to a node.
+fn posts_to(line: &Noted, node: u32) -> bool
+    ensures { MatchBool result (PostsTo (deed_of line.now.act) node) (PostsTo (deed_of line.now.act) node → ⊥) }
+{
+    match &line.act {
+        Some(Act::Post(Place::Peer(p), Datagram::Message(_))) => p.0 == node,
+        _ => false,
+    }
+}
+
+/// The index of the line, among these before it, that posts the message which a line's step brings to its node.
+pub fn brought(lines: &[Noted], line: &Noted) -> Option<usize>
+    ensures { MatchOption result ((post : Line) (older : List Line) → Brings (line_of line.now) (history_of lines.now) post older → ⊥) (λ i. BringsAt lines.now (line_of line.now) i) }
+{
+    let Why::Came(number) = line.why else {
+        return None;
+    };
+    match post_at(lines, number) {
+        None => None,
+        Some(index) => {
+            if posts_to(&lines[index], line.node) {
+                Some(index)
+            } else {
+                None
+            }
+        }
+    }
+}

@@ -1,0 +1,59 @@
+//! The clocks of a schedule's nodes.
+ghost use Rattle.std.specs.Prelude.{◌≡◌, ◌≤◌, ◌<◌, ◌^◌, ◌+ℤ◌, pos, length, nat_abs};
+ghost use Rattle.tsp_audit.specs.Settings.{clock_in};
+ghost use Rattle.tsp_base.specs.Ticks.{tick_at};
+ghost use Rattle.tsp_run.specs.Setup.{node_line};
+ghost use Rattle.tsp_noted.specs.Clocks.{IsSmall, IsSumOf};
+ghost use Rattle.tsp_noted.specs.Histories.{history_of};
+
+use tsp_base::constants::SCHEDULE_END;
+use tsp_base::drift::tick_at;
+use tsp_base::header::Header;
+use tsp_noted::clocks::moved_at;
+use tsp_noted::noted::Noted;
+
+/// A node's rate, in millionths, and its wall clock at tick 0, in microseconds; 0 for a number that no node has.
+fn clock_of(header: &Header, node: u32) -> (i32, i64)
+    ensures rate { result.0 ≡ (node_line header.now node).rate }
+    ensures small { nat_abs result.0 ≤ 1000 }
+    ensures wall { result.1 ≡ (node_line header.now node).wall }
+{
+    match header.nodes().get(node as usize) {
+        Some(line) => (line.rate, line.wall),
+        None => (0, 0),
+    }
+}
+
+/// The tick of a counter that gains `rate` microseconds a second, at a true time of a schedule.
+fn tick_of(rate: i32, at: u64) -> u64
+    requires { nat_abs rate ≤ 1000 }
+    ensures { at ≤ 1000000000000000 → result ≡ tick_at rate at }
+{
+    if at <= SCHEDULE_END {
+        tick_at(rate, at)
+    } else {
+        at
+    }
+}
+
+/// A clock's wall at tick 0, the amounts of its corrections, of which there are at most so many, and its tick, in microseconds.
+fn add(wall: i64, moved: i128, count: usize, tick: u64) -> i128
+    requires few { count < 2 ^ 32 }
+    requires bounded { IsSumOf count moved }
+    ensures sum { result ≡ (wall +ℤ moved) +ℤ pos tick }
+    ensures small { IsSmall result }
+{
+    let base = i128::from(wall) + moved;
+    base + i128::from(tick)
+}
+
+/// A node's clock at a true time of a schedule after these lines, in microseconds: its wall at tick 0, its tick then, and the amounts of
+/// its corrections since its last boot.
+pub fn clock_at(header: &Header, lines: &[Noted], node: u32, at: u64) -> i128
+    requires { length lines.now < 2 ^ 32 }
+    ensures clock { at ≤ 1000000000000000 → result ≡ clock_in header.now node (history_of lines.now) at }
+    ensures small { IsSmall result }
+{
+    let (rate, wall) = clock_of(header, node);
+    add(wall, moved_at(lines, node), lines.len(), tick_of(rate, at))
+}

@@ -1,0 +1,23 @@
+//! What a schedule keeps, as far as a verdict asks for it.
+ghost use Rattle.std.specs.Prelude.{MatchBool};
+ghost use Rattle.tsp_audit.specs.Parts.{AllKept};
+
+/// Which premises the whole input keeps: not only the events up to the one at hand.
+#[derive(Clone, Copy, PartialEq, Eq, Debug)]
+pub struct Premises {
+    /// No octets from outside are handed to a node as a peer's.
+    pub honest: bool,
+    /// Each take of a claimed datagram comes at most `LIFE` of true time after its claimed post.
+    pub life: bool,
+    /// The words of any two boots differ.
+    pub words: bool,
+}
+
+impl Premises {
+    /// Whether all of them are kept.
+    pub fn all_kept(&self) -> bool
+        ensures { MatchBool result (AllKept self.now) (AllKept self.now → ⊥) }
+    {
+        self.honest && self.life && self.words
+    }
+}

@@ -1,0 +1,32 @@
+//! What an audit answers.
+ghost use Rattle.std.specs.Prelude.{◌≡◌};
+ghost use Rattle.tsp_audit.specs.Named.{named};
+
+/// The verdict on a claimed history.
+#[derive(Clone, Copy, PartialEq, Eq, Debug)]
+pub enum Verdict {
+    /// All parts hold.
+    Holds,
+    /// Up to the least event at which a part fails, the part with this number is the least that fails: 12 that no node backs
+    /// two candidates within the hold, 13 that only masters correct, 14 that each correction acts at most once.
+    Fails(u32),
+}
+
+/// The first failure of a claimed history.
+#[derive(Clone, Copy, PartialEq, Eq, Debug)]
+pub struct Failure {
+    /// The number of the least part that fails.
+    pub part: u32,
+    /// The number of the least event up to which one fails, from 1.
+    pub event: u64,
+}
+
+/// The verdict that names a failure, if there is one.
+pub fn verdict_of(failed: Option<Failure>) -> Verdict
+    ensures { result ≡ named failed }
+{
+    match failed {
+        None => Verdict::Holds,
+        Some(failure) => Verdict::Fails(failure.part),
+    }
+}

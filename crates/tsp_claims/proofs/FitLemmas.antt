@@ -1,0 +1,48 @@
+-- How lines fit that are looked at one after the other.
+use Rattle.std.specs.Prelude.{◌≡◌, ℕ, zero, suc, ◌+◌, ◌<◌, ◌≤◌, true, false, List, ◌∷◌, length, drop, get_or}
+use Rattle.std.proofs.Common.{◌∙◌, ap, arith, refl, subst, sym}
+use Rattle.std.proofs.lemmas.List.{drop_more, drop_all}
+use Rattle.tsp_base.specs.declared.act.Act.{Act}
+use Rattle.tsp_base.specs.declared.act.Act.TheVariants.{Post}
+use Rattle.tsp_base.specs.declared.event.Event.{Event}
+use Rattle.tsp_claims.specs.declared.tally.Tally.{Tally}
+use Rattle.tsp_claims.specs.Fitting.{AllFit, Misfits, counted, lacks, untold}
+use Rattle.tsp_run.specs.Run.{posts_by}
+use Rattle.tsp_script.specs.declared.trace.Line2.{Line2}
+
+-- an act posts one datagram at the most
+pub posts_by-few : (a : Act) → posts_by a ≤ 1
+posts_by-few (Post to datagram) = omega arith
+posts_by-few _ = omega arith
+
+-- what the lines that are left are to all lines, behind those that were counted
+pub record Left (fits : Event → Tally → Line2 → Type 0) (e : Event) (t : Tally) (i : ℕ) (lines : List Line2) : Type 0 where
+  pub fit : AllFit fits e t (drop i lines) → AllFit fits e untold lines
+  pub misfit : (j : ℕ) → Misfits fits e t (drop i lines) j → Misfits fits e untold lines (i + j)
+
+-- before the first line all are left
+pub left-all : (fits : Event → Tally → Line2 → Type 0) (e : Event) (lines : List Line2) → Left fits e untold 0 lines
+left-all fits e lines = record { fit = λ h. h; misfit = λ j m. subst (λ k. Misfits fits e untold lines k) (omega arith) m }
+
+module _ (fits : Event → Tally → Line2 → Type 0) (e : Event) (t : Tally) (i : ℕ) (lines : List Line2) (left : Left fits e t i lines) where
+  left-is : (l : Line2) → i < length lines → get_or lines i l ≡ l → drop i lines ≡ (l ∷ drop (i + 1) lines)
+  left-is l below is = drop_more lines i l below ∙ ap (λ (k : Line2). k ∷ drop (i + 1) lines) is
+
+  -- a line that fits is counted
+  pub left-next : (l : Line2) → i < length lines → get_or lines i l ≡ l → fits e t l → Left fits e (counted t l.placed.act) (i + 1) lines
+  left-next l below is f = record {
+    fit = λ h. left.fit (subst (λ ls. AllFit fits e t ls) (sym (left-is l below is)) (f, h));
+    misfit = λ j m. subst (λ k. Misfits fits e untold lines k) (omega arith) (left.misfit (suc j) (subst (λ ls. Misfits fits e t ls (suc j)) (sym (left-is l below is)) (f, m)));
+  }
+
+  -- one that doesn't is the first
+  pub left-misfits : (l : Line2) → i < length lines → get_or lines i l ≡ l → ¬ fits e t l → Misfits fits e untold lines i
+  left-misfits l below is f = subst (λ k. Misfits fits e untold lines k) (omega arith) (left.misfit zero (subst (λ ls. Misfits fits e t ls zero) (sym (left-is l below is)) f))
+
+  -- all fit, and nothing lacks
+  pub left-fit : length lines ≤ i → lacks e t ≡ false → AllFit fits e untold lines
+  left-fit past none = left.fit (subst (λ ls. AllFit fits e t ls) (sym (drop_all i lines past)) none)
+
+  -- all fit, and something lacks
+  pub left-lacks : length lines ≤ i → lacks e t ≡ true → Misfits fits e untold lines i
+  left-lacks past some = subst (λ k. Misfits fits e untold lines k) (omega arith) (left.misfit zero (subst (λ ls. Misfits fits e t ls zero) (sym (drop_all i lines past)) (some, refl)))

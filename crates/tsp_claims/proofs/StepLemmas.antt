@@ -1,0 +1,44 @@
+-- Steps as values, and how their lines are noted.
+use Rattle.std.specs.Prelude.{◌≡◌, ℕ, ◌+◌, ◌<◌, List, [], ◌∷◌, ◌++◌, length, drop, get_or, Option, None, Some}
+use Rattle.std.proofs.Common.{◌∙◌, ap, sym, refl}
+use Rattle.std.proofs.lemmas.List.{drop_more}
+use Rattle.tsp_base.specs.Headers.{HeaderValue}
+use Rattle.tsp_base.specs.History.{Acts, Line, Step}
+use Rattle.tsp_base.specs.Joins.{joined, line_of as line_in}
+use Rattle.tsp_claims.specs.declared.acting.Acting.{Acting}
+use Rattle.tsp_claims.specs.Fitting.{acts_of}
+use Rattle.tsp_claims.specs.Steps.{ActsIn, step_by}
+use Rattle.tsp_noted.specs.declared.noted.Noted.{Noted}
+use Rattle.tsp_noted.specs.Histories.{history_of, line_of}
+use Rattle.tsp_noted.proofs.HistoryLemmas.{noted-append}
+use Rattle.tsp_run.specs.Run.{step_tick}
+use Rattle.tsp_script.specs.declared.trace.Line2.{Line2}
+
+-- a step that these values are
+pub record Acts-by (header : HeaderValue) (o : Option Step) (a : Acting) : Type 0 where
+  pub step_is : o ≡ Some (step_by a)
+  pub tick_is : a.tick ≡ step_tick header (step_by a)
+
+-- values that stand for a step are the step
+pub acts-in : (header : HeaderValue) (o : Option Step) (a : Acting) → ActsIn header o (Some a) → Acts-by header o a
+acts-in header None a h = absurd h
+acts-in header (Some step) a h = record { step_is = ap (λ s. Some s) (sym h.step_is); tick_is = h.tick_is ∙ ap (λ s. step_tick header s) (sym h.step_is) }
+
+-- no values stand for no step
+pub acts-out : (header : HeaderValue) (o : Option Step) → ActsIn header o None → o ≡ None
+acts-out header None h = refl
+acts-out header (Some step) h = absurd h
+
+-- one line more
+pub history-push : (ns : List Noted) (n : Noted) → history_of (ns ++ n ∷ []) ≡ (line_of n ∷ history_of ns)
+history-push ns n = noted-append [] ns (n ∷ [])
+
+-- the acts that are left, one line on
+pub acts-next : (lines : List Line2) (i : ℕ) (l : Line2) → i < length lines → get_or lines i l ≡ l → acts_of (drop i lines) ≡ (l.placed ∷ acts_of (drop (i + 1) lines))
+acts-next lines i l below is = ap (λ ls. acts_of ls) (drop_more lines i l below) ∙ ap (λ (k : Line2). k.placed ∷ acts_of (drop (i + 1) lines)) is
+
+-- noting the line of an act leaves one act less to be joined
+pub note-next : (s : Step) (x : ℕ) (lines : List Line2) (i : ℕ) (l : Line2) (ns : List Noted) (n : Noted) → i < length lines → get_or lines i l ≡ l → line_of n ≡ line_in s x l.placed.port (Acts l.placed.act) →
+    joined s x (acts_of (drop (i + 1) lines)) (history_of (ns ++ n ∷ [])) ≡ joined s x (acts_of (drop i lines)) (history_of ns)
+note-next s x lines i l ns n below is same =
+    ap (λ h. joined s x (acts_of (drop (i + 1) lines)) h) (history-push ns n ∙ ap (λ (k : Line). k ∷ history_of ns) same) ∙ sym (ap (λ acts. joined s x acts (history_of ns)) (acts-next lines i l below is))

@@ -1,0 +1,7 @@
+-- The claims stand for the event too, or for what they stood for.
+use Rattle.tsp_claims.specs.Fitting.{FitsAfter, Misfits, untold}
+use Rattle.tsp_claims.proofs.StandLemmas.{of-fields}
+use Rattle.tsp_claims.proofs.claims.Claims.event.Goals as goal
+
+pub returns-in-Some : goal.returns-in-Some
+returns-in-Some c = λ header claims s. (of-fields header claims c.args.self.now s (λ h ps u n. Misfits (FitsAfter h ps u n) c.args.e.now untold c.args.acts.now c.in-Some.index) c.in-Some.ensures, s)

@@ -1,0 +1,6 @@
+pub mod ClaimedHistory
+pub mod Fitting
+pub mod Listed
+pub mod Stands
+pub mod Steps
+pub mod TakingIn

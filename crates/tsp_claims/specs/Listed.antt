@@ -1,0 +1,29 @@
+-- What listed events decide, of which the newest is the first.
+use Rattle.std.specs.Prelude.{ℕ, ◌==◌, ◌<◌, Bool, false, ◌||◌, List, [], ◌∷◌, Option, None, Some, slice_get}
+use Rattle.tsp_base.specs.declared.event.Event.{Event}
+use Rattle.tsp_base.specs.declared.event.Event.TheVariants.{Boot, Turn, Take, Bytes}
+
+-- whether an event boots node n
+abbrev pub boots : Event → ℕ → Bool
+boots (Boot at node word) n = node == n
+boots _ n = false
+
+-- whether one of these events boots node n
+abbrev pub booted : List Event → ℕ → Bool
+booted [] n = false
+booted (e ∷ before) n = boots e n || booted before n
+
+abbrev pub is_up : Option Bool → Bool
+is_up None = false
+is_up (Some up) = up
+
+-- whether node n is up, by a list that says it of each node
+abbrev pub up_in : List Bool → ℕ → Bool
+up_in ups n = is_up (slice_get ups n)
+
+-- the node that an event names is one of so many; a take names none
+abbrev pub NamesNode : ℕ → Event → Type 0
+NamesNode nodes (Boot at node word) = node < nodes
+NamesNode nodes (Turn at node) = node < nodes
+NamesNode nodes (Take at k) = Unit {0}
+NamesNode nodes (Bytes at node port from octets) = node < nodes

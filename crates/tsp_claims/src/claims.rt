@@ -1,0 +1,157 @@
+//! The lines that are claimed of a schedule's events, as far as they fit.
+ghost use Rattle.std.specs.Prelude.{◌≡◌, ◌≤◌, ◌<◌, ◌+◌, ◌↔◌, ◌∷◌, [], true, IsTrue, length, vec_len, slice_get, option_copied, IfOk};
+ghost use Rattle.tsp_base.specs.Headers.{is_whole};
+ghost use Rattle.tsp_run.specs.Networks.{numbers_below};
+
+use crate::audit_fault::AuditFault;
+use crate::claimed::Claimed;
+use crate::tally::Tally;
+use std::alloc::{AllocError, Global};
+use tsp_base::event::Event;
+use tsp_base::header::Header;
+use tsp_base::members::Members;
+use tsp_nets::all_nodes;
+use tsp_noted::clocks::moved_at;
+use tsp_noted::noted::Noted;
+use tsp_script::trace::Line2;
+
+/// The claimed lines of some events, event by event: all fit the schedule.
+#[derive(Drop)]
+pub struct Claims {
+    /// The nodes' clocks, names and networks.
+    pub(crate) header: Header,
+    /// The network of all nodes, which they are on where the header names none.
+    pub(crate) one: Vec<Members>,
+    /// Whether each node has booted.
+    pub(crate) up: Vec<bool>,
+    /// The claimed lines and the marks of their steps, the oldest first.
+    pub(crate) lines: Vec<Noted>,
+    /// The claimed posts, each under its number.
+    pub(crate) posts: Vec<Claimed>,
+    /// How many events were taken in.
+    pub(crate) events: u64,
+    /// How many lines were claimed of them.
+    pub(crate) told: u64,
+    ghost places: { vec_len up ≡ length header.nodes },
+    ghost one_is: { one.items ≡ numbers_below (length header.nodes) ∷ [] },
+    ghost few_events: { events ≤ 20000 },
+    ghost few_told: { told ≤ 20000 },
+    ghost few_lines: { vec_len lines ≤ told + events },
+}
+
+impl Claims {
+    ghost use Rattle.tsp_base.specs.Headers.{HeaderValue};
+    ghost use Rattle.tsp_run.specs.Run.{event_at};
+    ghost use Rattle.tsp_noted.specs.Histories.{history_of};
+    ghost use Rattle.tsp_claims.specs.ClaimedHistory.{Claim, base_of, claimed, posts_of};
+    ghost use Rattle.tsp_claims.specs.Fitting.{FitsNext};
+    ghost use Rattle.tsp_claims.specs.Listed.{NamesNode};
+    ghost use Rattle.tsp_claims.specs.Stands.{ClaimsStand, TakesIn};
+    ghost use Rattle.std.specs.Prelude.{List, ℕ};
+
+    /// Nothing is claimed. Takes memory for the nodes; the refusal is want of memory, and drops the header.
+    pub fn new(alloc: Global, header: Header) -> Result<Claims, AllocError>
+        requires some { 1 ≤ length header.nodes }
+        requires few { length header.nodes ≤ 16 }
+        requires whole { is_whole header ≡ true }
+        ensures { IfOk result (λ claims. ClaimsStand header [] claims) }
+    {
+        let one = all_nodes(alloc, header.nodes().len() as u32)?;
+        let mut up = Vec::new(alloc);
+        for _ in header.nodes() {
+            up.push(false)?;
+        }
+        Ok(Claims {
+            header,
+            one,
+            up,
+            lines: Vec::new(alloc),
+            posts: Vec::new(alloc),
+            events: 0,
+            told: 0,
+        })
+    }
+
+    /// Takes in an event and the lines that are claimed of it: Ok exactly where they fit and memory isn't refused.
+    /// `History` names the first line that doesn't fit, or the number of lines where the event lacks something. After
+    /// either fault the claims are what they were.
+    pub fn event(&mut self, e: &Event, acts: &[Line2]) -> Result<(), AuditFault>
+        requires time { event_at e.now ≤ 1000000000000000 }
+        requires node { NamesNode (length self.old.header.nodes) e.now }
+        requires events { self.old.events < 20000 }
+        requires lines { self.old.told + length acts.now ≤ 20000 }
+        ensures { (header : HeaderValue) (claims : List Claim) → ClaimsStand header claims self.old → TakesIn header claims e.now acts.now result self.new }
+    {
+        let step = self.acting(e);
+        if let Some(index) = self.misfit(e, step, acts) {
+            return Err(AuditFault::History(index));
+        }
+        if self.make_room(acts.len()).is_err() {
+            return Err(AuditFault::OutOfMemory);
+        }
+        self.take_in(e, step, acts);
+        Ok(())
+    }
+
+    /// Whether a line fits as the next one of an event, behind lines that were counted.
+    pub fn fits(&self, e: &Event, behind: Tally, line: &Line2) -> bool
+        requires time { event_at e.now ≤ 1000000000000000 }
+        requires node { NamesNode (length self.now.header.nodes) e.now }
+        requires events { self.now.events < 20000 }
+        ensures { (header : HeaderValue) (claims : List Claim) → ClaimsStand header claims self.now → IsTrue result ↔ FitsNext header claims e.now behind line.now }
+    {
+        self.fits_in(e, self.acting(e), behind, line)
+    }
+
+    /// What a node's clock shows more than its tick, in microseconds: its wall, and the amounts of its claimed
+    /// corrections since its last boot.
+    pub fn base(&self, node: u32) -> i128
+        requires { node < length self.now.header.nodes }
+        ensures { (header : HeaderValue) (claims : List Claim) → ClaimsStand header claims self.now → result ≡ base_of header claims node }
+    {
+        i128::from(self.line(node).wall) + moved_at(self.lines.as_slice(), node)
+    }
+
+    /// The claimed post with this number; None exactly where so many posts aren't claimed.
+    pub fn post(&self, k: u64) -> Option<&Claimed>
+        ensures { (header : HeaderValue) (claims : List Claim) → ClaimsStand header claims self.now → option_copied result ≡ slice_get (posts_of header claims) k }
+    {
+        self.posts.get(k as usize)
+    }
+
+    /// The claimed posts, in order.
+    pub fn posts(&self) -> &[Claimed]
+        ensures { (header : HeaderValue) (claims : List Claim) → ClaimsStand header claims self.now → result.now ≡ posts_of header claims }
+    {
+        self.posts.as_slice()
+    }
+
+    /// The claimed lines and the marks of their steps, the oldest first.
+    pub fn lines(&self) -> &[Noted]
+        ensures lines { (header : HeaderValue) (claims : List Claim) → ClaimsStand header claims self.now → history_of result.now ≡ claimed header claims }
+        ensures few { length result.now ≤ 40000 }
+    {
+        self.lines.as_slice()
+    }
+
+    /// The nodes' clocks, names and networks.
+    pub fn header(&self) -> &Header
+        ensures { result.now ≡ self.now.header }
+    {
+        &self.header
+    }
+
+    /// How many events were taken in.
+    pub fn events(&self) -> u64
+        ensures { result ≡ self.now.events }
+    {
+        self.events
+    }
+
+    /// How many lines were claimed of them.
+    pub fn told(&self) -> u64
+        ensures { result ≡ self.now.told }
+    {
+        self.told
+    }
+}

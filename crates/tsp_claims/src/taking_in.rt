@@ -1,0 +1,167 @@
+//! How claimed lines that fit are taken in.
+ghost use Rattle.std.specs.Prelude.{◌≡◌, ◌≤◌, ◌<◌, ◌+◌, ◌++◌, ◌∷◌, [], List, length, vec_len, vec_capacity, OnOk};
+ghost use Rattle.tsp_base.specs.Headers.{HeaderValue};
+ghost use Rattle.tsp_base.specs.Joins.{joined};
+ghost use Rattle.tsp_claims.specs.ClaimedHistory.{Claim, claims_post, makes_step, posts_in, step_at};
+ghost use Rattle.tsp_claims.specs.Fitting.{acts_of};
+ghost use Rattle.tsp_claims.specs.Listed.{NamesNode, up_in};
+ghost use Rattle.tsp_claims.specs.Stands.{ClaimsStand, claim_of};
+ghost use Rattle.tsp_claims.specs.Steps.{ActsIn, step_by};
+ghost use Rattle.tsp_claims.specs.TakingIn.{HasRoom, Joins, Stays, TakesStep, Wakes};
+ghost use Rattle.tsp_noted.specs.Histories.{history_of};
+
+use crate::acting::Acting;
+use crate::claimed::Claimed;
+use crate::claims::Claims;
+use std::alloc::AllocError;
+use tsp_base::act::{Act, Placed};
+use tsp_base::event::Event;
+use tsp_base::place::Port;
+use tsp_noted::noted::Noted;
+use tsp_script::trace::Line2;
+
+/// Puts a value behind the others, where there is room.
+fn push<T: Drop>(held: &mut Vec<T>, value: T)
+    requires room { vec_len held.old < vec_capacity held.old }
+    ensures items { held.new.items ≡ held.old.items ++ value ∷ [] }
+    ensures len { vec_len held.new ≡ vec_len held.old + 1 }
+    ensures capacity { vec_capacity held.old ≤ vec_capacity held.new }
+{
+    match held.push(value) {
+        Ok(()) => {}
+        Err(_) => unreachable!(),
+    }
+}
+
+/// A line of a step: its mark, or an act on a port.
+fn noted(step: Acting, port: Port, act: Option<Act>) -> Noted
+    ensures { result ≡ record { at = step.at; node = step.node; why = step.why; tick = step.tick; port = port; act = act } }
+{
+    Noted {
+        at: step.at,
+        node: step.node,
+        why: step.why,
+        tick: step.tick,
+        port,
+        act,
+    }
+}
+
+/// Notes acts of a step.
+fn note(lines: &mut Vec<Noted>, step: Acting, acts: &[Line2])
+    requires { vec_len lines.old + length acts.now ≤ vec_capacity lines.old }
+    ensures history { history_of lines.new.items ≡ joined (step_by step) step.tick (acts_of acts.now) (history_of lines.old.items) }
+    ensures len { vec_len lines.new ≡ vec_len lines.old + length acts.now }
+{
+    for line in acts {
+        let act = line.placed.act.copy();
+        push(lines, noted(step, line.placed.port, Some(act)));
+    }
+}
+
+/// Notes the post that an act of a step claims, if it claims one.
+fn claim_one(posts: &mut Vec<Claimed>, event: u64, step: Acting, placed: &Placed)
+    requires { vec_len posts.old < vec_capacity posts.old }
+    ensures posts { posts.new.items ≡ posts.old.items ++ claims_post event (step_by step) placed.now placed.now.act }
+    ensures len { vec_len posts.new ≤ vec_len posts.old + 1 }
+    ensures capacity { vec_capacity posts.old ≤ vec_capacity posts.new }
+{
+    match &placed.act {
+        Act::Post(_, _) => {
+            let claimed = Claimed {
+                event,
+                at: step.at,
+                node: step.node,
+                placed: placed.copy(),
+            };
+            push(posts, claimed)
+        }
+        _ => {}
+    }
+}
+
+/// Notes the posts that acts of a step claim.
+fn claim(posts: &mut Vec<Claimed>, event: u64, step: Acting, acts: &[Line2])
+    requires { vec_len posts.old + length acts.now ≤ vec_capacity posts.old }
+    ensures { posts.new.items ≡ posts.old.items ++ posts_in event (step_by step) (acts_of acts.now) }
+{
+    for line in acts {
+        claim_one(posts, event, step, &line.placed);
+    }
+}
+
+/// Whether lines of an event make a step: those of a take do only where there are some.
+fn is_step(e: &Event, acts: &[Line2]) -> bool
+    ensures { result ≡ makes_step e.now (acts_of acts.now) }
+{
+    match e {
+        Event::Take { .. } => !acts.is_empty(),
+        _ => true,
+    }
+}
+
+impl Claims {
+    /// Makes room for so many lines of an event. The refusal is want of memory; either way the claims are what they were.
+    pub(crate) fn make_room(&mut self, count: usize) -> Result<(), AllocError>
+        requires { count ≤ 20000 }
+        ensures room { OnOk result (HasRoom count self.new) }
+        ensures same { Stays self.old self.new }
+    {
+        self.lines.reserve(count + 1)?;
+        self.posts.reserve(count)?;
+        Ok(())
+    }
+
+    /// Joins a step with the acts of these lines.
+    fn join(&mut self, step: Acting, acts: &[Line2])
+        requires room { HasRoom (length acts.now) self.old }
+        requires few { vec_len self.old.lines + length acts.now + 1 ≤ self.old.told + self.old.events }
+        ensures { Joins step acts.now self.old self.new }
+    {
+        push(&mut self.lines, noted(step, Port(0), None));
+        note(&mut self.lines, step, acts);
+        claim(&mut self.posts, self.events, step, acts);
+    }
+
+    /// A node has booted where the event is its boot.
+    fn wake(&mut self, e: &Event)
+        requires { NamesNode (length self.old.header.nodes) e.now }
+        ensures { Wakes e.now self.old self.new }
+    {
+        if let Event::Boot { node, .. } = e {
+            self.up[*node as usize] = true;
+        }
+    }
+
+    /// Joins the step of an event at which a node acts, if one does, with the acts of these lines; lines of a take only
+    /// where there are some.
+    fn take_step(&mut self, e: &Event, step: Option<Acting>, acts: &[Line2])
+        requires room { HasRoom (length acts.now) self.old }
+        requires few { vec_len self.old.lines + length acts.now + 1 ≤ self.old.told + self.old.events }
+        requires step { ActsIn self.old.header (step_at self.old.header self.old.posts.items (up_in self.old.up.items) e.now) step }
+        ensures { TakesStep e.now acts.now self.old self.new }
+    {
+        if !is_step(e, acts) {
+            return;
+        }
+        match step {
+            Some(step) => self.join(step, acts),
+            None => {}
+        }
+    }
+
+    /// Takes in an event at which a node acts in this step, if one does, and its lines.
+    pub(crate) fn take_in(&mut self, e: &Event, step: Option<Acting>, acts: &[Line2])
+        requires node { NamesNode (length self.old.header.nodes) e.now }
+        requires events { self.old.events < 20000 }
+        requires lines { self.old.told + length acts.now ≤ 20000 }
+        requires room { HasRoom (length acts.now) self.old }
+        requires step { ActsIn self.old.header (step_at self.old.header self.old.posts.items (up_in self.old.up.items) e.now) step }
+        ensures { (header : HeaderValue) (claims : List Claim) → ClaimsStand header claims self.old → ClaimsStand header (claim_of e.now acts.now ∷ claims) self.new }
+    {
+        self.events += 1;
+        self.told += acts.len() as u64;
+        self.take_step(e, step, acts);
+        self.wake(e);
+    }
+}

@@ -1,0 +1,141 @@
+//! Claims over lines of text.
+ghost use Rattle.std.specs.Prelude.{◌≡◌, ◌≤◌, ◌<◌, ◌+◌, true, length};
+ghost use Rattle.tsp_run.specs.Run.{event_at};
+ghost use Rattle.tsp_claims.specs.Listed.{NamesNode};
+
+use std::alloc::Global;
+use tsp_base::event::Event;
+use tsp_base::header::{Header, NodeLine};
+use tsp_base::name::Name;
+use tsp_claims::audit_fault::AuditFault;
+use tsp_claims::claims::Claims;
+use tsp_claims::tally::Tally;
+use tsp_script::act_reader::act_of;
+use tsp_script::event_line::{EventItem, event_line};
+use tsp_script::trace::Line2;
+
+/// What comes of lines that are claimed of an event.
+#[derive(Clone, Copy, PartialEq, Eq, Debug)]
+pub(crate) enum Answer {
+    /// They fit, and were taken in.
+    Fits,
+    /// The line with this index doesn't fit, or the event lacks something.
+    Misfit(usize),
+    /// Memory was refused.
+    NoMemory,
+    /// A text is no event's line, or the event can't be claimed.
+    Unread,
+}
+
+/// Two nodes on one network: one without drift whose wall shows 5 at tick 0, and one that gains 1,000 millionths.
+pub(crate) fn claims_of_two(alloc: Global) -> Option<Claims> {
+    let mut header = Header::new(alloc, 1000, false);
+    for (rate, wall) in [(0, 5), (1000, 0)] {
+        let line = NodeLine {
+            name: Name::empty(),
+            rate,
+            wall,
+            may: true,
+        };
+        header.push(line).ok()?;
+    }
+    if header.nodes().is_empty() || header.nodes().len() > 16 || !header.whole() {
+        return None;
+    }
+    Claims::new(alloc, header).ok()
+}
+
+/// The event of a schedule's line.
+fn event_of(text: &[u8]) -> Option<Event> {
+    match event_line(text) {
+        Ok(EventItem::Event(event)) => Some(event),
+        _ => None,
+    }
+}
+
+/// Whether an event's node is one of so many, and its time is in its range.
+fn is_known(e: &Event, nodes: usize) -> bool
+    ensures time { result ≡ true → event_at e.now ≤ 1000000000000000 }
+    ensures node { result ≡ true → NamesNode nodes e.now }
+{
+    match e {
+        Event::Boot { at, node, .. } => *at <= 1_000_000_000_000_000 && (*node as usize) < nodes,
+        Event::Turn { at, node } => *at <= 1_000_000_000_000_000 && (*node as usize) < nodes,
+        Event::Take { at, .. } => *at <= 1_000_000_000_000_000,
+        Event::Bytes { at, node, .. } => *at <= 1_000_000_000_000_000 && (*node as usize) < nodes,
+    }
+}
+
+/// Whether an event with so many lines can be claimed.
+fn is_claimable(claims: &Claims, e: &Event, count: usize) -> bool
+    ensures time { result ≡ true → event_at e.now ≤ 1000000000000000 }
+    ensures node { result ≡ true → NamesNode (length claims.now.header.nodes) e.now }
+    ensures events { result ≡ true → claims.now.events < 20000 }
+    ensures lines { result ≡ true → claims.now.told + count ≤ 20000 }
+{
+    is_known(e, claims.header().nodes().len())
+        && claims.events() < 20_000
+        && count <= 20_000
+        && claims.told() <= 20_000 - count as u64
+}
+
+/// The lines of a trace; None where one is no trace's.
+fn lines_of(alloc: Global, text: &str) -> Option<Vec<Line2>> {
+    let mut lines = Vec::new(alloc);
+    for line in text.lines() {
+        lines.push(act_of(line.as_bytes()).ok()?).ok()?;
+    }
+    Some(lines)
+}
+
+/// Claims the lines of a text of an event.
+fn claim(claims: &mut Claims, alloc: Global, event: &str, text: &str) -> Answer {
+    let (Some(e), Some(lines)) = (event_of(event.as_bytes()), lines_of(alloc, text)) else {
+        return Answer::Unread;
+    };
+    if !is_claimable(claims, &e, lines.len()) {
+        return Answer::Unread;
+    }
+    match claims.event(&e, lines.as_slice()) {
+        Ok(()) => Answer::Fits,
+        Err(AuditFault::History(index)) => Answer::Misfit(index),
+        Err(AuditFault::OutOfMemory) => Answer::NoMemory,
+    }
+}
+
+/// Claims row after row: an event, the lines that are claimed of it, and what should come of it. The index of the first
+/// row of which something else comes.
+pub(crate) fn first_wrong(
+    claims: &mut Claims,
+    alloc: Global,
+    rows: &[(&str, &str, Answer)],
+) -> Option<usize> {
+    for (i, (event, text, answer)) in rows.iter().enumerate() {
+        if claim(claims, alloc, event, text) != *answer {
+            return Some(i);
+        }
+    }
+    None
+}
+
+/// Whether a line fits as the first of an event, and what the event with that line alone lacks.
+pub(crate) fn looks_at(claims: &Claims, event: &str, text: &str) -> Option<(bool, bool)> {
+    let e = event_of(event.as_bytes())?;
+    let line = act_of(text.as_bytes()).ok()?;
+    if !is_claimable(claims, &e, 1) {
+        return None;
+    }
+    let mut tally = Tally::new();
+    let fits = claims.fits(&e, tally, &line);
+    tally.count(&line.placed.act);
+    Some((fits, tally.lacks(&e)))
+}
+
+/// What a node's clock shows more than its tick.
+pub(crate) fn base(claims: &Claims, node: u32) -> Option<i128> {
+    if (node as usize) < claims.header().nodes().len() {
+        Some(claims.base(node))
+    } else {
+        None
+    }
+}

@@ -1,0 +1,4 @@
+pub mod HistoryLemmas
+pub mod RoundLemmas
+pub mod SendLemmas
+pub mod SpacingLemmas

@@ -1,0 +1,9 @@
+-- What the clock of the lines so far is, and those that are left.
+use Rattle.std.proofs.Common.{◌≡◌, List, [], drop}
+use Rattle.tsp_base.specs.History.{Line}
+use Rattle.tsp_noted.specs.Clocks.{IsSumOf, Keeps}
+use Rattle.tsp_noted.specs.Histories.{noted_after}
+use Rattle.tsp_noted.proofs.clocks.clock_at.Given as goal
+
+abbrev pub invariant-loop-count : goal.invariant-loop-count
+invariant-loop-count l = (h : List Line) × Keeps l.node h l.clock × IsSumOf l.count l.clock.moved × (noted_after h (drop l.count l.lines) ≡ noted_after [] l.lines)

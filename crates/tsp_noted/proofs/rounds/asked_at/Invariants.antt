@@ -1,0 +1,12 @@
+-- The clock and the open request after the lines so far, and the lines that are left.
+use Rattle.std.proofs.Common.{◌≡◌, List, [], drop, IfSome}
+use Rattle.tsp_base.specs.History.{Line, of, view}
+use Rattle.tsp_base.specs.RoundFacts.{exchange}
+use Rattle.tsp_noted.specs.Clocks.{IsSmall, IsSumOf, Keeps}
+use Rattle.tsp_noted.specs.Histories.{noted_after}
+use Rattle.tsp_noted.specs.Rounds.{Asked}
+use Rattle.tsp_noted.proofs.rounds.asked_at.Given as goal
+
+abbrev pub invariant-loop-count : goal.invariant-loop-count
+invariant-loop-count l = (h : List Line) × Keeps l.node h l.clock × IsSumOf l.count l.clock.moved × Asked (exchange l.p l.counter (view l.port (of l.node h))) l.asked × IfSome l.asked IsSmall
+    × (noted_after h (drop l.count l.lines) ≡ noted_after [] l.lines)

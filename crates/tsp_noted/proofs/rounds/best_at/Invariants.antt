@@ -1,0 +1,10 @@
+-- The best sample after the lines so far.
+use Rattle.std.proofs.Common.{take}
+use Rattle.tsp_base.specs.History.{of, view}
+use Rattle.tsp_base.specs.RoundFacts.{best}
+use Rattle.tsp_noted.specs.Histories.{history_of}
+use Rattle.tsp_noted.specs.Rounds.{Bests}
+use Rattle.tsp_noted.proofs.rounds.best_at.Given as goal
+
+abbrev pub invariant-loop-index : goal.invariant-loop-index
+invariant-loop-index l = Bests l.lines l.node l.port (best l.p (view l.port (of l.node (history_of (take l.index l.lines))))) l.best

@@ -1,0 +1,9 @@
+pub mod Clocks
+pub mod Corrected
+pub mod Histories
+pub mod Holding
+pub mod Posts
+pub mod Rounds
+pub mod Sends
+pub mod Spacing
+pub mod Told

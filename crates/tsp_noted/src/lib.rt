@@ -1,0 +1,12 @@
+//! Lines of a history as values, and the facts that are decided of them.
+#![tactic(auto)]
+
+pub mod clocks;
+pub mod noted;
+pub mod posts;
+pub mod rounds;
+pub mod scans;
+pub mod sends;
+#[cfg(test)]
+mod tests;
+mod ticks;
