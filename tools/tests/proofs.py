@@ -1,8 +1,9 @@
 #!/usr/bin/env python3
-"""Compares docs/PROOFS.md with the crates: each crate has its row, and what a row names in parentheses is there.
+"""Compares docs/PROOFS.md and docs/RELIABILITY.md with the crates: each crate has its row in the first, and what a row names in parentheses is there.
 
 In `a`, `b` of `f`, `g` each of a and b is a clause of one of the calls f and g, or a call of the type f. A name alone is a clause, a
-call, a definition, a lemma or a file of the row's crate; a definition may be of another crate.
+call, a definition, a lemma or a file of the row's crate; a definition may be of another crate. In the second, the last three cells of a row
+are crates, calls and clauses: each crate has one of the calls, each call is there, and each clause is one of them; 'the one' is a clause without a name.
 """
 import re
 import sys
@@ -26,7 +27,7 @@ class Crate:
 
     def __init__(self, name):
         folder = ROOT / "crates" / name
-        self.clauses, self.others = {}, set()
+        self.clauses, self.unnamed, self.others = {}, {}, set()
         for path in sorted((folder / "src").glob("**/*.rt")):
             text = path.read_text()
             self.others.update((path.name, path.stem))
@@ -35,6 +36,7 @@ class Crate:
             for call, after in zip(calls, calls[1:] + [None]):
                 part = text[call.end(): after.start() if after else len(text)]
                 self.clauses.setdefault(call.group(1), set()).update(CLAUSE.findall(part))
+                self.unnamed[call.group(1)] = self.unnamed.get(call.group(1)) or re.search(r"^\s*ensures \{", part, re.M)
         for path in sorted(folder.glob("specs/**/*.antt")) + sorted(folder.glob("proofs/**/*.antt")):
             self.others.update(re.findall(r"^(?:abbrev |unfoldable )*pub (?:record |data )?([^ :(]+)", path.read_text(), re.M))
 
@@ -59,6 +61,30 @@ def missing(crate, group, defined):
     return found + [name for name in NAME.findall(before + "`") if not crate.has_of(name, owners)]
 
 
+def named(cells, crates):
+    """The faults of a row whose last three cells are crates, calls and clauses."""
+    owners, calls, clauses = ([name for name in NAME.findall(cell)] for cell in cells[-3:])
+    known = [crates[owner] for owner in owners if owner in crates]
+    faults = [f"{owner} is no crate" for owner in owners if owner not in crates]
+    faults += [f"{call} is no call of {owners}" for call in calls if not any(call in crate.clauses for crate in known)]
+    there = {clause for crate in known for call in calls for clause in crate.clauses.get(call, ())}
+    if cells[-1] == "the one":
+        faults += [f"{call} of {owners} has named clauses" for call in calls if not any(crate.unnamed.get(call) for crate in known)]
+    return faults + [f"{clause} is no clause of {calls} of {owners}" for clause in clauses if clause not in there]
+
+
+def reliability(crates):
+    """The faults of docs/RELIABILITY.md, and how many rows with crates it has."""
+    faults, count = [], 0
+    for line in (ROOT / "docs" / "RELIABILITY.md").read_text().splitlines():
+        cells = [cell.strip() for cell in line.split(" | ")]
+        if line.startswith("| ") and len(cells) == 5 and NAME.search(cells[2]):
+            cells[-1] = cells[-1].rstrip(" |")
+            count += 1
+            faults += [f"the row of {cells[0][2:]}: {fault}" for fault in named(cells, crates)]
+    return faults, count
+
+
 def main():
     rows, faults, count = {}, [], 0
     crates = {name: Crate(name) for name in crate_names()}
@@ -76,10 +102,13 @@ def main():
             count += len(NAME.findall(group))
             faults += [f"the row of {name} names {word}, which isn't there" for word in missing(crate, group, defined)]
     faults += [f"{name} has a row and is no crate" for name in rows if name not in crates]
+    faults = [f"docs/PROOFS.md: {fault}" for fault in faults]
+    others, answers = reliability(crates)
+    faults += [f"docs/RELIABILITY.md: {fault}" for fault in others]
     for fault in faults:
-        print(f"docs/PROOFS.md: {fault}", file=sys.stderr)
+        print(fault, file=sys.stderr)
     if not faults:
-        print(f"proofs: {count} names in the rows of {len(rows)} crates")
+        print(f"proofs: {count} names in the rows of {len(rows)} crates, and the clauses of {answers} rows of answers")
     sys.exit(1 if faults else 0)
 
 

@@ -1,0 +1,78 @@
+//! A replay each of whose reads and writes fails in turn.
+use std::alloc::{AllocError, Global};
+use std::process::Abort;
+use tsp_io::memory::{MemorySink, MemorySource};
+use tsp_lines::treat::Outcome;
+use tsp_replay::run::replay;
+
+/// A schedule of one node that boots, is turned, and answers a stranger's stamp: 143 octets, of which the header's lines
+/// are the first 39, the boot's the next 14, and the turn's the next 13.
+const SCHEDULE: &str = "\
+tsp-schedule 1
+drift 0
+node a 0 1000 m
+at 0 boot 0 5
+at 10 turn 0
+at 20 bytes 0 - 80010000000000000000000100000000000000020000000000000000
+end
+";
+
+/// What the boot comes to.
+const BOOTED: &str = "\
+1 0 0 0 boot
+1 0 0 0 become starting
+1 0 0 0 arm quiet 80000000
+";
+
+/// The trace of the schedule.
+const TRACE: &str = "\
+1 0 0 0 boot
+1 0 0 0 become starting
+1 0 0 0 arm quiet 80000000
+3 0 0 20 took - request 1 2
+3 0 0 20 post 0 - reply 5 1 2 1020
+";
+
+/// Whether a replay in reads of at most 40 octets, where these reads and writes fail, comes to this outcome and text.
+fn comes(
+    alloc: Global,
+    reads: &[u32],
+    writes: &[u32],
+    outcome: Outcome,
+    written: &str,
+) -> Result<bool, AllocError> {
+    let mut source = MemorySource::new(alloc, SCHEDULE.as_bytes(), reads)?.in_pieces(40);
+    let mut sink = MemorySink::new(alloc, writes)?;
+    let came = replay(alloc, &mut source, &mut sink);
+    Ok(came == outcome && sink.written() == written.as_bytes())
+}
+
+/// The reads give 40, 40, 40 and 23 octets, and then the end. What the lines that were got come to is written before a
+/// read fails.
+#[test]
+fn each_read_fails(rt: HostRuntime) {
+    for (failing, outcome, written) in [
+        (0, Outcome::ReadFault, ""),
+        (1, Outcome::ReadFault, ""),
+        (2, Outcome::ReadFault, BOOTED),
+        (3, Outcome::ReadFault, BOOTED),
+        (4, Outcome::ReadFault, TRACE),
+        (5, Outcome::Ok, TRACE),
+    ] {
+        let right = comes(rt.alloc(), &[failing], &[], outcome, written);
+        assert!(rt; right == Ok(true), "read {failing}");
+    }
+}
+
+/// What the lines of a read come to is one write.
+#[test]
+fn each_write_fails(rt: HostRuntime) {
+    for (failing, outcome, written) in [
+        (0, Outcome::WriteFault, ""),
+        (1, Outcome::WriteFault, BOOTED),
+        (2, Outcome::Ok, TRACE),
+    ] {
+        let right = comes(rt.alloc(), &[], &[failing], outcome, written);
+        assert!(rt; right == Ok(true), "write {failing}");
+    }
+}

@@ -1,0 +1,5 @@
+#!/bin/sh
+# Where memory is refused, the program ends well or for want of memory, with a beginning of its output.
+. "$(dirname "$0")/common.sh"
+serving_program
+tools/fail-alloc "$program"

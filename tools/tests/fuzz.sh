@@ -1,0 +1,5 @@
+#!/bin/sh
+# A running daemon answers on, whatever comes to it, and takes no memory for it.
+. "$(dirname "$0")/common.sh"
+serving_program
+tools/fuzz --requests 1000 "$program"
