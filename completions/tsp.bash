@@ -48,7 +48,7 @@ _tsp_plot() {
 _tsp_sim() {
     case $3 in
     --program | -p) mapfile -t COMPREPLY < <(compgen -c -- "$2") ;;
-    *) mapfile -t COMPREPLY < <(compgen -W '--nodes --slaves --drift --wall --latency --loss --twice --cut --reboot --until --seed --program --help' -- "$2") ;;
+    *) mapfile -t COMPREPLY < <(compgen -W '--nodes --slaves --drift --wall --latency --loss --twice --cut --reboot --net --until --seed --program --help' -- "$2") ;;
     esac
 }
 

@@ -4,33 +4,39 @@
 ./tsp show </dev/null || fail "the program isn't there"
 export TSP_PROGRAM=crates/tsp_cli/out/tsp_cli
 
-for schedule in tools/tests/lint.tsp examples/*.tsp examples/schedules/*.tsp; do
+for schedule in tools/tests/lint.tsp tools/tests/nets.tsp examples/*.tsp examples/schedules/*.tsp; do
     tools/tsp-lint "$schedule" >"$out/said" || fail "$schedule is refused"
     [ ! -s "$out/said" ] || fail "something is said of $schedule"
 done
 
 count=0
-while IFS= read -r case; do
-    case $case in '#'*) continue ;; esac
-    script=${case%% | *} rest=${case#* | }
-    wanted=${rest%% |*} hint=${rest#* | }
-    sed "$script" tools/tests/lint.tsp >"$out/broken.tsp"
-    status=0
-    "$TSP_PROGRAM" replay <"$out/broken.tsp" >"$out/trace" 2>"$out/warning" || status=$?
-    if [ "$wanted" = ok ]; then
-        [ "$status" -eq 0 ] || fail "$script: replay ends with status $status"
-        tools/tsp-lint "$out/broken.tsp" >"$out/said" || fail "$script: tsp-lint ends with status $?"
-        continue
-    fi
-    [ "$status" -eq 2 ] || fail "$script: replay ends with status $status"
-    [ "$(tail -n 1 "$out/trace")" = "$wanted" ] || fail "$script: replay ends with '$(tail -n 1 "$out/trace")'"
-    status=0
-    tools/tsp-lint "$out/broken.tsp" >"$out/said" || status=$?
-    [ "$status" -eq 2 ] || fail "$script: tsp-lint ends with status $status"
-    [ "$(head -n 1 "$out/said")" = "$wanted" ] || fail "$script: tsp-lint says '$(head -n 1 "$out/said")'"
-    [ "$(sed -n 2p "$out/said")" = "$out/broken.tsp:$hint" ] || fail "$script: tsp-lint says '$(sed -n 2p "$out/said")'"
-    count=$((count + 1))
-done <tools/tests/lint.cases
+# Tries each case of a file on the schedule beside it.
+try_cases() {
+    good=$1 cases=$2
+    while IFS= read -r case; do
+        case $case in '#'*) continue ;; esac
+        script=${case%% | *} rest=${case#* | }
+        wanted=${rest%% |*} hint=${rest#* | }
+        sed "$script" "$good" >"$out/broken.tsp"
+        status=0
+        "$TSP_PROGRAM" replay <"$out/broken.tsp" >"$out/trace" 2>"$out/warning" || status=$?
+        if [ "$wanted" = ok ]; then
+            [ "$status" -eq 0 ] || fail "$script: replay ends with status $status"
+            tools/tsp-lint "$out/broken.tsp" >"$out/said" || fail "$script: tsp-lint ends with status $?"
+            continue
+        fi
+        [ "$status" -eq 2 ] || fail "$script: replay ends with status $status"
+        [ "$(tail -n 1 "$out/trace")" = "$wanted" ] || fail "$script: replay ends with '$(tail -n 1 "$out/trace")'"
+        status=0
+        tools/tsp-lint "$out/broken.tsp" >"$out/said" || status=$?
+        [ "$status" -eq 2 ] || fail "$script: tsp-lint ends with status $status"
+        [ "$(head -n 1 "$out/said")" = "$wanted" ] || fail "$script: tsp-lint says '$(head -n 1 "$out/said")'"
+        [ "$(sed -n 2p "$out/said")" = "$out/broken.tsp:$hint" ] || fail "$script: tsp-lint says '$(sed -n 2p "$out/said")'"
+        count=$((count + 1))
+    done <"$cases"
+}
+try_cases tools/tests/lint.tsp tools/tests/lint.cases
+try_cases tools/tests/nets.tsp tools/tests/nets.cases
 [ "$count" -ge 20 ] || fail "only $count cases were tried"
 
 # Both refuse standard input with this status and this last and first line.

@@ -8,9 +8,9 @@ import sys
 
 from tsp_texts import schedule, verdict
 
-GOOD = ['tools/tests/lint.tsp', 'examples/election.tsp', 'examples/correction.tsp', 'examples/hold.tsp']
+GOOD = ['tools/tests/lint.tsp', 'tools/tests/nets.tsp', 'examples/election.tsp', 'examples/correction.tsp', 'examples/hold.tsp']
 OCTETS = b' 0123456789abmsz-+.%\n\r\t\x00\xff/N'
-WORDS = b'at boot turn take bytes end node drift 0 1 2 -1 00 18446744073709551616 4294967296 1000000000000001 m s'.split(b' ') + [b'']
+WORDS = b'at boot turn take bytes end node net drift 0 1 2 -1 00 18446744073709551616 4294967296 1000000000000001 m s 1/1 0/1'.split(b' ') + [b'']
 
 
 def spoiled(text, draw):

@@ -58,8 +58,17 @@ grep -q '^at 500000000 boot 1 ' "$out/run.tsp" || fail 'node 1 does not boot aga
 [ "$(datagrams | count '$5 != "-" && ($2 == 2 || $3 == 2) && $4 >= 420500000')" -gt 0 ] || fail 'a node stays cut off'
 tools/tsp-lint "$out/run.tsp" || fail 'tsp-lint refuses a schedule of tsp-sim'
 
+# A gateway between two others hears both, on a port each; these don't hear each other.
+simulate --seed 3 --nodes 3 --net 0,1 --net 1,2 --until 1200
+[ "$(grep -c '^net ' "$out/run.tsp")" -eq 2 ] || fail 'there are not two networks'
+for port in 0 1; do
+    [ "$(awk -v port="$port" '$2 == 1 && $3 == port && $5 == "took" && $6 != "-"' "$out/run.trace" | wc -l)" -gt 0 ] || fail "port $port of the gateway hears nobody"
+done
+[ "$(datagrams | count '($2 == 0 && $3 == 2) || ($2 == 2 && $3 == 0)')" -eq 0 ] || fail 'two nodes without a network between them send to each other'
+tools/tsp-lint "$out/run.tsp" || fail 'tsp-lint refuses a schedule with networks'
+
 # Faulty words are refused.
-for words in '--nodes 0' '--loss 2' '--reboot 3@5' '--cut 0@9-8' '--latency 9 8'; do
+for words in '--nodes 0' '--loss 2' '--reboot 3@5' '--cut 0@9-8' '--latency 9 8' '--net 0,1' '--net 0,1,2,3'; do
     # shellcheck disable=SC2086  # words
     ! tools/tsp-sim $words >/dev/null 2>&1 || fail "$words is accepted"
 done

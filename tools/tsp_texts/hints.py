@@ -4,7 +4,7 @@ from typing import Callable, NamedTuple
 
 from tsp_texts import schedule
 
-WORD_BITS, NODE_BITS = 64, 32
+WORD_BITS, NODE_BITS, PORT_BITS = 64, 32, 8
 
 
 class Field(NamedTuple):
@@ -76,6 +76,15 @@ def peer(given, nodes):
     return None if given == '-' else number('P', 'a peer\'s number, or `-` for a stranger,', 0, 2**NODE_BITS - 1).hint(given, nodes)
 
 
+def actor(given, nodes):
+    """A node's number, and with a stroke a port of it."""
+    node, stroke, port = given.partition('/')
+    if stroke and re.fullmatch('0+', port):
+        return f'port 0 is named by the node alone: {node}'
+    return number('N', 'a node\'s number', 0, 2**NODE_BITS - 1).hint(node, nodes) or \
+        (number('Q', 'a port\'s number', 1, 2**PORT_BITS - 1).hint(port, ()) if stroke else None)
+
+
 def octets(given, _nodes):
     bad = re.search('[^0-9a-fA-F]', given)
     if given.lower().startswith('0x'):
@@ -95,7 +104,7 @@ EVENTS = {
     'boot': [AT, TIME, literal('boot'), NODE, number('WORD', 'the word of the boot', 0, 2**WORD_BITS - 1)],
     'turn': [AT, TIME, literal('turn'), NODE],
     'take': [AT, TIME, literal('take'), number('K', 'a datagram\'s number', 0, 2**WORD_BITS - 1)],
-    'bytes': [AT, TIME, literal('bytes'), NODE, Field('P', 'the sender: a peer\'s number, or `-`', peer),
+    'bytes': [AT, TIME, literal('bytes'), Field('N', 'a node\'s number, and behind a stroke its port', actor), Field('P', 'the sender: a peer\'s number, or `-`', peer),
               Field('HEX', 'octets in hexadecimal', octets)],
 }
 FIRST = [literal('tsp-schedule'), Field('VERSION', 'the version, 1 or 2', lambda given, _: None if given in ('1', '2') else '`1` belongs here, or `2` for strict elections')]
@@ -109,6 +118,35 @@ def node_line(drift):
     return [literal('node'), Field('NAME', 'the node\'s name', name_of_a_node),
             number('RATE', 'the clock\'s rate in parts in a million', -drift, drift), WALL,
             Field('FLAG', '`m` where the node may be master, or `s`', flag)]
+
+
+def explain_net(line, nodes):
+    """The field and the hint for a network's line that isn't one."""
+    count = max(line.count(b' '), 1)
+    field, hint = explain(line, [literal('net')] + [NODE] * count, nodes)
+    numbers = line.split(b' ')[1:]
+    if field <= count + 1:
+        return field, hint
+    fall = next(place for place, (low, high) in enumerate(zip(numbers, numbers[1:]), start=3) if int(low) >= int(high))
+    return fall, 'the nodes of a network ascend, and each stands once'
+
+
+def full_net(net, nodes, nets):
+    """The field and the hint for a network that the header doesn't take."""
+    if len(nets) == schedule.MOST_NETS:
+        return 1, f'there are {schedule.MOST_NETS} networks, and no more are taken'
+    for field, node in enumerate(net, start=2):
+        if node >= len(nodes):
+            return field, f'there are {len(nodes)} nodes, numbered from 0'
+        if len(schedule.ports_of(nets, node)) == schedule.MOST_PORTS:
+            return field, f'node {node} is on {schedule.MOST_PORTS} networks already'
+    raise AssertionError('the header takes this network')
+
+
+def lonely(nodes, nets):
+    """The hint where the header ends, and a node is on no network."""
+    node = next(node for node in range(len(nodes)) if not schedule.ports_of(nets, node))
+    return f'node {node}, {nodes[node].name}, is on no network, and others are'
 
 
 def blank_hint(line):
@@ -163,8 +201,10 @@ def explain_event(line, nodes):
     words = line.decode('ascii', 'backslashreplace').split(' ')
     if blank_hint(line):
         return explain(line, [AT])
-    if words[0] == 'node':
-        return 1, 'a node stands in the header, before the first event'
+    if words == ['net']:
+        return 2, 'N is missing: a network names its nodes, and stands in the header'
+    if words[0] in ('node', 'net'):
+        return 1, f'a {"node" if words[0] == "node" else "network"} stands in the header, before the first event'
     if words[0] in ('drift', 'strict', 'tsp-schedule'):
         return 1, f'`{words[0]}` stands in the header'
     if words[0] != 'at':

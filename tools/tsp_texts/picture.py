@@ -64,6 +64,12 @@ class Picture:
         place = self.ports.index((node, port)) if (node, port) in self.ports else [each[0] for each in self.ports].index(node)
         return self.lanes + LANE * place + LANE / 2
 
+    def there(self, post):
+        """The height of the lane of the port that a post goes to."""
+        schedule = self.history.schedule
+        net = schedule.net_of_port(post.act.node, post.act.port)
+        return self.lane(post.to, schedule.port_on(post.to, net) or 0)
+
     def has_lane(self, node):
         return any(each[0] == node for each in self.ports)
 
@@ -148,12 +154,12 @@ class Picture:
                 self.lost(x, y, there, f'{title}: never taken')
                 continue
             for at in self.history.takes.get(number, []):
-                self.line(x, y, self.x(at), self.lane(post.to), '#333', ' stroke-width=".7"', title)
+                self.line(x, y, self.x(at), self.there(post), '#333', ' stroke-width=".7"', title)
             if number not in self.history.takes:
-                self.lost(x, y, y + (self.lane(post.to) - y) * .3, f'{title}: never taken')
+                self.lost(x, y, y + (self.there(post) - y) * .3, f'{title}: never taken')
         for event in self.history.schedule.events:
             if event.kind == 'bytes' and self.has_lane(event.node):
-                x, y = self.x(event.at), self.lane(event.node) - 10
+                x, y = self.x(event.at), self.lane(event.node, event.port) - 10
                 self.put(f'<path d="M{x:.1f} {y:.1f}l-3 -6h6z" fill="#555"><title>octets from outside</title></path>')
 
     def lost(self, x, y, there, title):

@@ -8,6 +8,8 @@ from typing import NamedTuple, Optional
 LONGEST_LINE = 1024
 MOST_OCTETS = 64 * 2**20
 MOST_NODES = 64
+MOST_NETS = 64
+MOST_PORTS = 4
 MOST_EVENTS = 200_000
 MOST_DRIFT = 1000
 FARTHEST = 10**15
@@ -23,7 +25,8 @@ NODE = re.compile(rb'node ([A-Za-z0-9._-]{1,255}) ' + SIGNED + b' ' + SIGNED + r
 BOOT = re.compile(rb'at ' + NUMBER + b' boot ' + NUMBER + b' ' + NUMBER)
 TURN = re.compile(rb'at ' + NUMBER + b' turn ' + NUMBER)
 TAKE = re.compile(rb'at ' + NUMBER + b' take ' + NUMBER)
-BYTES = re.compile(rb'at ' + NUMBER + b' bytes ' + NUMBER + b' ' + PEER + rb' ((?:[0-9a-fA-F]{2}){1,300})')
+BYTES = re.compile(rb'at ' + NUMBER + b' bytes ' + NUMBER + rb'(?:/([1-9][0-9]*))? ' + PEER + rb' ((?:[0-9a-fA-F]{2}){1,300})')
+NET = re.compile(rb'net((?: ' + NUMBER + rb')+)')
 
 
 class Node(NamedTuple):
@@ -35,7 +38,7 @@ class Node(NamedTuple):
 
 
 class Event(NamedTuple):
-    """An event; a take has the number of its datagram, any other the node that acts. `peer` is that of `bytes`."""
+    """An event; a take has the number of its datagram, any other the node that acts. `peer` and `port` are those of `bytes`."""
     kind: str
     at: int
     node: Optional[int] = None
@@ -43,6 +46,7 @@ class Event(NamedTuple):
     word: Optional[int] = None
     peer: Optional[int] = None
     octets: Optional[bytes] = None
+    port: int = 0
 
 
 class Schedule(NamedTuple):
@@ -51,6 +55,15 @@ class Schedule(NamedTuple):
     drift: int
     nodes: list
     events: list
+    nets: list = []
+
+    def net_of_port(self, node, port):
+        """The network that a port of a node is on."""
+        return ports_of(self.nets, node)[port]
+
+    def port_on(self, node, net):
+        """The port on which a node is on a network, or None."""
+        return next((port for port, other in enumerate(ports_of(self.nets, node)) if other is net), None)
 
 
 class NotASchedule(Exception):
@@ -80,6 +93,29 @@ def node_of(line, drift):
     return Node(found[1].decode(), int(found[2]), int(found[3]), found[4] == b'm')
 
 
+def net_of(line):
+    """The nodes of the network that a line states, or None; whether there are such nodes isn't looked at."""
+    found = is_short(line) and NET.fullmatch(line)
+    numbers = [int(word) for word in found[1].split()] if found else []
+    rises = all(low < high for low, high in zip(numbers, numbers[1:]))
+    return numbers if numbers and rises and numbers[-1] < 2**32 else None
+
+
+def ports_of(nets, node):
+    """The networks of a node's ports; the one of all nodes is None."""
+    return [net for net in nets if node in net] if nets else [None]
+
+
+def takes_net(nodes, nets, net):
+    """Whether a header of these nodes and networks takes one network more."""
+    return len(nets) < MOST_NETS and net[-1] < len(nodes) and all(len(ports_of(nets + [net], node)) <= MOST_PORTS for node in net)
+
+
+def is_whole(nodes, nets):
+    """Whether a header may end: it has nodes, and each is on a network."""
+    return bool(nodes) and all(ports_of(nets, node) for node in range(len(nodes)))
+
+
 def event_of(line):
     """The event that a line states, or None."""
     event = any_event_of(line) if is_short(line) else None
@@ -95,8 +131,8 @@ def any_event_of(line):
     if found := TAKE.fullmatch(line):
         return Event('take', int(found[1]), datagram=int(found[2]))
     if found := BYTES.fullmatch(line):
-        peer = None if found[3] == b'-' else int(found[3])
-        return Event('bytes', int(found[1]), int(found[2]), peer=peer, octets=bytes.fromhex(found[4].decode()))
+        peer = None if found[4] == b'-' else int(found[4])
+        return Event('bytes', int(found[1]), int(found[2]), peer=peer, octets=bytes.fromhex(found[5].decode()), port=int(found[3] or 0))
     return None
 
 
@@ -104,7 +140,7 @@ def fits(event):
     """Whether an event's numbers are within their types."""
     small = [number for number in (event.node, event.peer) if number is not None]
     large = [number for number in (event.word, event.datagram) if number is not None]
-    return all(number < 2**32 for number in small) and all(number < 2**64 for number in large)
+    return all(number < 2**32 for number in small) and all(number < 2**64 for number in large) and event.port < 2**8
 
 
 def lines_of(text):
@@ -123,14 +159,19 @@ def read(path):
     strict = TITLES[lines[0]]
     if strict and lines[2:3] != [b'strict']:
         raise NotASchedule(3)
-    nodes, events = [], []
+    nodes, nets, events = [], [], []
     first = 4 if strict else 3
     for number, line in enumerate(lines[first - 1:], start=first):
-        if line == b'end' and nodes:
-            return Schedule(strict, drift, nodes, events)
-        is_node = not events and line.startswith(b'node ')
-        value = node_of(line, drift) if is_node else event_of(line)
-        if value is None or not (is_node or nodes):
+        if line == b'end' and is_whole(nodes, nets):
+            return Schedule(strict, drift, nodes, events, nets)
+        if not events and line.startswith(b'node ') and not nets:
+            found, value = nodes, node_of(line, drift)
+        elif not events and line.startswith(b'net '):
+            found, value = nets, net_of(line)
+            value = value if value and takes_net(nodes, nets, value) else None
+        else:
+            found, value = events, event_of(line) if is_whole(nodes, nets) else None
+        if value is None:
             raise NotASchedule(number)
-        (nodes if is_node else events).append(value)
+        found.append(value)
     raise NotASchedule(len(lines) + 1)

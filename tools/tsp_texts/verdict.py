@@ -23,7 +23,7 @@ class Reader:
     """Reads a schedule line by line, and knows what a line may be at its place."""
 
     def __init__(self):
-        self.strict, self.drift, self.nodes = False, None, []
+        self.strict, self.drift, self.nodes, self.nets = False, None, [], []
         self.events, self.time, self.up = 0, 0, set()
         self.number, self.ended, self.stopped = 0, False, False
 
@@ -38,10 +38,15 @@ class Reader:
             return self.header(*hints.explain(line, hints.DRIFT)) if self.drift is None else None
         if self.number == 3 and self.strict:
             return None if line == b'strict' else self.header(*hints.explain(line, hints.STRICT))
-        if not self.events and not self.ended and line.startswith(b'node '):
+        in_header = not self.events and not self.ended
+        if in_header and line.startswith(b'node '):
             return self.node(line)
+        if in_header and line.startswith(b'net '):
+            return self.net(line)
         if not self.nodes:
             return self.header(1, hints.NO_STRICT if line == b'strict' and self.number == 3 else 'a node\'s line belongs here: node NAME RATE WALL FLAG')
+        if not schedule.is_whole(self.nodes, self.nets):
+            return self.header(0, hints.lonely(self.nodes, self.nets))
         return self.event(line)
 
     def header(self, field, hint):
@@ -52,9 +57,20 @@ class Reader:
         value = schedule.node_of(line, self.drift)
         if value is None:
             return self.header(*hints.explain(line, hints.node_line(self.drift)))
+        if self.nets:
+            return self.header(1, 'nodes stand before networks')
         if len(self.nodes) == schedule.MOST_NODES:
             return self.header(1, f'there are {schedule.MOST_NODES} nodes, and no more are taken')
         self.nodes.append(value)
+        return None
+
+    def net(self, line):
+        value = schedule.net_of(line)
+        if value is None:
+            return self.header(*hints.explain_net(line, self.nodes))
+        if not schedule.takes_net(self.nodes, self.nets, value):
+            return self.header(*hints.full_net(value, self.nodes, self.nets))
+        self.nets.append(value)
         return None
 
     def event(self, line):
@@ -75,10 +91,14 @@ class Reader:
         count = len(self.nodes)
         if event.at < self.time:
             return Fault(self.number, f'time-back {event.at} {self.time}', 2, f'the time goes back: the last event was at {self.time}')
-        for field, node in ((4, event.node), (5, event.peer)):
-            if node is not None and node >= count:
-                there = f'there are {count} nodes, numbered 0 to {count - 1}' if count > 1 else 'there is one node, number 0'
-                return Fault(self.number, f'no-node {node} {count}', field, there)
+        there = f'there are {count} nodes, numbered 0 to {count - 1}' if count > 1 else 'there is one node, number 0'
+        if event.node is not None and event.node >= count:
+            return Fault(self.number, f'no-node {event.node} {count}', 4, there)
+        if event.port and event.port >= (ports := len(schedule.ports_of(self.nets, event.node))):
+            has = f'node {event.node} has {ports} ports, numbered from 0' if ports > 1 else f'node {event.node} has one port, which is named by its number alone'
+            return Fault(self.number, f'no-node {event.node} {count}', 4, has)
+        if event.peer is not None and event.peer >= count:
+            return Fault(self.number, f'no-node {event.peer} {count}', 5, there)
         if event.kind in ('turn', 'bytes') and event.node not in self.up:
             name = self.nodes[event.node].name
             return Fault(self.number, f'not-up {event.node}', 4, f'node {event.node}, {name}, hasn\'t booted: `at T boot {event.node} WORD` comes first')
@@ -99,6 +119,8 @@ class Reader:
         self.number += 1
         if not self.nodes:
             return Fault(self.number, 'header', 0, 'the input ends before the first node')
+        if not schedule.is_whole(self.nodes, self.nets):
+            return Fault(self.number, 'header', 0, hints.lonely(self.nodes, self.nets))
         return None if self.ended else Fault(self.number, 'no-end', 0, 'the last line is `end`, and it is missing')
 
 
