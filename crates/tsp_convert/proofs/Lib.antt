@@ -1,5 +1,5 @@
 mod Conversions
-mod Lengths
+pub mod Lengths
 mod NamesApart
 mod LinesApart
 mod InRanges

@@ -17,11 +17,11 @@ use Rattle.tsp_base.specs.declared.stamp.Stamp.TheVariants.{Request, Reply}
 use Rattle.tsp_base.specs.declared.datagram.Datagram.{Datagram}
 use Rattle.tsp_base.specs.declared.datagram.Datagram.TheVariants.{Message, Stamp}
 use Rattle.tsp_script.specs.Ranges.{IsBody, IsMessage, IsDatagram}
-use Rattle.tsp_script.specs.Texts.{space, body_text, name_text, message_line, reply_text, stamp_text, message_text}
+use Rattle.tsp_script.specs.Texts.{space, body_text, name_text, message_line, message_text}
 use Rattle.tsp_script.proofs.Bodies.{time_body, hops_body}
 use Rattle.tsp_script.proofs.Apart.{words_apart, numbers_apart, signs_apart}
 use Rattle.tsp_script.proofs.KindWords.{kind_word-injective, kind_word-not_request, kind_word-not_reply, no_space-kind_word, no_space-spaceless}
-use Rattle.tsp_script.proofs.MessageLines.{message_rest, request_rest, reply_rest, message_of_parts}
+use Rattle.tsp_script.proofs.MessageLines.{message_rest, request_rest, reply_rest, message_form, request_form, reply_form, message_of_parts}
 use Rattle.tsp_convert.specs.Packs.{IsLineOf}
 use Rattle.tsp_convert.proofs.NamesApart.{name_text-injective}
 
@@ -58,15 +58,6 @@ bodies_apart k (Hops m) (Time u) r s h i f g e = absurd (hops_body k (Time u) f 
 bodies_apart k (Hops m) (Hops n) r s h i f g e =
     let p = numbers_apart m n r s (omega (arith, h)) (omega (arith, i)) (sym (spaced (decimal m) r) ∙ e ∙ spaced (decimal n) s) in
     (ap Hops p.0, p.1)
-
-message_form : (m : MessageValue) → message_line m ≡ kind_word m.kind ++ 32 ∷ message_rest m
-message_form m = simp append_assoc
-
-request_form : (word counter : ℕ) → stamp_text (Request word counter) ≡ codes "request" ++ 32 ∷ request_rest word counter
-request_form word counter = simp append_assoc
-
-reply_form : (r : ReplyValue) → reply_text r ≡ codes "reply" ++ 32 ∷ reply_rest r
-reply_form r = simp append_assoc
 
 messages_apart : (m n : MessageValue) → IsMessage m → IsMessage n → message_line m ≡ message_line n → m ≡ n
 messages_apart m n h i e =

@@ -1,7 +1,6 @@
 //! Message lines to hexadecimal lines.
-ghost use Rattle.std.specs.Prelude.{◌≡◌, ℕ, List, ◌≤◌, ◌<◌, ◌+◌, length, ⊤, MatchResult};
+ghost use Rattle.std.specs.Prelude.{◌≡◌, ℕ, List, ◌≤◌, ◌<◌, ◌+◌, length, take, ⊤, MatchResult};
 ghost use Rattle.hex.specs.Hex.{encode_lower};
-ghost use Rattle.arrayvec.specs.ArrayVec.{array_vec_len};
 ghost use Rattle.tsp_io.specs.Counts.{Rose};
 ghost use Rattle.tsp_codec.specs.Canon.{canon};
 ghost use Rattle.tsp_base.specs.declared.datagram.Datagram.{Datagram};
@@ -10,29 +9,36 @@ ghost use Rattle.tsp_lines.specs.Meanings.{Goes, StopsAt, Closes, StopsAtEnd};
 ghost use Rattle.tsp_convert.specs.Packs.{IsLineOf, RefusesMessage, pack_meaning};
 
 use crate::hand_over::hand_over;
-use arrayvec::ArrayVec;
 use tsp_codec::encode;
 use tsp_io::sink::Sink;
 use tsp_lines::cause::Cause;
 use tsp_lines::output::Output;
 use tsp_lines::treatment::{Stop, Treatment};
-use tsp_script::message_reader::message_in;
-use tsp_script::numbers::{append, append_hex};
+use tsp_script::message_reader::message_of;
 
-/// Writes the octets of the datagram of a message line, in hexadecimal and with a line feed.
-fn packed(line: &[u8], text: &mut ArrayVec<u8, 1024>) -> Result<(), Cause>
-    requires { length line.now ≤ 1024 }
+/// Writes the octets of the datagram of a message line to the front of a buffer, in hexadecimal and with a line
+/// feed; gives how many octets these are.
+fn packed(line: &[u8], text: &mut [u8; 1024]) -> Result<usize, Cause>
     ensures { MatchResult result
-        (λ _. (d : Datagram) × IsLineOf line.now d × (text.new.items ≡ close (encode_lower (canon d))))
+        (λ n. (n ≤ 1024) × ((d : Datagram) × IsLineOf line.now d × (take n text.new ≡ close (encode_lower (canon d)))))
         (λ cause. RefusesMessage line.now cause) }
 {
-    let Ok(datagram) = message_in(line, text) else {
-        return Err(Cause::of(b"message"));
-    };
-    text.clear();
-    append_hex(text, encode(&datagram).as_slice());
-    append(text, b"\n");
-    Ok(())
+    match message_of(line) {
+        Ok(datagram) => Ok(digits_of(encode(&datagram).as_slice(), text)),
+        Err(_) => Err(Cause::of(b"message")),
+    }
+}
+
+/// Writes octets to the front of a buffer, in hexadecimal and with a line feed; gives how many octets these are.
+fn digits_of(octets: &[u8], text: &mut [u8; 1024]) -> usize
+    requires { length octets.now ≤ 268 }
+    ensures short { result ≤ 1024 }
+    ensures text { take result text.new ≡ close (encode_lower octets.now) }
+{
+    let count = octets.len() * 2;
+    let _ = hex::encode_to_slice(octets, &mut text[..count]);
+    text[count] = b'\n';
+    count + 1
 }
 
 /// Takes message lines, and gives the octets that are written for each one's datagram in hexadecimal,
@@ -43,15 +49,13 @@ fn packed(line: &[u8], text: &mut ArrayVec<u8, 1024>) -> Result<(), Cause>
 /// It keeps the place of a line's text, so that no line makes it.
 #[derive(Drop)]
 pub struct Pack {
-    text: ArrayVec<u8, 1024>,
+    text: [u8; 1024],
 }
 
 impl Pack {
     /// No line was taken.
     pub fn new() -> Pack {
-        Pack {
-            text: ArrayVec::new(),
-        }
+        Pack { text: [0; 1024] }
     }
 }
 
@@ -71,7 +75,7 @@ impl Treatment for Pack {
         sink: &mut K,
     ) -> Result<(), Stop> {
         match packed(line, &mut self.text) {
-            Ok(()) => hand_over(self.text.as_slice(), output, sink),
+            Ok(count) => hand_over(&self.text[..count], output, sink),
             Err(cause) => Err(Stop::Bad(cause)),
         }
     }

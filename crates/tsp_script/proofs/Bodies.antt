@@ -42,3 +42,20 @@ unfolding body_fits
 no_body k Nothing line rest g h f e = (refl, e)
 no_body k (Time t) line rest g h f e = absurd (true_or_false (carries_time k) f g)
 no_body k (Hops n) line rest g h f e = absurd (true_or_false (carries_hops k) f h)
+
+-- the body of a kind
+pub time_fits : (k : Kind) (b : Body) → carries_time k ≡ true → IsTimeBody b → body_fits k b ≡ true
+unfolding body_fits
+time_fits k Nothing h b = elim b [ ]
+time_fits k (Time t) h b = h
+time_fits k (Hops n) h b = elim b [ ]
+
+pub hops_fit : (k : Kind) (b : Body) → carries_hops k ≡ true → IsHopsBody b → body_fits k b ≡ true
+unfolding body_fits
+hops_fit k Nothing h b = elim b [ ]
+hops_fit k (Time t) h b = elim b [ ]
+hops_fit k (Hops n) h b = h
+
+pub nothing_fits : (k : Kind) → carries_time k ≡ false → carries_hops k ≡ false → body_fits k Nothing ≡ true
+unfolding body_fits
+nothing_fits k g h = rw (g, h) refl

@@ -1,5 +1,5 @@
 -- Laws of the words of a line.
-use Rattle.std.proofs.Common.{◌≡◌, ◌≢◌, ℕ, ◌<◌, List, [], ◌∷◌, ◌++◌, zero, suc, length, take, drop, slice_index_or, refl, ap, subst, ◌∙◌, ◌≤◌, inl, inr, arith}
+use Rattle.std.proofs.Common.{◌≡◌, ◌≢◌, ℕ, ◌<◌, List, [], ◌∷◌, ◌++◌, zero, suc, length, take, drop, slice_index_or, refl, ap, sym, subst, ◌∙◌, ◌≤◌, inl, inr, arith}
 use Rattle.std.specs.Prelude.{Contains, decimal, ◌^◌, ℤ, pos, negsuc}
 use Rattle.std.specs.Fmt.{signed_decimal}
 use Rattle.std.specs.Str.Parse.{AllDigits}
@@ -74,6 +74,19 @@ mark_front m line word rest n e = rw e (before_mark-front m word rest n, after_m
 -- a line of a word, a space and more
 pub cut_front : (line word rest : List ℕ) → ¬ Contains word 32 → line ≡ word ++ 32 ∷ rest → (first_word line ≡ word) × (after_word line ≡ rest)
 cut_front line word rest n e = mark_front 32 line word rest n e
+
+-- a line with something behind its first mark
+line_of_marks : (m : ℕ) (line : List ℕ) → 0 < length (after_mark m line) → line ≡ before_mark m line ++ m ∷ after_mark m line
+line_of_marks m [] h = absurd (omega arith)
+line_of_marks m (c ∷ cs) h = elim (eqb_tells c m) [
+  | inl e ↦ rw (before_mark-mark m c cs e.1, after_mark-mark m c cs e.1) (ap (λ x. x ∷ cs) e.1)
+  | inr e ↦ rw (before_mark-other m c cs e.1, after_mark-other m c cs e.1) (ap (λ xs. c ∷ xs) (line_of_marks m cs (let k = h in rw (after_mark-other m c cs e.1) at k)))
+]
+
+pub cut_back : (line word rest text : List ℕ) → word ≡ first_word line → rest ≡ after_word line → word ≡ text → 0 < length rest → line ≡ text ++ 32 ∷ rest
+cut_back line word rest text v r e h =
+    let behind : 0 < length (after_word line) = omega (arith, ap length r) in
+    line_of_marks 32 line behind ∙ rw (sym v ∙ e, sym r) refl
 
 -- what stands behind a mark is shorter than the whole
 length-after_mark-le : (m : ℕ) (line : List ℕ) → length (after_mark m line) ≤ length line

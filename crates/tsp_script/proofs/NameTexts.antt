@@ -2,8 +2,9 @@
 use Rattle.std.proofs.Common.{◌≡◌, ℕ, ◌<◌, ◌≤◌, List, [], ◌∷◌, ◌++◌, zero, suc, length, take, drop, refl, ap, sym, ◌∙◌, arith, true, false, Bool, Result, Ok, Err, Some, ◌^◌, append_assoc}
 use Rattle.std.specs.Result.{result_ok}
 use Rattle.std.specs.List.{AllPass}
-use Rattle.std.specs.Prelude.{MatchResult, flat_map, if◌then◌else◌}
+use Rattle.std.specs.Prelude.{MatchResult, IfSome, flat_map, if◌then◌else◌}
 use Rattle.std.proofs.lemmas.Grind.{common_steps}
+use Rattle.std.proofs.lemmas.List.{flat_map_more}
 use Rattle.hex.specs.Hex.{encode_lower, encode_with, decode_sized, IsBytes}
 use Rattle.hex.specs.declared.error.FromHexError.{FromHexError}
 use Rattle.hex.proofs.HexLemmas.{decode_sized-encode_lower}
@@ -36,6 +37,16 @@ percent_case false c x xs rest p h e = cc
 pub percent_front : (c x : ℕ) (xs rest : List ℕ) → x ≡ 37 → x ∷ xs ≡ escaped c ++ rest → xs ≡ encode_lower (c ∷ []) ++ rest
 percent_front c x xs rest h e = percent_case (is_plain c) c x xs rest refl h e
 
+-- such an octet doesn't stand for itself
+escapes_case : (b : Bool) (c x : ℕ) (xs rest : List ℕ) → is_plain c ≡ b → x ≡ 37 → x ∷ xs ≡ (if b then c ∷ [] else 37 ∷ encode_lower (c ∷ [])) ++ rest → is_plain c ≡ false
+escapes_case true c x xs rest p h e =
+    let q : c ≡ 37 = cc in
+    absurd (true_or_false (is_plain c) p (rw q refl))
+escapes_case false c x xs rest p h e = p
+
+pub percent_escapes : (c x : ℕ) (xs rest : List ℕ) → x ≡ 37 → x ∷ xs ≡ escaped c ++ rest → is_plain c ≡ false
+percent_escapes c x xs rest h e = escapes_case (is_plain c) c x xs rest refl h e
+
 pub pair_front : (c : ℕ) (xs rest : List ℕ) → xs ≡ encode_lower (c ∷ []) ++ rest → (take 2 xs ≡ encode_lower (c ∷ [])) × (drop 2 xs ≡ rest) × (2 ≤ length xs)
 unfolding encode_with
 pair_front c xs rest e = rw e (refl, refl, omega arith)
@@ -65,10 +76,27 @@ pub name_empty : (name : List ℕ) → 37 ∷ [] ≡ name_text name → name ≡
 name_empty [] e = refl
 name_empty (c ∷ cs) e = absurd (lone_case (is_plain c) c (flat_map escaped cs) refl e)
 
+-- the text of a name isn't empty
+some_case : (b : Bool) (c : ℕ) (rest : List ℕ) → 0 < length ((if b then c ∷ [] else 37 ∷ encode_lower (c ∷ [])) ++ rest)
+some_case true c rest = omega arith
+some_case false c rest = omega arith
+
+pub name_text_some : (name : List ℕ) → 0 < length (name_text name)
+name_text_some [] = omega arith
+name_text_some (c ∷ cs) = some_case (is_plain c) c (flat_map escaped cs)
+
 -- the octet behind those that were read
 pub IsBytes-next : (name items : List ℕ) (c : ℕ) (left : List ℕ) → IsBytes name → name ≡ items ++ c ∷ left → c < 256
 IsBytes-next name [] c left h e = let k = h 0 in rw e at k
 IsBytes-next name (x ∷ xs) c left h e = IsBytes-next (xs ++ c ∷ left) xs c left (λ i. let k = h (suc i) in rw e at k) refl
+
+IsBytes-behind : (items : List ℕ) (c : ℕ) → IsBytes items → c < 256 → IsBytes (items ++ c ∷ [])
+IsBytes-behind [] c b h i = IsBytes-one c h i
+IsBytes-behind (x ∷ xs) c b h zero = b 0
+IsBytes-behind (x ∷ xs) c b h (suc i) = IsBytes-behind xs c (λ k. b (suc k)) h i
+
+pub IsBytes-more : (items more : List ℕ) (c : ℕ) → IsBytes items → c < 256 → more ≡ items ++ c ∷ [] → IsBytes more
+IsBytes-more items more c b h m = rw m (IsBytes-behind items c b h)
 
 -- what is left of a name when its text is read as far as rest
 abbrev pub Left : List ℕ → List ℕ → List ℕ → Type 0
@@ -130,3 +158,30 @@ plain_case false c cs text p h more e =
 pub plain_name : (name text : List ℕ) → AllPass is_plain text → text ≡ flat_map escaped name → name ≡ text
 plain_name [] text h e = sym e
 plain_name (c ∷ cs) text h e = plain_case (is_plain c) c cs text refl h (λ t. plain_name cs (flat_map escaped cs) t refl) e
+
+-- one octet more of those that were read
+pub more_read : (text items more rest after : List ℕ) (octet : ℕ) → text ≡ flat_map escaped items ++ rest → rest ≡ escaped octet ++ after → more ≡ items ++ octet ∷ []
+    → text ≡ flat_map escaped more ++ after
+more_read text items more rest after octet e f m =
+    let t : (flat_map escaped items ++ escaped octet) ++ after ≡ flat_map escaped (items ++ octet ∷ []) ++ after = ap (λ x. x ++ after) (flat_map_more escaped [] items octet) in
+    e ∙ rw (f, m) (sym (append_assoc (flat_map escaped items) (escaped octet) after) ∙ t)
+
+-- a text that was read whole
+pub text_read : (text items rest : List ℕ) → length rest ≡ 0 → text ≡ flat_map escaped items ++ rest → text ≡ flat_map escaped items
+text_read text items [] n e = e ∙ grind (arith, common_steps)
+text_read text items (x ∷ xs) n e = absurd (omega (arith, n))
+
+-- the octets of a text that isn't empty
+name_begun : (octets text : List ℕ) → 0 < length text → text ≡ flat_map escaped octets → text ≡ name_text octets
+name_begun [] text s e = absurd (omega (arith, s, ap length e))
+name_begun (c ∷ cs) text s e = e
+
+-- the name that is made of the octets of a text
+pub name_found : (r : Result (List ℕ) NameFault) (octets text : List ℕ) → IsBytes octets → 0 < length text → text ≡ flat_map escaped octets → NameGives r octets
+    → IfSome (result_ok r) (λ n. IsName n × IsBytes n × (text ≡ name_text n))
+name_found (Ok x) octets text b s e g = rw g.1 (g.0, b, name_begun octets text s e)
+name_found (Err TooLong) octets text b s e g = tt
+name_found (Err HasNul) octets text b s e g = tt
+
+pub empty_found : (name text : List ℕ) → name ≡ [] → text ≡ 37 ∷ [] → IsName name × IsBytes name × (text ≡ name_text name)
+empty_found name text n e = rw n (record { short = omega arith; no_nul = λ k. omega (arith, k.1) }, (λ i. omega arith), e)

@@ -1,5 +1,5 @@
 -- The name of a node of a generated schedule.
-use Rattle.std.proofs.Common.{◌≡◌, ◌≢◌, ℕ, ◌<◌, ◌≤◌, ◌^◌, List, ◌∷◌, zero, suc, length, Err, subst, sym, arith}
+use Rattle.std.proofs.Common.{◌≡◌, ℕ, ◌<◌, ◌^◌, List, ◌∷◌, zero, suc, Err, subst, arith}
 use Rattle.std.specs.Prelude.{Contains, decimal}
 use Rattle.tsp_base.specs.Names.{NameGives}
 use Rattle.tsp_base.specs.declared.name.NameFault.{NameFault}

@@ -1,5 +1,6 @@
 -- Laws of answers: an answer is one thing alone.
 use Rattle.std.proofs.Common.{◌≡◌, Option, Some, None, Result, Ok, Err, Bool, true, false}
+use Rattle.std.specs.Prelude.{IfSome}
 
 pub some_injective : {A : Type 0} (a b : A) → Some a ≡ Some b → a ≡ b
 some_injective a b p = cc
@@ -21,3 +22,8 @@ err_or_ok r e a p q = cc
 
 pub true_or_false : (b : Bool) → b ≡ true → b ≡ false → ⊥
 true_or_false b p q = cc
+
+-- what follows for each value follows for the one that is there
+pub if_some-then : {A : Type 0} {P Q : A → Type 0} (r : Option A) → ((a : A) → P a → Q a) → IfSome r P → IfSome r Q
+if_some-then None f h = h
+if_some-then (Some a) f h = f a h

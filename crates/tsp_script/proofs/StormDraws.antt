@@ -1,7 +1,6 @@
 -- What a generator draws.
-use Rattle.std.proofs.Common.{◌≡◌, ℕ, ◌+◌, ◌<◌, ◌≤◌, sym, ap, ◌∙◌, refl, arith}
-use Rattle.tsp_script.specs.Storms.{StormValue, moved, drawn, turns_one, asks_one, as_event, asks_or_turns, chosen, storm_draw}
-use Rattle.tsp_script.specs.declared.storm.Draw.{Draw}
+use Rattle.std.proofs.Common.{◌≡◌, ℕ, ◌+◌, ◌<◌, ◌≤◌, ◌∙◌, arith}
+use Rattle.tsp_script.specs.Storms.{StormValue, moved, drawn, asks_one, as_event, asks_or_turns, chosen, storm_draw}
 
 chosen-ask : (c at posted : ℕ) (v : StormValue) → 4 ≤ c → c < 7 → asks_or_turns at posted v ≡ chosen c at posted v
 chosen-ask c at posted v low high = grind arith

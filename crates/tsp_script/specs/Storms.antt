@@ -1,5 +1,5 @@
 -- The generator of schedules: what it draws from a number.
-use Rattle.std.specs.Prelude.{◌≡◌, ℕ, ◌+◌, ◌-◌, ◌*◌, ◌/◌, ◌%◌, ◌^◌, ◌≤◌, ◌<◌, nat_lt, nat_le, ◌==◌, min, Bool, true, if◌then◌else◌, ℤ, pos, ◌-ℤ◌, List, ◌∷◌, decimal, Option, None, Some}
+use Rattle.std.specs.Prelude.{ℕ, ◌+◌, ◌-◌, ◌*◌, ◌/◌, ◌%◌, ◌^◌, ◌≤◌, ◌<◌, nat_lt, nat_le, ◌==◌, min, true, if◌then◌else◌, pos, ◌-ℤ◌, List, ◌∷◌, decimal, Option, None, Some}
 use Rattle.tsp_base.specs.declared.event.Event.{Event}
 use Rattle.tsp_base.specs.declared.event.Event.TheVariants.{Boot, Turn, Take, Bytes}
 use Rattle.tsp_base.specs.declared.header.NodeLine.{NodeLine}

@@ -1,8 +1,5 @@
-//! Reads message lines.
-//!
-//! Each function here reads at least every line that is written; a line may be read too that no value is
-//! written as. `message_in` writes what was read again and compares, so that it reads no other spelling.
-ghost use Rattle.std.specs.Prelude.{◌≡◌, ℕ, ◌^◌, ◌<◌, ◌++◌, ◌∷◌, List, decimal, codes, true, IsSomeAnd};
+//! Reads message lines: each function reads every text that is written, and no other.
+ghost use Rattle.std.specs.Prelude.{◌≡◌, ℕ, ◌^◌, ◌<◌, ◌++◌, ◌∷◌, List, length, decimal, codes, true, IfSome, IsSomeAnd};
 ghost use Rattle.std.specs.Fmt.{signed_decimal};
 ghost use Rattle.tsp_base.specs.Kinds.{kind_word};
 ghost use Rattle.tsp_base.specs.Messages.{MessageValue, body_fits};
@@ -13,11 +10,9 @@ ghost use Rattle.tsp_script.specs.Ranges.{IsBody, IsMessage, IsDatagram};
 ghost use Rattle.tsp_script.specs.Texts.{body_text, name_text, message_text, ReadsMessage, IsTimeBody, IsHopsBody};
 
 use crate::line_fault::LineFault;
-use crate::messages::append_datagram;
 use crate::names::name_of;
 use crate::numbers::{next_number, next_signed, number_of, short_of, signed_of};
 use crate::words::{cut, is_same};
-use arrayvec::ArrayVec;
 use tsp_base::datagram::Datagram;
 use tsp_base::kind::Kind;
 use tsp_base::message::{Body, Message};
@@ -26,7 +21,8 @@ use tsp_base::stamp::Stamp;
 
 /// Reads what follows `request`.
 fn read_request(line: &[u8]) -> Option<Datagram>
-    ensures { (word counter : ℕ) → word < 2 ^ 64 → counter < 2 ^ 64 → line.now ≡ decimal word ++ 32 ∷ decimal counter
+    ensures found { IfSome result (λ d. IsDatagram d × (0 < length line.now) × (codes "request" ++ 32 ∷ line.now ≡ message_text d)) }
+    ensures reads { (word counter : ℕ) → word < 2 ^ 64 → counter < 2 ^ 64 → line.now ≡ decimal word ++ 32 ∷ decimal counter
         → result ≡ Some (Datagram.Stamp (Stamp.Request word counter)) }
 {
     let (word, line) = next_number(line)?;
@@ -36,7 +32,8 @@ fn read_request(line: &[u8]) -> Option<Datagram>
 
 /// Reads what follows `reply`.
 fn read_reply(line: &[u8]) -> Option<Datagram>
-    ensures { (r : ReplyValue) → r.word < 2 ^ 64 → r.counter < 2 ^ 64 → IsReply r.ticket r.reading
+    ensures found { IfSome result (λ d. IsDatagram d × (0 < length line.now) × (codes "reply" ++ 32 ∷ line.now ≡ message_text d)) }
+    ensures reads { (r : ReplyValue) → r.word < 2 ^ 64 → r.counter < 2 ^ 64 → IsReply r.ticket r.reading
         → line.now ≡ decimal r.ticket ++ 32 ∷ (decimal r.word ++ 32 ∷ (decimal r.counter ++ 32 ∷ signed_decimal r.reading))
         → result ≡ Some (Datagram.Stamp (Stamp.Reply r)) }
 {
@@ -49,7 +46,8 @@ fn read_reply(line: &[u8]) -> Option<Datagram>
 
 /// The reply of these values.
 fn reply_of(ticket: u64, word: u64, counter: u64, reading: i64) -> Option<Datagram>
-    ensures { IsReply ticket reading → result ≡ Some (Datagram.Stamp (Stamp.Reply (record { ticket = ticket; word = word; counter = counter; reading = reading }))) }
+    ensures found { IfSome result (λ d. IsReply ticket reading × (d ≡ Datagram.Stamp (Stamp.Reply (record { ticket = ticket; word = word; counter = counter; reading = reading })))) }
+    ensures reads { IsReply ticket reading → result ≡ Some (Datagram.Stamp (Stamp.Reply (record { ticket = ticket; word = word; counter = counter; reading = reading }))) }
 {
     let ticket = short_of(ticket)?;
     let stamp = Stamp::reply(ticket, word, counter, reading)?;
@@ -58,7 +56,8 @@ fn reply_of(ticket: u64, word: u64, counter: u64, reading: i64) -> Option<Datagr
 
 /// Reads what stands between a message's number and its name, and gives what follows.
 fn next_body(kind: Kind, line: &[u8]) -> Option<(Body, &[u8])>
-    ensures { (body : Body) (rest : List ℕ) → IsBody body → body_fits kind body ≡ true → line.now ≡ body_text body ++ rest
+    ensures found { IfSome result (λ r. IsBody r.0 × (body_fits kind r.0 ≡ true) × (0 < length r.1.now → line.now ≡ body_text r.0 ++ r.1.now)) }
+    ensures reads { (body : Body) (rest : List ℕ) → IsBody body → body_fits kind body ≡ true → line.now ≡ body_text body ++ rest
         → IsSomeAnd result (λ r. (r.0 ≡ body) × (r.1.now ≡ rest)) }
 {
     if kind.carries_time() {
@@ -72,7 +71,8 @@ fn next_body(kind: Kind, line: &[u8]) -> Option<(Body, &[u8])>
 
 /// Reads a time, and gives what follows.
 fn next_time(line: &[u8]) -> Option<(Body, &[u8])>
-    ensures { (body : Body) (rest : List ℕ) → IsBody body → IsTimeBody body → line.now ≡ body_text body ++ rest
+    ensures found { IfSome result (λ r. IsBody r.0 × IsTimeBody r.0 × (0 < length r.1.now → line.now ≡ body_text r.0 ++ r.1.now)) }
+    ensures reads { (body : Body) (rest : List ℕ) → IsBody body → IsTimeBody body → line.now ≡ body_text body ++ rest
         → IsSomeAnd result (λ r. (r.0 ≡ body) × (r.1.now ≡ rest)) }
 {
     let (time, rest) = next_signed(line)?;
@@ -82,7 +82,8 @@ fn next_time(line: &[u8]) -> Option<(Body, &[u8])>
 
 /// Reads a hop count, and gives what follows.
 fn next_hops(line: &[u8]) -> Option<(Body, &[u8])>
-    ensures { (body : Body) (rest : List ℕ) → IsBody body → IsHopsBody body → line.now ≡ body_text body ++ rest
+    ensures found { IfSome result (λ r. IsBody r.0 × IsHopsBody r.0 × (0 < length r.1.now → line.now ≡ body_text r.0 ++ r.1.now)) }
+    ensures reads { (body : Body) (rest : List ℕ) → IsBody body → IsHopsBody body → line.now ≡ body_text body ++ rest
         → IsSomeAnd result (λ r. (r.0 ≡ body) × (r.1.now ≡ rest)) }
 {
     let (hops, rest) = next_number(line)?;
@@ -92,7 +93,8 @@ fn next_hops(line: &[u8]) -> Option<(Body, &[u8])>
 
 /// Reads what follows a message's word.
 fn read_plain(word: &[u8], line: &[u8]) -> Option<Datagram>
-    ensures { (m : MessageValue) → IsMessage m → word.now ≡ kind_word m.kind
+    ensures found { IfSome result (λ d. IsDatagram d × (0 < length line.now) × (word.now ++ 32 ∷ line.now ≡ message_text d)) }
+    ensures reads { (m : MessageValue) → IsMessage m → word.now ≡ kind_word m.kind
         → line.now ≡ decimal m.number ++ 32 ∷ (body_text m.body ++ name_text m.name)
         → result ≡ Some (Datagram.Message m) }
 {
@@ -109,7 +111,8 @@ fn read_plain(word: &[u8], line: &[u8]) -> Option<Datagram>
 
 /// Reads a message's line.
 fn read_message(line: &[u8]) -> Option<Datagram>
-    ensures { (d : Datagram) → IsDatagram d → line.now ≡ message_text d → result ≡ Some d }
+    ensures found { IfSome result (λ d. IsDatagram d × (line.now ≡ message_text d)) }
+    ensures reads { (d : Datagram) → IsDatagram d → line.now ≡ message_text d → result ≡ Some d }
 {
     let (word, rest) = cut(line);
     if is_same(word, b"request") {
@@ -126,22 +129,8 @@ pub fn message_of(line: &[u8]) -> Result<Datagram, LineFault>
     ensures reads { ReadsMessage line.now result }
     ensures one { (d : Datagram) → IsDatagram d → line.now ≡ message_text d → result ≡ Ok d }
 {
-    message_in(line, &mut ArrayVec::new())
-}
-
-/// The same, in a place for the line as it is written, which a caller of many lines keeps.
-pub fn message_in(line: &[u8], written: &mut ArrayVec<u8, 1024>) -> Result<Datagram, LineFault>
-    ensures reads { ReadsMessage line.now result }
-    ensures one { (d : Datagram) → IsDatagram d → line.now ≡ message_text d → result ≡ Ok d }
-{
-    let Some(datagram) = read_message(line) else {
-        return Err(LineFault::Bad);
-    };
-    written.clear();
-    append_datagram(written, &datagram);
-    if is_same(written.as_slice(), line) {
-        Ok(datagram)
-    } else {
-        Err(LineFault::Bad)
+    match read_message(line) {
+        Some(datagram) => Ok(datagram),
+        None => Err(LineFault::Bad),
     }
 }

@@ -80,41 +80,61 @@ pub fn append_name(out: &mut ArrayVec<u8, 1024>, name: &Name)
     }
 }
 
-/// The octet that two hexadecimal digits stand for.
+/// The octet whose two digits these are, in lower case.
 fn octet_of(pair: &[u8]) -> Option<u8>
-    ensures { (c : ℕ) → c < 2 ^ 8 → pair.now ≡ encode_lower (c ∷ []) → result ≡ Some c }
+    ensures found { IfSome result (λ c. pair.now ≡ encode_lower (c ∷ [])) }
+    ensures reads { (c : ℕ) → c < 2 ^ 8 → pair.now ≡ encode_lower (c ∷ []) → result ≡ Some c }
 {
     let mut octet = [0u8; 1];
     match hex::decode_to_slice(pair, &mut octet) {
-        Ok(()) => Some(octet[0]),
-        Err(_) => None,
+        Ok(()) if is_pair_of(pair, octet[0]) => Some(octet[0]),
+        _ => None,
     }
+}
+
+/// Whether these are the two digits of an octet, in lower case.
+fn is_pair_of(pair: &[u8], octet: u8) -> bool
+    ensures { MatchBool result (pair.now ≡ encode_lower (octet ∷ [])) (pair.now ≡ encode_lower (octet ∷ []) → ⊥) }
+{
+    let mut digits = [0u8; 2];
+    let _ = hex::encode_to_slice([octet], &mut digits);
+    is_same(pair, &digits)
 }
 
 /// The octet whose text stands first, and what follows that text.
 fn first_octet(text: &[u8]) -> Option<(u8, &[u8])>
+    ensures found { IfSome result (λ r. (r.0 < 2 ^ 8) × (text.now ≡ escaped r.0 ++ r.1.now)) }
     ensures reads { (c : ℕ) (rest : List ℕ) → c < 2 ^ 8 → text.now ≡ escaped c ++ rest → IsSomeAnd result (λ r. (r.0 ≡ c) × (r.1.now ≡ rest)) }
     ensures shorter { IfSome result (λ r. length r.1.now < length text.now) }
 {
     let (first, rest) = text.split_first()?;
-    if *first != b'%' {
+    if is_plain(*first) {
         return Some((*first, rest));
+    }
+    if *first != b'%' {
+        return None;
     }
     if rest.len() < 2 {
         return None;
     }
     let (pair, rest) = rest.split_at(2);
     let octet = octet_of(pair)?;
+    if is_plain(octet) {
+        return None;
+    }
     Some((octet, rest))
 }
 
-/// The name that has this text. A text of no name may be read too: whoever must know writes the name
-/// again and compares.
+/// The name that has this text; None exactly where no name has it.
 pub(crate) fn name_of(text: &[u8]) -> Option<Name>
-    ensures { (name : List ℕ) → IsName name → IsBytes name → text.now ≡ name_text name → result ≡ Some name }
+    ensures found { IfSome result (λ name. IsName name × IsBytes name × (text.now ≡ name_text name)) }
+    ensures reads { (name : List ℕ) → IsName name → IsBytes name → text.now ≡ name_text name → result ≡ Some name }
 {
     if is_same(text, b"%") {
         return Some(Name::empty());
+    }
+    if text.is_empty() {
+        return None;
     }
     if are_plain(text) {
         return Name::of(text).ok();
@@ -122,10 +142,12 @@ pub(crate) fn name_of(text: &[u8]) -> Option<Name>
     unescaped(text)
 }
 
-/// The name that has this text, read octet by octet. A text of no name may be read too.
+/// The same, read octet by octet.
 fn unescaped(text: &[u8]) -> Option<Name>
-    requires { text.now ≢ codes "%" }
-    ensures { (name : List ℕ) → IsName name → IsBytes name → text.now ≡ name_text name → result ≡ Some name }
+    requires some { 0 < length text.now }
+    requires not_empty { text.now ≢ codes "%" }
+    ensures found { IfSome result (λ name. IsName name × IsBytes name × (text.now ≡ name_text name)) }
+    ensures reads { (name : List ℕ) → IsName name → IsBytes name → text.now ≡ name_text name → result ≡ Some name }
 {
     let mut octets = ArrayVec::<u8, 255>::new();
     let mut rest = text;

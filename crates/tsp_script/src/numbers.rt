@@ -212,7 +212,8 @@ pub fn octets_in(line: &[u8], buffer: &mut [u8; 512]) -> Option<usize>
 /// The number that stands before the first space, and what follows the space. A line without a space
 /// may be read too.
 pub(crate) fn next_number(line: &[u8]) -> Option<(u64, &[u8])>
-    ensures { (n : ℕ) (rest : List ℕ) → n < 2 ^ 64 → line.now ≡ decimal n ++ 32 ∷ rest → IsSomeAnd result (λ r. (r.0 ≡ n) × (r.1.now ≡ rest)) }
+    ensures found { IfSome result (λ r. (r.0 < 2 ^ 64) × (0 < length r.1.now → line.now ≡ decimal r.0 ++ 32 ∷ r.1.now)) }
+    ensures reads { (n : ℕ) (rest : List ℕ) → n < 2 ^ 64 → line.now ≡ decimal n ++ 32 ∷ rest → IsSomeAnd result (λ r. (r.0 ≡ n) × (r.1.now ≡ rest)) }
 {
     let (word, rest) = cut(line);
     let number = number_of(word)?;
@@ -232,7 +233,8 @@ pub(crate) fn front_number(line: &[u8]) -> Option<(u64, &[u8])>
 /// The number with its sign that stands before the first space, and what follows the space. A line
 /// without a space may be read too.
 pub(crate) fn next_signed(line: &[u8]) -> Option<(i64, &[u8])>
-    ensures { (n : ℤ) (rest : List ℕ) → FitsSigned w64 n → line.now ≡ signed_decimal n ++ 32 ∷ rest → IsSomeAnd result (λ r. (r.0 ≡ n) × (r.1.now ≡ rest)) }
+    ensures found { IfSome result (λ r. 0 < length r.1.now → line.now ≡ signed_decimal r.0 ++ 32 ∷ r.1.now) }
+    ensures reads { (n : ℤ) (rest : List ℕ) → FitsSigned w64 n → line.now ≡ signed_decimal n ++ 32 ∷ rest → IsSomeAnd result (λ r. (r.0 ≡ n) × (r.1.now ≡ rest)) }
 {
     let (word, rest) = cut(line);
     let number = signed_of(word)?;
@@ -241,7 +243,8 @@ pub(crate) fn next_signed(line: &[u8]) -> Option<(i64, &[u8])>
 
 /// The number as 16 bits, where it fits.
 pub(crate) fn short_of(number: u64) -> Option<u16>
-    ensures { number < 2 ^ 16 → result ≡ Some number }
+    ensures fits { number < 2 ^ 16 → result ≡ Some number }
+    ensures same { IfSome result (λ n. (n ≡ number) × (n < 2 ^ 16)) }
 {
     u16::try_from(number).ok()
 }

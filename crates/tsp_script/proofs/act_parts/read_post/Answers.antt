@@ -9,13 +9,13 @@ use Rattle.tsp_script.proofs.act_parts.read_post.Goals as goal
 
 pub returns-in_err-to-clause-reads : goal.returns-in_err-to-clause-reads
 returns-in_err-to-clause-reads c = λ number to d h p i e.
-    let n = c.in_ok-number.ensures number (place_text to ++ 32 ∷ message_text d) h e in
+    let n = c.in_ok-number.ensures.reads number (place_text to ++ 32 ∷ message_text d) h e in
     let w = cut_front c.in_ok-number.rest.now (place_text to) (message_text d) (no_space-place to p) n.1 in
     absurd (none_not_some to (c.in_err-to.ensures.reads to p (c.cut.ensures.word ∙ w.0)))
 
 pub returns-in-Ok-clause-reads : goal.returns-in-Ok-clause-reads
 returns-in-Ok-clause-reads c = λ number to d h p i e.
-    let n = c.in_ok-number.ensures number (place_text to ++ 32 ∷ message_text d) h e in
+    let n = c.in_ok-number.ensures.reads number (place_text to ++ 32 ∷ message_text d) h e in
     let w = cut_front c.in_ok-number.rest.now (place_text to) (message_text d) (no_space-place to p) n.1 in
     let t : c.in_ok-to.to ≡ to = some_injective _ _ (c.in_ok-to.ensures.reads to p (c.cut.ensures.word ∙ w.0)) in
     let s : Ok c.in-Ok.datagram ≡ Ok d = c.in-Ok.ensures.one d i (c.cut.ensures.rest ∙ w.1) in
@@ -24,7 +24,7 @@ returns-in-Ok-clause-reads c = λ number to d h p i e.
 
 pub returns-in-Err-clause-reads : goal.returns-in-Err-clause-reads
 returns-in-Err-clause-reads c = λ number to d h p i e.
-    let n = c.in_ok-number.ensures number (place_text to ++ 32 ∷ message_text d) h e in
+    let n = c.in_ok-number.ensures.reads number (place_text to ++ 32 ∷ message_text d) h e in
     let w = cut_front c.in_ok-number.rest.now (place_text to) (message_text d) (no_space-place to p) n.1 in
     let s : Err c.in-Err.field-0 ≡ Ok d = c.in-Err.ensures.one d i (c.cut.ensures.rest ∙ w.1) in
     cc

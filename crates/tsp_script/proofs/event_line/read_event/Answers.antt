@@ -7,7 +7,7 @@ use Rattle.tsp_script.proofs.event_line.read_event.Goals as goal
 
 pub returns-then-is_same-clause-reads : goal.returns-then-is_same-clause-reads
 returns-then-is_same-clause-reads c = λ e hex h x l.
-    let a = c.in_ok-at.ensures (at_of e) (verb_of e ++ 32 ∷ rest_of e hex) (omega (arith, IsTrueTime-at_of e h)) (c.cut.ensures.rest ∙ after_at e c.args.line.now hex l) in
+    let a = c.in_ok-at.ensures.reads (at_of e) (verb_of e ++ 32 ∷ rest_of e hex) (omega (arith, IsTrueTime-at_of e h)) (c.cut.ensures.rest ∙ after_at e c.args.line.now hex l) in
     let v = cut_front c.in_ok-at.line.now (verb_of e) (rest_of e hex) (no_space-verb_of e) a.1 in
     bytes_reads (λ f y. IsSomeAnd c.read_bytes.result (λ r. (r.0 ≡ f) × (r.1.now ≡ y))) c.in_ok-at.at c.cut-2.result.1.now hex e h x a.0
     (sym c.if-is_same.ensures ∙ (c.cut-2.ensures.word ∙ v.0)) (c.cut-2.ensures.rest ∙ v.1)
@@ -15,14 +15,14 @@ returns-then-is_same-clause-reads c = λ e hex h x l.
 
 pub returns-clause-reads : goal.returns-clause-reads
 returns-clause-reads c = λ e hex h x l.
-    let a = c.in_ok-at.ensures (at_of e) (verb_of e ++ 32 ∷ rest_of e hex) (omega (arith, IsTrueTime-at_of e h)) (c.cut.ensures.rest ∙ after_at e c.args.line.now hex l) in
+    let a = c.in_ok-at.ensures.reads (at_of e) (verb_of e ++ 32 ∷ rest_of e hex) (omega (arith, IsTrueTime-at_of e h)) (c.cut.ensures.rest ∙ after_at e c.args.line.now hex l) in
     let v = cut_front c.in_ok-at.line.now (verb_of e) (rest_of e hex) (no_space-verb_of e) a.1 in
     let n = numbers_read c.in_ok-at.at c.cut-2.result.0.now c.cut-2.result.1.now hex e x a.0 (c.cut-2.ensures.word ∙ v.0) (c.cut-2.ensures.rest ∙ v.1) c.if-is_same.ensures in
     (some_injective _ _ (c.in_ok-event.ensures.reads e h n.0), n.1)
 
 pub returns-in_err-event-clause-reads : goal.returns-in_err-event-clause-reads
 returns-in_err-event-clause-reads c = λ e hex h x l.
-    let a = c.in_ok-at.ensures (at_of e) (verb_of e ++ 32 ∷ rest_of e hex) (omega (arith, IsTrueTime-at_of e h)) (c.cut.ensures.rest ∙ after_at e c.args.line.now hex l) in
+    let a = c.in_ok-at.ensures.reads (at_of e) (verb_of e ++ 32 ∷ rest_of e hex) (omega (arith, IsTrueTime-at_of e h)) (c.cut.ensures.rest ∙ after_at e c.args.line.now hex l) in
     let v = cut_front c.in_ok-at.line.now (verb_of e) (rest_of e hex) (no_space-verb_of e) a.1 in
     let n = numbers_read c.in_ok-at.at c.cut-2.result.0.now c.cut-2.result.1.now hex e x a.0 (c.cut-2.ensures.word ∙ v.0) (c.cut-2.ensures.rest ∙ v.1) c.if-is_same.ensures in
     let q : None ≡ Some e = c.in_err-event.ensures.reads e h n.0 in absurd (cc)

@@ -22,14 +22,14 @@ returns-in_err-rate-clause-reads c = λ n h e.
     let f = cut_front c.args.line.now n.name (signed_decimal n.rate ++ 32 ∷ (signed_decimal n.wall ++ 32 ∷ flag_text n.may)) (no_space-host n.name h.host) e in
     let word : c.cut.result.0.now ≡ n.name = c.cut.ensures.word ∙ f.0 in
     let host : IsHost c.cut.result.0.now = rw word h.host in
-    absurd (c.in_err-rate.ensures n.rate (signed_decimal n.wall ++ 32 ∷ flag_text n.may) (fits_wall n.rate (omega (arith, h.rate))) (c.cut.ensures.rest ∙ f.1))
+    absurd (c.in_err-rate.ensures.reads n.rate (signed_decimal n.wall ++ 32 ∷ flag_text n.may) (fits_wall n.rate (omega (arith, h.rate))) (c.cut.ensures.rest ∙ f.1))
 
 pub returns-in_err-rate-2-clause-reads : goal.returns-in_err-rate-2-clause-reads
 returns-in_err-rate-2-clause-reads c = λ n h e.
     let f = cut_front c.args.line.now n.name (signed_decimal n.rate ++ 32 ∷ (signed_decimal n.wall ++ 32 ∷ flag_text n.may)) (no_space-host n.name h.host) e in
     let word : c.cut.result.0.now ≡ n.name = c.cut.ensures.word ∙ f.0 in
     let host : IsHost c.cut.result.0.now = rw word h.host in
-    let r = c.in_ok-rate.ensures n.rate (signed_decimal n.wall ++ 32 ∷ flag_text n.may) (fits_wall n.rate (omega (arith, h.rate))) (c.cut.ensures.rest ∙ f.1) in
+    let r = c.in_ok-rate.ensures.reads n.rate (signed_decimal n.wall ++ 32 ∷ flag_text n.may) (fits_wall n.rate (omega (arith, h.rate))) (c.cut.ensures.rest ∙ f.1) in
     let back : to_z w64 (of_z w64 c.in_ok-rate.rate) ≡ n.rate = ap (λ (z : ℤ). to_z w64 (of_z w64 z)) r.0 ∙ to_z-of_z w64 n.rate (fits_wall n.rate (omega (arith, h.rate))) in
     let small : nat_abs (to_z w64 (of_z w64 c.in_ok-rate.rate)) ≤ 1000 = rw back h.rate in
     absurd (none_not_some _ (c.in_err-rate-2.ensures.reads small))
@@ -39,20 +39,20 @@ returns-in_err-wall-clause-reads c = λ n h e.
     let f = cut_front c.args.line.now n.name (signed_decimal n.rate ++ 32 ∷ (signed_decimal n.wall ++ 32 ∷ flag_text n.may)) (no_space-host n.name h.host) e in
     let word : c.cut.result.0.now ≡ n.name = c.cut.ensures.word ∙ f.0 in
     let host : IsHost c.cut.result.0.now = rw word h.host in
-    let r = c.in_ok-rate.ensures n.rate (signed_decimal n.wall ++ 32 ∷ flag_text n.may) (fits_wall n.rate (omega (arith, h.rate))) (c.cut.ensures.rest ∙ f.1) in
+    let r = c.in_ok-rate.ensures.reads n.rate (signed_decimal n.wall ++ 32 ∷ flag_text n.may) (fits_wall n.rate (omega (arith, h.rate))) (c.cut.ensures.rest ∙ f.1) in
     let back : to_z w64 (of_z w64 c.in_ok-rate.rate) ≡ n.rate = ap (λ (z : ℤ). to_z w64 (of_z w64 z)) r.0 ∙ to_z-of_z w64 n.rate (fits_wall n.rate (omega (arith, h.rate))) in
     let small : nat_abs (to_z w64 (of_z w64 c.in_ok-rate.rate)) ≤ 1000 = rw back h.rate in
-    absurd (c.in_err-wall.ensures n.wall (flag_text n.may) (fits_wall n.wall h.wall) r.1)
+    absurd (c.in_err-wall.ensures.reads n.wall (flag_text n.may) (fits_wall n.wall h.wall) r.1)
 
 pub returns-then-unsigned_abs-gt-SCHEDULE_END-clause-reads : goal.returns-then-unsigned_abs-gt-SCHEDULE_END-clause-reads
 returns-then-unsigned_abs-gt-SCHEDULE_END-clause-reads c = λ n h e.
     let f = cut_front c.args.line.now n.name (signed_decimal n.rate ++ 32 ∷ (signed_decimal n.wall ++ 32 ∷ flag_text n.may)) (no_space-host n.name h.host) e in
     let word : c.cut.result.0.now ≡ n.name = c.cut.ensures.word ∙ f.0 in
     let host : IsHost c.cut.result.0.now = rw word h.host in
-    let r = c.in_ok-rate.ensures n.rate (signed_decimal n.wall ++ 32 ∷ flag_text n.may) (fits_wall n.rate (omega (arith, h.rate))) (c.cut.ensures.rest ∙ f.1) in
+    let r = c.in_ok-rate.ensures.reads n.rate (signed_decimal n.wall ++ 32 ∷ flag_text n.may) (fits_wall n.rate (omega (arith, h.rate))) (c.cut.ensures.rest ∙ f.1) in
     let back : to_z w64 (of_z w64 c.in_ok-rate.rate) ≡ n.rate = ap (λ (z : ℤ). to_z w64 (of_z w64 z)) r.0 ∙ to_z-of_z w64 n.rate (fits_wall n.rate (omega (arith, h.rate))) in
     let small : nat_abs (to_z w64 (of_z w64 c.in_ok-rate.rate)) ≤ 1000 = rw back h.rate in
-    let w = c.in_ok-wall.ensures n.wall (flag_text n.may) (fits_wall n.wall h.wall) r.1 in
+    let w = c.in_ok-wall.ensures.reads n.wall (flag_text n.may) (fits_wall n.wall h.wall) r.1 in
     let v = c.unsigned_abs.ensures.value ∙ (ap (λ (z : ℤ). nat_abs (to_z w64 (of_z w64 z))) w.0 ∙ ap nat_abs (to_z-of_z w64 n.wall (fits_wall n.wall h.wall))) in
     absurd (omega (arith, v, h.wall))
 
@@ -61,10 +61,10 @@ returns-in_err-may-clause-reads c = λ n h e.
     let f = cut_front c.args.line.now n.name (signed_decimal n.rate ++ 32 ∷ (signed_decimal n.wall ++ 32 ∷ flag_text n.may)) (no_space-host n.name h.host) e in
     let word : c.cut.result.0.now ≡ n.name = c.cut.ensures.word ∙ f.0 in
     let host : IsHost c.cut.result.0.now = rw word h.host in
-    let r = c.in_ok-rate.ensures n.rate (signed_decimal n.wall ++ 32 ∷ flag_text n.may) (fits_wall n.rate (omega (arith, h.rate))) (c.cut.ensures.rest ∙ f.1) in
+    let r = c.in_ok-rate.ensures.reads n.rate (signed_decimal n.wall ++ 32 ∷ flag_text n.may) (fits_wall n.rate (omega (arith, h.rate))) (c.cut.ensures.rest ∙ f.1) in
     let back : to_z w64 (of_z w64 c.in_ok-rate.rate) ≡ n.rate = ap (λ (z : ℤ). to_z w64 (of_z w64 z)) r.0 ∙ to_z-of_z w64 n.rate (fits_wall n.rate (omega (arith, h.rate))) in
     let small : nat_abs (to_z w64 (of_z w64 c.in_ok-rate.rate)) ≤ 1000 = rw back h.rate in
-    let w = c.in_ok-wall.ensures n.wall (flag_text n.may) (fits_wall n.wall h.wall) r.1 in
+    let w = c.in_ok-wall.ensures.reads n.wall (flag_text n.may) (fits_wall n.wall h.wall) r.1 in
     absurd (none_not_some _ (c.in_err-may.ensures n.may w.1))
 
 pub returns-clause-reads : goal.returns-clause-reads
@@ -72,10 +72,10 @@ returns-clause-reads c = λ n h e.
     let f = cut_front c.args.line.now n.name (signed_decimal n.rate ++ 32 ∷ (signed_decimal n.wall ++ 32 ∷ flag_text n.may)) (no_space-host n.name h.host) e in
     let word : c.cut.result.0.now ≡ n.name = c.cut.ensures.word ∙ f.0 in
     let host : IsHost c.cut.result.0.now = rw word h.host in
-    let r = c.in_ok-rate.ensures n.rate (signed_decimal n.wall ++ 32 ∷ flag_text n.may) (fits_wall n.rate (omega (arith, h.rate))) (c.cut.ensures.rest ∙ f.1) in
+    let r = c.in_ok-rate.ensures.reads n.rate (signed_decimal n.wall ++ 32 ∷ flag_text n.may) (fits_wall n.rate (omega (arith, h.rate))) (c.cut.ensures.rest ∙ f.1) in
     let back : to_z w64 (of_z w64 c.in_ok-rate.rate) ≡ n.rate = ap (λ (z : ℤ). to_z w64 (of_z w64 z)) r.0 ∙ to_z-of_z w64 n.rate (fits_wall n.rate (omega (arith, h.rate))) in
     let small : nat_abs (to_z w64 (of_z w64 c.in_ok-rate.rate)) ≤ 1000 = rw back h.rate in
-    let w = c.in_ok-wall.ensures n.wall (flag_text n.may) (fits_wall n.wall h.wall) r.1 in
+    let w = c.in_ok-wall.ensures.reads n.wall (flag_text n.may) (fits_wall n.wall h.wall) r.1 in
     let a = some_injective _ _ (c.in_ok-name.ensures.reads host) ∙ word in
     let b = some_injective _ _ (c.in_ok-rate-2.ensures.reads small) in
     let y = some_injective _ _ (c.in_ok-may.ensures n.may w.1) in

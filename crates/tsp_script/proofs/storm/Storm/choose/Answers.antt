@@ -1,5 +1,5 @@
-use Rattle.std.proofs.Common.{◌≡◌, ◌≤◌, ◌<◌, ◌+◌, ◌∙◌, subst, ap}
-use Rattle.tsp_script.specs.Storms.{StormValue, moved, drawn, as_event}
+use Rattle.std.proofs.Common.{◌≤◌, ◌+◌, ◌∙◌, subst, ap}
+use Rattle.tsp_script.specs.Storms.{StormValue, as_event}
 use Rattle.tsp_script.proofs.StormDraws.{draw-ask, draw-request}
 use Rattle.tsp_script.proofs.storm.Storm.choose.Goals as goal
 
