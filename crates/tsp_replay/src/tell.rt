@@ -6,13 +6,14 @@ ghost use Rattle.tsp_replay.specs.Stages.{told_at, told_by, Untold};
 ghost use Rattle.tsp_replay.specs.Traces.{line_text, lines_text, number_in};
 
 use crate::replayed::Replayed;
+use arrayvec::ArrayVec;
 use tsp_course::run::Run;
 use tsp_course::stage::Stage;
 use tsp_io::sink::Sink;
 use tsp_lines::output::{Output, Unwritten};
 use tsp_lines::treatment::Stop;
 use tsp_run::line::Line;
-use tsp_script::trace::placed_text;
+use tsp_script::trace::append_placed;
 
 /// The lines of the last event's acts; none where the last line was no event.
 fn told(stage: &Stage<Replayed>) -> &[Line]
@@ -76,7 +77,15 @@ fn tell_one<K: Sink>(line: &Line, output: &mut Output, sink: &mut K) -> Result<(
     ensures still { result ≢ Err Unwritten.WriteFault → K.faults sink.new ≡ K.faults sink.old }
 {
     let number = number_in(line.number);
-    let text = placed_text(line.event, line.node, line.tick, number, &line.placed);
+    let mut text = ArrayVec::new();
+    append_placed(
+        &mut text,
+        line.event,
+        line.node,
+        line.tick,
+        number,
+        &line.placed,
+    );
     output.put(sink, text.as_slice())?;
     output.put(sink, b"\n")
 }
