@@ -214,7 +214,7 @@ pub fn trip_of(lines: &[Noted], line: &Noted) -> i128
 }
 
 /// The best sample of a peer after the line with this index and round trip, where `keep` is that before it.
-fn best_after(
+pub fn best_after(
     line: &Noted,
     index: usize,
     trip: i128,
