@@ -1,14 +1,18 @@
 -- What an event makes of an audit.
-use Rattle.std.specs.Prelude.{◌≡◌, ◌≤◌, ◌+◌, ℕ, Bool, true, false, if◌then◌else◌, List, [], ◌∷◌, length, refl, Option, None, Some}
+use Rattle.std.specs.Prelude.{◌≡◌, ◌≤◌, ◌+◌, ℕ, Bool, List, [], ◌∷◌, length, refl, Option, None, Some}
 use Rattle.std.proofs.Common.{sym, subst, arith, inl, inr}
 use Rattle.tsp_audit.specs.declared.premises.Premises.{Premises}
 use Rattle.tsp_audit.specs.declared.verdict.Failure.{Failure}
-use Rattle.tsp_audit.specs.Acting.{ActedIs}
+use Rattle.std.specs.declared.result.Result.TheVariants.{Err}
+use Rattle.tsp_audit.specs.declared.audit.Audit.{Audit}
+use Rattle.tsp_audit.specs.declared.notes.Notes.{Notes}
+use Rattle.tsp_audit.specs.Agreeing.{Numbered}
 use Rattle.tsp_audit.specs.Looking.{Finds, Grown}
 use Rattle.tsp_audit.specs.Named.{named}
-use Rattle.tsp_audit.specs.Parts.{AllKeep}
+use Rattle.tsp_audit.specs.Notes.{NotesStand}
+use Rattle.tsp_audit.specs.Parts.{Acting, Agreeing, AllKeep, Backing, Leading, Measuring}
 use Rattle.tsp_audit.specs.Settings.{HasClocks, Timely}
-use Rattle.tsp_audit.specs.Verdicts.{FailsFirst, IsFound, IsVerdict}
+use Rattle.tsp_audit.specs.Verdicts.{AllHold, AuditStands, Audits, FailsFirst, IsFound, IsVerdict}
 use Rattle.tsp_base.specs.declared.act.Placed.{Placed}
 use Rattle.tsp_base.specs.declared.event.Event.{Event}
 use Rattle.tsp_base.specs.declared.event.Event.TheVariants.{Boot, Turn, Take, Bytes}
@@ -17,11 +21,17 @@ use Rattle.tsp_base.specs.History.{Acts, Begins, Line, Step}
 use Rattle.tsp_base.specs.Joins.{first_port, joined, line_of}
 use Rattle.tsp_base.specs.Places.{Within}
 use Rattle.tsp_base.specs.Setting.{Setting}
+use Rattle.tsp_audit.proofs.JoinLemmas.{OfStep, grown-all, made}
+use Rattle.tsp_audit.proofs.NumberedLemmas.{AllName, numbered-claims}
 use Rattle.tsp_base.proofs.PlaceLemmas.{Within-all, Within-tail}
+use Rattle.tsp_claims.specs.declared.audit_fault.AuditFault.{AuditFault}
+use Rattle.tsp_claims.specs.declared.audit_fault.AuditFault.TheVariants.{History, OutOfMemory}
 use Rattle.tsp_claims.specs.declared.claimed.Claimed.{Claimed}
+use Rattle.tsp_claims.specs.declared.claims.Claims.{Claims}
 use Rattle.tsp_claims.specs.ClaimedHistory.{Claim, claimed, events_of, joins_acts, makes_step, posts_of, step_at, step_of, taker, takes_step}
 use Rattle.tsp_claims.specs.Listed.{booted}
 use Rattle.tsp_claims.specs.Fitting.{acts_of}
+use Rattle.tsp_claims.specs.Stands.{ClaimsStand, TakesIn}
 use Rattle.tsp_script.specs.declared.trace.Line2.{Line2}
 use Rattle.tsp_run.specs.declared.address.Address.{Address}
 use Rattle.tsp_run.specs.Run.{event_at, step_tick}
@@ -34,14 +44,9 @@ joined-length : (step : Step) (x : ℕ) (acts : List Placed) (h : List Line) →
 joined-length step x [] h = omega arith
 joined-length step x (p ∷ rest) h = omega (arith, joined-length step x rest (line_of step x p.port (Acts p.act) ∷ h))
 
-joined-timely : (step : Step) (x : ℕ) (acts : List Placed) (h : List Line) → step.at ≤ 1000000000000000 → Timely h → Timely (joined step x acts h)
-joined-timely step x [] h soon t = t
-joined-timely step x (p ∷ rest) h soon t = joined-timely step x rest (line_of step x p.port (Acts p.act) ∷ h) soon (soon, t)
-
 -- a step at a true time of a schedule, if there is one
 abbrev InTime : Option Step → Type 0
-InTime None = Unit {0}
-InTime (Some step) = step.at ≤ 1000000000000000
+InTime = OfStep (λ step. step.at ≤ 1000000000000000)
 
 taken-time : (at k : ℕ) (a : Option Address) → at ≤ 1000000000000000 → InTime (takes_step at k a)
 taken-time at k None soon = tt
@@ -53,43 +58,49 @@ step-time header posts up (Turn at node) soon = soon
 step-time header posts up (Take at k) soon = taken-time at k (taker header posts up k) soon
 step-time header posts up (Bytes at node port from octets) soon = soon
 
-made-time : (b : Bool) (o : Option Step) → InTime o → InTime (if b then o else None)
-made-time true o t = t
-made-time false o t = tt
-
-grown-by : (header : HeaderValue) (o : Option Step) (acts : List Placed) (h : List Line) → InTime o → Timely h → Grown h (joins_acts header o acts h) (length h)
-grown-by header None acts h soon t = record { within = Within-all h; long = refl; timely = t }
-grown-by header (Some step) acts h soon t = record { within = Within-tail (line_of step (step_tick header step) first_port Begins) h (joined step (step_tick header step) acts (line_of step (step_tick header step) first_port Begins ∷ h)) (joined-within step (step_tick header step) acts (line_of step (step_tick header step) first_port Begins ∷ h)); long = refl; timely = joined-timely step (step_tick header step) acts (line_of step (step_tick header step) first_port Begins ∷ h) soon (soon, t) }
+grown-by : (count : ℕ) (header : HeaderValue) (o : Option Step) (acts : List Placed) (h : List Line) → Timely (joins_acts header o acts h) → Numbered count (joins_acts header o acts h) → Grown count h (joins_acts header o acts h) (length h)
+grown-by count header None acts h timely numbered = record { within = Within-all h; long = refl; timely = timely; numbered = numbered }
+grown-by count header (Some step) acts h timely numbered = record {
+  within = Within-tail (line_of step (step_tick header step) first_port Begins) h (joined step (step_tick header step) acts (line_of step (step_tick header step) first_port Begins ∷ h)) (joined-within step (step_tick header step) acts (line_of step (step_tick header step) first_port Begins ∷ h));
+  long = refl;
+  timely = timely;
+  numbered = numbered;
+}
 
 longer-by : (header : HeaderValue) (o : Option Step) (acts : List Placed) (h : List Line) → length (joins_acts header o acts h) ≤ length h + (length acts + 1)
 longer-by header None acts h = omega arith
 longer-by header (Some step) acts h = omega (arith, joined-length step (step_tick header step) acts (line_of step (step_tick header step) first_port Begins ∷ h))
 
 -- a claimed history grows by an event at a true time of a schedule
-pub grown-claims : (header : HeaderValue) (claims : List Claim) (c : Claim) → event_at c.event ≤ 1000000000000000 → Timely (claimed header claims) → Grown (claimed header claims) (claimed header (c ∷ claims)) (length (claimed header claims))
-grown-claims header claims c soon t =
-    grown-by header (step_of header (posts_of header claims) (booted (events_of claims)) c.event c.acts) c.acts (claimed header claims)
-    (made-time (makes_step c.event c.acts) (step_at header (posts_of header claims) (booted (events_of claims)) c.event) (step-time header (posts_of header claims) (booted (events_of claims)) c.event soon)) t
+pub grown-claims : (header : HeaderValue) (claims : List Claim) (c : Claim) → event_at c.event ≤ 1000000000000000 → Timely (claimed header claims) → AllName (length header.nodes) (c ∷ claims) →
+    Grown (length header.nodes) (claimed header claims) (claimed header (c ∷ claims)) (length (claimed header claims))
+grown-claims header claims c soon t named =
+    let posts : List Claimed = posts_of header claims in
+    let up : ℕ → Bool = booted (events_of claims) in
+    let timely : Timely (claimed header (c ∷ claims)) =
+    grown-all (λ step. step.at ≤ 1000000000000000) (λ l before. l.did.step.at ≤ 1000000000000000) (λ step x port deed s time. time) header (step_of header posts up c.event c.acts) c.acts (claimed header claims)
+    (made (λ step. step.at ≤ 1000000000000000) (makes_step c.event c.acts) (step_at header posts up c.event) (step-time header posts up c.event soon)) t in
+    grown-by (length header.nodes) header (step_of header posts up c.event c.acts) c.acts (claimed header claims) timely (numbered-claims (length header.nodes) header (c ∷ claims) named)
 
 pub longer-claims : (header : HeaderValue) (claims : List Claim) (c : Claim) → length (claimed header (c ∷ claims)) ≤ length (claimed header claims) + (length c.acts + 1)
 longer-claims header claims c = longer-by header (step_of header (posts_of header claims) (booted (events_of claims)) c.event c.acts) c.acts (claimed header claims)
 
 -- the failure that was found before, or that the newest event brings, is the first
-pub found-more : (premises : Premises) (header : HeaderValue) (claim : Claim) (claims : List Claim) (before found : Option Failure) (acted : List ℕ) →
-    ((setting : Setting) → HasClocks header setting → IsFound premises setting header claims before) → Finds premises header (claim ∷ claims) (claimed header claims) before acted found →
+pub found-more : (premises : Premises) (header : HeaderValue) (claim : Claim) (claims : List Claim) (before found : Option Failure) (notes : Notes) →
+    ((setting : Setting) → HasClocks header setting → IsFound premises setting header claims before) → Finds premises header (claim ∷ claims) (claimed header claims) before notes found →
     (setting : Setting) → HasClocks header setting → IsFound premises setting header (claim ∷ claims) found
-found-more premises header claim claims (Some f) found acted old same setting has =
+found-more premises header claim claims (Some f) found notes old same setting has =
     let o = old setting has in
     let later : FailsFirst premises setting header (claim ∷ claims) f.part f.event = record { claim = o.claim; before = o.before; place = inr o.place; event_is = o.event_is; fails = o.fails; earlier = o.earlier } in
     subst (λ (r : Option Failure). IsFound premises setting header (claim ∷ claims) r) (sym same) later
-found-more premises header claim claims None None acted old looks setting has = all where
+found-more premises header claim claims None None notes old looks setting has = all where
   keeps : AllKeep premises setting (claimed header (claim ∷ claims))
   keeps = looks.1 setting has (old setting has claims (Within-all claims))
 
   all : (older : List Claim) → Within older (claim ∷ claims) → AllKeep premises setting (claimed header older)
   all older (inl e) = subst (λ (c : List Claim). AllKeep premises setting (claimed header c)) (sym e) keeps
   all older (inr w) = old setting has older w
-found-more premises header claim claims None (Some f) acted old looks setting has = record {
+found-more premises header claim claims None (Some f) notes old looks setting has = record {
   claim = claim;
   before = claims;
   place = inl refl;
@@ -98,11 +109,11 @@ found-more premises header claim claims None (Some f) acted old looks setting ha
   earlier = old setting has;
 }
 
-pub acted-later : (premises : Premises) (header : HeaderValue) (claim : Claim) (claims : List Claim) (before found : Option Failure) (acted : List ℕ) → Finds premises header (claim ∷ claims) (claimed header claims) before acted found → found ≡ None →
-    ActedIs (claimed header (claim ∷ claims)) acted
-acted-later premises header claim claims (Some f) found acted same none = let bad : ⊥ = cc in absurd bad
-acted-later premises header claim claims None None acted looks none = looks.0
-acted-later premises header claim claims None (Some f) acted looks none = let bad : ⊥ = cc in absurd bad
+pub notes-later : (premises : Premises) (header : HeaderValue) (claim : Claim) (claims : List Claim) (before found : Option Failure) (notes : Notes) → Finds premises header (claim ∷ claims) (claimed header claims) before notes found → found ≡ None →
+    NotesStand premises (length header.nodes) (claimed header (claim ∷ claims)) notes
+notes-later premises header claim claims (Some f) found notes same none = let bad : ⊥ = cc in absurd bad
+notes-later premises header claim claims None None notes looks none = looks.0
+notes-later premises header claim claims None (Some f) notes looks none = let bad : ⊥ = cc in absurd bad
 
 pub verdict-is : (premises : Premises) (setting : Setting) (header : HeaderValue) (claims : List Claim) (found : Option Failure) → IsFound premises setting header claims found → IsVerdict premises setting header claims (named found)
 verdict-is premises setting header claims None m = m
@@ -111,3 +122,33 @@ verdict-is premises setting header claims (Some f) m = (f.event, m)
 pub acts-length : (lines : List Line2) → length (acts_of lines) ≡ length lines
 acts-length [] = refl
 acts-length (l ∷ rest) = omega (arith, acts-length rest)
+
+-- nothing fails of nothing
+keeps-none : (premises : Premises) (setting : Setting) → AllKeep premises setting []
+keeps-none premises setting Backing = record { holds = tt; backs = tt; ends = λ n q. refl }
+keeps-none premises setting Leading = tt
+keeps-none premises setting Acting = record { spaced = tt; obeyed = λ honest. tt; taken = λ kept. tt; confirmed = λ kept. tt }
+keeps-none premises setting Measuring = λ honest words. record { measured = tt; trips = tt }
+keeps-none premises setting Agreeing = λ kept. tt
+
+pub holds-none : (premises : Premises) (setting : Setting) (header : HeaderValue) → AllHold premises setting header []
+holds-none premises setting header older w = subst (λ (c : List Claim). AllKeep premises setting (claimed header c)) (sym w) (keeps-none premises setting)
+
+-- an audit after a call that changes nothing but where things are kept
+pub audit-with : (premises : Premises) (header : HeaderValue) (claims : List Claim) (old : Audit) (c : Claims) (n : Notes) → AuditStands premises header claims old → ClaimsStand header claims c →
+    (NotesStand premises (length header.nodes) (claimed header claims) old.notes → NotesStand premises (length header.nodes) (claimed header claims) n) →
+    AuditStands premises header claims (record { claims = c; premises = old.premises; notes = n; failed = old.failed })
+audit-with premises header claims old c n stands claims_stand keep = record {
+  claims_stand = claims_stand;
+  premises_are = stands.premises_are;
+  timely = stands.timely;
+  found = stands.found;
+  named = stands.named;
+  notes = λ none. keep (stands.notes none);
+}
+
+pub audit-refused : (premises : Premises) (header : HeaderValue) (claims : List Claim) (e : Event) (lines : List Line2) (fault : AuditFault) (old : Audit) (c : Claims) (n : Notes) → AuditStands premises header claims old → TakesIn header claims e lines (Err fault) c →
+    (NotesStand premises (length header.nodes) (claimed header claims) old.notes → NotesStand premises (length header.nodes) (claimed header claims) n) →
+    Audits premises header claims e lines (Err fault) (record { claims = c; premises = old.premises; notes = n; failed = old.failed })
+audit-refused premises header claims e lines (History i) old c n stands refused keep = (refused.0, audit-with premises header claims old c n stands refused.1 keep)
+audit-refused premises header claims e lines OutOfMemory old c n stands refused keep = audit-with premises header claims old c n stands refused.1 keep

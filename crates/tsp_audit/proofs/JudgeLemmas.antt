@@ -3,10 +3,10 @@ use Rattle.std.specs.Prelude.{◌≡◌, ◌<◌, ◌≤◌, ◌+◌, ℕ, Bool,
 use Rattle.std.proofs.Common.{sym, ap, subst, ◌∙◌, arith, inl, inr, take}
 use Rattle.std.proofs.lemmas.List.{length-take}
 use Rattle.tsp_audit.specs.declared.premises.Premises.{Premises}
-use Rattle.tsp_audit.specs.Acting.{ActedIs}
+use Rattle.tsp_audit.specs.Agreeing.{Numbered}
 use Rattle.tsp_audit.specs.Judged.{FailsNow, Judges}
 use Rattle.tsp_audit.specs.Looking.{Grown}
-use Rattle.tsp_audit.specs.Parts.{Acting, ActsOnce, AllKeep, Backing, Keeps, Leading, Part, part_number}
+use Rattle.tsp_audit.specs.Parts.{Acting, ActsOnce, Agreeing, AllKeep, Backing, Keeps, Leading, Measuring, Part, part_number}
 use Rattle.tsp_audit.specs.Settings.{HasClocks, Timely}
 use Rattle.tsp_audit.proofs.Prefixes.{history-within}
 use Rattle.tsp_base.specs.Headers.{HeaderValue}
@@ -27,29 +27,66 @@ pub refuted : (b : Bool) (P : Type 0) → b ≡ false → MatchBool b P (P → �
 refuted true P e m = let bad : ⊥ = cc in absurd bad
 refuted false P e m = m
 
-below-backing : (premises : Premises) (setting : Setting) (h : List Line) (q : Part) → part_number q < 12 → Keeps premises setting q h
-below-backing premises setting h Backing lt = let bad : ⊥ = omega (arith, lt) in absurd bad
-below-backing premises setting h Leading lt = let bad : ⊥ = omega (arith, lt) in absurd bad
-below-backing premises setting h Acting lt = let bad : ⊥ = omega (arith, lt) in absurd bad
-
-below-leading : (premises : Premises) (setting : Setting) (h : List Line) → OneBack h → (q : Part) → part_number q < 13 → Keeps premises setting q h
-below-leading premises setting h back Backing lt = back
-below-leading premises setting h back Leading lt = let bad : ⊥ = omega (arith, lt) in absurd bad
-below-leading premises setting h back Acting lt = let bad : ⊥ = omega (arith, lt) in absurd bad
-
-below-acting : (premises : Premises) (setting : Setting) (h : List Line) → OneBack h → OnlyMaster h → (q : Part) → part_number q < 14 → Keeps premises setting q h
-below-acting premises setting h back lead Backing lt = back
-below-acting premises setting h back lead Leading lt = lead
-below-acting premises setting h back lead Acting lt = let bad : ⊥ = omega (arith, lt) in absurd bad
+-- the parts below a number hold where each of them does
+below : (premises : Premises) (setting : Setting) (h : List Line) (number : ℕ) → (12 < number → OneBack h) → (13 < number → OnlyMaster h) → (14 < number → ActsOnce premises setting h) → (15 < number → Keeps premises setting Measuring h) →
+    (16 < number → Keeps premises setting Agreeing h) → (q : Part) → part_number q < number → Keeps premises setting q h
+below premises setting h number back lead act measure agree Backing lt = back lt
+below premises setting h number back lead act measure agree Leading lt = lead lt
+below premises setting h number back lead act measure agree Acting lt = act lt
+below premises setting h number back lead act measure agree Measuring lt = measure lt
+below premises setting h number back lead act measure agree Agreeing lt = agree lt
 
 pub fails-backing : (premises : Premises) (setting : Setting) (h : List Line) → (OneBack h → ⊥) → FailsNow premises setting h 12
-fails-backing premises setting h bad = record { part = Backing; number_is = refl; fails = bad; lesser = below-backing premises setting h }
+fails-backing premises setting h bad = record {
+  part = Backing;
+  number_is = refl;
+  fails = bad;
+  lesser = below premises setting h 12 (λ lt. absurd (omega (arith, lt))) (λ lt. absurd (omega (arith, lt))) (λ lt. absurd (omega (arith, lt))) (λ lt. absurd (omega (arith, lt))) (λ lt. absurd (omega (arith, lt)));
+}
 
 pub fails-leading : (premises : Premises) (setting : Setting) (h : List Line) → OneBack h → (OnlyMaster h → ⊥) → FailsNow premises setting h 13
-fails-leading premises setting h back bad = record { part = Leading; number_is = refl; fails = bad; lesser = below-leading premises setting h back }
+fails-leading premises setting h back bad = record {
+  part = Leading;
+  number_is = refl;
+  fails = bad;
+  lesser = below premises setting h 13 (λ lt. back) (λ lt. absurd (omega (arith, lt))) (λ lt. absurd (omega (arith, lt))) (λ lt. absurd (omega (arith, lt))) (λ lt. absurd (omega (arith, lt)));
+}
 
 pub fails-acting : (premises : Premises) (setting : Setting) (h : List Line) → OneBack h → OnlyMaster h → (ActsOnce premises setting h → ⊥) → FailsNow premises setting h 14
-fails-acting premises setting h back lead bad = record { part = Acting; number_is = refl; fails = bad; lesser = below-acting premises setting h back lead }
+fails-acting premises setting h back lead bad = record {
+  part = Acting;
+  number_is = refl;
+  fails = bad;
+  lesser = below premises setting h 14 (λ lt. back) (λ lt. lead) (λ lt. absurd (omega (arith, lt))) (λ lt. absurd (omega (arith, lt))) (λ lt. absurd (omega (arith, lt)));
+}
+
+pub fails-measuring : (premises : Premises) (setting : Setting) (h : List Line) → OneBack h → OnlyMaster h → ActsOnce premises setting h → (Keeps premises setting Measuring h → ⊥) → FailsNow premises setting h 15
+fails-measuring premises setting h back lead act bad = record {
+  part = Measuring;
+  number_is = refl;
+  fails = bad;
+  lesser = below premises setting h 15 (λ lt. back) (λ lt. lead) (λ lt. act) (λ lt. absurd (omega (arith, lt))) (λ lt. absurd (omega (arith, lt)));
+}
+
+pub fails-agreeing : (premises : Premises) (setting : Setting) (h : List Line) → OneBack h → OnlyMaster h → ActsOnce premises setting h → Keeps premises setting Measuring h → (Keeps premises setting Agreeing h → ⊥) → FailsNow premises setting h 16
+fails-agreeing premises setting h back lead act measure bad = record {
+  part = Agreeing;
+  number_is = refl;
+  fails = bad;
+  lesser = below premises setting h 16 (λ lt. back) (λ lt. lead) (λ lt. act) (λ lt. measure) (λ lt. absurd (omega (arith, lt)));
+}
+
+pub all-keep : (premises : Premises) (setting : Setting) (h : List Line) → OneBack h → OnlyMaster h → ActsOnce premises setting h → Keeps premises setting Measuring h → Keeps premises setting Agreeing h → AllKeep premises setting h
+all-keep premises setting h back lead act measure agree Backing = back
+all-keep premises setting h back lead act measure agree Leading = lead
+all-keep premises setting h back lead act measure agree Acting = act
+all-keep premises setting h back lead act measure agree Measuring = measure
+all-keep premises setting h back lead act measure agree Agreeing = agree
+
+-- what is asked only where something is kept
+pub if-kept : (b : Bool) (K P Q : Type 0) → K → (Q → MatchBool b P (P → ⊥)) → (K → Q) → MatchBool b (K → P) ((K → P) → ⊥)
+if-kept true K P Q k m old = λ x. m (old k)
+if-kept false K P Q k m old = λ g. m (old k) (g k)
 
 after-length : (h : List Line) (ns : List Noted) → length (noted_after h ns) ≡ length h + length ns
 after-length h [] = omega arith
@@ -75,20 +112,20 @@ prefix-is ns h from w long =
     ]
 
 -- what is judged of noted lines is judged of the history that they are
-pub looked : (premises : Premises) (header told : HeaderValue) (ns : List Noted) (w h : List Line) (from : ℕ) (acted : List ℕ) (R : Type 0) (r : Option ℕ) → told ≡ header → history_of ns ≡ w → Grown h w from → R →
-    ((setting : Setting) → HasClocks told setting → Timely (history_of ns) → R → ActedIs (history_of (take from ns)) acted → AllKeep premises setting (history_of (take from ns)) → Judges premises setting (history_of ns) r) →
-    ActedIs h acted → (setting : Setting) → HasClocks header setting → AllKeep premises setting h → Judges premises setting w r
-looked premises header told ns w h from acted R r same is grown room f a setting has keeps =
+pub looked : (premises : Premises) (header told : HeaderValue) (ns : List Noted) (count : ℕ) (w h : List Line) (from : ℕ) (N : List Line → Type 0) (R : Type 0) (r : Option ℕ) → told ≡ header → history_of ns ≡ w → Grown count h w from → R →
+    ((setting : Setting) → HasClocks told setting → Timely (history_of ns) → Numbered count (history_of ns) → R → N (history_of (take from ns)) → AllKeep premises setting (history_of (take from ns)) → Judges premises setting (history_of ns) r) →
+    N h → (setting : Setting) → HasClocks header setting → AllKeep premises setting h → Judges premises setting w r
+looked premises header told ns count w h from N R r same is grown room f a setting has keeps =
     let first : history_of (take from ns) ≡ h = prefix-is ns h from (subst (λ (x : List Line). Within h x) (sym is) grown.within) grown.long in
     subst (λ (x : List Line). Judges premises setting x r) is
-    (f setting (subst (λ (x : HeaderValue). HasClocks x setting) (sym same) has) (subst (λ (x : List Line). Timely x) (sym is) grown.timely) room
-    (subst (λ (x : List Line). ActedIs x acted) (sym first) a) (subst (λ (x : List Line). AllKeep premises setting x) (sym first) keeps))
+    (f setting (subst (λ (x : HeaderValue). HasClocks x setting) (sym same) has) (subst (λ (x : List Line). Timely x) (sym is) grown.timely) (subst (λ (x : List Line). Numbered count x) (sym is) grown.numbered) room
+    (subst N (sym first) a) (subst (λ (x : List Line). AllKeep premises setting x) (sym first) keeps))
 
-pub looked-acted : (ns : List Noted) (w h : List Line) (from : ℕ) (acted later : List ℕ) → history_of ns ≡ w → Grown h w from → (ActedIs (history_of (take from ns)) acted → ActedIs (history_of ns) later) → ActedIs h acted → ActedIs w later
-looked-acted ns w h from acted later is grown f a =
+pub looked-notes : (ns : List Noted) (count : ℕ) (w h : List Line) (from : ℕ) (N M : List Line → Type 0) → history_of ns ≡ w → Grown count h w from → (N (history_of (take from ns)) → M (history_of ns)) → N h → M w
+looked-notes ns count w h from N M is grown f a =
     let first : history_of (take from ns) ≡ h = prefix-is ns h from (subst (λ (x : List Line). Within h x) (sym is) grown.within) grown.long in
-    subst (λ (x : List Line). ActedIs x later) is (f (subst (λ (x : List Line). ActedIs x acted) (sym first) a))
+    subst M is (f (subst N (sym first) a))
 
 -- the newest event begins no later than the history ends
-pub begins-within : (ns : List Noted) (w h : List Line) (from : ℕ) → history_of ns ≡ w → Grown h w from → from ≤ length ns
-begins-within ns w h from is grown = omega (arith, Within-length h w grown.within, grown.long, history-length ns, ap (λ (x : List Line). length x) is)
+pub begins-within : (ns : List Noted) (count : ℕ) (w h : List Line) (from : ℕ) → history_of ns ≡ w → Grown count h w from → from ≤ length ns
+begins-within ns count w h from is grown = omega (arith, Within-length h w grown.within, grown.long, history-length ns, ap (λ (x : List Line). length x) is)

@@ -3,8 +3,10 @@ use Rattle.std.specs.Prelude.{◌≡◌, ◌<◌, ◌≤◌, ◌+◌, ℕ, ℤ, 
 use Rattle.std.proofs.Common.{sym, ap, subst, subst₂, ◌∙◌, arith, get_or, take}
 use Rattle.std.proofs.lemmas.List.{get_or_default}
 use Rattle.tsp_base.specs.declared.act.Act.TheVariants.{Correct, Post}
+use Rattle.tsp_base.specs.declared.datagram.Datagram.{Datagram}
 use Rattle.tsp_base.specs.declared.datagram.Datagram.TheVariants.{Message}
 use Rattle.tsp_base.specs.declared.place.PeerId.{PeerId}
+use Rattle.tsp_base.specs.declared.place.Place.{Place}
 use Rattle.tsp_base.specs.declared.place.Place.TheVariants.{Peer}
 use Rattle.tsp_base.specs.Fits.{node_of}
 use Rattle.tsp_base.specs.History.{Acts, Came, Here, Line, Seen, dids, of, view}
@@ -25,7 +27,7 @@ use Rattle.tsp_safe.proofs.Locating.{view-line}
 use Rattle.tsp_safe.proofs.SendPlaces.{post_unique, posted-mono, posted-post, same-number}
 use Rattle.tsp_audit.proofs.Prefixes.{history-more}
 use Rattle.tsp_audit.proofs.SendPlaces.{brings-one}
-use Rattle.tsp_audit.specs.Acting.{ActsNow, BringsAt, Corrects, IsNumbered, Moves, PostsTo, TakesSend, deed_corrects}
+use Rattle.tsp_audit.specs.Acting.{ActsNow, BringsAt, CameAt, Corrects, IsNumbered, IsUnposted, Moves, PostsTo, TakesSend, deed_corrects}
 use Rattle.tsp_audit.specs.Settings.{HasClocks, clock_in}
 use Rattle.tsp_noted.specs.declared.noted.Noted.{Noted}
 use Rattle.tsp_noted.specs.Histories.{deed_of, history_of, line_of}
@@ -38,36 +40,43 @@ pub same-noted : (ns : List Noted) (i : ℕ) (a b : Noted) → i < length ns →
 same-noted ns i a b lt p q = sym p ∙ (get_or_default ns i a b lt ∙ q)
 
 -- nothing comes that was never posted
-pub brings-few : (l : Line) (h : List Line) (k : ℕ) → l.did.step.cause ≡ Came k → posted (dids h) ≤ k → (post : Line) (older : List Line) → Brings l h post older → ⊥
-brings-few l h k cause few post older b =
-    let number : k ≡ posted (dids older) = same-number k (posted (dids older)) (sym cause ∙ b.cause) in
-    omega (arith, few, number, posted-mono (post ∷ older) h b.place, posted-post post older (Peer (peer_of (node_of l))) (Message b.message) b.deed)
+pub unposted : (l : Line) (h : List Line) → IsUnposted l h → (post : Line) (older : List Line) (to : Place) (datagram : Datagram) → Within (post ∷ older) h → l.did.step.cause ≡ Came (posted (dids older)) → post.did.deed ≡ Acts (Post to datagram) → ⊥
+unposted l h few post older to datagram w cause deed = omega (arith, few (posted (dids older)) cause, posted-mono (post ∷ older) h w, posted-post post older to datagram deed)
 
 -- what comes was posted where the post with its number stands
-brings-there : (ns : List Noted) (l : Line) (k i : ℕ) (noted : Noted) → l.did.step.cause ≡ Came k → PostsAt ns k i → get_or ns i noted ≡ noted → (post : Line) (older : List Line) → Brings l (history_of ns) post older → post ≡ line_of noted
-brings-there ns l k i noted cause p is post older b =
+pub came-there : (ns : List Noted) (l : Line) (i : ℕ) (noted : Noted) → CameAt ns l i → get_or ns i noted ≡ noted → (post : Line) (older : List Line) (to : Place) (datagram : Datagram) → Within (post ∷ older) (history_of ns) →
+    l.did.step.cause ≡ Came (posted (dids older)) → post.did.deed ≡ Acts (Post to datagram) → post ∷ older ≡ line_of noted ∷ history_of (take i ns)
+came-there ns l i noted came is post older to datagram w cause deed =
+    let p = came.posts in
     let same : p.noted ≡ noted = same-noted ns i p.noted noted p.below p.noted_is is in
-    let number : posted (dids older) ≡ posted (dids (history_of (take i ns))) = sym (same-number k (posted (dids older)) (sym cause ∙ b.cause)) ∙ sym p.number in
-    let place : post ∷ older ≡ line_of p.noted ∷ history_of (take i ns) =
-    post_unique (history_of ns) post (line_of p.noted) older (history_of (take i ns)) (Peer (peer_of (node_of l))) p.to (Message b.message) p.datagram b.place p.within b.deed (ap deed_of p.act) number in
-    let line : post ≡ line_of p.noted = cc in
-    line ∙ ap line_of same
+    let number : posted (dids older) ≡ posted (dids (history_of (take i ns))) = sym (same-number came.number (posted (dids older)) (sym came.cause ∙ cause)) ∙ sym p.number in
+    post_unique (history_of ns) post (line_of p.noted) older (history_of (take i ns)) to p.to datagram p.datagram w p.within deed (ap deed_of p.act) number ∙ ap (λ (m : Noted). line_of m ∷ history_of (take i ns)) same
 
-pub brings-other : (ns : List Noted) (l : Line) (k i : ℕ) (noted : Noted) → l.did.step.cause ≡ Came k → PostsAt ns k i → get_or ns i noted ≡ noted → (PostsTo (deed_of noted.act) (node_of l) → ⊥) →
-    (post : Line) (older : List Line) → Brings l (history_of ns) post older → ⊥
-brings-other ns l k i noted cause p is bad post older b =
-    let line : post ≡ line_of noted = brings-there ns l k i noted cause p is post older b in
+pub came-within : (ns : List Noted) (l : Line) (i : ℕ) → CameAt ns l i → (noted : Noted) → get_or ns i noted ≡ noted → Within (line_of noted ∷ history_of (take i ns)) (history_of ns)
+came-within ns l i came noted is =
+    let p = came.posts in
+    subst (λ (n : Noted). Within (line_of n ∷ history_of (take i ns)) (history_of ns)) (same-noted ns i p.noted noted p.below p.noted_is is) p.within
+
+pub came-cause : (ns : List Noted) (l : Line) (i : ℕ) → CameAt ns l i → l.did.step.cause ≡ Came (posted (dids (history_of (take i ns))))
+came-cause ns l i came = came.cause ∙ ap Came (sym came.posts.number)
+
+pub brings-none : (l : Line) (h : List Line) → IsUnposted l h → (post : Line) (older : List Line) → Brings l h post older → ⊥
+brings-none l h few post older b = unposted l h few post older (Peer (peer_of (node_of l))) (Message b.message) b.place b.cause b.deed
+
+pub brings-other : (ns : List Noted) (l : Line) (i : ℕ) (noted : Noted) → CameAt ns l i → get_or ns i noted ≡ noted → (PostsTo (deed_of noted.act) (node_of l) → ⊥) → (post : Line) (older : List Line) → Brings l (history_of ns) post older → ⊥
+brings-other ns l i noted came is bad post older b =
+    let place : post ∷ older ≡ line_of noted ∷ history_of (take i ns) = came-there ns l i noted came is post older (Peer (peer_of (node_of l))) (Message b.message) b.place b.cause b.deed in
+    let line : post ≡ line_of noted = cc in
     bad (record { message = b.message; is = subst (λ (m : Line). m.did.deed ≡ Acts (Post (Peer (peer_of (node_of l))) (Message b.message))) line b.deed })
 
-pub brings-found : (ns : List Noted) (l : Line) (k i : ℕ) (noted : Noted) → l.did.step.cause ≡ Came k → PostsAt ns k i → get_or ns i noted ≡ noted → PostsTo (deed_of noted.act) (node_of l) → BringsAt ns l i
-brings-found ns l k i noted cause p is posts = record {
-  below = p.below;
+pub brings-found : (ns : List Noted) (l : Line) (i : ℕ) (noted : Noted) → CameAt ns l i → get_or ns i noted ≡ noted → PostsTo (deed_of noted.act) (node_of l) → BringsAt ns l i
+brings-found ns l i noted came is posts = record {
+  below = came.posts.below;
   brings = λ other at.
-      let same : p.noted ≡ other = same-noted ns i p.noted other p.below p.noted_is at in
-      let mine : noted ≡ other = same-noted ns i noted other p.below is at in
+      let mine : noted ≡ other = same-noted ns i noted other came.posts.below is at in
       record {
-        place = subst (λ (n : Noted). Within (line_of n ∷ history_of (take i ns)) (history_of ns)) same p.within;
-        cause = cause ∙ ap Came (sym p.number);
+        place = came-within ns l i came other at;
+        cause = came-cause ns l i came;
         message = posts.message;
         deed = subst (λ (n : Noted). deed_of n.act ≡ Acts (Post (Peer (peer_of (node_of l))) (Message posts.message))) mine posts.is;
       };

@@ -1,5 +1,5 @@
 -- Which sends a clock's corrections have taken.
-use Rattle.std.specs.Prelude.{◌≡◌, ◌<◌, ℕ, ◌==◌, ℤ, Bool, true, false, not, List, [], ◌∷◌, ◌++◌, length, get_or, take, Option, None, Some, is_some}
+use Rattle.std.specs.Prelude.{◌≡◌, ◌<◌, ◌≤◌, ℕ, ◌==◌, ℤ, Bool, true, false, not, List, [], ◌∷◌, ◌++◌, length, get_or, take, Option, None, Some, is_some}
 use Rattle.std.specs.List.{list_any}
 use Rattle.tsp_audit.specs.declared.premises.Premises.{Premises}
 use Rattle.tsp_audit.specs.Parts.{AllKept}
@@ -10,7 +10,7 @@ use Rattle.tsp_base.specs.declared.place.Place.{Place}
 use Rattle.tsp_base.specs.declared.place.Place.TheVariants.{Peer}
 use Rattle.tsp_base.specs.CorrectFits.{amount_of}
 use Rattle.tsp_base.specs.Fits.{node_of}
-use Rattle.tsp_base.specs.History.{Acts, Deed, Did, Here, Line, Seen, dids, of}
+use Rattle.tsp_base.specs.History.{Acts, Came, Deed, Did, Here, Line, Seen, dids, of}
 use Rattle.tsp_base.specs.Messages.{MessageValue}
 use Rattle.tsp_base.specs.Once.{ActsOn, Brings, ConfirmedAt, ObeysAt, OfSend, OnceAt, SpacedAt}
 use Rattle.tsp_base.specs.Places.{Within}
@@ -19,7 +19,18 @@ use Rattle.tsp_base.specs.Setting.{Setting}
 use Rattle.tsp_base.specs.Takings.{heard, peer_of, posted, time_in}
 use Rattle.tsp_noted.specs.declared.noted.Noted.{Noted}
 use Rattle.tsp_noted.specs.Histories.{history_of, line_of}
+use Rattle.tsp_noted.specs.Posts.{PostsAt}
 use Rattle.tsp_noted.specs.Told.{PostedAt}
+
+-- the datagram that the line's step takes, if it takes one, was never posted
+abbrev pub IsUnposted : Line → List Line → Type 0
+IsUnposted l h = (k : ℕ) → l.did.step.cause ≡ Came k → posted (dids h) ≤ k
+
+-- the datagram that the line's step takes is posted by the line at this index of those before it
+pub record CameAt (ns : List Noted) (l : Line) (i : ℕ) : Type 0 where
+  pub number : ℕ
+  pub cause : l.did.step.cause ≡ Came number
+  pub posts : PostsAt ns number i
 
 -- a deed posts a message to this node
 pub record PostsTo (deed : Deed) (node : ℕ) : Type 0 where

@@ -1,9 +1,16 @@
 pub mod Acting
+pub mod Agreeing
 pub mod Backing
+pub mod Casting
+pub mod Changes
 pub mod Judged
 pub mod Leading
 pub mod Looking
+pub mod Measuring
 pub mod Named
+pub mod Notes
 pub mod Parts
+pub mod Premised
+pub mod Resting
 pub mod Settings
 pub mod Verdicts

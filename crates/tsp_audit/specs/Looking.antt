@@ -2,8 +2,10 @@
 use Rattle.std.specs.Prelude.{◌≡◌, ℕ, List, length, Option, None, Some}
 use Rattle.tsp_audit.specs.declared.premises.Premises.{Premises}
 use Rattle.tsp_audit.specs.declared.verdict.Failure.{Failure}
-use Rattle.tsp_audit.specs.Acting.{ActedIs}
+use Rattle.tsp_audit.specs.declared.notes.Notes.{Notes}
+use Rattle.tsp_audit.specs.Agreeing.{Numbered}
 use Rattle.tsp_audit.specs.Judged.{FailsNow}
+use Rattle.tsp_audit.specs.Notes.{NotesStand}
 use Rattle.tsp_audit.specs.Parts.{AllKeep}
 use Rattle.tsp_audit.specs.Settings.{HasClocks, Timely}
 use Rattle.tsp_base.specs.Headers.{HeaderValue}
@@ -12,18 +14,19 @@ use Rattle.tsp_base.specs.Places.{Within}
 use Rattle.tsp_base.specs.Setting.{Setting}
 use Rattle.tsp_claims.specs.ClaimedHistory.{Claim, claimed}
 
--- a history of so many lines has grown to another, at true times of a schedule
-pub record Grown (h new : List Line) (from : ℕ) : Type 0 where
+-- a history of so many lines has grown to another, at true times of a schedule, by lines of its nodes
+pub record Grown (count : ℕ) (h new : List Line) (from : ℕ) : Type 0 where
   pub within : Within h new
   pub long : length h ≡ from
   pub timely : Timely new
+  pub numbered : Numbered count new
 
--- all parts hold after the newest event, where they held before it, and these are the sends that were taken; or this part fails there
-abbrev pub Looks : Premises → HeaderValue → List Claim → List Line → List ℕ → Option Failure → Type 0
-Looks premises header new h acted None = ActedIs (claimed header new) acted × ((setting : Setting) → HasClocks header setting → AllKeep premises setting h → AllKeep premises setting (claimed header new))
-Looks premises header new h acted (Some f) = (f.event ≡ length new) × ((setting : Setting) → HasClocks header setting → AllKeep premises setting h → FailsNow premises setting (claimed header new) f.part)
+-- all parts hold after the newest event, where they held before it, and these are the notes then; or this part fails there
+abbrev pub Looks : Premises → HeaderValue → List Claim → List Line → Notes → Option Failure → Type 0
+Looks premises header new h notes None = NotesStand premises (length header.nodes) (claimed header new) notes × ((setting : Setting) → HasClocks header setting → AllKeep premises setting h → AllKeep premises setting (claimed header new))
+Looks premises header new h notes (Some f) = (f.event ≡ length new) × ((setting : Setting) → HasClocks header setting → AllKeep premises setting h → FailsNow premises setting (claimed header new) f.part)
 
 -- an earlier failure stays; else this is found of the newest event
-abbrev pub Finds : Premises → HeaderValue → List Claim → List Line → Option Failure → List ℕ → Option Failure → Type 0
-Finds premises header new h (Some f) acted found = found ≡ Some f
-Finds premises header new h None acted found = Looks premises header new h acted found
+abbrev pub Finds : Premises → HeaderValue → List Claim → List Line → Option Failure → Notes → Option Failure → Type 0
+Finds premises header new h (Some f) notes found = found ≡ Some f
+Finds premises header new h None notes found = Looks premises header new h notes found

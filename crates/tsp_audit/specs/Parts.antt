@@ -1,7 +1,9 @@
 -- The parts of a verdict, and what each asks of a history. Each is a promise that every run keeps.
 use Rattle.std.specs.Prelude.{◌≡◌, true, ℕ, List}
 use Rattle.tsp_audit.specs.declared.premises.Premises.{Premises}
+use Rattle.tsp_base.specs.Agreed.{Agreed}
 use Rattle.tsp_base.specs.History.{Line}
+use Rattle.tsp_base.specs.Measured.{Measured, Trips}
 use Rattle.tsp_base.specs.Once.{OnceConfirmed, OnceObeyed, OnceSpaced, OnceTaken}
 use Rattle.tsp_base.specs.OneBack.{OneBack}
 use Rattle.tsp_base.specs.OnlyMaster.{OnlyMaster}
@@ -15,12 +17,18 @@ pub data Part : Type 0 where
   Leading : Part
   -- each correction acts at most once
   Acting : Part
+  -- each measurement errs by at most half its round trip
+  Measuring : Part
+  -- clocks that one round corrected agree
+  Agreeing : Part
 
 -- the number by which a verdict names a part
 abbrev pub part_number : Part → ℕ
 part_number Backing = 12
 part_number Leading = 13
 part_number Acting = 14
+part_number Measuring = 15
+part_number Agreeing = 16
 
 -- nobody forges a peer's datagram, none lives too long, and no two boots have one word
 pub record AllKept (premises : Premises) : Type 0 where
@@ -35,11 +43,18 @@ pub record ActsOnce (premises : Premises) (setting : Setting) (h : List Line) : 
   pub taken : AllKept premises → OnceTaken h
   pub confirmed : AllKept premises → OnceConfirmed h
 
+-- each measurement errs by at most half its round trip
+pub record MeasuresWell (setting : Setting) (h : List Line) : Type 0 where
+  pub measured : Measured setting h
+  pub trips : Trips h
+
 -- what a part asks of a history, as far as the schedule keeps the premises that it needs
 abbrev pub Keeps : Premises → Setting → Part → List Line → Type 0
 Keeps premises setting Backing h = OneBack h
 Keeps premises setting Leading h = OnlyMaster h
 Keeps premises setting Acting h = ActsOnce premises setting h
+Keeps premises setting Measuring h = premises.honest ≡ true → premises.words ≡ true → MeasuresWell setting h
+Keeps premises setting Agreeing h = AllKept premises → Agreed setting h
 
 -- all parts hold
 abbrev pub AllKeep : Premises → Setting → List Line → Type 0

@@ -7,11 +7,12 @@ use Rattle.tsp_audit.specs.declared.premises.Premises.{Premises}
 use Rattle.tsp_audit.specs.declared.verdict.Failure.{Failure}
 use Rattle.tsp_audit.specs.declared.verdict.Verdict.{Verdict}
 use Rattle.tsp_audit.specs.declared.verdict.Verdict.TheVariants.{Holds, Fails}
-use Rattle.tsp_audit.specs.Acting.{ActedIs}
 use Rattle.tsp_audit.specs.Judged.{FailsNow}
+use Rattle.tsp_audit.specs.Notes.{NotesStand}
 use Rattle.tsp_audit.specs.Parts.{AllKeep}
 use Rattle.tsp_audit.specs.Settings.{HasClocks, Timely}
 use Rattle.tsp_base.specs.declared.event.Event.{Event}
+use Rattle.tsp_base.specs.Everywhere.{Everywhere}
 use Rattle.tsp_base.specs.Headers.{HeaderValue}
 use Rattle.tsp_base.specs.Places.{Within}
 use Rattle.tsp_base.specs.Setting.{Setting}
@@ -19,6 +20,7 @@ use Rattle.tsp_claims.specs.declared.audit_fault.AuditFault.{AuditFault}
 use Rattle.tsp_claims.specs.declared.audit_fault.AuditFault.TheVariants.{History, OutOfMemory}
 use Rattle.tsp_claims.specs.ClaimedHistory.{Claim, claimed}
 use Rattle.tsp_claims.specs.Fitting.{Fit, Misfit}
+use Rattle.tsp_claims.specs.Listed.{NamesNode}
 use Rattle.tsp_claims.specs.Stands.{ClaimsStand, claim_of}
 use Rattle.tsp_script.specs.declared.trace.Line2.{Line2}
 
@@ -51,7 +53,8 @@ pub record AuditStands (premises : Premises) (header : HeaderValue) (claims : Li
   pub premises_are : a.premises ≡ premises
   pub timely : Timely (claimed header claims)
   pub found : (setting : Setting) → HasClocks header setting → IsFound premises setting header claims a.failed
-  pub acted : a.failed ≡ None → ActedIs (claimed header claims) a.acted.items
+  pub named : Everywhere (λ c before. NamesNode (length header.nodes) c.event) claims
+  pub notes : a.failed ≡ None → NotesStand premises (length header.nodes) (claimed header claims) a.notes
 
 -- what a call does with an event and the lines that are claimed of it: they fit and are taken in, and this is the verdict; or this one doesn't, or memory is wanted, and nothing changes
 abbrev pub Audits : Premises → HeaderValue → List Claim → Event → List Line2 → Result Verdict AuditFault → Audit → Type 0

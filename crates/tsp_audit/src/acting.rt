@@ -130,7 +130,7 @@ fn acts(lines: &[Noted], line: &Noted) -> bool
 }
 
 /// The number of the datagram that begins the send of which a line's Correct takes a post, if it takes one.
-fn takes_send(lines: &[Noted], line: &Noted) -> Option<u64>
+pub fn takes_send(lines: &[Noted], line: &Noted) -> Option<u64>
     requires { length lines.now < 2 ^ 32 }
     ensures { MatchOption result ((s : ℕ) → TakesSend (line_of line.now) (history_of lines.now) s → ⊥) (λ s. TakesSend (line_of line.now) (history_of lines.now) s) }
 {

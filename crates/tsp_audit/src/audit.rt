@@ -1,13 +1,14 @@
 //! The audit of a claimed history, event by event.
 ghost use Rattle.std.specs.Prelude.{◌≡◌, ◌≤◌, ◌<◌, ◌+◌, ◌-◌, List, [], true, None, length, vec_len, vec_capacity, IfOk};
-ghost use Rattle.tsp_audit.specs.Acting.{ActedIs};
 ghost use Rattle.tsp_audit.specs.Looking.{Finds, Grown, Looks};
+ghost use Rattle.tsp_audit.specs.Notes.{HasRoom, NotesStand};
 ghost use Rattle.tsp_base.specs.Headers.{HeaderValue, is_whole};
 ghost use Rattle.tsp_base.specs.History.{Line};
 ghost use Rattle.tsp_claims.specs.ClaimedHistory.{Claim, claimed};
 ghost use Rattle.tsp_claims.specs.Stands.{ClaimsStand};
 
 use crate::judging::judge;
+use crate::notes::Notes;
 use crate::premises::Premises;
 use crate::verdict::{Failure, Verdict, verdict_of};
 use std::alloc::{AllocError, Global};
@@ -17,18 +18,17 @@ use tsp_claims::audit_fault::AuditFault;
 use tsp_claims::claims::Claims;
 use tsp_script::trace::Line2;
 
-/// The first failure among the lines of the newest event, which begin after so many, where all parts hold before it. `acted` are the
-/// sends of which Corrects before it have taken posts, and where nothing fails then those of all.
-fn look(claims: &Claims, premises: Premises, from: usize, acted: &mut Vec<u64>) -> Option<Failure>
-    ensures { (header : HeaderValue) (new : List Claim) (h : List Line) → ClaimsStand header new claims.now → Grown h (claimed header new) from
-        → vec_len acted.old + (length (claimed header new) - from) ≤ vec_capacity acted.old → ActedIs h acted.old.items
-        → Looks premises header new h acted.new.items result }
+/// The first failure among the lines of the newest event, which begin after so many, where all parts hold before it. The notes are
+/// those of the lines before it, and where nothing fails then those of all.
+fn look(claims: &Claims, premises: Premises, from: usize, notes: &mut Notes) -> Option<Failure>
+    ensures { (header : HeaderValue) (new : List Claim) (h : List Line) → ClaimsStand header new claims.now → Grown (length header.nodes) h (claimed header new) from
+        → HasRoom (length (claimed header new) - from) notes.old → NotesStand premises (length header.nodes) h notes.old → Looks premises header new h notes.new result }
 {
     let lines = claims.lines();
     if lines.len() < from {
         return None;
     }
-    match judge(claims.header(), premises, lines, from, acted) {
+    match judge(claims.header(), premises, lines, from, notes) {
         None => None,
         Some(part) => Some(Failure {
             part,
@@ -43,15 +43,14 @@ fn find(
     claims: &Claims,
     premises: Premises,
     from: usize,
-    acted: &mut Vec<u64>,
+    notes: &mut Notes,
 ) -> Option<Failure>
-    ensures { (header : HeaderValue) (new : List Claim) (h : List Line) → ClaimsStand header new claims.now → Grown h (claimed header new) from
-        → vec_len acted.old + (length (claimed header new) - from) ≤ vec_capacity acted.old → (failed ≡ None → ActedIs h acted.old.items)
-        → Finds premises header new h failed acted.new.items result }
+    ensures { (header : HeaderValue) (new : List Claim) (h : List Line) → ClaimsStand header new claims.now → Grown (length header.nodes) h (claimed header new) from
+        → HasRoom (length (claimed header new) - from) notes.old → (failed ≡ None → NotesStand premises (length header.nodes) h notes.old) → Finds premises header new h failed notes.new result }
 {
     match failed {
         Some(failure) => Some(failure),
-        None => look(claims, premises, from, acted),
+        None => look(claims, premises, from, notes),
     }
 }
 
@@ -62,8 +61,8 @@ pub struct Audit {
     pub(crate) claims: Claims,
     /// What the whole schedule keeps.
     pub(crate) premises: Premises,
-    /// The sends, by the numbers of the datagrams that begin them, of which Corrects have taken posts.
-    pub(crate) acted: Vec<u64>,
+    /// What is noted of the claimed history, as long as nothing fails.
+    pub(crate) notes: Notes,
     /// The first failure; from then on only fits are checked.
     pub(crate) failed: Option<Failure>,
 }
@@ -85,11 +84,12 @@ impl Audit {
         requires whole { is_whole header ≡ true }
         ensures { IfOk result (λ audit. AuditStands premises header [] audit) }
     {
+        let notes = Notes::new(alloc, header.nodes().len())?;
         match Claims::new(alloc, header) {
             Ok(claims) => Ok(Audit {
                 claims,
                 premises,
-                acted: Vec::new(alloc),
+                notes,
                 failed: None,
             }),
             Err(refused) => Err(refused),
@@ -107,7 +107,7 @@ impl Audit {
         ensures { (premises : Premises) (header : HeaderValue) (claims : List Claim) → AuditStands premises header claims self.old → Audits premises header claims e.now acts.now result self.new }
     {
         let from = self.claims.lines().len();
-        if self.acted.reserve(acts.len() + 1).is_err() {
+        if self.notes.make_room(acts.len() + 1).is_err() {
             return Err(AuditFault::OutOfMemory);
         }
         match self.claims.event(e, acts) {
@@ -117,7 +117,7 @@ impl Audit {
                     &self.claims,
                     self.premises,
                     from,
-                    &mut self.acted,
+                    &mut self.notes,
                 );
                 Ok(verdict_of(self.failed))
             }

@@ -2,7 +2,7 @@
 ghost use Rattle.std.specs.Prelude.{◌≡◌, ◌<◌, ◌^◌, List, length, MatchBool, MatchOption};
 ghost use Rattle.tsp_base.specs.History.{Line};
 ghost use Rattle.tsp_base.specs.Once.{Brings};
-ghost use Rattle.tsp_audit.specs.Acting.{BringsAt, PostsTo};
+ghost use Rattle.tsp_audit.specs.Acting.{BringsAt, CameAt, IsUnposted, PostsTo};
 ghost use Rattle.tsp_noted.specs.Histories.{deed_of, line_of, history_of};
 
 use tsp_base::act::Act;
@@ -10,6 +10,16 @@ use tsp_base::datagram::Datagram;
 use tsp_base::place::Place;
 use tsp_noted::noted::{Noted, Why};
 use tsp_noted::posts::post_at;
+
+/// The index of the line, among these before it, that posts the datagram which a line's step takes.
+pub fn came_at(lines: &[Noted], line: &Noted) -> Option<usize>
+    ensures { MatchOption result (IsUnposted (line_of line.now) (history_of lines.now)) (λ i. CameAt lines.now (line_of line.now) i) }
+{
+    match line.why {
+        Why::Came(number) => post_at(lines, number),
+        _ => None,
+    }
+}
 
 /// Whether a line posts a message to a node.
 fn posts_to(line: &Noted, node: u32) -> bool
@@ -25,10 +35,7 @@ fn posts_to(line: &Noted, node: u32) -> bool
 pub fn brought(lines: &[Noted], line: &Noted) -> Option<usize>
     ensures { MatchOption result ((post : Line) (older : List Line) → Brings (line_of line.now) (history_of lines.now) post older → ⊥) (λ i. BringsAt lines.now (line_of line.now) i) }
 {
-    let Why::Came(number) = line.why else {
-        return None;
-    };
-    match post_at(lines, number) {
+    match came_at(lines, line) {
         None => None,
         Some(index) => {
             if posts_to(&lines[index], line.node) {

@@ -1,5 +1,6 @@
 //! The clocks of a schedule's nodes.
 ghost use Rattle.std.specs.Prelude.{◌≡◌, ◌≤◌, ◌<◌, ◌^◌, ◌+ℤ◌, pos, length, nat_abs};
+ghost use Rattle.tsp_audit.specs.Agreeing.{shown_by};
 ghost use Rattle.tsp_audit.specs.Settings.{clock_in};
 ghost use Rattle.tsp_base.specs.Ticks.{tick_at};
 ghost use Rattle.tsp_run.specs.Setup.{node_line};
@@ -56,4 +57,26 @@ pub fn clock_at(header: &Header, lines: &[Noted], node: u32, at: u64) -> i128
 {
     let (rate, wall) = clock_of(header, node);
     add(wall, moved_at(lines, node), lines.len(), tick_of(rate, at))
+}
+
+/// The amounts of corrections, if they are no more than those of all lines can be; else 0.
+fn bounded(moved: i128) -> i128
+    ensures same { IsSumOf 4294967295 moved → result ≡ moved }
+    ensures bounded { IsSumOf 4294967295 result }
+{
+    let most = 4_294_967_295 * 9_223_372_036_854_775_808;
+    if 0 - most <= moved && moved <= most {
+        moved
+    } else {
+        0
+    }
+}
+
+/// A node's clock at a true time of a schedule, in microseconds, where its corrections since its last boot come to `moved`.
+pub fn clock_of_moved(header: &Header, node: u32, moved: i128, at: u64) -> i128
+    ensures clock { at ≤ 1000000000000000 → IsSumOf 4294967295 moved → result ≡ shown_by header.now node moved at }
+    ensures small { IsSmall result }
+{
+    let (rate, wall) = clock_of(header, node);
+    add(wall, bounded(moved), 4_294_967_295, tick_of(rate, at))
 }

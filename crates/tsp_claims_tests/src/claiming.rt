@@ -1,5 +1,6 @@
 //! Claims over lines of text.
-ghost use Rattle.std.specs.Prelude.{◌≡◌, ◌≤◌, ◌<◌, ◌+◌, true, length};
+ghost use Rattle.std.specs.Prelude.{◌≡◌, ◌≤◌, ◌<◌, ◌+◌, true, length, IfSome};
+ghost use Rattle.tsp_base.specs.Headers.{is_whole};
 ghost use Rattle.tsp_run.specs.Run.{event_at};
 ghost use Rattle.tsp_claims.specs.Listed.{NamesNode};
 
@@ -27,14 +28,19 @@ pub(crate) enum Answer {
     Unread,
 }
 
-/// Two nodes on one network: one without drift whose wall shows 5 at tick 0, and one that gains 1,000 millionths.
-pub(crate) fn claims_of_two(alloc: Global) -> Option<Claims> {
-    let mut header = Header::new(alloc, 1000, false);
-    for (rate, wall) in [(0, 5), (1000, 0)] {
+/// A header of nodes on one network: the rate of each, in millionths, and its wall at tick 0, in microseconds.
+pub fn header_of(alloc: Global, drift: u32, clocks: &[(i32, i64)]) -> Option<Header>
+    ensures { IfSome result (λ header. (1 ≤ length header.nodes) × (length header.nodes ≤ 16) × (is_whole header ≡ true)) }
+{
+    if drift > 1000 {
+        return None;
+    }
+    let mut header = Header::new(alloc, drift, false);
+    for clock in clocks {
         let line = NodeLine {
             name: Name::empty(),
-            rate,
-            wall,
+            rate: clock.0,
+            wall: clock.1,
             may: true,
         };
         header.push(line).ok()?;
@@ -42,11 +48,17 @@ pub(crate) fn claims_of_two(alloc: Global) -> Option<Claims> {
     if header.nodes().is_empty() || header.nodes().len() > 16 || !header.whole() {
         return None;
     }
+    Some(header)
+}
+
+/// Two nodes: one without drift whose wall shows 5 at tick 0, and one that gains 1,000 millionths.
+pub(crate) fn claims_of_two(alloc: Global) -> Option<Claims> {
+    let header = header_of(alloc, 1000, &[(0, 5), (1000, 0)])?;
     Claims::new(alloc, header).ok()
 }
 
 /// The event of a schedule's line.
-fn event_of(text: &[u8]) -> Option<Event> {
+pub fn event_of(text: &[u8]) -> Option<Event> {
     match event_line(text) {
         Ok(EventItem::Event(event)) => Some(event),
         _ => None,
@@ -67,7 +79,7 @@ fn is_known(e: &Event, nodes: usize) -> bool
 }
 
 /// Whether an event with so many lines can be claimed.
-fn is_claimable(claims: &Claims, e: &Event, count: usize) -> bool
+pub fn is_claimable(claims: &Claims, e: &Event, count: usize) -> bool
     ensures time { result ≡ true → event_at e.now ≤ 1000000000000000 }
     ensures node { result ≡ true → NamesNode (length claims.now.header.nodes) e.now }
     ensures events { result ≡ true → claims.now.events < 20000 }
@@ -80,7 +92,7 @@ fn is_claimable(claims: &Claims, e: &Event, count: usize) -> bool
 }
 
 /// The lines of a trace; None where one is no trace's.
-fn lines_of(alloc: Global, text: &str) -> Option<Vec<Line2>> {
+pub fn lines_of(alloc: Global, text: &str) -> Option<Vec<Line2>> {
     let mut lines = Vec::new(alloc);
     for line in text.lines() {
         lines.push(act_of(line.as_bytes()).ok()?).ok()?;

@@ -3,7 +3,6 @@
 //! They stand apart, so that the crate that they test is proved once.
 #![tactic(auto)]
 
-#[cfg(test)]
-mod claiming;
+pub mod claiming;
 #[cfg(test)]
 mod rows;

@@ -1,31 +1,25 @@
 use Rattle.std.proofs.Common.{◌≡◌, rules, get_or}
-use Rattle.tsp_base.specs.History.{Came}
 use Rattle.tsp_noted.specs.declared.noted.Noted.{Noted}
 use Rattle.tsp_noted.specs.Histories.{deed_of, history_of, line_of}
-use Rattle.tsp_noted.specs.Posts.{PostsAt}
-use Rattle.tsp_audit.specs.Acting.{PostsTo}
-use Rattle.tsp_audit.proofs.TakeLemmas.{brings-few, brings-found, brings-other}
+use Rattle.tsp_audit.specs.Acting.{CameAt, PostsTo}
+use Rattle.tsp_audit.proofs.TakeLemmas.{brings-found, brings-none, brings-other}
 use Rattle.tsp_audit.proofs.brought.brought.Goals as goal
 
 pub returns-in-None : goal.returns-in-None
-returns-in-None c =
-    let cause : (line_of c.args.line.now).did.step.cause ≡ Came c.in-Came.number = search rules in
-    brings-few (line_of c.args.line.now) (history_of c.args.lines.now) c.in-Came.number cause c.in-None.ensures
+returns-in-None c = brings-none (line_of c.args.line.now) (history_of c.args.lines.now) c.in-None.ensures
 
 pub returns-else-posts_to : goal.returns-else-posts_to
 returns-else-posts_to c =
-    let cause : (line_of c.args.line.now).did.step.cause ≡ Came c.in-Came.number = search rules in
-    let at : PostsAt c.args.lines.now c.in-Came.number c.in-Some.index = search rules in
+    let came : CameAt c.args.lines.now (line_of c.args.line.now) c.in-Some.index = search rules in
     let noted : Noted = c.index-lines-index.result in
     let here : get_or c.args.lines.now c.in-Some.index noted ≡ noted = search rules in
     let other : PostsTo (deed_of noted.act) c.args.line.now.node → ⊥ = search rules in
-    brings-other c.args.lines.now (line_of c.args.line.now) c.in-Came.number c.in-Some.index noted cause at here other
+    brings-other c.args.lines.now (line_of c.args.line.now) c.in-Some.index noted came here other
 
 pub returns-then-posts_to : goal.returns-then-posts_to
 returns-then-posts_to c =
-    let cause : (line_of c.args.line.now).did.step.cause ≡ Came c.in-Came.number = search rules in
-    let at : PostsAt c.args.lines.now c.in-Came.number c.in-Some.index = search rules in
+    let came : CameAt c.args.lines.now (line_of c.args.line.now) c.in-Some.index = search rules in
     let noted : Noted = c.index-lines-index.result in
     let here : get_or c.args.lines.now c.in-Some.index noted ≡ noted = search rules in
     let posts : PostsTo (deed_of noted.act) c.args.line.now.node = search rules in
-    brings-found c.args.lines.now (line_of c.args.line.now) c.in-Came.number c.in-Some.index noted cause at here posts
+    brings-found c.args.lines.now (line_of c.args.line.now) c.in-Some.index noted came here posts

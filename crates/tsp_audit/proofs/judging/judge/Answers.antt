@@ -1,26 +1,58 @@
 use Rattle.std.proofs.Common.{List}
-use Rattle.tsp_audit.specs.Parts.{Acting, ActsOnce, Backing, Leading}
+use Rattle.tsp_audit.specs.Parts.{Acting, ActsOnce, Agreeing, Backing, Keeps, Leading, Measuring}
 use Rattle.tsp_base.specs.History.{Line}
 use Rattle.tsp_base.specs.OneBack.{OneBack}
 use Rattle.tsp_base.specs.OnlyMaster.{OnlyMaster}
 use Rattle.tsp_noted.specs.Histories.{history_of}
-use Rattle.tsp_audit.proofs.JudgeLemmas.{decided, fails-acting, fails-backing, fails-leading, refuted}
+use Rattle.tsp_audit.proofs.JudgeLemmas.{all-keep, decided, fails-acting, fails-agreeing, fails-backing, fails-leading, fails-measuring, refuted}
 use Rattle.tsp_audit.proofs.judging.judge.Goals as goal
 
 pub returns-then-not-keeps_backing-clause-judges : goal.returns-then-not-keeps_backing-clause-judges
-returns-then-not-keeps_backing-clause-judges c setting has timely room a old =
+returns-then-not-keeps_backing-clause-judges c setting count has timely numbered room notes old =
     let h : List Line = history_of c.args.lines.now in
     fails-backing c.args.premises setting h (refuted c.keeps_backing.result (OneBack h) c.if-not-keeps_backing.true (c.keeps_backing.ensures (old Backing)))
 
 pub returns-then-not-keeps_leading-clause-judges : goal.returns-then-not-keeps_leading-clause-judges
-returns-then-not-keeps_leading-clause-judges c setting has timely room a old =
+returns-then-not-keeps_leading-clause-judges c setting count has timely numbered room notes old =
     let h : List Line = history_of c.args.lines.now in
     fails-leading c.args.premises setting h (decided c.keeps_backing.result (OneBack h) c.if-not-keeps_backing.false (c.keeps_backing.ensures (old Backing)))
     (refuted c.keeps_leading.result (OnlyMaster h) c.if-not-keeps_leading.true (c.keeps_leading.ensures (old Leading)))
 
 pub returns-then-not-keeps_acting-clause-judges : goal.returns-then-not-keeps_acting-clause-judges
-returns-then-not-keeps_acting-clause-judges c setting has timely room a old =
+returns-then-not-keeps_acting-clause-judges c setting count has timely numbered room notes old =
     let h : List Line = history_of c.args.lines.now in
     fails-acting c.args.premises setting h (decided c.keeps_backing.result (OneBack h) c.if-not-keeps_backing.false (c.keeps_backing.ensures (old Backing)))
     (decided c.keeps_leading.result (OnlyMaster h) c.if-not-keeps_leading.false (c.keeps_leading.ensures (old Leading)))
-    (refuted c.keeps_acting.result (ActsOnce c.args.premises setting h) c.if-not-keeps_acting.true (c.keeps_acting.ensures.keeps setting has timely room a (old Acting)))
+    (refuted c.keeps_acting.result (ActsOnce c.args.premises setting h) c.if-not-keeps_acting.true (c.keeps_acting.ensures.keeps setting has timely room.acted notes.acted (old Acting)))
+
+pub returns-then-not-keeps_measuring_if-clause-judges : goal.returns-then-not-keeps_measuring_if-clause-judges
+returns-then-not-keeps_measuring_if-clause-judges c setting count has timely numbered room notes old =
+    let h : List Line = history_of c.args.lines.now in
+    fails-measuring c.args.premises setting h (decided c.keeps_backing.result (OneBack h) c.if-not-keeps_backing.false (c.keeps_backing.ensures (old Backing)))
+    (decided c.keeps_leading.result (OnlyMaster h) c.if-not-keeps_leading.false (c.keeps_leading.ensures (old Leading)))
+    (decided c.keeps_acting.result (ActsOnce c.args.premises setting h) c.if-not-keeps_acting.false (c.keeps_acting.ensures.keeps setting has timely room.acted notes.acted (old Acting)))
+    (refuted c.keeps_measuring_if.result (Keeps c.args.premises setting Measuring h) c.if-not-keeps_measuring_if.true (c.keeps_measuring_if.ensures setting has timely (old Measuring)))
+
+pub returns-then-not-keeps_agreeing_if-clause-judges : goal.returns-then-not-keeps_agreeing_if-clause-judges
+returns-then-not-keeps_agreeing_if-clause-judges c setting count has timely numbered room notes old =
+    let h : List Line = history_of c.args.lines.now in
+    fails-agreeing c.args.premises setting h (decided c.keeps_backing.result (OneBack h) c.if-not-keeps_backing.false (c.keeps_backing.ensures (old Backing)))
+    (decided c.keeps_leading.result (OnlyMaster h) c.if-not-keeps_leading.false (c.keeps_leading.ensures (old Leading)))
+    (decided c.keeps_acting.result (ActsOnce c.args.premises setting h) c.if-not-keeps_acting.false (c.keeps_acting.ensures.keeps setting has timely room.acted notes.acted (old Acting)))
+    (decided c.keeps_measuring_if.result (Keeps c.args.premises setting Measuring h) c.if-not-keeps_measuring_if.false (c.keeps_measuring_if.ensures setting has timely (old Measuring)))
+    (refuted c.keeps_agreeing_if.result (Keeps c.args.premises setting Agreeing h) c.if-not-keeps_agreeing_if.true (c.keeps_agreeing_if.ensures.keeps setting count has timely numbered room.trips notes.accord (old Agreeing)))
+
+pub returns-clause-judges : goal.returns-clause-judges
+returns-clause-judges c setting count has timely numbered room notes old =
+    let h : List Line = history_of c.args.lines.now in
+    all-keep c.args.premises setting h (decided c.keeps_backing.result (OneBack h) c.if-not-keeps_backing.false (c.keeps_backing.ensures (old Backing)))
+    (decided c.keeps_leading.result (OnlyMaster h) c.if-not-keeps_leading.false (c.keeps_leading.ensures (old Leading)))
+    (decided c.keeps_acting.result (ActsOnce c.args.premises setting h) c.if-not-keeps_acting.false (c.keeps_acting.ensures.keeps setting has timely room.acted notes.acted (old Acting)))
+    (decided c.keeps_measuring_if.result (Keeps c.args.premises setting Measuring h) c.if-not-keeps_measuring_if.false (c.keeps_measuring_if.ensures setting has timely (old Measuring)))
+    (decided c.keeps_agreeing_if.result (Keeps c.args.premises setting Agreeing h) c.if-not-keeps_agreeing_if.false (c.keeps_agreeing_if.ensures.keeps setting count has timely numbered room.trips notes.accord (old Agreeing)))
+
+pub returns-clause-notes : goal.returns-clause-notes
+returns-clause-notes c count told room notes = record {
+  acted = c.keeps_acting.ensures.acted c.if-not-keeps_acting.false room.acted notes.acted;
+  accord = λ kept. c.keeps_agreeing_if.ensures.accord count kept c.if-not-keeps_agreeing_if.false room.trips (notes.accord kept);
+}

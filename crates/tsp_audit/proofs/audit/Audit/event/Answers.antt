@@ -1,19 +1,31 @@
-use Rattle.std.proofs.Common.{◌≡◌, ◌≤◌, ◌+◌, ◌-◌, ◌∙◌, ℕ, arith, ap, sym, subst, rules, List, ◌∷◌, length, vec_len, vec_capacity}
+use Rattle.std.proofs.Common.{◌≡◌, ◌≤◌, ◌+◌, ◌-◌, ◌∙◌, ℕ, arith, ap, sym, subst, rules, List, ◌∷◌, length}
 use Rattle.tsp_audit.specs.declared.premises.Premises.{Premises}
 use Rattle.tsp_audit.specs.declared.verdict.Verdict.{Verdict}
-use Rattle.tsp_audit.specs.Acting.{ActedIs}
 use Rattle.tsp_audit.specs.Looking.{Finds, Grown}
+use Rattle.tsp_audit.specs.Notes.{HasRoom, NotesStand}
 use Rattle.tsp_audit.specs.Verdicts.{IsVerdict}
-use Rattle.tsp_audit.proofs.EventLemmas.{acted-later, acts-length, found-more, grown-claims, longer-claims, verdict-is}
+use Rattle.tsp_audit.proofs.EventLemmas.{acts-length, audit-refused, audit-with, found-more, grown-claims, longer-claims, notes-later, verdict-is}
 use Rattle.tsp_audit.proofs.JudgeLemmas.{history-length}
+use Rattle.tsp_audit.proofs.NoteLemmas.{room-less}
+use Rattle.tsp_base.specs.Headers.{HeaderValue}
 use Rattle.tsp_base.specs.History.{Line}
 use Rattle.tsp_claims.specs.ClaimedHistory.{Claim, claimed}
 use Rattle.tsp_claims.specs.Fitting.{Fit, acts_of}
+use Rattle.tsp_claims.specs.Listed.{NamesNode}
 use Rattle.tsp_claims.specs.Stands.{ClaimsStand, claim_of}
 use Rattle.tsp_noted.specs.declared.noted.Noted.{Noted}
 use Rattle.tsp_noted.specs.Histories.{history_of}
 use Rattle.tsp_script.specs.declared.trace.Line2.{Line2}
 use Rattle.tsp_audit.proofs.audit.Audit.event.Goals as goal
+
+pub returns-then-is_err : goal.returns-then-is_err
+returns-then-is_err c premises header claims stands =
+    audit-with premises header claims c.args.self.now c.args.self.now.claims c.make_room.new.self stands stands.claims_stand (c.make_room.ensures.stand premises (length header.nodes) (claimed header claims))
+
+pub returns-in-Err : goal.returns-in-Err
+returns-in-Err c premises header claims stands =
+    audit-refused premises header claims c.args.e.now c.args.acts.now c.in-Err.fault c.args.self.now c.event.new.self c.make_room.new.self stands (c.in-Err.ensures header claims stands.claims_stand)
+    (c.make_room.ensures.stand premises (length header.nodes) (claimed header claims))
 
 pub returns-in-Ok : goal.returns-in-Ok
 returns-in-Ok c premises header claims stands =
@@ -24,24 +36,28 @@ returns-in-Ok c premises header claims stands =
     let taken : Fit header claims c.args.e.now acts × ClaimsStand header (claim ∷ claims) c.event.new.self = c.in-Ok.ensures header claims stands.claims_stand in
     let is : history_of ns ≡ h = c.lines-from.ensures.lines header claims stands.claims_stand in
     let begins : length h ≡ length ns = sym (ap (λ (x : List Line). length x) is) ∙ history-length ns in
-    let g : Grown h (claimed header (claim ∷ claims)) (length h) = grown-claims header claims claim c.requires.time stands.timely in
-    let grown : Grown h (claimed header (claim ∷ claims)) (length ns) = record { within = g.within; long = begins; timely = g.timely } in
-    let spare : vec_len c.reserve.new.self + (length acts + 1) ≤ vec_capacity c.reserve.new.self = search rules in
-    let count : length (acts_of acts) ≡ length acts = acts-length acts in
+    let count : ℕ = length header.nodes in
+    let names : NamesNode count c.args.e.now = subst (λ (k : HeaderValue). NamesNode (length k.nodes) c.args.e.now) stands.claims_stand.header_is c.requires.node in
+    let g : Grown count h (claimed header (claim ∷ claims)) (length h) = grown-claims header claims claim c.requires.time stands.timely (names, stands.named) in
+    let grown : Grown count h (claimed header (claim ∷ claims)) (length ns) = record { within = g.within; long = begins; timely = g.timely; numbered = g.numbered } in
+    let spare : HasRoom (length acts + 1) c.make_room.new.self = search rules in
+    let many : length (acts_of acts) ≡ length acts = acts-length acts in
     let longer : length (claimed header (claim ∷ claims)) ≤ length h + (length (acts_of acts) + 1) = longer-claims header claims claim in
-    let room : vec_len c.reserve.new.self + (length (claimed header (claim ∷ claims)) - length ns) ≤ vec_capacity c.reserve.new.self = omega (arith, spare, count, longer, begins) in
-    let finds : Finds premises header (claim ∷ claims) h c.args.self.now.failed c.find-self.new.acted.items c.find-self.result =
-    subst (λ (p : Premises). Finds p header (claim ∷ claims) h c.args.self.now.failed c.find-self.new.acted.items c.find-self.result) stands.premises_are
-    (c.find-self.ensures header (claim ∷ claims) h taken.1 grown room (λ none. subst (λ (xs : List ℕ). ActedIs h xs) (sym c.reserve.ensures.items) (stands.acted none))) in (
+    let less : length (claimed header (claim ∷ claims)) - length ns ≤ length acts + 1 = omega (arith, many, longer, begins) in
+    let room : HasRoom (length (claimed header (claim ∷ claims)) - length ns) c.make_room.new.self = room-less (length (claimed header (claim ∷ claims)) - length ns) (length acts + 1) c.make_room.new.self less spare in
+    let finds : Finds premises header (claim ∷ claims) h c.args.self.now.failed c.find-self.new.notes c.find-self.result =
+    subst (λ (p : Premises). Finds p header (claim ∷ claims) h c.args.self.now.failed c.find-self.new.notes c.find-self.result) stands.premises_are
+    (c.find-self.ensures header (claim ∷ claims) h taken.1 grown room (λ none. c.make_room.ensures.stand c.args.self.now.premises count h (subst (λ (p : Premises). NotesStand p count h c.args.self.now.notes) (sym stands.premises_are) (stands.notes none)))) in (
       taken.0,
       record {
         claims_stand = taken.1;
         premises_are = stands.premises_are;
         timely = grown.timely;
-        found = found-more premises header claim claims c.args.self.now.failed c.find-self.result c.find-self.new.acted.items stands.found finds;
-        acted = acted-later premises header claim claims c.args.self.now.failed c.find-self.result c.find-self.new.acted.items finds;
+        found = found-more premises header claim claims c.args.self.now.failed c.find-self.result c.find-self.new.notes stands.found finds;
+        named = (names, stands.named);
+        notes = notes-later premises header claim claims c.args.self.now.failed c.find-self.result c.find-self.new.notes finds;
       },
       (λ setting has.
           subst (λ (v : Verdict). IsVerdict premises setting header (claim ∷ claims) v) (sym c.verdict_of.ensures)
-          (verdict-is premises setting header (claim ∷ claims) c.find-self.result (found-more premises header claim claims c.args.self.now.failed c.find-self.result c.find-self.new.acted.items stands.found finds setting has))),
+          (verdict-is premises setting header (claim ∷ claims) c.find-self.result (found-more premises header claim claims c.args.self.now.failed c.find-self.result c.find-self.new.notes stands.found finds setting has))),
     )

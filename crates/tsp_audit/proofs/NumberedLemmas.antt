@@ -1,0 +1,64 @@
+-- The nodes of claimed lines are nodes of the header.
+use Rattle.std.specs.Prelude.{◌≡◌, ◌||◌, ◌<◌, ℕ, Bool, true, false, if◌then◌else◌, Option, None, Some, List, [], ◌∷◌, refl}
+use Rattle.std.proofs.Common.{subst, eqb-true}
+use Rattle.tsp_audit.specs.Agreeing.{Numbered}
+use Rattle.tsp_base.specs.declared.event.Event.{Event}
+use Rattle.tsp_base.specs.declared.event.Event.TheVariants.{Boot, Turn, Take, Bytes}
+use Rattle.tsp_audit.proofs.JoinLemmas.{OfStep, grown-all, made}
+use Rattle.tsp_base.specs.Everywhere.{Everywhere}
+use Rattle.tsp_base.specs.Fits.{node_of}
+use Rattle.tsp_base.specs.Headers.{HeaderValue}
+use Rattle.tsp_base.specs.History.{Step}
+use Rattle.tsp_claims.specs.declared.claimed.Claimed.{Claimed}
+use Rattle.tsp_claims.specs.ClaimedHistory.{Claim, awake, claimed, events_of, makes_step, posts_of, reaches, step_at, step_of, takes_step}
+use Rattle.tsp_claims.specs.Listed.{NamesNode, booted, boots}
+use Rattle.tsp_run.specs.declared.address.Address.{Address}
+use Rattle.tsp_run.specs.Networks.{networks}
+use Rattle.std.specs.Prelude.{slice_get}
+
+-- each event names a node of so many
+abbrev pub AllName : ℕ → List Claim → Type 0
+AllName count = Everywhere (λ c before. NamesNode count c.event)
+
+either : (b c : Bool) → (b || c) ≡ true → (b ≡ false → c ≡ true)
+either true c e f = let bad : ⊥ = cc in absurd bad
+either false c e f = e
+
+boots-below : (count : ℕ) (e : Event) (n : ℕ) → NamesNode count e → boots e n ≡ true → n < count
+boots-below count (Boot at node word) n named e = subst (λ (k : ℕ). k < count) (eqb-true node n e) named
+boots-below count (Turn at node) n named e = let bad : ⊥ = cc in absurd bad
+boots-below count (Take at k) n named e = let bad : ⊥ = cc in absurd bad
+boots-below count (Bytes at node port from octets) n named e = let bad : ⊥ = cc in absurd bad
+
+booted-more : (count : ℕ) (e : Event) (n : ℕ) (keep b : Bool) → NamesNode count e → (keep ≡ true → n < count) → boots e n ≡ b → (boots e n || keep) ≡ true → n < count
+booted-more count e n keep true named rest f or = boots-below count e n named f
+booted-more count e n keep false named rest f or = rest (either (boots e n) keep or f)
+
+booted-below : (count : ℕ) (claims : List Claim) → AllName count claims → (n : ℕ) → booted (events_of claims) n ≡ true → n < count
+booted-below count [] named n e = let bad : ⊥ = cc in absurd bad
+booted-below count (c ∷ before) named n e = booted-more count c.event n (booted (events_of before) n) (boots c.event n) named.0 (booted-below count before named.1 n) refl e
+
+-- a step of one of so many nodes, if there is one
+abbrev Below : ℕ → Option Step → Type 0
+Below count = OfStep (λ step. step.node < count)
+
+taken-below : (count at k : ℕ) (up : ℕ → Bool) → ((n : ℕ) → up n ≡ true → n < count) → (o : Option Address) → Below count (takes_step at k (awake up o))
+taken-below count at k up below None = tt
+taken-below count at k up below (Some a) = by_up (up a.node) refl where
+  by_up : (b : Bool) → up a.node ≡ b → Below count (takes_step at k (if b then Some a else None))
+  by_up true e = below a.node e
+  by_up false e = tt
+
+step-below : (count : ℕ) (header : HeaderValue) (posts : List Claimed) (up : ℕ → Bool) (e : Event) → ((n : ℕ) → up n ≡ true → n < count) → NamesNode count e → Below count (step_at header posts up e)
+step-below count header posts up (Boot at node word) below named = named
+step-below count header posts up (Turn at node) below named = named
+step-below count header posts up (Take at k) below named = taken-below count at k up below (reaches (networks header) (slice_get posts k))
+step-below count header posts up (Bytes at node port from octets) below named = named
+
+-- where each event names a node of so many, each claimed line's is one
+pub numbered-claims : (count : ℕ) (header : HeaderValue) (claims : List Claim) → AllName count claims → Numbered count (claimed header claims)
+numbered-claims count header [] named = tt
+numbered-claims count header (c ∷ before) named =
+    grown-all (λ step. step.node < count) (λ l s. node_of l < count) (λ step x port deed s below. below) header (step_of header (posts_of header before) (booted (events_of before)) c.event c.acts) c.acts (claimed header before)
+    (made (λ step. step.node < count) (makes_step c.event c.acts) (step_at header (posts_of header before) (booted (events_of before)) c.event) (step-below count header (posts_of header before) (booted (events_of before)) c.event (booted-below count before named.1) named.0))
+    (numbered-claims count header before named.1)

@@ -1,0 +1,139 @@
+-- The Close of which a send came, its best sample of a node, and that sample's reading.
+use Rattle.std.specs.Prelude.{◌≡◌, ◌<◌, ◌≤◌, ◌+◌, ℕ, ℤ, pos, List, [], ◌∷◌, length, MatchOption, Option, None, Some}
+use Rattle.std.proofs.Common.{sym, ap, subst, ◌∙◌, arith, get_or, take}
+use Rattle.std.proofs.lemmas.List.{length-take}
+use Rattle.tsp_base.specs.declared.place.Port.{Port}
+use Rattle.tsp_base.specs.Fits.{node_of}
+use Rattle.tsp_base.specs.History.{Came, Line, dids, of, view}
+use Rattle.tsp_base.specs.NodeFacts.{all_corrects, lives}
+use Rattle.tsp_base.specs.Places.{Within}
+use Rattle.tsp_base.specs.RoundFacts.{Sampled, best}
+use Rattle.tsp_base.specs.StepFacts.{closed}
+use Rattle.tsp_base.specs.Takings.{peer_of, posted}
+use Rattle.tsp_base.proofs.PlaceLemmas.{Within-through}
+use Rattle.tsp_safe.proofs.SendPlaces.{posted-mono, posted-post}
+use Rattle.tsp_audit.proofs.CastLemmas.{begun-cast, begun-none, lines-one}
+use Rattle.tsp_audit.proofs.Prefixes.{history-more, history-within, line-within}
+use Rattle.tsp_audit.proofs.TakeLemmas.{same-noted}
+use Rattle.tsp_audit.specs.Agreeing.{CastAs, IsNoCast, TripsTell}
+use Rattle.tsp_audit.specs.Casting.{BegunAt, HasNoRound, RoundAs, Rounds, TakesNone, TakesThen}
+use Rattle.tsp_audit.specs.declared.live.LiveCast.{LiveCast}
+use Rattle.tsp_noted.specs.declared.noted.Noted.{Noted}
+use Rattle.tsp_noted.specs.declared.rounds.Best.{Best}
+use Rattle.tsp_noted.specs.Histories.{deed_of, history_of, line_of, noted_after}
+use Rattle.tsp_noted.specs.Posts.{PostsAt}
+use Rattle.tsp_noted.specs.Rounds.{BestAt, SeenAt, trip_at}
+
+length-noted : (h : List Line) (ns : List Noted) → length (noted_after h ns) ≡ length h + length ns
+length-noted h [] = omega arith
+length-noted h (n ∷ rest) = omega (arith, length-noted (line_of n ∷ h) rest)
+
+-- the index of a line is how many stand before it
+pub history-length : (ns : List Noted) (i : ℕ) → i ≤ length ns → length (history_of (take i ns)) ≡ i
+history-length ns i le = omega (arith, length-noted [] (take i ns), length-take i ns, le)
+
+-- the round trip of a line by its index
+pub trip-here : (ns : List Noted) (trips : List ℤ) (i : ℕ) (noted : Noted) → TripsTell (history_of ns) trips → i < length ns → get_or ns i noted ≡ noted → get_or trips i (pos 0) ≡ trip_at (line_of noted) (history_of (take i ns))
+trip-here ns trips i noted tell lt is = subst (λ (k : ℕ). get_or trips k (pos 0) ≡ trip_at (line_of noted) (history_of (take i ns))) (history-length ns i (omega (arith, lt))) (tell (line_of noted) (history_of (take i ns)) (line-within ns i noted lt is))
+
+pub trips-before : (ns : List Noted) (trips : List ℤ) (i : ℕ) → TripsTell (history_of ns) trips → TripsTell (history_of (take i ns)) trips
+trips-before ns trips i tell = λ l before w. tell l before (Within-through (l ∷ before) (history_of (take i ns)) (history_of ns) w (history-within ns i))
+
+pub reading-found : (ns : List Noted) (l : Line) (k i : ℕ) (noted : Noted) → l.did.step.cause ≡ Came k → PostsAt ns k i → get_or ns i noted ≡ noted → TakesThen (history_of ns) l (get_or ns i noted).at
+reading-found ns l k i noted cause p is =
+    let same : p.noted ≡ get_or ns i noted = same-noted ns i p.noted noted p.below p.noted_is is ∙ sym is in
+    record {
+      post = line_of p.noted;
+      older = history_of (take i ns);
+      reads = p.within;
+      takes = cause ∙ ap Came (sym p.number);
+      to = p.to;
+      datagram = p.datagram;
+      deed = ap deed_of p.act;
+      at_is = ap (λ (n : Noted). n.at) (sym same);
+    }
+
+-- the Close of a round stands where its index says
+close-there : (ns : List Noted) (n : ℕ) (q : Port) (k i : ℕ) (world : List Line) (close : Line) (cpast : List Line) (r : Line) (older : List Line) (e : ℤ) → Within (history_of ns) world → (s : SeenAt ns n q (closed (view q (of n (history_of ns)))) i) →
+    Rounds n q k (view q (of n (history_of ns))) world close cpast r older e → close ∷ cpast ≡ line_of s.noted ∷ history_of (take i ns)
+close-there ns n q k i world close cpast r older e w s x =
+    lines-one n q world close (line_of s.noted) cpast (history_of (take i ns)) x.close_node s.node x.close_port s.port x.closes (Within-through (line_of s.noted ∷ history_of (take i ns)) (history_of ns) world s.at.within w) (sym x.close_is ∙ s.is)
+
+pub sample-none : (ns : List Noted) (n : ℕ) (q : Port) (k i : ℕ) → SeenAt ns n q (closed (view q (of n (history_of ns)))) i → best (peer_of k) (view q (of n (history_of (take i ns)))) ≡ None → HasNoRound n q k (history_of ns)
+sample-none ns n q k i s none = λ world close cpast r older e w x.
+    let there : close ∷ cpast ≡ line_of s.noted ∷ history_of (take i ns) = close-there ns n q k i world close cpast r older e w s x in
+    let past : cpast ≡ history_of (take i ns) = cc in
+    let both : Some x.sample ≡ None = sym x.best_is ∙ (ap (λ (t : List Line). best (peer_of k) (view q (of n t))) past ∙ none) in
+    let bad : ⊥ = cc in
+    bad
+
+pub reading-none : (ns : List Noted) (n : ℕ) (q : Port) (k i : ℕ) (b : Best) (noted : Noted) → SeenAt ns n q (closed (view q (of n (history_of ns)))) i → BestAt (take i ns) n q (best (peer_of k) (view q (of n (history_of (take i ns))))) b →
+    get_or (take i ns) b.index noted ≡ noted → TakesNone (history_of (take b.index (take i ns))) (line_of noted) → HasNoRound n q k (history_of ns)
+reading-none ns n q k i b noted s best_is is none = λ world close cpast r older e w x.
+    let there : close ∷ cpast ≡ line_of s.noted ∷ history_of (take i ns) = close-there ns n q k i world close cpast r older e w s x in
+    let past : cpast ≡ history_of (take i ns) = cc in
+    let both : Some x.sample ≡ Some best_is.sampled = sym x.best_is ∙ (ap (λ (t : List Line). best (peer_of k) (view q (of n t))) past ∙ best_is.is) in
+    let sample : x.sample ≡ best_is.sampled = cc in
+    let p = best_is.place in
+    let here : Within (line_of p.noted ∷ history_of (take b.index (take i ns))) world =
+    Within-through (line_of p.noted ∷ history_of (take b.index (take i ns))) (history_of (take i ns)) world p.at.within (Within-through (history_of (take i ns)) (history_of ns) world (history-within ns i) w) in
+    let line_is : x.reading.line ∷ x.reading.before ≡ line_of p.noted ∷ history_of (take b.index (take i ns)) =
+    lines-one n q world x.reading.line (line_of p.noted) x.reading.before (history_of (take b.index (take i ns))) x.reading.node p.node x.reading.port p.port x.reading.at here (sym x.reading.is ∙ (ap (λ (y : Sampled). y.place) sample ∙ p.is)) in
+    let line : x.reading.line ≡ line_of p.noted = cc in
+    let before : x.reading.before ≡ history_of (take b.index (take i ns)) = cc in
+    let same : p.noted ≡ noted = same-noted (take i ns) b.index p.noted noted p.at.below p.at.noted_is is in
+    let cause : (line_of noted).did.step.cause ≡ Came (posted (dids older)) = ap (λ (l : Line). l.did.step.cause) (sym (line ∙ ap line_of same)) ∙ x.reading.takes in
+    let few : posted (dids (history_of (take b.index (take i ns)))) ≤ posted (dids older) = none (posted (dids older)) cause in
+    let reads : Within (r ∷ older) (history_of (take b.index (take i ns))) = subst (λ (t : List Line). Within (r ∷ older) t) before x.reading.reads in
+    omega (arith, few, posted-mono (r ∷ older) (history_of (take b.index (take i ns))) reads, posted-post r older x.reading.to x.reading.datagram x.reading.deed)
+
+pub round-found : (ns : List Noted) (n : ℕ) (q : Port) (k i : ℕ) (b : Best) (noted : Noted) (c : LiveCast) → SeenAt ns n q (closed (view q (of n (history_of ns)))) i → BestAt (take i ns) n q (best (peer_of k) (view q (of n (history_of (take i ns))))) b →
+    get_or (take i ns) b.index noted ≡ noted → TakesThen (history_of (take b.index (take i ns))) (line_of noted) c.at → c.master ≡ n → c.close ≡ i → c.err ≡ b.err →
+    c.lives ≡ lives (dids (of n (history_of (take (i + 1) ns)))) → c.corrects ≡ all_corrects (dids (of n (history_of (take (i + 1) ns)))) → RoundAs n q k (history_of ns) c
+round-found ns n q k i b noted c s best_is is t master_is close_is err_is lives_is corrects_is =
+    let p = best_is.place in
+    let same : noted ≡ p.noted = same-noted (take i ns) b.index noted p.noted p.at.below is p.at.noted_is in
+    let more : history_of (take (i + 1) ns) ≡ line_of s.noted ∷ history_of (take i ns) = history-more ns i s.noted s.at.below s.at.noted_is in
+    record {
+      close = line_of s.noted;
+      cpast = history_of (take i ns);
+      reading = t.post;
+      older = t.older;
+      rounds = record {
+        closes = s.at.within;
+        close_node = s.node;
+        close_port = s.port;
+        close_is = s.is;
+        sample = best_is.sampled;
+        best_is = best_is.is;
+        err_is = best_is.err_is ∙ sym err_is;
+        reading = record {
+          line = line_of p.noted;
+          before = history_of (take b.index (take i ns));
+          at = Within-through (line_of p.noted ∷ history_of (take b.index (take i ns))) (history_of (take i ns)) (history_of ns) p.at.within (history-within ns i);
+          node = p.node;
+          port = p.port;
+          is = p.is;
+          reads = t.reads;
+          takes = subst (λ (m : Noted). (line_of m).did.step.cause ≡ Came (posted (dids t.older))) same t.takes;
+          to = t.to;
+          datagram = t.datagram;
+          deed = t.deed;
+        };
+      };
+      master_is = master_is;
+      at_is = t.at_is;
+      close_is = close_is ∙ sym (history-length ns i (omega (arith, s.at.below)));
+      lives_is = lives_is ∙ ap (λ (h : List Line). lives (dids (of n h))) more;
+      corrects_is = corrects_is ∙ ap (λ (h : List Line). all_corrects (dids (of n h))) more;
+    }
+
+-- what a Correct came of, by the first post of the send that it takes
+pub cast-told : (ns : List Noted) (l : Line) (i : ℕ) (noted : Noted) (o : Option LiveCast) → BegunAt ns l i → get_or ns i noted ≡ noted → MatchOption o (HasNoRound noted.node noted.port (node_of l) (history_of (take i ns))) (λ c. RoundAs noted.node noted.port (node_of l) (history_of (take i ns)) c) →
+    MatchOption o (IsNoCast l (history_of ns)) (λ c. CastAs l (history_of ns) c)
+cast-told ns l i noted None x is none =
+    let same : noted ≡ x.noted = same-noted ns i noted x.noted x.at.below is x.at.noted_is in
+    begun-none ns l i x (subst (λ (m : Noted). HasNoRound m.node m.port (node_of l) (history_of (take i ns))) same none)
+cast-told ns l i noted (Some c) x is r =
+    let same : noted ≡ x.noted = same-noted ns i noted x.noted x.at.below is x.at.noted_is in
+    begun-cast ns l i c x (subst (λ (m : Noted). RoundAs m.node m.port (node_of l) (history_of (take i ns)) c) same r)

@@ -1,0 +1,196 @@
+-- How what is kept of a node changes with a line.
+use Rattle.std.specs.Prelude.{◌≡◌, ◌==◌, ◌<◌, ◌≤◌, ◌+◌, ◌^◌, ℕ, ℤ, pos, Bool, false, MatchOption, Option, None, Some, List, [], ◌∷◌, refl}
+use Rattle.std.proofs.Common.{sym, ap, subst, ◌∙◌, arith, inl, inr}
+use Rattle.std.proofs.lemmas.Int.{ints}
+use Rattle.tsp_base.specs.declared.act.Act.TheVariants.{Boot, Correct}
+use Rattle.tsp_base.specs.Agreed.{Cast}
+use Rattle.tsp_base.specs.Fits.{node_of}
+use Rattle.tsp_base.specs.History.{Acts, Deed, Did, Line, dids, from_act, of}
+use Rattle.tsp_base.specs.NodeFacts.{all_corrects, all_corrects_after, lives, lives_after, moved, moved_after}
+use Rattle.tsp_base.specs.Places.{Within}
+use Rattle.tsp_base.proofs.PlaceLemmas.{Within-all, Within-comparable}
+use Rattle.tsp_base.proofs.ViewPlaces.{Within-dids}
+use Rattle.tsp_safe.proofs.HistoryPlaces.{Within-of, of-other, of-own}
+use Rattle.tsp_safe.proofs.LateProof.{lives-deed}
+use Rattle.tsp_audit.specs.Agreeing.{AfterIs, CastAs, FirstIs, IsNoCast, LiveIs, NodeIs}
+use Rattle.tsp_audit.specs.Changes.{IsCorrect}
+use Rattle.tsp_audit.specs.declared.live.LiveCast.{LiveCast}
+use Rattle.tsp_audit.specs.declared.live.NodeState.{NodeState}
+use Rattle.tsp_noted.specs.Clocks.{IsSumOf}
+
+-- a node's Corrects and Boots grow in number
+corrects-deed : (deed : Deed) (n : ℕ) → n ≤ all_corrects_after deed n
+corrects-deed (Acts (Correct a s y)) n = omega arith
+corrects-deed _ n = omega arith
+
+corrects-dids : (s t : List Did) → Within s t → all_corrects s ≤ all_corrects t
+corrects-dids s [] e = subst (λ w. all_corrects w ≤ 0) (sym e) (omega arith)
+corrects-dids s (d ∷ t) (inl e) = subst (λ w. all_corrects w ≤ all_corrects (d ∷ t)) (sym e) (omega arith)
+corrects-dids s (d ∷ t) (inr p) = omega (arith, corrects-dids s t p, corrects-deed d.deed (all_corrects t))
+
+lives-dids : (s t : List Did) → Within s t → lives s ≤ lives t
+lives-dids s [] e = subst (λ w. lives w ≤ 0) (sym e) (omega arith)
+lives-dids s (d ∷ t) (inl e) = subst (λ w. lives w ≤ lives (d ∷ t)) (sym e) (omega arith)
+lives-dids s (d ∷ t) (inr p) = omega (arith, lives-dids s t p, lives-deed d.deed (lives t))
+
+corrects-mono : (n : ℕ) (s t : List Line) → Within s t → all_corrects (dids (of n s)) ≤ all_corrects (dids (of n t))
+corrects-mono n s t w = corrects-dids (dids (of n s)) (dids (of n t)) (Within-dids (of n s) (of n t) (Within-of n s t w))
+
+lives-mono : (n : ℕ) (s t : List Line) → Within s t → lives (dids (of n s)) ≤ lives (dids (of n t))
+lives-mono n s t w = lives-dids (dids (of n s)) (dids (of n t)) (Within-dids (of n s) (of n t) (Within-of n s t w))
+
+correct-counts : (n : ℕ) (l : Line) (h : List Line) (a : ℤ) (s : Bool) (y : ℤ) → node_of l ≡ n → l.did.deed ≡ Acts (Correct a s y) → all_corrects (dids (of n (l ∷ h))) ≡ all_corrects (dids (of n h)) + 1
+correct-counts n l h a s y node deed = ap (λ (t : List Line). all_corrects (dids t)) (of-own n l h node) ∙ ap (λ (d : Deed). all_corrects_after d (all_corrects (dids (of n h)))) deed
+
+-- the last Correct of a node is one line
+pub last-one : (n : ℕ) (c d : Line) (past qast h : List Line) (a b : ℤ) (s t : Bool) (x y : ℤ) → node_of c ≡ n → node_of d ≡ n → c.did.deed ≡ Acts (Correct a s x) → d.did.deed ≡ Acts (Correct b t y) → Within (c ∷ past) h → Within (d ∷ qast) h →
+    all_corrects (dids (of n (c ∷ past))) ≡ all_corrects (dids (of n h)) → all_corrects (dids (of n (d ∷ qast))) ≡ all_corrects (dids (of n h)) → c ∷ past ≡ d ∷ qast
+last-one n c d past qast h a b s t x y cn dn cd dd v w ce de = elim (Within-comparable (c ∷ past) (d ∷ qast) h v w) [
+  | inl (inl e) ↦ e
+  | inl (inr i) ↦ absurd (omega (arith, corrects-mono n (c ∷ past) qast i, correct-counts n d qast b t y dn dd, ce, de))
+  | inr (inl e) ↦ sym e
+  | inr (inr i) ↦ absurd (omega (arith, corrects-mono n (d ∷ qast) past i, correct-counts n c past a s x cn cd, ce, de))
+]
+
+-- a line changes nothing of a node's clock
+pub record Still (n : ℕ) (l : Line) (h : List Line) : Type 0 where
+  pub moved_is : moved (dids (of n (l ∷ h))) ≡ moved (dids (of n h))
+  pub lives_is : lives (dids (of n (l ∷ h))) ≡ lives (dids (of n h))
+  pub corrects_is : all_corrects (dids (of n (l ∷ h))) ≡ all_corrects (dids (of n h))
+
+pub still-other : (n : ℕ) (l : Line) (h : List Line) → (node_of l == n) ≡ false → Still n l h
+still-other n l h e = let same : of n (l ∷ h) ≡ of n h = of-other n l h e in
+    record { moved_is = ap (λ (t : List Line). moved (dids t)) same; lives_is = ap (λ (t : List Line). lives (dids t)) same; corrects_is = ap (λ (t : List Line). all_corrects (dids t)) same }
+
+moved-same : (d : Deed) → ((k : ℕ) → lives_after d k ≡ k) → ((k : ℕ) → all_corrects_after d k ≡ k) → (z : ℤ) → moved_after d z ≡ z
+moved-same (Acts Boot) f g z = let bad : ⊥ = omega (arith, f 0) in absurd bad
+moved-same (Acts (Correct a s y)) f g z = let bad : ⊥ = omega (arith, g 0) in absurd bad
+moved-same _ f g z = refl
+
+pub still-deed : (n : ℕ) (l : Line) (h : List Line) → node_of l ≡ n → ((k : ℕ) → lives_after l.did.deed k ≡ k) → ((k : ℕ) → all_corrects_after l.did.deed k ≡ k) → Still n l h
+still-deed n l h node f g =
+    let own : of n (l ∷ h) ≡ l ∷ of n h = of-own n l h node in
+    record {
+      moved_is = ap (λ (t : List Line). moved (dids t)) own ∙ moved-same l.did.deed f g (moved (dids (of n h)));
+      lives_is = ap (λ (t : List Line). lives (dids t)) own ∙ f (lives (dids (of n h)));
+      corrects_is = ap (λ (t : List Line). all_corrects (dids t)) own ∙ g (all_corrects (dids (of n h)));
+    }
+
+-- a Correct of a node after which none of it came is no line that isn't one
+not-now : (n : ℕ) (l c : Line) (h past : List Line) (a : ℤ) (s : Bool) (y : ℤ) → node_of c ≡ n → c.did.deed ≡ Acts (Correct a s y) → c ∷ past ≡ l ∷ h → all_corrects (dids (of n (l ∷ h))) ≡ all_corrects (dids (of n h)) → ⊥
+not-now n l c h past a s y node deed e still =
+    let line : c ≡ l = cc in
+    let counts : all_corrects (dids (of n (l ∷ h))) ≡ all_corrects (dids (of n h)) + 1 = correct-counts n l h a s y (subst (λ (k : Line). node_of k ≡ n) line node) (subst (λ (k : Line). k.did.deed ≡ Acts (Correct a s y)) line deed) in
+    omega (arith, counts, still)
+
+live-still : (n : ℕ) (l : Line) (h : List Line) (o : Option LiveCast) → Still n l h → LiveIs n h o → LiveIs n (l ∷ h) o
+live-still n l h None st none = λ c past node u m close cpast r older e cast. elim u.within [
+  | inl same ↦ not-now n l c h past cast.acts.amount cast.acts.stepped cast.acts.shown node cast.acts.correct same st.corrects_is
+  | inr w ↦ none c past node (record { within = w; since = record { corrects = u.since.corrects ∙ st.corrects_is; lives = u.since.lives ∙ st.lives_is } }) m close cpast r older e cast
+]
+live-still n l h (Some k) st a = record {
+  correct = a.correct;
+  past = a.past;
+  is = a.is;
+  node = a.node;
+  unchanged = record { within = inr a.unchanged.within; since = record { corrects = a.unchanged.since.corrects ∙ sym st.corrects_is; lives = a.unchanged.since.lives ∙ sym st.lives_is } };
+}
+
+after-still : (n : ℕ) (l : Line) (h : List Line) (o : Option ℕ) → all_corrects (dids (of n (l ∷ h))) ≡ all_corrects (dids (of n h)) → AfterIs n h o → AfterIs n (l ∷ h) o
+after-still n l h None still none = λ act apast x. elim x.place [
+  | inl same ↦ not-now n l x.next h x.before x.amount x.stepped x.shown x.node x.deed same still
+  | inr w ↦ none act apast (record { next = x.next; before = x.before; is = x.is; amount = x.amount; stepped = x.stepped; shown = x.shown; place = w; node = x.node; deed = x.deed; corrects = x.corrects ∙ still })
+]
+after-still n l h (Some k) still a = record {
+  act = a.act;
+  apast = a.apast;
+  index_is = a.index_is;
+  after = record { next = a.after.next; before = a.after.before; is = a.after.is; amount = a.after.amount; stepped = a.after.stepped; shown = a.after.shown; place = inr a.after.place; node = a.after.node; deed = a.after.deed; corrects = a.after.corrects ∙ sym still };
+}
+
+pub node-still : (n : ℕ) (l : Line) (h : List Line) (s : NodeState) → Still n l h → NodeIs n h s → NodeIs n (l ∷ h) s
+node-still n l h s st a = record {
+  moved_is = a.moved_is ∙ sym st.moved_is;
+  bounded = a.bounded;
+  lives_is = a.lives_is ∙ sym st.lives_is;
+  corrects_is = a.corrects_is ∙ sym st.corrects_is;
+  after_is = after-still n l h s.after st.corrects_is a.after_is;
+  cast_is = live-still n l h s.cast st a.cast_is;
+}
+
+-- a Boot forgets what was corrected
+pub node-boot : (n : ℕ) (l : Line) (h : List Line) (s t : NodeState) → node_of l ≡ n → l.did.deed ≡ Acts Boot → NodeIs n h s → t.moved ≡ pos 0 → t.lives ≡ lives (dids (of n (l ∷ h))) → t.corrects ≡ s.corrects → t.after ≡ s.after → t.cast ≡ None → NodeIs n (l ∷ h) t
+node-boot n l h s t node deed a moved_is lives_is corrects_is after_is cast_is =
+    let own : of n (l ∷ h) ≡ l ∷ of n h = of-own n l h node in
+    let still : all_corrects (dids (of n (l ∷ h))) ≡ all_corrects (dids (of n h)) = ap (λ (k : List Line). all_corrects (dids k)) own ∙ ap (λ (d : Deed). all_corrects_after d (all_corrects (dids (of n h)))) deed in
+    let more : lives (dids (of n (l ∷ h))) ≡ lives (dids (of n h)) + 1 = ap (λ (k : List Line). lives (dids k)) own ∙ ap (λ (d : Deed). lives_after d (lives (dids (of n h)))) deed in
+    let none : LiveIs n (l ∷ h) None = λ c past same u m close cpast r older e cast. elim u.within [
+      | inl now ↦ not-now n l c h past cast.acts.amount cast.acts.stepped cast.acts.shown same cast.acts.correct now still
+      | inr w ↦ omega (arith, lives-mono n (c ∷ past) h w, more, u.since.lives)
+    ] in
+    record {
+      moved_is = moved_is ∙ sym (ap (λ (k : List Line). moved (dids k)) own ∙ ap (λ (d : Deed). moved_after d (moved (dids (of n h)))) deed);
+      bounded = subst (λ (z : ℤ). IsSumOf 4294967295 z) (sym moved_is) (omega arith, omega arith);
+      lives_is = lives_is;
+      corrects_is = corrects_is ∙ (a.corrects_is ∙ sym still);
+      after_is = subst (λ (o : Option ℕ). AfterIs n (l ∷ h) o) (sym after_is) (after-still n l h s.after still a.after_is);
+      cast_is = subst (λ (o : Option LiveCast). LiveIs n (l ∷ h) o) (sym cast_is) none;
+    }
+
+live-correct : (n : ℕ) (l : Line) (h : List Line) (o : Option LiveCast) (a : ℤ) (s : Bool) (y : ℤ) → node_of l ≡ n → l.did.deed ≡ Acts (Correct a s y) → MatchOption o (IsNoCast l h) (λ c. CastAs l h c) → LiveIs n (l ∷ h) o
+live-correct n l h None a s y node deed none = λ c past same u m close cpast r older e cast. elim u.within [
+  | inl now ↦
+      let line : c ≡ l = cc in
+      let rest : past ≡ h = cc in
+      none m close cpast r older e (subst (λ (p : List Line). Cast m close cpast l p r older e) rest (subst (λ (k : Line). Cast m close cpast k past r older e) line cast))
+  | inr w ↦ omega (arith, corrects-mono n (c ∷ past) h w, correct-counts n l h a s y node deed, u.since.corrects)
+]
+live-correct n l h (Some k) a s y node deed is = record { correct = l; past = h; is = is; node = node; unchanged = record { within = Within-all (l ∷ h); since = record { corrects = refl; lives = refl } } }
+
+after-correct : (n : ℕ) (l : Line) (h : List Line) (o : Option ℕ) (a : ℤ) (s : Bool) (y : ℤ) → node_of l ≡ n → l.did.deed ≡ Acts (Correct a s y) → FirstIs (from_act h) o → AfterIs n (l ∷ h) o
+after-correct n l h None a s y node deed none = λ act apast x. elim x.place [
+  | inl now ↦
+      let rest : x.before ≡ h = cc in
+      let both : [] ≡ act ∷ apast = sym none ∙ (ap from_act (sym rest) ∙ x.is) in
+      let bad : ⊥ = cc in bad
+  | inr w ↦ omega (arith, corrects-mono n (x.next ∷ x.before) h w, correct-counts n l h a s y node deed, x.corrects)
+]
+after-correct n l h (Some k) a s y node deed b = record {
+  act = b.line;
+  apast = b.before;
+  index_is = b.index_is;
+  after = record { next = l; before = h; is = b.is; amount = a; stepped = s; shown = y; place = Within-all (l ∷ h); node = node; deed = deed; corrects = refl };
+}
+
+-- after a Correct
+pub node-correct : (n : ℕ) (l : Line) (h : List Line) (s t : NodeState) → node_of l ≡ n → IsCorrect l.did.deed → NodeIs n h s → FirstIs (from_act h) t.after → MatchOption t.cast (IsNoCast l h) (λ c. CastAs l h c) →
+    t.moved ≡ moved (dids (of n (l ∷ h))) → IsSumOf 4294967295 t.moved → t.lives ≡ s.lives → t.corrects ≡ all_corrects (dids (of n (l ∷ h))) → NodeIs n (l ∷ h) t
+node-correct n l h s t node is a first cast moved_is bounded lives_is corrects_is =
+    let own : of n (l ∷ h) ≡ l ∷ of n h = of-own n l h node in
+    let still : lives (dids (of n (l ∷ h))) ≡ lives (dids (of n h)) = ap (λ (k : List Line). lives (dids k)) own ∙ ap (λ (d : Deed). lives_after d (lives (dids (of n h)))) is.is in
+    record {
+      moved_is = moved_is;
+      bounded = bounded;
+      lives_is = lives_is ∙ (a.lives_is ∙ sym still);
+      corrects_is = corrects_is;
+      after_is = after-correct n l h t.after is.amount is.stepped is.shown node is.is first;
+      cast_is = live-correct n l h t.cast is.amount is.stepped is.shown node is.is cast;
+    }
+
+-- nothing is known of a node of which nothing has happened
+pub node-blank : (n : ℕ) (s : NodeState) → s.moved ≡ pos 0 → s.lives ≡ 0 → s.corrects ≡ 0 → s.after ≡ None → s.cast ≡ None → NodeIs n [] s
+node-blank n s moved_is lives_is corrects_is after_is cast_is =
+    let none : LiveIs n [] None = λ c past same u m close cpast r older e cast. (let w = u.within in let bad : ⊥ = cc in bad) in
+    let first : AfterIs n [] None = λ act apast x. (let w = x.place in let bad : ⊥ = cc in bad) in
+    record {
+      moved_is = moved_is;
+      bounded = subst (λ (z : ℤ). IsSumOf 4294967295 z) (sym moved_is) (omega arith, omega arith);
+      lives_is = lives_is;
+      corrects_is = corrects_is;
+      after_is = subst (λ (o : Option ℕ). AfterIs n [] o) (sym after_is) first;
+      cast_is = subst (λ (o : Option LiveCast). LiveIs n [] o) (sym cast_is) none;
+    }
+
+-- as many amounts as there can be lines
+pub sum-more : (count : ℕ) (z : ℤ) → count < 2 ^ 32 → IsSumOf count z → IsSumOf 4294967295 z
+sum-more count z few sum = (omega (arith, ints, few, sum.0), omega (arith, ints, few, sum.1))

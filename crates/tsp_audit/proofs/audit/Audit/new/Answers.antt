@@ -1,0 +1,17 @@
+use Rattle.std.proofs.Common.{◌≡◌, List, [], length, refl, subst}
+use Rattle.tsp_audit.specs.Notes.{NotesStand}
+use Rattle.tsp_audit.proofs.EventLemmas.{holds-none}
+use Rattle.tsp_base.specs.declared.header.NodeLine.{NodeLine}
+use Rattle.tsp_audit.proofs.audit.Audit.new.Goals as goal
+
+pub returns-in-Ok : goal.returns-in-Ok
+returns-in-Ok c =
+    let nodes : c.nodes.result.now ≡ c.args.header.nodes = c.nodes.ensures.nodes in
+    record {
+      claims_stand = c.in-Ok.ensures;
+      premises_are = refl;
+      timely = tt;
+      found = λ setting has. holds-none c.args.premises setting c.args.header;
+      named = tt;
+      notes = λ none. subst (λ (ns : List NodeLine). NotesStand c.args.premises (length ns) [] c.in_ok-notes.notes) nodes (c.in_ok-notes.ensures c.args.premises);
+    }

@@ -1,0 +1,20 @@
+use Rattle.std.proofs.Common.{rules, take}
+use Rattle.tsp_audit.specs.Parts.{AllKept}
+use Rattle.tsp_audit.proofs.JudgeLemmas.{if-kept}
+use Rattle.tsp_base.specs.Agreed.{Agreed}
+use Rattle.tsp_noted.specs.Histories.{history_of}
+use Rattle.tsp_audit.proofs.judging.keeps_agreeing_if.Goals as goal
+
+pub returns-then-all_kept-clause-keeps : goal.returns-then-all_kept-clause-keeps
+returns-then-all_kept-clause-keeps c setting count has timely numbered room stands old =
+    let kept : AllKept c.args.premises = search rules in
+    if-kept c.keeps_agreeing.result (AllKept c.args.premises) (Agreed setting (history_of c.args.lines.now)) (Agreed setting (history_of (take c.args.from c.args.lines.now))) kept
+    (c.keeps_agreeing.ensures.keeps setting count has timely numbered room (stands kept)) old
+
+pub returns-then-all_kept-clause-accord : goal.returns-then-all_kept-clause-accord
+returns-then-all_kept-clause-accord c count kept told room stands = c.keeps_agreeing.ensures.accord count told room stands
+
+pub returns-else-all_kept-clause-accord : goal.returns-else-all_kept-clause-accord
+returns-else-all_kept-clause-accord c count kept told room stands =
+    let no : AllKept c.args.premises → ⊥ = search rules in
+    absurd (no kept)

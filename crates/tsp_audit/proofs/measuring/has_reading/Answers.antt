@@ -1,0 +1,29 @@
+use Rattle.std.proofs.Common.{◌≡◌, ◌≤◌, ℤ, rules, get_or, subst₂, to_z, of_z, MatchBool}
+use Rattle.std.specs.Int.{w64, w128}
+use Rattle.tsp_noted.specs.declared.noted.Noted.{Noted}
+use Rattle.tsp_noted.specs.Histories.{history_of, line_of}
+use Rattle.tsp_audit.specs.Measuring.{IsNear, RepliesAt}
+use Rattle.tsp_audit.proofs.MeasureLemmas.{read-decides, read-none}
+use Rattle.tsp_audit.proofs.Prefixes.{at-line}
+use Rattle.tsp_audit.proofs.measuring.has_reading.Goals as goal
+
+pub returns-in-None : goal.returns-in-None
+returns-in-None c setting has timely = read-none setting (line_of c.args.line.now) (history_of c.args.lines.now) c.args.peer c.args.diff c.args.err c.in-None.ensures
+
+pub returns-in-Some : goal.returns-in-Some
+returns-in-Some c setting has timely =
+    let at : RepliesAt c.args.lines.now (line_of c.args.line.now) c.args.peer c.in-Some.index = search rules in
+    let noted : Noted = c.index-lines-index.result in
+    let here : get_or c.args.lines.now c.in-Some.index noted ≡ noted = search rules in
+    let soon : noted.at ≤ 1000000000000000 = at-line (λ l before. l.did.step.at ≤ 1000000000000000) c.args.lines.now c.in-Some.index noted at.below here timely in
+    let diff : to_z w64 (of_z w64 c.args.diff) ≡ c.args.diff = search rules in
+    let err : to_z w64 (of_z w64 c.args.err) ≡ c.args.err = search rules in
+    let ahead : to_z w128 (of_z w128 c.clock_at-ahead.result) ≡ c.clock_at-ahead.result = search rules in
+    let own : to_z w128 (of_z w128 c.clock_at-own.result) ≡ c.clock_at-own.result = search rules in
+    let clocks : MatchBool c.stands_ahead.result (IsNear (to_z w64 (of_z w64 c.args.diff)) (to_z w64 (of_z w64 c.args.err)) c.clock_at-ahead.result c.clock_at-own.result)
+    (IsNear (to_z w64 (of_z w64 c.args.diff)) (to_z w64 (of_z w64 c.args.err)) c.clock_at-ahead.result c.clock_at-own.result → ⊥) =
+    subst₂ (λ (a o : ℤ). MatchBool c.stands_ahead.result (IsNear (to_z w64 (of_z w64 c.args.diff)) (to_z w64 (of_z w64 c.args.err)) a o) (IsNear (to_z w64 (of_z w64 c.args.diff)) (to_z w64 (of_z w64 c.args.err)) a o → ⊥)) ahead own c.stands_ahead.ensures in
+    let near : MatchBool c.stands_ahead.result (IsNear c.args.diff c.args.err c.clock_at-ahead.result c.clock_at-own.result) (IsNear c.args.diff c.args.err c.clock_at-ahead.result c.clock_at-own.result → ⊥) =
+    subst₂ (λ (d e : ℤ). MatchBool c.stands_ahead.result (IsNear d e c.clock_at-ahead.result c.clock_at-own.result) (IsNear d e c.clock_at-ahead.result c.clock_at-own.result → ⊥)) diff err clocks in
+    read-decides c.args.header.now setting c.args.lines.now (line_of c.args.line.now) c.args.peer c.in-Some.index noted c.stands_ahead.result c.args.diff c.args.err c.clock_at-ahead.result c.clock_at-own.result has at here
+    (c.clock_at-ahead.ensures.clock soon) (c.clock_at-own.ensures.clock soon) near

@@ -1,0 +1,26 @@
+use Rattle.std.proofs.Common.{◌≡◌, rules, get_or}
+use Rattle.tsp_noted.specs.declared.noted.Noted.{Noted}
+use Rattle.tsp_noted.specs.Histories.{history_of, line_of}
+use Rattle.tsp_audit.specs.Acting.{CameAt}
+use Rattle.tsp_audit.specs.Measuring.{RepliesTo}
+use Rattle.tsp_audit.proofs.MeasureLemmas.{replies-found, replies-none, replies-other}
+use Rattle.tsp_audit.proofs.measuring.reply_at.Goals as goal
+
+pub returns-in-None : goal.returns-in-None
+returns-in-None c = replies-none (line_of c.args.line.now) (history_of c.args.lines.now) c.args.peer c.in-None.ensures
+
+pub returns-else-replies_to : goal.returns-else-replies_to
+returns-else-replies_to c =
+    let came : CameAt c.args.lines.now (line_of c.args.line.now) c.in-Some.index = search rules in
+    let noted : Noted = c.index-lines-index.result in
+    let here : get_or c.args.lines.now c.in-Some.index noted ≡ noted = search rules in
+    let other : RepliesTo (line_of noted) c.args.peer c.args.line.now.node → ⊥ = search rules in
+    replies-other c.args.lines.now (line_of c.args.line.now) c.args.peer c.in-Some.index noted came here other
+
+pub returns-then-replies_to : goal.returns-then-replies_to
+returns-then-replies_to c =
+    let came : CameAt c.args.lines.now (line_of c.args.line.now) c.in-Some.index = search rules in
+    let noted : Noted = c.index-lines-index.result in
+    let here : get_or c.args.lines.now c.in-Some.index noted ≡ noted = search rules in
+    let posts : RepliesTo (line_of noted) c.args.peer c.args.line.now.node = search rules in
+    replies-found c.args.lines.now (line_of c.args.line.now) c.args.peer c.in-Some.index noted came here posts

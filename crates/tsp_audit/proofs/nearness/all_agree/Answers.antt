@@ -1,0 +1,19 @@
+use Rattle.std.proofs.Common.{◌≡◌, ℕ, pos, sym, subst, subst₂, arith, inl, inr, get_or, None}
+use Rattle.std.proofs.lemmas.Bool.{cases_lt}
+use Rattle.tsp_audit.specs.Agreeing.{NodeAgrees}
+use Rattle.tsp_audit.specs.declared.live.NodeState.{NodeState}
+use Rattle.tsp_audit.proofs.AccordSteps.{state-at}
+use Rattle.tsp_noted.specs.Clocks.{IsSumOf}
+use Rattle.tsp_audit.proofs.nearness.all_agree.Goals as goal
+
+pub loop-n-preserved : goal.loop-n-preserved
+loop-n-preserved c soon all n a lt at =
+    let none : NodeState = record { moved = pos 0; lives = 0; corrects = 0; after = None; cast = None } in
+    elim (cases_lt n c.loop-n.n) [
+      | inl less ↦ c.loop-n.invariant soon all n a less at
+      | inr le ↦
+          let e : c.loop-n.n ≡ n = omega (arith, lt, le) in
+          let here : get_or c.args.states.now c.loop-n.n none ≡ a = state-at c.args.states.now c.loop-n.n n none a at e in
+          let small : IsSumOf 4294967295 (get_or c.args.states.now c.loop-n.n none).moved = subst (λ (s : NodeState). IsSumOf 4294967295 s.moved) (sym here) (all n a at) in
+          subst₂ (λ (j : ℕ) (s : NodeState). NodeAgrees c.args.header.now c.args.at j s c.args.states.now) e here (c.if-not-node_agrees.ensures soon small all)
+    ]

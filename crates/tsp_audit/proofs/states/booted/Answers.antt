@@ -1,0 +1,11 @@
+use Rattle.std.proofs.Common.{◌≡◌, ◌∷◌, ap, ◌∙◌, refl, List}
+use Rattle.tsp_base.specs.History.{Line, dids, of}
+use Rattle.tsp_base.specs.NodeFacts.{lives}
+use Rattle.tsp_noted.specs.Histories.{line_of}
+use Rattle.tsp_audit.proofs.StateLemmas.{node-boot}
+use Rattle.tsp_audit.proofs.states.booted.Goals as goal
+
+pub returns : goal.returns
+returns c before upto deed is =
+    let lives_is : c.lives_at.result ≡ lives (dids (of c.args.line.now.node (line_of c.args.line.now ∷ before))) = c.lives_at.ensures ∙ ap (λ (h : List Line). lives (dids (of c.args.line.now.node h))) upto in
+    node-boot c.args.line.now.node (line_of c.args.line.now) before c.args.keep _ refl deed is refl lives_is refl refl refl

@@ -1,0 +1,146 @@
+-- What is kept from line to line of clocks that one round corrected.
+use Rattle.std.specs.Prelude.{◌≡◌, ◌<◌, ◌≤◌, ◌≤ℤ◌, ◌⊎◌, ℕ, ◌+◌, ◌-◌, ◌*◌, ℤ, pos, ◌+ℤ◌, ◌-ℤ◌, nat_abs, List, [], ◌∷◌, length, get_or, Option, None, Some}
+use Rattle.tsp_audit.specs.declared.live.LiveCast.{LiveCast}
+use Rattle.tsp_audit.specs.declared.live.NodeState.{NodeState}
+use Rattle.tsp_audit.specs.declared.accord.Accord.{Accord}
+use Rattle.tsp_base.specs.Agreed.{Cast, RightAfter, Unchanged}
+use Rattle.tsp_base.specs.Everywhere.{Everywhere}
+use Rattle.tsp_base.specs.Fits.{node_of}
+use Rattle.tsp_base.specs.Headers.{HeaderValue}
+use Rattle.tsp_base.specs.History.{Line, dids, from_act, of}
+use Rattle.tsp_base.specs.NodeFacts.{all_corrects, lives, moved}
+use Rattle.tsp_base.specs.Places.{Within}
+use Rattle.tsp_base.specs.Ticks.{tick_at, width}
+use Rattle.tsp_noted.specs.Clocks.{IsSumOf}
+use Rattle.tsp_noted.specs.Rounds.{trip_at}
+use Rattle.tsp_run.specs.Setup.{node_line}
+
+-- each line's node is one of so many
+abbrev pub Numbered : ℕ → List Line → Type 0
+Numbered count = Everywhere (λ l before. node_of l < count)
+
+-- the round trip of each line stands at the index of that line
+abbrev pub TripsTell : List Line → List ℤ → Type 0
+TripsTell h trips = (l : Line) (before : List Line) → Within (l ∷ before) h → get_or trips (length before) (pos 0) ≡ trip_at l before
+
+-- a Correct is a Cast
+pub record CastAs (l : Line) (h : List Line) (c : LiveCast) : Type 0 where
+  pub close : Line
+  pub cpast : List Line
+  pub reading : Line
+  pub older : List Line
+  pub cast : Cast c.master close cpast l h reading older c.err
+  pub at_is : c.at ≡ reading.did.step.at
+  pub close_is : c.close ≡ length cpast
+  pub lives_is : c.lives ≡ lives (dids (of c.master (close ∷ cpast)))
+  pub corrects_is : c.corrects ≡ all_corrects (dids (of c.master (close ∷ cpast)))
+
+-- a line is no Cast
+abbrev pub IsNoCast : Line → List Line → Type 0
+IsNoCast l h = (m : ℕ) (close : Line) (cpast : List Line) (r : Line) (older : List Line) (err : ℤ) → Cast m close cpast l h r older err → ⊥
+
+-- a Correct of node n is a Cast, and n was left alone since
+pub record LiveAs (n : ℕ) (h : List Line) (c : LiveCast) : Type 0 where
+  pub correct : Line
+  pub past : List Line
+  pub is : CastAs correct past c
+  pub node : node_of correct ≡ n
+  pub unchanged : Unchanged n (correct ∷ past) h
+
+-- a Correct of node n since which n was left alone is this Cast; none where there is no such
+abbrev pub LiveIs : ℕ → List Line → Option LiveCast → Type 0
+LiveIs n h None = (correct : Line) (past : List Line) → node_of correct ≡ n → Unchanged n (correct ∷ past) h → IsNoCast correct past
+LiveIs n h (Some c) = LiveAs n h c
+
+-- the line at this index is the act before node n's last Correct
+pub record AfterAs (n : ℕ) (h : List Line) (index : ℕ) : Type 0 where
+  pub act : Line
+  pub apast : List Line
+  pub index_is : index ≡ length apast
+  pub after : RightAfter n act apast h
+
+-- which act stands before node n's last Correct; none where there is no such
+abbrev pub AfterIs : ℕ → List Line → Option ℕ → Type 0
+AfterIs n h None = (act : Line) (apast : List Line) → RightAfter n act apast h → ⊥
+AfterIs n h (Some index) = AfterAs n h index
+
+-- a list begins with the line at this index
+pub record BeginsAt (h : List Line) (index : ℕ) : Type 0 where
+  pub line : Line
+  pub before : List Line
+  pub is : h ≡ line ∷ before
+  pub index_is : index ≡ length before
+
+-- which line a list begins with; none where it is empty
+abbrev pub FirstIs : List Line → Option ℕ → Type 0
+FirstIs h None = h ≡ []
+FirstIs h (Some index) = BeginsAt h index
+
+-- what is kept of node n is what a history comes to
+pub record NodeIs (n : ℕ) (h : List Line) (s : NodeState) : Type 0 where
+  pub moved_is : s.moved ≡ moved (dids (of n h))
+  pub bounded : IsSumOf 4294967295 s.moved
+  pub lives_is : s.lives ≡ lives (dids (of n h))
+  pub corrects_is : s.corrects ≡ all_corrects (dids (of n h))
+  pub after_is : AfterIs n h s.after
+  pub cast_is : LiveIs n h s.cast
+
+-- this is the k-th of a list
+pub record IsAt (states : List NodeState) (k : ℕ) (s : NodeState) : Type 0 where
+  pub below : k < length states
+  pub is : get_or states k s ≡ s
+
+-- what is kept of each node is what a history comes to
+abbrev pub AllAre : List Line → List NodeState → Type 0
+AllAre h states = (n : ℕ) (s : NodeState) → IsAt states n s → NodeIs n h s
+
+-- an accord of so many nodes stands for a history
+pub record AccordIs (count : ℕ) (h : List Line) (a : Accord) : Type 0 where
+  pub few : count ≤ 64
+  pub many : length a.nodes.items ≡ count
+  pub lines : length a.trips.items ≡ length h
+  pub trips_tell : TripsTell h a.trips.items
+  pub last_is : FirstIs (from_act h) a.last
+  pub nodes_are : AllAre h a.nodes.items
+
+-- the clock of node n at a true time, by what is kept of it
+abbrev pub shown_by : HeaderValue → ℕ → ℤ → ℕ → ℤ
+shown_by header n moved at = ((node_line header n).wall +ℤ moved) +ℤ pos (tick_at (node_line header n).rate at)
+
+-- two nodes that one Close corrected differ by at most their errors and drift
+abbrev pub PairNear : HeaderValue → ℕ → ℕ → NodeState → LiveCast → ℕ → NodeState → LiveCast → Type 0
+PairNear header t n a c k b d = pos (nat_abs (shown_by header n a.moved t -ℤ shown_by header k b.moved t)) ≤ℤ ((c.err +ℤ d.err) +ℤ pos (2 * width header.drift (t - c.at) + 2 * width header.drift (t - d.at)))
+
+-- the same, as far as one Close corrected both
+abbrev pub PairAgrees : HeaderValue → ℕ → ℕ → NodeState → ℕ → NodeState → Type 0
+PairAgrees header t n a k b = (c d : LiveCast) → a.cast ≡ Some c → b.cast ≡ Some d → c.master ≡ d.master → c.close ≡ d.close → PairNear header t n a c k b d
+
+-- since the Close of a cast its master has neither booted nor moved its clock, but by the Correct that is the next act
+abbrev pub Stands : LiveCast → NodeState → Type 0
+Stands c b = (c.lives ≡ b.lives) × ((c.corrects ≡ b.corrects) ⊎ (b.after ≡ Some c.close))
+
+-- a node that a Close corrected and its master differ by at most the error and drift
+abbrev pub MasterNear : HeaderValue → ℕ → ℕ → NodeState → LiveCast → NodeState → Type 0
+MasterNear header t n a c b = pos (nat_abs (shown_by header n a.moved t -ℤ shown_by header c.master b.moved t)) ≤ℤ (c.err +ℤ pos (2 * width header.drift (t - c.at)))
+
+-- the same, as far as the master was left alone
+abbrev pub BossAgrees : HeaderValue → ℕ → ℕ → NodeState → List NodeState → Type 0
+BossAgrees header t n a states = (c : LiveCast) (b : NodeState) → a.cast ≡ Some c → IsAt states c.master b → Stands c b → MasterNear header t n a c b
+
+-- a node agrees with each that the same Close corrected, and with its master
+pub record NodeAgrees (header : HeaderValue) (t n : ℕ) (a : NodeState) (states : List NodeState) : Type 0 where
+  pub pairs : (k : ℕ) (b : NodeState) → IsAt states k b → PairAgrees header t n a k b
+  pub master : BossAgrees header t n a states
+
+-- each of these nodes does
+abbrev pub AllAgree : HeaderValue → ℕ → List NodeState → Type 0
+AllAgree header t states = (n : ℕ) (a : NodeState) → IsAt states n a → NodeAgrees header t n a states
+
+-- the corrections of each of these nodes come to no more than clocks can show
+abbrev pub AllBounded : List NodeState → Type 0
+AllBounded states = (n : ℕ) (a : NodeState) → IsAt states n a → IsSumOf 4294967295 a.moved
+
+-- so many nodes of which nothing is known
+pub record AreBlank (count : ℕ) (states : List NodeState) : Type 0 where
+  pub many : length states ≡ count
+  pub blank : (k : ℕ) (s : NodeState) → IsAt states k s → (n : ℕ) → NodeIs n [] s

@@ -1,0 +1,60 @@
+-- What a whole schedule keeps, as far as a verdict asks for it. The newest event is the first.
+use Rattle.std.specs.Prelude.{ℕ, ◌+◌, ◌==◌, Bool, true, false, not, ◌&&◌, List, [], ◌∷◌, Option, None, Some, slice_get}
+use Rattle.std.specs.Prelude.{nat_le}
+use Rattle.std.specs.List.{list_any}
+use Rattle.tsp_audit.specs.declared.premises.Premises.{Premises}
+use Rattle.tsp_base.specs.declared.constants.TheConstants.{LIFE}
+use Rattle.tsp_base.specs.declared.event.Event.{Event}
+use Rattle.tsp_base.specs.declared.event.Event.TheVariants.{Boot, Turn, Take, Bytes}
+use Rattle.tsp_base.specs.declared.place.Place.TheVariants.{Peer}
+use Rattle.tsp_base.specs.Headers.{HeaderValue}
+use Rattle.tsp_claims.specs.declared.claimed.Claimed.{Claimed}
+use Rattle.tsp_claims.specs.ClaimedHistory.{Claim, events_of, posts_of}
+
+-- whether an event hands a node octets as a peer's
+abbrev pub forges : Event → Bool
+forges (Bytes at node port (Peer p) octets) = true
+forges _ = false
+
+-- no event hands a node octets as a peer's
+abbrev pub is_honest : List Event → Bool
+is_honest [] = true
+is_honest (e ∷ before) = not (forges e) && is_honest before
+
+-- whether something comes at most LIFE of true time after a claimed post, if there is one
+abbrev pub in_life : ℕ → Option Claimed → Bool
+in_life at None = true
+in_life at (Some post) = nat_le at (post.at + LIFE)
+
+-- whether an event takes no claimed post that is older than LIFE, whether or not something is claimed of the event
+abbrev pub takes_early : List Claimed → Event → Bool
+takes_early posts (Take at k) = in_life at (slice_get posts k)
+takes_early posts _ = true
+
+-- no event takes a post, claimed of an earlier event, that is older than LIFE
+abbrev pub keeps_life : HeaderValue → List Claim → Bool
+keeps_life header [] = true
+keeps_life header (c ∷ before) = takes_early (posts_of header before) c.event && keeps_life header before
+
+-- whether an event is a boot with this word
+abbrev pub boots_with : ℕ → Event → Bool
+boots_with w (Boot at node word) = word == w
+boots_with w _ = false
+
+-- whether an event is a boot with the word of a boot among these
+abbrev pub repeats_word : Event → List Event → Bool
+repeats_word (Boot at node word) events = list_any (boots_with word) events
+repeats_word _ events = false
+
+-- the words of any two boots differ
+abbrev pub words_differ : List Event → Bool
+words_differ [] = true
+words_differ (e ∷ before) = not (repeats_word e before) && words_differ before
+
+-- what the events, and what is claimed of them, keep
+abbrev pub premises_of : HeaderValue → List Claim → Premises
+premises_of header claims = record { honest = is_honest (events_of claims); life = keeps_life header claims; words = words_differ (events_of claims) }
+
+-- what is kept with one event more, behind these events and these claimed posts
+abbrev pub kept_with : Premises → List Event → List Claimed → Event → Premises
+kept_with kept events posts e = record { honest = not (forges e) && kept.honest; life = takes_early posts e && kept.life; words = not (repeats_word e events) && kept.words }

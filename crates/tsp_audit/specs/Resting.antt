@@ -1,0 +1,10 @@
+-- What the last Close of a step had.
+use Rattle.std.specs.Prelude.{◌≡◌, true, List, ◌∷◌, is_some}
+use Rattle.tsp_base.specs.declared.place.PeerId.{PeerId}
+use Rattle.tsp_base.specs.History.{Did, Here, Seen}
+use Rattle.tsp_base.specs.RoundFacts.{best}
+use Rattle.tsp_base.specs.StepFacts.{closed}
+
+-- the last Close of the step, if there is one, had a sample of p
+abbrev pub RestsOn : PeerId → List Seen → Type 0
+RestsOn p seen = (close : Did) (older : List Seen) → closed seen ≡ Here close ∷ older → is_some (best p older) ≡ true

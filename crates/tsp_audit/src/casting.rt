@@ -1,0 +1,145 @@
+//! What a Correct came of, if that is a round.
+ghost use Rattle.std.specs.Prelude.{◌≡◌, ◌<◌, ◌^◌, pos, List, ◌∷◌, length, get_or, take, MatchBool, MatchOption};
+ghost use Rattle.tsp_audit.specs.Agreeing.{CastAs, IsNoCast, TripsTell};
+ghost use Rattle.tsp_audit.specs.Casting.{BegunAt, HasNoRound, IsAdjusting, RoundAs, TakesNone, TakesThen};
+ghost use Rattle.tsp_base.specs.History.{Line, dids, of, view};
+ghost use Rattle.tsp_base.specs.RoundFacts.{best};
+ghost use Rattle.tsp_noted.specs.Histories.{deed_of, line_of, history_of};
+ghost use Rattle.tsp_base.specs.StepFacts.{closed};
+ghost use Rattle.tsp_noted.specs.Rounds.{Bests, SeenAt};
+
+use crate::acting::takes_send;
+use crate::counts::{corrects_at, lives_at};
+use crate::live::LiveCast;
+use tsp_base::act::Act;
+use tsp_base::datagram::Datagram;
+use tsp_base::kind::Kind;
+use tsp_base::place::{PeerId, Port};
+use tsp_noted::noted::{Noted, Why};
+use tsp_noted::posts::post_at;
+use tsp_noted::rounds::{Best, best_after, closed_at};
+
+/// The round trip at an index, in microseconds; 0 where there is none.
+fn trip_in(trips: &[i128], index: usize) -> i128
+    ensures { result ≡ get_or trips.now index (pos 0) }
+{
+    if index < trips.len() { trips[index] } else { 0 }
+}
+
+/// The best sample of a peer since the last round of a node's port began, if there is one, where the round trips of these
+/// lines stand at their indices.
+pub fn best_in(lines: &[Noted], trips: &[i128], node: u32, port: Port, p: PeerId) -> Option<Best>
+    ensures { TripsTell (history_of lines.now) trips.now → Bests lines.now node port (best p (view port (of node (history_of lines.now)))) result }
+{
+    let mut best = None;
+    for (index, line) in lines.iter().enumerate() {
+        best = best_after(line, index, trip_in(trips, index), node, port, p, best);
+    }
+    best
+}
+
+/// The true time, in microseconds, at which something was posted, among these lines, that the step of a later line takes.
+fn reading_of(lines: &[Noted], line: &Noted) -> Option<u64>
+    ensures { MatchOption result (TakesNone (history_of lines.now) (line_of line.now)) (λ t. TakesThen (history_of lines.now) (line_of line.now) t) }
+{
+    let Why::Came(number) = line.why else {
+        return None;
+    };
+    match post_at(lines, number) {
+        None => None,
+        Some(index) => Some(lines[index].at),
+    }
+}
+
+/// What a Close at this index is kept as, where these lines stand before the first post of a send to a node: with its best
+/// sample of that node, if this has a reading.
+fn sampled(
+    lines: &[Noted],
+    trips: &[i128],
+    close: usize,
+    first: &Noted,
+    node: u32,
+) -> Option<LiveCast>
+    requires few { length lines.now < 2 ^ 32 }
+    requires below { close < length lines.now }
+    ensures { TripsTell (history_of lines.now) trips.now → SeenAt lines.now first.now.node first.now.port (closed (view first.now.port (of first.now.node (history_of lines.now)))) close
+        → MatchOption result (HasNoRound first.now.node first.now.port node (history_of lines.now)) (λ c. RoundAs first.now.node first.now.port node (history_of lines.now) c) }
+{
+    let past = &lines[..close];
+    let Some(best) = best_in(past, trips, first.node, first.port, PeerId(node)) else {
+        return None;
+    };
+    if best.index >= close {
+        return None;
+    }
+    match reading_of(&past[..best.index], &past[best.index]) {
+        None => None,
+        Some(at) => Some(LiveCast {
+            master: first.node,
+            close,
+            lives: lives_at(&lines[..close + 1], first.node),
+            corrects: corrects_at(&lines[..close + 1], first.node),
+            at,
+            err: best.err,
+        }),
+    }
+}
+
+/// What began a send to a node, if that is a Close of its step that had a sample of the node, where these lines stand before
+/// its first post.
+fn round_of(lines: &[Noted], trips: &[i128], first: &Noted, node: u32) -> Option<LiveCast>
+    requires { length lines.now < 2 ^ 32 }
+    ensures { TripsTell (history_of lines.now) trips.now → MatchOption result (HasNoRound first.now.node first.now.port node (history_of lines.now)) (λ c. RoundAs first.now.node first.now.port node (history_of lines.now) c) }
+{
+    match closed_at(lines, first.node, first.port) {
+        None => None,
+        Some(close) => {
+            if close < lines.len() {
+                sampled(lines, trips, close, first, node)
+            } else {
+                None
+            }
+        }
+    }
+}
+
+/// Whether a line posts an ADJTIME.
+fn is_adjusting(line: &Noted) -> bool
+    ensures { MatchBool result (IsAdjusting (deed_of line.now.act)) (IsAdjusting (deed_of line.now.act) → ⊥) }
+{
+    match &line.act {
+        Some(Act::Post(_, Datagram::Message(m))) => m.kind() == Kind::AdjTime,
+        _ => false,
+    }
+}
+
+/// The index of the first post of the send of which a line's Correct takes a post, if that is an ADJTIME.
+fn begun(lines: &[Noted], line: &Noted) -> Option<usize>
+    requires { length lines.now < 2 ^ 32 }
+    ensures { MatchOption result (IsNoCast (line_of line.now) (history_of lines.now)) (λ i. BegunAt lines.now (line_of line.now) i) }
+{
+    let Some(number) = takes_send(lines, line) else {
+        return None;
+    };
+    match post_at(lines, number) {
+        None => None,
+        Some(index) => {
+            if is_adjusting(&lines[index]) {
+                Some(index)
+            } else {
+                None
+            }
+        }
+    }
+}
+
+/// What a line's Correct came of, if that is a round, where these lines stand before it, with their round trips.
+pub fn cast_at(lines: &[Noted], trips: &[i128], line: &Noted) -> Option<LiveCast>
+    requires { length lines.now < 2 ^ 32 }
+    ensures { TripsTell (history_of lines.now) trips.now → MatchOption result (IsNoCast (line_of line.now) (history_of lines.now)) (λ c. CastAs (line_of line.now) (history_of lines.now) c) }
+{
+    match begun(lines, line) {
+        None => None,
+        Some(index) => round_of(&lines[..index], trips, &lines[index], line.node),
+    }
+}

@@ -1,0 +1,33 @@
+//! What is kept of a node whose clock a round has corrected.
+
+/// A correction of a node's clock that a master's Close sent it, as long as nothing has moved the node's clock since.
+#[derive(Clone, Copy)]
+pub struct LiveCast {
+    /// The master.
+    pub master: u32,
+    /// How many lines stand before its Close.
+    pub close: usize,
+    /// How often the master had booted by then.
+    pub lives: usize,
+    /// How often it had corrected its clock by then.
+    pub corrects: usize,
+    /// The true time, in microseconds, of the reading by which the node was measured.
+    pub at: u64,
+    /// By how much that may be wrong, in microseconds.
+    pub err: i64,
+}
+
+/// What is kept of a node.
+#[derive(Clone, Copy)]
+pub struct NodeState {
+    /// The amounts of its corrections since its boot, in microseconds.
+    pub moved: i128,
+    /// How often it has booted.
+    pub lives: usize,
+    /// How often it has corrected its clock, over all its lives.
+    pub corrects: usize,
+    /// The index of the act before its last correction, if there is one.
+    pub after: Option<usize>,
+    /// What its last correction came of, if that is a round and it hasn't booted since.
+    pub cast: Option<LiveCast>,
+}

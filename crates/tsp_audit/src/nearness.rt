@@ -1,0 +1,209 @@
+//! Whether clocks that one round corrected agree.
+ghost use Rattle.std.specs.Prelude.{◌≡◌, ◌≤◌, ◌<◌, ◌^◌, ◌+◌, ◌-◌, ◌*◌, ◌≤ℤ◌, ◌+ℤ◌, ◌-ℤ◌, pos, neg_ℤ, nat_abs, ℕ, length, get_or, Some, MatchBool};
+ghost use Rattle.tsp_audit.specs.Agreeing.{AllAgree, AllBounded, BossAgrees, IsAt, MasterNear, NodeAgrees, PairAgrees, PairNear, Stands, shown_by};
+ghost use Rattle.tsp_audit.specs.declared.live.NodeState.{NodeState as NodeValue};
+ghost use Rattle.tsp_base.specs.Ticks.{width};
+ghost use Rattle.tsp_noted.specs.Clocks.{IsSumOf, IsTrip};
+
+use crate::clock::clock_of_moved;
+use crate::live::{LiveCast, NodeState};
+use tsp_base::constants::SCHEDULE_END;
+use tsp_base::drift::width;
+use tsp_base::header::Header;
+
+/// How far, at most, a clock may have drifted since a reading, in microseconds.
+fn drifted(drift: u32, at: u64, reading: u64) -> u64
+    requires { drift ≤ 1000 }
+    ensures { at ≤ 1000000000000000 → result ≡ width drift (at - reading) }
+{
+    let time = at.saturating_sub(reading);
+    if time <= SCHEDULE_END {
+        width(drift, time)
+    } else {
+        0
+    }
+}
+
+/// Whether two clocks, or two times, differ by at most so many microseconds.
+pub fn is_near(a: i128, b: i128, most: i128) -> bool
+    requires first { IsTrip a }
+    requires second { IsTrip b }
+    ensures { MatchBool result (pos (nat_abs (a -ℤ b)) ≤ℤ most) (pos (nat_abs (a -ℤ b)) ≤ℤ most → ⊥) }
+{
+    if a - b > most {
+        return false;
+    }
+    if b - a > most {
+        return false;
+    }
+    true
+}
+
+/// Two errors, in microseconds.
+fn errors(a: i64, b: i64) -> i128
+    ensures sum { result ≡ a +ℤ b }
+    ensures low { neg_ℤ (pos (2 ^ 64)) ≤ℤ result }
+    ensures high { result ≤ℤ pos (2 ^ 64) }
+{
+    i128::from(a) + i128::from(b)
+}
+
+/// Twice what two clocks may have drifted, in microseconds.
+fn drifts(since: u64, then: u64) -> i128
+    ensures sum { result ≡ pos (2 * since + 2 * then) }
+    ensures small { result ≤ℤ pos (2 ^ 70) }
+    ensures some { pos 0 ≤ℤ result }
+{
+    let both = i128::from(since) + i128::from(then);
+    both + both
+}
+
+/// Two errors, and twice what two clocks may have drifted since their readings, in microseconds.
+fn bound(a: i64, b: i64, since: u64, then: u64) -> i128
+    ensures { result ≡ (a +ℤ b) +ℤ pos (2 * since + 2 * then) }
+{
+    errors(a, b) + drifts(since, then)
+}
+
+/// Whether two nodes that one Close corrected differ by at most their errors and drift.
+fn pair_near(
+    header: &Header,
+    at: u64,
+    first: u32,
+    a: &NodeState,
+    c: &LiveCast,
+    second: u32,
+    b: &NodeState,
+    d: &LiveCast,
+) -> bool
+    ensures { at ≤ 1000000000000000 → IsSumOf 4294967295 a.now.moved → IsSumOf 4294967295 b.now.moved
+        → MatchBool result (PairNear header.now at first a.now c.now second b.now d.now) (PairNear header.now at first a.now c.now second b.now d.now → ⊥) }
+{
+    let drift = header.drift();
+    let most = bound(
+        c.err,
+        d.err,
+        drifted(drift, at, c.at),
+        drifted(drift, at, d.at),
+    );
+    let clock = clock_of_moved(header, first, a.moved, at);
+    let other = clock_of_moved(header, second, b.moved, at);
+    is_near(clock, other, most)
+}
+
+/// The same, as far as one Close corrected both.
+fn pair_agrees(
+    header: &Header,
+    at: u64,
+    first: u32,
+    a: &NodeState,
+    second: u32,
+    b: &NodeState,
+) -> bool
+    ensures { at ≤ 1000000000000000 → IsSumOf 4294967295 a.now.moved → IsSumOf 4294967295 b.now.moved
+        → MatchBool result (PairAgrees header.now at first a.now second b.now) (PairAgrees header.now at first a.now second b.now → ⊥) }
+{
+    match (&a.cast, &b.cast) {
+        (Some(c), Some(d)) => {
+            if c.master == d.master && c.close == d.close {
+                pair_near(header, at, first, a, c, second, b, d)
+            } else {
+                true
+            }
+        }
+        _ => true,
+    }
+}
+
+/// Whether a node agrees with each that the same Close corrected.
+fn pairs_agree(header: &Header, at: u64, node: u32, a: &NodeState, states: &[NodeState]) -> bool
+    requires { length states.now < 2 ^ 32 }
+    ensures { at ≤ 1000000000000000 → IsSumOf 4294967295 a.now.moved → AllBounded states.now
+        → MatchBool result ((k : ℕ) (b : NodeValue) → IsAt states.now k b → PairAgrees header.now at node a.now k b) (((k : ℕ) (b : NodeValue) → IsAt states.now k b → PairAgrees header.now at node a.now k b) → ⊥) }
+{
+    for k in 0..states.len() {
+        if !pair_agrees(header, at, node, a, k as u32, &states[k]) {
+            return false;
+        }
+    }
+    true
+}
+
+/// Whether the master of a cast was left alone since its Close, but for a Correct that is the next act.
+fn stands(c: &LiveCast, b: &NodeState) -> bool
+    ensures { MatchBool result (Stands c.now b.now) (Stands c.now b.now → ⊥) }
+{
+    if c.lives != b.lives {
+        return false;
+    }
+    if c.corrects == b.corrects {
+        return true;
+    }
+    match b.after {
+        None => false,
+        Some(index) => index == c.close,
+    }
+}
+
+/// Whether a node and its master differ by at most the error and drift.
+fn master_near(
+    header: &Header,
+    at: u64,
+    node: u32,
+    a: &NodeState,
+    c: &LiveCast,
+    b: &NodeState,
+) -> bool
+    ensures { at ≤ 1000000000000000 → IsSumOf 4294967295 a.now.moved → IsSumOf 4294967295 b.now.moved
+        → MatchBool result (MasterNear header.now at node a.now c.now b.now) (MasterNear header.now at node a.now c.now b.now → ⊥) }
+{
+    let most = bound(c.err, 0, drifted(header.drift(), at, c.at), 0);
+    let clock = clock_of_moved(header, node, a.moved, at);
+    let other = clock_of_moved(header, c.master, b.moved, at);
+    is_near(clock, other, most)
+}
+
+/// The same, as far as the master was left alone.
+fn master_agrees(header: &Header, at: u64, node: u32, a: &NodeState, states: &[NodeState]) -> bool
+    ensures { at ≤ 1000000000000000 → IsSumOf 4294967295 a.now.moved → AllBounded states.now
+        → MatchBool result (BossAgrees header.now at node a.now states.now) (BossAgrees header.now at node a.now states.now → ⊥) }
+{
+    let Some(c) = &a.cast else {
+        return true;
+    };
+    let master = c.master as usize;
+    if master >= states.len() {
+        return true;
+    }
+    let b = &states[master];
+    if stands(c, b) {
+        master_near(header, at, node, a, c, b)
+    } else {
+        true
+    }
+}
+
+/// Whether a node agrees with each that the same Close corrected, and with its master.
+fn node_agrees(header: &Header, at: u64, node: u32, a: &NodeState, states: &[NodeState]) -> bool
+    requires { length states.now < 2 ^ 32 }
+    ensures { at ≤ 1000000000000000 → IsSumOf 4294967295 a.now.moved → AllBounded states.now
+        → MatchBool result (NodeAgrees header.now at node a.now states.now) (NodeAgrees header.now at node a.now states.now → ⊥) }
+{
+    if a.cast.is_none() {
+        return true;
+    }
+    pairs_agree(header, at, node, a, states) && master_agrees(header, at, node, a, states)
+}
+
+/// Whether each of these nodes does.
+pub fn all_agree(header: &Header, at: u64, states: &[NodeState]) -> bool
+    requires { length states.now < 2 ^ 32 }
+    ensures { at ≤ 1000000000000000 → AllBounded states.now → MatchBool result (AllAgree header.now at states.now) (AllAgree header.now at states.now → ⊥) }
+{
+    for n in 0..states.len() {
+        if !node_agrees(header, at, n as u32, &states[n], states) {
+            return false;
+        }
+    }
+    true
+}

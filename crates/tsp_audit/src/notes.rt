@@ -1,0 +1,45 @@
+//! What an audit notes of a claimed history.
+ghost use Rattle.std.specs.Prelude.{◌≤◌, ℕ, [], List, IfOk, OnOk};
+ghost use Rattle.tsp_audit.specs.declared.premises.Premises.{Premises};
+ghost use Rattle.tsp_base.specs.History.{Line};
+
+use crate::accord::Accord;
+use std::alloc::{AllocError, Global};
+
+/// What is noted of the lines so far.
+#[derive(Drop)]
+pub struct Notes {
+    /// The sends, by the numbers of the datagrams that begin them, of which Corrects have taken posts.
+    pub(crate) acted: Vec<u64>,
+    /// What tells whether clocks agree; it is kept only where the schedule keeps all premises.
+    pub(crate) accord: Accord,
+}
+
+impl Notes {
+    ghost use Rattle.tsp_audit.specs.Notes.{HasRoom, NotesStand};
+
+    /// Nothing is noted of so many nodes. The refusal is want of memory.
+    pub fn new(alloc: Global, count: usize) -> Result<Notes, AllocError>
+        requires { count ≤ 64 }
+        ensures { IfOk result (λ notes. (premises : Premises) → NotesStand premises count [] notes) }
+    {
+        match Accord::new(alloc, count) {
+            Ok(accord) => Ok(Notes {
+                acted: Vec::new(alloc),
+                accord,
+            }),
+            Err(refused) => Err(refused),
+        }
+    }
+
+    /// Makes room for so many lines more. The refusal is want of memory; either way they stand for what they did.
+    pub fn make_room(&mut self, lines: usize) -> Result<(), AllocError>
+        ensures room { OnOk result (HasRoom lines self.new) }
+        ensures stand { (premises : Premises) (count : ℕ) (h : List Line) → NotesStand premises count h self.old → NotesStand premises count h self.new }
+    {
+        match self.acted.reserve(lines) {
+            Ok(()) => self.accord.make_room(lines),
+            Err(refused) => Err(refused),
+        }
+    }
+}

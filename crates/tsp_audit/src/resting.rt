@@ -1,0 +1,49 @@
+//! Whether an ADJTIME rests on a sample.
+ghost use Rattle.std.specs.Prelude.{◌≡◌, true, is_some, MatchBool};
+ghost use Rattle.tsp_audit.specs.Agreeing.{TripsTell};
+ghost use Rattle.tsp_audit.specs.Resting.{RestsOn};
+ghost use Rattle.tsp_base.specs.Agreed.{RestsOnSample};
+ghost use Rattle.tsp_base.specs.History.{of, view};
+ghost use Rattle.tsp_noted.specs.Histories.{line_of, history_of};
+
+use crate::casting::best_in;
+use crate::counts::is_acting;
+use tsp_base::act::Act;
+use tsp_base::datagram::Datagram;
+use tsp_base::kind::Kind;
+use tsp_base::place::{PeerId, Place, Port};
+use tsp_noted::noted::Noted;
+use tsp_noted::rounds::closed_at;
+
+/// Whether the last Close of a port's step, if there is one, had a sample of a peer.
+fn has_sample(lines: &[Noted], trips: &[i128], node: u32, port: Port, p: PeerId) -> bool
+    ensures { TripsTell (history_of lines.now) trips.now → MatchBool result (RestsOn p (view port (of node (history_of lines.now)))) (RestsOn p (view port (of node (history_of lines.now))) → ⊥) }
+{
+    match closed_at(lines, node, port) {
+        None => true,
+        Some(close) => {
+            if close < lines.len() {
+                best_in(&lines[..close], trips, node, port, p).is_some()
+            } else {
+                true
+            }
+        }
+    }
+}
+
+/// Whether an ADJTIME that a Close begins rests on a sample of its addressee, where these lines stand before it, with their
+/// round trips.
+pub fn rests(lines: &[Noted], trips: &[i128], line: &Noted) -> bool
+    ensures { TripsTell (history_of lines.now) trips.now
+        → MatchBool result (RestsOnSample (line_of line.now) (view line.now.port (of line.now.node (history_of lines.now)))) (RestsOnSample (line_of line.now) (view line.now.port (of line.now.node (history_of lines.now))) → ⊥) }
+{
+    match &line.act {
+        Some(Act::Post(Place::Peer(p), Datagram::Message(m))) => {
+            if m.kind() != Kind::AdjTime || !is_acting(lines, line.node, line.port) {
+                return true;
+            }
+            has_sample(lines, trips, line.node, line.port, *p)
+        }
+        _ => true,
+    }
+}

@@ -1,0 +1,103 @@
+//! How a line changes what is kept of its node.
+ghost use Rattle.std.specs.Prelude.{◌≡◌, ◌≤◌, ◌<◌, ◌^◌, ℕ, ℤ, List, [], ◌∷◌, length, MatchBool};
+ghost use Rattle.tsp_audit.specs.Agreeing.{FirstIs, NodeIs, TripsTell};
+ghost use Rattle.tsp_audit.specs.Changes.{IsCorrect};
+ghost use Rattle.tsp_base.specs.declared.act.Act.TheVariants.{Boot};
+ghost use Rattle.tsp_base.specs.History.{Acts, Line, from_act};
+ghost use Rattle.tsp_base.specs.NodeFacts.{all_corrects_after, lives_after};
+ghost use Rattle.tsp_noted.specs.Histories.{deed_of, line_of, history_of};
+
+use crate::casting::cast_at;
+use crate::counts::{corrects_at, lives_at};
+use crate::live::NodeState;
+use tsp_base::act::Act;
+use tsp_noted::clocks::moved_at;
+use tsp_noted::noted::Noted;
+
+/// What is kept of a node before any line.
+pub fn blank() -> NodeState
+    ensures { (n : ℕ) → NodeIs n [] result }
+{
+    NodeState {
+        moved: 0,
+        lives: 0,
+        corrects: 0,
+        after: None,
+        cast: None,
+    }
+}
+
+/// Whether a line is a Boot.
+fn is_boot(line: &Noted) -> bool
+    ensures { MatchBool result (deed_of line.now.act ≡ Acts Boot) ((n : ℕ) → lives_after (deed_of line.now.act) n ≡ n) }
+{
+    matches!(&line.act, Some(Act::Boot))
+}
+
+/// Whether a line is a Correct.
+fn is_correct(line: &Noted) -> bool
+    ensures { MatchBool result (IsCorrect (deed_of line.now.act)) ((n : ℕ) → all_corrects_after (deed_of line.now.act) n ≡ n) }
+{
+    matches!(&line.act, Some(Act::Correct { .. }))
+}
+
+/// What is kept of a node after a Correct of it, before which this is the newest act.
+fn corrected(
+    upto: &[Noted],
+    before: &[Noted],
+    trips: &[i128],
+    line: &Noted,
+    last: Option<usize>,
+    keep: NodeState,
+) -> NodeState
+    requires few { length upto.now < 2 ^ 32 }
+    requires past { length before.now < 2 ^ 32 }
+    ensures { history_of upto.now ≡ line_of line.now ∷ history_of before.now → TripsTell (history_of before.now) trips.now → FirstIs (from_act (history_of before.now)) last → IsCorrect (deed_of line.now.act)
+        → NodeIs line.now.node (history_of before.now) keep → NodeIs line.now.node (line_of line.now ∷ history_of before.now) result }
+{
+    NodeState {
+        moved: moved_at(upto, line.node),
+        lives: keep.lives,
+        corrects: corrects_at(upto, line.node),
+        after: last,
+        cast: cast_at(before, trips, line),
+    }
+}
+
+/// What is kept of a node after a Boot of it.
+fn booted(upto: &[Noted], line: &Noted, keep: NodeState) -> NodeState
+    requires { length upto.now < 2 ^ 32 }
+    ensures { (before : List Line) → history_of upto.now ≡ line_of line.now ∷ before → deed_of line.now.act ≡ Acts Boot
+        → NodeIs line.now.node before keep → NodeIs line.now.node (line_of line.now ∷ before) result }
+{
+    NodeState {
+        moved: 0,
+        lives: lives_at(upto, line.node),
+        cast: None,
+        ..keep
+    }
+}
+
+/// What is kept of a line's node after it, where these lines stand before it, with their round trips and the index of the
+/// newest act among them; `upto` are these lines and it.
+pub fn state_after(
+    upto: &[Noted],
+    before: &[Noted],
+    trips: &[i128],
+    line: &Noted,
+    last: Option<usize>,
+    keep: NodeState,
+) -> NodeState
+    requires few { length upto.now < 2 ^ 32 }
+    requires past { length before.now < 2 ^ 32 }
+    ensures { history_of upto.now ≡ line_of line.now ∷ history_of before.now → TripsTell (history_of before.now) trips.now → FirstIs (from_act (history_of before.now)) last
+        → NodeIs line.now.node (history_of before.now) keep → NodeIs line.now.node (line_of line.now ∷ history_of before.now) result }
+{
+    if is_boot(line) {
+        return booted(upto, line, keep);
+    }
+    if is_correct(line) {
+        return corrected(upto, before, trips, line, last, keep);
+    }
+    keep
+}

@@ -1,0 +1,67 @@
+//! Audits over lines of text.
+
+use std::alloc::Global;
+use tsp_audit::audit::Audit;
+use tsp_audit::premises::Premises;
+use tsp_audit::verdict::Verdict;
+use tsp_claims::audit_fault::AuditFault;
+use tsp_claims_tests::claiming::{event_of, header_of, is_claimable, lines_of};
+
+/// What comes of lines that are claimed of an event.
+#[derive(Clone, Copy, PartialEq, Eq, Debug)]
+pub(crate) enum Answer {
+    /// They fit, and this is the verdict.
+    Says(Verdict),
+    /// The line with this index doesn't fit, or the event lacks something.
+    Misfit(usize),
+    /// Memory was refused.
+    NoMemory,
+    /// A text is no event's line, or the event can't be claimed.
+    Unread,
+}
+
+/// An audit of nodes on one network, where all premises are kept but that datagrams may be forged.
+pub(crate) fn audit_of(
+    alloc: Global,
+    drift: u32,
+    clocks: &[(i32, i64)],
+    honest: bool,
+) -> Option<Audit> {
+    let header = header_of(alloc, drift, clocks)?;
+    let premises = Premises {
+        honest,
+        life: true,
+        words: true,
+    };
+    Audit::new(alloc, header, premises).ok()
+}
+
+/// Claims the lines of a text of an event.
+fn claim(audit: &mut Audit, alloc: Global, event: &str, text: &str) -> Answer {
+    let (Some(e), Some(lines)) = (event_of(event.as_bytes()), lines_of(alloc, text)) else {
+        return Answer::Unread;
+    };
+    if !is_claimable(audit.claims(), &e, lines.len()) {
+        return Answer::Unread;
+    }
+    match audit.event(&e, lines.as_slice()) {
+        Ok(verdict) => Answer::Says(verdict),
+        Err(AuditFault::History(index)) => Answer::Misfit(index),
+        Err(AuditFault::OutOfMemory) => Answer::NoMemory,
+    }
+}
+
+/// Claims row after row: an event, the lines that are claimed of it, and what should come of it. The index of the first
+/// row of which something else comes.
+pub(crate) fn first_wrong(
+    audit: &mut Audit,
+    alloc: Global,
+    rows: &[(&str, &str, Answer)],
+) -> Option<usize> {
+    for (i, (event, text, answer)) in rows.iter().enumerate() {
+        if claim(audit, alloc, event, text) != *answer {
+            return Some(i);
+        }
+    }
+    None
+}
