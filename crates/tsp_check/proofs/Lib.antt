@@ -1,0 +1,10 @@
+pub mod ClaimLemmas
+pub mod Completes
+pub mod Definites
+pub mod FitLemmas
+pub mod JudgeLemmas
+pub mod PassLemmas
+pub mod Reverses
+pub mod SoundLemmas
+pub mod StandLemmas
+pub mod TraceLengths

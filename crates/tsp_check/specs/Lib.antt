@@ -1,0 +1,7 @@
+pub mod Claimings
+pub mod Listings
+pub mod Meaning
+pub mod Readings
+pub mod Sound
+pub mod Stands
+pub mod Texts

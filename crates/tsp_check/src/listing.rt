@@ -1,0 +1,94 @@
+//! The events of a schedule that is to be audited.
+ghost use Rattle.std.specs.Prelude.{◌≡◌, ◌≤◌, ◌∷◌, [], true, List, length, vec_len, IfOk};
+ghost use Rattle.tsp_base.specs.Headers.{is_whole};
+ghost use Rattle.tsp_check.specs.Listings.{AreListed, AreListed-prop, Wakes};
+ghost use Rattle.tsp_claims.specs.Listed.{NamesNode};
+ghost use Rattle.tsp_run.specs.Networks.{numbers_below};
+
+use crate::copies::copy_event;
+use crate::refusing::time_of;
+use std::alloc::{AllocError, Global};
+use tsp_base::event::{Event, EventFault};
+use tsp_base::header::Header;
+use tsp_base::members::Members;
+use tsp_course::course::Course;
+use tsp_nets::all_nodes;
+
+/// The header and the events of a schedule so far, at most 20,000, none of which is refused.
+#[derive(Drop)]
+pub struct Listing {
+    /// The nodes' clocks, names and networks.
+    pub(crate) header: Header,
+    /// The network of all nodes, which they are on where the header names none.
+    pub(crate) one: Vec<Members>,
+    /// Whether each node has booted.
+    pub(crate) up: Vec<bool>,
+    /// The events, the oldest first.
+    pub(crate) events: Vec<Event>,
+    /// The time of the last event, in microseconds; 0 before one.
+    pub(crate) last: u64,
+    ghost some: { 1 ≤ length header.nodes },
+    ghost whole: { is_whole header ≡ true },
+    ghost places: { vec_len up ≡ length header.nodes },
+    ghost one_is: { one.items ≡ numbers_below (length header.nodes) ∷ [] },
+    ghost listed: { AreListed (length header.nodes) events.items } by { AreListed-prop (length header.nodes) events.items },
+}
+
+impl Listing {
+    ghost use Rattle.tsp_check.specs.Stands.{ListingStands};
+
+    /// No event has happened. Takes memory for the nodes; the refusal is want of memory, and drops the header.
+    fn new(alloc: Global, header: Header) -> Result<Listing, AllocError>
+        requires some { 1 ≤ length header.nodes }
+        requires whole { is_whole header ≡ true }
+        ensures { IfOk result (λ listing. ListingStands header [] listing) }
+    {
+        let one = all_nodes(alloc, header.nodes().len() as u32)?;
+        let mut up = Vec::new(alloc);
+        for _ in header.nodes() {
+            up.push(false)?;
+        }
+        Ok(Listing {
+            header,
+            one,
+            up,
+            events: Vec::new(alloc),
+            last: 0,
+        })
+    }
+}
+
+/// A node has booted where the event is its boot.
+fn wake(up: &mut Vec<bool>, e: &Event)
+    requires { NamesNode (vec_len up.old) e.now }
+    ensures { Wakes e.now up.old.items up.new.items }
+{
+    if let Event::Boot { node, .. } = e {
+        up[*node as usize] = true;
+    }
+}
+
+impl Course for Listing {
+    ghost use Rattle.tsp_check.specs.Listings.{refused};
+    ghost use Rattle.tsp_check.specs.Stands.{ListingStands};
+
+    ghost refused = { refused };
+
+    ghost stands = { ListingStands };
+
+    fn begin(alloc: Global, header: Header) -> Result<Listing, AllocError> {
+        Listing::new(alloc, header)
+    }
+
+    fn event(&mut self, e: &Event) -> Result<(), EventFault> {
+        if let Some(fault) = self.refusal(e) {
+            return Err(fault);
+        }
+        if self.events.push(copy_event(e)).is_err() {
+            return Err(EventFault::OutOfMemory);
+        }
+        wake(&mut self.up, e);
+        self.last = time_of(e);
+        Ok(())
+    }
+}

@@ -1,0 +1,47 @@
+//! The lines that are claimed of one event.
+ghost use Rattle.std.specs.Prelude.{◌≡◌, ◌++◌, ◌∷◌, [], OnOk};
+
+use std::alloc::{AllocError, Global};
+use std::marker::Model;
+use tsp_script::trace::Line2;
+
+/// The lines that are claimed of one event, in order.
+#[derive(Drop)]
+pub struct Told {
+    lines: Vec<Line2>,
+}
+
+impl Model for Told {
+    ghost use Rattle.std.specs.Prelude.{List};
+    ghost use Rattle.tsp_script.specs.declared.trace.Line2.{Line2};
+
+    ghost Value = { List Line2 };
+
+    ghost view = { λ t. t.lines.items };
+}
+
+impl Told {
+    /// No line yet. Takes no memory.
+    pub fn new(alloc: Global) -> Told
+        ensures { result ≡ [] }
+    {
+        Told {
+            lines: Vec::new(alloc),
+        }
+    }
+
+    /// One line more. The refusal is want of memory.
+    pub fn push(&mut self, line: Line2) -> Result<(), AllocError>
+        ensures { OnOk result (self.new ≡ self.old ++ line ∷ []) }
+    {
+        self.lines.push(line)?;
+        Ok(())
+    }
+
+    /// The lines.
+    pub fn lines(&self) -> &[Line2]
+        ensures { result.now ≡ self.now }
+    {
+        self.lines.as_slice()
+    }
+}
