@@ -9,7 +9,7 @@ _tsp_hosts() {
 _tsp() {
     local before=${COMP_WORDS[*]:1:COMP_CWORD-1}
     case ${before// : /:} in
-    '') mapfile -t COMPREPLY < <(compgen -W 'replay show pack icmp serve msite clockdiff trace election date storm --help --version' -- "$2") ;;
+    '') mapfile -t COMPREPLY < <(compgen -W 'replay show pack icmp audit serve msite clockdiff trace election date storm --help --version' -- "$2") ;;
     serve | msite | clockdiff | trace | election | date) mapfile -t COMPREPLY < <(compgen -W "$(_tsp_hosts 3)" -- "$2") ;;
     'trace '*:*' '*) ;;
     'trace '*:*[0-9]) mapfile -t COMPREPLY < <(compgen -W 'on off' -- "$2") ;;

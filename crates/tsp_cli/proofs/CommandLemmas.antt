@@ -25,7 +25,7 @@ use Rattle.tsp_words.specs.declared.serve.ServeWords.{ServeWords}
 use Rattle.tsp_words.specs.declared.storm.StormWords.{StormWords}
 use Rattle.tsp_cli.specs.declared.status.Status.{Status}
 use Rattle.tsp_cli.specs.declared.status.Status.TheVariants.{Ok, Usage, ReadFault, WriteFault, LinkFault, NoAnswer, OutOfMemory}
-use Rattle.tsp_cli.specs.Commands.{Now, is_built, IsUnbuilt, Does, IsAsk, IsQuestion, Untouched, RunsDaemon, RunsQuery, RunsStorm}
+use Rattle.tsp_cli.specs.Commands.{Now, Does, IsAsk, IsQuestion, Untouched, RunsDaemon, RunsQuery, RunsStorm}
 use Rattle.tsp_cli.specs.Headline.{PrintsHistory}
 use Rattle.tsp_cli.specs.Lines.{Says}
 use Rattle.tsp_cli.specs.Statuses.{status_of_served, status_of_asking, status_of_storm}
@@ -200,8 +200,8 @@ pub command_same : (x : Option Command) (d c : Command) → x ≡ Some d → x �
 command_same x d c p q = cc
 
 -- what a command does, the same command does
-pub does_as : (d c : Command) (old new : Now) (status : Status) → d ≡ c → (is_built d ≡ true → Does d old new status) → is_built c ≡ true → Does c old new status
-does_as d c old new status e does = subst (λ (x : Command). is_built x ≡ true → Does x old new status) e does
+pub does_as : (d c : Command) (old new : Now) (status : Status) → d ≡ c → Does d old new status → Does c old new status
+does_as d c old new status e does = subst (λ (x : Command). Does x old new status) e does
 
 -- what a command leaves as it is, the same command leaves
 pub untouched_as : {S L T : Type 0} (d c : Command) (source source_now : S) (link link_now : L) (ticker ticker_now : T) → d ≡ c → Untouched d source source_now link link_now ticker ticker_now → Untouched c source source_now link link_now ticker ticker_now
@@ -215,25 +215,10 @@ command_read x d words e h = subst (λ (y : Option Command). MatchOption y (IsNo
 pub command_none : (x : Option Command) (words : List (List ℕ)) → x ≡ None → MatchOption x (IsNoCommand words) (λ c. IsCommand c × (words ≡ words_of c)) → IsNoCommand words
 command_none x words e h = subst (λ (y : Option Command). MatchOption y (IsNoCommand words) (λ c. IsCommand c × (words ≡ words_of c))) e h
 
-not_true : (b : Bool) → (b ≡ true → ⊥) → b ≡ false
-not_true true f = absurd (f refl)
-not_true false f = refl
-
--- a command of words that ask for nothing that is built isn't built
-pub not_built : (words : List (List ℕ)) (d : Command) → IsUnbuilt words → IsCommand d × (words ≡ words_of d) → is_built d ≡ false
-not_built words d unbuilt read = not_true (is_built d) (unbuilt d read.0 read.1)
-
--- words of a command that isn't built ask for nothing that is
-pub words_unbuilt : (x : Option Command) (d : Command) (words : List (List ℕ)) → x ≡ Some d → ((c : Command) → IsCommand c → words ≡ words_of c → x ≡ Some c) → is_built d ≡ false → IsUnbuilt words
-words_unbuilt x d words e one unbuilt c is same built =
-    let d_is : d ≡ c = command_same x d c e (one c is same) in
-    let bad : true ≡ false = sym built ∙ ap (λ (y : Command). is_built y) (sym d_is) ∙ unbuilt in
-    cc
-
 -- a replay that ends well prints a history
-pub Replay_prints : (d : Command) (old new : Now) (status : Status) → d ≡ Replay → (is_built d ≡ true → Does d old new status) → status ≡ Ok → PrintsHistory old.left new.left old.told.written new.told.written
+pub Replay_prints : (d : Command) (old new : Now) (status : Status) → d ≡ Replay → Does d old new status → status ≡ Ok → PrintsHistory old.left new.left old.told.written new.told.written
 Replay_prints d old new status e does ok =
-    EndsAs-prints _ _ _ _ status (does_as d Replay old new status e does refl).ends ok
+    EndsAs-prints _ _ _ _ status (does_as d Replay old new status e does).ends ok
 
 -- the link's fault is that of a bind or a receive, or of a question's send
 pub link_fault : (words : List (List ℕ)) (d : Command) (links links_now sends sends_now : ℕ) → IsCommand d × (words ≡ words_of d) → Rose links links_now ⊎ (IsAsk d × Rose sends sends_now) → Rose links links_now ⊎ (IsQuestion words × Rose sends sends_now)

@@ -1,3 +1,4 @@
+pub mod AuditLemmas
 pub mod CommandLemmas
 pub mod HeadlineLemmas
 pub mod RunLemmas

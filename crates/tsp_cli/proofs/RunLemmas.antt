@@ -32,7 +32,7 @@ AgreesAs-agrees o output written now Limited a = a
 AgreesAs-agrees o output written now NoMemory a = a
 
 -- only the outcome Ok has the status Ok
-status_ok : (o : Outcome) → status_of o ≡ Ok → o ≡ Done
+pub status_ok : (o : Outcome) → status_of o ≡ Ok → o ≡ Done
 status_ok Done e = refl
 status_ok Refused e = cc
 status_ok NotRead e = cc
@@ -40,7 +40,8 @@ status_ok NotWritten e = cc
 status_ok Limited e = cc
 status_ok NoMemory e = cc
 
-status_same : (o p : Outcome) → (o ≡ p) ⊎ (o ≡ NoMemory) → (status_of o ≡ status_of p) ⊎ (status_of o ≡ OutOfMemory)
+-- a treatment that ends as another, or for want of memory, has that one's status
+pub status_same : (o p : Outcome) → (o ≡ p) ⊎ (o ≡ NoMemory) → (status_of o ≡ status_of p) ⊎ (status_of o ≡ OutOfMemory)
 status_same o p (inl e) = inl (ap status_of e)
 status_same o p (inr e) = inr (ap status_of e)
 

@@ -1,8 +1,13 @@
 -- What each command of the program comes to.
-use Rattle.std.specs.Prelude.{◌≡◌, ◌⊎◌, ℕ, ℤ, Bool, true, false, List, Option, Some}
+use Rattle.std.specs.Prelude.{◌≡◌, ◌≢◌, ◌⊎◌, ◌≤◌, ℕ, ℤ, Bool, true, List, length, Option, Some}
 use Rattle.tsp_asking.specs.declared.end.Asking.{Asking}
 use Rattle.tsp_asking.specs.Asks.{AsksAs}
+use Rattle.tsp_check.specs.Meaning.{IsAuditText, auditing}
 use Rattle.tsp_io.specs.Counts.{Rose}
+use Rattle.tsp_lines.specs.declared.limits.TheConstants.{MOST_INPUT}
+use Rattle.tsp_lines.specs.declared.treat.Outcome.{Outcome}
+use Rattle.tsp_lines.specs.Answers.{Answers, IsAnswer as IsAnswerTo}
+use Rattle.tsp_lines.specs.Gatherings.{ComesGathered, IsGathered}
 use Rattle.tsp_query.specs.Ends.{Outside}
 use Rattle.tsp_query.specs.Told.{Told, Knows}
 use Rattle.tsp_rules.specs.Tests.{is_clock_value}
@@ -17,9 +22,9 @@ use Rattle.tsp_words.specs.declared.query.Query.{Query}
 use Rattle.tsp_words.specs.declared.serve.ServeWords.{ServeWords}
 use Rattle.tsp_words.specs.declared.storm.StormWords.{StormWords}
 use Rattle.tsp_cli.specs.declared.status.Status.{Status}
-use Rattle.tsp_cli.specs.declared.status.Status.TheVariants.{Ok, NoAnswer, OutOfMemory}
+use Rattle.tsp_cli.specs.declared.status.Status.TheVariants.{Ok, NoAnswer, OutOfMemory, ReadFault}
 use Rattle.tsp_cli.specs.Lines.{LineCommand, Replay as Replays, Show as Shows, Pack as Packs, Icmp as Averages, Runs}
-use Rattle.tsp_cli.specs.Statuses.{status_of_served, status_of_asking, status_of_storm}
+use Rattle.tsp_cli.specs.Statuses.{status_of, status_of_served, status_of_asking, status_of_storm}
 
 -- what the four objects of a run are at one moment: what is left of the source, whether it gave its end, what sink, link and ticker tell, and the counts of failed reads, of failed writes, of failed binds and receives, and of failed sends
 pub record Now : Type 0 where
@@ -30,15 +35,6 @@ pub record Now : Type 0 where
   pub writes : ℕ
   pub links : ℕ
   pub sends : ℕ
-
--- whether a command is one that the program does: no claimed history is judged yet
-abbrev pub is_built : Command → Bool
-is_built Audit = false
-is_built _ = true
-
--- the words are none of a command that the program does
-abbrev pub IsUnbuilt : List (List ℕ) → Type 0
-IsUnbuilt words = (c : Command) → IsCommand c → words ≡ words_of c → is_built c ≡ true → ⊥
 
 -- a command that reads lines runs
 abbrev pub RunsLines : LineCommand → Now → Now → Status → Type 0
@@ -76,7 +72,25 @@ pub record RunsStorm (s : StormWords) (written now : Option (List ℕ)) (writes 
   -- where there is room for each event and no write failed: the status is Ok, or there was no memory
   pub complete : HasRoom s → ¬ Rose writes writes_now → (status ≡ Ok) ⊎ (status ≡ OutOfMemory)
 
--- what a command does that the program does
+-- the trace is judged that is claimed for a schedule. The counts are those of failed reads and failed writes, before and after
+pub record RunsAudit (input left written now : Option (List ℕ)) (ended : Bool) (reads reads_now writes writes_now : ℕ) (status : Status) : Type 0 where
+  -- how the treatment of its lines ended
+  pub outcome : Outcome
+  pub status_is : status ≡ status_of outcome
+  -- what that says of input and output: where a read failed, nothing was written
+  pub comes : ComesGathered auditing MOST_INPUT input left written now outcome
+  -- of a told input: it agrees with the answer to it
+  pub answers : Answers auditing MOST_INPUT input written now outcome
+  -- of a told input, where no count rose: the status is that of the answer, or there was no memory
+  pub decided : (octets : List ℕ) (answer : Outcome) (output : List ℕ) → input ≡ Some octets → IsAnswerTo auditing MOST_INPUT octets answer output → ¬ Rose reads reads_now → ¬ Rose writes writes_now → (status ≡ status_of answer) ⊎ (status ≡ OutOfMemory)
+  -- of a told input of at most 64 MiB of which nothing is refused, where no count rose: the status is Ok, or there was no memory
+  pub complete : (octets : List ℕ) → input ≡ Some octets → length octets ≤ MOST_INPUT → IsAuditText octets → ¬ Rose reads reads_now → ¬ Rose writes writes_now → (status ≡ Ok) ⊎ (status ≡ OutOfMemory)
+  -- the input was read to its end, or to the first octet past the limit, unless a read failed or there was no memory
+  pub gathered : status ≢ ReadFault → status ≢ OutOfMemory → IsGathered MOST_INPUT input left ended
+  -- with Ok the source gave its end
+  pub whole : status ≡ Ok → ended ≡ true
+
+-- what a command does
 abbrev pub Does : Command → Now → Now → Status → Type 0
 Does Replay old new status = RunsLines Replays old new status
 Does Show old new status = RunsLines Shows old new status
@@ -85,7 +99,7 @@ Does Icmp old new status = RunsLines Averages old new status
 Does (Serve s) old new status = RunsDaemon s old.told new.told old.links new.links old.writes new.writes status
 Does (Ask a q) old new status = RunsQuery q old.told new.told old.links new.links old.sends new.sends old.writes new.writes status
 Does (Storm s) old new status = RunsStorm s old.told.written new.told.written old.writes new.writes status
-Does Audit old new status = ⊥
+Does Audit old new status = RunsAudit old.left new.left old.told.written new.told.written new.ended old.reads new.reads old.writes new.writes status
 
 -- the same, or there was no memory for the command's parts, and nothing has changed
 abbrev pub DoesOrNot : Command → Now → Now → Status → Type 0

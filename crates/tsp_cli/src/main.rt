@@ -2,6 +2,7 @@
 #![tactic(auto)]
 
 mod help;
+mod laws;
 #[cfg(test)]
 mod limit_tests;
 #[cfg(test)]

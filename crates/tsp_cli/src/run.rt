@@ -1,11 +1,11 @@
 //! The top call.
 ghost use Rattle.std.specs.Prelude.{◌≡◌, ◌≢◌, ◌≤◌, ◌⊎◌, [], ◌∷◌, true, false, map, codes, string_bytes};
 ghost use Rattle.tsp_io.specs.Counts.{Rose};
-ghost use Rattle.tsp_words.specs.Commands.{IsCommand, words_of};
+ghost use Rattle.tsp_words.specs.Commands.{IsCommand, IsNoCommand, words_of};
 ghost use Rattle.tsp_words.specs.Serves.{IsServe};
 ghost use Rattle.tsp_words.specs.Storms.{IsStorm};
 ghost use Rattle.tsp_words.specs.declared.command.Command.{Command};
-ghost use Rattle.tsp_cli.specs.Commands.{is_built, IsUnbuilt, Does, DoesOrNot, RunsDaemon, RunsQuery, RunsStorm, Untouched, IsAsk, IsQuestion};
+ghost use Rattle.tsp_cli.specs.Commands.{Does, DoesOrNot, RunsDaemon, RunsQuery, RunsStorm, Untouched, IsAsk, IsQuestion};
 ghost use Rattle.tsp_cli.specs.Headline.{PrintsHistory};
 ghost use Rattle.tsp_cli.specs.Lines.{Says};
 ghost use Rattle.tsp_cli.specs.Usage.{usage_line};
@@ -13,6 +13,7 @@ ghost use Rattle.tsp_cli.specs.Usage.{usage_line};
 use crate::status::Status;
 use std::alloc::Global;
 use tsp_asking::ask::ask;
+use tsp_check::run::check;
 use tsp_convert::run::{pack, show};
 use tsp_io::addr::Addr;
 use tsp_io::link::Link;
@@ -47,8 +48,8 @@ pub fn say<K: Sink>(sink: &mut K, text: &[u8], status: Status) -> Status
 
 /// Does what the words after the program's name ask for.
 ///
-/// `replay`, `show`, `pack` and `icmp`, each alone, read the source to its end and write to the sink; link and ticker
-/// are left alone. `serve` runs a daemon over link and ticker, and the questions `msite`, `clockdiff`, `trace`,
+/// `replay`, `show`, `pack`, `icmp` and `audit`, each alone, read the source to its end and write to the sink; link and
+/// ticker are left alone. `serve` runs a daemon over link and ticker, and the questions `msite`, `clockdiff`, `trace`,
 /// `election` and `date` ask one; these leave the source alone. `storm` makes a schedule, runs it and writes a summary; it
 /// touches the sink alone. Any other words are `Usage`, and nothing but the sink is touched.
 ///
@@ -65,10 +66,10 @@ pub fn run<S: Source, K: Sink, L: Link, T: Ticker>(
     ticker: &mut T,
 ) -> Status
     requires open { S.ended source.old ≡ false }
-    ensures does { (command : Command) → IsCommand command → map string_bytes words.now ≡ words_of command → is_built command ≡ true → DoesOrNot command (record { left = S.left source.old; ended = S.ended source.old; told = record { arrivals = L.arrivals link.old; tried = L.tried link.old; calls = L.calls link.old; readings = T.readings ticker.old; last = T.last ticker.old; wall = T.wall_is ticker.old; word = T.word_is ticker.old; written = K.written sink.old }; reads = S.faults source.old; writes = K.faults sink.old; links = L.faults link.old; sends = L.send_faults link.old }) (record { left = S.left source.new; ended = S.ended source.new; told = record { arrivals = L.arrivals link.new; tried = L.tried link.new; calls = L.calls link.new; readings = T.readings ticker.new; last = T.last ticker.new; wall = T.wall_is ticker.new; word = T.word_is ticker.new; written = K.written sink.new }; reads = S.faults source.new; writes = K.faults sink.new; links = L.faults link.new; sends = L.send_faults link.new }) result }
+    ensures does { (command : Command) → IsCommand command → map string_bytes words.now ≡ words_of command → DoesOrNot command (record { left = S.left source.old; ended = S.ended source.old; told = record { arrivals = L.arrivals link.old; tried = L.tried link.old; calls = L.calls link.old; readings = T.readings ticker.old; last = T.last ticker.old; wall = T.wall_is ticker.old; word = T.word_is ticker.old; written = K.written sink.old }; reads = S.faults source.old; writes = K.faults sink.old; links = L.faults link.old; sends = L.send_faults link.old }) (record { left = S.left source.new; ended = S.ended source.new; told = record { arrivals = L.arrivals link.new; tried = L.tried link.new; calls = L.calls link.new; readings = T.readings ticker.new; last = T.last ticker.new; wall = T.wall_is ticker.new; word = T.word_is ticker.new; written = K.written sink.new }; reads = S.faults source.new; writes = K.faults sink.new; links = L.faults link.new; sends = L.send_faults link.new }) result }
     ensures headline { map string_bytes words.now ≡ codes "replay" ∷ [] → result ≡ Status.Ok → PrintsHistory (S.left source.old) (S.left source.new) (K.written sink.old) (K.written sink.new) }
-    ensures usage { IsUnbuilt (map string_bytes words.now) → Says usage_line Status.Usage (K.written sink.old) (K.written sink.new) result × (source.new ≡ source.old) × (link.new ≡ link.old) × (ticker.new ≡ ticker.old) }
-    ensures exact { result ≡ Status.Usage → IsUnbuilt (map string_bytes words.now) }
+    ensures usage { IsNoCommand (map string_bytes words.now) → Says usage_line Status.Usage (K.written sink.old) (K.written sink.new) result × (source.new ≡ source.old) × (link.new ≡ link.old) × (ticker.new ≡ ticker.old) }
+    ensures exact { result ≡ Status.Usage → IsNoCommand (map string_bytes words.now) }
     ensures untouched { (command : Command) → IsCommand command → map string_bytes words.now ≡ words_of command → Untouched command source.old source.new link.old link.new ticker.old ticker.new }
     ensures link { result ≡ Status.LinkFault → Rose (L.faults link.old) (L.faults link.new) ⊎ (IsQuestion (map string_bytes words.now) × Rose (L.send_faults link.old) (L.send_faults link.new)) }
     ensures later { (S.faults source.old ≤ S.faults source.new) × (K.faults sink.old ≤ K.faults sink.new) × (L.faults link.old ≤ L.faults link.new) × (L.send_faults link.old ≤ L.send_faults link.new) × (T.last ticker.old ≤ T.last ticker.new) }
@@ -83,7 +84,7 @@ pub fn run<S: Source, K: Sink, L: Link, T: Ticker>(
     }
 }
 
-/// Does what a command asks for; a command that isn't built is `Usage`.
+/// Does what a command asks for.
 fn run_command<S: Source, K: Sink, L: Link, T: Ticker>(
     alloc: Global,
     command: &Command,
@@ -94,9 +95,8 @@ fn run_command<S: Source, K: Sink, L: Link, T: Ticker>(
 ) -> Status
     requires open { S.ended source.old ≡ false }
     requires command { IsCommand command.now }
-    ensures does { is_built command.now ≡ true → Does command.now (record { left = S.left source.old; ended = S.ended source.old; told = record { arrivals = L.arrivals link.old; tried = L.tried link.old; calls = L.calls link.old; readings = T.readings ticker.old; last = T.last ticker.old; wall = T.wall_is ticker.old; word = T.word_is ticker.old; written = K.written sink.old }; reads = S.faults source.old; writes = K.faults sink.old; links = L.faults link.old; sends = L.send_faults link.old }) (record { left = S.left source.new; ended = S.ended source.new; told = record { arrivals = L.arrivals link.new; tried = L.tried link.new; calls = L.calls link.new; readings = T.readings ticker.new; last = T.last ticker.new; wall = T.wall_is ticker.new; word = T.word_is ticker.new; written = K.written sink.new }; reads = S.faults source.new; writes = K.faults sink.new; links = L.faults link.new; sends = L.send_faults link.new }) result }
-    ensures usage { is_built command.now ≡ false → Says usage_line Status.Usage (K.written sink.old) (K.written sink.new) result × (source.new ≡ source.old) × (link.new ≡ link.old) × (ticker.new ≡ ticker.old) }
-    ensures exact { result ≡ Status.Usage → is_built command.now ≡ false }
+    ensures does { Does command.now (record { left = S.left source.old; ended = S.ended source.old; told = record { arrivals = L.arrivals link.old; tried = L.tried link.old; calls = L.calls link.old; readings = T.readings ticker.old; last = T.last ticker.old; wall = T.wall_is ticker.old; word = T.word_is ticker.old; written = K.written sink.old }; reads = S.faults source.old; writes = K.faults sink.old; links = L.faults link.old; sends = L.send_faults link.old }) (record { left = S.left source.new; ended = S.ended source.new; told = record { arrivals = L.arrivals link.new; tried = L.tried link.new; calls = L.calls link.new; readings = T.readings ticker.new; last = T.last ticker.new; wall = T.wall_is ticker.new; word = T.word_is ticker.new; written = K.written sink.new }; reads = S.faults source.new; writes = K.faults sink.new; links = L.faults link.new; sends = L.send_faults link.new }) result }
+    ensures used { result ≢ Status.Usage }
     ensures untouched { Untouched command.now source.old source.new link.old link.new ticker.old ticker.new }
     ensures link { result ≡ Status.LinkFault → Rose (L.faults link.old) (L.faults link.new) ⊎ (IsAsk command.now × Rose (L.send_faults link.old) (L.send_faults link.new)) }
     ensures later { (S.faults source.old ≤ S.faults source.new) × (K.faults sink.old ≤ K.faults sink.new) × (L.faults link.old ≤ L.faults link.new) × (L.send_faults link.old ≤ L.send_faults link.new) × (T.last ticker.old ≤ T.last ticker.new) }
@@ -112,8 +112,7 @@ fn run_command<S: Source, K: Sink, L: Link, T: Ticker>(
         Command::Serve(words) => run_daemon(alloc, words, sink, link, ticker),
         Command::Ask(daemon, query) => run_query(*daemon, query, sink, link, ticker),
         Command::Storm(words) => run_storm(alloc, words, sink),
-        // Not built yet.
-        Command::Audit => say(sink, b"usage\n", Status::Usage),
+        Command::Audit => Status::of(check(alloc, source, sink)),
     }
 }
 

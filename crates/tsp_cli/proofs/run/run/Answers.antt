@@ -1,15 +1,15 @@
 use Rattle.std.proofs.Common.{inl, inr, refl}
 use Rattle.tsp_words.specs.declared.command.Command.TheVariants.{Replay}
-use Rattle.tsp_cli.proofs.CommandLemmas.{command_same, does_as, untouched_as, command_read, command_none, not_built, words_unbuilt, link_fault, Untouched-same, Says-nothing, Replay_prints}
+use Rattle.tsp_cli.proofs.CommandLemmas.{command_same, does_as, untouched_as, command_read, command_none, link_fault, Untouched-same, Says-nothing, Replay_prints}
 use Rattle.tsp_cli.proofs.run.run.Goals as goal
 
 pub run_command-requires-clause-command : goal.run_command-requires-clause-command
 run_command-requires-clause-command g c = (command_read _ _ _ c.in-Ok-Some.field-0-is c.in-Ok-Some.ensures.reads).0
 
 pub returns-in-Ok-Some-clause-does : goal.returns-in-Ok-Some-clause-does
-returns-in-Ok-Some-clause-does g c = λ command is words built.
+returns-in-Ok-Some-clause-does g c = λ command is words.
     let same = command_same _ _ command c.in-Ok-Some.field-0-is (c.in-Ok-Some.ensures.one command is words) in
-    inr (does_as _ command _ _ c.run_command.result same c.run_command.ensures.does built)
+    inr (does_as _ command _ _ c.run_command.result same c.run_command.ensures.does)
 
 pub returns-in-Ok-Some-clause-headline : goal.returns-in-Ok-Some-clause-headline
 returns-in-Ok-Some-clause-headline g c = λ words ok.
@@ -17,7 +17,7 @@ returns-in-Ok-Some-clause-headline g c = λ words ok.
     Replay_prints _ _ _ c.run_command.result same c.run_command.ensures.does ok
 
 pub returns-in-Ok-Some-clause-usage : goal.returns-in-Ok-Some-clause-usage
-returns-in-Ok-Some-clause-usage g c = λ unbuilt. c.run_command.ensures.usage (not_built _ _ unbuilt (command_read _ _ _ c.in-Ok-Some.field-0-is c.in-Ok-Some.ensures.reads))
+returns-in-Ok-Some-clause-usage g c = λ none. let read = command_read _ _ _ c.in-Ok-Some.field-0-is c.in-Ok-Some.ensures.reads in absurd (none _ read.0 read.1)
 
 pub returns-in-Ok-Some-clause-untouched : goal.returns-in-Ok-Some-clause-untouched
 returns-in-Ok-Some-clause-untouched g c = λ command is words.
@@ -28,7 +28,7 @@ pub returns-in-Ok-Some-clause-link : goal.returns-in-Ok-Some-clause-link
 returns-in-Ok-Some-clause-link g c = λ e. link_fault _ _ _ _ _ _ (command_read _ _ _ c.in-Ok-Some.field-0-is c.in-Ok-Some.ensures.reads) (c.run_command.ensures.link e)
 
 pub returns-in-Ok-None-clause-does : goal.returns-in-Ok-None-clause-does
-returns-in-Ok-None-clause-does g c = λ command is words built. absurd (command_none _ _ c.in-Ok-None.field-0-is c.in-Ok-None.ensures.reads command is words)
+returns-in-Ok-None-clause-does g c = λ command is words. absurd (command_none _ _ c.in-Ok-None.field-0-is c.in-Ok-None.ensures.reads command is words)
 
 pub returns-in-Ok-None-clause-headline : goal.returns-in-Ok-None-clause-headline
 returns-in-Ok-None-clause-headline g c = λ words ok. absurd (command_none _ _ c.in-Ok-None.field-0-is c.in-Ok-None.ensures.reads Replay tt words)
@@ -37,7 +37,7 @@ pub returns-in-Ok-None-clause-untouched : goal.returns-in-Ok-None-clause-untouch
 returns-in-Ok-None-clause-untouched g c = λ command is words. Untouched-same command _ _ _
 
 pub returns-in-Err-clause-does : goal.returns-in-Err-clause-does
-returns-in-Err-clause-does g c = λ command is words built. inl (refl, refl)
+returns-in-Err-clause-does g c = λ command is words. inl (refl, refl)
 
 pub returns-in-Err-clause-usage : goal.returns-in-Err-clause-usage
 returns-in-Err-clause-usage g c = λ unbuilt. (Says-nothing _, refl, refl, refl)
@@ -46,7 +46,7 @@ pub returns-in-Err-clause-untouched : goal.returns-in-Err-clause-untouched
 returns-in-Err-clause-untouched g c = λ command is words. Untouched-same command _ _ _
 
 pub returns-in-Ok-Some-clause-exact : goal.returns-in-Ok-Some-clause-exact
-returns-in-Ok-Some-clause-exact g c = λ e. words_unbuilt _ _ _ c.in-Ok-Some.field-0-is c.in-Ok-Some.ensures.one (c.run_command.ensures.exact e)
+returns-in-Ok-Some-clause-exact g c = λ e. absurd (c.run_command.ensures.used e)
 
 pub returns-in-Ok-None-clause-exact : goal.returns-in-Ok-None-clause-exact
-returns-in-Ok-None-clause-exact g c = λ e command is words built. command_none _ _ c.in-Ok-None.field-0-is c.in-Ok-None.ensures.reads command is words
+returns-in-Ok-None-clause-exact g c = λ e. command_none _ _ c.in-Ok-None.field-0-is c.in-Ok-None.ensures.reads

@@ -1,14 +1,12 @@
-use Rattle.std.proofs.Common.{◌≡◌, ◌∙◌, sym, inl, inr, refl, true, false}
+use Rattle.std.proofs.Common.{◌∙◌, sym, inl, inr, refl}
 use Rattle.tsp_cli.specs.Lines.{Replay, Show, Pack, Icmp}
+use Rattle.tsp_cli.proofs.AuditLemmas.{RunsAudit-treated}
 use Rattle.tsp_cli.proofs.RunLemmas.{Runs-treated, status_unlinked, status_used}
 use Rattle.tsp_cli.proofs.run.run_command.Goals as goal
 
 pub returns-in-Replay-clause-does : goal.returns-in-Replay-clause-does
-returns-in-Replay-clause-does g c = λ built. rw c.in-Replay.is
+returns-in-Replay-clause-does g c = rw c.in-Replay.is
     (Runs-treated Replay _ _ _ _ _ _ _ _ _ c.replay.result c.of.result c.of.ensures c.replay.ensures.comes c.replay.ensures.answers c.replay.ensures.keeps_up c.replay.ensures.complete (λ e. (c.replay.ensures.read e).0) c.replay.ensures.write c.replay.ensures.ended)
-
-pub returns-in-Replay-clause-usage : goal.returns-in-Replay-clause-usage
-returns-in-Replay-clause-usage g c = λ unbuilt. let bad : true ≡ false = rw c.in-Replay.is at unbuilt in absurd (cc)
 
 pub returns-in-Replay-clause-untouched : goal.returns-in-Replay-clause-untouched
 returns-in-Replay-clause-untouched g c = rw c.in-Replay.is (refl, refl)
@@ -17,11 +15,8 @@ pub returns-in-Replay-clause-link : goal.returns-in-Replay-clause-link
 returns-in-Replay-clause-link g c = λ e. absurd (status_unlinked c.replay.result (sym c.of.ensures ∙ e))
 
 pub returns-in-Show-clause-does : goal.returns-in-Show-clause-does
-returns-in-Show-clause-does g c = λ built. rw c.in-Show.is
+returns-in-Show-clause-does g c = rw c.in-Show.is
     (Runs-treated Show _ _ _ _ _ _ _ _ _ c.show.result c.of-in-Show.result c.of-in-Show.ensures c.show.ensures.comes c.show.ensures.answers c.show.ensures.keeps_up c.show.ensures.complete (λ e. (c.show.ensures.read e).0) c.show.ensures.write c.show.ensures.ended)
-
-pub returns-in-Show-clause-usage : goal.returns-in-Show-clause-usage
-returns-in-Show-clause-usage g c = λ unbuilt. let bad : true ≡ false = rw c.in-Show.is at unbuilt in absurd (cc)
 
 pub returns-in-Show-clause-untouched : goal.returns-in-Show-clause-untouched
 returns-in-Show-clause-untouched g c = rw c.in-Show.is (refl, refl)
@@ -30,11 +25,8 @@ pub returns-in-Show-clause-link : goal.returns-in-Show-clause-link
 returns-in-Show-clause-link g c = λ e. absurd (status_unlinked c.show.result (sym c.of-in-Show.ensures ∙ e))
 
 pub returns-in-Pack-clause-does : goal.returns-in-Pack-clause-does
-returns-in-Pack-clause-does g c = λ built. rw c.in-Pack.is
+returns-in-Pack-clause-does g c = rw c.in-Pack.is
     (Runs-treated Pack _ _ _ _ _ _ _ _ _ c.pack.result c.of-in-Pack.result c.of-in-Pack.ensures c.pack.ensures.comes c.pack.ensures.answers c.pack.ensures.keeps_up c.pack.ensures.complete (λ e. (c.pack.ensures.read e).0) c.pack.ensures.write c.pack.ensures.ended)
-
-pub returns-in-Pack-clause-usage : goal.returns-in-Pack-clause-usage
-returns-in-Pack-clause-usage g c = λ unbuilt. let bad : true ≡ false = rw c.in-Pack.is at unbuilt in absurd (cc)
 
 pub returns-in-Pack-clause-untouched : goal.returns-in-Pack-clause-untouched
 returns-in-Pack-clause-untouched g c = rw c.in-Pack.is (refl, refl)
@@ -43,11 +35,8 @@ pub returns-in-Pack-clause-link : goal.returns-in-Pack-clause-link
 returns-in-Pack-clause-link g c = λ e. absurd (status_unlinked c.pack.result (sym c.of-in-Pack.ensures ∙ e))
 
 pub returns-in-Icmp-clause-does : goal.returns-in-Icmp-clause-does
-returns-in-Icmp-clause-does g c = λ built. rw c.in-Icmp.is
+returns-in-Icmp-clause-does g c = rw c.in-Icmp.is
     (Runs-treated Icmp _ _ _ _ _ _ _ _ _ c.average.result c.of-in-Icmp.result c.of-in-Icmp.ensures c.average.ensures.comes c.average.ensures.answers c.average.ensures.keeps_up c.average.ensures.complete (λ e. (c.average.ensures.read e).0) c.average.ensures.write c.average.ensures.ended)
-
-pub returns-in-Icmp-clause-usage : goal.returns-in-Icmp-clause-usage
-returns-in-Icmp-clause-usage g c = λ unbuilt. let bad : true ≡ false = rw c.in-Icmp.is at unbuilt in absurd (cc)
 
 pub returns-in-Icmp-clause-untouched : goal.returns-in-Icmp-clause-untouched
 returns-in-Icmp-clause-untouched g c = rw c.in-Icmp.is (refl, refl)
@@ -59,19 +48,13 @@ pub run_daemon-requires : goal.run_daemon-requires
 run_daemon-requires g c = rw c.in-Serve.is at c.requires.command
 
 pub returns-in-Serve-clause-does : goal.returns-in-Serve-clause-does
-returns-in-Serve-clause-does g c = λ built. rw c.in-Serve.is c.run_daemon.ensures.runs
-
-pub returns-in-Serve-clause-usage : goal.returns-in-Serve-clause-usage
-returns-in-Serve-clause-usage g c = λ unbuilt. let bad : true ≡ false = rw c.in-Serve.is at unbuilt in absurd (cc)
+returns-in-Serve-clause-does g c = rw c.in-Serve.is c.run_daemon.ensures.runs
 
 pub returns-in-Serve-clause-untouched : goal.returns-in-Serve-clause-untouched
 returns-in-Serve-clause-untouched g c = rw c.in-Serve.is refl
 
 pub returns-in-Ask-clause-does : goal.returns-in-Ask-clause-does
-returns-in-Ask-clause-does g c = λ built. rw c.in-Ask.is c.run_query.ensures.runs
-
-pub returns-in-Ask-clause-usage : goal.returns-in-Ask-clause-usage
-returns-in-Ask-clause-usage g c = λ unbuilt. let bad : true ≡ false = rw c.in-Ask.is at unbuilt in absurd (cc)
+returns-in-Ask-clause-does g c = rw c.in-Ask.is c.run_query.ensures.runs
 
 pub returns-in-Ask-clause-untouched : goal.returns-in-Ask-clause-untouched
 returns-in-Ask-clause-untouched g c = rw c.in-Ask.is refl
@@ -80,46 +63,38 @@ pub returns-in-Ask-clause-link : goal.returns-in-Ask-clause-link
 returns-in-Ask-clause-link g c = λ e. elim (c.run_query.ensures.link e) [ inl r ↦ inl r | inr r ↦ inr (rw c.in-Ask.is tt, r) ]
 
 pub returns-in-Audit-clause-does : goal.returns-in-Audit-clause-does
-returns-in-Audit-clause-does g c = λ built. let bad : false ≡ true = rw c.in-Audit.is at built in absurd (cc)
+returns-in-Audit-clause-does g c = rw c.in-Audit.is
+    (RunsAudit-treated _ _ _ _ _ _ _ _ _ c.check.result c.of-in-Audit.result c.of-in-Audit.ensures c.check.ensures.comes c.check.ensures.answers c.check.ensures.complete c.check.ensures.gathered (λ e. (c.check.ensures.read e).0) c.check.ensures.write c.check.ensures.ended)
+
+pub returns-in-Audit-clause-link : goal.returns-in-Audit-clause-link
+returns-in-Audit-clause-link g c = λ e. absurd (status_unlinked c.check.result (sym c.of-in-Audit.ensures ∙ e))
 
 pub returns-in-Audit-clause-untouched : goal.returns-in-Audit-clause-untouched
 returns-in-Audit-clause-untouched g c = rw c.in-Audit.is (refl, refl)
 
-pub returns-in-Replay-clause-exact : goal.returns-in-Replay-clause-exact
-returns-in-Replay-clause-exact g c = λ e. absurd (status_used c.replay.result (sym c.of.ensures ∙ e))
+pub returns-in-Replay-clause-used : goal.returns-in-Replay-clause-used
+returns-in-Replay-clause-used g c = λ e. status_used c.replay.result (sym c.of.ensures ∙ e)
 
-pub returns-in-Show-clause-exact : goal.returns-in-Show-clause-exact
-returns-in-Show-clause-exact g c = λ e. absurd (status_used c.show.result (sym c.of-in-Show.ensures ∙ e))
+pub returns-in-Show-clause-used : goal.returns-in-Show-clause-used
+returns-in-Show-clause-used g c = λ e. status_used c.show.result (sym c.of-in-Show.ensures ∙ e)
 
-pub returns-in-Pack-clause-exact : goal.returns-in-Pack-clause-exact
-returns-in-Pack-clause-exact g c = λ e. absurd (status_used c.pack.result (sym c.of-in-Pack.ensures ∙ e))
+pub returns-in-Pack-clause-used : goal.returns-in-Pack-clause-used
+returns-in-Pack-clause-used g c = λ e. status_used c.pack.result (sym c.of-in-Pack.ensures ∙ e)
 
-pub returns-in-Icmp-clause-exact : goal.returns-in-Icmp-clause-exact
-returns-in-Icmp-clause-exact g c = λ e. absurd (status_used c.average.result (sym c.of-in-Icmp.ensures ∙ e))
+pub returns-in-Icmp-clause-used : goal.returns-in-Icmp-clause-used
+returns-in-Icmp-clause-used g c = λ e. status_used c.average.result (sym c.of-in-Icmp.ensures ∙ e)
 
-pub returns-in-Serve-clause-exact : goal.returns-in-Serve-clause-exact
-returns-in-Serve-clause-exact g c = λ e. absurd (c.run_daemon.ensures.used e)
-
-pub returns-in-Ask-clause-exact : goal.returns-in-Ask-clause-exact
-returns-in-Ask-clause-exact g c = λ e. absurd (c.run_query.ensures.used e)
-
-pub returns-in-Audit-clause-exact : goal.returns-in-Audit-clause-exact
-returns-in-Audit-clause-exact g c = λ e. rw c.in-Audit.is refl
+pub returns-in-Audit-clause-used : goal.returns-in-Audit-clause-used
+returns-in-Audit-clause-used g c = λ e. status_used c.check.result (sym c.of-in-Audit.ensures ∙ e)
 
 pub run_storm-requires : goal.run_storm-requires
 run_storm-requires g c = rw c.in-Storm.is at c.requires.command
 
 pub returns-in-Storm-clause-does : goal.returns-in-Storm-clause-does
-returns-in-Storm-clause-does g c = λ built. rw c.in-Storm.is c.run_storm.ensures.runs
-
-pub returns-in-Storm-clause-usage : goal.returns-in-Storm-clause-usage
-returns-in-Storm-clause-usage g c = λ unbuilt. let bad : true ≡ false = rw c.in-Storm.is at unbuilt in absurd (cc)
+returns-in-Storm-clause-does g c = rw c.in-Storm.is c.run_storm.ensures.runs
 
 pub returns-in-Storm-clause-untouched : goal.returns-in-Storm-clause-untouched
 returns-in-Storm-clause-untouched g c = rw c.in-Storm.is (refl, refl, refl)
-
-pub returns-in-Storm-clause-exact : goal.returns-in-Storm-clause-exact
-returns-in-Storm-clause-exact g c = λ e. absurd (c.run_storm.ensures.used e)
 
 pub returns-in-Storm-clause-link : goal.returns-in-Storm-clause-link
 returns-in-Storm-clause-link g c = λ e. absurd (c.run_storm.ensures.unlinked e)
