@@ -258,9 +258,9 @@ fn dates_and_storms_run(rt: HostRuntime) {
     }
 }
 
-/// Words that ask for what isn't built are no command's, and nothing is touched.
+/// Other words are no command's, and nothing is touched.
 #[test]
 fn other_words_are_refused(rt: HostRuntime) {
-    let row = question(&["audit"], &[], Status::Usage, "usage\n", 0, 3);
+    let row = question(&["audits"], &[], Status::Usage, "usage\n", 0, 3);
     assert!(rt; is_right(rt.alloc(), &row) == Ok(true), "{}", row.text);
 }
