@@ -92,6 +92,30 @@ const MEASURED: [(&str, &str, Answer); 16] = [
     ),
 ];
 
+/// The slave's reading is sampled, and no other comes before the round closes.
+const PROBED: [(&str, &str, Answer); 4] = [
+    (
+        "at 630000801 take 10",
+        "17 0 0 630000801 took 1 reply 10 0 0 629999900\n17 0 0 630000801 sample 1 0 -500 401 10",
+        HOLDS,
+    ),
+    (
+        "at 631000000 turn 0",
+        "18 0 0 631000000 ring probe\n18 0 0 631000000 post 11 1 request 0 1\n18 0 0 631000000 arm probe 632000000",
+        HOLDS,
+    ),
+    (
+        "at 632000000 turn 0",
+        "19 0 0 632000000 ring probe\n19 0 0 632000000 post 12 1 request 0 2\n19 0 0 632000000 arm probe 633000000",
+        HOLDS,
+    ),
+    (
+        "at 633000000 turn 0",
+        "20 0 0 633000000 ring probe\n20 0 0 633000000 post 13 1 request 0 3",
+        HOLDS,
+    ),
+];
+
 /// A follower corrects its clock again, one tick too soon; the failure stays, and what comes after it is still fitted.
 #[test]
 fn corrects_too_soon(rt: HostRuntime) -> Result<(), Fail> {
@@ -207,27 +231,8 @@ fn corrects_wildly(rt: HostRuntime) -> Result<(), Fail> {
     let clocks = [(0, 0), (0, 10_000)];
     let mut audit = audit_of(rt.alloc(), 100, &clocks, true).ok_or("no audit")?;
     assert_eq!(rt; first_wrong(&mut audit, rt.alloc(), &MEASURED), None);
+    assert_eq!(rt; first_wrong(&mut audit, rt.alloc(), &PROBED), None);
     let rows = [
-        (
-            "at 630000801 take 10",
-            "17 0 0 630000801 took 1 reply 10 0 0 629999900\n17 0 0 630000801 sample 1 0 -500 401 10",
-            HOLDS,
-        ),
-        (
-            "at 631000000 turn 0",
-            "18 0 0 631000000 ring probe\n18 0 0 631000000 post 11 1 request 0 1\n18 0 0 631000000 arm probe 632000000",
-            HOLDS,
-        ),
-        (
-            "at 632000000 turn 0",
-            "19 0 0 632000000 ring probe\n19 0 0 632000000 post 12 1 request 0 2\n19 0 0 632000000 arm probe 633000000",
-            HOLDS,
-        ),
-        (
-            "at 633000000 turn 0",
-            "20 0 0 633000000 ring probe\n20 0 0 633000000 post 13 1 request 0 3",
-            HOLDS,
-        ),
         (
             "at 638000000 turn 0",
             "21 0 0 638000000 ring close\n21 0 0 638000000 close 2 -500 500 -250\n21 0 0 638000000 correct -250 slew 638000000\n21 0 0 638000000 post 14 1 adjtime 10 1000000 a",
@@ -247,5 +252,51 @@ fn corrects_wildly(rt: HostRuntime) -> Result<(), Fail> {
             event: 22
         })
     );
+    Ok(())
+}
+
+/// The master sends the correction that its round gave, and the slave's clock agrees with it from then on.
+#[test]
+fn corrects_as_measured(rt: HostRuntime) -> Result<(), Fail> {
+    let clocks = [(0, 0), (0, 10_000)];
+    let mut audit = audit_of(rt.alloc(), 100, &clocks, true).ok_or("no audit")?;
+    assert_eq!(rt; first_wrong(&mut audit, rt.alloc(), &MEASURED), None);
+    assert_eq!(rt; first_wrong(&mut audit, rt.alloc(), &PROBED), None);
+    let rows = [
+        (
+            "at 638000000 turn 0",
+            "21 0 0 638000000 ring close\n21 0 0 638000000 close 2 -500 500 -250\n21 0 0 638000000 correct -250 slew 638000000\n21 0 0 638000000 post 14 1 adjtime 10 250 a",
+            HOLDS,
+        ),
+        (
+            "at 638000400 take 14",
+            "22 1 0 638000400 took 0 adjtime 10 250 a\n22 1 0 638000400 correct 250 slew 638000000\n22 1 0 638000400 arm elect 938000409\n22 1 0 638000400 post 15 0 ack 10 b",
+            HOLDS,
+        ),
+    ];
+    assert_eq!(rt; first_wrong(&mut audit, rt.alloc(), &rows), None);
+    assert_eq!(rt; audit.failure(), None);
+    Ok(())
+}
+
+/// A node that nobody elected sends a correction.
+#[test]
+fn corrects_unelected(rt: HostRuntime) -> Result<(), Fail> {
+    let clocks = [(0, 0), (0, 0)];
+    let mut audit = audit_of(rt.alloc(), 0, &clocks, true).ok_or("no audit")?;
+    let rows = [
+        (
+            "at 0 boot 0 7",
+            "1 0 0 0 boot\n1 0 0 0 become starting\n1 0 0 0 arm quiet 80000000",
+            HOLDS,
+        ),
+        (
+            "at 80000000 turn 0",
+            "2 0 0 80000000 ring quiet\n2 0 0 80000000 become loose\n2 0 0 80000000 post 0 1 adjtime 7 1 a",
+            Says(Verdict::Fails(13)),
+        ),
+    ];
+    assert_eq!(rt; first_wrong(&mut audit, rt.alloc(), &rows), None);
+    assert_eq!(rt; audit.failure(), Some(Failure { part: 13, event: 2 }));
     Ok(())
 }
