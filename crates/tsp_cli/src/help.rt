@@ -10,7 +10,7 @@ tsp: the time synchronization protocol, as a replay, a daemon and questions to o
     tsp show       reads lines of hexadecimal, writes each datagram as a message line
     tsp pack       reads message lines, writes each datagram as a line of hexadecimal
     tsp icmp       reads exchanges of ICMP Timestamp messages, writes offsets and corrections
-    tsp audit      reads a schedule and the trace that is claimed of it, writes whether that keeps the promises
+    tsp audit      reads a schedule and the trace that is claimed of it, writes whether that keeps five promises
     tsp serve LOCAL NAME FLAG TURNS PEER..
                    runs a daemon at the address LOCAL for so many turns: FLAG is m where it may be
                    master, x where it may by a majority of its peers, and s where it may not; a word + among
