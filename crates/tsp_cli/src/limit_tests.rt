@@ -1,16 +1,11 @@
 //! Runs of the program over memory at the limits, whose answers were worked out by hand.
 use crate::status::Status;
-use crate::tests::run_lines;
+use crate::tests::replayed;
 use std::alloc::{AllocError, Global};
-use tsp_io::memory::{MemorySink, MemorySource};
 
 /// Whether a replay of this input ends with this status, and what it writes with these words.
 fn ends(alloc: Global, input: &[u8], status: Status, last: &str) -> Result<bool, AllocError> {
-    let mut words = Vec::new(alloc);
-    words.push(String::from_str(alloc, "replay")?)?;
-    let mut source = MemorySource::new(alloc, input, &[])?;
-    let mut sink = MemorySink::new(alloc, &[])?;
-    let got = run_lines(alloc, words.as_slice(), &mut source, &mut sink)?;
+    let (got, sink) = replayed(alloc, input)?;
     Ok(got == status && sink.written().ends_with(last.as_bytes()))
 }
 

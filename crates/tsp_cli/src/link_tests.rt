@@ -1,6 +1,7 @@
 //! Runs of the program over a link and a ticker in memory: daemons, and questions to one.
 use crate::run::run;
 use crate::status::Status;
+use crate::tests::words_of;
 use std::alloc::{AllocError, Global};
 use std::process::Abort;
 use tsp_base::place::{PeerId, Place};
@@ -83,10 +84,7 @@ fn is_sent(link: &MemoryLink, tried: usize, comes: &[u8]) -> bool {
 
 /// Whether the run comes to what the row says; the source, whose first read would fail, isn't read.
 fn is_right(alloc: Global, row: &Row) -> Result<bool, AllocError> {
-    let mut words = Vec::new(alloc);
-    for word in row.words {
-        words.push(String::from_str(alloc, word)?)?;
-    }
+    let words = words_of(alloc, row.words)?;
     let mut source = MemorySource::new(alloc, b"", &[0])?;
     let mut sink = MemorySink::new(alloc, row.writes)?;
     let mut link = MemoryLink::new(alloc, row.calls)?;

@@ -1,8 +1,7 @@
 //! Replays of schedules with networks, whose traces and refusals were worked out by hand.
 use crate::status::Status;
-use crate::tests::run_lines;
+use crate::tests::replayed;
 use std::alloc::{AllocError, Global};
-use tsp_io::memory::{MemorySink, MemorySource};
 
 /// A node that joins two networks, follows on both and is corrected on the lower port alone; the last event is on
 /// a port that it lacks.
@@ -56,11 +55,7 @@ bad 14 no-node 0 3
 
 /// Whether a replay of this input ends with this status and writes this.
 fn ends(alloc: Global, input: &str, status: Status, written: &str) -> Result<bool, AllocError> {
-    let mut words = Vec::new(alloc);
-    words.push(String::from_str(alloc, "replay")?)?;
-    let mut source = MemorySource::new(alloc, input.as_bytes(), &[])?;
-    let mut sink = MemorySink::new(alloc, &[])?;
-    let got = run_lines(alloc, words.as_slice(), &mut source, &mut sink)?;
+    let (got, sink) = replayed(alloc, input.as_bytes())?;
     Ok(got == status && sink.written() == written.as_bytes())
 }
 

@@ -2,6 +2,7 @@
 //! hand.
 use crate::run::run;
 use crate::status::Status;
+use crate::tests::words_of;
 use std::alloc::{AllocError, Global};
 use std::process::Abort;
 use tsp_base::place::{PeerId, Place};
@@ -118,15 +119,6 @@ fn has_sent(link: &MemoryLink, sent: &[(Place, &[u8])]) -> bool {
         }
     }
     link.tried() == sent.len()
-}
-
-/// The words as the program gets them.
-fn words_of(alloc: Global, texts: &[&str]) -> Result<Vec<String>, AllocError> {
-    let mut words = Vec::new(alloc);
-    for text in texts {
-        words.push(String::from_str(alloc, text)?)?;
-    }
-    Ok(words)
 }
 
 /// Whether a daemon of these words ends with this status, has shown and sent this, and has used up its ticks.

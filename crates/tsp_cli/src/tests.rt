@@ -135,7 +135,7 @@ struct Row {
 }
 
 /// A run of a command that reads lines: its link and its ticker aren't touched.
-pub(crate) fn run_lines<S: Source>(
+fn run_lines<S: Source>(
     alloc: Global,
     words: &[String],
     source: &mut S,
@@ -149,12 +149,27 @@ pub(crate) fn run_lines<S: Source>(
     Ok(status)
 }
 
+/// The words as the program gets them.
+pub(crate) fn words_of(alloc: Global, texts: &[&str]) -> Result<Vec<String>, AllocError> {
+    let mut words = Vec::new(alloc);
+    for text in texts {
+        words.push(String::from_str(alloc, text)?)?;
+    }
+    Ok(words)
+}
+
+/// How a replay of this input ends, and what it writes.
+pub(crate) fn replayed(alloc: Global, input: &[u8]) -> Result<(Status, MemorySink), AllocError> {
+    let words = words_of(alloc, &["replay"])?;
+    let mut source = MemorySource::new(alloc, input, &[])?;
+    let mut sink = MemorySink::new(alloc, &[])?;
+    let status = run_lines(alloc, words.as_slice(), &mut source, &mut sink)?;
+    Ok((status, sink))
+}
+
 /// Whether the run comes to what the row says.
 fn comes(alloc: Global, row: &Row) -> Result<bool, AllocError> {
-    let mut words = Vec::new(alloc);
-    for word in row.words {
-        words.push(String::from_str(alloc, word)?)?;
-    }
+    let words = words_of(alloc, row.words)?;
     let mut source = MemorySource::new(alloc, row.input.as_bytes(), row.reads)?;
     let mut sink = MemorySink::new(alloc, row.writes)?;
     let status = run_lines(alloc, words.as_slice(), &mut source, &mut sink)?;
@@ -286,8 +301,7 @@ fn other_runs_end(rt: HostRuntime) {
 #[test]
 fn a_failed_read_ends_the_replay(rt: HostRuntime) -> Result<(), AllocError> {
     let alloc = rt.alloc();
-    let mut words = Vec::new(alloc);
-    words.push(String::from_str(alloc, "replay")?)?;
+    let words = words_of(alloc, &["replay"])?;
     let mut source = MemorySource::new(alloc, ANSWERS.as_bytes(), &[1])?.in_pieces(66);
     let mut sink = MemorySink::new(alloc, &[])?;
     let status = run_lines(alloc, words.as_slice(), &mut source, &mut sink)?;
@@ -312,11 +326,7 @@ fn long_lines_are_refused(rt: HostRuntime) -> Result<(), AllocError> {
             input.push('a')?;
         }
         input.push('\n')?;
-        let mut words = Vec::new(alloc);
-        words.push(String::from_str(alloc, "replay")?)?;
-        let mut source = MemorySource::new(alloc, input.as_bytes(), &[])?;
-        let mut sink = MemorySink::new(alloc, &[])?;
-        let status = run_lines(alloc, words.as_slice(), &mut source, &mut sink)?;
+        let (status, sink) = replayed(alloc, input.as_bytes())?;
         assert!(rt; status == Status::Bad && sink.written() == written.as_bytes());
     }
     Ok(())
