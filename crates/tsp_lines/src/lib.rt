@@ -9,8 +9,6 @@ mod buffer;
 pub mod cause;
 mod gather;
 mod gathered;
-#[cfg(test)]
-mod gathered_tests;
 pub mod laws;
 pub mod limits;
 pub mod next;
@@ -18,8 +16,6 @@ pub mod output;
 mod progress;
 pub mod reader;
 pub mod refusal;
-#[cfg(test)]
-mod tests;
 pub mod treat;
 pub mod treat_gathered;
 pub mod treatment;

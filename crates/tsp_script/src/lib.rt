@@ -8,8 +8,6 @@
 pub mod act_laws;
 mod act_parts;
 pub mod act_reader;
-#[cfg(test)]
-mod act_tests;
 mod act_words;
 pub mod acts;
 pub mod event_line;
@@ -21,11 +19,7 @@ pub mod messages;
 pub mod names;
 mod net_line;
 pub mod numbers;
-#[cfg(test)]
-mod schedule_tests;
 pub mod storm;
-#[cfg(test)]
-mod tests;
 pub mod trace;
 mod verbs;
 pub mod words;

@@ -10,5 +10,3 @@ pub mod ports;
 pub mod query;
 pub mod serve;
 pub mod storm;
-#[cfg(test)]
-mod tests;

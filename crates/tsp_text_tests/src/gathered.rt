@@ -1,11 +1,11 @@
 //! What no clause says of inputs that are read whole: that the outcomes come.
 
-use crate::tests::Echo;
-use crate::treat::Outcome;
-use crate::treat_gathered::treat_gathered;
+use crate::lines::Echo;
 use std::alloc::AllocError;
 use tsp_io::memory::{MemorySink, MemorySource};
 use tsp_io::source::{Got, Source};
+use tsp_lines::treat::Outcome;
+use tsp_lines::treat_gathered::treat_gathered;
 
 /// A line is refused once the input was read to its end.
 #[test]

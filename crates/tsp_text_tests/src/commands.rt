@@ -1,10 +1,10 @@
 //! Words that are commands, and words that are none.
-use crate::command::{Command, command_of};
-use crate::query::Query;
-use crate::serve::Candidacy;
 use std::alloc::{AllocError, Global};
 use tsp_base::micros::Micros;
 use tsp_io::addr::Addr;
+use tsp_words::command::{Command, command_of};
+use tsp_words::query::Query;
+use tsp_words::serve::Candidacy;
 
 /// What some words ask for.
 fn read(alloc: Global, words: &[&str]) -> Result<Option<Command>, AllocError> {

@@ -1,14 +1,14 @@
 //! What no clause says: that the outcomes come.
 ghost use Rattle.std.specs.Prelude.{◌≡◌, ◌≤◌, length};
 
-use crate::cause::Cause;
-use crate::output::Output;
-use crate::treat::{Outcome, treat_all};
-use crate::treatment::{Stop, Treatment};
 use arrayvec::ArrayVec;
 use std::alloc::{AllocError, Global};
 use tsp_io::memory::{MemorySink, MemorySource};
 use tsp_io::sink::Sink;
+use tsp_lines::cause::Cause;
+use tsp_lines::output::Output;
+use tsp_lines::treat::{Outcome, treat_all};
+use tsp_lines::treatment::{Stop, Treatment};
 
 /// Gives up to three lines back; refuses the line `!`, a long line and an empty input, and passes a limit at `#`.
 #[derive(Drop)]

@@ -1,14 +1,14 @@
 //! Lines of schedules: what they say, and that no other spelling is read; and the longest lines.
 
-use crate::event_line::{EventItem, event_line};
-use crate::head_line::{HeadItem, head_line};
-use crate::message_reader::message_of;
-use crate::messages::message_text;
-use crate::trace::{Line2, act_text};
 use arrayvec::ArrayVec;
 use tsp_base::act::{Act, Placed};
 use tsp_base::event::Event;
 use tsp_base::place::{PeerId, Place, Port};
+use tsp_script::event_line::{EventItem, event_line};
+use tsp_script::head_line::{HeadItem, head_line};
+use tsp_script::message_reader::message_of;
+use tsp_script::messages::message_text;
+use tsp_script::trace::{Line2, act_text};
 
 /// The lines of a schedule, and lines that differ from one in one point.
 #[test]

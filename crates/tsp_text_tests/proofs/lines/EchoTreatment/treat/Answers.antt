@@ -1,7 +1,7 @@
 use Rattle.std.proofs.Common.{◌≤◌, [], inl, refl, length}
 use Rattle.tsp_lines.specs.Meanings.{Meaning}
 use Rattle.tsp_lines.proofs.Stops.{MatchResult-line}
-use Rattle.tsp_lines.proofs.tests.EchoTreatment.treat.Goals as goal
+use Rattle.tsp_text_tests.proofs.lines.EchoTreatment.treat.Goals as goal
 
 pub returns-in_err-put-in_default-clause-treats : goal.returns-in_err-put-in_default-clause-treats
 returns-in_err-put-in_default-clause-treats g c = λ lines text s a room.

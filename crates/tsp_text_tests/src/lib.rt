@@ -1,0 +1,17 @@
+//! Tests of the texts, of the treatment of lines, and of the words of the command line.
+//!
+//! They stand apart from the crates that they try, so that each of those is proved once.
+#![tactic(auto)]
+
+#[cfg(test)]
+mod acts;
+#[cfg(test)]
+mod commands;
+#[cfg(test)]
+mod gathered;
+#[cfg(test)]
+mod lines;
+#[cfg(test)]
+mod messages;
+#[cfg(test)]
+mod schedules;
