@@ -13,7 +13,7 @@ use Rattle.tsp_base.specs.Performs.{Performs}
 use Rattle.tsp_base.specs.Rows.{Row, for_each}
 use Rattle.tsp_base.proofs.PerformsLemmas.{Performs_then, Performs_nothing}
 use Rattle.tsp_sends.specs.Slots.{IsAscending}
-use Rattle.tsp_sends.specs.Treating.{IsAfter}
+use Rattle.tsp_sends.specs.Repeating.{IsAfter}
 
 -- whether a peer comes after this one
 abbrev pub is_after : Option PeerId → PeerId → Bool

@@ -1,4 +1,4 @@
--- What the treatment of a due send makes of a station.
+-- What the repeating of a due send makes of a station.
 use Rattle.std.specs.Prelude.{◌≡◌, ℕ, ◌<◌, ◌+◌, ◌%◌, ◌==◌, ◌&&◌, Bool, true, false, if◌then◌else◌, List, [], ◌∷◌, ◌++◌, Option, Some, None, refl}
 use Rattle.std.specs.List.{Contains}
 use Rattle.std.proofs.Common.{sym, ◌∙◌, ap, arith, eqb-true}
@@ -19,12 +19,12 @@ use Rattle.tsp_base.specs.Rows.{grown, nothing, puts}
 use Rattle.tsp_base.specs.SendFacts.{again, begun, has_own_number, is_given_up, is_numbered, message_at, message_of, open_send, open_to, open_to_after, posts_of, Sending, sending_at, sending_of}
 use Rattle.tsp_base.proofs.PerformsLemmas.{Performs_else_part, Performs_nothing, Performs_reading, Performs_then_part}
 use Rattle.tsp_base.proofs.SendLemmas.{seen_act, open_send-gave, open_send-repeats}
-use Rattle.tsp_rules.specs.SendRows.{bare_send, is_send_due, is_spent, open_at, repeats, treats_bare_send}
+use Rattle.tsp_rules.specs.SendRows.{bare_send, is_send_due, is_spent, open_at, repeats, repeats_bare_send}
 use Rattle.tsp_sends.specs.declared.due.Due.{Due}
 use Rattle.tsp_sends.specs.declared.due.Due.TheVariants.{Again, Gave}
 use Rattle.tsp_sends.specs.declared.slot.Slot.{Slot}
 use Rattle.tsp_sends.specs.Slots.{peers_of, sending_to, SetsOnly}
-use Rattle.tsp_sends.specs.Treating.{IsAfter, is_due_send, peer_of, treated, TreatsNext}
+use Rattle.tsp_sends.specs.Repeating.{IsAfter, is_due_send, peer_of, repeated, RepeatsNext}
 use Rattle.tsp_sends.proofs.SlotLemmas.{sending_to-found}
 use Rattle.tsp_acks.specs.declared.station.Station.{Station}
 use Rattle.tsp_acks.specs.Changes.{ChangesSends}
@@ -133,8 +133,8 @@ abbrev pub act_of : Due → Act
 act_of (Again p m) = Post (Peer p) (Message m)
 act_of (Gave p k) = GaveAct p
 
-peer_of-treated : (p : PeerId) (x : ℕ) (s : Sending) → peer_of (treated p x s) ≡ p
-peer_of-treated p x s = by_test (is_given_up s x) where
+peer_of-repeated : (p : PeerId) (x : ℕ) (s : Sending) → peer_of (repeated p x s) ≡ p
+peer_of-repeated p x s = by_test (is_given_up s x) where
   by_test : (b : Bool) → peer_of (if b then Gave p s.message.kind else Again p s.message) ≡ p
   by_test true = refl
   by_test false = refl
@@ -146,17 +146,17 @@ has_slot slots p s e =
     (w.0, omega (arith, w.1, length-map slots (λ (t : Slot). t.peer)), get_or-map (λ (t : Slot). t.peer) slots w.0 d p w.1 ∙ ap (λ n. record { 0 = n }) (w.2 d).0)
 
 -- the next due send is to one of the peers
-pub next_peer : (after : Option PeerId) (x : ℕ) (slots new : List Slot) (due : Due) (peers : List PeerId) → TreatsNext after x slots new (Some due) → peers_of slots ≡ peers → Contains peers (peer_of due) × IsAfter after (peer_of due)
+pub next_peer : (after : Option PeerId) (x : ℕ) (slots new : List Slot) (due : Due) (peers : List PeerId) → RepeatsNext after x slots new (Some due) → peers_of slots ≡ peers → Contains peers (peer_of due) × IsAfter after (peer_of due)
 next_peer after x slots new due peers t slots_are =
-    let is : peer_of due ≡ t.0 = ap peer_of t.3 ∙ peer_of-treated t.0 x t.1 in
+    let is : peer_of due ≡ t.0 = ap peer_of t.3 ∙ peer_of-repeated t.0 x t.1 in
     rw (is, ← slots_are) (has_slot slots t.0 t.1 t.2.sending, t.2.later)
 
 -- a due send is given up
 gives_row : (p : PeerId) (s : Sending) (x : ℕ) (port : Port) (before after : Station) (old new : List Placed) → sending_to before.sends p ≡ Some s → is_due_send x (Some s) ≡ true → is_given_up s x ≡ true → ChangesSends before after → after.begun ≡ before.begun
     → SetsOnly p None before.sends after.sends → new ≡ old ++ record { port = port; act = GaveAct p } ∷ [] → Performs StandsStill StandsStill (bare_send p) x port (before, tt) (after, tt) old new
-unfolding bare_send treats_bare_send puts
+unfolding bare_send repeats_bare_send puts
 gives_row p s x port before after old new is due spent t count only put =
-    Performs_reading (open_at p) (treats_bare_send p) (Some s) (λ past h. sym (h.first.sends p) ∙ is)
+    Performs_reading (open_at p) (repeats_bare_send p) (Some s) (λ past h. sym (h.first.sends p) ∙ is)
     (Performs_then_part (is_send_due s) nothing (λ past h. due)
     (Performs_then_part (is_spent s) (repeats p s.message) (λ past h. spent)
     (record { acts = λ past h. put; stands = λ past h. StandsStill_gave p x past before after t count only h })))
@@ -165,19 +165,19 @@ gives_row p s x port before after old new is due spent t count only put =
 repeats_row : (p : PeerId) (s : Sending) (x : ℕ) (port : Port) (before after : Station) (old new : List Placed) → sending_to before.sends p ≡ Some s → is_due_send x (Some s) ≡ true → is_given_up s x ≡ false → ChangesSends before after → after.begun ≡ before.begun
     → SetsOnly p (Some (record s { posts = s.posts + 1 })) before.sends after.sends → new ≡ old ++ record { port = port; act = Post (Peer p) (Message s.message) } ∷ []
     → Performs StandsStill StandsStill (bare_send p) x port (before, tt) (after, tt) old new
-unfolding bare_send treats_bare_send repeats puts
+unfolding bare_send repeats_bare_send repeats puts
 repeats_row p s x port before after old new is due fresh t count only put =
-    Performs_reading (open_at p) (treats_bare_send p) (Some s) (λ past h. sym (h.first.sends p) ∙ is)
+    Performs_reading (open_at p) (repeats_bare_send p) (Some s) (λ past h. sym (h.first.sends p) ∙ is)
     (Performs_then_part (is_send_due s) nothing (λ past h. due)
     (Performs_else_part (is_spent s) (puts (GaveAct p)) (λ past h. fresh)
     (record { acts = λ past h. put; stands = λ past h. StandsStill_repeats p s x past before after is t count only h })))
 
--- the next due send is treated as the row of its peer says
-pub Performs_due : (last : Option PeerId) (x : ℕ) (port : Port) (due : Due) (before after : Station) (old new : List Placed) → TreatsNext last x before.sends after.sends (Some due) → ChangesSends before after → after.begun ≡ before.begun
+-- the next due send is repeated as the row of its peer says
+pub Performs_due : (last : Option PeerId) (x : ℕ) (port : Port) (due : Due) (before after : Station) (old new : List Placed) → RepeatsNext last x before.sends after.sends (Some due) → ChangesSends before after → after.begun ≡ before.begun
     → new ≡ old ++ record { port = port; act = act_of due } ∷ [] → Performs StandsStill StandsStill (bare_send (peer_of due)) x port (before, tt) (after, tt) old new
 Performs_due last x port due before after old new t rest count put = rw is (by_test (is_given_up t.1 x) refl t.3 t.4) where
   is : peer_of due ≡ t.0
-  is = ap peer_of t.3 ∙ peer_of-treated t.0 x t.1
+  is = ap peer_of t.3 ∙ peer_of-repeated t.0 x t.1
 
   by_test : (b : Bool) → is_given_up t.1 x ≡ b → due ≡ (if b then Gave t.0 t.1.message.kind else Again t.0 t.1.message)
       → SetsOnly t.0 (if b then None else Some (record t.1 { posts = t.1.posts + 1 })) before.sends after.sends → Performs StandsStill StandsStill (bare_send t.0) x port (before, tt) (after, tt) old new
@@ -185,15 +185,15 @@ Performs_due last x port due before after old new t rest count put = rw is (by_t
   by_test false b e only = repeats_row t.0 t.1 x port before after old new t.2.sending t.2.due b rest count only (put ∙ ap (λ d. old ++ record { port = port; act = act_of d } ∷ []) e)
 
 -- no peer before the next one with a due send has one, and none has where there is no next one
-pub none_before : (after : Option PeerId) (x : ℕ) (slots new : List Slot) (due : Due) → TreatsNext after x slots new (Some due) → (q : PeerId) → IsAfter after q → q.0 < (peer_of due).0 → is_due_send x (sending_to slots q) ≡ false
+pub none_before : (after : Option PeerId) (x : ℕ) (slots new : List Slot) (due : Due) → RepeatsNext after x slots new (Some due) → (q : PeerId) → IsAfter after q → q.0 < (peer_of due).0 → is_due_send x (sending_to slots q) ≡ false
 none_before after x slots new due t q later below =
-    let is : peer_of due ≡ t.0 = ap peer_of t.3 ∙ peer_of-treated t.0 x t.1 in
+    let is : peer_of due ≡ t.0 = ap peer_of t.3 ∙ peer_of-repeated t.0 x t.1 in
     t.2.first q later (rw (← is) below)
 
 -- nothing is done for a send that isn't due
 pub Performs_not_due : (p : PeerId) (x : ℕ) (port : Port) (station : Station) (old : List Placed) → is_due_send x (sending_to station.sends p) ≡ false → Performs StandsStill StandsStill (bare_send p) x port (station, tt) (station, tt) old old
-unfolding bare_send treats_bare_send
-Performs_not_due p x port station old late = Performs_reading (open_at p) (treats_bare_send p) (sending_to station.sends p) (λ past h. sym (h.first.sends p)) (by_send (sending_to station.sends p) late) where
-  by_send : (o : Option Sending) → is_due_send x o ≡ false → Performs StandsStill StandsStill (treats_bare_send p o) x port (station, tt) (station, tt) old old
+unfolding bare_send repeats_bare_send
+Performs_not_due p x port station old late = Performs_reading (open_at p) (repeats_bare_send p) (sending_to station.sends p) (λ past h. sym (h.first.sends p)) (by_send (sending_to station.sends p) late) where
+  by_send : (o : Option Sending) → is_due_send x o ≡ false → Performs StandsStill StandsStill (repeats_bare_send p o) x port (station, tt) (station, tt) old old
   by_send None e = Performs_nothing
   by_send (Some s) e = Performs_else_part (is_send_due s) _ (λ past h. e) Performs_nothing

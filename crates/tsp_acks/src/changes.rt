@@ -8,7 +8,7 @@ ghost use Rattle.tsp_base.specs.Frames.{IsTick, PutsExactly};
 ghost use Rattle.tsp_base.specs.Performs.{Performs};
 ghost use Rattle.tsp_base.specs.Rows.{puts, arms};
 ghost use Rattle.tsp_rules.specs.CommonRows.{arms_elect};
-ghost use Rattle.tsp_rules.specs.Tests.{delay};
+ghost use Rattle.tsp_rules.specs.Guards.{delay};
 ghost use Rattle.tsp_sends.specs.Slots.{sending_to};
 ghost use Rattle.tsp_acks.specs.Peers.{follows_among};
 

@@ -4,7 +4,7 @@ ghost use Rattle.std.specs.List.{Contains};
 ghost use Rattle.tsp_base.specs.Frames.{IsTick, PutsExactly};
 ghost use Rattle.tsp_base.specs.Performs.{Performs};
 ghost use Rattle.tsp_rules.specs.SendRows.{bare_send};
-ghost use Rattle.tsp_sends.specs.Treating.{IsAfter, TreatsNext, peer_of};
+ghost use Rattle.tsp_sends.specs.Repeating.{IsAfter, RepeatsNext, peer_of};
 ghost use Rattle.tsp_acks.specs.Changes.{ChangesSends};
 
 use crate::station::Station;
@@ -17,10 +17,10 @@ use tsp_sends::Due;
 impl Station {
     ghost use Rattle.tsp_acks.specs.Stands.{StandsStill};
 
-    /// Treats the due send to the least peer after this one: its message is posted again, or it is given up.
+    /// Repeats the due send to the least peer after this one: its message is posted again, or it is given up.
     /// None exactly where none is due. No alarm has rung or come late in this step yet, and no datagram was
     /// taken.
-    pub fn treat_next<D: Desk>(
+    pub fn repeat_next<D: Desk>(
         &mut self,
         after: Option<PeerId>,
         tick: u64,
@@ -30,7 +30,7 @@ impl Station {
         requires room { 1 ≤ D.spare desk.old }
         requires tick { IsTick tick }
         ensures next { IfSome result (λ due. Contains self.old.peers (peer_of due) × IsAfter after (peer_of due)) }
-        ensures sends { TreatsNext after tick self.old.sends self.new.sends result }
+        ensures sends { RepeatsNext after tick self.old.sends self.new.sends result }
         ensures row { IfSome result (λ due. Performs StandsStill StandsStill (bare_send (peer_of due)) tick port (self.old, tt) (self.new, tt) (D.acts desk.old) (D.acts desk.new)) }
         ensures same { IfNone result ((self.new ≡ self.old) × (desk.new ≡ desk.old)) }
         ensures rest { ChangesSends self.old self.new }

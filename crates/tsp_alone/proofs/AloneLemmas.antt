@@ -25,13 +25,13 @@ use Rattle.tsp_base.specs.Rows.{Row, grown, arms, placed, nothing, puts, ◌foll
 use Rattle.tsp_base.specs.SendFacts.{is_correction, sets_date}
 use Rattle.tsp_base.proofs.LeadsLemmas.{Leads_from, Leads_then}
 use Rattle.tsp_base.proofs.RowLemmas.{grown_append}
-use Rattle.tsp_rules.specs.Answers.{answers, due_alarms, input_row, rings, rings_alone, alarm_rings, takes, treats, treats_kind, is_left}
+use Rattle.tsp_rules.specs.Answers.{answers, due_alarms, input_row, rings, rings_alone, alarm_rings, takes, handles, handles_kind, is_left}
 use Rattle.tsp_rules.specs.CommonRows.{boots}
 use Rattle.tsp_rules.specs.GateRows.{NodeGiven, NodeTurn, GotOn, alarm_on, alarms_on, all_ports, answers_all, any_port, begins_round_on, boots_all, boots_on, closes_on, ends_probes, follows_on, goes_on, has_rung, hears_on, heeds_loop, in_charge, input_all, is_last_probe, judge, judges, leads_clock, leads_on, loops_after, lower_ports, other_ports, ports_from, probes_on, steers, stirred_ports, takes_kind, takes_loop, takes_loop_step, takes_message, takes_on, turns_on}
 use Rattle.tsp_rules.specs.NodeRows.{NodePast, NodeRow, PortSetup, abandons_on, for_ports, nothing_at_all, on, on_port, ◌and_then◌, reading_all, spread, stirring}
 use Rattle.tsp_rules.specs.RoundRows.{abandons, abandons_going, close_rings, corrects, upsetting}
 use Rattle.tsp_rules.specs.SendRows.{due_sends}
-use Rattle.tsp_rules.specs.Tests.{is_due, is_follow, is_going_at, is_over, is_own}
+use Rattle.tsp_rules.specs.Guards.{is_due, is_follow, is_going_at, is_over, is_own}
 use Rattle.tsp_rules.proofs.NodeRowLemmas.{on_own}
 use Rattle.tsp_fit.specs.NodeRuns.{NodeAnswers, IsGivenOn}
 use Rattle.tsp_fit.proofs.AlarmLeads.{quiet_leads, search_leads, elect_leads, resolve_leads}
@@ -199,10 +199,10 @@ never-left false c = and-none c
 
 takes-alone : (from : Place) (m : MessageValue) (steer charge : Bool) (x : ℕ) (past : Past) → steer ≡ is_follow (role past.seen) → charge ≡ true →
     takes steer charge from (Good (Message m)) x past ≡ takes true true from (Good (Message m)) x past
-unfolding takes treats either_by ◌followed_by◌ puts
+unfolding takes handles either_by ◌followed_by◌ puts
 takes-alone from m steer charge x past s c =
     let next = grown x past (Took from (Good (Message m)) ∷ []) in
-    let acts : Bool → Bool → List Act = λ left ch. (Took from (Good (Message m)) ∷ []) ++ (if is_own from x next then nothing x next else (if left then nothing x next else treats_kind ch from m m.kind x next)) in
+    let acts : Bool → Bool → List Act = λ left ch. (Took from (Good (Message m)) ∷ []) ++ (if is_own from x next then nothing x next else (if left then nothing x next else handles_kind ch from m m.kind x next)) in
     let left : is_left steer m.kind x next ≡ false = ap (λ b. not b && (is_correction m.kind && is_follow (role past.seen))) s ∙ never-left (is_follow (role past.seen)) (is_correction m.kind) in
     ap (λ b. acts b charge) left ∙ ap (λ b. acts false b) c
 
@@ -272,15 +272,15 @@ module _ (from : Place) (m : MessageValue) where
   heeds-none true x past s one = ap (λ (ps : List PortSetup). takes_loop_step first_port (judge past.name (length ps) first_port m) x past) one
   heeds-none false x past s one = refl
 
-  treats-none : (x : ℕ) (past : Past) → m.kind ≡ LoopKind → treats true true from (Good (Message m)) x past ≡ []
-  unfolding treats either_by treats_kind nothing
-  treats-none x past e = ap (λ k. treats_kind true from m k x past) e
+  handles-none : (x : ℕ) (past : Past) → m.kind ≡ LoopKind → handles true true from (Good (Message m)) x past ≡ []
+  unfolding handles either_by handles_kind nothing
+  handles-none x past e = ap (λ k. handles_kind true from m k x past) e
 
   loop-acts : (x : ℕ) (past : Past) → m.kind ≡ LoopKind → takes true true from (Good (Message m)) x past ≡ Took from (Good (Message m)) ∷ []
   unfolding takes either_by ◌followed_by◌ puts nothing
   loop-acts x past e =
       let next = grown x past (Took from (Good (Message m)) ∷ []) in
-      let none : (if is_own from x next then [] else treats true true from (Good (Message m)) x next) ≡ [] = ap (λ zs. if is_own from x next then [] else zs) (treats-none x next e) ∙ either (is_own from x next) in
+      let none : (if is_own from x next then [] else handles true true from (Good (Message m)) x next) ≡ [] = ap (λ zs. if is_own from x next then [] else zs) (handles-none x next e) ∙ either (is_own from x next) in
       ap (λ zs. (Took from (Good (Message m)) ∷ []) ++ zs) none
     where
       no_acts : List Act

@@ -19,16 +19,16 @@ use Rattle.tsp_base.specs.PortFacts.{role}
 use Rattle.tsp_base.specs.Rows.{Row, grown, nothing, puts, ◌followed_by◌, either_by, reading, arms, posts, posts_back}
 use Rattle.tsp_base.specs.SendFacts.{sets_date}
 use Rattle.tsp_base.specs.Takings.{time_in}
-use Rattle.tsp_rules.specs.Answers.{says_in, peer_says, from_peer, treats_kind, is_left, treats, takes}
+use Rattle.tsp_rules.specs.Answers.{says_in, peer_says, from_peer, handles_kind, is_left, handles, takes}
 use Rattle.tsp_rules.specs.CandidateRows.{candidate_takes}
 use Rattle.tsp_rules.specs.ClockRows.{adjusts, sets}
-use Rattle.tsp_rules.specs.CommonRows.{arms_elect, names_master, says_master, traces, tests, is_awake, may_be_asked, stand_row}
+use Rattle.tsp_rules.specs.CommonRows.{arms_elect, names_master, says_master, traces, tests, is_awake, may_be_asked, candidature_row}
 use Rattle.tsp_rules.specs.MasterRows.{master_takes}
 use Rattle.tsp_rules.specs.RoundRows.{corrects, is_correct}
 use Rattle.tsp_rules.specs.SlaveRows.{slave_takes, slave_takes_kind, from_master, adjtime_of, settime_of, takes_amount, takes_value, confirms, acks_repeat, is_repeated, masterup_in, masterack_in}
-use Rattle.tsp_rules.specs.Tests.{role_at, is_heard, is_own, is_follow, is_master_at}
+use Rattle.tsp_rules.specs.Guards.{role_at, is_heard, is_own, is_follow, is_master_at}
 use Rattle.tsp_fit.proofs.FewActs.{Calm, is_calm_act, is_calm, calm_posts, calm_reading}
-use Rattle.tsp_fit.proofs.CalmRows.{calm-quits, calm-stand}
+use Rattle.tsp_fit.proofs.CalmRows.{calm-quits, calm-candidature}
 use Rattle.tsp_fit.proofs.CalmTaken.{calm-masterup, calm-masterack, calm-election, calm-ends, calm_candidate, calm_master}
 use Rattle.tsp_fit.proofs.CalmSteps.{calm-date-acked, calm_stamps, is_message}
 
@@ -92,8 +92,8 @@ still-says from number = still-either is_master_at (posts_back from Ack number) 
 
 still-tests : (from : Place) (number : ℕ) → Still (tests from number)
 unfolding tests
-still-tests from number = still-either is_awake (posts_back from Ack number followed_by either_by may_be_asked stand_row nothing) nothing
-    (still-then (posts_back from Ack number) (either_by may_be_asked stand_row nothing) (still-back from Ack number) (still-either may_be_asked stand_row nothing (still_calm false 1 3 stand_row calm-stand) still-nothing)) still-nothing
+still-tests from number = still-either is_awake (posts_back from Ack number followed_by either_by may_be_asked candidature_row nothing) nothing
+    (still-then (posts_back from Ack number) (either_by may_be_asked candidature_row nothing) (still-back from Ack number) (still-either may_be_asked candidature_row nothing (still_calm false 1 3 candidature_row calm-candidature) still-nothing)) still-nothing
 
 -- acts after a past that don't correct the clock, or leave a follower a follower
 abbrev pub SteadyAfter : ℕ → Past → List Act → Type 0
@@ -167,8 +167,8 @@ steady-peer (Peer p) row k = steady-either (is_heard p) (row p) nothing (k p) (s
 steady-peer Stranger row k = steady-still nothing still-nothing
 
 -- what is done with a message that sets no date
-steady-kind : (from : Place) (m : MessageValue) (k : Kind) → sets_date k ≡ false → Steady Any (treats_kind true from m k)
-unfolding treats_kind
+steady-kind : (from : Place) (m : MessageValue) (k : Kind) → sets_date k ≡ false → Steady Any (handles_kind true from m k)
+unfolding handles_kind
 steady-kind from m Msite e = steady-still _ (still-names from m.number)
 steady-kind from m MsiteReq e = steady-still _ (still-says from m.number)
 steady-kind from m TraceOn e = steady-still _ (still-traces from m.number true)
@@ -184,10 +184,10 @@ steady-kind from m _ e = steady-peer from (peer_says m) (steady-says m)
 
 -- a message that sets no date is taken
 pub steady_takes : (from : Place) (m : MessageValue) → sets_date m.kind ≡ false → Steady Any (takes true true from (Good (Message m)))
-unfolding takes treats ◌followed_by◌ puts
+unfolding takes handles ◌followed_by◌ puts
 steady_takes from m e =
-    let treated = steady-either (is_left true m.kind) nothing (treats_kind true from m m.kind) (steady-still nothing still-nothing) (steady-kind from m m.kind e) in
-    let row = steady-either (is_own from) nothing (either_by (is_left true m.kind) nothing (treats_kind true from m m.kind)) (steady-still nothing still-nothing) treated in
+    let handled = steady-either (is_left true m.kind) nothing (handles_kind true from m m.kind) (steady-still nothing still-nothing) (steady-kind from m m.kind e) in
+    let row = steady-either (is_own from) nothing (either_by (is_left true m.kind) nothing (handles_kind true from m m.kind)) (steady-still nothing still-nothing) handled in
     record { run = λ x past h. row.run x (grown x past (Took from (Good (Message m)) ∷ [])) tt }
 
 still-took : (from : Place) (t : Taken) → Still (puts (Took from t))
@@ -198,4 +198,4 @@ still-took from t = record { run = λ x past. refl }
 pub still_takes : (from : Place) (t : Taken) → is_message t ≡ false → Still (takes true true from t)
 unfolding takes
 still_takes from t e = still-then (puts (Took from t)) _ (still-took from t)
-    (still-either (is_own from) nothing (treats true true from t) still-nothing (still_calm _ 2 5 (treats true true from t) (calm_stamps true true from t e)))
+    (still-either (is_own from) nothing (handles true true from t) still-nothing (still_calm _ 2 5 (handles true true from t) (calm_stamps true true from t e)))

@@ -16,7 +16,7 @@ use tsp_base::kind::Kind;
 use tsp_base::place::Port;
 use tsp_base::role::Role;
 
-/// Treats the Window of a candidate that is due: where it is in time, nobody has refused, and the port leads
+/// Handles the Window of a candidate that is due: where it is in time, nobody has refused, and the port leads
 /// if enough peers back it; else the candidature ends. At most three acts, and one more for each peer.
 pub fn candidate_ring<D: Desk>(station: &mut Station, tick: u64, port: Port, desk: &mut D)
     requires tick { IsTick tick }

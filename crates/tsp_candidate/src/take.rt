@@ -19,7 +19,7 @@ use tsp_slave::follow::follow;
 use tsp_slave::last::Last;
 use tsp_slave::quit::take_quit;
 
-/// Treats a message of another peer at a port that stands for election: a master is followed, and so is who
+/// Handles a message of another peer at a port that stands for election: a master is followed, and so is who
 /// asks the port to stop; any other candidate is refused, since a candidate holds itself, and answers to its
 /// own ELECTIONs count. At most five acts.
 pub fn candidate_take<D: Desk>(

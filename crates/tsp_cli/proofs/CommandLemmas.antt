@@ -10,7 +10,7 @@ use Rattle.tsp_lines.proofs.Outputs.{Grows-nil}
 use Rattle.tsp_query.proofs.AskLemmas.{of_some}
 use Rattle.tsp_query.specs.Ends.{Outside}
 use Rattle.tsp_query.specs.Told.{Told, Knows}
-use Rattle.tsp_rules.specs.Tests.{is_clock_value}
+use Rattle.tsp_rules.specs.Guards.{is_clock_value}
 use Rattle.tsp_storm.specs.declared.run.StormEnd.{StormEnd}
 use Rattle.tsp_storm.specs.declared.run.StormEnd.TheVariants.{Done as Summed, Limit as Full, WriteFault as Unsaid, OutOfMemory as Unmade}
 use Rattle.tsp_storm.specs.Answers.{IsAnswer, Agrees, HasRoom, StormsAs}

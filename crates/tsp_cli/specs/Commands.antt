@@ -10,7 +10,7 @@ use Rattle.tsp_lines.specs.Answers.{Answers, IsAnswer as IsAnswerTo}
 use Rattle.tsp_lines.specs.Gatherings.{ComesGathered, IsGathered}
 use Rattle.tsp_query.specs.Ends.{Outside}
 use Rattle.tsp_query.specs.Told.{Told, Knows}
-use Rattle.tsp_rules.specs.Tests.{is_clock_value}
+use Rattle.tsp_rules.specs.Guards.{is_clock_value}
 use Rattle.tsp_storm.specs.declared.run.StormEnd.{StormEnd}
 use Rattle.tsp_storm.specs.Answers.{IsAnswer, Agrees, HasRoom, StormsAs}
 use Rattle.tsp_serving.specs.declared.end.Served.{Served}

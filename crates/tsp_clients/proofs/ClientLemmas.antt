@@ -19,7 +19,7 @@ use Rattle.tsp_base.specs.PortFacts.{kept_name, held}
 use Rattle.tsp_base.specs.Rows.{Row, bare, grown, posts_back, puts}
 use Rattle.tsp_base.proofs.PerformsLemmas.{Performs_beside}
 use Rattle.tsp_rules.specs.CommonRows.{is_idle, master_name, master_name_in, may_be_asked}
-use Rattle.tsp_rules.specs.Tests.{is_starting_role}
+use Rattle.tsp_rules.specs.Guards.{is_starting_role}
 use Rattle.tsp_rules.proofs.Emits.{Sort, Taking, Asking, Correcting, Numbering, Posting, Leading, Following, Changing, Backing, Counting, Rounding, Alarming, Tabling, Rivalling, Acking, Giving, Sampling, Closing, Moving, Emits, Emits_posts_back, Emits_puts, Keeps_by, is_in, sort_of}
 use Rattle.tsp_acks.specs.declared.station.Station.{Station}
 use Rattle.tsp_acks.specs.Stands.{Stands}
@@ -81,7 +81,7 @@ pub Performs_traced : (from : Place) (number : ℕ) {x : ℕ} {port : Port} {sta
     Performs TracingStands TracingStands (posts_back from Ack number) x port (station, on) (station, on) old new
 Performs_traced from number on d = Performs_beside on (TraceStands_by (posts_back from Ack number) (Emits_posts_back from Ack number refl)) d
 
--- whether the port stands when it is asked to, as the station has it
+-- whether the port stands for election when it is asked to, as the station has it
 pub may_be_asked-is : (x : ℕ) (past : Past) (s : Station) → Stands past s → may_be_asked x past ≡ (is_idle s.role && (s.me.may && may_stand s.hold x s.me.own))
 may_be_asked-is x past s h =
     ap (λ r. is_idle r && (past.may && may_stand (held past.seen) x past.own)) (sym h.role) ∙ ap (λ may. is_idle s.role && (may && may_stand (held past.seen) x past.own)) (sym h.may)

@@ -5,6 +5,6 @@
 //! that to an election.
 #![tactic(auto)]
 
+pub mod candidature;
 pub mod naming;
-pub mod standing;
 pub mod tracing;

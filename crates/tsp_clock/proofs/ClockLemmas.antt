@@ -7,7 +7,7 @@ use Rattle.tsp_base.specs.History.{Past, plain}
 use Rattle.tsp_base.specs.NodeFacts.{eased, base, moved, word, corrects}
 use Rattle.tsp_base.specs.Rows.{grown}
 use Rattle.tsp_rules.specs.ClockRows.{is_step, adjusts, sets}
-use Rattle.tsp_rules.specs.Tests.{is_clock_value}
+use Rattle.tsp_rules.specs.Guards.{is_clock_value}
 use Rattle.tsp_clock.specs.Clocks.{ClockValue, target_of, rest_of, shown_of, adjusted, set_to}
 use Rattle.tsp_clock.specs.ClockStands.{ClockStands}
 

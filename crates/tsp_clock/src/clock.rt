@@ -5,7 +5,7 @@ ghost use Rattle.tsp_base.specs.Frames.{IsTick};
 ghost use Rattle.tsp_base.specs.History.{Past, Booted};
 ghost use Rattle.tsp_base.specs.Rows.{grown};
 ghost use Rattle.tsp_rules.specs.ClockRows.{is_step};
-ghost use Rattle.tsp_rules.specs.Tests.{is_clock_value};
+ghost use Rattle.tsp_rules.specs.Guards.{is_clock_value};
 ghost use Rattle.tsp_clock.specs.Clocks.{target_of, rest_of, shown_of, adjusted, set_to};
 
 use crate::slew::eased;

@@ -3,7 +3,7 @@ ghost use Rattle.std.specs.Prelude.{◌≡◌, ◌+◌, ◌≤◌, ◌+ℤ◌, �
 ghost use Rattle.tsp_base.specs.Frames.{IsTick, PutsExactly};
 ghost use Rattle.tsp_base.specs.Performs.{Performs};
 ghost use Rattle.tsp_rules.specs.ClockRows.{adjusts, sets, is_step};
-ghost use Rattle.tsp_rules.specs.Tests.{is_clock_value};
+ghost use Rattle.tsp_rules.specs.Guards.{is_clock_value};
 ghost use Rattle.tsp_clock.specs.Clocks.{target_of, adjusted, set_to};
 ghost use Rattle.tsp_clock.specs.ClockStands.{ClockStands};
 

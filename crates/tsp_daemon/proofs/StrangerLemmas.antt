@@ -23,16 +23,16 @@ use Rattle.tsp_base.specs.Rows.{Row, nothing, others, placed, puts}
 use Rattle.tsp_fit.specs.Strangers.{is_stranger, IsKnown}
 use Rattle.tsp_fit.proofs.CalmAlarms.{calm_rings}
 use Rattle.tsp_fit.proofs.CalmRows.{calm_due_sends, calm-elect}
-use Rattle.tsp_fit.proofs.CalmSteps.{calm_treats, known_calm, taking, TakesFirst}
+use Rattle.tsp_fit.proofs.CalmSteps.{calm_handles, known_calm, taking, TakesFirst}
 use Rattle.tsp_fit.proofs.FewActs.{Calm, calm_either, calm_more, calm_nothing, calm_puts, calm_then}
-use Rattle.tsp_rules.specs.Answers.{rings, takes, treats}
+use Rattle.tsp_rules.specs.Answers.{rings, takes, handles}
 use Rattle.tsp_rules.specs.CandidateRows.{yields}
 use Rattle.tsp_rules.specs.CommonRows.{arms_elect}
 use Rattle.tsp_rules.specs.GateRows.{LoopStep, PassOver, GiveUp, Forward, NodeGiven, NodeTurn, GotOn, all_ports, alarm_on, alarms_on, answers_all, begins_round_on, closes_on, ends_probes, forwards, heeds_loop, hears_on, input_all, is_awake_on, judge, judges, leads_clock, in_charge, loop_to, loops_after, loosens_master, other_ports, probes_on, repost, reposts, reposts_on, sends_loops, steers, stirred_ports, takes_kind, takes_loop, takes_loop_step, takes_message, takes_on, turns_on, waits}
 use Rattle.tsp_rules.specs.NodeRows.{NodePast, NodeRow, abandons_on, for_ports, nothing_at_all, on, on_port, ◌and_then◌, reading_all, spread, stirring}
 use Rattle.tsp_rules.specs.RoundRows.{corrects}
 use Rattle.tsp_rules.specs.SendRows.{due_sends}
-use Rattle.tsp_rules.specs.Tests.{is_master_at}
+use Rattle.tsp_rules.specs.Guards.{is_master_at}
 use Rattle.tsp_daemon.specs.Posts.{AreKnown}
 
 -- whether what a node is given comes from a stranger
@@ -197,7 +197,7 @@ module _ (strange : Bool) where
 -- what is taken
 known-takes : (steer charge : Bool) (from : Place) (t : Taken) (x : ℕ) (past : Past) → All (IsKnown (is_stranger from)) (takes steer charge from t x past)
 unfolding takes
-known-takes steer charge from t x past = by_first ((taking from t 2 5 (treats steer charge from t) (calm_treats steer charge from t)).run x past) where
+known-takes steer charge from t x past = by_first ((taking from t 2 5 (handles steer charge from t) (calm_handles steer charge from t)).run x past) where
   by_first : TakesFirst true from t (2 * length past.peers + 5) (takes steer charge from t x past) → All (IsKnown (is_stranger from)) (takes steer charge from t x past)
   by_first f = subst (λ acts. All (IsKnown (is_stranger from)) acts) (sym f.is) (All-cons (IsKnown (is_stranger from)) (Took from t) f.after tt (known_calm (is_stranger from) true f.after f.calm))
 

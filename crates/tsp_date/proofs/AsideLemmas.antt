@@ -22,12 +22,12 @@ use Rattle.tsp_rules.proofs.EmitsRounds.{round_sorts}
 use Rattle.tsp_rules.proofs.EmitsSends.{emits_settime_begins}
 use Rattle.tsp_rules.specs.CandidateRows.{accepted_by, candidate_takes, candidate_takes_kind, has_won, lead_row, refused_by, window_rings, yields}
 use Rattle.tsp_rules.specs.ClockRows.{adjusts, sets}
-use Rattle.tsp_rules.specs.CommonRows.{arms_elect, backs_own, follow_row, follows_unless, is_awake, master_name, may_be_asked, names_master, own_at, posts_reply, quits, replies, says_master, searches, stand_row, tells_ticket, tests, traces}
+use Rattle.tsp_rules.specs.CommonRows.{arms_elect, backs_own, follow_row, follows_unless, is_awake, master_name, may_be_asked, names_master, own_at, posts_reply, quits, replies, says_master, searches, candidature_row, tells_ticket, tests, traces}
 use Rattle.tsp_rules.specs.MasterRows.{joins, master_takes, master_takes_kind, may_join, sends_away}
 use Rattle.tsp_rules.specs.ResolveRows.{finds_rival, is_new_rival, quits_rivals, resolve_rings, resolves}
 use Rattle.tsp_rules.specs.SendRows.{acknowledges, begins, begins_settime, begins_to_others, has_election, has_other, has_quit, is_free, others_at}
 use Rattle.tsp_rules.specs.SlaveRows.{acks_repeat, adjtime_of, confirms, elect_rings, election_of, from_master, is_repeated, loosens, masterack_in, masterup_in, quiet_rings, reports_conflict, rings_or_late, search_rings, settime_of, slave_takes, slave_takes_kind, takes_amount, takes_value}
-use Rattle.tsp_rules.specs.Tests.{delay_at, follows_at, is_armed, is_in_range, is_in_time, is_master_at, may_back_at, may_stand_at, rivals_at, role_at, ticket_at}
+use Rattle.tsp_rules.specs.Guards.{delay_at, follows_at, is_armed, is_in_range, is_in_time, is_master_at, may_back_at, may_stand_at, rivals_at, role_at, ticket_at}
 
 aside_posts : (p : PeerId) (kind : Kind) (number : ℕ) → is_in (sort_of_kind kind) aside_sorts ≡ true → Keeps DatesAside (posts p kind number)
 aside_posts p kind number e = DatesAside_by (posts p kind number) (Emits_posts p kind number e)
@@ -73,9 +73,9 @@ pub DatesAside_follow : (p : PeerId) → Keeps DatesAside (follow_row p)
 unfolding follow_row
 DatesAside_follow p = Keeps_then DatesAside (puts (Become (Follow p))) (arms_elect followed_by tells_ticket p) (DatesAside_act (Become (Follow p)) refl) (DatesAside_again p)
 
-pub DatesAside_stand : Keeps DatesAside stand_row
-unfolding stand_row backs_own begins_to_others
-DatesAside_stand = Keeps_then DatesAside (puts (Become Candidate)) _ (DatesAside_act (Become Candidate) refl)
+pub DatesAside_candidature : Keeps DatesAside candidature_row
+unfolding candidature_row backs_own begins_to_others
+DatesAside_candidature = Keeps_then DatesAside (puts (Become Candidate)) _ (DatesAside_act (Become Candidate) refl)
     (Keeps_then DatesAside (reading own_at (λ own. puts (Back own))) _ (Keeps_reading DatesAside own_at (λ own. puts (Back own)) (λ own. DatesAside_act (Back own) refl))
     (Keeps_then DatesAside (arms Window WINDOW) _ (aside_arms Window WINDOW refl) (Keeps_reading DatesAside others_at (for_each (begins Election)) (λ ps. Keeps_each DatesAside (begins Election) ps (λ p. DatesAside_begins Election p refl)))))
 
@@ -104,7 +104,7 @@ DatesAside_search = Keeps_then DatesAside (either_by (is_in_time Search) (puts (
 pub DatesAside_elect_rings : Keeps DatesAside elect_rings
 unfolding elect_rings
 DatesAside_elect_rings = Keeps_either DatesAside (is_in_time Elect) _ _
-    (Keeps_then DatesAside (puts (Ring Elect)) _ (DatesAside_act (Ring Elect) refl) (Keeps_either DatesAside may_stand_at stand_row (loosens followed_by searches) DatesAside_stand (Keeps_then DatesAside loosens searches DatesAside_loosens DatesAside_searches)))
+    (Keeps_then DatesAside (puts (Ring Elect)) _ (DatesAside_act (Ring Elect) refl) (Keeps_either DatesAside may_stand_at candidature_row (loosens followed_by searches) DatesAside_candidature (Keeps_then DatesAside loosens searches DatesAside_loosens DatesAside_searches)))
     (Keeps_then DatesAside (puts (Late Elect)) arms_elect (DatesAside_act (Late Elect) refl) DatesAside_elect)
 
 aside-reports : (q : PeerId) → Keeps DatesAside (reports_conflict q)
@@ -272,4 +272,4 @@ DatesAside_traces from number on = Keeps_then DatesAside (puts (Trace on)) (post
 
 pub DatesAside_tests : (from : Place) (number : ℕ) → Keeps DatesAside (tests from number)
 unfolding tests
-DatesAside_tests from number = Keeps_either DatesAside is_awake _ nothing (Keeps_then DatesAside (posts_back from Ack number) _ (aside_posts_back from Ack number refl) (Keeps_either DatesAside may_be_asked stand_row nothing DatesAside_stand (Keeps_nothing DatesAside))) (Keeps_nothing DatesAside)
+DatesAside_tests from number = Keeps_either DatesAside is_awake _ nothing (Keeps_then DatesAside (posts_back from Ack number) _ (aside_posts_back from Ack number refl) (Keeps_either DatesAside may_be_asked candidature_row nothing DatesAside_candidature (Keeps_nothing DatesAside))) (Keeps_nothing DatesAside)

@@ -14,12 +14,12 @@ use Rattle.tsp_base.specs.Messages.{MessageValue}
 use Rattle.tsp_base.specs.PortFacts.{role}
 use Rattle.tsp_base.specs.Rows.{Row, ◌followed_by◌, either_by, nothing, posts, posts_back, puts, reading}
 use Rattle.tsp_base.specs.Takings.{time_in}
-use Rattle.tsp_rules.specs.Answers.{from_peer, treats_kind}
+use Rattle.tsp_rules.specs.Answers.{from_peer, handles_kind}
 use Rattle.tsp_rules.specs.ClockRows.{sets}
 use Rattle.tsp_rules.specs.DateRows.{date_acked, date_acked_in, date_in, date_of, date_request_in, date_request_of, has_date, is_dated, is_last, may_date, may_pass_on, new_date, passes_on, sets_date_where, sets_in_charge}
 use Rattle.tsp_rules.specs.RoundRows.{corrects}
 use Rattle.tsp_rules.specs.SendRows.{begins_timed}
-use Rattle.tsp_rules.specs.Tests.{is_heard, role_at}
+use Rattle.tsp_rules.specs.Guards.{is_heard, role_at}
 use Rattle.tsp_rules.proofs.Emits.{Emits, Emits_either, Emits_more, Emits_nothing, Emits_posts_back, Emits_puts, Emits_reading, Emits_then}
 use Rattle.tsp_master.proofs.CloseLemmas.{corrects-none}
 use Rattle.tsp_master.proofs.LeadLemmas.{still_sorts}
@@ -98,24 +98,24 @@ pub corrects-end : (from : Place) (m : MessageValue) (x : ℕ) (past : Past) →
 corrects-end from m x past = corrects-none (from_peer from (date_acked m) x past) ((end-still from m).only x past)
 
 -- what kind of message has which row
-pub treats-date : (charge : Bool) (from : Place) (m : MessageValue) (k : Kind) → (k ≡ Date) ⊎ (k ≡ SetDate) → treats_kind charge from m k ≡ date_of charge from m
-unfolding treats_kind
-treats-date charge from m k (inl e) = rw e refl
-treats-date charge from m k (inr e) = rw e refl
+pub handles-date : (charge : Bool) (from : Place) (m : MessageValue) (k : Kind) → (k ≡ Date) ⊎ (k ≡ SetDate) → handles_kind charge from m k ≡ date_of charge from m
+unfolding handles_kind
+handles-date charge from m k (inl e) = rw e refl
+handles-date charge from m k (inr e) = rw e refl
 
-pub treats-request : (charge : Bool) (from : Place) (m : MessageValue) (k : Kind) → (k ≡ DateReq) ⊎ (k ≡ SetDateReq) → treats_kind charge from m k ≡ from_peer from (date_request_of charge m)
-unfolding treats_kind
-treats-request charge from m k (inl e) = rw e refl
-treats-request charge from m k (inr e) = rw e refl
+pub handles-request : (charge : Bool) (from : Place) (m : MessageValue) (k : Kind) → (k ≡ DateReq) ⊎ (k ≡ SetDateReq) → handles_kind charge from m k ≡ from_peer from (date_request_of charge m)
+unfolding handles_kind
+handles-request charge from m k (inl e) = rw e refl
+handles-request charge from m k (inr e) = rw e refl
 
-pub treats-end : (charge : Bool) (from : Place) (m : MessageValue) (k : Kind) → is_of_dates k ≡ true → k ≢ Date → k ≢ SetDate → k ≢ DateReq → k ≢ SetDateReq → treats_kind charge from m k ≡ from_peer from (date_acked m)
-unfolding treats_kind
-treats-end charge from m DateAck o a b d e = refl
-treats-end charge from m Date o a b d e = absurd (a refl)
-treats-end charge from m SetDate o a b d e = absurd (b refl)
-treats-end charge from m DateReq o a b d e = absurd (d refl)
-treats-end charge from m SetDateReq o a b d e = absurd (e refl)
-treats-end charge from m _ o a b d e = absurd (false≢true o)
+pub handles-end : (charge : Bool) (from : Place) (m : MessageValue) (k : Kind) → is_of_dates k ≡ true → k ≢ Date → k ≢ SetDate → k ≢ DateReq → k ≢ SetDateReq → handles_kind charge from m k ≡ from_peer from (date_acked m)
+unfolding handles_kind
+handles-end charge from m DateAck o a b d e = refl
+handles-end charge from m Date o a b d e = absurd (a refl)
+handles-end charge from m SetDate o a b d e = absurd (b refl)
+handles-end charge from m DateReq o a b d e = absurd (d refl)
+handles-end charge from m SetDateReq o a b d e = absurd (e refl)
+handles-end charge from m _ o a b d e = absurd (false≢true o)
 
 -- what only a peer may say that is heard
 pub corrects-heard : (p : PeerId) (r : PeerId → Row) (x : ℕ) (past : Past) → is_heard p x past ≡ true → corrects (from_peer (Peer p) r x past) ≡ corrects (r p x past)

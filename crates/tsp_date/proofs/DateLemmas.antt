@@ -26,7 +26,7 @@ use Rattle.tsp_rules.specs.Answers.{from_peer}
 use Rattle.tsp_rules.specs.ClockRows.{sets}
 use Rattle.tsp_rules.specs.DateRows.{answers_date, date_acked_in, has_date, leaves, leaves_all}
 use Rattle.tsp_rules.specs.SendRows.{begins_timed, next_number}
-use Rattle.tsp_rules.specs.Tests.{is_heard, is_starting_role, table_at}
+use Rattle.tsp_rules.specs.Guards.{is_heard, is_starting_role, table_at}
 use Rattle.tsp_rules.proofs.Emits.{Sort, Acking, Numbering, Posting, Tabling, Emits, Emits_more, Emits_posts_time, Emits_puts, Emits_reading, Keeps_by}
 use Rattle.tsp_acks.specs.declared.station.Station.{Station}
 use Rattle.tsp_acks.specs.Stands.{Stands, StandsActing}

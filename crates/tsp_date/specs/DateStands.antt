@@ -1,4 +1,4 @@
--- What a port's dates stand for, and what stands beside them while a step treats what it took.
+-- What a port's dates stand for, and what stands beside them while a step handles what it took.
 use Rattle.std.specs.Prelude.{◌≡◌, ℕ, Bool, true, false, Option, None, Some}
 use Rattle.tsp_base.specs.declared.kind.Kind.{Kind}
 use Rattle.tsp_base.specs.declared.kind.Kind.TheVariants.{DateAck}

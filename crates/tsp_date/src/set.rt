@@ -13,7 +13,7 @@ ghost use Rattle.tsp_base.specs.PortFacts.{Received, said_by};
 ghost use Rattle.tsp_base.specs.SendFacts.{dating_of, is_date_request, sets_date};
 ghost use Rattle.tsp_rules.specs.ClockRows.{sets};
 ghost use Rattle.tsp_rules.specs.DateRows.{leaves_all, may_date, sets_date_where};
-ghost use Rattle.tsp_rules.specs.Tests.{is_clock_value};
+ghost use Rattle.tsp_rules.specs.Guards.{is_clock_value};
 ghost use Rattle.tsp_acks.specs.declared.station.Station.{Station};
 ghost use Rattle.tsp_master.specs.declared.master.Master.{Master};
 ghost use Rattle.tsp_master.specs.MasterStands.{MasterStands};

@@ -14,10 +14,10 @@ ghost use Rattle.tsp_base.specs.PortFacts.{Received};
 ghost use Rattle.tsp_base.specs.Rows.{reading};
 ghost use Rattle.tsp_base.specs.SendFacts.{is_date_request, sets_date};
 ghost use Rattle.tsp_base.specs.Takings.{time_in};
-ghost use Rattle.tsp_rules.specs.Answers.{treats_kind};
+ghost use Rattle.tsp_rules.specs.Answers.{handles_kind};
 ghost use Rattle.tsp_rules.specs.DateRows.{date_in, date_request_in};
 ghost use Rattle.tsp_rules.specs.RoundRows.{corrects};
-ghost use Rattle.tsp_rules.specs.Tests.{role_at};
+ghost use Rattle.tsp_rules.specs.Guards.{role_at};
 ghost use Rattle.tsp_acks.specs.Changes.{IsSamePort};
 ghost use Rattle.tsp_master.specs.Slaves.{peers_of as slave_peers_of};
 ghost use Rattle.tsp_slave.specs.Lasts.{LastValue};
@@ -37,7 +37,7 @@ use tsp_base::role::Role;
 use tsp_clock::clock::Clock;
 use tsp_master::master::Master;
 
-/// Treats a message that sets the date, passes one on or says that one was set, and tells whether the clock
+/// Handles a message that sets the date, passes one on or says that one was set, and tells whether the clock
 /// was corrected; `charge` is whether the port is in charge of its node's date, and `corrected` the tick of
 /// the node's last Correct since its boot. In this step the message was taken, not as from the port itself.
 /// The rounds that go on are for the caller to give up after a Correct. At most twice as many acts as there are
@@ -62,9 +62,9 @@ pub fn date_take<D: Desk>(
     requires dates { peers_of dates.old.dated ≡ station.old.peers }
     requires followed { (q : PeerId) → station.old.role ≡ Follow q → Contains station.old.peers q }
     requires kind { is_of_dates m.now.kind ≡ true }
-    ensures row { (last : LastValue) (took : Option Received) → last.tick ≡ corrected → took ≡ Some (record { from = from; taken = Good (MessageOf m.now) }) → Performs DateStands DateStands (treats_kind charge from m.now m.now.kind) tick port
+    ensures row { (last : LastValue) (took : Option Received) → last.tick ≡ corrected → took ≡ Some (record { from = from; taken = Good (MessageOf m.now) }) → Performs DateStands DateStands (handles_kind charge from m.now m.now.kind) tick port
         (dates.old, (master.old, (station.old, (last, (clock.old, took))))) (dates.new, (master.new, (station.new, (moved_where result tick last, (clock.new, took))))) (D.acts desk.old) (D.acts desk.new) }
-    ensures corrects { (past : Past) (last : LastValue) (took : Option Received) → last.tick ≡ corrected → DateStands past (dates.old, (master.old, (station.old, (last, (clock.old, took))))) → result ≡ corrects (treats_kind charge from m.now m.now.kind tick past) }
+    ensures corrects { (past : Past) (last : LastValue) (took : Option Received) → last.tick ≡ corrected → DateStands past (dates.old, (master.old, (station.old, (last, (clock.old, took))))) → result ≡ corrects (handles_kind charge from m.now m.now.kind tick past) }
     ensures room { PutsAtMost (2 * length station.old.peers + 2) (D.spare desk.old) (D.spare desk.new) (D.acts desk.old) (D.acts desk.new) }
     ensures port { IsSamePort station.old station.new }
     ensures role { station.new.role ≡ station.old.role }

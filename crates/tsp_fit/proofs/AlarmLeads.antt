@@ -16,17 +16,17 @@ use Rattle.tsp_base.specs.PortFacts.{role, held, armed}
 use Rattle.tsp_base.specs.Rows.{nothing, puts, ◌followed_by◌, either_by, for_each}
 use Rattle.tsp_base.proofs.LeadsLemmas.{Leads_then, Leads_either, Leads_reading, Leads_nothing, Leads_puts, Leads_each, Leads_from, Leads_to}
 use Rattle.tsp_rules.specs.Answers.{alarm_rings, rings}
-use Rattle.tsp_rules.specs.CommonRows.{arms_elect, searches, stand_row}
+use Rattle.tsp_rules.specs.CommonRows.{arms_elect, searches, candidature_row}
 use Rattle.tsp_rules.specs.ResolveRows.{quits_rivals, resolve_rings}
 use Rattle.tsp_rules.specs.SendRows.{begins}
 use Rattle.tsp_rules.specs.SlaveRows.{quiet_rings, rings_or_late, search_rings, loosens, elect_rings}
-use Rattle.tsp_rules.specs.Tests.{is_due, is_in_time, is_follow, may_stand_at, follows_at, rivals_at}
+use Rattle.tsp_rules.specs.Guards.{is_due, is_in_time, is_follow, may_stand_at, follows_at, rivals_at}
 use Rattle.tsp_fit.proofs.Known.{Free, Open, Untaken}
 use Rattle.tsp_fit.proofs.Leaves.{none-some}
 use Rattle.tsp_fit.proofs.Rings.{open_of, rested_of, ring_search, late_search, ring_elect, late_elect, ring_resolve, late_resolve, ring_quiet}
 use Rattle.tsp_fit.proofs.Changes.{become_loose}
-use Rattle.tsp_fit.proofs.TestFacts.{due_is, stand_is, and-cases}
-use Rattle.tsp_fit.proofs.CommonLeads.{arms_elect_during, searches_during, begins_quit, stand_leads}
+use Rattle.tsp_fit.proofs.GuardFacts.{due_is, stand_is, and-cases}
+use Rattle.tsp_fit.proofs.CommonLeads.{arms_elect_during, searches_during, begins_quit, candidature_leads}
 use Rattle.tsp_fit.proofs.TakenLeads.{master_awake}
 
 -- a port whose alarm is due
@@ -115,12 +115,12 @@ loosens_leads = Leads_either follows_at (puts (Become Loose)) nothing
 pub elect_leads : (own wait : Bool) → Leads Open (rings own wait Elect) Open
 unfolding alarm_rings elect_rings
 elect_leads own wait = rings_lead own wait Elect
-    (Leads_either (is_in_time Elect) (puts (Ring Elect) followed_by either_by may_stand_at stand_row (loosens followed_by searches)) (puts (Late Elect) followed_by arms_elect)
-    (Leads_then {Q = Free Untaken} (puts (Ring Elect)) (either_by may_stand_at stand_row (loosens followed_by searches))
+    (Leads_either (is_in_time Elect) (puts (Ring Elect) followed_by either_by may_stand_at candidature_row (loosens followed_by searches)) (puts (Late Elect) followed_by arms_elect)
+    (Leads_then {Q = Free Untaken} (puts (Ring Elect)) (either_by may_stand_at candidature_row (loosens followed_by searches))
     (Leads_puts (Ring Elect) (λ x past h. ring_elect (elect_rested x past h.0) h.0.0))
-    (Leads_either may_stand_at stand_row (loosens followed_by searches)
+    (Leads_either may_stand_at candidature_row (loosens followed_by searches)
     (Leads_from (λ x past h. record { free = h.0; may = stand_is (held past.seen) x past.own (and-cases past.may (may_stand (held past.seen) x past.own) h.1).1 })
-    (Leads_to (λ x past h. open_of h.free) stand_leads))
+    (Leads_to (λ x past h. open_of h.free) candidature_leads))
     (Leads_from (λ x past h. h.0) (Leads_to to_open (Leads_then loosens searches loosens_leads searches_during)))))
     (Leads_to to_open (Leads_then {Q = Free Untaken} (puts (Late Elect)) arms_elect
     (Leads_puts (Late Elect) (λ x past h. late_elect (elect_rested x past h.0) h.0.0))

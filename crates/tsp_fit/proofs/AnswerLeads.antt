@@ -25,19 +25,19 @@ use Rattle.tsp_base.specs.Rows.{Row, grown, nothing, puts, ◌followed_by◌}
 use Rattle.tsp_base.specs.SendFacts.{is_date_request, sets_date}
 use Rattle.tsp_base.specs.Stamps.{ReplyValue}
 use Rattle.tsp_base.proofs.LeadsLemmas.{Leads_then, Leads_reading, Leads_nothing, Leads_from}
-use Rattle.tsp_rules.specs.Answers.{rings_alone, due_alarms, says_in, peer_says, replies_in, peer_replies, from_peer, treats_kind, is_left, treats, takes, Given, Turn, Got, input_row, answers}
+use Rattle.tsp_rules.specs.Answers.{rings_alone, due_alarms, says_in, peer_says, replies_in, peer_replies, from_peer, handles_kind, is_left, handles, takes, Given, Turn, Got, input_row, answers}
 use Rattle.tsp_rules.specs.CandidateRows.{candidate_takes}
 use Rattle.tsp_rules.specs.CommonRows.{quits}
 use Rattle.tsp_rules.specs.DateRows.{date_request_of, date_acked}
 use Rattle.tsp_rules.specs.MasterRows.{master_takes}
 use Rattle.tsp_rules.specs.SendRows.{due_sends}
 use Rattle.tsp_rules.specs.SlaveRows.{slave_takes}
-use Rattle.tsp_rules.specs.Tests.{role_at, is_own, is_heard, is_starting_role}
+use Rattle.tsp_rules.specs.Guards.{role_at, is_own, is_heard, is_starting_role}
 use Rattle.tsp_fit.proofs.Known.{Open, Fresh, Early, Rests}
 use Rattle.tsp_fit.proofs.Leaves.{none-some}
 use Rattle.tsp_fit.proofs.Rings.{open_of}
 use Rattle.tsp_fit.proofs.Changes.{Is, JustTook, take}
-use Rattle.tsp_fit.proofs.TestFacts.{and-cases, not-true, awake_is}
+use Rattle.tsp_fit.proofs.GuardFacts.{and-cases, not-true, awake_is}
 use Rattle.tsp_fit.proofs.AlarmLeads.{quiet_leads, search_leads, elect_leads, resolve_leads}
 use Rattle.tsp_fit.proofs.WindowLeads.{window_leads}
 use Rattle.tsp_fit.proofs.RoundLeads.{probe_leads, round_leads}
@@ -116,20 +116,20 @@ module _ {from : Place} {m : MessageValue} where
   freely k = upsets_of (Leads_from (λ x past h. h.just.free) k)
 
   -- by the kind of the message
-  pub treats_kind_upsets : (charge : Bool) (k : Kind) → m.kind ≡ k → Upsets (sets_date m.kind) (Foreign from (Good (Message m))) (treats_kind charge from m k)
-  unfolding treats_kind
-  treats_kind_upsets charge Msite e = freely (names_master_leads m (ap is_answered_early e) (answers_any from m Msite e (λ seen. tt)))
-  treats_kind_upsets charge MsiteReq e = freely (says_master_leads m (answers_any from m MsiteReq e (λ seen. tt)))
-  treats_kind_upsets charge TraceOn e = freely (traces_leads m (ap is_answered_early e) (answers_any from m TraceOn e (λ seen. tt)) true)
-  treats_kind_upsets charge TraceOff e = freely (traces_leads m (ap is_answered_early e) (answers_any from m TraceOff e (λ seen. tt)) false)
-  treats_kind_upsets charge Test e = freely (tests_leads m (answers_any from m Test e (λ seen. tt)))
-  treats_kind_upsets charge Date e = upsets_from (λ x past h. h.just) (date_upsets charge (inl e))
-  treats_kind_upsets charge SetDate e = upsets_from (λ x past h. h.just) (date_upsets charge (inr e))
-  treats_kind_upsets charge DateReq e = from_peer_upsets from (Good (Message m)) (date_request_of charge m) (λ p i. date_request_upsets charge (ap is_date_request e))
-  treats_kind_upsets charge SetDateReq e = from_peer_upsets from (Good (Message m)) (date_request_of charge m) (λ p i. date_request_upsets charge (ap is_date_request e))
-  treats_kind_upsets charge DateAck e = from_peer_upsets from (Good (Message m)) (date_acked m) (λ p i. upsets_of (date_acked_leads e))
-  treats_kind_upsets charge Loop e = upsets_of (passes_over (λ x past h. h.just))
-  treats_kind_upsets charge _ e = from_peer_upsets from (Good (Message m)) (peer_says m) (λ p i. upsets_of peer_says_leads)
+  pub handles_kind_upsets : (charge : Bool) (k : Kind) → m.kind ≡ k → Upsets (sets_date m.kind) (Foreign from (Good (Message m))) (handles_kind charge from m k)
+  unfolding handles_kind
+  handles_kind_upsets charge Msite e = freely (names_master_leads m (ap is_answered_early e) (answers_any from m Msite e (λ seen. tt)))
+  handles_kind_upsets charge MsiteReq e = freely (says_master_leads m (answers_any from m MsiteReq e (λ seen. tt)))
+  handles_kind_upsets charge TraceOn e = freely (traces_leads m (ap is_answered_early e) (answers_any from m TraceOn e (λ seen. tt)) true)
+  handles_kind_upsets charge TraceOff e = freely (traces_leads m (ap is_answered_early e) (answers_any from m TraceOff e (λ seen. tt)) false)
+  handles_kind_upsets charge Test e = freely (tests_leads m (answers_any from m Test e (λ seen. tt)))
+  handles_kind_upsets charge Date e = upsets_from (λ x past h. h.just) (date_upsets charge (inl e))
+  handles_kind_upsets charge SetDate e = upsets_from (λ x past h. h.just) (date_upsets charge (inr e))
+  handles_kind_upsets charge DateReq e = from_peer_upsets from (Good (Message m)) (date_request_of charge m) (λ p i. date_request_upsets charge (ap is_date_request e))
+  handles_kind_upsets charge SetDateReq e = from_peer_upsets from (Good (Message m)) (date_request_of charge m) (λ p i. date_request_upsets charge (ap is_date_request e))
+  handles_kind_upsets charge DateAck e = from_peer_upsets from (Good (Message m)) (date_acked m) (λ p i. upsets_of (date_acked_leads e))
+  handles_kind_upsets charge Loop e = upsets_of (passes_over (λ x past h. h.just))
+  handles_kind_upsets charge _ e = from_peer_upsets from (Good (Message m)) (peer_says m) (λ p i. upsets_of peer_says_leads)
 
 -- whether what was taken may set the date
 abbrev pub dates_by : Taken → Bool
@@ -137,20 +137,20 @@ dates_by (Good (Message m)) = sets_date m.kind
 dates_by _ = false
 
 -- what is done with what was taken
-pub treats_upsets : (steer charge : Bool) (from : Place) (t : Taken) → Upsets (dates_by t) (Foreign from t) (treats steer charge from t)
-unfolding treats
-treats_upsets steer charge from (Bad fault) = upsets_of (passes_over (λ x past h. h.just))
-treats_upsets steer charge from (Good (Message m)) = upsets_either (is_left steer m.kind) nothing (treats_kind charge from m m.kind)
-    (upsets_of (passes_over (λ x past h. h.0.just))) (upsets_from (λ x past h. h.0) (treats_kind_upsets charge m.kind refl))
-treats_upsets steer charge from (Good (Stamp (Request word counter))) = upsets_of (Leads_from (λ x past h. h.just.free) (replies_lead from word counter))
-treats_upsets steer charge from (Good (Stamp (Reply r))) = from_peer_upsets from (Good (Stamp (Reply r))) (peer_replies r) (λ p i. upsets_of peer_replies_lead)
+pub handles_upsets : (steer charge : Bool) (from : Place) (t : Taken) → Upsets (dates_by t) (Foreign from t) (handles steer charge from t)
+unfolding handles
+handles_upsets steer charge from (Bad fault) = upsets_of (passes_over (λ x past h. h.just))
+handles_upsets steer charge from (Good (Message m)) = upsets_either (is_left steer m.kind) nothing (handles_kind charge from m m.kind)
+    (upsets_of (passes_over (λ x past h. h.0.just))) (upsets_from (λ x past h. h.0) (handles_kind_upsets charge m.kind refl))
+handles_upsets steer charge from (Good (Stamp (Request word counter))) = upsets_of (Leads_from (λ x past h. h.just.free) (replies_lead from word counter))
+handles_upsets steer charge from (Good (Stamp (Reply r))) = from_peer_upsets from (Good (Stamp (Reply r))) (peer_replies r) (λ p i. upsets_of peer_replies_lead)
 
 -- a datagram is taken
 pub takes_upsets : (steer charge : Bool) (from : Place) (t : Taken) → Upsets (dates_by t) Open (takes steer charge from t)
 unfolding takes puts ◌followed_by◌
 takes_upsets steer charge from t =
-    let k = upsets_either (is_own from) nothing (treats steer charge from t)
-    (upsets_of (passes_over (λ x past h. h.0))) (upsets_from (λ x past h. record { just = h.0; other = h.1 }) (treats_upsets steer charge from t)) in
+    let k = upsets_either (is_own from) nothing (handles steer charge from t)
+    (upsets_of (passes_over (λ x past h. h.0))) (upsets_from (λ x past h. record { just = h.0; other = h.1 }) (handles_upsets steer charge from t)) in
     record { run = λ x past h. k.run x (grown x past (Took from t ∷ [])) (take from t h) }
 
 pub open_rests : (x : ℕ) (past : Past) → Open x past → Rests x past

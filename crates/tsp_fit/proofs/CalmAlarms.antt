@@ -17,14 +17,14 @@ use Rattle.tsp_group.specs.declared.group.Group.{Group}
 use Rattle.tsp_rules.specs.Answers.{alarm_rings, rings, rings_alone, due_alarms}
 use Rattle.tsp_rules.specs.CandidateRows.{lead_row, yields, has_won, window_rings}
 use Rattle.tsp_rules.specs.ClockRows.{can_adjust}
-use Rattle.tsp_rules.specs.CommonRows.{arms_elect, searches, stand_row}
+use Rattle.tsp_rules.specs.CommonRows.{arms_elect, searches, candidature_row}
 use Rattle.tsp_rules.specs.ResolveRows.{quits_rivals, resolve_rings}
 use Rattle.tsp_rules.specs.RoundRows.{asks, asks_slaves, round_begins, begins_or_waits, round_rings, measured_at, asks_measured, has_more, arms_next, abandons, probe_rings, Standing, round_at, standing, estimates, corrects_peer, mean_by, close_act, moves, closes_with, closes, close_rings}
 use Rattle.tsp_rules.specs.SendRows.{begins}
 use Rattle.tsp_rules.specs.SlaveRows.{quiet_rings, rings_or_late, search_rings, loosens, elect_rings}
-use Rattle.tsp_rules.specs.Tests.{is_due, is_in_time, may_stand_at, table_at, rivals_at, follows_at}
+use Rattle.tsp_rules.specs.Guards.{is_due, is_in_time, may_stand_at, table_at, rivals_at, follows_at}
 use Rattle.tsp_fit.proofs.FewActs.{Calm, is_calm, calm_append, each_few, each_calm, calm_puts, calm_then, calm_either, calm_more, calm_arms, calm_posts_to_others, calm_each, filter_few}
-use Rattle.tsp_fit.proofs.CalmRows.{sum, none, calm-elect, calm-searches, calm-begins, calm-stand, calm-adjusts, calm-corrects}
+use Rattle.tsp_fit.proofs.CalmRows.{sum, none, calm-elect, calm-searches, calm-begins, calm-candidature, calm-adjusts, calm-corrects}
 
 -- a round has no more standings than peers
 round_few : (x : ℕ) (past : Past) → length (round_at x past) ≤ length past.peers
@@ -59,9 +59,9 @@ module _ {strange moving : Bool} where
 
   pub calm_elect : Calm strange moving 1 4 elect_rings
   unfolding elect_rings
-  calm_elect = calm_either 1 4 (is_in_time Elect) (puts (Ring Elect) followed_by either_by may_stand_at stand_row (loosens followed_by searches)) (puts (Late Elect) followed_by arms_elect)
-      (sum 0 1 1 3 1 4 (puts (Ring Elect)) (either_by may_stand_at stand_row (loosens followed_by searches)) (calm_puts (Ring Elect) refl)
-      (calm_either 1 3 may_stand_at stand_row (loosens followed_by searches) calm-stand (sum 0 1 1 1 1 3 loosens searches calm_loosens calm-searches (omega arith) (omega arith))) (omega arith) (omega arith))
+  calm_elect = calm_either 1 4 (is_in_time Elect) (puts (Ring Elect) followed_by either_by may_stand_at candidature_row (loosens followed_by searches)) (puts (Late Elect) followed_by arms_elect)
+      (sum 0 1 1 3 1 4 (puts (Ring Elect)) (either_by may_stand_at candidature_row (loosens followed_by searches)) (calm_puts (Ring Elect) refl)
+      (calm_either 1 3 may_stand_at candidature_row (loosens followed_by searches) calm-candidature (sum 0 1 1 1 1 3 loosens searches calm_loosens calm-searches (omega arith) (omega arith))) (omega arith) (omega arith))
       (sum 0 1 0 1 1 4 (puts (Late Elect)) arms_elect (calm_puts (Late Elect) refl) calm-elect (omega arith) (omega arith))
 
   pub calm-yields : Calm strange moving 0 2 yields

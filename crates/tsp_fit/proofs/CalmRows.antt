@@ -15,10 +15,10 @@ use Rattle.tsp_base.specs.RoundFacts.{Estimate}
 use Rattle.tsp_base.specs.Rows.{Row, nothing, puts, ◌followed_by◌, either_by, reading, arms, posts, posts_to_others, posts_time}
 use Rattle.tsp_base.specs.SendFacts.{is_correction, Sending}
 use Rattle.tsp_rules.specs.ClockRows.{adjusts, sets}
-use Rattle.tsp_rules.specs.CommonRows.{arms_elect, searches, tells_ticket, follow_row, own_at, backs_own, stand_row, follows_unless, quits}
+use Rattle.tsp_rules.specs.CommonRows.{arms_elect, searches, tells_ticket, follow_row, own_at, backs_own, candidature_row, follows_unless, quits}
 use Rattle.tsp_rules.specs.RoundRows.{Standing, is_near, corrects_by, corrects_peer}
-use Rattle.tsp_rules.specs.SendRows.{next_number, begins, others_at, begins_to_others, may_correct, begins_adjtime, may_set, begins_settime, open_at, is_send_due, is_spent, leaves_after, gives_up, repeats, treats_send, due_send, treats_bare_send, bare_send, peers_at, due_sends}
-use Rattle.tsp_rules.specs.Tests.{role_at, ticket_at, target_at, delay_at, is_slave_at}
+use Rattle.tsp_rules.specs.SendRows.{next_number, begins, others_at, begins_to_others, may_correct, begins_adjtime, may_set, begins_settime, open_at, is_send_due, is_spent, leaves_after, gives_up, repeats, repeats_send, due_send, repeats_bare_send, bare_send, peers_at, due_sends}
+use Rattle.tsp_rules.specs.Guards.{role_at, ticket_at, target_at, delay_at, is_slave_at}
 use Rattle.tsp_fit.proofs.FewActs.{Calm, calm_nothing, calm_puts, calm_then, calm_either, calm_reading, calm_more, calm_arms, calm_posts, calm_posts_time, calm_posts_to_others, calm_each, filter_few}
 
 module _ {strange moving : Bool} where
@@ -63,9 +63,9 @@ module _ {strange moving : Bool} where
   unfolding backs_own
   calm-backs = calm_reading 0 1 own_at (λ own. puts (Back own)) (λ own. calm_puts (Back own) refl)
 
-  pub calm-stand : Calm strange moving 1 3 stand_row
-  unfolding stand_row
-  calm-stand =
+  pub calm-candidature : Calm strange moving 1 3 candidature_row
+  unfolding candidature_row
+  calm-candidature =
       sum 0 1 1 2 1 3 (puts (Become Candidate)) (backs_own followed_by (arms Window WINDOW followed_by begins_to_others Election)) (calm_puts (Become Candidate) refl)
       (sum 0 1 1 1 1 2 backs_own (arms Window WINDOW followed_by begins_to_others Election) calm-backs
       (sum 0 1 1 0 1 1 (arms Window WINDOW) (begins_to_others Election) (calm_arms Window WINDOW) (calm-begins-others Election) (omega arith) (omega arith)) (omega arith) (omega arith)) (omega arith) (omega arith)
@@ -89,10 +89,10 @@ module _ {strange moving : Bool} where
     by_case true = calm_either 0 1 (is_slave_at p) (puts (Leave p)) nothing (calm_puts (Leave p) refl) (none 0 1)
     by_case false = none 0 1
 
-  calm-treats : (p : PeerId) (o : Option Sending) → Calm strange moving 0 2 (treats_send p o)
-  unfolding treats_send gives_up repeats
-  calm-treats p None = none 0 2
-  calm-treats p (Some s) = calm_either 0 2 (is_send_due s) (either_by (is_spent s) (puts (Gave p) followed_by leaves_after p s.message.kind) (puts (Post (Peer p) (Message s.message)))) nothing
+  calm-repeats-send : (p : PeerId) (o : Option Sending) → Calm strange moving 0 2 (repeats_send p o)
+  unfolding repeats_send gives_up repeats
+  calm-repeats-send p None = none 0 2
+  calm-repeats-send p (Some s) = calm_either 0 2 (is_send_due s) (either_by (is_spent s) (puts (Gave p) followed_by leaves_after p s.message.kind) (puts (Post (Peer p) (Message s.message)))) nothing
       (calm_either 0 2 (is_spent s) (puts (Gave p) followed_by leaves_after p s.message.kind) (puts (Post (Peer p) (Message s.message)))
       (calm_then 0 1 0 1 (puts (Gave p)) (leaves_after p s.message.kind) (calm_puts (Gave p) refl) (calm-leaves p s.message.kind))
       (calm_more 0 1 0 2 (puts (Post (Peer p) (Message s.message))) (omega arith) (omega arith) (calm_puts (Post (Peer p) (Message s.message)) refl)))
@@ -100,18 +100,18 @@ module _ {strange moving : Bool} where
 
   pub calm_due_send : (p : PeerId) → Calm strange moving 0 2 (due_send p)
   unfolding due_send
-  calm_due_send p = calm_reading 0 2 (open_at p) (treats_send p) (calm-treats p)
+  calm_due_send p = calm_reading 0 2 (open_at p) (repeats_send p) (calm-repeats-send p)
 
-  calm-treats-bare : (p : PeerId) (o : Option Sending) → Calm strange moving 0 1 (treats_bare_send p o)
-  unfolding treats_bare_send repeats
-  calm-treats-bare p None = none 0 1
-  calm-treats-bare p (Some s) = calm_either 0 1 (is_send_due s) (either_by (is_spent s) (puts (Gave p)) (puts (Post (Peer p) (Message s.message)))) nothing
+  calm-repeats-bare : (p : PeerId) (o : Option Sending) → Calm strange moving 0 1 (repeats_bare_send p o)
+  unfolding repeats_bare_send repeats
+  calm-repeats-bare p None = none 0 1
+  calm-repeats-bare p (Some s) = calm_either 0 1 (is_send_due s) (either_by (is_spent s) (puts (Gave p)) (puts (Post (Peer p) (Message s.message)))) nothing
       (calm_either 0 1 (is_spent s) (puts (Gave p)) (puts (Post (Peer p) (Message s.message))) (calm_puts (Gave p) refl) (calm_puts (Post (Peer p) (Message s.message)) refl))
       (none 0 1)
 
   pub calm_bare_send : (p : PeerId) → Calm strange moving 0 1 (bare_send p)
   unfolding bare_send
-  calm_bare_send p = calm_reading 0 1 (open_at p) (treats_bare_send p) (calm-treats-bare p)
+  calm_bare_send p = calm_reading 0 1 (open_at p) (repeats_bare_send p) (calm-repeats-bare p)
 
   pub calm_due_sends : Calm strange moving 2 0 due_sends
   unfolding due_sends

@@ -22,22 +22,22 @@ use Rattle.tsp_base.specs.RoundFacts.{OpenRequest}
 use Rattle.tsp_base.specs.Rows.{Row, grown, nothing, puts, ◌followed_by◌, either_by, reading, bare, posts, posts_to_others, posts_back, posts_time}
 use Rattle.tsp_base.specs.Stamps.{ReplyValue}
 use Rattle.tsp_base.specs.Takings.{time_in}
-use Rattle.tsp_rules.specs.Answers.{due_alarms, says_in, peer_says, replies_in, peer_replies, from_peer, treats_kind, is_left, treats, takes, Turn, Got, input_row, answers}
+use Rattle.tsp_rules.specs.Answers.{due_alarms, says_in, peer_says, replies_in, peer_replies, from_peer, handles_kind, is_left, handles, takes, Turn, Got, input_row, answers}
 use Rattle.tsp_rules.specs.CandidateRows.{candidate_takes}
-use Rattle.tsp_rules.specs.CommonRows.{stand_row, posts_reply, replies, master_name, names_master, says_master, traces, may_be_asked, is_awake, tests}
+use Rattle.tsp_rules.specs.CommonRows.{candidature_row, posts_reply, replies, master_name, names_master, says_master, traces, may_be_asked, is_awake, tests}
 use Rattle.tsp_rules.specs.DateRows.{may_pass_on, passes_on, may_date, leaves, leaves_all, new_date, sets_date_where, date_in, date_of, is_dated, sets_in_charge, date_request_in, date_request_of, has_date, date_acked_in, date_acked}
 use Rattle.tsp_rules.specs.ClockRows.{sets}
 use Rattle.tsp_rules.specs.MasterRows.{master_takes}
 use Rattle.tsp_rules.specs.RoundRows.{request_at, sample_of, samples_request, samples, corrects, abandons, abandons_going, upsetting}
 use Rattle.tsp_rules.specs.SendRows.{begins_timed, next_number, due_sends}
 use Rattle.tsp_rules.specs.SlaveRows.{slave_takes}
-use Rattle.tsp_rules.specs.Tests.{role_at, target_at, table_at, is_going_at, is_in_range, is_master_at, is_own, is_heard}
+use Rattle.tsp_rules.specs.Guards.{role_at, target_at, table_at, is_going_at, is_in_range, is_master_at, is_own, is_heard}
 use Rattle.tsp_fit.specs.Strangers.{is_stranger, IsKnown, StrangersAreAnswered}
 use Rattle.tsp_fit.proofs.FewActs.{Calm, is_calm_act, is_calm, calm_append, calm_back, calm_nothing, calm_puts, calm_then, calm_either, calm_reading, calm_more, calm_posts, calm_posts_back, calm_posts_time, calm_posts_to_others, calm_each, filter_few}
-use Rattle.tsp_fit.proofs.CalmRows.{sum, none, calm_due_sends, calm-stand, calm-sets}
+use Rattle.tsp_fit.proofs.CalmRows.{sum, none, calm_due_sends, calm-candidature, calm-sets}
 use Rattle.tsp_fit.proofs.CalmAlarms.{calm_due_alarms}
 use Rattle.tsp_fit.proofs.CalmTaken.{five, calm_slave, calm_candidate, calm_master}
-use Rattle.tsp_fit.proofs.TestFacts.{and-cases}
+use Rattle.tsp_fit.proofs.GuardFacts.{and-cases}
 
 module _ {strange : Bool} where
   pub calm-says : (p : PeerId) (m : MessageValue) (r : Role) → Calm strange true 1 5 (says_in p m r)
@@ -145,44 +145,44 @@ calm-traces from number on = calm_then 0 1 0 1 (puts (Trace on)) (posts_back fro
 
 pub calm-tests : (from : Place) (number : ℕ) → Calm (is_stranger from) true 1 4 (tests from number)
 unfolding tests
-calm-tests from number = calm_either 1 4 is_awake (posts_back from Ack number followed_by either_by may_be_asked stand_row nothing) nothing
-    (calm_then 0 1 1 3 (posts_back from Ack number) (either_by may_be_asked stand_row nothing) (calm_posts_back from Ack number) (calm_either 1 3 may_be_asked stand_row nothing calm-stand (none 1 3)))
+calm-tests from number = calm_either 1 4 is_awake (posts_back from Ack number followed_by either_by may_be_asked candidature_row nothing) nothing
+    (calm_then 0 1 1 3 (posts_back from Ack number) (either_by may_be_asked candidature_row nothing) (calm_posts_back from Ack number) (calm_either 1 3 may_be_asked candidature_row nothing calm-candidature (none 1 3)))
     (none 1 4)
 
 pub calm-says-master : (from : Place) (number : ℕ) → Calm (is_stranger from) true 0 1 (says_master from number)
 unfolding says_master
 calm-says-master from number = calm_either 0 1 is_master_at (posts_back from Ack number) nothing (calm_posts_back from Ack number) (none 0 1)
 
-pub calm_treats_kind : (charge : Bool) (from : Place) (m : MessageValue) (k : Kind) → Calm (is_stranger from) true 2 5 (treats_kind charge from m k)
-unfolding treats_kind
-calm_treats_kind charge from m Msite = two 0 1 _ (omega arith) (omega arith) (calm-names from m.number)
-calm_treats_kind charge from m MsiteReq = two 0 1 _ (omega arith) (omega arith) (calm-says-master from m.number)
-calm_treats_kind charge from m TraceOn = two 0 2 _ (omega arith) (omega arith) (calm-traces from m.number true)
-calm_treats_kind charge from m TraceOff = two 0 2 _ (omega arith) (omega arith) (calm-traces from m.number false)
-calm_treats_kind charge from m Test = two 1 4 _ (omega arith) (omega arith) (calm-tests from m.number)
-calm_treats_kind charge from m Date = calm-date charge from m
-calm_treats_kind charge from m SetDate = calm-date charge from m
-calm_treats_kind charge from m DateReq = calm_from_peer from (date_request_of charge m) (calm-date-request charge m)
-calm_treats_kind charge from m SetDateReq = calm_from_peer from (date_request_of charge m) (calm-date-request charge m)
-calm_treats_kind charge from m DateAck = calm_from_peer from (date_acked m) (λ p. two 0 1 _ (omega arith) (omega arith) (calm-date-acked m p))
-calm_treats_kind charge from m Loop = none 2 5
-calm_treats_kind charge from m _ = calm_from_peer from (peer_says m) (λ p. two 1 5 _ (omega arith) (omega arith) (calm_peer_says m p))
+pub calm_handles_kind : (charge : Bool) (from : Place) (m : MessageValue) (k : Kind) → Calm (is_stranger from) true 2 5 (handles_kind charge from m k)
+unfolding handles_kind
+calm_handles_kind charge from m Msite = two 0 1 _ (omega arith) (omega arith) (calm-names from m.number)
+calm_handles_kind charge from m MsiteReq = two 0 1 _ (omega arith) (omega arith) (calm-says-master from m.number)
+calm_handles_kind charge from m TraceOn = two 0 2 _ (omega arith) (omega arith) (calm-traces from m.number true)
+calm_handles_kind charge from m TraceOff = two 0 2 _ (omega arith) (omega arith) (calm-traces from m.number false)
+calm_handles_kind charge from m Test = two 1 4 _ (omega arith) (omega arith) (calm-tests from m.number)
+calm_handles_kind charge from m Date = calm-date charge from m
+calm_handles_kind charge from m SetDate = calm-date charge from m
+calm_handles_kind charge from m DateReq = calm_from_peer from (date_request_of charge m) (calm-date-request charge m)
+calm_handles_kind charge from m SetDateReq = calm_from_peer from (date_request_of charge m) (calm-date-request charge m)
+calm_handles_kind charge from m DateAck = calm_from_peer from (date_acked m) (λ p. two 0 1 _ (omega arith) (omega arith) (calm-date-acked m p))
+calm_handles_kind charge from m Loop = none 2 5
+calm_handles_kind charge from m _ = calm_from_peer from (peer_says m) (λ p. two 1 5 _ (omega arith) (omega arith) (calm_peer_says m p))
 
 -- whether what was taken is a message
 abbrev pub is_message : Taken → Bool
 is_message (Good (Message m)) = true
 is_message _ = false
 
-pub calm_treats : (steer charge : Bool) (from : Place) (t : Taken) → Calm (is_stranger from) true 2 5 (treats steer charge from t)
-unfolding treats
-calm_treats steer charge from (Bad fault) = none 2 5
-calm_treats steer charge from (Good (Message m)) = calm_either 2 5 (is_left steer m.kind) nothing (treats_kind charge from m m.kind) (none 2 5) (calm_treats_kind charge from m m.kind)
-calm_treats steer charge from (Good (Stamp (Request word counter))) = two 0 1 _ (omega arith) (omega arith) (calm_replies from word counter)
-calm_treats steer charge from (Good (Stamp (Reply r))) = calm_from_peer from (peer_replies r) (λ p. two 1 5 _ (omega arith) (omega arith) (calm_peer_replies r p))
+pub calm_handles : (steer charge : Bool) (from : Place) (t : Taken) → Calm (is_stranger from) true 2 5 (handles steer charge from t)
+unfolding handles
+calm_handles steer charge from (Bad fault) = none 2 5
+calm_handles steer charge from (Good (Message m)) = calm_either 2 5 (is_left steer m.kind) nothing (handles_kind charge from m m.kind) (none 2 5) (calm_handles_kind charge from m m.kind)
+calm_handles steer charge from (Good (Stamp (Request word counter))) = two 0 1 _ (omega arith) (omega arith) (calm_replies from word counter)
+calm_handles steer charge from (Good (Stamp (Reply r))) = calm_from_peer from (peer_replies r) (λ p. two 1 5 _ (omega arith) (omega arith) (calm_peer_replies r p))
 
 -- stamps, and octets that are no datagram, never move the clock
-pub calm_stamps : (steer charge : Bool) (from : Place) (t : Taken) → is_message t ≡ false → Calm (is_stranger from) false 2 5 (treats steer charge from t)
-unfolding treats
+pub calm_stamps : (steer charge : Bool) (from : Place) (t : Taken) → is_message t ≡ false → Calm (is_stranger from) false 2 5 (handles steer charge from t)
+unfolding handles
 calm_stamps steer charge from (Bad fault) e = none 2 5
 calm_stamps steer charge from (Good (Message m)) e = absurd (true≢false e)
 calm_stamps steer charge from (Good (Stamp (Request word counter))) e = two 0 1 _ (omega arith) (omega arith) (calm_replies from word counter)
@@ -199,11 +199,11 @@ pub record TakesFirst (moving : Bool) (from : Place) (t : Taken) (most : ℕ) (a
 pub record Taking (moving : Bool) (from : Place) (t : Taken) (k c : ℕ) (row : Row) : Type 0 where
   pub run : (x : ℕ) (past : Past) → TakesFirst moving from t (k * length past.peers + c) (row x past)
 
-pub taking : {moving : Bool} (from : Place) (t : Taken) (k c : ℕ) (treated : Row) → Calm (is_stranger from) moving k c treated → Taking moving from t k c (puts (Took from t) followed_by either_by (is_own from) nothing treated)
+pub taking : {moving : Bool} (from : Place) (t : Taken) (k c : ℕ) (handled : Row) → Calm (is_stranger from) moving k c handled → Taking moving from t k c (puts (Took from t) followed_by either_by (is_own from) nothing handled)
 unfolding ◌followed_by◌ puts
-taking from t k c treated p = record {
+taking from t k c handled p = record {
   run = λ x past.
-      let row = calm_either k c (is_own from) nothing treated (none k c) p in
+      let row = calm_either k c (is_own from) nothing handled (none k c) p in
       record { after = _; is = refl; calm = row.calm x (grown x past (Took from t ∷ [])); few = row.few x (grown x past (Took from t ∷ [])) };
 }
 
@@ -270,8 +270,8 @@ takes_between from t sends alarms input send_calm alarm_calm taken x past =
 
 pub takes_once : (from : Place) (t : Taken) (x : ℕ) (past : Past) → TakesOnce from t (length past.peers) (answers (Got from t) x past)
 unfolding answers input_row takes
-takes_once from t = takes_between from t due_sends due_alarms (upsetting (puts (Took from t) followed_by either_by (is_own from) nothing (treats true true from t))) calm_due_sends calm_due_alarms
-    (taking_upsetting from t 2 5 _ (taking from t 2 5 (treats true true from t) (calm_treats true true from t)))
+takes_once from t = takes_between from t due_sends due_alarms (upsetting (puts (Took from t) followed_by either_by (is_own from) nothing (handles true true from t))) calm_due_sends calm_due_alarms
+    (taking_upsetting from t 2 5 _ (taking from t 2 5 (handles true true from t) (calm_handles true true from t)))
 
 -- calm acts are known
 known_act : (strange moving : Bool) (a : Act) → is_calm_act strange moving a ≡ true → IsKnown strange a

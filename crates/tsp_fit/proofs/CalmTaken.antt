@@ -18,7 +18,7 @@ use Rattle.tsp_rules.specs.CommonRows.{arms_elect, tells_ticket, follow_row}
 use Rattle.tsp_rules.specs.ResolveRows.{resolves, is_new_rival, finds_rival}
 use Rattle.tsp_rules.specs.SendRows.{begins, begins_settime, is_free, has_other, acknowledges, has_election, has_quit}
 use Rattle.tsp_rules.specs.SlaveRows.{reports_conflict, masterup_in, masterack_in, election_of, is_repeated, acks_repeat, confirms, takes_amount, adjtime_of, takes_value, settime_of, from_master, slave_takes_kind}
-use Rattle.tsp_rules.specs.Tests.{role_at, is_armed, may_back_at}
+use Rattle.tsp_rules.specs.Guards.{role_at, is_armed, may_back_at}
 use Rattle.tsp_rules.specs.MasterRows.{may_join, joins, sends_away, master_takes_kind}
 use Rattle.tsp_fit.proofs.FewActs.{Calm, calm_puts, calm_then, calm_either, calm_reading, calm_more, calm_arms, calm_posts, calm_posts_to_others}
 use Rattle.tsp_fit.proofs.CalmRows.{none, calm-elect, calm-again, calm-follow, calm-begins, calm-quits, calm-settime, calm-adjusts, calm-sets}

@@ -21,14 +21,14 @@ use Rattle.tsp_group.specs.declared.group.Group.{Group}
 use Rattle.tsp_rules.specs.Answers.{alarm_rings, rings}
 use Rattle.tsp_rules.specs.ClockRows.{can_adjust, adjusts}
 use Rattle.tsp_rules.specs.RoundRows.{Standing, standing, round_at, measured_at, estimates, corrects_peer, mean_by, close_act, moves, closes_with, closes, close_rings, abandons}
-use Rattle.tsp_rules.specs.Tests.{is_due, is_in_time}
+use Rattle.tsp_rules.specs.Guards.{is_due, is_in_time}
 use Rattle.tsp_fit.proofs.Known.{Free, Open, Untaken}
 use Rattle.tsp_fit.proofs.Leaves.{now, some-same, correct, abandon, close_act as close_leaf}
 use Rattle.tsp_fit.proofs.Rings.{open_of, ring_close, late_close}
-use Rattle.tsp_fit.proofs.TestFacts.{due_is, met_is}
+use Rattle.tsp_fit.proofs.GuardFacts.{due_is, met_is}
 use Rattle.tsp_fit.proofs.AlarmLeads.{rings_lead, master_rested}
 use Rattle.tsp_fit.proofs.RoundLeads.{Probed}
-use Rattle.tsp_fit.proofs.Treats.{Treating, peers_lead}
+use Rattle.tsp_fit.proofs.PeerCorrections.{CorrectingPeers, peers_lead}
 
 -- a round that closes now, with what it has come to
 record Closing (round : List Standing) (x : ℕ) (past : Past) : Type 0 where
@@ -67,18 +67,18 @@ record Closed (mean : ℤ) (round : List Standing) (x : ℕ) (past : Past) : Typ
   pub peers : List PeerId
   pub round_is : round ≡ map (standing before) peers
 
--- the same with the Close that is treated
-record Treated (mean : ℤ) (round : List Standing) (x : ℕ) (past : Past) : Type 0 where
+-- the same, while the measured peers are corrected
+record CorrectingRound (mean : ℤ) (round : List Standing) (x : ℕ) (past : Past) : Type 0 where
   pub close : Did
   pub before : List Seen
-  pub treating : Treating mean close before x past
+  pub correcting : CorrectingPeers mean close before x past
   pub peers : List PeerId
   pub round_is : round ≡ map (standing before) peers
 
-treats_round : (mean : ℤ) (round : List Standing) → Leads (Treated mean round) (for_each (corrects_peer mean) round) Open
-treats_round mean round = record {
+corrects_round : (mean : ℤ) (round : List Standing) → Leads (CorrectingRound mean round) (for_each (corrects_peer mean) round) Open
+corrects_round mean round = record {
   run = λ x past h.
-      let t = (peers_lead h.peers).run x past h.treating in
+      let t = (peers_lead h.peers).run x past h.correcting in
       subst (λ r. Open x (grown x past (for_each (corrects_peer mean) r x past))) (sym h.round_is) (open_of t.free);
 }
 
@@ -87,14 +87,14 @@ closes_here : (d : Did) (before : List Seen) (count : ℕ) (lo size mean : ℤ) 
 closes_here d before count lo size mean e = ap (λ t. closed_after t (Here d ∷ before) (closed before)) e
 
 -- the own clock's correction comes right after the Close
-adjusts_lead : (mean : ℤ) (round : List Standing) → Leads (Closed mean round) (adjusts mean) (Treated mean round)
+adjusts_lead : (mean : ℤ) (round : List Standing) → Leads (Closed mean round) (adjusts mean) (CorrectingRound mean round)
 unfolding adjusts
 adjusts_lead mean round = record { run = λ x past h. corrected x past h _ _ } where
-  corrected : (x : ℕ) (past : Past) → Closed mean round x past → (stepped : Bool) (shown : ℤ) → Treated mean round x (grown x past (Correct mean stepped shown ∷ []))
+  corrected : (x : ℕ) (past : Past) → Closed mean round x past → (stepped : Bool) (shown : ℤ) → CorrectingRound mean round x (grown x past (Correct mean stepped shown ∷ []))
   corrected x past h stepped shown = record {
     close = h.close;
     before = h.before;
-    treating = record {
+    correcting = record {
       free = correct mean stepped shown h.closed (record {
         gap = h.gap;
         rested = h.free.rested refl;
@@ -125,11 +125,11 @@ adjusts_lead mean round = record { run = λ x past h. corrected x past h _ _ } w
   }
 
 -- where another port leads the clock it stays, and the mean is 0
-stays_lead : (round : List Standing) → Leads (Closed (pos 0) round) nothing (Treated (pos 0) round)
+stays_lead : (round : List Standing) → Leads (Closed (pos 0) round) nothing (CorrectingRound (pos 0) round)
 stays_lead round = Leads_to (λ x past h. record {
   close = h.close;
   before = h.before;
-  treating = record {
+  correcting = record {
     free = h.free;
     leads = h.leads;
     close_is = ap closed h.newest ∙ closes_here h.close h.before h.count h.lo h.size (pos 0) h.deed;
@@ -149,7 +149,7 @@ stays_lead round = Leads_to (λ x past h. record {
   round_is = h.round_is;
 }) (Leads_nothing {P = Closed (pos 0) round})
 
-moves_lead : (own : Bool) (g : Group) (round : List Standing) → Leads (Closed (mean_by own g) round) (moves own (mean_by own g)) (Treated (mean_by own g) round)
+moves_lead : (own : Bool) (g : Group) (round : List Standing) → Leads (Closed (mean_by own g) round) (moves own (mean_by own g)) (CorrectingRound (mean_by own g) round)
 unfolding moves
 moves_lead true g round = adjusts_lead (mean_of g) round
 moves_lead false g round = stays_lead round
@@ -182,7 +182,7 @@ unfolding closes_with abandons
 closes_with_lead own g round = Leads_either (can_adjust (mean_by own g)) (puts (close_act own g) followed_by (moves own (mean_by own g) followed_by for_each (corrects_peer (mean_by own g)) round)) (puts Abandon)
     (Leads_then {Q = Closed (mean_by own g) round} (puts (close_act own g)) (moves own (mean_by own g) followed_by for_each (corrects_peer (mean_by own g)) round)
     (Leads_puts (close_act own g) (λ x past c. closes_now own g round x past c.0))
-    (Leads_then {Q = Treated (mean_by own g) round} (moves own (mean_by own g)) (for_each (corrects_peer (mean_by own g)) round) (moves_lead own g round) (treats_round (mean_by own g) round)))
+    (Leads_then {Q = CorrectingRound (mean_by own g) round} (moves own (mean_by own g)) (for_each (corrects_peer (mean_by own g)) round) (moves_lead own g round) (corrects_round (mean_by own g) round)))
     (Leads_puts Abandon (λ x past c. open_of (abandon c.0.free)))
 
 -- no probe is left when a round closes

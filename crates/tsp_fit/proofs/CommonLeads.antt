@@ -20,16 +20,16 @@ use Rattle.tsp_base.specs.Messages.{MessageValue}
 use Rattle.tsp_base.specs.PortFacts.{Received, role, held, armed, stood, backers}
 use Rattle.tsp_base.specs.Rows.{grown, puts, ◌followed_by◌, for_each, arms, bare, post_of, posts, posts_to_others}
 use Rattle.tsp_base.proofs.LeadsLemmas.{Leads_then, Leads_reading, Leads_puts, Leads_each, Leads_from, Leads_to}
-use Rattle.tsp_rules.specs.CommonRows.{arms_elect, searches, tells_ticket, follow_row, backs_own, own_at, stand_row}
+use Rattle.tsp_rules.specs.CommonRows.{arms_elect, searches, tells_ticket, follow_row, backs_own, own_at, candidature_row}
 use Rattle.tsp_rules.specs.SendRows.{next_number, begins, others_at, begins_to_others, is_kind_election}
-use Rattle.tsp_rules.specs.Tests.{delay_at, ticket_at}
+use Rattle.tsp_rules.specs.Guards.{delay_at, ticket_at}
 use Rattle.tsp_fit.proofs.Known.{During, Free}
 use Rattle.tsp_fit.specs.PortFits.{setup_in}
 use Rattle.tsp_fit.proofs.Leaves.{now, arm_search, arm_elect, arm_window}
 use Rattle.tsp_fit.proofs.PostLeaves.{post_message, post_election}
 use Rattle.tsp_fit.proofs.Changes.{Quitting, FreeIn, become_follow, become_candidate, back_own}
 use Rattle.tsp_fit.proofs.LeadsLeaves.{Leads_arms, Leads_posts, Leads_others}
-use Rattle.tsp_fit.proofs.TestFacts.{MayStand, back_is}
+use Rattle.tsp_fit.proofs.GuardFacts.{MayStand, back_is}
 
 module _ {P : ℕ → Past → Type 0} where
   pub arms_elect_keeps : ((x : ℕ) (past : Past) (at : ℕ) → P x past → P x (grown x past (Arm Elect at ∷ []))) → Leads P arms_elect P
@@ -91,12 +91,12 @@ module _ {T : Option Received → Option Received → Type 0} where
       let m = bare QuitKind n past.name in post_message p m refl (own_number x past p (now x past (Post (Peer p) (Message m))) m h.0 h.1) h.0))
 
 -- a port that may stand
-pub record Standing (T : Option Received → Option Received → Type 0) (x : ℕ) (past : Past) : Type 0 where
+pub record Eligible (T : Option Received → Option Received → Type 0) (x : ℕ) (past : Past) : Type 0 where
   pub free : Free T x past
   pub may : MayStand (held past.seen) x past.own
 
 -- a candidate that is about to back itself
-record Standing_up (T : Option Received → Option Received → Type 0) (x : ℕ) (past : Past) : Type 0 where
+record BackingItself (T : Option Received → Option Received → Type 0) (x : ℕ) (past : Past) : Type 0 where
   pub during : During false true true None true T x past
   pub role_is : role past.seen ≡ Candidate
   pub shut : (armed past.seen).window ≡ None
@@ -135,7 +135,7 @@ module _ {T : Option Received → Option Received → Type 0} where
         unbacked = h.unbacked;
       }))
 
-  backs_up : (x : ℕ) (past : Past) → Standing_up T x past → Electing T x (grown x past (Back past.own ∷ []))
+  backs_up : (x : ℕ) (past : Past) → BackingItself T x past → Electing T x (grown x past (Back past.own ∷ []))
   backs_up x past h = record {
     free = back_own h.shut h.back h.during;
     role_is = h.role_is;
@@ -159,9 +159,9 @@ module _ {T : Option Received → Option Received → Type 0} where
     unbacked = h.unbacked;
   }
 
-  pub stand_leads : Leads (Standing T) stand_row (FreeIn None T Candidate)
-  unfolding stand_row backs_own begins_to_others
-  stand_leads = Leads_then {Q = Standing_up T} (puts (Become Candidate)) (backs_own followed_by (arms Window WINDOW followed_by begins_to_others Election))
+  pub candidature_leads : Leads (Eligible T) candidature_row (FreeIn None T Candidate)
+  unfolding candidature_row backs_own begins_to_others
+  candidature_leads = Leads_then {Q = BackingItself T} (puts (Become Candidate)) (backs_own followed_by (arms Window WINDOW followed_by begins_to_others Election))
       (Leads_puts (Become Candidate) (λ x past h.
       let long : boot_tick (plain past.seen) + ELECT_MIN ≤ x = let b = h.may.boot in let e = h.free.knows.times.boot_is in omega (arith, b, e) in
       record {

@@ -20,15 +20,15 @@ use Rattle.tsp_base.specs.SendFacts.{is_correction, is_numbered, Sending, open_s
 use Rattle.tsp_base.specs.Setup.{Setup}
 use Rattle.tsp_base.specs.StepFacts.{is_unbacked}
 use Rattle.tsp_base.proofs.LeadsLemmas.{Leads_then, Leads_either, Leads_reading, Leads_nothing, Leads_puts, Leads_each, Leads_from, Leads_to}
-use Rattle.tsp_rules.specs.SendRows.{may_correct, open_at, leaves_after, gives_up, repeats, treats_send, due_send, treats_bare_send, bare_send, peers_at, due_sends, is_send_due, is_spent}
-use Rattle.tsp_rules.specs.Tests.{is_slave_at}
+use Rattle.tsp_rules.specs.SendRows.{may_correct, open_at, leaves_after, gives_up, repeats, repeats_send, due_send, repeats_bare_send, bare_send, peers_at, due_sends, is_send_due, is_spent}
+use Rattle.tsp_rules.specs.Guards.{is_slave_at}
 use Rattle.tsp_fit.specs.PortFits.{PortFits, setup_in}
 use Rattle.tsp_fit.proofs.Known.{During, Fresh, Untaken}
 use Rattle.tsp_fit.proofs.Leaves.{now, none-some, gave, leave}
 use Rattle.tsp_fit.proofs.PostLeaves.{post_again}
 use Rattle.tsp_fit.proofs.Rings.{wake, forget}
 use Rattle.tsp_fit.proofs.SendFits.{OpenIs, open_is}
-use Rattle.tsp_fit.proofs.TestFacts.{and-cases, or-cases, past_is, same_peer}
+use Rattle.tsp_fit.proofs.GuardFacts.{and-cases, or-cases, past_is, same_peer}
 
 -- the place where the last correction to p begins
 pub record LastIs (p : PeerId) (seen : List Seen) : Type 0 where
@@ -195,31 +195,31 @@ repeats_lead p s = Leads_puts (Post (Peer p) (Message s.message)) (λ x past h.
 gives_up_leads : (p : PeerId) (s : Sending) → Leads (λ x past. ((Fresh x past × (open_at p x past ≡ Some s)) × (is_send_due s x past ≡ true)) × (is_spent s x past ≡ true)) (puts (Gave p)) Sending_on
 gives_up_leads p s = Leads_puts (Gave p) (λ x past h. gave p (awake_open p s x past h.0.0.0 h.0.0.1))
 
-treats_leads : (p : PeerId) (o : Option Sending) → Leads (λ x past. Fresh x past × (open_at p x past ≡ o)) (treats_send p o) Fresh
-unfolding treats_send gives_up
-treats_leads p None = Leads_from (λ x past h. h.0) Leads_nothing
-treats_leads p (Some s) = Leads_either (is_send_due s) (either_by (is_spent s) (puts (Gave p) followed_by leaves_after p s.message.kind) (repeats p s.message)) nothing
+repeats_send_leads : (p : PeerId) (o : Option Sending) → Leads (λ x past. Fresh x past × (open_at p x past ≡ o)) (repeats_send p o) Fresh
+unfolding repeats_send gives_up
+repeats_send_leads p None = Leads_from (λ x past h. h.0) Leads_nothing
+repeats_send_leads p (Some s) = Leads_either (is_send_due s) (either_by (is_spent s) (puts (Gave p) followed_by leaves_after p s.message.kind) (repeats p s.message)) nothing
     (Leads_either (is_spent s) (puts (Gave p) followed_by leaves_after p s.message.kind) (repeats p s.message)
     (Leads_then {Q = Sending_on} (puts (Gave p)) (leaves_after p s.message.kind) (gives_up_leads p s) (leaves_fresh p s.message.kind))
     (repeats_lead p s))
     (Leads_from (λ x past h. h.0.0) Leads_nothing)
 
-treats_bare_leads : (p : PeerId) (o : Option Sending) → Leads (λ x past. Fresh x past × (open_at p x past ≡ o)) (treats_bare_send p o) Fresh
-unfolding treats_bare_send
-treats_bare_leads p None = Leads_from (λ x past h. h.0) Leads_nothing
-treats_bare_leads p (Some s) = Leads_either (is_send_due s) (either_by (is_spent s) (puts (Gave p)) (repeats p s.message)) nothing
+repeats_bare_leads : (p : PeerId) (o : Option Sending) → Leads (λ x past. Fresh x past × (open_at p x past ≡ o)) (repeats_bare_send p o) Fresh
+unfolding repeats_bare_send
+repeats_bare_leads p None = Leads_from (λ x past h. h.0) Leads_nothing
+repeats_bare_leads p (Some s) = Leads_either (is_send_due s) (either_by (is_spent s) (puts (Gave p)) (repeats p s.message)) nothing
     (Leads_either (is_spent s) (puts (Gave p)) (repeats p s.message) (Leads_to (λ x past h. forget h) (gives_up_leads p s)) (repeats_lead p s))
     (Leads_from (λ x past h. h.0.0) Leads_nothing)
 
 -- an open send that is due keeps what is known of a port
 pub due_send_leads : (p : PeerId) → Leads Fresh (due_send p) Fresh
 unfolding due_send
-due_send_leads p = Leads_reading (open_at p) (treats_send p) (treats_leads p)
+due_send_leads p = Leads_reading (open_at p) (repeats_send p) (repeats_send_leads p)
 
 -- so it does without a slave table
 pub bare_send_leads : (p : PeerId) → Leads Fresh (bare_send p) Fresh
 unfolding bare_send
-bare_send_leads p = Leads_reading (open_at p) (treats_bare_send p) (treats_bare_leads p)
+bare_send_leads p = Leads_reading (open_at p) (repeats_bare_send p) (repeats_bare_leads p)
 
 -- and so do all sends
 pub due_sends_lead : Leads Fresh due_sends Fresh

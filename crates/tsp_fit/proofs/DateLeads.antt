@@ -30,14 +30,14 @@ use Rattle.tsp_base.proofs.LeadsLemmas.{Leads_then, Leads_either, Leads_reading,
 use Rattle.tsp_rules.specs.ClockRows.{sets}
 use Rattle.tsp_rules.specs.DateRows.{may_pass_on, passes_on, all_settled, may_date, leaves, leaves_all, new_date, sets_date_where, date_in, date_of, is_last, is_dated, sets_in_charge, date_request_in, date_request_of, answers_date, has_date, date_acked_in, date_acked}
 use Rattle.tsp_rules.specs.SendRows.{begins_timed, next_number, is_free}
-use Rattle.tsp_rules.specs.Tests.{is_clock_value, role_at, table_at}
+use Rattle.tsp_rules.specs.Guards.{is_clock_value, role_at, table_at}
 use Rattle.tsp_fit.specs.PortFits.{setup_in}
 use Rattle.tsp_fit.proofs.Known.{Free, Rests, RestsIn, Stirred}
 use Rattle.tsp_fit.proofs.Leaves.{now, leave, acked, correct_stirring}
 use Rattle.tsp_fit.proofs.PostLeaves.{post_message, post_back}
 use Rattle.tsp_fit.proofs.Changes.{Is, JustTook}
 use Rattle.tsp_fit.proofs.LeadsLeaves.{Leads_posts, Leads_posts_back, Leads_posts_time, Leads_others}
-use Rattle.tsp_fit.proofs.TestFacts.{and-cases, past_is}
+use Rattle.tsp_fit.proofs.GuardFacts.{and-cases, past_is}
 use Rattle.tsp_fit.proofs.CommonLeads.{own_number}
 use Rattle.tsp_fit.proofs.TakenLeads.{Heard, HeardIn, rests_of, wake_role, took_awake, ack_fits, open_known}
 use Rattle.tsp_fit.proofs.SlaveLeads.{idle_heard, gap_of}

@@ -13,7 +13,7 @@ use Rattle.tsp_fit.proofs.Known.{KnowsOf, FreshIn, OpenIn, RestsIn}
 use Rattle.tsp_fit.proofs.Leaves.{now, stir, abandon}
 use Rattle.tsp_fit.proofs.FewActs.{is_calm_act, is_calm}
 use Rattle.tsp_fit.proofs.Stirring.{calmed, abandoned}
-use Rattle.tsp_fit.proofs.TestFacts.{and-cases}
+use Rattle.tsp_fit.proofs.GuardFacts.{and-cases}
 
 -- the past after an act on another port
 abbrev pub aside : ℕ → Past → Act → Past

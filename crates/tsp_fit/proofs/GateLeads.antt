@@ -14,7 +14,7 @@ use Rattle.tsp_base.specs.History.{Past}
 use Rattle.tsp_base.specs.Messages.{MessageValue}
 use Rattle.tsp_base.specs.Rows.{grown}
 use Rattle.tsp_base.specs.SendFacts.{sets_date}
-use Rattle.tsp_rules.specs.Answers.{treats, takes}
+use Rattle.tsp_rules.specs.Answers.{handles, takes}
 use Rattle.tsp_rules.specs.GateRows.{ports_from, all_ports, other_ports, steers, in_charge, stirred_ports, takes_message, takes_kind, takes_on, NodeGiven, NodeTurn, GotOn, input_all, turns_on, answers_all}
 use Rattle.tsp_rules.specs.NodeRows.{NodePast, on_port, spread, nothing_at_all, on, reading_all, for_ports}
 use Rattle.tsp_rules.specs.RoundRows.{corrects}
@@ -24,7 +24,7 @@ use Rattle.tsp_fit.proofs.Upsets.{Upset, Upsets, upsets_never}
 use Rattle.tsp_fit.proofs.AnswerLeads.{takes_upsets, dates_by, open_rests}
 use Rattle.tsp_fit.specs.Strangers.{is_stranger}
 use Rattle.tsp_fit.proofs.FewActs.{is_calm}
-use Rattle.tsp_fit.proofs.CalmSteps.{TakesFirst, taking, calm_treats, calm_stamps, is_message}
+use Rattle.tsp_fit.proofs.CalmSteps.{TakesFirst, taking, calm_handles, calm_stamps, is_message}
 use Rattle.tsp_fit.proofs.Elsewheres.{aside, all_aside, rests_family, rests_took, kept_aside, moved_aside, calm_bootless, calm_still}
 use Rattle.tsp_fit.proofs.PortLists.{listed, Ranged, ranged_from, listed_from, other_ranged, other_listed}
 use Rattle.tsp_fit.proofs.GateFacts.{AllPorts, LeadsAll, All_after, Pick, picks, placed_all}
@@ -78,7 +78,7 @@ takes-message-lead q from m = record {
       let charge = in_charge q x past in
       let here = on_port q past in
       let acts = takes steer charge from t x here in
-      let first : TakesFirst true from t (2 * length here.peers + 5) acts = (taking {moving = true} from t 2 5 (treats steer charge from t) (calm_treats steer charge from t)).run x here in
+      let first : TakesFirst true from t (2 * length here.peers + 5) acts = (taking {moving = true} from t 2 5 (handles steer charge from t) (calm_handles steer charge from t)).run x here in
       let upset : Upset (sets_date m.kind) x here acts = (takes_upsets steer charge from t).run x here (h.1 q h.0) in
       let strange = is_stranger from in
       stirring_all (λ r. RestsIn) (λ r. rests_family) q (stirred_ports q m.kind past) (takes steer charge from t) x past (λ r. Open)
@@ -102,7 +102,7 @@ takes-stamp-lead q from t none = record {
   run = λ x past h.
       let here = on_port q past in
       let acts = takes true true from t x here in
-      let first : TakesFirst false from t (2 * length here.peers + 5) acts = (taking {moving = false} from t 2 5 (treats true true from t) (calm_stamps true true from t none)).run x here in
+      let first : TakesFirst false from t (2 * length here.peers + 5) acts = (taking {moving = false} from t 2 5 (handles true true from t) (calm_stamps true true from t none)).run x here in
       let own : Rests x (grown x here acts) = (upsets_never (subst (λ b. Upsets b Open (takes true true from t)) (no-date t none) (takes_upsets true true from t))).run x here (h.1 q h.0) in
       let strange = is_stranger from in
       placed_all q x past acts (λ r. Open) (λ r. Rests) (taken-bootless strange false from t acts first.after first.is first.calm) own

@@ -15,7 +15,7 @@ use Rattle.tsp_fit.proofs.Rings.{open_of, wake}
 use Rattle.tsp_fit.proofs.AlarmLeads.{master_rested}
 use Rattle.tsp_fit.proofs.RoundLeads.{Probed}
 use Rattle.tsp_fit.proofs.FewActs.{is_calm}
-use Rattle.tsp_fit.proofs.TestFacts.{and-cases}
+use Rattle.tsp_fit.proofs.GuardFacts.{and-cases}
 
 -- a port in a step, whether it has acted or not
 pub during_open : {stirred : Bool} {T : Option Received → Option Received → Type 0} {x : ℕ} {past : Past} → OpenIn stirred T x past → During stirred false false None (acting past.seen) T x past

@@ -15,7 +15,7 @@ use Rattle.tsp_rules.specs.SendRows.{due_sends}
 use Rattle.tsp_rules.proofs.NodeRowLemmas.{spread_append}
 use Rattle.tsp_fit.proofs.Known.{Open, OpenIn, Fresh, FreshIn, Untaken}
 use Rattle.tsp_fit.proofs.Rings.{open_of}
-use Rattle.tsp_fit.proofs.TestFacts.{and-cases}
+use Rattle.tsp_fit.proofs.GuardFacts.{and-cases}
 use Rattle.tsp_fit.proofs.CorrectionLeads.{due_sends_lead}
 use Rattle.tsp_fit.proofs.AlarmLeads.{quiet_leads, search_leads, elect_leads, resolve_leads}
 use Rattle.tsp_fit.proofs.WindowLeads.{window_leads}

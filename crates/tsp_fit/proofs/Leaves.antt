@@ -23,7 +23,7 @@ use Rattle.tsp_base.specs.StepFacts.{is_unbacked, owes}
 use Rattle.tsp_base.specs.Takings.{heard}
 use Rattle.tsp_fit.specs.PortFits.{PortFits, setup_in}
 use Rattle.tsp_fit.proofs.Known.{Asked, Probing, Candidature, asks_vote, KnowsOf, During}
-use Rattle.tsp_fit.proofs.TestFacts.{same_peer}
+use Rattle.tsp_fit.proofs.GuardFacts.{same_peer}
 
 -- an act done now
 abbrev pub now : ℕ → Past → Act → Did

@@ -16,12 +16,14 @@ pub mod GateLeads
 pub mod GateLoops
 pub mod GateSteps
 pub mod GateTurns
+pub mod GuardFacts
 pub mod Known
 pub mod LeadsLeaves
 pub mod Leaves
 pub mod LoopLeads
 pub mod MeanFacts
 pub mod NodeLeads
+pub mod PeerCorrections
 pub mod PortLists
 pub mod PostLeaves
 pub mod Rings
@@ -38,8 +40,6 @@ pub mod SoundRows
 pub mod SoundSteps
 pub mod Stirring
 pub mod TakenLeads
-pub mod TestFacts
-pub mod Treats
 pub mod Upsets
 pub mod VoteLeads
 pub mod WindowLeads

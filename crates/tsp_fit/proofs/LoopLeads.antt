@@ -26,7 +26,7 @@ use Rattle.tsp_rules.specs.CommonRows.{arms_elect}
 use Rattle.tsp_rules.specs.GateRows.{other_ports, hops_in, same_name, PassOver, GiveUp, Forward, one_hop_less, repost, reposts, is_awake_on, reposts_on, loosens_master, forwards, takes_loop_step, hears_on, judges, heeds_loop, takes_loop}
 use Rattle.tsp_rules.specs.NodeRows.{NodePast, on_port, spread, nothing_at_all, on, ◌and_then◌, reading_all, for_ports}
 use Rattle.tsp_rules.specs.SendRows.{is_kind_election}
-use Rattle.tsp_rules.specs.Tests.{is_master_at, is_starting_role}
+use Rattle.tsp_rules.specs.Guards.{is_master_at, is_starting_role}
 use Rattle.tsp_rules.proofs.NodeRowLemmas.{spread_append}
 use Rattle.tsp_fit.specs.PortFits.{setup_in}
 use Rattle.tsp_fit.proofs.Known.{Open, OpenIn, Rests, Free}
@@ -34,7 +34,7 @@ use Rattle.tsp_fit.proofs.Leaves.{now}
 use Rattle.tsp_fit.proofs.PostLeaves.{post_message}
 use Rattle.tsp_fit.proofs.Rings.{open_of}
 use Rattle.tsp_fit.proofs.Changes.{JustTook, Is, become_loose, take}
-use Rattle.tsp_fit.proofs.TestFacts.{and-cases, not-true, awake_is, master_is}
+use Rattle.tsp_fit.proofs.GuardFacts.{and-cases, not-true, awake_is, master_is}
 use Rattle.tsp_fit.proofs.CommonLeads.{arms_elect_during}
 use Rattle.tsp_fit.proofs.TakenLeads.{rests_of, wake_role, master_awake}
 use Rattle.tsp_fit.proofs.FewActs.{is_calm, calm_either}

@@ -22,7 +22,7 @@ use Rattle.tsp_rules.specs.SendRows.{is_kind_election}
 use Rattle.tsp_fit.specs.PortFits.{setup_in}
 use Rattle.tsp_fit.proofs.Known.{Asked, asks_vote, During}
 use Rattle.tsp_fit.proofs.Leaves.{now, then_seen, made}
-use Rattle.tsp_fit.proofs.TestFacts.{and-cases}
+use Rattle.tsp_fit.proofs.GuardFacts.{and-cases}
 
 -- a vote that is asked for after a post: by this message, which begins a send, or before
 post-vote : (p q : PeerId) (m : MessageValue) (d : Did) (before : List Seen) (bs : List PeerId) → d.deed ≡ Acts (Post (Peer p) (Message m)) → (is_kind_election m.kind ≡ true → acting before ≡ true → is_among q bs ≡ false) →

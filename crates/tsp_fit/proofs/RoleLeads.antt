@@ -27,12 +27,12 @@ use Rattle.tsp_rules.specs.MasterRows.{may_join, joins, sends_away, master_takes
 use Rattle.tsp_rules.specs.ResolveRows.{resolves, is_new_rival, finds_rival}
 use Rattle.tsp_rules.specs.SendRows.{begins, acknowledges, may_correct, may_set, begins_settime, has_quit}
 use Rattle.tsp_rules.specs.SlaveRows.{masterup_in, masterack_in, from_master, adjtime_of, settime_of, slave_takes_kind}
-use Rattle.tsp_rules.specs.Tests.{role_at, is_armed, is_in_range, target_at}
+use Rattle.tsp_rules.specs.Guards.{role_at, is_armed, is_in_range, target_at}
 use Rattle.tsp_fit.proofs.Known.{Free, Rests}
 use Rattle.tsp_fit.proofs.Leaves.{now, join, rival, arm_resolve}
 use Rattle.tsp_fit.proofs.PostLeaves.{post_message}
 use Rattle.tsp_fit.proofs.LeadsLeaves.{Leads_arms, Leads_posts, Leads_others, Leads_posts_time}
-use Rattle.tsp_fit.proofs.TestFacts.{and-cases, sets_target}
+use Rattle.tsp_fit.proofs.GuardFacts.{and-cases, sets_target}
 use Rattle.tsp_fit.proofs.CommonLeads.{begins_quit}
 use Rattle.tsp_fit.proofs.CorrectionLeads.{may_fits}
 use Rattle.tsp_fit.proofs.TakenLeads.{Says, Heard, HeardIn, rests_of, ack_fits, acknowledges_lead, quits_lead}

@@ -17,14 +17,14 @@ use Rattle.tsp_base.specs.Rows.{Row, grown, nothing, puts, ◌followed_by◌, fo
 use Rattle.tsp_base.proofs.LeadsLemmas.{Leads_then, Leads_either, Leads_reading, Leads_nothing, Leads_puts, Leads_each, Leads_from, Leads_to}
 use Rattle.tsp_rules.specs.Answers.{alarm_rings, rings}
 use Rattle.tsp_rules.specs.RoundRows.{asks, asks_slaves, round_begins, begins_or_waits, round_rings, measured_at, asks_measured, has_more, arms_next, abandons, probe_rings}
-use Rattle.tsp_rules.specs.Tests.{is_in_time, is_over, table_at}
+use Rattle.tsp_rules.specs.Guards.{is_in_time, is_over, table_at}
 use Rattle.tsp_fit.proofs.Known.{Free, Open, Untaken}
 use Rattle.tsp_fit.proofs.Leaves.{none-some, some-same, arm_round, arm_round_alarms, arm_probe, abandon}
 use Rattle.tsp_fit.proofs.PostLeaves.{post_message, request}
 use Rattle.tsp_fit.proofs.Rings.{open_of, ring_round, late_round, ring_probe, late_probe}
 use Rattle.tsp_fit.proofs.Changes.{FreeIn}
 use Rattle.tsp_fit.proofs.LeadsLeaves.{Leads_arms, Leads_others}
-use Rattle.tsp_fit.proofs.TestFacts.{due_is, met_is}
+use Rattle.tsp_fit.proofs.GuardFacts.{due_is, met_is}
 use Rattle.tsp_fit.proofs.AlarmLeads.{Due, rings_lead, master_rested, stays}
 use Rattle.tsp_fit.proofs.WindowLeads.{arms_round_in}
 

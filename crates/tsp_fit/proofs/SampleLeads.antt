@@ -15,7 +15,7 @@ use Rattle.tsp_base.specs.Samples.{sample_diff, sample_err}
 use Rattle.tsp_base.specs.Stamps.{ReplyValue}
 use Rattle.tsp_base.proofs.LeadsLemmas.{Leads_reading, Leads_nothing, Leads_puts, Leads_from}
 use Rattle.tsp_rules.specs.RoundRows.{request_at, sample_of, samples_request, samples}
-use Rattle.tsp_rules.specs.Tests.{target_at}
+use Rattle.tsp_rules.specs.Guards.{target_at}
 use Rattle.tsp_fit.proofs.Known.{Rests}
 use Rattle.tsp_fit.proofs.Leaves.{now, none-some, some-same, sample}
 use Rattle.tsp_fit.proofs.TakenLeads.{Heard, rests_of}

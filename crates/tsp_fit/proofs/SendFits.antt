@@ -13,7 +13,7 @@ use Rattle.tsp_base.specs.SendFacts.{is_numbered, Sending, open_send, sending_at
 use Rattle.tsp_base.specs.Setup.{Setup}
 use Rattle.tsp_fit.specs.PortFits.{PortFits}
 use Rattle.tsp_fit.proofs.Leaves.{nil-cons, none-some, some-same}
-use Rattle.tsp_fit.proofs.TestFacts.{and-cases, same_peer}
+use Rattle.tsp_fit.proofs.GuardFacts.{and-cases, same_peer}
 
 -- the beginning of the open send: its first post, in the role that the port still has
 pub record Began (setup : Setup) (p : PeerId) (seen : List Seen) : Type 0 where

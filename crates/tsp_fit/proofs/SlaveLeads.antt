@@ -29,13 +29,13 @@ use Rattle.tsp_rules.specs.ClockRows.{adjusts, sets, can_adjust}
 use Rattle.tsp_rules.specs.CommonRows.{arms_elect, tells_ticket, follow_row, quits, follows_unless}
 use Rattle.tsp_rules.specs.SendRows.{begins, is_free}
 use Rattle.tsp_rules.specs.SlaveRows.{reports_conflict, masterup_in, masterack_in, election_of, is_next, is_by, is_repeated, acks_repeat, confirms, takes_amount, adjtime_of, takes_value, settime_of, from_master}
-use Rattle.tsp_rules.specs.Tests.{role_at, is_armed, is_clock_value, may_back_at}
+use Rattle.tsp_rules.specs.Guards.{role_at, is_armed, is_clock_value, may_back_at}
 use Rattle.tsp_fit.proofs.Known.{Free, Rests}
 use Rattle.tsp_fit.proofs.Leaves.{correct, arm_elect}
 use Rattle.tsp_fit.proofs.PostLeaves.{post_message}
 use Rattle.tsp_fit.proofs.Changes.{FreeIn, quitting_of, back_other, quit_other}
 use Rattle.tsp_fit.proofs.LeadsLeaves.{Leads_posts}
-use Rattle.tsp_fit.proofs.TestFacts.{and-cases, past_is, back_is, same_peer}
+use Rattle.tsp_fit.proofs.GuardFacts.{and-cases, past_is, back_is, same_peer}
 use Rattle.tsp_fit.proofs.CommonLeads.{arms_elect_keeps, arms_elect_during, tells_ticket_during, follow_leads, begins_conflict}
 use Rattle.tsp_fit.proofs.TakenLeads.{Says, Heard, HeardIn, rests_of, ack_fits}
 

@@ -20,16 +20,16 @@ use Rattle.tsp_group.specs.Groups.{group_of}
 use Rattle.tsp_rules.specs.Answers.{alarm_rings, rings, rings_alone, due_alarms}
 use Rattle.tsp_rules.specs.CandidateRows.{lead_row, yields, has_won, window_rings}
 use Rattle.tsp_rules.specs.ClockRows.{can_adjust}
-use Rattle.tsp_rules.specs.CommonRows.{arms_elect, searches, stand_row}
+use Rattle.tsp_rules.specs.CommonRows.{arms_elect, searches, candidature_row}
 use Rattle.tsp_rules.specs.ResolveRows.{quits_rivals, resolve_rings}
 use Rattle.tsp_rules.specs.RoundRows.{asks, asks_slaves, round_begins, begins_or_waits, round_rings, measured_at, asks_measured, has_more, arms_next, abandons, probe_rings, Standing, standing, round_at, is_near, estimates, corrects_by, corrects_peer, mean_by, close_act, moves, closes_with, closes, close_rings}
 use Rattle.tsp_rules.specs.SendRows.{begins, begins_adjtime, begins_settime}
 use Rattle.tsp_rules.specs.SlaveRows.{quiet_rings, rings_or_late, search_rings, loosens, elect_rings}
-use Rattle.tsp_rules.specs.Tests.{is_due, is_in_time, may_stand_at, follows_at, rivals_at, table_at}
+use Rattle.tsp_rules.specs.Guards.{is_due, is_in_time, may_stand_at, follows_at, rivals_at, table_at}
 use Rattle.tsp_fit.specs.Sound.{AreSound}
 use Rattle.tsp_fit.proofs.MeanFacts.{correction_time}
 use Rattle.tsp_fit.proofs.SoundFacts.{IsSoundEstimate, estimate_sound}
-use Rattle.tsp_fit.proofs.SoundRows.{SoundAt, Soundly, sound_act, sound_either, sound_reading, sound_puts, sound_arms, sound_posts_to_others, sound_elect, sound_searches, sound_stand, sound_begins, sound_begins_adjtime, sound_begins_settime}
+use Rattle.tsp_fit.proofs.SoundRows.{SoundAt, Soundly, sound_act, sound_either, sound_reading, sound_puts, sound_arms, sound_posts_to_others, sound_elect, sound_searches, sound_candidature, sound_begins, sound_begins_adjtime, sound_begins_settime}
 use Rattle.tsp_fit.proofs.SoundRoles.{sound_adjusts, sound_yields}
 
 quiet-sound : Soundly quiet_rings
@@ -42,9 +42,9 @@ search-sound = Leads_then (rings_or_late Search) arms_elect (sound_either (is_in
 
 elect-sound : Soundly elect_rings
 unfolding elect_rings loosens
-elect-sound = sound_either (is_in_time Elect) (puts (Ring Elect) followed_by either_by may_stand_at stand_row (loosens followed_by searches)) (puts (Late Elect) followed_by arms_elect)
-    (Leads_then (puts (Ring Elect)) (either_by may_stand_at stand_row (loosens followed_by searches)) (sound_puts (Ring Elect) (λ c n. refl) tt)
-    (sound_either may_stand_at stand_row (loosens followed_by searches) sound_stand
+elect-sound = sound_either (is_in_time Elect) (puts (Ring Elect) followed_by either_by may_stand_at candidature_row (loosens followed_by searches)) (puts (Late Elect) followed_by arms_elect)
+    (Leads_then (puts (Ring Elect)) (either_by may_stand_at candidature_row (loosens followed_by searches)) (sound_puts (Ring Elect) (λ c n. refl) tt)
+    (sound_either may_stand_at candidature_row (loosens followed_by searches) sound_candidature
     (Leads_then loosens searches (sound_either follows_at (puts (Become Loose)) nothing (sound_puts (Become Loose) (λ c n. refl) tt) Leads_nothing) sound_searches)))
     (Leads_then (puts (Late Elect)) arms_elect (sound_puts (Late Elect) (λ c n. refl) tt) sound_elect)
 

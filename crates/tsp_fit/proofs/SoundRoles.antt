@@ -22,7 +22,7 @@ use Rattle.tsp_rules.specs.MasterRows.{may_join, joins, sends_away, master_takes
 use Rattle.tsp_rules.specs.ResolveRows.{resolves, is_new_rival, finds_rival}
 use Rattle.tsp_rules.specs.SendRows.{begins, begins_settime, is_free, has_election, has_quit}
 use Rattle.tsp_rules.specs.SlaveRows.{reports_conflict, masterup_in, masterack_in, election_of, is_repeated, acks_repeat, confirms, takes_amount, adjtime_of, takes_value, settime_of, from_master, slave_takes_kind, slave_takes}
-use Rattle.tsp_rules.specs.Tests.{role_at, is_armed, may_back_at}
+use Rattle.tsp_rules.specs.Guards.{role_at, is_armed, may_back_at}
 use Rattle.tsp_fit.proofs.SoundRows.{Soundly, sound_act, sound_either, sound_reading, sound_if, sound_puts, sound_arms, sound_posts, sound_posts_to_others, sound_elect, sound_ticket, sound_follow, sound_begins, sound_quits, sound_acknowledges, sound_begins_settime}
 
 pub sound_adjusts : (amount : ℤ) → Soundly (adjusts amount)

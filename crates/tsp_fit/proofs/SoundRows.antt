@@ -28,12 +28,12 @@ use Rattle.tsp_base.specs.SendFacts.{Sending, begun, is_correction}
 use Rattle.tsp_base.specs.Stamps.{IsReply}
 use Rattle.tsp_base.specs.Times.{IsMicros}
 use Rattle.tsp_base.proofs.LeadsLemmas.{Leads_then, Leads_either, Leads_reading, Leads_nothing, Leads_puts, Leads_each, Leads_from}
-use Rattle.tsp_rules.specs.CommonRows.{arms_elect, searches, tells_ticket, follow_row, own_at, backs_own, stand_row, follows_unless, quits, posts_reply, replies, master_name_in, master_name, names_master, says_master, traces, may_be_asked, is_awake, tests}
-use Rattle.tsp_rules.specs.SendRows.{next_number, begins, begins_timed, others_at, begins_to_others, may_correct, begins_adjtime, may_set, begins_settime, open_at, has_other, acknowledges, is_send_due, is_spent, leaves_after, gives_up, repeats, treats_send, due_send, treats_bare_send, bare_send, peers_at, due_sends}
-use Rattle.tsp_rules.specs.Tests.{role_at, ticket_at, target_at, delay_at, is_clock_value, is_in_range, is_master_at, is_slave_at}
+use Rattle.tsp_rules.specs.CommonRows.{arms_elect, searches, tells_ticket, follow_row, own_at, backs_own, candidature_row, follows_unless, quits, posts_reply, replies, master_name_in, master_name, names_master, says_master, traces, may_be_asked, is_awake, tests}
+use Rattle.tsp_rules.specs.SendRows.{next_number, begins, begins_timed, others_at, begins_to_others, may_correct, begins_adjtime, may_set, begins_settime, open_at, has_other, acknowledges, is_send_due, is_spent, leaves_after, gives_up, repeats, repeats_send, due_send, repeats_bare_send, bare_send, peers_at, due_sends}
+use Rattle.tsp_rules.specs.Guards.{role_at, ticket_at, target_at, delay_at, is_clock_value, is_in_range, is_master_at, is_slave_at}
 use Rattle.tsp_fit.specs.Sound.{IsSound, IsSoundAct, SoundPast}
 use Rattle.tsp_fit.proofs.LeadsLeaves.{Leads_arms, Leads_posts, Leads_posts_back, Leads_posts_time, Leads_others}
-use Rattle.tsp_fit.proofs.TestFacts.{and-cases}
+use Rattle.tsp_fit.proofs.GuardFacts.{and-cases}
 use Rattle.tsp_fit.proofs.SoundFacts.{no_name, kept_sound, open_sound}
 
 -- a port that is sound
@@ -123,9 +123,9 @@ sound_begins kind p carries = Leads_reading next_number (posts p kind) (λ n. Le
     let small = own-small (word (plain past.seen) + begun past.seen) in let is = h.1 in
     sound_act x past _ (λ c n. refl) (bare_sound kind n past.name carries (omega (arith, small, is)) h.0.name) h.0))
 
-pub sound_stand : Soundly stand_row
-unfolding stand_row backs_own begins_to_others body_fits carries_time carries_hops
-sound_stand = Leads_then (puts (Become Candidate)) (backs_own followed_by (arms Window WINDOW followed_by begins_to_others Election)) (sound_puts (Become Candidate) (λ c n. refl) tt)
+pub sound_candidature : Soundly candidature_row
+unfolding candidature_row backs_own begins_to_others body_fits carries_time carries_hops
+sound_candidature = Leads_then (puts (Become Candidate)) (backs_own followed_by (arms Window WINDOW followed_by begins_to_others Election)) (sound_puts (Become Candidate) (λ c n. refl) tt)
     (Leads_then backs_own (arms Window WINDOW followed_by begins_to_others Election) (sound_reading own_at (λ own. puts (Back own)) (λ own. sound_puts (Back own) (λ c n. refl) tt))
     (Leads_then (arms Window WINDOW) (begins_to_others Election) (sound_arms Window WINDOW)
     (sound_reading others_at (for_each (begins Election)) (λ ps. Leads_each (begins Election) ps (λ p. sound_begins Election p refl)))))
@@ -166,8 +166,8 @@ sound_traces from number on few = Leads_then (puts (Trace on)) (posts_back from 
 
 pub sound_tests : (from : Place) (number : ℕ) → number < 2 ^ 16 → Soundly (tests from number)
 unfolding tests body_fits carries_time carries_hops
-sound_tests from number few = sound_either is_awake (posts_back from Ack number followed_by either_by may_be_asked stand_row nothing) nothing
-    (Leads_then (posts_back from Ack number) (either_by may_be_asked stand_row nothing) (sound_posts_back from Ack number refl few) (sound_either may_be_asked stand_row nothing sound_stand Leads_nothing))
+sound_tests from number few = sound_either is_awake (posts_back from Ack number followed_by either_by may_be_asked candidature_row nothing) nothing
+    (Leads_then (posts_back from Ack number) (either_by may_be_asked candidature_row nothing) (sound_posts_back from Ack number refl few) (sound_either may_be_asked candidature_row nothing sound_candidature Leads_nothing))
     Leads_nothing
 
 -- sends
@@ -202,9 +202,9 @@ unfolding repeats
 repeats-sound p s = Leads_puts (Post (Peer p) (Message s.message)) (λ x past h. sound_act x past _ (λ c n. refl) (open_sound p past.seen s h.0.acts h.1) h.0)
 
 pub sound_due_send : (p : PeerId) → Soundly (due_send p)
-unfolding due_send treats_send gives_up
-sound_due_send p = Leads_reading (open_at p) (treats_send p) by_send where
-  by_send : (o : Option Sending) → Leads (λ x past. SoundPast past × (open_at p x past ≡ o)) (treats_send p o) SoundAt
+unfolding due_send repeats_send gives_up
+sound_due_send p = Leads_reading (open_at p) (repeats_send p) by_send where
+  by_send : (o : Option Sending) → Leads (λ x past. SoundPast past × (open_at p x past ≡ o)) (repeats_send p o) SoundAt
   by_send None = Leads_from (λ x past h. h.0) Leads_nothing
   by_send (Some s) = Leads_either (is_send_due s) (either_by (is_spent s) (puts (Gave p) followed_by leaves_after p s.message.kind) (repeats p s.message)) nothing
       (Leads_either (is_spent s) (puts (Gave p) followed_by leaves_after p s.message.kind) (repeats p s.message)
@@ -213,9 +213,9 @@ sound_due_send p = Leads_reading (open_at p) (treats_send p) by_send where
       (Leads_from (λ x past h. h.0.0) Leads_nothing)
 
 pub sound_bare_send : (p : PeerId) → Soundly (bare_send p)
-unfolding bare_send treats_bare_send
-sound_bare_send p = Leads_reading (open_at p) (treats_bare_send p) by_send where
-  by_send : (o : Option Sending) → Leads (λ x past. SoundPast past × (open_at p x past ≡ o)) (treats_bare_send p o) SoundAt
+unfolding bare_send repeats_bare_send
+sound_bare_send p = Leads_reading (open_at p) (repeats_bare_send p) by_send where
+  by_send : (o : Option Sending) → Leads (λ x past. SoundPast past × (open_at p x past ≡ o)) (repeats_bare_send p o) SoundAt
   by_send None = Leads_from (λ x past h. h.0) Leads_nothing
   by_send (Some s) = Leads_either (is_send_due s) (either_by (is_spent s) (puts (Gave p)) (repeats p s.message)) nothing
       (Leads_either (is_spent s) (puts (Gave p)) (repeats p s.message)

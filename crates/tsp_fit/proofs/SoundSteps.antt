@@ -26,13 +26,13 @@ use Rattle.tsp_base.specs.Stamps.{ReplyValue}
 use Rattle.tsp_base.specs.Takings.{time_in}
 use Rattle.tsp_base.proofs.LeadsLemmas.{Leads_then, Leads_nothing, Leads_each}
 use Rattle.tsp_base.proofs.RowLemmas.{added_append}
-use Rattle.tsp_rules.specs.Answers.{due_alarms, peer_says, replies_in, peer_replies, from_peer, treats_kind, is_left, treats, takes, Turn, Got, input_row, answers}
+use Rattle.tsp_rules.specs.Answers.{due_alarms, peer_says, replies_in, peer_replies, from_peer, handles_kind, is_left, handles, takes, Turn, Got, input_row, answers}
 use Rattle.tsp_rules.specs.ClockRows.{sets}
 use Rattle.tsp_rules.specs.CommonRows.{boots}
 use Rattle.tsp_rules.specs.DateRows.{may_pass_on, passes_on, may_date, leaves, leaves_all, new_date, sets_date_where, date_in, date_of, is_dated, sets_in_charge, date_request_in, date_request_of, has_date, date_acked_in, date_acked}
 use Rattle.tsp_rules.specs.RoundRows.{request_at, sample_of, samples_request, samples, corrects, abandons, abandons_going, upsetting}
 use Rattle.tsp_rules.specs.SendRows.{begins_timed, due_sends}
-use Rattle.tsp_rules.specs.Tests.{role_at, target_at, table_at, is_going_at, is_own, is_heard}
+use Rattle.tsp_rules.specs.Guards.{role_at, target_at, table_at, is_going_at, is_own, is_heard}
 use Rattle.tsp_fit.specs.Sound.{IsSound, IsSoundTaken, IsSoundAct, AreSound, SoundPast, AnswersAreSound}
 use Rattle.tsp_fit.proofs.SoundFacts.{time_sound}
 use Rattle.tsp_fit.proofs.SoundRows.{Soundly, sound_either, sound_reading, sound_if, sound_puts, sound_posts, sound_posts_back, sound_posts_to_others, sound_replies, sound_names_master, sound_says_master, sound_traces, sound_tests, sound_begins_timed, sound_due_sends}
@@ -101,32 +101,32 @@ unfolding from_peer
 sound_from_peer (Peer p) row k = sound_either (is_heard p) (row p) nothing (k p) Leads_nothing
 sound_from_peer Stranger row k = Leads_nothing
 
-pub sound_treats_kind : (charge : Bool) (from : Place) (m : MessageValue) (k : Kind) → IsSound (Message m) → Soundly (treats_kind charge from m k)
-unfolding treats_kind
-sound_treats_kind charge from m Msite s = sound_names_master from m.number s.0
-sound_treats_kind charge from m MsiteReq s = sound_says_master from m.number s.0
-sound_treats_kind charge from m TraceOn s = sound_traces from m.number true s.0
-sound_treats_kind charge from m TraceOff s = sound_traces from m.number false s.0
-sound_treats_kind charge from m Test s = sound_tests from m.number s.0
-sound_treats_kind charge from m Date s = date-sound m s charge from
-sound_treats_kind charge from m SetDate s = date-sound m s charge from
-sound_treats_kind charge from m DateReq s = sound_from_peer from (date_request_of charge m) (date-request-sound m s charge)
-sound_treats_kind charge from m SetDateReq s = sound_from_peer from (date_request_of charge m) (date-request-sound m s charge)
-sound_treats_kind charge from m DateAck s = sound_from_peer from (date_acked m) (date-acked-sound m)
-sound_treats_kind charge from m Loop s = Leads_nothing
-sound_treats_kind charge from m _ s = sound_from_peer from (peer_says m) (λ p. sound_peer_says m p s.0)
+pub sound_handles_kind : (charge : Bool) (from : Place) (m : MessageValue) (k : Kind) → IsSound (Message m) → Soundly (handles_kind charge from m k)
+unfolding handles_kind
+sound_handles_kind charge from m Msite s = sound_names_master from m.number s.0
+sound_handles_kind charge from m MsiteReq s = sound_says_master from m.number s.0
+sound_handles_kind charge from m TraceOn s = sound_traces from m.number true s.0
+sound_handles_kind charge from m TraceOff s = sound_traces from m.number false s.0
+sound_handles_kind charge from m Test s = sound_tests from m.number s.0
+sound_handles_kind charge from m Date s = date-sound m s charge from
+sound_handles_kind charge from m SetDate s = date-sound m s charge from
+sound_handles_kind charge from m DateReq s = sound_from_peer from (date_request_of charge m) (date-request-sound m s charge)
+sound_handles_kind charge from m SetDateReq s = sound_from_peer from (date_request_of charge m) (date-request-sound m s charge)
+sound_handles_kind charge from m DateAck s = sound_from_peer from (date_acked m) (date-acked-sound m)
+sound_handles_kind charge from m Loop s = Leads_nothing
+sound_handles_kind charge from m _ s = sound_from_peer from (peer_says m) (λ p. sound_peer_says m p s.0)
 
-pub sound_treats : (steer charge : Bool) (from : Place) (t : Taken) → IsSoundTaken t → Soundly (treats steer charge from t)
-unfolding treats
-sound_treats steer charge from (Bad fault) s = Leads_nothing
-sound_treats steer charge from (Good (Message m)) s = sound_either (is_left steer m.kind) nothing (treats_kind charge from m m.kind) Leads_nothing (sound_treats_kind charge from m m.kind s)
-sound_treats steer charge from (Good (Stamp (Request word counter))) s = sound_replies from word counter s.0 s.1
-sound_treats steer charge from (Good (Stamp (Reply r))) s = sound_from_peer from (peer_replies r) (λ p. sound_peer_replies r p s.2.small)
+pub sound_handles : (steer charge : Bool) (from : Place) (t : Taken) → IsSoundTaken t → Soundly (handles steer charge from t)
+unfolding handles
+sound_handles steer charge from (Bad fault) s = Leads_nothing
+sound_handles steer charge from (Good (Message m)) s = sound_either (is_left steer m.kind) nothing (handles_kind charge from m m.kind) Leads_nothing (sound_handles_kind charge from m m.kind s)
+sound_handles steer charge from (Good (Stamp (Request word counter))) s = sound_replies from word counter s.0 s.1
+sound_handles steer charge from (Good (Stamp (Reply r))) s = sound_from_peer from (peer_replies r) (λ p. sound_peer_replies r p s.2.small)
 
 pub sound_takes : (steer charge : Bool) (from : Place) (t : Taken) → IsSoundTaken t → Soundly (takes steer charge from t)
 unfolding takes
-sound_takes steer charge from t s = Leads_then (puts (Took from t)) (either_by (is_own from) nothing (treats steer charge from t)) (sound_puts (Took from t) (λ c n. refl) s)
-    (sound_either (is_own from) nothing (treats steer charge from t) Leads_nothing (sound_treats steer charge from t s))
+sound_takes steer charge from t s = Leads_then (puts (Took from t)) (either_by (is_own from) nothing (handles steer charge from t)) (sound_puts (Took from t) (λ c n. refl) s)
+    (sound_either (is_own from) nothing (handles steer charge from t) Leads_nothing (sound_handles steer charge from t s))
 
 going-sound : Soundly abandons_going
 unfolding abandons_going abandons

@@ -28,9 +28,9 @@ use Rattle.tsp_base.specs.Setup.{Setup}
 use Rattle.tsp_base.specs.StepFacts.{owes, owes_after}
 use Rattle.tsp_base.specs.Takings.{peer_of}
 use Rattle.tsp_base.proofs.LeadsLemmas.{Leads_then, Leads_either, Leads_reading, Leads_nothing, Leads_puts, Leads_from, Leads_to}
-use Rattle.tsp_rules.specs.CommonRows.{quits, follows_unless, follow_row, posts_reply, replies, master_name, names_master, says_master, traces, tests, is_awake, is_idle, may_be_asked, stand_row}
+use Rattle.tsp_rules.specs.CommonRows.{quits, follows_unless, follow_row, posts_reply, replies, master_name, names_master, says_master, traces, tests, is_awake, is_idle, may_be_asked, candidature_row}
 use Rattle.tsp_rules.specs.SendRows.{has_other, answers_other, has_election, answers_election, is_kind_election, ends_by_ack, acknowledges}
-use Rattle.tsp_rules.specs.Tests.{role_at, is_in_range, is_master_at, is_starting_role, may_stand_at}
+use Rattle.tsp_rules.specs.Guards.{role_at, is_in_range, is_master_at, is_starting_role, may_stand_at}
 use Rattle.tsp_fit.specs.PortFits.{setup_in}
 use Rattle.tsp_fit.proofs.Known.{During, Free, Early, RestsIn, Rests}
 use Rattle.tsp_fit.proofs.Leaves.{now, none-some, trace, acked}
@@ -38,8 +38,8 @@ use Rattle.tsp_fit.proofs.PostLeaves.{post_back, post_reply, post_early}
 use Rattle.tsp_fit.proofs.Rings.{rested_of, wake}
 use Rattle.tsp_fit.proofs.Changes.{Quitting, FreeIn, quit_taken, quitting_post, Is, JustTook}
 use Rattle.tsp_fit.proofs.LeadsLeaves.{Leads_posts, Leads_posts_back}
-use Rattle.tsp_fit.proofs.TestFacts.{and-cases, not-true, stand_is, awake_is, master_is}
-use Rattle.tsp_fit.proofs.CommonLeads.{follow_leads, stand_leads}
+use Rattle.tsp_fit.proofs.GuardFacts.{and-cases, not-true, stand_is, awake_is, master_is}
+use Rattle.tsp_fit.proofs.CommonLeads.{follow_leads, candidature_leads}
 
 -- what a step took from a peer: a message
 abbrev pub Says : PeerId → MessageValue → Option Received → Option Received → Type 0
@@ -81,13 +81,13 @@ module _ {from : Place} (m : MessageValue) (answers : (seen : List Seen) → Ans
 
   pub tests_leads : Leads (Early (Is from (Good (Message m)))) (tests from m.number) Rests
   unfolding tests
-  tests_leads = Leads_either is_awake (posts_back from Ack m.number followed_by either_by may_be_asked stand_row nothing) nothing
-      (Leads_from (λ x past h. wake_role (awake_is (role past.seen) (not-true (is_starting_role (role past.seen)) h.1)) h.0) (Leads_then (posts_back from Ack m.number) (either_by may_be_asked stand_row nothing) acks_back
-      (Leads_either may_be_asked stand_row nothing
+  tests_leads = Leads_either is_awake (posts_back from Ack m.number followed_by either_by may_be_asked candidature_row nothing) nothing
+      (Leads_from (λ x past h. wake_role (awake_is (role past.seen) (not-true (is_starting_role (role past.seen)) h.1)) h.0) (Leads_then (posts_back from Ack m.number) (either_by may_be_asked candidature_row nothing) acks_back
+      (Leads_either may_be_asked candidature_row nothing
       (Leads_from (λ x past h.
       let asked = and-cases (is_idle (role past.seen)) (may_stand_at x past) h.1 in
       record { free = h.0; may = stand_is (held past.seen) x past.own (and-cases past.may (may_stand (held past.seen) x past.own) asked.1).1 })
-      (Leads_to (λ x past h. rests_of h.free) stand_leads))
+      (Leads_to (λ x past h. rests_of h.free) candidature_leads))
       (Leads_from (λ x past h. rests_of h.0) Leads_nothing))))
       (Leads_from (λ x past h. rests_of h.0) Leads_nothing)
 

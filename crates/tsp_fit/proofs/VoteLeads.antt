@@ -26,7 +26,7 @@ use Rattle.tsp_fit.proofs.Known.{asks_vote, Free, Rests}
 use Rattle.tsp_fit.proofs.Leaves.{now, acked, backer}
 use Rattle.tsp_fit.proofs.Changes.{become_loose}
 use Rattle.tsp_fit.proofs.SendFits.{open_is}
-use Rattle.tsp_fit.proofs.TestFacts.{and-cases}
+use Rattle.tsp_fit.proofs.GuardFacts.{and-cases}
 use Rattle.tsp_fit.proofs.CommonLeads.{arms_elect_during}
 use Rattle.tsp_fit.proofs.TakenLeads.{Says, Heard, HeardIn, rests_of, election_acked}
 use Rattle.tsp_fit.proofs.SlaveLeads.{idle_heard}

@@ -17,7 +17,7 @@ use Rattle.tsp_base.proofs.LeadsLemmas.{Leads_then, Leads_either, Leads_puts, Le
 use Rattle.tsp_rules.specs.Answers.{alarm_rings, rings}
 use Rattle.tsp_rules.specs.CandidateRows.{lead_row, yields, has_won, window_rings}
 use Rattle.tsp_rules.specs.CommonRows.{arms_elect}
-use Rattle.tsp_rules.specs.Tests.{is_in_time}
+use Rattle.tsp_rules.specs.Guards.{is_in_time}
 use Rattle.tsp_fit.proofs.Known.{Free, Open, Untaken}
 use Rattle.tsp_fit.specs.PortFits.{setup_in}
 use Rattle.tsp_fit.proofs.Leaves.{now, arm_round}
@@ -25,7 +25,7 @@ use Rattle.tsp_fit.proofs.PostLeaves.{post_message}
 use Rattle.tsp_fit.proofs.Rings.{open_of, ring_window, late_window}
 use Rattle.tsp_fit.proofs.Changes.{become_loose, become_master, FreeIn}
 use Rattle.tsp_fit.proofs.LeadsLeaves.{Leads_arms, Leads_others}
-use Rattle.tsp_fit.proofs.TestFacts.{due_is, met_is}
+use Rattle.tsp_fit.proofs.GuardFacts.{due_is, met_is}
 use Rattle.tsp_fit.proofs.CommonLeads.{arms_elect_during}
 use Rattle.tsp_fit.proofs.AlarmLeads.{Due, rings_lead, to_open, stays}
 

@@ -5,7 +5,7 @@ use Rattle.tsp_base.specs.Alarms.{earlier, least_deadline}
 use Rattle.tsp_base.specs.History.{Past}
 use Rattle.tsp_rules.specs.NodeRows.{NodePast, on_port}
 use Rattle.tsp_sends.specs.Slots.{sending_to}
-use Rattle.tsp_sends.specs.Treating.{IsEarliest}
+use Rattle.tsp_sends.specs.Repeating.{IsEarliest}
 use Rattle.tsp_acks.specs.declared.station.Station.{Station}
 use Rattle.tsp_acks.specs.Stands.{Stands}
 use Rattle.tsp_node.specs.declared.part.Part.{Part}

@@ -18,7 +18,7 @@ use Rattle.tsp_rules.specs.GateRows.{ends_probes, has_rung, is_last_probe, loops
 use Rattle.tsp_rules.specs.NodePerforms.{PerformsAll}
 use Rattle.tsp_rules.specs.NodeRows.{NodePast, abandons_on, for_ports, nothing_at_all, on, on_port, reading_all, spread, stirring, ◌and_then◌}
 use Rattle.tsp_rules.specs.RoundRows.{abandons, corrects, probe_rings}
-use Rattle.tsp_rules.specs.Tests.{is_due, is_in_time}
+use Rattle.tsp_rules.specs.Guards.{is_due, is_in_time}
 use Rattle.tsp_rules.proofs.Emits.{Emits}
 use Rattle.tsp_rules.proofs.NodeRowLemmas.{All_then, spread_append}
 use Rattle.tsp_clients.specs.ClientStands.{TraceStands}

@@ -23,13 +23,13 @@ use Rattle.tsp_base.specs.Performs.{Performs}
 use Rattle.tsp_base.specs.Rows.{nothing, puts}
 use Rattle.tsp_base.specs.SendFacts.{sets_date}
 use Rattle.tsp_base.specs.Stamps.{ReplyValue}
-use Rattle.tsp_rules.specs.Answers.{from_peer, peer_replies, replies_in, takes, treats}
+use Rattle.tsp_rules.specs.Answers.{from_peer, peer_replies, replies_in, takes, handles}
 use Rattle.tsp_rules.specs.CommonRows.{posts_reply, replies}
 use Rattle.tsp_rules.specs.GateRows.{in_charge, steers, stirred_ports, takes_kind, takes_loop, takes_message, takes_on}
 use Rattle.tsp_rules.specs.NodePerforms.{PerformsAll}
 use Rattle.tsp_rules.specs.NodeRows.{NodePast, abandons_on, for_ports, on, on_port, reading_all, stirring}
 use Rattle.tsp_rules.specs.RoundRows.{corrects, is_correct}
-use Rattle.tsp_rules.specs.Tests.{is_heard, is_in_range, is_own, role_at}
+use Rattle.tsp_rules.specs.Guards.{is_heard, is_in_range, is_own, role_at}
 use Rattle.tsp_rules.proofs.Emits.{Sort, AllOf, Emits, Emits_either, Emits_more, Emits_nothing, Emits_puts, Emits_reading, Emits_then, Posting, Sampling, Taking, is_in, sort_of}
 use Rattle.tsp_node.specs.declared.part.Part.{Part}
 use Rattle.tsp_node.specs.NodeStands.{TakeStands}
@@ -97,16 +97,16 @@ request-emits : (from : Place) (word counter : ℕ) → Emits other_sorts (repli
 unfolding replies posts_reply
 request-emits from word counter = Emits_either is_in_range (posts_reply from word counter) nothing (record { only = λ x past. (refl, tt) }) Emits_nothing
 
-treats-emits : (from : Place) (t : Taken) → HoldsNoMessage t → Emits other_sorts (treats true true from t)
-unfolding treats
-treats-emits from (Bad fault) none = Emits_nothing
-treats-emits from (Good (Message m)) none = absurd none
-treats-emits from (Good (Stamp (Request word counter))) none = request-emits from word counter
-treats-emits from (Good (Stamp (Reply r))) none = replies-emits from r
+handles-emits : (from : Place) (t : Taken) → HoldsNoMessage t → Emits other_sorts (handles true true from t)
+unfolding handles
+handles-emits from (Bad fault) none = Emits_nothing
+handles-emits from (Good (Message m)) none = absurd none
+handles-emits from (Good (Stamp (Request word counter))) none = request-emits from word counter
+handles-emits from (Good (Stamp (Reply r))) none = replies-emits from r
 
 other-emits : (from : Place) (t : Taken) → HoldsNoMessage t → Emits other_sorts (takes true true from t)
 unfolding takes
-other-emits from t none = Emits_then (puts (Took from t)) _ (Emits_puts (Took from t) refl) (Emits_either (is_own from) nothing (treats true true from t) Emits_nothing (treats-emits from t none))
+other-emits from t none = Emits_then (puts (Took from t)) _ (Emits_puts (Took from t) refl) (Emits_either (is_own from) nothing (handles true true from t) Emits_nothing (handles-emits from t none))
 
 other-act : (a : Act) → is_in (sort_of a) other_sorts ≡ true → is_correct a ≡ false
 other-act (Correct amount stepped shown) e = absurd (false≢true e)

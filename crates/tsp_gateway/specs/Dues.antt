@@ -6,7 +6,7 @@ use Rattle.tsp_base.specs.PortFacts.{armed}
 use Rattle.tsp_base.specs.SendFacts.{open_send}
 use Rattle.tsp_rules.specs.NodeRows.{NodePast}
 use Rattle.tsp_sends.specs.Slots.{sending_to}
-use Rattle.tsp_sends.specs.Treating.{IsEarliest}
+use Rattle.tsp_sends.specs.Repeating.{IsEarliest}
 use Rattle.tsp_node.specs.declared.part.Part.{Part}
 use Rattle.tsp_node.specs.NodeStands.{due_of}
 use Rattle.tsp_gateway.specs.GatewayStands.{port_at}

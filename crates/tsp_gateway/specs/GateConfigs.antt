@@ -4,7 +4,7 @@ use Rattle.tsp_base.specs.declared.place.PeerId.{PeerId}
 use Rattle.tsp_base.specs.History.{Booted}
 use Rattle.tsp_base.specs.Peers.{is_among}
 use Rattle.tsp_rules.specs.NodeRows.{NodePast, PortSetup}
-use Rattle.tsp_rules.specs.Tests.{is_clock_value}
+use Rattle.tsp_rules.specs.Guards.{is_clock_value}
 use Rattle.tsp_acks.specs.Peers.{IsPeers}
 use Rattle.tsp_node.specs.declared.fault.BootFault.{BootFault}
 use Rattle.tsp_node.specs.declared.fault.BootFault.TheVariants.{Peers, Range, OutOfMemory}

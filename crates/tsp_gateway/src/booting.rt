@@ -7,7 +7,7 @@ ghost use Rattle.tsp_base.specs.Joins.{first_port};
 ghost use Rattle.tsp_rules.specs.GateRows.{all_ports, boots_on};
 ghost use Rattle.tsp_rules.specs.NodePerforms.{PerformsAll};
 ghost use Rattle.tsp_rules.specs.NodeRows.{NodePast, for_ports, reading_all, spread};
-ghost use Rattle.tsp_rules.specs.Tests.{is_clock_value};
+ghost use Rattle.tsp_rules.specs.Guards.{is_clock_value};
 ghost use Rattle.tsp_gateway.specs.GateConfigs.{ArePorts, GateBootsNot, UnbootedNode, peers_of_ports};
 ghost use Rattle.tsp_gateway.specs.GatewayStands.{GatewayStands, clock_at, port_at};
 ghost use Rattle.tsp_gateway.specs.PartsFresh.{AreFresh};

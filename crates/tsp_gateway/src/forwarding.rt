@@ -7,7 +7,7 @@ ghost use Rattle.tsp_base.specs.Frames.{IsTick, PutsAtMost};
 ghost use Rattle.tsp_rules.specs.GateRows.{forwards, hears_on, judges, loosens_master, reposts_on, takes_loop};
 ghost use Rattle.tsp_rules.specs.NodePerforms.{PerformsAll};
 ghost use Rattle.tsp_rules.specs.NodeRows.{NodePast, on};
-ghost use Rattle.tsp_rules.specs.Tests.{is_starting_role};
+ghost use Rattle.tsp_rules.specs.Guards.{is_starting_role};
 ghost use Rattle.tsp_gateway.specs.GatewayStands.{GatewayStands, clock_at, port_at};
 ghost use Rattle.tsp_gateway.specs.Rooms.{all_peers, peers_at, ports_in};
 

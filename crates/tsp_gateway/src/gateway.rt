@@ -3,7 +3,7 @@ ghost use Rattle.std.specs.Prelude.{◌≡◌, ◌≤◌, ◌*◌, true, length,
 ghost use Rattle.tsp_base.specs.Frames.{IsTick, PutsAtMost};
 ghost use Rattle.tsp_rules.specs.GateRows.{boots_all};
 ghost use Rattle.tsp_rules.specs.NodePerforms.{PerformsAll};
-ghost use Rattle.tsp_rules.specs.Tests.{is_clock_value};
+ghost use Rattle.tsp_rules.specs.Guards.{is_clock_value};
 ghost use Rattle.tsp_gateway.specs.GateConfigs.{ArePorts, GateBootsNot, UnbootedNode, peers_of_ports};
 
 use crate::config::GateConfig;

@@ -2,7 +2,7 @@
 ghost use Rattle.std.specs.Prelude.{◌≡◌, ◌≤◌, ◌<◌, ℕ, length};
 ghost use Rattle.tsp_rules.specs.GateRows.{in_charge, leads_clock, steers};
 ghost use Rattle.tsp_rules.specs.NodeRows.{NodePast};
-ghost use Rattle.tsp_rules.specs.Tests.{is_follow, is_master};
+ghost use Rattle.tsp_rules.specs.Guards.{is_follow, is_master};
 ghost use Rattle.tsp_gateway.specs.GatewayStands.{GatewayStands, port_at};
 ghost use Rattle.tsp_gateway.specs.PortFacts.{any_lower, any_other, asked_on};
 ghost use Rattle.tsp_gateway.specs.Rooms.{ports_in};

@@ -7,7 +7,7 @@ ghost use Rattle.tsp_rules.specs.Answers.{rings};
 ghost use Rattle.tsp_rules.specs.GateRows.{alarm_on, is_last_probe};
 ghost use Rattle.tsp_rules.specs.NodePerforms.{PerformsAll};
 ghost use Rattle.tsp_rules.specs.NodeRows.{NodePast, on, on_port};
-ghost use Rattle.tsp_rules.specs.Tests.{is_due, is_in_time, is_over};
+ghost use Rattle.tsp_rules.specs.Guards.{is_due, is_in_time, is_over};
 ghost use Rattle.tsp_node.specs.declared.part.Part.{Part};
 ghost use Rattle.tsp_gateway.specs.GatewayStands.{GatewayStands, GatewayTurning, clock_at, port_at};
 ghost use Rattle.tsp_gateway.specs.Rooms.{peers_at, ports_in};
@@ -26,7 +26,7 @@ fn asks_no_more(alarms: &Alarms) -> bool
 }
 
 impl Gateway {
-    /// Treats a port's Probe where it is due; after the last one of a round a LOOP sets out to each other peer,
+    /// Handles a port's Probe where it is due; after the last one of a round a LOOP sets out to each other peer,
     /// where the node has several ports.
     pub(crate) fn probe<D: Desk>(&mut self, q: usize, tick: u64, desk: &mut D)
         requires port { q < length (ports_in self.old) }
@@ -63,7 +63,7 @@ impl Gateway {
         asks_no_more(&self.ports[q].station().alarms) && self.ports.len() >= 2
     }
 
-    /// Treats a port's Probe where it is due.
+    /// Handles a port's Probe where it is due.
     fn ring_probe<D: Desk>(&mut self, q: usize, tick: u64, desk: &mut D)
         requires port { q < length (ports_in self.old) }
         requires room { 2 * peers_at q (ports_in self.old) + 16 ≤ D.spare desk.old }
@@ -79,7 +79,7 @@ impl Gateway {
         let _ = self.ports[q].ring(clock, Alarm::Probe, true, false, tick, port_at(q), desk);
     }
 
-    /// Treats a port's Close where it is due: it moves the clock where the port leads it, and where it does the
+    /// Handles a port's Close where it is due: it moves the clock where the port leads it, and where it does the
     /// rounds of the other ports are given up. It comes after the port's Probe.
     pub(crate) fn close<D: Desk>(&mut self, q: usize, tick: u64, desk: &mut D)
         requires port { q < length (ports_in self.old) }
@@ -99,7 +99,7 @@ impl Gateway {
         }
     }
 
-    /// Treats a port's Round where it is due: it waits while another port has a round going.
+    /// Handles a port's Round where it is due: it waits while another port has a round going.
     pub(crate) fn begin_round<D: Desk>(&mut self, q: usize, tick: u64, desk: &mut D)
         requires port { q < length (ports_in self.old) }
         requires room { 2 * peers_at q (ports_in self.old) + 16 ≤ D.spare desk.old }

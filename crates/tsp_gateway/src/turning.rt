@@ -14,7 +14,7 @@ use tsp_base::alarm::Alarm;
 use tsp_base::desk::Desk;
 
 impl Gateway {
-    /// Treats the due sends and then the due alarms of every port, port by port.
+    /// Repeats the due sends and then handles the due alarms of every port, port by port.
     pub(crate) fn turn_ports<D: Desk>(&mut self, tick: u64, desk: &mut D)
         requires room { room_of_ports (ports_in self.old) ≤ D.spare desk.old }
         requires tick { IsTick tick }
@@ -29,7 +29,7 @@ impl Gateway {
         }
     }
 
-    /// Treats the due sends and then the due alarms of a port.
+    /// Repeats the due sends and then handles the due alarms of a port.
     fn turn_port<D: Desk>(&mut self, q: usize, tick: u64, desk: &mut D)
         requires port { q < length (ports_in self.old) }
         requires room { turn_room (peers_at q (ports_in self.old)) ≤ D.spare desk.old }
@@ -51,7 +51,7 @@ impl Gateway {
         self.begin_round(q, tick, desk);
     }
 
-    /// Treats the due sends of a port.
+    /// Repeats the due sends of a port.
     fn send<D: Desk>(&mut self, q: usize, tick: u64, desk: &mut D)
         requires port { q < length (ports_in self.old) }
         requires room { 2 * peers_at q (ports_in self.old) + 16 ≤ D.spare desk.old }
@@ -64,7 +64,7 @@ impl Gateway {
         self.ports[q].sends(tick, port_at(q), desk);
     }
 
-    /// Treats one alarm of a port that is due and is none of a round.
+    /// Handles one alarm of a port that is due and is none of a round.
     fn ring<D: Desk>(&mut self, q: usize, alarm: Alarm, tick: u64, desk: &mut D)
         requires alarm { is_of_round alarm ≡ false }
         requires port { q < length (ports_in self.old) }

@@ -21,7 +21,7 @@ use Rattle.tsp_base.specs.Rows.{grown, placed}
 use Rattle.tsp_base.specs.SendFacts.{is_acknowledged, last_number, last_post}
 use Rattle.tsp_base.proofs.SendLemmas.{seen_act}
 use Rattle.tsp_rules.specs.RoundRows.{asks, measured_at}
-use Rattle.tsp_rules.specs.Tests.{table_at}
+use Rattle.tsp_rules.specs.Guards.{table_at}
 use Rattle.tsp_acks.specs.declared.station.Station.{Station}
 use Rattle.tsp_acks.specs.Peers.{IsPeers}
 use Rattle.tsp_acks.specs.Stands.{Stands}

@@ -12,7 +12,7 @@ use Rattle.tsp_base.specs.PortFacts.{armed}
 use Rattle.tsp_group.specs.declared.group.Group.{Group}
 use Rattle.tsp_rules.specs.ClockRows.{adjusts, can_adjust, is_step}
 use Rattle.tsp_rules.specs.SendRows.{begins_adjtime, begins_settime}
-use Rattle.tsp_rules.specs.Tests.{is_over}
+use Rattle.tsp_rules.specs.Guards.{is_over}
 use Rattle.tsp_rules.proofs.Emits.{AllOf, Emits, Emits_each, Emits_if, Emits_puts, is_in, sort_of}
 use Rattle.tsp_rules.proofs.EmitsSends.{emits_adjtime_begins, emits_settime_begins}
 use Rattle.tsp_acks.specs.declared.station.Station.{Station}

@@ -15,7 +15,7 @@ use Rattle.tsp_base.specs.PortFacts.{armed}
 use Rattle.tsp_base.specs.RoundFacts.{is_going, is_starting, probes}
 use Rattle.tsp_base.specs.Rows.{Row, arms, grown, puts, ◌followed_by◌}
 use Rattle.tsp_base.proofs.RowLemmas.{grown_append}
-use Rattle.tsp_rules.specs.Tests.{is_met, is_over}
+use Rattle.tsp_rules.specs.Guards.{is_met, is_over}
 use Rattle.tsp_rules.proofs.Emits.{Posting, is_in, sort_of}
 use Rattle.tsp_measure.specs.Measures.{Measured, best_of}
 use Rattle.tsp_master.specs.declared.master.Master.{Master}

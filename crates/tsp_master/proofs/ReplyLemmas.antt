@@ -13,7 +13,7 @@ use Rattle.tsp_base.specs.Rows.{nothing, puts, reading}
 use Rattle.tsp_base.specs.Stamps.{ReplyValue}
 use Rattle.tsp_base.proofs.PerformsLemmas.{Performs_nothing, Performs_reading, Performs_to}
 use Rattle.tsp_rules.specs.RoundRows.{request_at, sample_of, samples, samples_request}
-use Rattle.tsp_rules.specs.Tests.{target_at}
+use Rattle.tsp_rules.specs.Guards.{target_at}
 use Rattle.tsp_rules.proofs.Emits.{Emits_puts}
 use Rattle.tsp_acks.specs.declared.station.Station.{Station}
 use Rattle.tsp_clock.specs.Clocks.{ClockValue, target_of}

@@ -24,7 +24,7 @@ use Rattle.tsp_base.specs.SendFacts.{corrects_in, is_correction, is_acknowledged
 use Rattle.tsp_base.proofs.SendLemmas.{seen_act, last_post-posts, last_post-other, last_number-begins, last_number-other, is_acknowledged-begins, is_acknowledged-other, is_acknowledged-acked}
 use Rattle.tsp_rules.specs.DateRows.{all_settled, are_settled, is_settled}
 use Rattle.tsp_rules.specs.SendRows.{may_correct, may_set}
-use Rattle.tsp_rules.specs.Tests.{is_clock_value, is_in_range, target_at}
+use Rattle.tsp_rules.specs.Guards.{is_clock_value, is_in_range, target_at}
 use Rattle.tsp_rules.proofs.Emits.{Sort, Taking, Numbering, Posting, Backing, Counting, Alarming, Rivalling, Giving, Closing, Tracing, is_in, sort_of, sort_of_kind}
 use Rattle.tsp_acks.specs.Peers.{IsPeers}
 use Rattle.tsp_clock.specs.Clocks.{ClockValue, target_of}

@@ -18,7 +18,7 @@ use Rattle.tsp_base.specs.RoundFacts.{is_measured}
 use Rattle.tsp_base.specs.SendFacts.{corrects_in, open_send}
 use Rattle.tsp_base.specs.Rows.{Row, added, grown, in_step, puts}
 use Rattle.tsp_rules.specs.RoundRows.{is_correct}
-use Rattle.tsp_rules.specs.Tests.{is_master}
+use Rattle.tsp_rules.specs.Guards.{is_master}
 use Rattle.tsp_rules.proofs.Emits.{Sort, Taking, Numbering, Posting, Leading, Following, Changing, Backing, Counting, Alarming, Rivalling, Giving, Closing, Moving, Tracing, AllOf, is_in, sort_of, sort_of_kind, Emits, Emits_more}
 use Rattle.tsp_rules.proofs.EmitsTables.{changes, is_change}
 use Rattle.tsp_master.specs.declared.entry.Entry.{Entry}

@@ -11,7 +11,7 @@ ghost use Rattle.tsp_rules.specs.RoundRows.{close_rings, corrects, corrects_peer
 ghost use Rattle.tsp_acks.specs.declared.station.Station.{Station};
 ghost use Rattle.tsp_acks.specs.Changes.{IsSamePort};
 ghost use Rattle.tsp_clock.specs.Clocks.{target_of};
-ghost use Rattle.tsp_rules.specs.Tests.{is_clock_value, is_over};
+ghost use Rattle.tsp_rules.specs.Guards.{is_clock_value, is_over};
 ghost use Rattle.tsp_master.specs.declared.master.Master.{Master};
 ghost use Rattle.tsp_master.specs.MasterStands.{LeadStands, RingStands};
 ghost use Rattle.tsp_master.specs.Closing.{closes_here, round_of, standing_with};
@@ -29,7 +29,7 @@ use tsp_clock::clock::Clock;
 use tsp_group::correction;
 
 impl Master {
-    /// Treats a Close that is due, after its Probe was: where it is in time the round closes, else it is given
+    /// Handles a Close that is due, after its Probe was: where it is in time the round closes, else it is given
     /// up. The answer is whether the clock was corrected.
     pub(crate) fn ring_close<D: Desk>(
         &mut self,

@@ -20,7 +20,7 @@ use tsp_measure::Reply;
 impl Master {
     ghost use Rattle.tsp_master.specs.MasterStands.{LeadStands, GoingStands};
 
-    /// Treats a stamp of another peer at a master: a reply that answers an open exchange of the going round
+    /// Handles a stamp of another peer at a master: a reply that answers an open exchange of the going round
     /// gives a sample. At most one act.
     pub fn reply<D: Desk>(
         &mut self,

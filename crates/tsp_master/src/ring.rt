@@ -10,7 +10,7 @@ ghost use Rattle.tsp_base.specs.Performs.{Performs};
 ghost use Rattle.tsp_base.specs.RoundFacts.{Sampled, best};
 ghost use Rattle.tsp_base.specs.Rows.{◌followed_by◌, arms};
 ghost use Rattle.tsp_rules.specs.RoundRows.{arms_next, corrects, round_begins, round_rings, probe_rings};
-ghost use Rattle.tsp_rules.specs.Tests.{is_over};
+ghost use Rattle.tsp_rules.specs.Guards.{is_over};
 ghost use Rattle.tsp_measure.specs.Measures.{begun};
 ghost use Rattle.tsp_acks.specs.Changes.{IsSamePort};
 ghost use Rattle.tsp_clock.specs.Clocks.{ClockValue};
@@ -32,7 +32,7 @@ use tsp_clock::clock::Clock;
 impl Master {
     ghost use Rattle.tsp_master.specs.MasterStands.{LeadStands, ProbesStands, RingStands, StartsStands};
 
-    /// Treats one alarm of a round that is due: a Probe asks the measured peers again, a Close closes the
+    /// Handles one alarm of a round that is due: a Probe asks the measured peers again, a Close closes the
     /// round, and a Round begins one; one that is met too late gives the round up, or puts it off. Any other
     /// alarm does nothing here. Where this port doesn't lead the clock (`group_mean` is false), a close uses
     /// the mean 0 and leaves the clock. A Close comes after its Probe. The answer is whether the clock was
@@ -76,7 +76,7 @@ impl Master {
         }
     }
 
-    /// Treats a Round that is due: where it is in time a round begins, and the next one is put off in any case.
+    /// Handles a Round that is due: where it is in time a round begins, and the next one is put off in any case.
     pub(crate) fn ring_round<D: Desk>(
         &mut self,
         station: &mut Station,
@@ -146,7 +146,7 @@ impl Master {
         self.rounds.begin();
     }
 
-    /// Treats a Probe that is due: where it is in time the measured peers are asked again, and a further probe
+    /// Handles a Probe that is due: where it is in time the measured peers are asked again, and a further probe
     /// is put off unless this was the third; else the round is given up.
     pub(crate) fn ring_probe<D: Desk>(
         &mut self,

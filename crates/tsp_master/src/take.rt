@@ -25,7 +25,7 @@ use tsp_clock::clock::Clock;
 impl Master {
     ghost use Rattle.tsp_master.specs.MasterStands.{MasterStands, LeadStands};
 
-    /// Treats a message of another peer at a master: who looks for a master or resolves a conflict is
+    /// Handles a message of another peer at a master: who looks for a master or resolves a conflict is
     /// answered, a slave joins and is sent the time, and a candidate is sent away. Other messages are passed
     /// over here. In this step a datagram was taken. At most two acts.
     pub fn take<D: Desk>(

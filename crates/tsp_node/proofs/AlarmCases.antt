@@ -19,7 +19,7 @@ use Rattle.tsp_rules.specs.CandidateRows.{window_rings}
 use Rattle.tsp_rules.specs.RoundRows.{begins_or_waits, corrects, round_rings}
 use Rattle.tsp_rules.specs.ResolveRows.{quits_rivals, resolve_rings}
 use Rattle.tsp_rules.specs.SendRows.{begins}
-use Rattle.tsp_rules.specs.Tests.{is_due, is_in_time, is_over, rivals_at}
+use Rattle.tsp_rules.specs.Guards.{is_due, is_in_time, is_over, rivals_at}
 use Rattle.tsp_rules.proofs.Emits.{Alarming, Emits, Emits_arms, Emits_each, Emits_either, Emits_more, Emits_puts, Emits_reading, Emits_then, Leading, Numbering}
 use Rattle.tsp_rules.proofs.EmitsCandidate.{silent_window}
 use Rattle.tsp_rules.proofs.EmitsSlave.{emits_begins, silent_elect_rings, silent_quiet, silent_search, silent_sorts}

@@ -17,12 +17,12 @@ use Rattle.tsp_base.specs.Rows.{Row, arms, for_each, nothing, posts_back, puts, 
 use Rattle.tsp_base.specs.Takings.{time_in}
 use Rattle.tsp_base.proofs.PerformsLemmas.{Keeps_each, Keeps_either, Keeps_nothing, Keeps_reading, Keeps_then}
 use Rattle.tsp_rules.specs.Answers.{alarm_rings}
-use Rattle.tsp_rules.specs.CommonRows.{is_awake, may_be_asked, tests, arms_elect, backs_own, follow_row, searches, stand_row, tells_ticket}
+use Rattle.tsp_rules.specs.CommonRows.{is_awake, may_be_asked, tests, arms_elect, backs_own, follow_row, searches, candidature_row, tells_ticket}
 use Rattle.tsp_rules.specs.MasterRows.{joins, may_join, sends_away}
 use Rattle.tsp_rules.specs.ResolveRows.{quits_rivals, resolve_rings}
 use Rattle.tsp_rules.specs.SendRows.{begins, begins_settime, begins_to_others, has_quit, is_free}
 use Rattle.tsp_rules.specs.SlaveRows.{adjtime_of, elect_rings, from_master, loosens, masterack_in, masterup_in, reports_conflict, settime_of, slave_takes, slave_takes_kind}
-use Rattle.tsp_rules.specs.Tests.{is_in_time, may_stand_at, rivals_at, role_at}
+use Rattle.tsp_rules.specs.Guards.{is_in_time, may_stand_at, rivals_at, role_at}
 use Rattle.tsp_rules.proofs.Emits.{Acking, Emits, Emits_arms, Emits_either, Emits_more, Emits_nothing, Emits_posts, Emits_posts_back, Emits_puts, Emits_then}
 use Rattle.tsp_rules.proofs.EmitsSends.{emits_settime_begins}
 use Rattle.tsp_date.specs.DateStands.{DatesStand}
@@ -35,9 +35,9 @@ calm : (row : Row) → Emits calm_sorts row → Keeps DatesStand row
 calm row e = DatesStand_by row (Emits_more calm_sorts refl e)
 
 -- a node that stands
-pub DatesStand_stand : Keeps DatesStand stand_row
-unfolding stand_row
-DatesStand_stand =
+pub DatesStand_candidature : Keeps DatesStand candidature_row
+unfolding candidature_row
+DatesStand_candidature =
     Keeps_then DatesStand (puts (Become Candidate)) _ (DatesStand_act (Become Candidate) refl)
     (Keeps_then DatesStand backs_own _ (calm backs_own backing) (Keeps_then DatesStand (arms Window WINDOW) (begins_to_others Election) (DatesStand_by (arms Window WINDOW) (Emits_arms Window WINDOW refl)) (DatesStand_begins_to_others Election refl)))
 
@@ -45,7 +45,7 @@ elect-keeps : Keeps DatesStand elect_rings
 unfolding elect_rings
 elect-keeps = Keeps_either DatesStand (is_in_time Elect) _ _
     (Keeps_then DatesStand (puts (Ring Elect)) _ (DatesStand_act (Ring Elect) refl)
-    (Keeps_either DatesStand may_stand_at stand_row (loosens followed_by searches) DatesStand_stand (calm (loosens followed_by searches) (Emits_then loosens searches loosening searching))))
+    (Keeps_either DatesStand may_stand_at candidature_row (loosens followed_by searches) DatesStand_candidature (calm (loosens followed_by searches) (Emits_then loosens searches loosening searching))))
     (calm _ late-elect)
 
 -- the alarms of a port that is Starting, Loose or follows
@@ -121,5 +121,5 @@ pub DatesStand_tests : (from : Place) (number : ℕ) → Keeps DatesStand (tests
 unfolding tests
 DatesStand_tests from number =
     Keeps_either DatesStand is_awake _ nothing
-    (Keeps_then DatesStand (posts_back from Ack number) _ (DatesStand_by (posts_back from Ack number) (Emits_posts_back from Ack number refl)) (Keeps_either DatesStand may_be_asked stand_row nothing DatesStand_stand (Keeps_nothing DatesStand)))
+    (Keeps_then DatesStand (posts_back from Ack number) _ (DatesStand_by (posts_back from Ack number) (Emits_posts_back from Ack number refl)) (Keeps_either DatesStand may_be_asked candidature_row nothing DatesStand_candidature (Keeps_nothing DatesStand)))
     (Keeps_nothing DatesStand)

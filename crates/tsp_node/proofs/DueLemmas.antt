@@ -4,7 +4,7 @@ use Rattle.std.proofs.Common.{sym, ◌∙◌}
 use Rattle.tsp_base.specs.History.{Past}
 use Rattle.tsp_base.specs.SendFacts.{open_send}
 use Rattle.tsp_sends.specs.Slots.{sending_to}
-use Rattle.tsp_sends.specs.Treating.{IsEarliest}
+use Rattle.tsp_sends.specs.Repeating.{IsEarliest}
 use Rattle.tsp_acks.specs.declared.station.Station.{Station}
 use Rattle.tsp_acks.specs.Stands.{Stands}
 

@@ -16,13 +16,13 @@ use Rattle.tsp_base.specs.PortFacts.{acting, taken}
 use Rattle.tsp_base.specs.Rows.{Row, either_by, grown, nothing, puts, reading, ◌followed_by◌}
 use Rattle.tsp_base.specs.SendFacts.{Sending, is_correction, is_given_up, is_set_date_request}
 use Rattle.tsp_base.proofs.PerformsLemmas.{Keeps_either, Keeps_nothing, Performs_else_part, Performs_nothing, Performs_reading, Performs_same, Performs_then, Performs_then_part}
-use Rattle.tsp_rules.specs.SendRows.{bare_send, due_send, gives_up, is_send_due, is_spent, leaves_after, open_at, repeats, treats_bare_send, treats_send}
-use Rattle.tsp_rules.specs.Tests.{is_slave_at}
+use Rattle.tsp_rules.specs.SendRows.{bare_send, due_send, gives_up, is_send_due, is_spent, leaves_after, open_at, repeats, repeats_bare_send, repeats_send}
+use Rattle.tsp_rules.specs.Guards.{is_slave_at}
 use Rattle.tsp_rules.proofs.Emits.{Emits, Emits_puts, is_in, sort_of_kind}
 use Rattle.tsp_sends.specs.declared.due.Due.TheVariants.{Again, Gave}
 use Rattle.tsp_sends.specs.declared.slot.Slot.{Slot}
 use Rattle.tsp_sends.specs.Slots.{sending_to}
-use Rattle.tsp_sends.specs.Treating.{TreatsNext, is_due_send}
+use Rattle.tsp_sends.specs.Repeating.{RepeatsNext, is_due_send}
 use Rattle.tsp_acks.specs.declared.station.Station.{Station}
 use Rattle.tsp_acks.specs.Stands.{Stands, StandsStill}
 use Rattle.tsp_acks.proofs.StandsLemmas.{Stands_idle}
@@ -68,7 +68,7 @@ Rest_leaves q k = by_test (is_correction k) where
   by_test true = Keeps_either Rest (is_slave_at q) (puts (Leave q)) nothing (Rest_leave q) (Keeps_nothing Rest)
   by_test false = Keeps_nothing Rest
 
--- what is treated is the least due send: it is given up, or posted again
+-- what is repeated is the least due send: it is given up, or posted again
 record IsGiven (x : ℕ) (slots : List Slot) (q : PeerId) (k : Kind) : Type 0 where
   pub s : Sending
   pub sending : sending_to slots q ≡ Some s
@@ -83,7 +83,7 @@ record IsAgain (x : ℕ) (slots : List Slot) (q : PeerId) (m : MessageValue) : T
   pub fresh : is_given_up s x ≡ false
   pub message : s.message ≡ m
 
-given_of : (after : Option PeerId) (x : ℕ) (slots new : List Slot) (q : PeerId) (k : Kind) → TreatsNext after x slots new (Some (Gave q k)) → IsGiven x slots q k
+given_of : (after : Option PeerId) (x : ℕ) (slots new : List Slot) (q : PeerId) (k : Kind) → RepeatsNext after x slots new (Some (Gave q k)) → IsGiven x slots q k
 given_of after x slots new q k t = by_test (is_given_up t.1 x) refl t.3 where
   by_test : (b : Bool) → is_given_up t.1 x ≡ b → Gave q k ≡ (if b then Gave t.0 t.1.message.kind else Again t.0 t.1.message) → IsGiven x slots q k
   by_test true e f =
@@ -92,7 +92,7 @@ given_of after x slots new q k t = by_test (is_given_up t.1 x) refl t.3 where
       record { s = t.1; sending = ap (sending_to slots) same ∙ t.2.sending; due = t.2.due; spent = e; kind = sym kind }
   by_test false e f = let bad : ⊥ = cc in absurd bad
 
-again_of : (after : Option PeerId) (x : ℕ) (slots new : List Slot) (q : PeerId) (m : MessageValue) → TreatsNext after x slots new (Some (Again q m)) → IsAgain x slots q m
+again_of : (after : Option PeerId) (x : ℕ) (slots new : List Slot) (q : PeerId) (m : MessageValue) → RepeatsNext after x slots new (Some (Again q m)) → IsAgain x slots q m
 again_of after x slots new q m t = by_test (is_given_up t.1 x) refl t.3 where
   by_test : (b : Bool) → is_given_up t.1 x ≡ b → Again q m ≡ (if b then Gave t.0 t.1.message.kind else Again t.0 t.1.message) → IsAgain x slots q m
   by_test true e f = let bad : ⊥ = cc in absurd bad
@@ -103,11 +103,11 @@ again_of after x slots new q m t = by_test (is_given_up t.1 x) refl t.3 where
 
 -- the row of a due send without the table, in both cases
 bare_gives : (q : PeerId) (s : Sending) (x : ℕ) (past : Past) → open_at q x past ≡ Some s → is_send_due s x past ≡ true → is_spent s x past ≡ true → bare_send q x past ≡ puts (GaveAct q) x past
-unfolding bare_send treats_bare_send reading either_by
+unfolding bare_send repeats_bare_send reading either_by
 bare_gives q s x past o d g = rw (o, d, g) refl
 
 bare_repeats : (q : PeerId) (s : Sending) (x : ℕ) (past : Past) → open_at q x past ≡ Some s → is_send_due s x past ≡ true → is_spent s x past ≡ false → bare_send q x past ≡ repeats q s.message x past
-unfolding bare_send treats_bare_send reading either_by
+unfolding bare_send repeats_bare_send reading either_by
 bare_repeats q s x past o d g = rw (o, d, g) refl
 
 and-false : (a b : Bool) → b ≡ false → (a && b) ≡ false
@@ -162,20 +162,20 @@ leaves_next {x = x} q k before master d = record {
 -- what becomes of a due send that is given up
 due_gives : {x : ℕ} {port : Port} (q : PeerId) (s : Sending) (k : Kind) {before after : PortValue} {old new : List Placed} → sending_to before.station.sends q ≡ Some s → is_due_send x (Some s) ≡ true → is_given_up s x ≡ true → s.message.kind ≡ k →
     Performs PortBegun PortBegun (puts (GaveAct q) followed_by leaves_after q k) x port before after old new → Performs PortBegun PortBegun (due_send q) x port before after old new
-unfolding due_send treats_send gives_up
+unfolding due_send repeats_send gives_up
 due_gives q s k is due spent kind d =
-    Performs_reading (open_at q) (treats_send q) (Some s) (λ past h. sym (h.stands.station.sends q) ∙ is)
+    Performs_reading (open_at q) (repeats_send q) (Some s) (λ past h. sym (h.stands.station.sends q) ∙ is)
     (Performs_then_part (is_send_due s) nothing (λ past h. due) (Performs_then_part (is_spent s) (repeats q s.message) (λ past h. spent) (rw kind d)))
 
 due_repeats : {x : ℕ} {port : Port} (q : PeerId) (s : Sending) {before after : PortValue} {old new : List Placed} → sending_to before.station.sends q ≡ Some s → is_due_send x (Some s) ≡ true → is_given_up s x ≡ false →
     Performs PortBegun PortBegun (repeats q s.message) x port before after old new → Performs PortBegun PortBegun (due_send q) x port before after old new
-unfolding due_send treats_send
+unfolding due_send repeats_send
 due_repeats q s is due fresh d =
-    Performs_reading (open_at q) (treats_send q) (Some s) (λ past h. sym (h.stands.station.sends q) ∙ is)
+    Performs_reading (open_at q) (repeats_send q) (Some s) (λ past h. sym (h.stands.station.sends q) ∙ is)
     (Performs_then_part (is_send_due s) nothing (λ past h. due) (Performs_else_part (is_spent s) (gives_up q s.message.kind) (λ past h. fresh) d))
 
 -- a send is given up, and a slave that didn't acknowledge a correction leaves
-pub Performs_gave : {x : ℕ} {port : Port} {before after : Part × ClockValue} {old mid new : List Placed} (last : Option PeerId) (q : PeerId) (k : Kind) → TreatsNext last x before.0.station.sends after.0.station.sends (Some (Gave q k)) →
+pub Performs_gave : {x : ℕ} {port : Port} {before after : Part × ClockValue} {old mid new : List Placed} (last : Option PeerId) (q : PeerId) (k : Kind) → RepeatsNext last x before.0.station.sends after.0.station.sends (Some (Gave q k)) →
     after.0.last ≡ before.0.last → after.0.resolve ≡ before.0.resolve → after.0.dates ≡ before.0.dates → after.1 ≡ before.1 → Performs StandsStill StandsStill (bare_send q) x port (before.0.station, tt) (after.0.station, tt) old mid →
     Performs MasterStands MasterStands (leaves_after q k) x port before.0.master after.0.master mid new → Performs PartBegun PartBegun (due_send q) x port before after old new
 Performs_gave {x = x} {port = port} {before = before} {after = after} {old = old} {mid = mid} {new = new} last q k t e u v f bare leave =
@@ -185,7 +185,7 @@ Performs_gave {x = x} {port = port} {before = before} {after = after} {old = old
     of_port (due_gives q g.s k g.sending g.due g.spent g.kind (rw (e, u, v, f) whole))
 
 -- a send is posted again
-pub Performs_again : {x : ℕ} {port : Port} {before after : Part × ClockValue} {old new : List Placed} (last : Option PeerId) (q : PeerId) (m : MessageValue) → TreatsNext last x before.0.station.sends after.0.station.sends (Some (Again q m)) →
+pub Performs_again : {x : ℕ} {port : Port} {before after : Part × ClockValue} {old new : List Placed} (last : Option PeerId) (q : PeerId) (m : MessageValue) → RepeatsNext last x before.0.station.sends after.0.station.sends (Some (Again q m)) →
     after.0.last ≡ before.0.last → after.0.resolve ≡ before.0.resolve → after.0.dates ≡ before.0.dates → after.1 ≡ before.1 → Performs StandsStill StandsStill (bare_send q) x port (before.0.station, tt) (after.0.station, tt) old new →
     ((past : Past) → acting past.seen ≡ false → MasterStands past before.0.master → MasterStands (grown x past (Post (Peer q) (Message m) ∷ [])) after.0.master) → Performs PartBegun PartBegun (due_send q) x port before after old new
 unfolding repeats puts
@@ -206,9 +206,9 @@ Performs_again {x = x} {before = before} {after = after} last q m t e u v f bare
 
 -- nothing is done for a send that isn't due
 pub Performs_waits : {x : ℕ} {port : Port} {both : Part × ClockValue} {old : List Placed} (q : PeerId) → is_due_send x (sending_to both.0.station.sends q) ≡ false → Performs PartBegun PartBegun (due_send q) x port both both old old
-unfolding due_send treats_send
-Performs_waits {x = x} {port = port} {both = both} {old = old} q late = Performs_reading (open_at q) (treats_send q) (sending_to both.0.station.sends q) (λ past h. sym (h.stands.station.sends q)) (by_send (sending_to both.0.station.sends q) late) where
-  by_send : (o : Option Sending) → is_due_send x o ≡ false → Performs PartBegun PartBegun (treats_send q o) x port both both old old
+unfolding due_send repeats_send
+Performs_waits {x = x} {port = port} {both = both} {old = old} q late = Performs_reading (open_at q) (repeats_send q) (sending_to both.0.station.sends q) (λ past h. sym (h.stands.station.sends q)) (by_send (sending_to both.0.station.sends q) late) where
+  by_send : (o : Option Sending) → is_due_send x o ≡ false → Performs PartBegun PartBegun (repeats_send q o) x port both both old old
   by_send None e = Performs_nothing
   by_send (Some s) e = Performs_else_part (is_send_due s) _ (λ past h. e) Performs_nothing
 

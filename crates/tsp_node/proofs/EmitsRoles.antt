@@ -16,10 +16,10 @@ use Rattle.tsp_base.specs.Takings.{time_in}
 use Rattle.tsp_rules.specs.Answers.{alarm_rings}
 use Rattle.tsp_rules.specs.CandidateRows.{accepted_by, candidate_takes, candidate_takes_kind, has_won, lead_row, refused_by, window_rings, yields}
 use Rattle.tsp_rules.specs.ClockRows.{adjusts, sets}
-use Rattle.tsp_rules.specs.CommonRows.{arms_elect, backs_own, follow_row, follows_unless, own_at, quits, searches, stand_row, tells_ticket}
+use Rattle.tsp_rules.specs.CommonRows.{arms_elect, backs_own, follow_row, follows_unless, own_at, quits, searches, candidature_row, tells_ticket}
 use Rattle.tsp_rules.specs.SendRows.{acknowledges, begins, begins_to_others, has_election, has_other, is_free, others_at}
 use Rattle.tsp_rules.specs.SlaveRows.{acks_repeat, adjtime_of, confirms, elect_rings, election_of, from_master, is_repeated, loosens, masterack_in, masterup_in, quiet_rings, reports_conflict, rings_or_late, search_rings, settime_of, slave_takes, slave_takes_kind, takes_amount, takes_value}
-use Rattle.tsp_rules.specs.Tests.{delay_at, follows_at, is_armed, is_in_time, may_back_at, may_stand_at, role_at, ticket_at}
+use Rattle.tsp_rules.specs.Guards.{delay_at, follows_at, is_armed, is_in_time, may_back_at, may_stand_at, role_at, ticket_at}
 use Rattle.tsp_rules.proofs.Emits.{Sort, Acking, Alarming, Backing, Changing, Counting, Following, Leading, Moving, Numbering, Posting, Emits, Emits_adjusts, Emits_arms, Emits_each, Emits_either, Emits_more, Emits_nothing, Emits_posts, Emits_posts_to_others, Emits_puts, Emits_reading, Emits_sets, Emits_then}
 use Rattle.tsp_rules.proofs.EmitsSlave.{emits_begins}
 use Rattle.tsp_rules.proofs.EmitsTables.{changes}
@@ -52,9 +52,9 @@ pub backing : Emits calm_sorts backs_own
 unfolding backs_own
 backing = Emits_reading own_at (λ own. puts (Back own)) (λ own. Emits_puts (Back own) refl)
 
-pub standing : Emits role_sorts stand_row
-unfolding stand_row backs_own begins_to_others
-standing = Emits_then (puts (Become Candidate)) _ (Emits_puts (Become Candidate) refl)
+pub begins_candidature : Emits role_sorts candidature_row
+unfolding candidature_row backs_own begins_to_others
+begins_candidature = Emits_then (puts (Become Candidate)) _ (Emits_puts (Become Candidate) refl)
     (Emits_then (reading own_at (λ own. puts (Back own))) _ (Emits_reading own_at (λ own. puts (Back own)) (λ own. Emits_puts (Back own) refl))
     (Emits_then (arms Window WINDOW) _ (Emits_arms Window WINDOW refl) (Emits_reading others_at (for_each (begins Election)) (λ ps. Emits_each (begins Election) ps (λ p. emits_begins Election p refl)))))
 
@@ -73,7 +73,7 @@ late-elect = Emits_then (puts (Late Elect)) arms_elect (Emits_puts (Late Elect) 
 elect-rings : Emits role_sorts elect_rings
 unfolding elect_rings
 elect-rings = Emits_either (is_in_time Elect) _ _
-    (Emits_then (puts (Ring Elect)) _ (Emits_puts (Ring Elect) refl) (Emits_either may_stand_at stand_row (loosens followed_by searches) standing (Emits_more calm_sorts refl (Emits_then loosens searches loosening searching))))
+    (Emits_then (puts (Ring Elect)) _ (Emits_puts (Ring Elect) refl) (Emits_either may_stand_at candidature_row (loosens followed_by searches) begins_candidature (Emits_more calm_sorts refl (Emits_then loosens searches loosening searching))))
     (Emits_more calm_sorts refl late-elect)
 
 -- the alarms of a port that is Starting, Loose or follows

@@ -12,19 +12,19 @@ use Rattle.tsp_base.specs.Messages.{MessageValue}
 use Rattle.tsp_base.specs.RoundFacts.{OpenRequest}
 use Rattle.tsp_base.specs.Rows.{arms, bare, nothing, posts, posts_back, posts_to_others, puts, ◌followed_by◌}
 use Rattle.tsp_base.specs.Stamps.{ReplyValue}
-use Rattle.tsp_rules.specs.CommonRows.{is_awake, master_name, may_be_asked, names_master, says_master, stand_row, tests, traces}
+use Rattle.tsp_rules.specs.CommonRows.{is_awake, master_name, may_be_asked, names_master, says_master, candidature_row, tests, traces}
 use Rattle.tsp_rules.specs.MasterRows.{joins, may_join, sends_away}
 use Rattle.tsp_rules.specs.ResolveRows.{finds_rival, is_new_rival, resolves}
 use Rattle.tsp_rules.specs.RoundRows.{abandons, abandons_going, request_at, sample_of, samples, samples_request}
 use Rattle.tsp_rules.specs.SendRows.{begins, begins_settime, has_quit}
-use Rattle.tsp_rules.specs.Tests.{is_armed, is_going_at, is_master_at, target_at}
+use Rattle.tsp_rules.specs.Guards.{is_armed, is_going_at, is_master_at, target_at}
 use Rattle.tsp_rules.proofs.Emits.{Sort, Alarming, Correcting, Numbering, Posting, Rivalling, Rounding, Sampling, Tabling, Tracing, Emits, Emits_arms, Emits_either, Emits_if, Emits_more, Emits_nothing, Emits_posts, Emits_posts_back, Emits_posts_to_others, Emits_puts, Emits_reading, Emits_then}
 use Rattle.tsp_rules.proofs.EmitsSends.{emits_settime_begins}
-use Rattle.tsp_rules.proofs.EmitsSlave.{emits_begins, silent_sorts, silent_stand}
+use Rattle.tsp_rules.proofs.EmitsSlave.{emits_begins, silent_sorts, silent_candidature}
 use Rattle.tsp_slave.proofs.BesideLemmas.{beside_sorts}
 use Rattle.tsp_resolve.proofs.ResolveLemmas.{unchanging}
 use Rattle.tsp_master.specs.MasterTakes.{master_takes_here, master_takes_kind_here}
-use Rattle.tsp_node.proofs.EmitsRoles.{role_sorts, standing}
+use Rattle.tsp_node.proofs.EmitsRoles.{role_sorts, begins_candidature}
 
 pub emits_abandons : Emits (Rounding ∷ []) abandons_going
 unfolding abandons_going abandons
@@ -87,8 +87,8 @@ emits_traces_here from number on = Emits_then (puts (Trace on)) (posts_back from
 
 pub emits_tests_here : (from : Place) (number : ℕ) → Emits role_sorts (tests from number)
 unfolding tests
-emits_tests_here from number = Emits_either is_awake _ nothing (Emits_then (posts_back from Ack number) _ (Emits_posts_back from Ack number refl) (Emits_either may_be_asked stand_row nothing standing Emits_nothing)) Emits_nothing
+emits_tests_here from number = Emits_either is_awake _ nothing (Emits_then (posts_back from Ack number) _ (Emits_posts_back from Ack number refl) (Emits_either may_be_asked candidature_row nothing begins_candidature Emits_nothing)) Emits_nothing
 
 pub emits_tests_beside : (from : Place) (number : ℕ) → Emits beside_sorts (tests from number)
 unfolding tests
-emits_tests_beside from number = Emits_either is_awake _ nothing (Emits_then (posts_back from Ack number) _ (Emits_posts_back from Ack number refl) (Emits_either may_be_asked stand_row nothing (Emits_more silent_sorts refl silent_stand) Emits_nothing)) Emits_nothing
+emits_tests_beside from number = Emits_either is_awake _ nothing (Emits_then (posts_back from Ack number) _ (Emits_posts_back from Ack number refl) (Emits_either may_be_asked candidature_row nothing (Emits_more silent_sorts refl silent_candidature) Emits_nothing)) Emits_nothing

@@ -21,7 +21,7 @@ use Rattle.tsp_base.specs.Rows.{Row, either_by, grown, nothing, posts, puts, rea
 use Rattle.tsp_base.specs.SendFacts.{Sending, corrects_in, is_correction, is_date_request, open_send}
 use Rattle.tsp_base.specs.Stamps.{ReplyValue}
 use Rattle.tsp_base.proofs.PerformsLemmas.{Performs_else_part, Performs_reading, Performs_then_part}
-use Rattle.tsp_rules.specs.Answers.{from_peer, is_left, peer_says, replies_in, says_in, treats_kind}
+use Rattle.tsp_rules.specs.Answers.{from_peer, is_left, peer_says, replies_in, says_in, handles_kind}
 use Rattle.tsp_rules.specs.CommonRows.{names_master, quits, says_master, tests, traces}
 use Rattle.tsp_rules.specs.MasterRows.{master_takes, master_takes_kind}
 use Rattle.tsp_rules.specs.ResolveRows.{finds_rival, resolves}
@@ -29,7 +29,7 @@ use Rattle.tsp_rules.specs.CandidateRows.{accepted_by, candidate_takes, candidat
 use Rattle.tsp_rules.specs.RoundRows.{samples}
 use Rattle.tsp_rules.specs.SendRows.{acknowledges, answers_election, has_election, is_kind_election}
 use Rattle.tsp_rules.specs.SlaveRows.{slave_takes, slave_takes_kind}
-use Rattle.tsp_rules.specs.Tests.{is_follow, is_heard, is_master, is_starting_role, role_at}
+use Rattle.tsp_rules.specs.Guards.{is_follow, is_heard, is_master, is_starting_role, role_at}
 use Rattle.tsp_rules.proofs.Emits.{Emits_more}
 use Rattle.tsp_acks.specs.declared.station.Station.{Station}
 use Rattle.tsp_acks.specs.Stands.{Stands}
@@ -69,7 +69,7 @@ is_heard-at p x past station s = rw (s.peers, s.role) refl
 pub Performs_left : {r : Received} {x : ℕ} {port : Port} {state : (Part × ClockValue) × Bool} {old : List Placed} (steer : Bool) (k : Kind) (row : Row) → leaves_by steer k state.0.0.station.role ≡ true → Performs (TookStands r) TakeStands (either_by (is_left steer k) nothing row) x port state state old old
 Performs_left {x = x} {state = state} steer k row e = Performs_then_part (is_left steer k) row (λ past h. is_left-at steer k x past state.0.0.station h.first.stands.station ∙ e) took_pass
 
--- what isn't left is treated
+-- what isn't left is handled
 pub Performs_kept : {r : Received} {x : ℕ} {port : Port} {before after : (Part × ClockValue) × Bool} {old new : List Placed} (steer : Bool) (k : Kind) {row : Row} → leaves_by steer k before.0.0.station.role ≡ false → Performs (TookStands r) TakeStands row x port before after old new →
     Performs (TookStands r) TakeStands (either_by (is_left steer k) nothing row) x port before after old new
 Performs_kept {x = x} {before = before} steer k e d = Performs_else_part (is_left steer k) nothing (λ past h. is_left-at steer k x past before.0.0.station h.first.stands.station ∙ e) d
@@ -83,7 +83,7 @@ pub Performs_unheard : {r : Received} {x : ℕ} {port : Port} {both : Part × Cl
 unfolding from_peer
 Performs_unheard {x = x} {both = both} p row e = Performs_else_part (is_heard p) (row p) (λ past h. is_heard-at p x past both.0.station h.stands.station ∙ e) Performs_pass
 
--- who is heard is treated
+-- who is heard is handled
 pub Performs_heard_by : {r : Received} {x : ℕ} {port : Port} {before after : Part × ClockValue} {old new : List Placed} (p : PeerId) (row : PeerId → Row) → hears_by before.0.station p ≡ true →
     Performs (PartTook r) PartStands (row p) x port before after old new → Performs (PartTook r) PartStands (from_peer (Peer p) row) x port before after old new
 unfolding from_peer
@@ -94,7 +94,7 @@ pub Performs_by_role : {r : Received} {x : ℕ} {port : Port} {before after : Pa
     Performs (PartTook r) PartStands (rows before.0.station.role) x port before after old new → Performs (PartTook r) PartStands (reading role_at rows) x port before after old new
 Performs_by_role {before = before} rows d = Performs_reading role_at rows before.0.station.role (λ past k. sym k.stands.station.role) d
 
--- an ACK is treated alike by every role that hears
+-- an ACK is handled alike by every role that hears
 pub says_ack : (p : PeerId) (m : MessageValue) (r : Role) → m.kind ≡ Ack → is_starting_role r ≡ false → says_in p m r ≡ acknowledges p m.number
 unfolding says_in slave_takes slave_takes_kind candidate_takes candidate_takes_kind master_takes master_takes_kind
 says_ack p m Starting e n = absurd (false≢true (sym n))
@@ -193,8 +193,8 @@ pub Performs_role : {t : Received} {x : ℕ} {port : Port} {before after : Part 
 Performs_role p m is r e d = rw e d
 
 -- whose matter a message is, as the rows have it
-pub matter_node : (charge : Bool) (from : Place) (m : MessageValue) (k : Kind) → matter_of k ≡ OfNode → treats_kind charge from m k ≡ nothing
-unfolding treats_kind
+pub matter_node : (charge : Bool) (from : Place) (m : MessageValue) (k : Kind) → matter_of k ≡ OfNode → handles_kind charge from m k ≡ nothing
+unfolding handles_kind
 matter_node charge from m Loop e = refl
 matter_node charge from m Msite e = let bad : ⊥ = cc in absurd bad
 matter_node charge from m MsiteReq e = let bad : ⊥ = cc in absurd bad
@@ -208,8 +208,8 @@ matter_node charge from m SetDateReq e = let bad : ⊥ = cc in absurd bad
 matter_node charge from m DateAck e = let bad : ⊥ = cc in absurd bad
 matter_node charge from m _ e = let bad : ⊥ = cc in absurd bad
 
-pub matter_roles : (charge : Bool) (from : Place) (m : MessageValue) (k : Kind) → matter_of k ≡ OfRoles → treats_kind charge from m k ≡ from_peer from (peer_says m)
-unfolding treats_kind
+pub matter_roles : (charge : Bool) (from : Place) (m : MessageValue) (k : Kind) → matter_of k ≡ OfRoles → handles_kind charge from m k ≡ from_peer from (peer_says m)
+unfolding handles_kind
 matter_roles charge from m Msite e = let bad : ⊥ = cc in absurd bad
 matter_roles charge from m MsiteReq e = let bad : ⊥ = cc in absurd bad
 matter_roles charge from m TraceOn e = let bad : ⊥ = cc in absurd bad
@@ -262,22 +262,22 @@ pub master_masterack : (p : PeerId) (m : MessageValue) → m.kind ≡ MasterAck 
 unfolding master_takes master_takes_kind
 master_masterack p m e = rw e refl
 
-pub treats_msite : (charge : Bool) (from : Place) (m : MessageValue) → m.kind ≡ Msite → treats_kind charge from m m.kind ≡ names_master from m.number
-unfolding treats_kind
-treats_msite charge from m e = rw e refl
+pub handles_msite : (charge : Bool) (from : Place) (m : MessageValue) → m.kind ≡ Msite → handles_kind charge from m m.kind ≡ names_master from m.number
+unfolding handles_kind
+handles_msite charge from m e = rw e refl
 
-pub treats_msitereq : (charge : Bool) (from : Place) (m : MessageValue) → m.kind ≡ MsiteReq → treats_kind charge from m m.kind ≡ says_master from m.number
-unfolding treats_kind
-treats_msitereq charge from m e = rw e refl
+pub handles_msitereq : (charge : Bool) (from : Place) (m : MessageValue) → m.kind ≡ MsiteReq → handles_kind charge from m m.kind ≡ says_master from m.number
+unfolding handles_kind
+handles_msitereq charge from m e = rw e refl
 
-pub treats_traceon : (charge : Bool) (from : Place) (m : MessageValue) → m.kind ≡ TraceOn → treats_kind charge from m m.kind ≡ traces from m.number true
-unfolding treats_kind
-treats_traceon charge from m e = rw e refl
+pub handles_traceon : (charge : Bool) (from : Place) (m : MessageValue) → m.kind ≡ TraceOn → handles_kind charge from m m.kind ≡ traces from m.number true
+unfolding handles_kind
+handles_traceon charge from m e = rw e refl
 
-pub treats_traceoff : (charge : Bool) (from : Place) (m : MessageValue) → m.kind ≡ TraceOff → treats_kind charge from m m.kind ≡ traces from m.number false
-unfolding treats_kind
-treats_traceoff charge from m e = rw e refl
+pub handles_traceoff : (charge : Bool) (from : Place) (m : MessageValue) → m.kind ≡ TraceOff → handles_kind charge from m m.kind ≡ traces from m.number false
+unfolding handles_kind
+handles_traceoff charge from m e = rw e refl
 
-pub treats_test : (charge : Bool) (from : Place) (m : MessageValue) → m.kind ≡ Test → treats_kind charge from m m.kind ≡ tests from m.number
-unfolding treats_kind
-treats_test charge from m e = rw e refl
+pub handles_test : (charge : Bool) (from : Place) (m : MessageValue) → m.kind ≡ Test → handles_kind charge from m m.kind ≡ tests from m.number
+unfolding handles_kind
+handles_test charge from m e = rw e refl

@@ -12,7 +12,7 @@ use Rattle.tsp_base.specs.Rows.{grown, nothing, puts}
 use Rattle.tsp_base.specs.SendFacts.{is_correction}
 use Rattle.tsp_base.proofs.PerformsLemmas.{Performs_else_part, Performs_nothing, Performs_then_part}
 use Rattle.tsp_rules.specs.SendRows.{leaves_after}
-use Rattle.tsp_rules.specs.Tests.{is_slave_at}
+use Rattle.tsp_rules.specs.Guards.{is_slave_at}
 use Rattle.tsp_master.specs.declared.master.Master.{Master}
 use Rattle.tsp_master.specs.MasterStands.{MasterStands}
 

@@ -18,7 +18,7 @@ use Rattle.tsp_base.specs.PortFacts.{Received, acting, acting_after, role, said,
 use Rattle.tsp_base.specs.Rows.{Row, nothing, puts, grown}
 use Rattle.tsp_base.specs.Stamps.{ReplyValue}
 use Rattle.tsp_base.proofs.PerformsLemmas.{Performs_beside, Performs_from, Performs_nothing}
-use Rattle.tsp_rules.specs.Tests.{is_master}
+use Rattle.tsp_rules.specs.Guards.{is_master}
 use Rattle.tsp_rules.proofs.Emits.{Sort, Booting, Asking, Correcting, Numbering, Posting, Leading, Following, Changing, Backing, Counting, Rounding, Alarming, Tabling, Rivalling, Acking, Giving, Sampling, Closing, Moving, Tracing, Emits, Emits_more, Keeps_by, is_in, sort_of}
 use Rattle.tsp_acks.specs.declared.station.Station.{Station}
 use Rattle.tsp_acks.specs.Stands.{Stands, StandsActing}

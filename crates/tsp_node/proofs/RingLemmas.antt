@@ -11,9 +11,9 @@ use Rattle.tsp_base.specs.Performs.{Performs}
 use Rattle.tsp_base.specs.Rows.{puts, ◌followed_by◌}
 use Rattle.tsp_base.proofs.PerformsLemmas.{Performs_then, Performs_then_part, Performs_from, Performs_to}
 use Rattle.tsp_rules.specs.Answers.{alarm_rings}
-use Rattle.tsp_rules.specs.CommonRows.{arms_elect, searches, stand_row}
+use Rattle.tsp_rules.specs.CommonRows.{arms_elect, searches, candidature_row}
 use Rattle.tsp_rules.specs.SlaveRows.{loosens, elect_rings}
-use Rattle.tsp_rules.specs.Tests.{is_in_time, may_stand_at}
+use Rattle.tsp_rules.specs.Guards.{is_in_time, may_stand_at}
 use Rattle.tsp_acks.specs.declared.station.Station.{Station}
 use Rattle.tsp_acks.specs.Stands.{Stands, StandsActing}
 use Rattle.tsp_slave.specs.SlaveAlarms.{slave_rings, is_to_be_candidate}
@@ -48,7 +48,7 @@ record Ready (x : ℕ) (past : Past) (station : Station) : Type 0 where
 
 -- a node that stands
 pub Performs_stands : {x : ℕ} {port : Port} {before mid after : Station} {old middle new : List Placed} → ((past : Past) → Stands past before → (is_in_time Elect x past && may_stand_at x past) ≡ true) →
-    Performs Stands Stands (puts (Ring Elect)) x port before mid old middle → Performs StandsActing StandsActing stand_row x port (mid, tt) (after, tt) middle new → Performs Stands Stands elect_rings x port before after old new
+    Performs Stands Stands (puts (Ring Elect)) x port before mid old middle → Performs StandsActing StandsActing candidature_row x port (mid, tt) (after, tt) middle new → Performs Stands Stands elect_rings x port before after old new
 unfolding elect_rings puts
 Performs_stands {x = x} {port = port} {before = before} {mid = mid} {old = old} {middle = middle} t ring stand =
     Performs_then_part (is_in_time Elect) (puts (Late Elect) followed_by arms_elect) (λ past s. first_true (is_in_time Elect x past) (may_stand_at x past) (t past s))

@@ -7,7 +7,7 @@ use Rattle.tsp_base.specs.declared.role.Role.TheVariants.{Master, Starting}
 use Rattle.tsp_base.specs.History.{Did, Elsewhere, Past, Step}
 use Rattle.tsp_base.specs.PortFacts.{role}
 use Rattle.tsp_base.specs.Rows.{Row, grown, in_step}
-use Rattle.tsp_rules.specs.Tests.{is_master}
+use Rattle.tsp_rules.specs.Guards.{is_master}
 use Rattle.tsp_rules.proofs.Emits.{AllOf, Emits, Emits_more}
 use Rattle.tsp_rules.proofs.EmitsTables.{changes}
 use Rattle.tsp_master.proofs.TurnLemmas.{changes_parted, parting_sorts}

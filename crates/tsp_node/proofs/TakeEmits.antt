@@ -17,10 +17,10 @@ use Rattle.tsp_base.specs.declared.stamp.Stamp.TheVariants.{Reply, Request}
 use Rattle.tsp_base.specs.Messages.{MessageValue}
 use Rattle.tsp_base.specs.Rows.{Row, nothing, puts, reading}
 use Rattle.tsp_base.specs.Stamps.{ReplyValue}
-use Rattle.tsp_rules.specs.Answers.{alarm_rings, from_peer, is_left, peer_replies, peer_says, replies_in, rings, says_in, takes, treats, treats_kind}
+use Rattle.tsp_rules.specs.Answers.{alarm_rings, from_peer, is_left, peer_replies, peer_says, replies_in, rings, says_in, takes, handles, handles_kind}
 use Rattle.tsp_rules.specs.CommonRows.{posts_reply, replies}
 use Rattle.tsp_rules.specs.DateRows.{date_acked, date_request_of}
-use Rattle.tsp_rules.specs.Tests.{is_due, is_heard, is_in_range, is_own, role_at}
+use Rattle.tsp_rules.specs.Guards.{is_due, is_heard, is_in_range, is_own, role_at}
 use Rattle.tsp_rules.proofs.Emits.{Sort, Acking, Alarming, Asking, Backing, Changing, Closing, Correcting, Counting, Following, Giving, Leading, Moving, Numbering, Posting, Rivalling, Rounding, Sampling, Tabling, Taking, Tracing, Emits, Emits_either, Emits_more, Emits_nothing, Emits_puts, Emits_reading, Emits_then}
 use Rattle.tsp_rules.proofs.EmitsCandidate.{candidate_sorts, emits_candidate_takes, emits_window, window_sorts}
 use Rattle.tsp_rules.proofs.EmitsClients.{client_sorts, date_sorts, emits_date_acked, emits_date_of, emits_date_request_of, emits_names_master, emits_says_master, emits_tests, emits_traces}
@@ -88,8 +88,8 @@ unfolding replies posts_reply
 emits_reply from word counter = Emits_either is_in_range (posts_reply from word counter) nothing (record { only = λ x past. (refl, tt) }) Emits_nothing
 
 -- dates
-pub emits_dates : (charge : Bool) (from : Place) (m : MessageValue) (k : Kind) → matter_of k ≡ OfDates → Emits date_sorts (treats_kind charge from m k)
-unfolding treats_kind
+pub emits_dates : (charge : Bool) (from : Place) (m : MessageValue) (k : Kind) → matter_of k ≡ OfDates → Emits date_sorts (handles_kind charge from m k)
+unfolding handles_kind
 emits_dates charge from m Date e = emits_date_of charge from m
 emits_dates charge from m SetDate e = emits_date_of charge from m
 emits_dates charge from m DateReq e = peer-emits from (date_request_of charge m) (λ p. emits_date_request_of charge m p)
@@ -104,8 +104,8 @@ emits_dates charge from m Loop e = let bad : ⊥ = cc in absurd bad
 emits_dates charge from m _ e = let bad : ⊥ = cc in absurd bad
 
 -- every kind of message
-kind-emits : (charge : Bool) (from : Place) (m : MessageValue) (k : Kind) → Emits bootless (treats_kind charge from m k)
-unfolding treats_kind
+kind-emits : (charge : Bool) (from : Place) (m : MessageValue) (k : Kind) → Emits bootless (handles_kind charge from m k)
+unfolding handles_kind
 kind-emits charge from m Msite = Emits_more client_sorts refl (emits_names_master from m.number)
 kind-emits charge from m MsiteReq = Emits_more client_sorts refl (emits_says_master from m.number)
 kind-emits charge from m TraceOn = Emits_more client_sorts refl (emits_traces from m.number true)
@@ -119,14 +119,14 @@ kind-emits charge from m DateAck = Emits_more date_sorts refl (emits_dates charg
 kind-emits charge from m Loop = Emits_nothing
 kind-emits charge from m _ = Emits_more silent_trace refl (emits_says from m)
 
-treats-emits : (steer charge : Bool) (from : Place) (t : Taken) → Emits bootless (treats steer charge from t)
-unfolding treats
-treats-emits steer charge from (Bad fault) = Emits_nothing
-treats-emits steer charge from (Good (Message m)) = Emits_either (is_left steer m.kind) nothing (treats_kind charge from m m.kind) Emits_nothing (kind-emits charge from m m.kind)
-treats-emits steer charge from (Good (Stamp (Request word counter))) = Emits_more silent_trace refl (emits_reply from word counter)
-treats-emits steer charge from (Good (Stamp (Reply r))) = Emits_more silent_trace refl (emits_replies_in from r)
+handles-emits : (steer charge : Bool) (from : Place) (t : Taken) → Emits bootless (handles steer charge from t)
+unfolding handles
+handles-emits steer charge from (Bad fault) = Emits_nothing
+handles-emits steer charge from (Good (Message m)) = Emits_either (is_left steer m.kind) nothing (handles_kind charge from m m.kind) Emits_nothing (kind-emits charge from m m.kind)
+handles-emits steer charge from (Good (Stamp (Request word counter))) = Emits_more silent_trace refl (emits_reply from word counter)
+handles-emits steer charge from (Good (Stamp (Reply r))) = Emits_more silent_trace refl (emits_replies_in from r)
 
 -- all that a port does with what it takes
 pub emits_takes : (steer charge : Bool) (from : Place) (t : Taken) → Emits bootless (takes steer charge from t)
 unfolding takes
-emits_takes steer charge from t = Emits_then (puts (Took from t)) _ (Emits_puts (Took from t) refl) (Emits_either (is_own from) nothing (treats steer charge from t) Emits_nothing (treats-emits steer charge from t))
+emits_takes steer charge from t = Emits_then (puts (Took from t)) _ (Emits_puts (Took from t) refl) (Emits_either (is_own from) nothing (handles steer charge from t) Emits_nothing (handles-emits steer charge from t))

@@ -7,7 +7,7 @@ ghost use Rattle.tsp_base.specs.History.{Past};
 ghost use Rattle.tsp_base.specs.Performs.{Performs};
 ghost use Rattle.tsp_rules.specs.Answers.{alarm_rings, rings};
 ghost use Rattle.tsp_rules.specs.RoundRows.{corrects};
-ghost use Rattle.tsp_rules.specs.Tests.{is_over};
+ghost use Rattle.tsp_rules.specs.Guards.{is_over};
 ghost use Rattle.tsp_clock.specs.Clocks.{ClockValue};
 ghost use Rattle.tsp_master.specs.MasterAlarms.{master_rings};
 ghost use Rattle.tsp_node.specs.RoleAlarms.{is_of_slave};
@@ -23,7 +23,7 @@ use tsp_clock::clock::Clock;
 impl Part {
     ghost use Rattle.tsp_node.specs.NodeStands.{PartUntaken};
 
-    /// Treats one alarm where it is due. Where this port doesn't lead its node's clock (`group_mean` is
+    /// Handles one alarm where it is due. Where this port doesn't lead its node's clock (`group_mean` is
     /// false), a close uses the mean 0 and leaves the clock; where `wait` is true, a round that is in time is
     /// put off for `WAIT` ticks. A Close comes after its Probe. The answer is whether the clock was corrected.
     pub fn ring<D: Desk>(
@@ -53,7 +53,7 @@ impl Part {
         self.ring_due(clock, alarm, group_mean, wait, tick, port, desk)
     }
 
-    /// Treats an alarm that is due.
+    /// Handles an alarm that is due.
     fn ring_due<D: Desk>(
         &mut self,
         clock: &mut Clock,
@@ -104,7 +104,7 @@ impl Part {
         }
     }
 
-    /// Treats an alarm of a round that is due.
+    /// Handles an alarm of a round that is due.
     fn ring_round<D: Desk>(
         &mut self,
         clock: &mut Clock,
@@ -136,7 +136,7 @@ impl Part {
         corrected
     }
 
-    /// Treats an alarm that is due of a port that is Starting, Loose or follows.
+    /// Handles an alarm that is due of a port that is Starting, Loose or follows.
     fn ring_role<D: Desk>(&mut self, alarm: Alarm, tick: u64, port: Port, desk: &mut D)
         requires alarm { is_of_slave alarm ≡ true }
         requires tick { IsTick tick }

@@ -5,7 +5,7 @@ ghost use Rattle.tsp_base.specs.declared.datagram.Taken.TheVariants.{Good};
 ghost use Rattle.tsp_base.specs.Frames.{IsTick, PutsAtMost};
 ghost use Rattle.tsp_base.specs.Performs.{Performs};
 ghost use Rattle.tsp_base.specs.PortFacts.{Received};
-ghost use Rattle.tsp_rules.specs.Answers.{treats_kind};
+ghost use Rattle.tsp_rules.specs.Answers.{handles_kind};
 ghost use Rattle.tsp_rules.specs.CommonRows.{tests};
 ghost use Rattle.tsp_clock.specs.Clocks.{ClockValue};
 ghost use Rattle.tsp_node.specs.declared.matter.Matter.TheVariants.{OfClients};
@@ -18,7 +18,7 @@ use tsp_base::kind::Kind;
 use tsp_base::message::Message;
 use tsp_base::place::{Place, Port};
 use tsp_clients::naming::{name_master, say_master};
-use tsp_clients::standing::take_test;
+use tsp_clients::candidature::take_test;
 use tsp_clients::tracing::turn_trace;
 
 impl Part {
@@ -35,7 +35,7 @@ impl Part {
         requires room { length self.old.station.peers + 4 ≤ D.spare desk.old }
         requires tick { IsTick tick }
         requires matter { matter_of m.now.kind ≡ OfClients }
-        ensures row { (charge : Bool) (clock : ClockValue) → Performs (TookStands (record { from = from; taken = Good (MessageOf m.now) })) TakeStands (treats_kind charge from m.now m.now.kind) tick port ((self.old, clock), tracing.old) ((self.new, clock), tracing.new) (D.acts desk.old) (D.acts desk.new) }
+        ensures row { (charge : Bool) (clock : ClockValue) → Performs (TookStands (record { from = from; taken = Good (MessageOf m.now) })) TakeStands (handles_kind charge from m.now m.now.kind) tick port ((self.old, clock), tracing.old) ((self.new, clock), tracing.new) (D.acts desk.old) (D.acts desk.new) }
         ensures peers { self.new.station.peers ≡ self.old.station.peers }
         ensures room { PutsAtMost (length self.old.station.peers + 4) (D.spare desk.old) (D.spare desk.new) (D.acts desk.old) (D.acts desk.new) }
     {

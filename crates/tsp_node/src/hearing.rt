@@ -13,10 +13,10 @@ ghost use Rattle.tsp_base.specs.PortFacts.{Received};
 ghost use Rattle.tsp_base.specs.Rows.{either_by, nothing};
 ghost use Rattle.tsp_base.specs.Stamps.{ReplyValue};
 ghost use Rattle.tsp_base.specs.SendFacts.{is_correction};
-ghost use Rattle.tsp_rules.specs.Answers.{from_peer, is_left, peer_replies, peer_says, says_in, treats_kind};
+ghost use Rattle.tsp_rules.specs.Answers.{from_peer, is_left, peer_replies, peer_says, says_in, handles_kind};
 ghost use Rattle.tsp_rules.specs.CommonRows.{quits};
 ghost use Rattle.tsp_rules.specs.MasterRows.{master_takes};
-ghost use Rattle.tsp_rules.specs.Tests.{is_follow};
+ghost use Rattle.tsp_rules.specs.Guards.{is_follow};
 ghost use Rattle.tsp_node.specs.declared.matter.Matter.TheVariants.{OfDates, OfRoles};
 ghost use Rattle.tsp_node.specs.Matters.{matter_of};
 ghost use Rattle.tsp_node.specs.NodeStands.{PartStands, PartTook, TakeStands, TookStands};
@@ -54,7 +54,7 @@ impl Part {
         requires room { 2 * length self.old.station.peers + 10 ≤ D.spare desk.old }
         requires tick { IsTick tick }
         requires later { clock.old.at ≤ tick }
-        ensures row { Performs (TookStands (record { from = from; taken = Good (MessageOf m.now) })) TakeStands (either_by (is_left steer m.now.kind) nothing (treats_kind charge from m.now m.now.kind)) tick port ((self.old, clock.old), tracing.old) ((self.new, clock.new), tracing.new) (D.acts desk.old) (D.acts desk.new) }
+        ensures row { Performs (TookStands (record { from = from; taken = Good (MessageOf m.now) })) TakeStands (either_by (is_left steer m.now.kind) nothing (handles_kind charge from m.now m.now.kind)) tick port ((self.old, clock.old), tracing.old) ((self.new, clock.new), tracing.new) (D.acts desk.old) (D.acts desk.new) }
         ensures peers { self.new.station.peers ≡ self.old.station.peers }
         ensures clock { clock.new.at ≤ tick }
         ensures room { PutsAtMost (2 * length self.old.station.peers + 10) (D.spare desk.old) (D.spare desk.new) (D.acts desk.old) (D.acts desk.new) }
@@ -85,7 +85,7 @@ impl Part {
         requires tick { IsTick tick }
         requires later { clock.old.at ≤ tick }
         requires matter { matter_of m.now.kind ≡ OfDates }
-        ensures row { Performs (PartTook (record { from = from; taken = Good (MessageOf m.now) })) PartStands (treats_kind charge from m.now m.now.kind) tick port (self.old, clock.old) (self.new, clock.new) (D.acts desk.old) (D.acts desk.new) }
+        ensures row { Performs (PartTook (record { from = from; taken = Good (MessageOf m.now) })) PartStands (handles_kind charge from m.now m.now.kind) tick port (self.old, clock.old) (self.new, clock.new) (D.acts desk.old) (D.acts desk.new) }
         ensures peers { self.new.station.peers ≡ self.old.station.peers }
         ensures clock { clock.new.at ≤ tick }
         ensures room { PutsAtMost (2 * length self.old.station.peers + 2) (D.spare desk.old) (D.spare desk.new) (D.acts desk.old) (D.acts desk.new) }
@@ -108,7 +108,7 @@ impl Part {
         }
     }
 
-    /// Hears a message of a peer, once the quiet time is over: an ACK is treated alike by every role.
+    /// Hears a message of a peer, once the quiet time is over: an ACK is handled alike by every role.
     /// Strangers' messages are passed over.
     fn hear_peer<D: Desk>(
         &mut self,
@@ -143,7 +143,7 @@ impl Part {
         }
     }
 
-    /// Treats a message of a peer that is no ACK by the port's role.
+    /// Handles a message of a peer that is no ACK by the port's role.
     fn hear_by_role<D: Desk>(
         &mut self,
         clock: &mut Clock,
@@ -178,7 +178,7 @@ impl Part {
         }
     }
 
-    /// Treats a message of a peer that is no ACK at a master. Another master is asked who it is, and marked
+    /// Handles a message of a peer that is no ACK at a master. Another master is asked who it is, and marked
     /// where it answers; after a QUIT the port leads no more.
     fn hear_as_master<D: Desk>(
         &mut self,

@@ -6,7 +6,7 @@ ghost use Rattle.tsp_base.specs.History.{Past};
 ghost use Rattle.tsp_base.specs.Performs.{Performs};
 ghost use Rattle.tsp_base.specs.Rows.{grown};
 ghost use Rattle.tsp_rules.specs.CommonRows.{boots};
-ghost use Rattle.tsp_rules.specs.Tests.{is_clock_value};
+ghost use Rattle.tsp_rules.specs.Guards.{is_clock_value};
 ghost use Rattle.tsp_node.specs.Configs.{IsPort, BootsNot};
 
 use crate::config::Config;

@@ -10,7 +10,7 @@ ghost use Rattle.tsp_base.specs.Performs.{Performs};
 ghost use Rattle.tsp_base.specs.Rows.{grown, puts, arms, ◌followed_by◌};
 ghost use Rattle.tsp_rules.specs.GateRows.{loosens_master};
 ghost use Rattle.tsp_rules.specs.RoundRows.{abandons_going};
-ghost use Rattle.tsp_rules.specs.Tests.{is_master};
+ghost use Rattle.tsp_rules.specs.Guards.{is_master};
 ghost use Rattle.tsp_acks.specs.Peers.{IsPeers};
 ghost use Rattle.tsp_acks.specs.Stands.{IsPortOf};
 ghost use Rattle.tsp_clock.specs.Clocks.{ClockValue};

@@ -8,7 +8,7 @@ ghost use Rattle.tsp_base.specs.PortFacts.{role, armed};
 ghost use Rattle.tsp_base.specs.SendFacts.{open_send};
 ghost use Rattle.tsp_clock.specs.Clocks.{shown_of};
 ghost use Rattle.tsp_sends.specs.Slots.{sending_to};
-ghost use Rattle.tsp_sends.specs.Treating.{IsEarliest};
+ghost use Rattle.tsp_sends.specs.Repeating.{IsEarliest};
 
 use crate::node::Node;
 use tsp_base::alarms::earlier;

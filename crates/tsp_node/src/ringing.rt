@@ -14,10 +14,10 @@ use tsp_base::alarm::Alarm;
 use tsp_base::constants::{ROUND, WAIT};
 use tsp_base::desk::Desk;
 use tsp_base::place::Port;
-use tsp_candidate::stand::stand;
+use tsp_candidate::candidature::begin_candidature;
 use tsp_slave::ring::{becomes_candidate, slave_ring};
 
-/// Treats an alarm that is due of a port that is Starting, Loose or follows.
+/// Handles an alarm that is due of a port that is Starting, Loose or follows.
 pub(crate) fn ring_slave<D: Desk>(
     station: &mut Station,
     alarm: Alarm,
@@ -48,7 +48,7 @@ fn ring_elect<D: Desk>(station: &mut Station, tick: u64, port: Port, desk: &mut 
 {
     if becomes_candidate(station, tick) {
         station.ring(Alarm::Elect, port, desk);
-        stand(station, tick, port, desk);
+        begin_candidature(station, tick, port, desk);
     } else {
         slave_ring(station, Alarm::Elect, tick, port, desk);
     }

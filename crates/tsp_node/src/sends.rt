@@ -12,7 +12,7 @@ ghost use Rattle.tsp_base.specs.PortFacts.{acting};
 ghost use Rattle.tsp_base.specs.Rows.{grown};
 ghost use Rattle.tsp_base.specs.SendFacts.{is_correction};
 ghost use Rattle.tsp_rules.specs.SendRows.{due_send, due_sends, leaves_after};
-ghost use Rattle.tsp_sends.specs.Treating.{IsAfter, TreatsNext, peer_of};
+ghost use Rattle.tsp_sends.specs.Repeating.{IsAfter, RepeatsNext, peer_of};
 ghost use Rattle.tsp_clock.specs.Clocks.{ClockValue};
 ghost use Rattle.tsp_master.specs.MasterStands.{MasterStands};
 
@@ -26,7 +26,7 @@ use tsp_sends::Due;
 impl Part {
     ghost use Rattle.tsp_node.specs.NodeStands.{PartBegun};
 
-    /// Treats every due send, ascending peers: each is posted again or given up, and a slave that doesn't
+    /// Repeats every due send, ascending peers: each is posted again or given up, and a slave that doesn't
     /// acknowledge a correction leaves. It is the first thing that a step does.
     pub fn sends<D: Desk>(&mut self, tick: u64, port: Port, desk: &mut D)
         requires tick { IsTick tick }
@@ -38,15 +38,15 @@ impl Part {
         let mut after = None;
         // Each peer has one open send at most, so this many rounds are enough.
         for _ in 0..self.station.peers().len() {
-            let Some(due) = self.treat_next(after, tick, port, desk) else {
+            let Some(due) = self.repeat_next(after, tick, port, desk) else {
                 return;
             };
             after = Some(due.peer());
         }
     }
 
-    /// Treats the due send to the least peer after this one. None exactly where none is due.
-    fn treat_next<D: Desk>(
+    /// Repeats the due send to the least peer after this one. None exactly where none is due.
+    fn repeat_next<D: Desk>(
         &mut self,
         after: Option<PeerId>,
         tick: u64,
@@ -56,13 +56,13 @@ impl Part {
         requires room { 2 ≤ D.spare desk.old }
         requires tick { IsTick tick }
         ensures next { IfSome result (λ due. Contains self.old.station.peers (peer_of due) × IsAfter after (peer_of due)) }
-        ensures sends { TreatsNext after tick self.old.station.sends self.new.station.sends result }
+        ensures sends { RepeatsNext after tick self.old.station.sends self.new.station.sends result }
         ensures row { IfSome result (λ due. (clock : ClockValue) → Performs PartBegun PartBegun (due_send (peer_of due)) tick port (self.old, clock) (self.new, clock) (D.acts desk.old) (D.acts desk.new)) }
         ensures same { IfNone result ((self.new ≡ self.old) × (desk.new ≡ desk.old)) }
         ensures peers { self.new.station.peers ≡ self.old.station.peers }
         ensures room { PutsAtMost 2 (D.spare desk.old) (D.spare desk.new) (D.acts desk.old) (D.acts desk.new) }
     {
-        let due = self.station.treat_next(after, tick, port, desk)?;
+        let due = self.station.repeat_next(after, tick, port, desk)?;
         match due {
             Due::Again(p, message) => {
                 self.repeat(p, message.kind(), tick);

@@ -4,7 +4,7 @@ ghost use Rattle.tsp_base.specs.declared.alarm.Alarm.TheVariants.{Probe, Close};
 ghost use Rattle.tsp_base.specs.Frames.{IsTick, PutsAtMost};
 ghost use Rattle.tsp_base.specs.Performs.{Performs};
 ghost use Rattle.tsp_rules.specs.Answers.{Turn, Got, answers, due_alarms, rings_alone, takes};
-ghost use Rattle.tsp_rules.specs.Tests.{is_over};
+ghost use Rattle.tsp_rules.specs.Guards.{is_over};
 ghost use Rattle.tsp_rules.specs.RoundRows.{upsetting};
 ghost use Rattle.tsp_node.specs.Inputs.{given};
 
@@ -92,7 +92,7 @@ impl Node {
         }
     }
 
-    /// Treats the due alarms, each when its turn comes.
+    /// Handles the due alarms, each when its turn comes.
     fn ring_alarms<D: Desk>(&mut self, tick: u64, desk: &mut D)
         requires tick { IsTick tick }
         requires later { clock_at self.old ≤ tick }
@@ -112,7 +112,7 @@ impl Node {
         self.ring(Alarm::Round, tick, desk);
     }
 
-    /// Treats one alarm where it is due; a Close comes after its Probe.
+    /// Handles one alarm where it is due; a Close comes after its Probe.
     fn ring<D: Desk>(&mut self, alarm: Alarm, tick: u64, desk: &mut D)
         requires tick { IsTick tick }
         requires later { clock_at self.old ≤ tick }

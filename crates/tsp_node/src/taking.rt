@@ -4,9 +4,9 @@ ghost use Rattle.tsp_base.specs.Frames.{IsTick, PutsAtMost};
 ghost use Rattle.tsp_base.specs.History.{Past};
 ghost use Rattle.tsp_base.specs.Performs.{Performs};
 ghost use Rattle.tsp_base.specs.Rows.{either_by, nothing};
-ghost use Rattle.tsp_rules.specs.Answers.{takes, treats};
+ghost use Rattle.tsp_rules.specs.Answers.{takes, handles};
 ghost use Rattle.tsp_rules.specs.RoundRows.{corrects};
-ghost use Rattle.tsp_rules.specs.Tests.{is_own};
+ghost use Rattle.tsp_rules.specs.Guards.{is_own};
 ghost use Rattle.tsp_node.specs.NodeStands.{TakeStands, TookStands};
 
 use crate::part::Part;
@@ -68,7 +68,7 @@ impl Part {
         requires room { 2 * length self.old.station.peers + 10 ≤ D.spare desk.old }
         requires tick { IsTick tick }
         requires later { clock.old.at ≤ tick }
-        ensures row { Performs (TookStands (record { from = from; taken = taken.now })) TakeStands (either_by (is_own from) nothing (treats steer charge from taken.now)) tick port ((self.old, clock.old), tracing.old) ((self.new, clock.new), tracing.new) (D.acts desk.old) (D.acts desk.new) }
+        ensures row { Performs (TookStands (record { from = from; taken = taken.now })) TakeStands (either_by (is_own from) nothing (handles steer charge from taken.now)) tick port ((self.old, clock.old), tracing.old) ((self.new, clock.new), tracing.new) (D.acts desk.old) (D.acts desk.new) }
         ensures peers { self.new.station.peers ≡ self.old.station.peers }
         ensures clock { clock.new.at ≤ tick }
         ensures room { PutsAtMost (2 * length self.old.station.peers + 10) (D.spare desk.old) (D.spare desk.new) (D.acts desk.old) (D.acts desk.new) }

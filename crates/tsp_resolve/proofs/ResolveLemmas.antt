@@ -20,7 +20,7 @@ use Rattle.tsp_base.specs.PortFacts.{is_rival, is_rival_after, role, role_after}
 use Rattle.tsp_base.specs.Rows.{Row, added, grown, nothing, puts}
 use Rattle.tsp_base.proofs.PerformsLemmas.{Performs_else_part, Performs_nothing, Performs_then_part, Performs_to}
 use Rattle.tsp_rules.specs.ResolveRows.{finds_rival, is_new_rival}
-use Rattle.tsp_rules.specs.Tests.{rivals_at}
+use Rattle.tsp_rules.specs.Guards.{rivals_at}
 use Rattle.tsp_rules.proofs.Emits.{Sort, Taking, Asking, Correcting, Numbering, Posting, Leading, Following, Changing, Backing, Counting, Rounding, Alarming, Tabling, Acking, Giving, Sampling, Closing, Moving, Tracing, AllOf, Emits, Keeps_by, is_in, sort_of}
 use Rattle.tsp_rules.proofs.EmitsTables.{changes, is_change}
 use Rattle.tsp_acks.specs.declared.station.Station.{Station}

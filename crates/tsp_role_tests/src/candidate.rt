@@ -17,7 +17,7 @@ use tsp_base::pad::Pad;
 use tsp_base::place::{PeerId, Place, Port};
 use tsp_base::role::Role;
 use tsp_candidate::ring::candidate_ring;
-use tsp_candidate::stand::stand;
+use tsp_candidate::candidature::begin_candidature;
 use tsp_candidate::take::candidate_take;
 use tsp_clock::clock::Clock;
 use tsp_slave::last::Last;
@@ -55,7 +55,7 @@ fn stood(station: &mut Station, pad: &mut Pad, tick: u64) -> Result<(), AllocErr
 {
     pad.clear();
     pad.reserve(20)?;
-    stand(station, tick, PORT, pad);
+    begin_candidature(station, tick, PORT, pad);
     Ok(())
 }
 

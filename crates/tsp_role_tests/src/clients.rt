@@ -15,7 +15,7 @@ use tsp_base::pad::Pad;
 use tsp_base::place::{PeerId, Place, Port};
 use tsp_base::role::Role;
 use tsp_clients::naming::{name_master, say_master};
-use tsp_clients::standing::take_test;
+use tsp_clients::candidature::take_test;
 use tsp_clients::tracing::turn_trace;
 use tsp_clock::clock::Clock;
 use tsp_slave::follow::follow;

@@ -12,7 +12,7 @@ use Rattle.tsp_base.specs.Rows.{nothing, puts, arms, posts_to_others}
 use Rattle.tsp_rules.specs.CandidateRows.{lead_row, yields, has_won, window_rings, accepted_by, refused_by, candidate_takes_kind, candidate_takes}
 use Rattle.tsp_rules.specs.CommonRows.{arms_elect}
 use Rattle.tsp_rules.specs.SendRows.{has_election}
-use Rattle.tsp_rules.specs.Tests.{is_in_time}
+use Rattle.tsp_rules.specs.Guards.{is_in_time}
 use Rattle.tsp_rules.proofs.Emits.{Sort, Leading, Counting, Emits, Emits_nothing, Emits_puts, Emits_then, Emits_either, Emits_arms, Emits_posts, Emits_posts_to_others, Emits_more}
 use Rattle.tsp_rules.proofs.EmitsSlave.{slave_sorts, silent_sorts, silent_elect, emits_follow, emits_quits, emits_acks}
 

@@ -12,12 +12,12 @@ use Rattle.tsp_base.specs.Messages.{MessageValue}
 use Rattle.tsp_base.specs.Rows.{nothing, puts, reading, for_each, bare, posts, posts_to_others, posts_back, posts_time}
 use Rattle.tsp_base.specs.Takings.{time_in}
 use Rattle.tsp_rules.specs.ClockRows.{sets}
-use Rattle.tsp_rules.specs.CommonRows.{stand_row, posts_reply, replies, master_name, names_master, says_master, traces, may_be_asked, is_awake, tests}
+use Rattle.tsp_rules.specs.CommonRows.{candidature_row, posts_reply, replies, master_name, names_master, says_master, traces, may_be_asked, is_awake, tests}
 use Rattle.tsp_rules.specs.DateRows.{may_pass_on, passes_on, may_date, leaves, leaves_all, new_date, sets_date_where, date_in, date_of, is_dated, sets_in_charge, date_request_in, date_request_of, has_date, date_acked_in, date_acked}
 use Rattle.tsp_rules.specs.SendRows.{next_number, begins_timed}
-use Rattle.tsp_rules.specs.Tests.{role_at, is_in_range, is_master_at, table_at}
+use Rattle.tsp_rules.specs.Guards.{role_at, is_in_range, is_master_at, table_at}
 use Rattle.tsp_rules.proofs.Emits.{Sort, Numbering, Posting, Tabling, Acking, Moving, Tracing, Emits, Emits_nothing, Emits_puts, Emits_then, Emits_either, Emits_reading, Emits_each, Emits_posts, Emits_posts_to_others, Emits_posts_back, Emits_posts_time, Emits_sets, Emits_more}
-use Rattle.tsp_rules.proofs.EmitsSlave.{slave_sorts, emits_stand}
+use Rattle.tsp_rules.proofs.EmitsSlave.{slave_sorts, emits_candidature}
 
 -- what anybody is answered
 abbrev pub client_sorts : List Sort
@@ -41,7 +41,7 @@ emits_traces from number on = Emits_then (puts (Trace on)) (posts_back from Ack 
 
 pub emits_tests : (from : Place) (number : ℕ) → Emits client_sorts (tests from number)
 unfolding tests
-emits_tests from number = Emits_either is_awake _ nothing (Emits_then (posts_back from Ack number) _ (Emits_posts_back from Ack number refl) (Emits_either may_be_asked stand_row nothing (Emits_more slave_sorts refl emits_stand) Emits_nothing)) Emits_nothing
+emits_tests from number = Emits_either is_awake _ nothing (Emits_then (posts_back from Ack number) _ (Emits_posts_back from Ack number refl) (Emits_either may_be_asked candidature_row nothing (Emits_more slave_sorts refl emits_candidature) Emits_nothing)) Emits_nothing
 
 -- dates
 abbrev pub date_sorts : List Sort

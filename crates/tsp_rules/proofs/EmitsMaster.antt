@@ -11,7 +11,7 @@ use Rattle.tsp_base.specs.Rows.{nothing, puts, for_each, arms, posts, posts_to_o
 use Rattle.tsp_rules.specs.MasterRows.{may_join, joins, sends_away, master_takes_kind, master_takes}
 use Rattle.tsp_rules.specs.ResolveRows.{resolves, is_new_rival, finds_rival, quits_rivals, resolve_rings}
 use Rattle.tsp_rules.specs.SendRows.{begins, has_quit, begins_settime}
-use Rattle.tsp_rules.specs.Tests.{is_armed, is_in_time, rivals_at}
+use Rattle.tsp_rules.specs.Guards.{is_armed, is_in_time, rivals_at}
 use Rattle.tsp_rules.proofs.Emits.{Sort, Correcting, Tabling, Rivalling, Emits, Emits_nothing, Emits_puts, Emits_then, Emits_either, Emits_reading, Emits_each, Emits_arms, Emits_posts, Emits_posts_to_others, Emits_more}
 use Rattle.tsp_rules.proofs.EmitsSlave.{slave_sorts, emits_quits, emits_acks, emits_begins}
 use Rattle.tsp_rules.proofs.EmitsSends.{emits_settime_begins}

@@ -13,7 +13,7 @@ use Rattle.tsp_group.specs.declared.group.Group.{Group}
 use Rattle.tsp_rules.specs.ClockRows.{can_adjust}
 use Rattle.tsp_rules.specs.RoundRows.{asks, asks_slaves, round_begins, begins_or_waits, round_rings, measured_at, asks_measured, has_more, arms_next, abandons, probe_rings, request_at, sample_of, samples_request, samples, Standing, round_at, estimates, is_near, corrects_by, corrects_peer, mean_by, close_act, moves, closes_with, closes, close_rings}
 use Rattle.tsp_rules.specs.SendRows.{begins_adjtime, begins_settime}
-use Rattle.tsp_rules.specs.Tests.{target_at, is_in_time, table_at}
+use Rattle.tsp_rules.specs.Guards.{target_at, is_in_time, table_at}
 use Rattle.tsp_rules.proofs.Emits.{Sort, Asking, Correcting, Posting, Alarming, Rounding, Tabling, Sampling, Closing, Moving, Emits, Emits_nothing, Emits_puts, Emits_then, Emits_either, Emits_reading, Emits_each, Emits_arms, Emits_posts_to_others, Emits_if, Emits_adjusts}
 use Rattle.tsp_rules.proofs.EmitsSends.{emits_settime_begins, emits_adjtime_begins}
 

@@ -12,10 +12,10 @@ use Rattle.tsp_base.specs.Messages.{MessageValue}
 use Rattle.tsp_base.specs.Rows.{Row, nothing, puts, ◌followed_by◌, either_by, reading, for_each, arms, posts, posts_to_others}
 use Rattle.tsp_base.specs.Takings.{time_in}
 use Rattle.tsp_rules.specs.ClockRows.{adjusts, sets}
-use Rattle.tsp_rules.specs.CommonRows.{arms_elect, searches, tells_ticket, follow_row, own_at, backs_own, stand_row, follows_unless, quits}
+use Rattle.tsp_rules.specs.CommonRows.{arms_elect, searches, tells_ticket, follow_row, own_at, backs_own, candidature_row, follows_unless, quits}
 use Rattle.tsp_rules.specs.SendRows.{next_number, begins, others_at, begins_to_others, is_free, has_other, acknowledges}
 use Rattle.tsp_rules.specs.SlaveRows.{quiet_rings, rings_or_late, search_rings, loosens, elect_rings, reports_conflict, masterup_in, masterack_in, election_of, is_repeated, acks_repeat, confirms, takes_amount, adjtime_of, takes_value, settime_of, from_master, slave_takes_kind, slave_takes}
-use Rattle.tsp_rules.specs.Tests.{role_at, delay_at, ticket_at, is_armed, is_in_time, may_back_at, may_stand_at, follows_at}
+use Rattle.tsp_rules.specs.Guards.{role_at, delay_at, ticket_at, is_armed, is_in_time, may_back_at, may_stand_at, follows_at}
 use Rattle.tsp_rules.proofs.Emits.{Sort, Numbering, Posting, Following, Changing, Backing, Alarming, Acking, Moving, is_in, sort_of_kind, Emits, Emits_nothing, Emits_puts, Emits_then, Emits_either, Emits_reading, Emits_each, Emits_arms, Emits_posts, Emits_posts_to_others, Emits_adjusts, Emits_sets, Emits_more}
 
 abbrev pub slave_sorts : List Sort
@@ -54,14 +54,14 @@ pub emits_begins : {sorts : List Sort} (kind : Kind) (p : PeerId) → is_in (sor
 unfolding begins
 emits_begins kind p e = Emits_reading next_number (posts p kind) (λ n. Emits_posts p kind n e)
 
-pub silent_stand : Emits silent_sorts stand_row
-unfolding stand_row backs_own begins_to_others
-silent_stand = Emits_then (puts (Become Candidate)) _ (Emits_puts (Become Candidate) refl)
+pub silent_candidature : Emits silent_sorts candidature_row
+unfolding candidature_row backs_own begins_to_others
+silent_candidature = Emits_then (puts (Become Candidate)) _ (Emits_puts (Become Candidate) refl)
     (Emits_then (reading own_at (λ own. puts (Back own))) _ (Emits_reading own_at (λ own. puts (Back own)) (λ own. Emits_puts (Back own) refl))
     (Emits_then (arms Window WINDOW) _ (Emits_arms Window WINDOW refl) (Emits_reading others_at (for_each (begins Election)) (λ ps. Emits_each (begins Election) ps (λ p. emits_begins Election p refl)))))
 
-pub emits_stand : Emits slave_sorts stand_row
-emits_stand = Emits_more silent_sorts refl silent_stand
+pub emits_candidature : Emits slave_sorts candidature_row
+emits_candidature = Emits_more silent_sorts refl silent_candidature
 
 emits_unless : (p : PeerId) (r : Role) → Emits slave_sorts (follows_unless p r)
 unfolding follows_unless
@@ -94,7 +94,7 @@ emits_search = Emits_more silent_sorts refl silent_search
 pub silent_elect_rings : Emits silent_sorts elect_rings
 unfolding elect_rings
 silent_elect_rings = Emits_either (is_in_time Elect) _ _
-    (Emits_then (puts (Ring Elect)) _ (Emits_puts (Ring Elect) refl) (Emits_either may_stand_at stand_row (loosens followed_by searches) silent_stand (Emits_then loosens searches silent_loosens silent_searches)))
+    (Emits_then (puts (Ring Elect)) _ (Emits_puts (Ring Elect) refl) (Emits_either may_stand_at candidature_row (loosens followed_by searches) silent_candidature (Emits_then loosens searches silent_loosens silent_searches)))
     (Emits_then (puts (Late Elect)) arms_elect (Emits_puts (Late Elect) refl) silent_elect)
 
 pub emits_elect_rings : Emits slave_sorts elect_rings

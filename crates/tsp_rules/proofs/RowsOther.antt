@@ -9,12 +9,12 @@ use Rattle.tsp_base.specs.declared.role.Role.TheVariants.{Loose, Follow, Master}
 use Rattle.tsp_base.specs.Messages.{MessageValue}
 use Rattle.tsp_base.specs.Rows.{Row, nothing}
 use Rattle.tsp_base.specs.Stamps.{ReplyValue}
-use Rattle.tsp_rules.specs.Answers.{from_peer, peer_says, replies_in, treats_kind}
+use Rattle.tsp_rules.specs.Answers.{from_peer, peer_says, replies_in, handles_kind}
 use Rattle.tsp_rules.specs.CandidateRows.{candidate_takes_kind}
 use Rattle.tsp_rules.specs.CommonRows.{follow_row, follows_unless}
 use Rattle.tsp_rules.specs.MasterRows.{master_takes_kind}
 use Rattle.tsp_rules.specs.SlaveRows.{masterup_in, masterack_in, from_master, slave_takes_kind}
-use Rattle.tsp_rules.specs.Tests.{is_follow, is_master}
+use Rattle.tsp_rules.specs.Guards.{is_follow, is_master}
 
 pub is_follow-other : (r : Role) → ((q : PeerId) → r ≡ Follow q → ⊥) → is_follow r ≡ false
 is_follow-other (Follow q) n = absurd (n q refl)
@@ -90,19 +90,19 @@ unfolding replies_in
 replies_in-other p r Master n = absurd (n refl)
 replies_in-other p r _ n = refl
 
-pub treats_kind-other : (charge : Bool) (from : Place) (m : MessageValue) (k : Kind) →
+pub handles_kind-other : (charge : Bool) (from : Place) (m : MessageValue) (k : Kind) →
     k ≢ Msite → k ≢ MsiteReq → k ≢ TraceOn → k ≢ TraceOff → k ≢ Test → k ≢ Date → k ≢ SetDate → k ≢ DateReq → k ≢ SetDateReq → k ≢ DateAck → k ≢ Loop →
-    treats_kind charge from m k ≡ from_peer from (peer_says m)
-unfolding treats_kind
-treats_kind-other charge from m Msite a b c d e f g h i j l = absurd (a refl)
-treats_kind-other charge from m MsiteReq a b c d e f g h i j l = absurd (b refl)
-treats_kind-other charge from m TraceOn a b c d e f g h i j l = absurd (c refl)
-treats_kind-other charge from m TraceOff a b c d e f g h i j l = absurd (d refl)
-treats_kind-other charge from m Test a b c d e f g h i j l = absurd (e refl)
-treats_kind-other charge from m Date a b c d e f g h i j l = absurd (f refl)
-treats_kind-other charge from m SetDate a b c d e f g h i j l = absurd (g refl)
-treats_kind-other charge from m DateReq a b c d e f g h i j l = absurd (h refl)
-treats_kind-other charge from m SetDateReq a b c d e f g h i j l = absurd (i refl)
-treats_kind-other charge from m DateAck a b c d e f g h i j l = absurd (j refl)
-treats_kind-other charge from m Loop a b c d e f g h i j l = absurd (l refl)
-treats_kind-other charge from m _ a b c d e f g h i j l = refl
+    handles_kind charge from m k ≡ from_peer from (peer_says m)
+unfolding handles_kind
+handles_kind-other charge from m Msite a b c d e f g h i j l = absurd (a refl)
+handles_kind-other charge from m MsiteReq a b c d e f g h i j l = absurd (b refl)
+handles_kind-other charge from m TraceOn a b c d e f g h i j l = absurd (c refl)
+handles_kind-other charge from m TraceOff a b c d e f g h i j l = absurd (d refl)
+handles_kind-other charge from m Test a b c d e f g h i j l = absurd (e refl)
+handles_kind-other charge from m Date a b c d e f g h i j l = absurd (f refl)
+handles_kind-other charge from m SetDate a b c d e f g h i j l = absurd (g refl)
+handles_kind-other charge from m DateReq a b c d e f g h i j l = absurd (h refl)
+handles_kind-other charge from m SetDateReq a b c d e f g h i j l = absurd (i refl)
+handles_kind-other charge from m DateAck a b c d e f g h i j l = absurd (j refl)
+handles_kind-other charge from m Loop a b c d e f g h i j l = absurd (l refl)
+handles_kind-other charge from m _ a b c d e f g h i j l = refl

@@ -27,7 +27,7 @@ use Rattle.tsp_rules.specs.ResolveRows.{resolve_rings}
 use Rattle.tsp_rules.specs.RoundRows.{round_rings, probe_rings, close_rings, samples, upsetting}
 use Rattle.tsp_rules.specs.SendRows.{due_sends}
 use Rattle.tsp_rules.specs.SlaveRows.{quiet_rings, search_rings, elect_rings, slave_takes}
-use Rattle.tsp_rules.specs.Tests.{role_at, follows_at, is_due, is_own, is_heard}
+use Rattle.tsp_rules.specs.Guards.{role_at, follows_at, is_due, is_own, is_heard}
 
 -- what a port does where this alarm is due; its close moves the clock where the port leads it, and its round waits for another port's
 unfoldable pub alarm_rings : Bool → Bool → Alarm → Row
@@ -78,34 +78,34 @@ from_peer (Peer p) row = either_by (is_heard p) (row p) nothing
 from_peer Stranger row = nothing
 
 -- what is done with this kind of message: some are answered to anybody; a LOOP is its node's matter
-unfoldable pub treats_kind : Bool → Place → MessageValue → Kind → Row
-treats_kind charge from m Msite = names_master from m.number
-treats_kind charge from m MsiteReq = says_master from m.number
-treats_kind charge from m TraceOn = traces from m.number true
-treats_kind charge from m TraceOff = traces from m.number false
-treats_kind charge from m Test = tests from m.number
-treats_kind charge from m Date = date_of charge from m
-treats_kind charge from m SetDate = date_of charge from m
-treats_kind charge from m DateReq = from_peer from (date_request_of charge m)
-treats_kind charge from m SetDateReq = from_peer from (date_request_of charge m)
-treats_kind charge from m DateAck = from_peer from (date_acked m)
-treats_kind charge from m Loop = nothing
-treats_kind charge from m _ = from_peer from (peer_says m)
+unfoldable pub handles_kind : Bool → Place → MessageValue → Kind → Row
+handles_kind charge from m Msite = names_master from m.number
+handles_kind charge from m MsiteReq = says_master from m.number
+handles_kind charge from m TraceOn = traces from m.number true
+handles_kind charge from m TraceOff = traces from m.number false
+handles_kind charge from m Test = tests from m.number
+handles_kind charge from m Date = date_of charge from m
+handles_kind charge from m SetDate = date_of charge from m
+handles_kind charge from m DateReq = from_peer from (date_request_of charge m)
+handles_kind charge from m SetDateReq = from_peer from (date_request_of charge m)
+handles_kind charge from m DateAck = from_peer from (date_acked m)
+handles_kind charge from m Loop = nothing
+handles_kind charge from m _ = from_peer from (peer_says m)
 
 -- whether a follower passes a correction over, since another port of its node steers the clock
 abbrev pub is_left : Bool → Kind → ℕ → Past → Bool
 is_left steer kind x past = not steer && (is_correction kind && follows_at x past)
 
 -- what is done with a datagram that was taken, by a port that steers the clock or doesn't, and is in charge of the date or isn't
-unfoldable pub treats : Bool → Bool → Place → Taken → Row
-treats steer charge from (Bad fault) = nothing
-treats steer charge from (Good (Message m)) = either_by (is_left steer m.kind) nothing (treats_kind charge from m m.kind)
-treats steer charge from (Good (Stamp (Request word counter))) = replies from word counter
-treats steer charge from (Good (Stamp (Reply r))) = from_peer from (peer_replies r)
+unfoldable pub handles : Bool → Bool → Place → Taken → Row
+handles steer charge from (Bad fault) = nothing
+handles steer charge from (Good (Message m)) = either_by (is_left steer m.kind) nothing (handles_kind charge from m m.kind)
+handles steer charge from (Good (Stamp (Request word counter))) = replies from word counter
+handles steer charge from (Good (Stamp (Reply r))) = from_peer from (peer_replies r)
 
 -- a datagram is taken; what seems to come from the port itself is passed over
 unfoldable pub takes : Bool → Bool → Place → Taken → Row
-takes steer charge from t = puts (Took from t) followed_by either_by (is_own from) nothing (treats steer charge from t)
+takes steer charge from t = puts (Took from t) followed_by either_by (is_own from) nothing (handles steer charge from t)
 
 -- what a step is given: nothing but the time, or octets from a sender as they were read
 pub data Given : Type 0 where

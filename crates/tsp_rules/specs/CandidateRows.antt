@@ -13,7 +13,7 @@ use Rattle.tsp_base.specs.PortFacts.{backers}
 use Rattle.tsp_base.specs.Rows.{Row, nothing, puts, ◌followed_by◌, either_by, arms, posts, posts_to_others}
 use Rattle.tsp_rules.specs.CommonRows.{arms_elect, follow_row, quits}
 use Rattle.tsp_rules.specs.SendRows.{has_election, acknowledges}
-use Rattle.tsp_rules.specs.Tests.{is_in_time}
+use Rattle.tsp_rules.specs.Guards.{is_in_time}
 
 -- the port becomes a master and says so
 unfoldable pub lead_row : Row

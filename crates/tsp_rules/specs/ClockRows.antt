@@ -5,7 +5,7 @@ use Rattle.tsp_base.specs.declared.constants.TheConstants.{MAXADJ}
 use Rattle.tsp_base.specs.History.{Past, plain}
 use Rattle.tsp_base.specs.NodeFacts.{shown}
 use Rattle.tsp_base.specs.Rows.{Row}
-use Rattle.tsp_rules.specs.Tests.{target_at, is_clock_value}
+use Rattle.tsp_rules.specs.Guards.{target_at, is_clock_value}
 
 -- whether an amount is stepped and not slewed
 abbrev pub is_step : ℤ → Bool

@@ -14,7 +14,7 @@ use Rattle.tsp_base.specs.History.{Past}
 use Rattle.tsp_base.specs.Rows.{Row, nothing, puts, ◌followed_by◌, either_by, reading, arms, bare, posts, posts_to_others, posts_back}
 use Rattle.tsp_base.specs.PortFacts.{role, kept_name}
 use Rattle.tsp_rules.specs.SendRows.{begins_to_others}
-use Rattle.tsp_rules.specs.Tests.{delay_at, ticket_at, target_at, is_in_range, may_stand_at, is_master_at, is_starting_role, role_at}
+use Rattle.tsp_rules.specs.Guards.{delay_at, ticket_at, target_at, is_in_range, may_stand_at, is_master_at, is_starting_role, role_at}
 
 -- a node boots: it is silent for the quiet time
 unfoldable pub boots : Row
@@ -43,8 +43,8 @@ unfoldable pub backs_own : Row
 backs_own = reading own_at (λ own. puts (Back own))
 
 -- the node stands for election
-unfoldable pub stand_row : Row
-stand_row = puts (Become Candidate) followed_by (backs_own followed_by (arms Window WINDOW followed_by begins_to_others Election))
+unfoldable pub candidature_row : Row
+candidature_row = puts (Become Candidate) followed_by (backs_own followed_by (arms Window WINDOW followed_by begins_to_others Election))
 
 unfoldable pub follows_unless : PeerId → Role → Row
 follows_unless p (Follow q) = nothing
@@ -89,7 +89,7 @@ is_idle Loose = true
 is_idle (Follow q) = true
 is_idle _ = false
 
--- whether a port stands when it is asked to: it is Loose or follows, and it may
+-- whether a port stands for election when it is asked to: it is Loose or follows, and it may
 abbrev pub may_be_asked : ℕ → Past → Bool
 may_be_asked x past = is_idle (role past.seen) && may_stand_at x past
 
@@ -98,4 +98,4 @@ is_awake x past = not (is_starting_role (role past.seen))
 
 -- somebody asks for an election
 unfoldable pub tests : Place → ℕ → Row
-tests from number = either_by is_awake (posts_back from Ack number followed_by either_by may_be_asked stand_row nothing) nothing
+tests from number = either_by is_awake (posts_back from Ack number followed_by either_by may_be_asked candidature_row nothing) nothing

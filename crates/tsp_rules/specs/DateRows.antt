@@ -17,7 +17,7 @@ use Rattle.tsp_base.specs.SendFacts.{Dating, Sending, is_acknowledged, is_set_da
 use Rattle.tsp_base.specs.Takings.{time_in}
 use Rattle.tsp_rules.specs.ClockRows.{sets}
 use Rattle.tsp_rules.specs.SendRows.{begins_timed, is_free, open_at}
-use Rattle.tsp_rules.specs.Tests.{is_clock_value, role_at, table_at}
+use Rattle.tsp_rules.specs.Guards.{is_clock_value, role_at, table_at}
 
 -- whether a follower of q passes a date on: it began no such send for REUSE, and no send to q is open
 abbrev pub may_pass_on : PeerId → ℕ → Past → Bool

@@ -29,7 +29,7 @@ use Rattle.tsp_rules.specs.Answers.{rings, takes}
 use Rattle.tsp_rules.specs.CandidateRows.{yields}
 use Rattle.tsp_rules.specs.NodeRows.{NodePast, NodeRow, PortSetup, nothing_at_all, on, on_port, ◌and_then◌, reading_all, for_ports, stirring}
 use Rattle.tsp_rules.specs.SendRows.{due_sends}
-use Rattle.tsp_rules.specs.Tests.{is_follow, is_heard, is_master, is_master_at, is_own, is_starting_role}
+use Rattle.tsp_rules.specs.Guards.{is_follow, is_heard, is_master, is_master_at, is_own, is_starting_role}
 
 -- so many ports, from a number on
 abbrev pub ports_from : ℕ → List PortSetup → List Port

@@ -8,6 +8,7 @@ pub mod DateRows
 pub mod DateScript
 pub mod GateRows
 pub mod GatewayScript
+pub mod Guards
 pub mod HoldScript
 pub mod LateClose
 pub mod MasterRows
@@ -24,4 +25,3 @@ pub mod Scripts
 pub mod SendRows
 pub mod SlaveRows
 pub mod StrictScript
-pub mod Tests

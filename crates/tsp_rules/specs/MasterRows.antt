@@ -10,7 +10,7 @@ use Rattle.tsp_base.specs.Rows.{Row, nothing, puts, ◌followed_by◌, either_by
 use Rattle.tsp_rules.specs.CommonRows.{quits}
 use Rattle.tsp_rules.specs.ResolveRows.{resolves, finds_rival}
 use Rattle.tsp_rules.specs.SendRows.{begins, begins_settime, has_quit, acknowledges}
-use Rattle.tsp_rules.specs.Tests.{is_slave_at}
+use Rattle.tsp_rules.specs.Guards.{is_slave_at}
 
 -- whether a number is a ticket, and its sender no slave yet
 abbrev pub may_join : PeerId → ℕ → ℕ → Past → Bool

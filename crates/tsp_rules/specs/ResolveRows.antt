@@ -8,7 +8,7 @@ use Rattle.tsp_base.specs.declared.place.PeerId.{PeerId}
 use Rattle.tsp_base.specs.History.{Past}
 use Rattle.tsp_base.specs.Rows.{Row, nothing, puts, ◌followed_by◌, either_by, reading, for_each, arms, posts_to_others}
 use Rattle.tsp_rules.specs.SendRows.{begins}
-use Rattle.tsp_rules.specs.Tests.{is_in_time, is_armed, is_rival_at, rivals_at}
+use Rattle.tsp_rules.specs.Guards.{is_in_time, is_armed, is_rival_at, rivals_at}
 
 -- a master that may have rivals asks who is one, unless it is asking already
 unfoldable pub resolves : Row

@@ -19,7 +19,7 @@ use Rattle.tsp_group.specs.Groups.{group_of, mean_of}
 use Rattle.tsp_group.specs.declared.group.Group.{Group}
 use Rattle.tsp_base.specs.Samples.{sample_diff, sample_err}
 use Rattle.tsp_rules.specs.SendRows.{begins_adjtime, begins_settime}
-use Rattle.tsp_rules.specs.Tests.{is_going_at, is_in_time, target_at, table_at}
+use Rattle.tsp_rules.specs.Guards.{is_going_at, is_in_time, target_at, table_at}
 
 -- a stamp request to p: the node's word, and a counter that counts the port's requests
 unfoldable pub asks : PeerId → Row
@@ -129,7 +129,7 @@ unfoldable pub moves : Bool → ℤ → Row
 moves true mean = adjusts mean
 moves false mean = nothing
 
--- the round closes with this group: the own clock is moved by the mean, and then each measured peer is treated, ascending
+-- the round closes with this group: the own clock is moved by the mean, and then each measured peer is corrected, ascending
 unfoldable pub closes_with : Bool → Group → List Standing → Row
 closes_with own g round = either_by (can_adjust (mean_by own g))
     (puts (close_act own g) followed_by (moves own (mean_by own g) followed_by for_each (corrects_peer (mean_by own g)) round))

@@ -13,7 +13,7 @@ use Rattle.tsp_base.specs.Messages.{MessageValue}
 use Rattle.tsp_base.specs.NodeFacts.{word}
 use Rattle.tsp_base.specs.Rows.{Row, nothing, puts, ◌followed_by◌, either_by, reading, for_each, others, posts, posts_time}
 use Rattle.tsp_base.specs.SendFacts.{is_correction, Sending, deadline_of, is_given_up, open_send, begun, last_post, is_acknowledged, last_number}
-use Rattle.tsp_rules.specs.Tests.{target_at, is_in_range, is_slave_at}
+use Rattle.tsp_rules.specs.Guards.{target_at, is_in_range, is_slave_at}
 
 -- the port's next own number: 32768 and, modulo 32768, the word and the sends that have begun with such numbers
 abbrev pub next_number : ℕ → Past → ℕ
@@ -121,21 +121,21 @@ unfoldable pub repeats : PeerId → MessageValue → Row
 repeats p m = puts (Post (Peer p) (Message m))
 
 -- a send that is due, without what its end does to the slave table
-unfoldable pub treats_bare_send : PeerId → Option Sending → Row
-treats_bare_send p None = nothing
-treats_bare_send p (Some s) = either_by (is_send_due s) (either_by (is_spent s) (puts (Gave p)) (repeats p s.message)) nothing
+unfoldable pub repeats_bare_send : PeerId → Option Sending → Row
+repeats_bare_send p None = nothing
+repeats_bare_send p (Some s) = either_by (is_send_due s) (either_by (is_spent s) (puts (Gave p)) (repeats p s.message)) nothing
 
 -- the open send to p, where it is due: it is posted again or given up
 unfoldable pub bare_send : PeerId → Row
-bare_send p = reading (open_at p) (treats_bare_send p)
+bare_send p = reading (open_at p) (repeats_bare_send p)
 
-unfoldable pub treats_send : PeerId → Option Sending → Row
-treats_send p None = nothing
-treats_send p (Some s) = either_by (is_send_due s) (either_by (is_spent s) (gives_up p s.message.kind) (repeats p s.message)) nothing
+unfoldable pub repeats_send : PeerId → Option Sending → Row
+repeats_send p None = nothing
+repeats_send p (Some s) = either_by (is_send_due s) (either_by (is_spent s) (gives_up p s.message.kind) (repeats p s.message)) nothing
 
 -- the same, and a slave whose correction is given up leaves
 unfoldable pub due_send : PeerId → Row
-due_send p = reading (open_at p) (treats_send p)
+due_send p = reading (open_at p) (repeats_send p)
 
 abbrev pub peers_at : ℕ → Past → List PeerId
 peers_at x past = past.peers

@@ -17,9 +17,9 @@ use Rattle.tsp_base.specs.Rows.{Row, nothing, puts, ◌followed_by◌, either_by
 use Rattle.tsp_base.specs.SendFacts.{Correcting, last_taken}
 use Rattle.tsp_base.specs.Takings.{time_in}
 use Rattle.tsp_rules.specs.ClockRows.{can_adjust, adjusts, sets}
-use Rattle.tsp_rules.specs.CommonRows.{arms_elect, searches, tells_ticket, follow_row, stand_row, quits}
+use Rattle.tsp_rules.specs.CommonRows.{arms_elect, searches, tells_ticket, follow_row, candidature_row, quits}
 use Rattle.tsp_rules.specs.SendRows.{begins, is_free, acknowledges}
-use Rattle.tsp_rules.specs.Tests.{role_at, is_in_time, is_armed, is_clock_value, may_back_at, may_stand_at, follows_at}
+use Rattle.tsp_rules.specs.Guards.{role_at, is_in_time, is_armed, is_clock_value, may_back_at, may_stand_at, follows_at}
 
 -- the quiet time ends, however late
 unfoldable pub quiet_rings : Row
@@ -37,10 +37,10 @@ search_rings = rings_or_late Search followed_by arms_elect
 unfoldable pub loosens : Row
 loosens = either_by follows_at (puts (Become Loose)) nothing
 
--- nothing was heard of a master for long: the node stands where it may, else it searches
+-- nothing was heard of a master for long: the node stands for election where it may, else it searches
 unfoldable pub elect_rings : Row
 elect_rings = either_by (is_in_time Elect)
-    (puts (Ring Elect) followed_by either_by may_stand_at stand_row (loosens followed_by searches))
+    (puts (Ring Elect) followed_by either_by may_stand_at candidature_row (loosens followed_by searches))
     (puts (Late Elect) followed_by arms_elect)
 
 -- a master is heard of beside the one that is followed, who is told

@@ -21,21 +21,21 @@ use Rattle.tsp_base.specs.Messages.{MessageValue}
 use Rattle.tsp_base.specs.RoundFacts.{is_going}
 use Rattle.tsp_base.specs.Rows.{Row, nothing, puts, arms, ◌followed_by◌, others, placed}
 use Rattle.tsp_base.specs.SendFacts.{sets_date}
-use Rattle.tsp_rules.specs.Answers.{rings, treats, takes}
+use Rattle.tsp_rules.specs.Answers.{rings, handles, takes}
 use Rattle.tsp_rules.specs.CandidateRows.{yields}
 use Rattle.tsp_rules.specs.GateRows.{ports_from, all_ports, other_ports, leads_clock, waits, loop_to, sends_loops, ends_probes, loops_after, probes_on, closes_on, begins_round_on, alarm_on, alarms_on, turns_on, LoopStep, PassOver, GiveUp, Forward, judge, repost, reposts, is_awake_on, reposts_on, loosens_master, forwards, takes_loop_step, hears_on, judges, heeds_loop, takes_loop, stirred_ports, takes_message, takes_kind, takes_on, steers, in_charge, NodeTurn, GotOn, input_all, answers_all, boots_on}
 use Rattle.tsp_rules.specs.NodeRows.{PortSetup, NodePast, NodeRow, port_setup, on_port, spread, nothing_at_all, on, ◌and_then◌, reading_all, for_ports, abandons_on, stirring}
 use Rattle.tsp_rules.specs.RoundRows.{corrects}
 use Rattle.tsp_rules.specs.SendRows.{due_sends}
-use Rattle.tsp_rules.specs.Tests.{is_master_at}
+use Rattle.tsp_rules.specs.Guards.{is_master_at}
 use Rattle.tsp_fit.specs.Strangers.{is_stranger}
 use Rattle.tsp_fit.proofs.CalmAlarms.{calm_rings, calm-yields}
 use Rattle.tsp_fit.proofs.CalmRows.{calm_due_sends, none}
-use Rattle.tsp_fit.proofs.CalmSteps.{TakesFirst, taking, calm_treats}
+use Rattle.tsp_fit.proofs.CalmSteps.{TakesFirst, taking, calm_handles}
 use Rattle.tsp_fit.proofs.FewActs.{is_calm_act, is_calm, Calm, calm_arms, calm_either, calm_puts, calm_then, filter_few}
 use Rattle.tsp_fit.proofs.GateLoops.{loops_calm}
 use Rattle.tsp_fit.proofs.PortLists.{Ranged, ranged_from, other_ranged}
-use Rattle.tsp_fit.proofs.TestFacts.{and-cases}
+use Rattle.tsp_fit.proofs.GuardFacts.{and-cases}
 
 -- calm acts, each on one of so many ports
 abbrev pub AreCalm : Bool → ℕ → List Placed → Type 0
@@ -317,7 +317,7 @@ module _ {n : ℕ} (peers : ℕ) (four : n ≤ 4) (q : Port) (has : q.0 < n) (fr
       let steer = steers q x past in
       let charge = in_charge q x past in
       stirred-first t x past (takes steer charge from t x (on_port q past)) (stirred_ports q m.kind past) s (stirred-ranged n peers q m.kind past s) (stirred-few n peers q m.kind past four s)
-      ((taking {moving = true} from t 2 5 (treats steer charge from t) (calm_treats steer charge from t)).run x (on_port q past))
+      ((taking {moving = true} from t 2 5 (handles steer charge from t) (calm_handles steer charge from t)).run x (on_port q past))
 
   loop-first : (m : MessageValue) (x : ℕ) (past : NodePast) → Small n peers past → First (Good (Message m)) (takes_loop q from m x past)
   unfolding takes_loop ◌and_then◌ on puts
@@ -336,7 +336,7 @@ module _ {n : ℕ} (peers : ℕ) (four : n ≤ 4) (q : Port) (has : q.0 < n) (fr
   unfolding on takes
   plain-first t x past s =
       let acts = takes true true from t x (on_port q past) in
-      let f = (taking {moving = true} from t 2 5 (treats true true from t) (calm_treats true true from t)).run x (on_port q past) in
+      let f = (taking {moving = true} from t 2 5 (handles true true from t) (calm_handles true true from t)).run x (on_port q past) in
       first-of t (placed q acts) (placed q f.after) (subst (λ z. placed q acts ≡ placed q z) f.is refl)
       (calm_acts_more (omega arith) (placed-calm n (2 * peers + 5) q f.after has f.calm (on-few 2 5 (length (port_setup q past).peers) peers (length f.after) f.few (s.few q))))
 

@@ -36,7 +36,7 @@ use Rattle.tsp_rules.specs.GateRows.{ports_from, all_ports, other_ports, leads_c
 use Rattle.tsp_rules.specs.NodeRows.{NodePast, NodeRow, on_port, spread, in_node_step, nothing_at_all, on, ◌and_then◌, reading_all, for_ports, abandons_on, stirring}
 use Rattle.tsp_rules.specs.RoundRows.{corrects}
 use Rattle.tsp_rules.specs.SendRows.{due_sends}
-use Rattle.tsp_rules.specs.Tests.{is_master_at}
+use Rattle.tsp_rules.specs.Guards.{is_master_at}
 use Rattle.tsp_rules.proofs.NodeRowLemmas.{view_own, spread_append}
 use Rattle.tsp_fit.specs.Sound.{IsSound, IsSoundAct, IsSoundBody, IsSoundDeed, IsSoundTaken, AreSound, SoundPast}
 use Rattle.tsp_fit.proofs.GateFacts.{LeadsAll, All_after, All_reading}

@@ -10,7 +10,7 @@ use Rattle.std.proofs.lemmas.List.{length-map, get_or-map}
 use Rattle.tsp_base.specs.declared.place.PeerId.{PeerId}
 use Rattle.tsp_sends.specs.declared.slot.Slot.{Slot}
 use Rattle.tsp_sends.specs.Slots.{peers_of, sending_to}
-use Rattle.tsp_sends.specs.Treating.{IsPlaceOf, IsFirstAfter}
+use Rattle.tsp_sends.specs.Repeating.{IsPlaceOf, IsFirstAfter}
 use Rattle.tsp_sends.proofs.SlotLemmas.{Rise, sending_to-absent}
 
 equal_means : (a b : ℕ) → nat_cmp a b ≡ Equal → a ≡ b

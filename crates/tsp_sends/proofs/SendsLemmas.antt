@@ -9,7 +9,7 @@ use Rattle.tsp_sends.specs.declared.due.Due.{Due}
 use Rattle.tsp_sends.specs.declared.slot.Slot.{Slot}
 use Rattle.tsp_sends.specs.Deadlines.{is_due, deadline_at, IsFirstDue, IsFirstDueAt, IsLeast}
 use Rattle.tsp_sends.specs.Slots.{IsAscending, peers_of, empty_slot, sending_to, deadline_in, SetsOnly, IsSends}
-use Rattle.tsp_sends.specs.Treating.{IsAfter, is_due_send, treated, kept, TreatsNext, IsEarliest, IsPlaceOf, IsFirstAfter}
+use Rattle.tsp_sends.specs.Repeating.{IsAfter, is_due_send, repeated, kept, RepeatsNext, IsEarliest, IsPlaceOf, IsFirstAfter}
 use Rattle.tsp_sends.proofs.SlotLemmas.{Rise, Rise-ascending, sending_to-at, sending_to-found, SetsOnly-set, peers_of-set}
 
 -- a slot gets another send, and its leaf the deadline
@@ -42,20 +42,20 @@ none_due_after after tick slots from q (Some s) e f later late =
     let here : deadline_at (map deadline_in slots) w.0 ≡ Some (deadline_of s) = deadline_at-slot slots w.0 d w.1 ∙ ap (option_map deadline_of) (w.2 d).1 in
     rw here at (late w.0 d at_least w.1 (w.2 d).0)
 
--- where the tree finds nothing, nothing is treated
-pub TreatsNext-none : (after : Option PeerId) (tick : ℕ) (slots : List Slot) (deadlines : List (Option ℕ)) (from : ℕ) (r : Option Due) → IsSends slots deadlines → IsFirstAfter after slots from → IsFirstDue from tick deadlines None → r ≡ None
-    → TreatsNext after tick slots slots r
-TreatsNext-none after tick slots deadlines from r s f none e = rw e (λ q later. none_due_after after tick slots from q (sending_to slots q) refl f later (λ i d l h p. rw (ap (λ ds. is_due tick (deadline_at ds i)) (sym s.deadlines_are)) (none i l)), refl)
+-- where the tree finds nothing, nothing is repeated
+pub RepeatsNext-none : (after : Option PeerId) (tick : ℕ) (slots : List Slot) (deadlines : List (Option ℕ)) (from : ℕ) (r : Option Due) → IsSends slots deadlines → IsFirstAfter after slots from → IsFirstDue from tick deadlines None → r ≡ None
+    → RepeatsNext after tick slots slots r
+RepeatsNext-none after tick slots deadlines from r s f none e = rw e (λ q later. none_due_after after tick slots from q (sending_to slots q) refl f later (λ i d l h p. rw (ap (λ ds. is_due tick (deadline_at ds i)) (sym s.deadlines_are)) (none i l)), refl)
 
 due_has : (tick : ℕ) (o : Option Sending) → is_due_send tick o ≡ true → (s : Sending) × (o ≡ Some s)
 due_has tick None e = let bad : ⊥ = cc in absurd bad
 due_has tick (Some s) e = (s, refl)
 
--- the slot that the tree finds is treated
-pub TreatsNext-found : (after : Option PeerId) (tick : ℕ) (slots : List Slot) (deadlines : List (Option ℕ)) (from i : ℕ) (d new : Slot) (r : Option Due) → IsSends slots deadlines → IsFirstAfter after slots from → IsFirstDueAt from tick deadlines i
-    → new.peer ≡ (get_or slots i d).peer → new.sending ≡ option_and_then (kept tick) (get_or slots i d).sending → r ≡ option_map (treated (get_or slots i d).peer tick) (get_or slots i d).sending
-    → TreatsNext after tick slots (set slots i new) r
-TreatsNext-found after tick slots deadlines from i d new r s f found peer sending due =
+-- the send in the slot that the tree finds is repeated
+pub RepeatsNext-found : (after : Option PeerId) (tick : ℕ) (slots : List Slot) (deadlines : List (Option ℕ)) (from i : ℕ) (d new : Slot) (r : Option Due) → IsSends slots deadlines → IsFirstAfter after slots from → IsFirstDueAt from tick deadlines i
+    → new.peer ≡ (get_or slots i d).peer → new.sending ≡ option_and_then (kept tick) (get_or slots i d).sending → r ≡ option_map (repeated (get_or slots i d).peer tick) (get_or slots i d).sending
+    → RepeatsNext after tick slots (set slots i new) r
+RepeatsNext-found after tick slots deadlines from i d new r s f found peer sending due =
     let rise : Rise slots = Rise-ascending slots s.ascending in
     let many : length deadlines ≡ length slots = ap length s.deadlines_are ∙ length-map slots deadline_in in
     let inside : i < length slots = omega (arith, found.inside) in
@@ -63,7 +63,7 @@ TreatsNext-found after tick slots deadlines from i d new r s f found peer sendin
     let is_due_here : is_due_send tick (get_or slots i d).sending ≡ true = ap (is_due tick) (sym (ap (λ ds. deadline_at ds i) s.deadlines_are ∙ deadline_at-slot slots i d inside)) ∙ found.due in
     let w = due_has tick (get_or slots i d).sending is_due_here in
     let here : sending_to slots (get_or slots i d).peer ≡ Some w.0 = sending_to-at slots i d (get_or slots i d).peer rise inside refl ∙ w.1 in
-    let gives : r ≡ Some (treated (get_or slots i d).peer tick w.0) = due ∙ ap (option_map (treated (get_or slots i d).peer tick)) w.1 in
+    let gives : r ≡ Some (repeated (get_or slots i d).peer tick w.0) = due ∙ ap (option_map (repeated (get_or slots i d).peer tick)) w.1 in
     let keeps : new.sending ≡ kept tick w.0 = sending ∙ ap (option_and_then (kept tick)) w.1 in
     let after_p : IsAfter after (get_or slots i d).peer = f.later i d found.after inside in
     rw gives (

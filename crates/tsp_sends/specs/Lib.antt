@@ -1,4 +1,4 @@
 pub mod Deadlines
+pub mod Repeating
 pub mod Slots
-pub mod Treating
 pub mod Trees

@@ -1,6 +1,6 @@
 //! What is done with a send that is due.
 ghost use Rattle.std.specs.Prelude.{◌≡◌};
-ghost use Rattle.tsp_sends.specs.Treating.{peer_of};
+ghost use Rattle.tsp_sends.specs.Repeating.{peer_of};
 
 use tsp_base::kind::Kind;
 use tsp_base::message::Message;

@@ -4,7 +4,7 @@ ghost use Rattle.std.specs.List.{Contains};
 ghost use Rattle.tsp_base.specs.declared.place.PeerId.{PeerId};
 ghost use Rattle.tsp_sends.specs.declared.slot.Slot.{Slot};
 ghost use Rattle.tsp_sends.specs.Slots.{IsAscending, peers_of, empty_slot, sending_to, kind_of, has_number, SetsOnly};
-ghost use Rattle.tsp_sends.specs.Treating.{TreatsNext, IsEarliest, IsPlaceOf, IsFirstAfter};
+ghost use Rattle.tsp_sends.specs.Repeating.{RepeatsNext, IsEarliest, IsPlaceOf, IsFirstAfter};
 
 use crate::due::Due;
 use crate::sending::Sending;
@@ -89,15 +89,15 @@ impl Sends {
         ends
     }
 
-    /// Treats the send to the least peer above `after` that is due; None exactly where there is none.
+    /// Repeats the send to the least peer above `after` that is due; None exactly where there is none.
     pub fn due(&mut self, after: Option<PeerId>, tick: u64) -> Option<Due>
-        ensures sends { TreatsNext after tick self.old self.new result }
+        ensures sends { RepeatsNext after tick self.old self.new result }
         ensures peers { peers_of self.new ≡ peers_of self.old }
     {
         let from = place_after(&self.slots, after);
         let place = self.tree.first_due(from, tick)?;
         let slot = &mut self.slots[place];
-        let due = slot.treat(tick);
+        let due = slot.repeat(tick);
         let at = slot.deadline();
         self.tree.put(place, at);
         due

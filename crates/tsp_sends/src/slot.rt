@@ -2,7 +2,7 @@
 ghost use Rattle.std.specs.Prelude.{◌≡◌};
 ghost use Rattle.std.specs.Option.{option_map, option_and_then};
 ghost use Rattle.tsp_sends.specs.Slots.{empty_slot, deadline_in, kind_of, has_number};
-ghost use Rattle.tsp_sends.specs.Treating.{treated, kept};
+ghost use Rattle.tsp_sends.specs.Repeating.{repeated, kept};
 
 use crate::due::Due;
 use crate::sending::Sending;
@@ -58,8 +58,8 @@ impl Slot {
     }
 
     /// Posts the open send again, or gives it up.
-    pub(crate) fn treat(&mut self, tick: u64) -> Option<Due>
-        ensures due { result ≡ option_map (treated self.old.peer tick) self.old.sending }
+    pub(crate) fn repeat(&mut self, tick: u64) -> Option<Due>
+        ensures due { result ≡ option_map (repeated self.old.peer tick) self.old.sending }
         ensures peer { self.new.peer ≡ self.old.peer }
         ensures sending { self.new.sending ≡ option_and_then (kept tick) self.old.sending }
     {

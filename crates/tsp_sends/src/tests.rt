@@ -1,4 +1,4 @@
-//! Examples of the tree and of sends, and a count of rounds that only the tree can treat in time.
+//! Examples of the tree and of sends, and a count of rounds that only the tree can finish in time.
 ghost use Rattle.std.specs.Prelude.{◌≡◌, ◌^◌, ◌≤◌, ◌<◌, length, IfOk};
 ghost use Rattle.tsp_sends.specs.Slots.{IsAscending, peers_of};
 

@@ -12,7 +12,7 @@ use Rattle.tsp_io.specs.Links.{Arrival, Tried}
 use Rattle.tsp_query.specs.Clocks.{reading}
 use Rattle.tsp_query.specs.Ends.{Outside, Tells}
 use Rattle.tsp_query.specs.Told.{Told}
-use Rattle.tsp_rules.specs.Tests.{is_clock_value}
+use Rattle.tsp_rules.specs.Guards.{is_clock_value}
 use Rattle.tsp_words.specs.declared.serve.ServeWords.{ServeWords}
 use Rattle.tsp_serving.specs.declared.end.Served.{Served}
 use Rattle.tsp_serving.specs.Nodes.{first_past}

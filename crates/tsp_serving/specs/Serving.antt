@@ -6,7 +6,7 @@ use Rattle.tsp_daemon.specs.Ends.{Serves}
 use Rattle.tsp_daemon.specs.Sessions.{Session, read_once}
 use Rattle.tsp_query.specs.Ends.{Outside, Tells}
 use Rattle.tsp_query.specs.Told.{Told, bound, Says}
-use Rattle.tsp_rules.specs.Tests.{is_clock_value}
+use Rattle.tsp_rules.specs.Guards.{is_clock_value}
 use Rattle.tsp_words.specs.declared.serve.ServeWords.{ServeWords}
 use Rattle.tsp_serving.specs.declared.end.Served.{Served}
 use Rattle.tsp_serving.specs.declared.end.Served.TheVariants.{Done, BadWall, LinkFault, WriteFault, OutOfMemory}

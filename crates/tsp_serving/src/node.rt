@@ -3,7 +3,7 @@ ghost use Rattle.std.specs.Prelude.{◌≡◌, ◌≤◌, ◌+◌, ◌*◌, [], 
 ghost use Rattle.tsp_base.specs.Frames.{IsTick};
 ghost use Rattle.tsp_gateway.specs.GatewayStands.{GatewayStands, clock_at};
 ghost use Rattle.tsp_gateway.specs.Rooms.{ports_in, room_of_ports};
-ghost use Rattle.tsp_rules.specs.Tests.{is_clock_value};
+ghost use Rattle.tsp_rules.specs.Guards.{is_clock_value};
 ghost use Rattle.tsp_words.specs.Ports.{all_peers};
 ghost use Rattle.tsp_words.specs.Serves.{IsServe};
 ghost use Rattle.tsp_serving.specs.Nodes.{port_peers, setup_of, may_be, is_strict, config_of, first_past};

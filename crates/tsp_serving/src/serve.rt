@@ -3,7 +3,7 @@ ghost use Rattle.std.specs.Prelude.{◌≡◌, ◌≢◌, ◌≤◌, ℕ, ℤ, L
 ghost use Rattle.tsp_io.specs.Counts.{Rose};
 ghost use Rattle.tsp_query.specs.Ends.{Outside};
 ghost use Rattle.tsp_query.specs.Told.{Knows, Says};
-ghost use Rattle.tsp_rules.specs.Tests.{is_clock_value};
+ghost use Rattle.tsp_rules.specs.Guards.{is_clock_value};
 ghost use Rattle.tsp_words.specs.Serves.{IsServe};
 ghost use Rattle.tsp_serving.specs.Serving.{bad_wall, BoundServes, ServesAs};
 

@@ -15,7 +15,7 @@ use Rattle.tsp_base.specs.Rows.{nothing, reading}
 use Rattle.tsp_base.specs.SendFacts.{Sending, is_correction}
 use Rattle.tsp_rules.specs.SendRows.{is_free}
 use Rattle.tsp_rules.specs.SlaveRows.{from_master, slave_takes_kind}
-use Rattle.tsp_rules.specs.Tests.{is_met, may_stand_at, role_at}
+use Rattle.tsp_rules.specs.Guards.{is_met, may_stand_at, role_at}
 use Rattle.tsp_sends.specs.Slots.{kind_of, sending_to}
 use Rattle.tsp_acks.specs.declared.station.Station.{Station}
 use Rattle.tsp_acks.specs.Stands.{Stands}

@@ -20,7 +20,7 @@ use Rattle.tsp_rules.specs.ClockRows.{adjusts, sets}
 use Rattle.tsp_rules.specs.CommonRows.{arms_elect}
 use Rattle.tsp_rules.specs.SendRows.{acknowledges, begins, is_free}
 use Rattle.tsp_rules.specs.SlaveRows.{election_of, confirms, reports_conflict}
-use Rattle.tsp_rules.specs.Tests.{may_back_at}
+use Rattle.tsp_rules.specs.Guards.{may_back_at}
 use Rattle.tsp_rules.proofs.Emits.{Emits_either, Emits_more, Emits_nothing, Emits_posts, Emits_puts, is_in, sort_of_kind}
 use Rattle.tsp_rules.proofs.EmitsSlave.{silent_sorts, silent_acks, silent_elect, emits_begins}
 use Rattle.tsp_acks.specs.declared.station.Station.{Station}

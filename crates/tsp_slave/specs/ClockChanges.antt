@@ -8,7 +8,7 @@ use Rattle.tsp_base.specs.Rows.{Row}
 use Rattle.tsp_base.specs.Takings.{time_in}
 use Rattle.tsp_rules.specs.ClockRows.{adjusts, sets}
 use Rattle.tsp_rules.specs.SlaveRows.{adjtime_of, settime_of}
-use Rattle.tsp_rules.specs.Tests.{is_clock_value}
+use Rattle.tsp_rules.specs.Guards.{is_clock_value}
 use Rattle.tsp_clock.specs.Clocks.{ClockValue, target_of}
 use Rattle.tsp_slave.specs.declared.change.Change.{Change}
 use Rattle.tsp_slave.specs.declared.change.Change.TheVariants.{By, To}

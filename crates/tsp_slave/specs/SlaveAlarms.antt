@@ -6,7 +6,7 @@ use Rattle.tsp_base.specs.Alarms.{deadline}
 use Rattle.tsp_base.specs.Hold.{may_stand}
 use Rattle.tsp_base.specs.Rows.{Row, nothing}
 use Rattle.tsp_rules.specs.SlaveRows.{quiet_rings, search_rings, elect_rings}
-use Rattle.tsp_rules.specs.Tests.{is_met}
+use Rattle.tsp_rules.specs.Guards.{is_met}
 use Rattle.tsp_acks.specs.declared.station.Station.{Station}
 
 -- the alarms of such a port
@@ -16,6 +16,6 @@ slave_rings Search = search_rings
 slave_rings Elect = elect_rings
 slave_rings _ = nothing
 
--- whether a port whose Elect is due becomes a candidate: the alarm is in time, the node may be master, and the hold lets it stand
+-- whether a port whose Elect is due becomes a candidate: the alarm is in time, the node may be master, and the hold lets it stand for election
 abbrev pub is_to_be_candidate : ℕ → Station → Bool
 is_to_be_candidate x s = is_met (deadline s.alarms Elect) x && (s.me.may && may_stand s.hold x s.me.own)

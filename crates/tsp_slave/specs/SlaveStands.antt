@@ -1,4 +1,4 @@
--- What a port's station, what it remembers and its node's clock stand for, while a step treats what it took.
+-- What a port's station, what it remembers and its node's clock stand for, while a step handles what it took.
 use Rattle.std.specs.Prelude.{◌≡◌, Option, Some}
 use Rattle.tsp_base.specs.declared.datagram.Datagram.TheVariants.{Message}
 use Rattle.tsp_base.specs.declared.datagram.Taken.TheVariants.{Good}

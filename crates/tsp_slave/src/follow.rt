@@ -9,7 +9,7 @@ ghost use Rattle.tsp_base.specs.Frames.{IsTick, PutsAtMost, PutsExactly};
 ghost use Rattle.tsp_base.specs.Performs.{Performs};
 ghost use Rattle.tsp_base.specs.PortFacts.{Received, name_in};
 ghost use Rattle.tsp_rules.specs.CommonRows.{follow_row, tells_ticket};
-ghost use Rattle.tsp_rules.specs.Tests.{delay};
+ghost use Rattle.tsp_rules.specs.Guards.{delay};
 ghost use Rattle.tsp_sends.specs.Slots.{sending_to};
 ghost use Rattle.tsp_slave.specs.Lasts.{LastValue};
 ghost use Rattle.tsp_slave.specs.SlaveStands.{SlaveStands};

@@ -6,7 +6,7 @@ ghost use Rattle.tsp_base.specs.Performs.{Performs};
 ghost use Rattle.tsp_base.specs.PortFacts.{Received, name_in};
 ghost use Rattle.tsp_base.specs.Rows.{reading};
 ghost use Rattle.tsp_rules.specs.CommonRows.{follows_unless, quits};
-ghost use Rattle.tsp_rules.specs.Tests.{role_at};
+ghost use Rattle.tsp_rules.specs.Guards.{role_at};
 ghost use Rattle.tsp_acks.specs.Changes.{IsSamePort};
 ghost use Rattle.tsp_slave.specs.SlaveStands.{SlaveStands};
 

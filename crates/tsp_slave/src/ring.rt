@@ -26,7 +26,7 @@ pub fn becomes_candidate(station: &Station, tick: u64) -> bool
         && (station.me.may && station.hold.may_stand(tick, station.me.own))
 }
 
-/// Treats one alarm that is due: the quiet time ends, a search ends, or no master was heard for long. Any
+/// Handles one alarm that is due: the quiet time ends, a search ends, or no master was heard for long. Any
 /// other alarm does nothing here. An Elect that makes the node a candidate isn't handed to it.
 pub fn slave_ring<D: Desk>(station: &mut Station, alarm: Alarm, tick: u64, port: Port, desk: &mut D)
     requires tick { IsTick tick }

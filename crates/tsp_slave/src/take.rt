@@ -7,7 +7,7 @@ ghost use Rattle.tsp_base.specs.PortFacts.{Received, said};
 ghost use Rattle.tsp_base.specs.Rows.{reading};
 ghost use Rattle.tsp_base.specs.SendFacts.{correcting_of};
 ghost use Rattle.tsp_rules.specs.SlaveRows.{from_master, masterack_in, masterup_in, slave_takes};
-ghost use Rattle.tsp_rules.specs.Tests.{role_at};
+ghost use Rattle.tsp_rules.specs.Guards.{role_at};
 ghost use Rattle.tsp_acks.specs.Changes.{IsSamePort};
 ghost use Rattle.tsp_slave.specs.ClockChanges.{change_in, correction_of};
 ghost use Rattle.tsp_slave.specs.SlaveStands.{IsMessage, SlaveStands};
@@ -28,7 +28,7 @@ use tsp_base::place::{PeerId, Port};
 use tsp_base::role::Role;
 use tsp_clock::clock::Clock;
 
-/// Treats a message of another peer at a port that is Loose or follows. A QUIT is treated so whatever the
+/// Handles a message of another peer at a port that is Loose or follows. A QUIT is handled so whatever the
 /// role. At most five acts.
 pub fn slave_take<D: Desk>(
     station: &mut Station,

@@ -89,18 +89,18 @@ fn sends_until_answered(rt: HostRuntime) -> Result<(), Fail> {
     // Both are due a second after they began, and are posted again.
     assert!(rt;
         is_again(
-            station.treat_next(None, 1_000_199, port, &mut pad),
+            station.repeat_next(None, 1_000_199, port, &mut pad),
             PeerId(4)
         )
     );
     assert!(rt;
         station
-            .treat_next(Some(PeerId(4)), 1_000_199, port, &mut pad)
+            .repeat_next(Some(PeerId(4)), 1_000_199, port, &mut pad)
             .is_none()
     );
     assert!(rt;
         is_again(
-            station.treat_next(None, 1_000_200, port, &mut pad),
+            station.repeat_next(None, 1_000_200, port, &mut pad),
             PeerId(1)
         )
     );

@@ -4,7 +4,7 @@ ghost use Rattle.tsp_base.specs.Headers.{Keeps};
 ghost use Rattle.tsp_rules.specs.GateRows.{GotOn, NodeTurn, answers_all};
 ghost use Rattle.tsp_rules.specs.NodePerforms.{PerformsAll};
 ghost use Rattle.tsp_rules.specs.NodeRows.{PortSetup};
-ghost use Rattle.tsp_rules.specs.Tests.{is_clock_value};
+ghost use Rattle.tsp_rules.specs.Guards.{is_clock_value};
 ghost use Rattle.tsp_run.specs.Networks.{room};
 ghost use Rattle.tsp_world.specs.NodesReady.{PlaceReady, CanAct, CanTake};
 ghost use Rattle.tsp_world.specs.WorldStands.{UpBegun, UpStands};

@@ -4,7 +4,7 @@ use Rattle.tsp_base.specs.declared.kind.Kind.TheVariants.{Ack}
 use Rattle.tsp_base.specs.Rows.{nothing, posts_back}
 use Rattle.tsp_base.proofs.PerformsLemmas.{Performs_then_part, Performs_else_part, Performs_nothing}
 use Rattle.tsp_rules.specs.CommonRows.{says_master}
-use Rattle.tsp_rules.specs.Tests.{is_master, is_master_at}
+use Rattle.tsp_rules.specs.Guards.{is_master, is_master_at}
 use Rattle.tsp_rules.proofs.RowsOther.{is_master-other}
 use Rattle.tsp_clients.proofs.naming.say_master.Goals as goal
 

@@ -3,7 +3,7 @@ use Rattle.std.proofs.Common.{sym, Some, ◌∙◌}
 use Rattle.tsp_base.specs.declared.role.Role.TheVariants.{Follow}
 use Rattle.tsp_base.proofs.PerformsLemmas.{Performs_nothing, Performs_reading}
 use Rattle.tsp_rules.specs.DateRows.{date_acked, date_acked_in}
-use Rattle.tsp_rules.specs.Tests.{role_at}
+use Rattle.tsp_rules.specs.Guards.{role_at}
 use Rattle.tsp_date.proofs.DateLemmas.{Performs_ended, date_acked_in-other}
 use Rattle.tsp_date.proofs.pass.end.Goals as goal
 

@@ -6,7 +6,7 @@ use Rattle.tsp_base.specs.declared.role.Role.TheVariants.{Follow, Master}
 use Rattle.tsp_base.specs.Takings.{time_in}
 use Rattle.tsp_base.proofs.PerformsLemmas.{Performs_nothing, Performs_reading}
 use Rattle.tsp_rules.specs.DateRows.{date_in}
-use Rattle.tsp_rules.specs.Tests.{role_at}
+use Rattle.tsp_rules.specs.Guards.{role_at}
 use Rattle.tsp_date.proofs.CorrectsLemmas.{corrects-follower, corrects-master, corrects-other, date_in-other}
 use Rattle.tsp_date.proofs.take.take_date.Goals as goal
 

@@ -8,7 +8,7 @@ use Rattle.tsp_base.specs.Takings.{time_in}
 use Rattle.tsp_base.proofs.PerformsLemmas.{Performs_else_part, Performs_nothing, Performs_reading, Performs_then_part}
 use Rattle.tsp_rules.specs.DateRows.{date_request_in, is_dated, sets_in_charge}
 use Rattle.tsp_rules.specs.RoundRows.{corrects}
-use Rattle.tsp_rules.specs.Tests.{role_at}
+use Rattle.tsp_rules.specs.Guards.{role_at}
 use Rattle.tsp_rules.proofs.Emits.{Emits_posts}
 use Rattle.tsp_date.proofs.CorrectsLemmas.{charge-false, charge-true, corrects-again, corrects-nothing, corrects-other, corrects-request, corrects-sets, date_request_in-other, dated-is}
 use Rattle.tsp_date.proofs.DateLemmas.{Performs_posting}

@@ -5,7 +5,7 @@ use Rattle.tsp_base.specs.History.{plain}
 use Rattle.tsp_base.specs.NodeFacts.{ticket, target}
 use Rattle.tsp_base.proofs.PerformsLemmas.{Performs_nothing, Performs_then_part, Performs_else_part}
 use Rattle.tsp_rules.specs.CommonRows.{replies, posts_reply}
-use Rattle.tsp_rules.specs.Tests.{is_in_range}
+use Rattle.tsp_rules.specs.Guards.{is_in_range}
 use Rattle.tsp_node.proofs.NodeLemmas.{PartStands_stamp}
 use Rattle.tsp_node.proofs.reply.reply.Goals as goal
 

@@ -1,7 +1,7 @@
 use Rattle.std.proofs.Common.{◌≡◌, ◌∙◌, ap, inl, inr, refl, subst, ℤ, ℕ, false, rules, w64, to_z, of_z}
 use Rattle.tsp_query.proofs.AskLemmas.{of_some}
 use Rattle.tsp_query.proofs.ToldLemmas.{Says_from}
-use Rattle.tsp_rules.specs.Tests.{is_clock_value}
+use Rattle.tsp_rules.specs.Guards.{is_clock_value}
 use Rattle.tsp_serving.proofs.NodeLemmas.{turns_fit}
 use Rattle.tsp_serving.proofs.ServeLemmas.{Tells_read, IsServed_serves}
 use Rattle.tsp_daemon.specs.declared.end.ServeEnd.{ServeEnd}

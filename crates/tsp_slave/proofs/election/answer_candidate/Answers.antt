@@ -5,7 +5,7 @@ use Rattle.tsp_base.specs.Rows.{puts, ◌followed_by◌, posts}
 use Rattle.tsp_base.proofs.PerformsLemmas.{Performs_then, Performs_then_part, Performs_else_part}
 use Rattle.tsp_rules.specs.CommonRows.{arms_elect}
 use Rattle.tsp_rules.specs.SlaveRows.{election_of}
-use Rattle.tsp_rules.specs.Tests.{may_back_at}
+use Rattle.tsp_rules.specs.Guards.{may_back_at}
 use Rattle.tsp_slave.proofs.election.answer_candidate.Goals as goal
 
 pub returns-then-may_back-clause-row : goal.returns-then-may_back-clause-row

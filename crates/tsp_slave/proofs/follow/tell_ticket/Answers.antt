@@ -4,7 +4,7 @@ use Rattle.tsp_base.specs.declared.kind.Kind.TheVariants.{SlaveUp}
 use Rattle.tsp_base.specs.Rows.{posts}
 use Rattle.tsp_base.proofs.PerformsLemmas.{Performs_beside, Performs_reading}
 use Rattle.tsp_rules.specs.CommonRows.{tells_ticket}
-use Rattle.tsp_rules.specs.Tests.{ticket_at}
+use Rattle.tsp_rules.specs.Guards.{ticket_at}
 use Rattle.tsp_slave.proofs.SlaveLemmas.{AlsoStands_posts}
 use Rattle.tsp_slave.proofs.follow.tell_ticket.Goals as goal
 

@@ -2,7 +2,7 @@
 use Rattle.std.proofs.Common.{◌∙◌, sym}
 use Rattle.tsp_base.proofs.PerformsLemmas.{Performs_reading, Performs_nothing}
 use Rattle.tsp_rules.specs.CommonRows.{follows_unless}
-use Rattle.tsp_rules.specs.Tests.{role_at}
+use Rattle.tsp_rules.specs.Guards.{role_at}
 use Rattle.tsp_rules.proofs.RowsOther.{follows_unless-other}
 use Rattle.tsp_slave.proofs.quit.follow_unless_following.Goals as goal
 

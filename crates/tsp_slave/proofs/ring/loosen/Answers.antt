@@ -5,7 +5,7 @@ use Rattle.tsp_base.specs.declared.act.Act.TheVariants.{Become}
 use Rattle.tsp_base.specs.Rows.{puts, nothing}
 use Rattle.tsp_base.proofs.PerformsLemmas.{Performs_then_part, Performs_else_part, Performs_nothing}
 use Rattle.tsp_rules.specs.SlaveRows.{loosens}
-use Rattle.tsp_rules.specs.Tests.{follows_at}
+use Rattle.tsp_rules.specs.Guards.{follows_at}
 use Rattle.tsp_rules.proofs.RowsOther.{is_follow-other}
 use Rattle.tsp_slave.proofs.ring.loosen.Goals as goal
 

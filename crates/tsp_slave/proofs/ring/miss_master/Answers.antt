@@ -6,9 +6,9 @@ use Rattle.tsp_base.specs.declared.alarm.Alarm.TheVariants.{Elect}
 use Rattle.tsp_base.specs.Hold.{may_stand}
 use Rattle.tsp_base.specs.Rows.{puts, either_by, ◌followed_by◌}
 use Rattle.tsp_base.proofs.PerformsLemmas.{Performs_then, Performs_then_part, Performs_else_part}
-use Rattle.tsp_rules.specs.CommonRows.{arms_elect, searches, stand_row}
+use Rattle.tsp_rules.specs.CommonRows.{arms_elect, searches, candidature_row}
 use Rattle.tsp_rules.specs.SlaveRows.{elect_rings, loosens}
-use Rattle.tsp_rules.specs.Tests.{is_in_time, may_stand_at}
+use Rattle.tsp_rules.specs.Guards.{is_in_time, may_stand_at}
 use Rattle.tsp_slave.proofs.RowCases.{may_stand-is, stays_in_time}
 use Rattle.tsp_slave.proofs.ring.miss_master.Goals as goal
 
@@ -18,11 +18,11 @@ returns-then-is_in_time-clause-row g c =
     let st = c.args.station.now in
     let stays : (st.me.may && may_stand st.hold c.args.tick st.me.own) ≡ false = stays_in_time c.args.tick st (sym c.is_in_time.ensures ∙ c.if-is_in_time.true) c.requires.stays in
     Performs_then_part (is_in_time Elect) (puts (Late Elect) followed_by arms_elect) (λ past s. let a = s.alarms in cc)
-    (Performs_then (c.ring.ensures.row c.args.tick) (Performs_else_part may_stand_at stand_row (λ past s. sym (may_stand-is c.args.tick past c.ring.new.self s) ∙ rw c.ring.ensures.station stays)
+    (Performs_then (c.ring.ensures.row c.args.tick) (Performs_else_part may_stand_at candidature_row (λ past s. sym (may_stand-is c.args.tick past c.ring.new.self s) ∙ rw c.ring.ensures.station stays)
     (Performs_then (c.loosen.ensures.row c.args.tick) c.search.ensures.row)))
 
 pub returns-else-is_in_time-clause-row : goal.returns-else-is_in_time-clause-row
 unfolding elect_rings
 returns-else-is_in_time-clause-row g c =
-    Performs_else_part (is_in_time Elect) (puts (Ring Elect) followed_by either_by may_stand_at stand_row (loosens followed_by searches)) (λ past s. let a = s.alarms in cc)
+    Performs_else_part (is_in_time Elect) (puts (Ring Elect) followed_by either_by may_stand_at candidature_row (loosens followed_by searches)) (λ past s. let a = s.alarms in cc)
     (Performs_then (c.late.ensures.row c.args.tick) c.arm_elect.ensures.row)

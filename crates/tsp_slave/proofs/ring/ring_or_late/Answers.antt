@@ -3,7 +3,7 @@ use Rattle.tsp_base.specs.declared.act.Act.TheVariants.{Ring, Late}
 use Rattle.tsp_base.specs.Rows.{puts}
 use Rattle.tsp_base.proofs.PerformsLemmas.{Performs_then_part, Performs_else_part}
 use Rattle.tsp_rules.specs.SlaveRows.{rings_or_late}
-use Rattle.tsp_rules.specs.Tests.{is_in_time}
+use Rattle.tsp_rules.specs.Guards.{is_in_time}
 use Rattle.tsp_slave.proofs.ring.ring_or_late.Goals as goal
 
 pub returns-then-is_in_time-clause-row : goal.returns-then-is_in_time-clause-row

@@ -8,7 +8,7 @@ use Rattle.tsp_base.specs.Rows.{nothing}
 use Rattle.tsp_base.proofs.PerformsLemmas.{Performs_reading, Performs_then_part, Performs_else_part, Performs_nothing}
 use Rattle.tsp_rules.specs.CommonRows.{follow_row}
 use Rattle.tsp_rules.specs.SlaveRows.{masterack_in}
-use Rattle.tsp_rules.specs.Tests.{role_at, is_armed}
+use Rattle.tsp_rules.specs.Guards.{role_at, is_armed}
 use Rattle.tsp_acks.proofs.FollowLemmas.{followed-Contains}
 use Rattle.tsp_rules.proofs.RowsOther.{masterack_in-other}
 use Rattle.tsp_slave.proofs.SlaveLemmas.{AlsoStands_reports_conflict, Performs_since_taken}

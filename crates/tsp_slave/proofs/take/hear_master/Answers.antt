@@ -5,7 +5,7 @@ use Rattle.tsp_base.specs.declared.role.Role.TheVariants.{Loose, Follow}
 use Rattle.tsp_base.specs.PortFacts.{name_in}
 use Rattle.tsp_base.proofs.PerformsLemmas.{Performs_then, Performs_reading, Performs_beside, Performs_nothing}
 use Rattle.tsp_rules.specs.SlaveRows.{masterup_in}
-use Rattle.tsp_rules.specs.Tests.{role_at}
+use Rattle.tsp_rules.specs.Guards.{role_at}
 use Rattle.tsp_acks.proofs.FollowLemmas.{followed-Contains}
 use Rattle.tsp_rules.proofs.RowsOther.{masterup_in-other}
 use Rattle.tsp_slave.proofs.SlaveLemmas.{AlsoStands_arms_elect, AlsoStands_reports_conflict, Performs_since_taken}

@@ -4,7 +4,7 @@ use Rattle.std.proofs.lemmas.Bool.{ne_eqb}
 use Rattle.tsp_base.specs.declared.role.Role.TheVariants.{Follow}
 use Rattle.tsp_base.proofs.PerformsLemmas.{Performs_reading, Performs_nothing}
 use Rattle.tsp_rules.specs.SlaveRows.{from_master}
-use Rattle.tsp_rules.specs.Tests.{role_at}
+use Rattle.tsp_rules.specs.Guards.{role_at}
 use Rattle.tsp_rules.proofs.RowsOther.{from_master-other}
 use Rattle.tsp_slave.specs.ClockChanges.{change_in, correction_of}
 use Rattle.tsp_slave.proofs.take.take_correction.Goals as goal

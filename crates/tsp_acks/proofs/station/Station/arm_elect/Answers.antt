@@ -3,7 +3,7 @@ use Rattle.tsp_base.specs.declared.alarm.Alarm.TheVariants.{Elect}
 use Rattle.tsp_base.specs.Rows.{arms}
 use Rattle.tsp_base.proofs.PerformsLemmas.{Performs_reading}
 use Rattle.tsp_rules.specs.CommonRows.{arms_elect}
-use Rattle.tsp_rules.specs.Tests.{delay_at}
+use Rattle.tsp_rules.specs.Guards.{delay_at}
 use Rattle.tsp_acks.proofs.station.Station.arm_elect.Goals as goal
 
 pub returns-clause-row : goal.returns-clause-row

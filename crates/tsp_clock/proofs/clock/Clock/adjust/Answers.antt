@@ -3,7 +3,7 @@ use Rattle.std.proofs.Common.{rules, ◌≡◌, ◌∙◌, ap, arith, ℕ, ◌+�
 use Rattle.std.proofs.lemmas.Int.{ints}
 use Rattle.std.specs.Prelude.{if◌then◌else◌}
 use Rattle.tsp_rules.specs.ClockRows.{is_step}
-use Rattle.tsp_rules.specs.Tests.{is_clock_value}
+use Rattle.tsp_rules.specs.Guards.{is_clock_value}
 use Rattle.tsp_clock.specs.Clocks.{target_of, rest_of}
 use Rattle.tsp_clock.proofs.clock.Clock.adjust.Goals as goal
 

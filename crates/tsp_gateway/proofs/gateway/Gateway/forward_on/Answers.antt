@@ -3,7 +3,7 @@ use Rattle.std.proofs.Common.{◌≡◌, ◌∙◌, ap, false, refl, sym, true}
 use Rattle.std.specs.Prelude.{not}
 use Rattle.tsp_base.specs.declared.role.Role.{Role}
 use Rattle.tsp_rules.specs.GateRows.{is_awake_on, reposts, reposts_on}
-use Rattle.tsp_rules.specs.Tests.{is_starting_role}
+use Rattle.tsp_rules.specs.Guards.{is_starting_role}
 use Rattle.tsp_gateway.specs.GatewayStands.{port_at}
 use Rattle.tsp_gateway.proofs.AnyLemmas.{station_there}
 use Rattle.tsp_gateway.proofs.LiftLemmas.{All_nothing, All_same, part_there}

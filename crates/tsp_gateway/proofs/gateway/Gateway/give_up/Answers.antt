@@ -7,7 +7,7 @@ use Rattle.tsp_base.specs.Rows.{arms, nothing, puts}
 use Rattle.tsp_rules.specs.CandidateRows.{yields}
 use Rattle.tsp_rules.specs.CommonRows.{arms_elect}
 use Rattle.tsp_rules.specs.GateRows.{loosens_master}
-use Rattle.tsp_rules.specs.Tests.{delay_at, is_master_at}
+use Rattle.tsp_rules.specs.Guards.{delay_at, is_master_at}
 use Rattle.tsp_rules.proofs.Emits.{Emits, Emits_arms, Emits_either, Emits_nothing, Emits_puts, Emits_reading, Emits_then}
 use Rattle.tsp_gateway.proofs.LiftLemmas.{All_here, part_there, still_sorts}
 use Rattle.tsp_gateway.proofs.gateway.Gateway.give_up.Goals as goal

@@ -3,7 +3,7 @@ use Rattle.std.proofs.Common.{◌≡◌, ◌∙◌, ap, false, sym, true}
 use Rattle.tsp_base.specs.declared.alarm.Alarm.TheVariants.{Probe}
 use Rattle.tsp_base.specs.Alarms.{Deadlines}
 use Rattle.tsp_rules.specs.NodeRows.{on_port}
-use Rattle.tsp_rules.specs.Tests.{is_due, is_met, is_over}
+use Rattle.tsp_rules.specs.Guards.{is_due, is_met, is_over}
 use Rattle.tsp_gateway.specs.GatewayStands.{port_at}
 use Rattle.tsp_gateway.proofs.AnyLemmas.{station_there}
 use Rattle.tsp_gateway.proofs.gateway.Gateway.probe_rings.Goals as goal

@@ -2,7 +2,7 @@
 use Rattle.std.proofs.Common.{◌≡◌, true, false, refl, subst}
 use Rattle.tsp_base.specs.declared.alarm.Alarm.TheVariants.{Probe}
 use Rattle.tsp_rules.specs.Answers.{rings}
-use Rattle.tsp_rules.specs.Tests.{is_over}
+use Rattle.tsp_rules.specs.Guards.{is_over}
 use Rattle.tsp_node.specs.declared.part.Part.{Part}
 use Rattle.tsp_node.proofs.TakeEmits.{emits_rings}
 use Rattle.tsp_gateway.proofs.LiftLemmas.{part_there, set_there}

@@ -6,7 +6,7 @@ use Rattle.tsp_base.specs.declared.place.PeerId.{PeerId}
 use Rattle.tsp_base.specs.Rows.{for_each}
 use Rattle.tsp_base.proofs.PerformsLemmas.{Performs_each_more, Performs_nothing, Performs_reading}
 use Rattle.tsp_rules.specs.RoundRows.{asks, asks_slaves}
-use Rattle.tsp_rules.specs.Tests.{table_at}
+use Rattle.tsp_rules.specs.Guards.{table_at}
 use Rattle.tsp_acks.specs.Peers.{IsPeers}
 use Rattle.tsp_master.specs.declared.entry.Entry.{Entry}
 use Rattle.tsp_master.specs.Slaves.{entry_of, peers_of}

@@ -4,7 +4,7 @@ use Rattle.tsp_base.specs.declared.kind.Kind.TheVariants.{SetTime}
 use Rattle.tsp_base.specs.Rows.{nothing, posts_time, reading, timed}
 use Rattle.tsp_base.proofs.PerformsLemmas.{Performs_then_part, Performs_else_part, Performs_nothing, Performs_reading}
 use Rattle.tsp_rules.specs.SendRows.{begins_settime, may_set}
-use Rattle.tsp_rules.specs.Tests.{target_at}
+use Rattle.tsp_rules.specs.Guards.{target_at}
 use Rattle.tsp_rules.proofs.Emits.{Emits_posts_time}
 use Rattle.tsp_master.proofs.LeadLemmas.{Performs_lead}
 use Rattle.tsp_master.proofs.TableLemmas.{MasterStands_begins, may_set-is, may_set-none, target-is}

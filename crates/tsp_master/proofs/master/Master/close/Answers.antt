@@ -5,7 +5,7 @@ use Rattle.tsp_base.specs.Rows.{for_each, puts, ◌followed_by◌}
 use Rattle.tsp_base.proofs.PerformsLemmas.{Performs_else_part, Performs_from, Performs_then, Performs_then_part}
 use Rattle.tsp_rules.specs.ClockRows.{can_adjust}
 use Rattle.tsp_rules.specs.RoundRows.{abandons, close_act, closes_with, corrects, corrects_peer, mean_by, moves}
-use Rattle.tsp_rules.specs.Tests.{is_clock_value}
+use Rattle.tsp_rules.specs.Guards.{is_clock_value}
 use Rattle.tsp_rules.proofs.Emits.{Emits_puts}
 use Rattle.tsp_acks.proofs.ActingLemmas.{Performs_acting}
 use Rattle.tsp_master.specs.Closing.{round_of}

@@ -2,7 +2,7 @@
 use Rattle.std.proofs.Common.{sym, ◌∙◌, ap}
 use Rattle.tsp_base.specs.Alarms.{Deadlines}
 use Rattle.tsp_base.proofs.PerformsLemmas.{Performs_nothing, Performs_to}
-use Rattle.tsp_rules.specs.Tests.{is_over}
+use Rattle.tsp_rules.specs.Guards.{is_over}
 use Rattle.tsp_master.specs.MasterAlarms.{master_rings}
 use Rattle.tsp_master.proofs.CloseLemmas.{goes_where}
 use Rattle.tsp_master.proofs.LeadLemmas.{rings_stand}

@@ -6,7 +6,7 @@ use Rattle.tsp_base.specs.Alarms.{Deadlines}
 use Rattle.tsp_base.specs.Rows.{either_by, puts, reading, ◌followed_by◌}
 use Rattle.tsp_base.proofs.PerformsLemmas.{Performs_else_part, Performs_reading, Performs_then, Performs_then_part}
 use Rattle.tsp_rules.specs.RoundRows.{abandons, close_rings, closes, round_at}
-use Rattle.tsp_rules.specs.Tests.{is_in_time, is_over}
+use Rattle.tsp_rules.specs.Guards.{is_in_time, is_over}
 use Rattle.tsp_rules.proofs.Emits.{Emits_puts}
 use Rattle.tsp_acks.proofs.ActingLemmas.{Performs_acting}
 use Rattle.tsp_master.specs.Closing.{round_of}

@@ -6,7 +6,7 @@ use Rattle.tsp_base.specs.Alarms.{Deadlines}
 use Rattle.tsp_base.specs.Rows.{puts, ◌followed_by◌}
 use Rattle.tsp_base.proofs.PerformsLemmas.{Performs_else_part, Performs_then, Performs_then_part}
 use Rattle.tsp_rules.specs.RoundRows.{abandons, arms_next, asks_measured, probe_rings}
-use Rattle.tsp_rules.specs.Tests.{is_in_time}
+use Rattle.tsp_rules.specs.Guards.{is_in_time}
 use Rattle.tsp_rules.proofs.Emits.{Emits_puts}
 use Rattle.tsp_acks.proofs.ActingLemmas.{Performs_acting}
 use Rattle.tsp_master.specs.MasterStands.{ProbesStands}

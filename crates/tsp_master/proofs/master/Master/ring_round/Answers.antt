@@ -6,7 +6,7 @@ use Rattle.tsp_base.specs.declared.constants.TheConstants.{ROUND}
 use Rattle.tsp_base.specs.Rows.{arms, puts, ◌followed_by◌}
 use Rattle.tsp_base.proofs.PerformsLemmas.{Performs_else_part, Performs_then, Performs_then_part}
 use Rattle.tsp_rules.specs.RoundRows.{begins_or_waits, round_rings}
-use Rattle.tsp_rules.specs.Tests.{is_in_time}
+use Rattle.tsp_rules.specs.Guards.{is_in_time}
 use Rattle.tsp_rules.proofs.Emits.{Emits_arms}
 use Rattle.tsp_acks.proofs.ActingLemmas.{Performs_acting}
 use Rattle.tsp_master.proofs.LeadLemmas.{Performs_quiet, Performs_rung}

@@ -3,7 +3,7 @@ use Rattle.std.proofs.Common.{◌≡◌, ◌∙◌, ap, sym, subst}
 use Rattle.tsp_base.specs.Alarms.{earlier, least_deadline}
 use Rattle.tsp_base.specs.PortFacts.{armed}
 use Rattle.tsp_sends.specs.Slots.{sending_to}
-use Rattle.tsp_sends.specs.Treating.{IsEarliest}
+use Rattle.tsp_sends.specs.Repeating.{IsEarliest}
 use Rattle.tsp_acks.specs.declared.station.Station.{Station}
 use Rattle.tsp_node.specs.NodeStands.{due_of}
 use Rattle.tsp_node.proofs.DueLemmas.{IsEarliest-open}

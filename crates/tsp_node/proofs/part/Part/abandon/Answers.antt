@@ -3,7 +3,7 @@ use Rattle.std.proofs.Common.{refl, ◌∙◌}
 use Rattle.tsp_base.specs.Rows.{nothing, puts}
 use Rattle.tsp_base.proofs.PerformsLemmas.{Performs_else_part, Performs_then_part}
 use Rattle.tsp_rules.specs.RoundRows.{abandons, abandons_going}
-use Rattle.tsp_rules.specs.Tests.{is_going_at}
+use Rattle.tsp_rules.specs.Guards.{is_going_at}
 use Rattle.tsp_node.proofs.NodeLemmas.{abandoned, same_part}
 use Rattle.tsp_node.proofs.part.Part.abandon.Goals as goal
 

@@ -1,6 +1,6 @@
 -- Whose matter it is.
 use Rattle.std.proofs.Common.{◌≡◌, true, false, refl}
-use Rattle.tsp_rules.specs.Answers.{treats_kind}
+use Rattle.tsp_rules.specs.Answers.{handles_kind}
 use Rattle.tsp_rules.proofs.Emits.{Emits_more}
 use Rattle.tsp_rules.proofs.EmitsClients.{date_sorts}
 use Rattle.tsp_node.specs.declared.matter.Matter.TheVariants.{OfDates, OfNode, OfRoles}
@@ -14,7 +14,7 @@ pub returns-then-leaves-clause-row : goal.returns-then-leaves-clause-row
 returns-then-leaves-clause-row g c =
     let m = c.args.m.now in
     let left : leaves_by c.args.steer m.kind c.args.self.now.station.role ≡ true = let k = c.kind.ensures in cc in
-    Performs_left c.args.steer m.kind (treats_kind c.args.charge c.args.from m m.kind) left
+    Performs_left c.args.steer m.kind (handles_kind c.args.charge c.args.from m m.kind) left
 
 pub returns-in-OfClients-clause-row : goal.returns-in-OfClients-clause-row
 returns-in-OfClients-clause-row g c =

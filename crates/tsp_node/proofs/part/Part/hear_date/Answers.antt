@@ -1,4 +1,4 @@
--- A date is treated, and a correction noted.
+-- A date is handled, and a correction noted.
 use Rattle.std.proofs.Common.{true, false, refl, sym}
 use Rattle.tsp_acks.proofs.FollowLemmas.{followed-Contains}
 use Rattle.tsp_node.proofs.NodeLemmas.{Performs_dated}

@@ -1,4 +1,4 @@
--- Who is heard is treated by the role, an ACK by every role alike.
+-- Who is heard is handled by the role, an ACK by every role alike.
 use Rattle.std.proofs.Common.{◌≡◌, true, false, refl, sym, ◌∙◌}
 use Rattle.tsp_base.specs.declared.kind.Kind.TheVariants.{Ack}
 use Rattle.tsp_rules.specs.Answers.{peer_says, says_in}

@@ -8,7 +8,7 @@ use Rattle.tsp_base.specs.Rows.{arms, nothing, puts}
 use Rattle.tsp_rules.specs.CandidateRows.{yields}
 use Rattle.tsp_rules.specs.CommonRows.{arms_elect}
 use Rattle.tsp_rules.specs.GateRows.{loosens_master}
-use Rattle.tsp_rules.specs.Tests.{delay_at, is_master, is_master_at}
+use Rattle.tsp_rules.specs.Guards.{delay_at, is_master, is_master_at}
 use Rattle.tsp_rules.proofs.Emits.{Alarming, Changing, Emits, Emits_arms, Emits_more, Emits_puts, Emits_reading, Emits_then}
 use Rattle.tsp_date.proofs.KeepLemmas.{DatesStand_by}
 use Rattle.tsp_master.specs.Clearing.{Clears}

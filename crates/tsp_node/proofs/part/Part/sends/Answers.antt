@@ -5,7 +5,7 @@ use Rattle.tsp_base.proofs.PerformsLemmas.{Performs_reading}
 use Rattle.tsp_base.specs.Rows.{for_each}
 use Rattle.tsp_rules.specs.SendRows.{due_send, due_sends, peers_at}
 use Rattle.tsp_sends.specs.Slots.{IsAscending}
-use Rattle.tsp_sends.specs.Treating.{peer_of}
+use Rattle.tsp_sends.specs.Repeating.{peer_of}
 use Rattle.tsp_acks.proofs.BeyondLemmas.{Splits, Splits-peer, Splits-fewer, beyond, beyond-none, for_each-beyond, for_each-idle, for_each-none}
 use Rattle.tsp_acks.proofs.DueLemmas.{none_before}
 use Rattle.tsp_node.specs.declared.part.Part.{Part}
@@ -25,17 +25,17 @@ loop-preserved g c =
     let p = peer_of c.in-Some.due in
     let up : IsAscending st.peers = rw c.loop.invariant.peers c.peers-end.ensures.valid.ascending in
     let s : Splits c.loop.after p st.peers = Splits-peer c.loop.after p st.peers up next.1 next.0 in
-    let same = c.treat_next.ensures.peers in
-    let after : Part = c.treat_next.new.self in
+    let same = c.repeat_next.ensures.peers in
+    let after : Part = c.repeat_next.new.self in
     record {
-      row = λ clock last new d. c.loop.invariant.row clock last new (for_each-beyond PartBegun PartBegun PartBegun due_send c.args.tick c.args.port (c.loop.self, clock) (after, clock) (last, clock) (g.D.Desk.acts c.loop.desk) (g.D.Desk.acts c.treat_next.new.desk) new
+      row = λ clock last new d. c.loop.invariant.row clock last new (for_each-beyond PartBegun PartBegun PartBegun due_send c.args.tick c.args.port (c.loop.self, clock) (after, clock) (last, clock) (g.D.Desk.acts c.loop.desk) (g.D.Desk.acts c.repeat_next.new.desk) new
           c.loop.after p st.peers s
           (λ q later below. Performs_waits q (none_before c.loop.after c.args.tick st.sends after.station.sends c.in-Some.due c.in-Some.ensures.sends q later below))
           (c.in-Some.ensures.row clock)
-          (subst (λ qs. Performs PartBegun PartBegun (for_each due_send (beyond (Some p) qs)) c.args.tick c.args.port (after, clock) (last, clock) (g.D.Desk.acts c.treat_next.new.desk) new) same (rw c.peer.ensures at d)));
+          (subst (λ qs. Performs PartBegun PartBegun (for_each due_send (beyond (Some p) qs)) c.args.tick c.args.port (after, clock) (last, clock) (g.D.Desk.acts c.repeat_next.new.desk) new) same (rw c.peer.ensures at d)));
       left = rw (c.peer.ensures, same) (omega (arith, Splits-fewer c.loop.after p st.peers s, c.loop.invariant.left));
       peers = same ∙ c.loop.invariant.peers;
-      room = record { spare = omega (arith, c.loop.invariant.room.spare, c.treat_next.ensures.room.spare); few = omega (arith, c.loop.invariant.room.few, c.treat_next.ensures.room.few) };
+      room = record { spare = omega (arith, c.loop.invariant.room.spare, c.repeat_next.ensures.room.spare); few = omega (arith, c.loop.invariant.room.few, c.repeat_next.ensures.room.few) };
     }
 
 pub returns-in_default-clause-row : goal.returns-in_default-clause-row

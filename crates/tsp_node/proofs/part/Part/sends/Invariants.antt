@@ -1,4 +1,4 @@
--- What is left to perform are the rows of the peers after the last one that was treated; each round leaves one peer less.
+-- What is left to perform are the rows of the peers after the last one whose send was repeated; each round leaves one peer less.
 use Rattle.std.specs.Prelude.{◌≡◌, ◌+◌, ◌*◌, ◌≤◌, length, List}
 use Rattle.tsp_base.specs.declared.act.Placed.{Placed}
 use Rattle.tsp_base.specs.Frames.{PutsAtMost}

@@ -1,7 +1,7 @@
 -- The port follows who quits it, and its slaves and rivals are forgotten.
 use Rattle.std.proofs.Common.{◌≡◌, ◌&&◌, not, true, refl, sym}
 use Rattle.tsp_rules.specs.CommonRows.{quits}
-use Rattle.tsp_rules.specs.Tests.{is_master}
+use Rattle.tsp_rules.specs.Guards.{is_master}
 use Rattle.tsp_rules.proofs.Emits.{Emits_more}
 use Rattle.tsp_date.proofs.KeepLemmas.{DatesAside_by}
 use Rattle.tsp_master.specs.Clearing.{Clears}

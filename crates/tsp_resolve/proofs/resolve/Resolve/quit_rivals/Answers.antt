@@ -8,7 +8,7 @@ use Rattle.tsp_base.specs.Rows.{for_each}
 use Rattle.tsp_base.proofs.PerformsLemmas.{Performs_each_more, Performs_nothing, Performs_reading}
 use Rattle.tsp_rules.specs.ResolveRows.{quits_rivals}
 use Rattle.tsp_rules.specs.SendRows.{begins}
-use Rattle.tsp_rules.specs.Tests.{rivals_at}
+use Rattle.tsp_rules.specs.Guards.{rivals_at}
 use Rattle.tsp_rules.proofs.EmitsSlave.{emits_begins}
 use Rattle.tsp_resolve.specs.Marked.{marked}
 use Rattle.tsp_resolve.proofs.MarkedLemmas.{marked-more}

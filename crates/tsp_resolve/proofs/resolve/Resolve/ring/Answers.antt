@@ -7,7 +7,7 @@ use Rattle.tsp_base.specs.Alarms.{deadline}
 use Rattle.tsp_base.specs.Rows.{puts, ◌followed_by◌}
 use Rattle.tsp_base.proofs.PerformsLemmas.{Performs_then, Performs_then_part, Performs_else_part, Performs_to}
 use Rattle.tsp_rules.specs.ResolveRows.{quits_rivals, resolve_rings}
-use Rattle.tsp_rules.specs.Tests.{is_in_time, is_met}
+use Rattle.tsp_rules.specs.Guards.{is_in_time, is_met}
 use Rattle.tsp_rules.proofs.Emits.{Emits_puts}
 use Rattle.tsp_resolve.specs.ResolveStands.{ResolvingActs}
 use Rattle.tsp_resolve.proofs.ResolveLemmas.{Performs_resolving, Performs_rung}

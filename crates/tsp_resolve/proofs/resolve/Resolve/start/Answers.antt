@@ -8,7 +8,7 @@ use Rattle.tsp_base.specs.Alarms.{deadline}
 use Rattle.tsp_base.specs.Rows.{nothing, ◌followed_by◌, arms, posts_to_others}
 use Rattle.tsp_base.proofs.PerformsLemmas.{Performs_then, Performs_then_part, Performs_else_part, Performs_nothing}
 use Rattle.tsp_rules.specs.ResolveRows.{resolves}
-use Rattle.tsp_rules.specs.Tests.{is_armed}
+use Rattle.tsp_rules.specs.Guards.{is_armed}
 use Rattle.tsp_rules.proofs.Emits.{Emits_arms, Emits_posts_to_others}
 use Rattle.tsp_resolve.proofs.ResolveLemmas.{Performs_resolving}
 use Rattle.tsp_resolve.proofs.resolve.Resolve.start.Goals as goal

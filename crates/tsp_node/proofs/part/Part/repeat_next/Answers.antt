@@ -1,7 +1,7 @@
 -- A due send is posted again or given up, and the master notes it.
 use Rattle.std.proofs.Common.{sym, refl}
 use Rattle.tsp_node.proofs.DueSendLemmas.{Performs_again, Performs_gave}
-use Rattle.tsp_node.proofs.part.Part.treat_next.Goals as goal
+use Rattle.tsp_node.proofs.part.Part.repeat_next.Goals as goal
 
 pub returns-in-Again-clause-row : goal.returns-in-Again-clause-row
 returns-in-Again-clause-row g c clock =

@@ -2,7 +2,7 @@
 ghost use Rattle.std.specs.Prelude.{◌+◌, ◌≤◌, length};
 ghost use Rattle.tsp_base.specs.Frames.{IsTick, PutsAtMost};
 ghost use Rattle.tsp_base.specs.Performs.{Performs};
-ghost use Rattle.tsp_rules.specs.CommonRows.{stand_row};
+ghost use Rattle.tsp_rules.specs.CommonRows.{candidature_row};
 ghost use Rattle.tsp_acks.specs.Changes.{IsSamePort};
 ghost use Rattle.tsp_acks.specs.Stands.{StandsActing};
 
@@ -17,10 +17,10 @@ use tsp_base::role::Role;
 /// Stands for election: the port backs itself, asks each other peer by an ELECTION with a number of its
 /// own, and waits `WINDOW` ticks for refusals. In this step an alarm has rung or come late, or a datagram
 /// was taken. At most three acts, and one more for each peer.
-pub fn stand<D: Desk>(station: &mut Station, tick: u64, port: Port, desk: &mut D)
+pub fn begin_candidature<D: Desk>(station: &mut Station, tick: u64, port: Port, desk: &mut D)
     requires tick { IsTick tick }
     requires room { length station.old.peers + 3 ≤ D.spare desk.old }
-    ensures row { Performs StandsActing StandsActing stand_row tick port (station.old, tt) (station.new, tt) (D.acts desk.old) (D.acts desk.new) }
+    ensures row { Performs StandsActing StandsActing candidature_row tick port (station.old, tt) (station.new, tt) (D.acts desk.old) (D.acts desk.new) }
     ensures room { PutsAtMost (length station.old.peers + 3) (D.spare desk.old) (D.spare desk.new) (D.acts desk.old) (D.acts desk.new) }
     ensures port { IsSamePort station.old station.new }
 {

@@ -2,8 +2,8 @@
 use Rattle.std.proofs.Common.{◌≡◌, ◌∷◌, [], ◌++◌, refl}
 use Rattle.tsp_base.specs.declared.act.Placed.{Placed}
 use Rattle.tsp_acks.proofs.DueLemmas.{act_of, next_peer, Performs_due}
-use Rattle.tsp_acks.proofs.station.Station.treat_next.Goals.{in-Again, in-Gave}
-use Rattle.tsp_acks.proofs.station.Station.treat_next.Goals as goal
+use Rattle.tsp_acks.proofs.station.Station.repeat_next.Goals.{in-Again, in-Gave}
+use Rattle.tsp_acks.proofs.station.Station.repeat_next.Goals as goal
 
 pub returns-clause-next : goal.returns-clause-next
 returns-clause-next g c =

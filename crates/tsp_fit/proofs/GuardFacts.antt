@@ -1,4 +1,4 @@
--- What the tests that rows make tell.
+-- What the guards of rows tell.
 use Rattle.std.specs.Prelude.{◌≡◌, ◌≢◌, ◌⊎◌, ◌≤◌, ℕ, ◌+◌, ℤ, neg_ℤ, ◌<ℤ◌, ◌==◌, ◌&&◌, ◌||◌, not, nat_le, Bool, true, false, Option, None, Some, refl}
 use Rattle.std.proofs.Common.{sym, subst, inl, inr, arith, true≢false, eqb-true, ap, ◌∙◌}
 use Rattle.std.proofs.lemmas.Bool.{leb-true}
@@ -13,7 +13,7 @@ use Rattle.tsp_base.specs.Hold.{Held, is_past, may_back, may_back_after, may_sta
 use Rattle.tsp_base.specs.Messages.{MessageValue}
 use Rattle.tsp_base.specs.NodeFacts.{target}
 use Rattle.tsp_base.specs.Takings.{peer_of, time_in}
-use Rattle.tsp_rules.specs.Tests.{is_clock_value, is_in_range, target_at, is_over, is_met, is_starting_role, is_master}
+use Rattle.tsp_rules.specs.Guards.{is_clock_value, is_in_range, target_at, is_over, is_met, is_starting_role, is_master}
 
 pub and-cases : (a b : Bool) → (a && b) ≡ true → (a ≡ true) × (b ≡ true)
 and-cases true b e = (refl, e)

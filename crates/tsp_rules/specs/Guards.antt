@@ -35,7 +35,7 @@ is_clock_value z = int_lt (neg_ℤ LIMIT) z && int_lt z LIMIT
 abbrev pub is_in_range : ℕ → Past → Bool
 is_in_range x past = is_clock_value (target_at x past)
 
--- how long a node with this word waits until it stands
+-- how long a node with this word waits until it stands for election
 abbrev pub delay : ℕ → ℕ
 delay w = ELECT_MIN + w % ELECT_SPREAD
 
@@ -66,7 +66,7 @@ is_armed alarm x past = is_some (deadline (armed past.seen) alarm)
 abbrev pub may_back_at : PeerId → ℕ → Past → Bool
 may_back_at p x past = may_back (held past.seen) x p
 
--- whether the node may be master and the hold lets it stand
+-- whether the node may be master and the hold lets it stand for election
 abbrev pub may_stand_at : ℕ → Past → Bool
 may_stand_at x past = past.may && may_stand (held past.seen) x past.own
 

@@ -1,4 +1,4 @@
--- How the next due send is found and treated.
+-- How the next due send is found and repeated.
 use Rattle.std.specs.Prelude.{◌≡◌, ℕ, ◌+◌, ◌<◌, ◌≤◌, Bool, true, false, if◌then◌else◌, List, length, Option, None, Some, Result, Ok, Err, slice_index_or}
 use Rattle.std.specs.Option.{option_map}
 use Rattle.tsp_base.specs.declared.place.PeerId.{PeerId}
@@ -19,8 +19,8 @@ abbrev pub is_due_send : ℕ → Option Sending → Bool
 is_due_send tick s = is_due tick (option_map deadline_of s)
 
 -- what becomes of a due send: its message is posted again, or it is given up
-abbrev pub treated : PeerId → ℕ → Sending → Due
-treated p tick s = if is_given_up s tick then Gave p s.message.kind else Again p s.message
+abbrev pub repeated : PeerId → ℕ → Sending → Due
+repeated p tick s = if is_given_up s tick then Gave p s.message.kind else Again p s.message
 
 -- whom a due send is to
 abbrev pub peer_of : Due → PeerId
@@ -38,10 +38,10 @@ pub record IsNextDue (after : Option PeerId) (tick : ℕ) (slots : List Slot) (p
   pub due : is_due_send tick (Some s) ≡ true
   pub first : (q : PeerId) → IsAfter after q → q.0 < p.0 → is_due_send tick (sending_to slots q) ≡ false
 
--- the next due send is treated; where none is due nothing changes
-abbrev pub TreatsNext : Option PeerId → ℕ → List Slot → List Slot → Option Due → Type 0
-TreatsNext after tick old new None = ((q : PeerId) → IsAfter after q → is_due_send tick (sending_to old q) ≡ false) × (new ≡ old)
-TreatsNext after tick old new (Some due) = (p : PeerId) × (s : Sending) × IsNextDue after tick old p s × (due ≡ treated p tick s) × SetsOnly p (kept tick s) old new
+-- the next due send is repeated or given up; where none is due nothing changes
+abbrev pub RepeatsNext : Option PeerId → ℕ → List Slot → List Slot → Option Due → Type 0
+RepeatsNext after tick old new None = ((q : PeerId) → IsAfter after q → is_due_send tick (sending_to old q) ≡ false) × (new ≡ old)
+RepeatsNext after tick old new (Some due) = (p : PeerId) × (s : Sending) × IsNextDue after tick old p s × (due ≡ repeated p tick s) × SetsOnly p (kept tick s) old new
 
 -- t is the deadline of one of these open sends, and none has an earlier one
 pub record IsLeastSend (sending : PeerId → Option Sending) (t : ℕ) : Type 0 where

@@ -4,7 +4,7 @@ ghost use Rattle.tsp_base.specs.Frames.{IsTick, PutsAtMost};
 ghost use Rattle.tsp_base.specs.Hold.{may_stand};
 ghost use Rattle.tsp_base.specs.Performs.{Performs};
 ghost use Rattle.tsp_base.specs.Rows.{either_by, nothing};
-ghost use Rattle.tsp_rules.specs.CommonRows.{is_idle, may_be_asked, stand_row, tests};
+ghost use Rattle.tsp_rules.specs.CommonRows.{is_idle, may_be_asked, candidature_row, tests};
 ghost use Rattle.tsp_acks.specs.Changes.{IsSamePort};
 ghost use Rattle.tsp_acks.specs.Stands.{StandsActing};
 
@@ -13,7 +13,7 @@ use tsp_base::desk::Desk;
 use tsp_base::kind::Kind;
 use tsp_base::place::{Place, Port};
 use tsp_base::role::Role;
-use tsp_candidate::stand::stand;
+use tsp_candidate::candidature::begin_candidature;
 
 /// Answers a TEST by an ACK once the quiet time is over, and then stands for election where it may. In this
 /// step a datagram was taken. At most four acts, and one more for each peer.
@@ -35,21 +35,21 @@ pub fn take_test<D: Desk>(
         Role::Starting => {}
         _ => {
             station.post_back(from, Kind::Ack, number, port, desk);
-            stand_if_asked(station, tick, port, desk);
+            begin_if_asked(station, tick, port, desk);
         }
     }
 }
 
 /// Stands for election, where the port is Loose or follows, may be master, and the hold lets it.
-fn stand_if_asked<D: Desk>(station: &mut Station, tick: u64, port: Port, desk: &mut D)
+fn begin_if_asked<D: Desk>(station: &mut Station, tick: u64, port: Port, desk: &mut D)
     requires tick { IsTick tick }
     requires room { length station.old.peers + 3 ≤ D.spare desk.old }
-    ensures row { Performs StandsActing StandsActing (either_by may_be_asked stand_row nothing) tick port (station.old, tt) (station.new, tt) (D.acts desk.old) (D.acts desk.new) }
+    ensures row { Performs StandsActing StandsActing (either_by may_be_asked candidature_row nothing) tick port (station.old, tt) (station.new, tt) (D.acts desk.old) (D.acts desk.new) }
     ensures room { PutsAtMost (length station.old.peers + 3) (D.spare desk.old) (D.spare desk.new) (D.acts desk.old) (D.acts desk.new) }
     ensures port { IsSamePort station.old station.new }
 {
     if may_be_asked(station, tick) {
-        stand(station, tick, port, desk);
+        begin_candidature(station, tick, port, desk);
     }
 }
 

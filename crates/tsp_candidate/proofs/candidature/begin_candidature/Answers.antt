@@ -3,12 +3,12 @@ use Rattle.std.proofs.Common.{sym}
 use Rattle.tsp_base.specs.declared.act.Act.TheVariants.{Back}
 use Rattle.tsp_base.specs.Rows.{puts}
 use Rattle.tsp_base.proofs.PerformsLemmas.{Performs_then, Performs_reading}
-use Rattle.tsp_rules.specs.CommonRows.{stand_row, backs_own, own_at}
+use Rattle.tsp_rules.specs.CommonRows.{candidature_row, backs_own, own_at}
 use Rattle.tsp_acks.proofs.ActingLemmas.{Performs_acting}
-use Rattle.tsp_candidate.proofs.stand.stand.Goals as goal
+use Rattle.tsp_candidate.proofs.candidature.begin_candidature.Goals as goal
 
 pub returns-clause-row : goal.returns-clause-row
-unfolding stand_row backs_own
+unfolding candidature_row backs_own
 returns-clause-row g c =
     Performs_then (Performs_acting (c.become_role.ensures.row c.args.tick))
     (Performs_then (Performs_acting (Performs_reading own_at (λ own. puts (Back own)) _ (λ past s. sym s.own) c.back.ensures.row))
