@@ -11,9 +11,10 @@ use Rattle.tsp_rules.specs.NodeRows.{NodePast, PortSetup, no_port, on_port, spre
 use Rattle.tsp_acks.specs.Stands.{IsPortOf}
 use Rattle.tsp_clock.specs.ClockStands.{ClockStands}
 use Rattle.tsp_node.specs.declared.part.Part.{Part}
+use Rattle.tsp_node.specs.Configs.{IsPortSetup}
 use Rattle.tsp_node.specs.NodeStands.{PartStands}
 use Rattle.tsp_gateway.specs.declared.gateway.Gateway.{Gateway}
-use Rattle.tsp_gateway.specs.GateConfigs.{ArePorts, GateConfigValue, IsPortSetup, UnbootedNode, peers_of_ports}
+use Rattle.tsp_gateway.specs.GateConfigs.{ArePorts, GateConfigValue, UnbootedNode, peers_of_ports}
 use Rattle.tsp_gateway.specs.GatewayStands.{GatewayStands, port_at}
 use Rattle.tsp_gateway.specs.PartsFresh.{AreFresh, me_on}
 

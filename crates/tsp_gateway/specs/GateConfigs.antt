@@ -2,12 +2,11 @@
 use Rattle.std.specs.Prelude.{◌≡◌, ℕ, ℤ, Bool, true, false, List, [], ◌∷◌, map}
 use Rattle.tsp_base.specs.declared.place.PeerId.{PeerId}
 use Rattle.tsp_base.specs.History.{Booted}
-use Rattle.tsp_base.specs.Peers.{is_among}
 use Rattle.tsp_rules.specs.NodeRows.{NodePast, PortSetup}
 use Rattle.tsp_rules.specs.Guards.{is_clock_value}
-use Rattle.tsp_acks.specs.Peers.{IsPeers}
 use Rattle.tsp_node.specs.declared.fault.BootFault.{BootFault}
 use Rattle.tsp_node.specs.declared.fault.BootFault.TheVariants.{Peers, Range, OutOfMemory}
+use Rattle.tsp_node.specs.Configs.{IsPortSetup}
 
 -- a node's host name, whether it may be master, whether a candidate needs a majority, and its ports in their order
 pub record GateConfigValue : Type 0 where
@@ -15,11 +14,6 @@ pub record GateConfigValue : Type 0 where
   pub may : Bool
   pub strict : Bool
   pub ports : List PortSetup
-
--- a node can have such a port: at most 1,000 peers, strictly ascending, its own number among them
-pub record IsPortSetup (s : PortSetup) : Type 0 where
-  pub peers : IsPeers s.peers
-  pub own : is_among s.own s.peers ≡ true
 
 -- a node can have each of these ports
 abbrev pub ArePorts : List PortSetup → Type 0

@@ -1,8 +1,8 @@
 //! How a node of several ports is set up.
 ghost use Rattle.std.specs.Prelude.{◌≡◌, ◌<◌, ◌≤◌, ◌↔◌, true, length, [], ◌∷◌, ◌++◌, slice_index_or, IfOk, OnOk, OnErr, IfErr};
 ghost use Rattle.tsp_rules.specs.NodeRows.{PortSetup};
-ghost use Rattle.tsp_sends.specs.Slots.{IsAscending};
-ghost use Rattle.tsp_gateway.specs.GateConfigs.{ArePorts, IsPortSetup};
+ghost use Rattle.tsp_node.specs.Configs.{IsPortSetup};
+ghost use Rattle.tsp_gateway.specs.GateConfigs.{ArePorts};
 ghost use Rattle.tsp_gateway.specs.declared.fault.PortFault.TheVariants.{Full};
 
 use crate::fault::PortFault;
@@ -11,6 +11,7 @@ use std::marker::Model;
 use tsp_acks::me::Me;
 use tsp_base::name::Name;
 use tsp_base::place::PeerId;
+use tsp_node::is_port;
 
 /// How a port is set up: the node's own number on its network, and all peers there.
 #[derive(Drop)]
@@ -134,17 +135,6 @@ impl PortConfig {
     fn is_port(&self) -> bool
         ensures { (result ≡ true) ↔ IsPortSetup self.now }
     {
-        let peers = self.peers.as_slice();
-        if peers.len() > 1000 || !is_ascending(peers) {
-            return false;
-        }
-        peers.contains(&self.own)
+        is_port(self.own, self.peers.as_slice())
     }
-}
-
-/// Whether peers are strictly ascending.
-fn is_ascending(peers: &[PeerId]) -> bool
-    ensures { (result ≡ true) ↔ IsAscending peers.now }
-{
-    peers.is_sorted_by(|p, q| p.0 < q.0)
 }

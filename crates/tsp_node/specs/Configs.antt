@@ -3,6 +3,7 @@ use Rattle.std.specs.Prelude.{◌≡◌, ℕ, ℤ, Bool, true, false, List}
 use Rattle.tsp_base.specs.declared.place.PeerId.{PeerId}
 use Rattle.tsp_base.specs.History.{Past}
 use Rattle.tsp_base.specs.Peers.{is_among}
+use Rattle.tsp_rules.specs.NodeRows.{PortSetup}
 use Rattle.tsp_rules.specs.Guards.{is_clock_value}
 use Rattle.tsp_acks.specs.Peers.{IsPeers}
 use Rattle.tsp_node.specs.declared.fault.BootFault.{BootFault}
@@ -16,10 +17,14 @@ pub record ConfigValue : Type 0 where
   pub may : Bool
   pub strict : Bool
 
--- a node can have these peers: at most 1,000, strictly ascending, its own number among them
-pub record IsPort (c : ConfigValue) : Type 0 where
-  pub peers : IsPeers c.peers
-  pub own : is_among c.own c.peers ≡ true
+-- a node can have such a port: at most 1,000 peers, strictly ascending, its own number among them
+pub record IsPortSetup (s : PortSetup) : Type 0 where
+  pub peers : IsPeers s.peers
+  pub own : is_among s.own s.peers ≡ true
+
+-- a node that is set up so can have its port
+abbrev pub IsPort : ConfigValue → Type 0
+IsPort c = IsPortSetup (record { own = c.own; peers = c.peers })
 
 -- a past of a node that is set up so
 pub record IsOf (c : ConfigValue) (past : Past) : Type 0 where

@@ -1,7 +1,7 @@
 //! How a node is set up.
 ghost use Rattle.std.specs.Prelude.{◌≡◌, ◌↔◌, true, IfOk};
 ghost use Rattle.tsp_sends.specs.Slots.{IsAscending};
-ghost use Rattle.tsp_node.specs.Configs.{IsPort};
+ghost use Rattle.tsp_node.specs.Configs.{IsPort, IsPortSetup};
 
 use std::alloc::{AllocError, Global};
 use std::marker::Model;
@@ -62,11 +62,7 @@ impl Config {
     pub(crate) fn is_port(&self) -> bool
         ensures { (result ≡ true) ↔ IsPort self.now }
     {
-        let peers = self.peers.as_slice();
-        if peers.len() > 1000 || !is_ascending(peers) {
-            return false;
-        }
-        peers.contains(&self.own)
+        is_port(self.own, self.peers.as_slice())
     }
 
     /// Who the node is in a life that begins with a word.
@@ -81,6 +77,17 @@ impl Config {
             strict: self.strict,
         }
     }
+}
+
+/// Whether a node can have a port with this number of its own and these peers: at most 1,000 peers, strictly
+/// ascending, its own number among them.
+pub fn is_port(own: PeerId, peers: &[PeerId]) -> bool
+    ensures { (result ≡ true) ↔ IsPortSetup (record { own = own; peers = peers.now }) }
+{
+    if peers.len() > 1000 || !is_ascending(peers) {
+        return false;
+    }
+    peers.contains(&own)
 }
 
 /// Whether peers are strictly ascending.

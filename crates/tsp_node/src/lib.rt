@@ -19,7 +19,7 @@ mod sends;
 mod stepping;
 mod taking;
 
-pub use config::Config;
+pub use config::{Config, is_port};
 pub use fault::BootFault;
 pub use node::Node;
 pub use part::Part;

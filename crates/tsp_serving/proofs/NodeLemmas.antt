@@ -6,7 +6,8 @@ use Rattle.std.proofs.lemmas.Option.{get_or_from_slice_get, slice_get_within}
 use Rattle.std.proofs.lemmas.List.FromFn.{length-map-range_with_len, get_or-map-range_with_len}
 use Rattle.std.specs.List.{range_with_len}
 use Rattle.tsp_base.specs.declared.place.PeerId.{PeerId}
-use Rattle.tsp_gateway.specs.GateConfigs.{ArePorts, IsPortSetup, UnbootedNode, peers_of_ports}
+use Rattle.tsp_node.specs.Configs.{IsPortSetup}
+use Rattle.tsp_gateway.specs.GateConfigs.{ArePorts, UnbootedNode, peers_of_ports}
 use Rattle.tsp_gateway.specs.Rooms.{room_of_ports}
 use Rattle.tsp_io.specs.declared.addr.Addr.{Addr}
 use Rattle.tsp_rules.specs.NodeRows.{PortSetup}

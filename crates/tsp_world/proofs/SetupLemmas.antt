@@ -15,7 +15,8 @@ use Rattle.tsp_base.specs.Takings.{peer_of}
 use Rattle.tsp_base.proofs.HeaderLemmas.{length-net}
 use Rattle.tsp_acks.specs.Peers.{IsPeers}
 use Rattle.tsp_gateway.specs.declared.gateway.Gateway.{Gateway}
-use Rattle.tsp_gateway.specs.GateConfigs.{ArePorts, GateConfigValue, IsPortSetup, peers_of_ports}
+use Rattle.tsp_node.specs.Configs.{IsPortSetup}
+use Rattle.tsp_gateway.specs.GateConfigs.{ArePorts, GateConfigValue, peers_of_ports}
 use Rattle.tsp_gateway.specs.Rooms.{ports_in, room_of_ports}
 use Rattle.tsp_rules.specs.NodeRows.{PortSetup}
 use Rattle.tsp_run.specs.Networks.{networks, networks_among, numbers_below, peers_on, port_on, ports_on, room}

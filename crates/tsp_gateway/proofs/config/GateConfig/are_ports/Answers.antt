@@ -3,7 +3,8 @@ use Rattle.std.proofs.Common.{◌≡◌, ◌<◌, ◌∙◌, ℕ, List, ap, arit
 use Rattle.std.proofs.lemmas.Bool.{false≢true}
 use Rattle.std.proofs.lemmas.Option.{slice_get-get_or}
 use Rattle.tsp_rules.specs.NodeRows.{PortSetup, no_port}
-use Rattle.tsp_gateway.specs.GateConfigs.{GateConfigValue, IsPortSetup}
+use Rattle.tsp_node.specs.Configs.{IsPortSetup}
+use Rattle.tsp_gateway.specs.GateConfigs.{GateConfigValue}
 use Rattle.tsp_gateway.proofs.BootLemmas.{each_port, port_in_place}
 use Rattle.tsp_gateway.proofs.LiftLemmas.{one_more}
 use Rattle.tsp_gateway.proofs.config.GateConfig.are_ports.Goals as goal

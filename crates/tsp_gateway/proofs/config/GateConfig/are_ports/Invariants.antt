@@ -1,7 +1,7 @@
 -- The ports so far can be had.
 use Rattle.std.specs.Prelude.{ℕ, ◌<◌, slice_index_or}
 use Rattle.tsp_rules.specs.NodeRows.{no_port}
-use Rattle.tsp_gateway.specs.GateConfigs.{IsPortSetup}
+use Rattle.tsp_node.specs.Configs.{IsPortSetup}
 use Rattle.tsp_gateway.proofs.config.GateConfig.are_ports.Given as goal
 
 abbrev pub invariant-loop-q : goal.invariant-loop-q
