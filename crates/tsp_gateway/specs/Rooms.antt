@@ -1,8 +1,8 @@
 -- How much room a step of a node with several ports takes.
 use Rattle.std.specs.Prelude.{ℕ, ◌+◌, ◌*◌, List, [], ◌∷◌, length, map, slice_index_or}
 use Rattle.tsp_base.specs.declared.place.PeerId.{PeerId}
+use Rattle.tsp_rules.specs.Rooms.{room_for}
 use Rattle.tsp_node.specs.declared.part.Part.{Part}
-use Rattle.tsp_node.specs.NodeStands.{room_of}
 use Rattle.tsp_gateway.specs.declared.gateway.Gateway.{Gateway}
 
 -- the peers of each port
@@ -16,7 +16,7 @@ peers_at q ports = length (slice_index_or ports q [])
 -- how many acts a step may take: as many as a node of each port alone, together
 abbrev pub room_of_ports : List (List PeerId) → ℕ
 room_of_ports [] = 0
-room_of_ports (peers ∷ rest) = room_of (length peers) + room_of_ports rest
+room_of_ports (peers ∷ rest) = room_for (length peers) + room_of_ports rest
 
 -- how many acts a port may take when its turn comes, and how many all together
 abbrev pub turn_room : ℕ → ℕ

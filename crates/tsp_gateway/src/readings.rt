@@ -12,6 +12,7 @@ use crate::gateway::{FIRST, Gateway, port_at};
 use tsp_base::alarms::earlier;
 use tsp_base::place::{PeerId, Port};
 use tsp_node::Part;
+use tsp_rules::room::room_for;
 
 impl Gateway {
     ghost use Rattle.tsp_gateway.specs.GatewayStands.{GatewayStands};
@@ -24,7 +25,7 @@ impl Gateway {
     {
         let mut room = 0;
         for part in &self.ports {
-            room += 24 * part.station().peers().len() + 256;
+            room += room_for(part.station().peers().len());
         }
         room
     }

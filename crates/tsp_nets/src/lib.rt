@@ -12,6 +12,7 @@ use std::alloc::{AllocError, Global};
 use tsp_base::header::Header;
 use tsp_base::members::Members;
 use tsp_base::place::{Place, Port};
+use tsp_rules::room::room_for;
 use tsp_run::address::Address;
 
 #[cfg(test)]
@@ -75,7 +76,7 @@ pub fn room_of(nets: &[Members], n: u32) -> u64
     let mut room = 0;
     for net in nets {
         if has(net, n) {
-            room += 24 * net.numbers().len() as u64 + 256;
+            room += room_for(net.numbers().len()) as u64;
         }
     }
     room

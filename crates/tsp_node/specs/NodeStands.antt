@@ -1,4 +1,4 @@
--- What a node stands for, and how much room a step of it takes.
+-- What a node stands for.
 use Rattle.std.specs.Prelude.{◌≡◌, ℕ, ◌+◌, ◌-◌, ◌*◌, ◌^◌, ℤ, Bool, false, List, ◌∷◌, Option, None, Some}
 use Rattle.tsp_base.specs.declared.act.Act.TheVariants.{Correct}
 use Rattle.tsp_base.specs.declared.place.PeerId.{PeerId}
@@ -115,10 +115,6 @@ peers_in node = node.part.station.peers
 -- the tick of a node's last correction, or of its boot
 abbrev pub clock_at : Node → ℕ
 clock_at node = node.clock.at
-
--- how many acts a step of a node with so many peers may take
-abbrev pub room_of : ℕ → ℕ
-room_of peers = 24 * peers + 256
 
 -- the tick at which a node is to be looked at next; the greatest number of 64 bits where nothing is armed
 abbrev pub due_of : Option ℕ → ℕ

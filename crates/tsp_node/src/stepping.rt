@@ -5,6 +5,7 @@ ghost use Rattle.tsp_base.specs.Frames.{IsTick, PutsAtMost};
 ghost use Rattle.tsp_base.specs.Performs.{Performs};
 ghost use Rattle.tsp_rules.specs.Answers.{Turn, Got, answers, due_alarms, rings_alone, takes};
 ghost use Rattle.tsp_rules.specs.Guards.{is_over};
+ghost use Rattle.tsp_rules.specs.Rooms.{room_for};
 ghost use Rattle.tsp_rules.specs.RoundRows.{upsetting};
 ghost use Rattle.tsp_node.specs.Inputs.{given};
 
@@ -15,26 +16,27 @@ use tsp_base::desk::Desk;
 use tsp_base::input::Input;
 use tsp_base::place::Place;
 use tsp_codec::read;
+use tsp_rules::room::room_for;
 
 impl Node {
-    ghost use Rattle.tsp_node.specs.NodeStands.{NodeStands, NodeUntaken, Begun, peers_in, clock_at, room_of};
+    ghost use Rattle.tsp_node.specs.NodeStands.{NodeStands, NodeUntaken, Begun, peers_in, clock_at};
 
     /// How many acts a step may take: room for so many is to be on the desk.
     pub fn room(&self) -> usize
-        ensures { result ≡ room_of (length (peers_in self.now)) }
+        ensures { result ≡ room_for (length (peers_in self.now)) }
     {
-        24 * self.part.station().peers().len() + 256
+        room_for(self.part.station().peers().len())
     }
 
     /// A step with an input: its timers are looked at, and what octets it brings are read and taken.
     pub fn step<D: Desk>(&mut self, tick: u64, input: &Input, desk: &mut D)
-        requires room { room_of (length (peers_in self.old)) ≤ D.spare desk.old }
+        requires room { room_for (length (peers_in self.old)) ≤ D.spare desk.old }
         requires tick { IsTick tick }
         requires later { clock_at self.old ≤ tick }
         ensures row { Performs Begun NodeStands (answers (given input.now)) tick (record { 0 = 0 }) self.old self.new (D.acts desk.old) (D.acts desk.new) }
         ensures peers { peers_in self.new ≡ peers_in self.old }
         ensures clock { clock_at self.new ≤ tick }
-        ensures room { PutsAtMost (room_of (length (peers_in self.old))) (D.spare desk.old) (D.spare desk.new) (D.acts desk.old) (D.acts desk.new) }
+        ensures room { PutsAtMost (room_for (length (peers_in self.old))) (D.spare desk.old) (D.spare desk.new) (D.acts desk.old) (D.acts desk.new) }
     {
         match input {
             Input::Turn => self.turn(tick, desk),
@@ -44,13 +46,13 @@ impl Node {
 
     /// A step in which only its timers are looked at.
     pub fn turn<D: Desk>(&mut self, tick: u64, desk: &mut D)
-        requires room { room_of (length (peers_in self.old)) ≤ D.spare desk.old }
+        requires room { room_for (length (peers_in self.old)) ≤ D.spare desk.old }
         requires tick { IsTick tick }
         requires later { clock_at self.old ≤ tick }
         ensures row { Performs Begun NodeStands (answers Turn) tick (record { 0 = 0 }) self.old self.new (D.acts desk.old) (D.acts desk.new) }
         ensures peers { peers_in self.new ≡ peers_in self.old }
         ensures clock { clock_at self.new ≤ tick }
-        ensures room { PutsAtMost (room_of (length (peers_in self.old))) (D.spare desk.old) (D.spare desk.new) (D.acts desk.old) (D.acts desk.new) }
+        ensures room { PutsAtMost (room_for (length (peers_in self.old))) (D.spare desk.old) (D.spare desk.new) (D.acts desk.old) (D.acts desk.new) }
     {
         self.part.sends(tick, PORT, desk);
         self.ring_alarms(tick, desk);
@@ -58,13 +60,13 @@ impl Node {
 
     /// A step that takes octets from somebody, as they were read.
     pub fn take<D: Desk>(&mut self, tick: u64, from: Place, taken: &Taken, desk: &mut D)
-        requires room { room_of (length (peers_in self.old)) ≤ D.spare desk.old }
+        requires room { room_for (length (peers_in self.old)) ≤ D.spare desk.old }
         requires tick { IsTick tick }
         requires later { clock_at self.old ≤ tick }
         ensures row { Performs Begun NodeStands (answers (Got from taken.now)) tick (record { 0 = 0 }) self.old self.new (D.acts desk.old) (D.acts desk.new) }
         ensures peers { peers_in self.new ≡ peers_in self.old }
         ensures clock { clock_at self.new ≤ tick }
-        ensures room { PutsAtMost (room_of (length (peers_in self.old))) (D.spare desk.old) (D.spare desk.new) (D.acts desk.old) (D.acts desk.new) }
+        ensures room { PutsAtMost (room_for (length (peers_in self.old))) (D.spare desk.old) (D.spare desk.new) (D.acts desk.old) (D.acts desk.new) }
     {
         self.part.sends(tick, PORT, desk);
         self.ring_alarms(tick, desk);

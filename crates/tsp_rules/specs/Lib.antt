@@ -19,6 +19,7 @@ pub mod ResolutionScript
 pub mod ResolveRows
 pub mod RivalsScript
 pub mod RolesScript
+pub mod Rooms
 pub mod RoundRows
 pub mod RoundsScript
 pub mod Scripts

@@ -7,6 +7,7 @@ use Rattle.tsp_base.specs.declared.place.Port.{Port}
 use Rattle.tsp_base.specs.Headers.{HeaderValue, has_member}
 use Rattle.tsp_base.specs.Takings.{peer_of}
 use Rattle.tsp_rules.specs.NodeRows.{PortSetup}
+use Rattle.tsp_rules.specs.Rooms.{room_for}
 use Rattle.tsp_run.specs.declared.address.Address.{Address}
 
 -- the numbers below this one, ascending
@@ -67,4 +68,4 @@ address_of nets from port Stranger = None
 -- how many acts a node puts in a step at the most, by its ports
 abbrev pub room : List PortSetup → ℕ
 room [] = 0
-room (s ∷ rest) = 24 * length s.peers + 256 + room rest
+room (s ∷ rest) = room_for (length s.peers) + room rest

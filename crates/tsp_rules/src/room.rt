@@ -1,0 +1,11 @@
+//! How much room a step takes.
+ghost use Rattle.std.specs.Prelude.{◌≡◌, ◌≤◌};
+ghost use Rattle.tsp_rules.specs.Rooms.{room_for};
+
+/// How many acts a step may put on a port of so many peers, at most 1,000.
+pub fn room_for(peers: usize) -> usize
+    requires { peers ≤ 1000 }
+    ensures { result ≡ room_for peers }
+{
+    24 * peers + 256
+}
