@@ -17,8 +17,8 @@ use tsp_base::desk::Desk;
 use tsp_base::kind::Kind;
 use tsp_base::message::Message;
 use tsp_base::place::{Place, Port};
-use tsp_clients::naming::{name_master, say_master};
 use tsp_clients::candidature::take_test;
+use tsp_clients::naming::{name_master, say_master};
 use tsp_clients::tracing::turn_trace;
 
 impl Part {
