@@ -1,8 +1,10 @@
-//! Tests of claimed histories, over lines of schedules and of traces.
+//! Tests of claimed histories, over lines of schedules and of traces, and of the facts that are noted of them.
 //!
-//! They stand apart, so that the crate that they test is proved once.
+//! They stand apart, so that each crate that they test is proved once.
 #![tactic(auto)]
 
 pub mod claiming;
+#[cfg(test)]
+mod noted;
 #[cfg(test)]
 mod rows;

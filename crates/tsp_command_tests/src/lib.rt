@@ -1,11 +1,15 @@
-//! Tests of the commands over a source, a sink and a link in memory, each of whose calls fails in turn.
+//! Tests of the commands over a source, a sink and a link in memory: worked inputs, and each call fails in turn.
 //!
 //! They stand apart from the commands' crates, so that each of those is proved once.
 #![tactic(auto)]
 
+#[cfg(test)]
+mod courses;
 #[cfg(test)]
 mod failing_daemons;
 #[cfg(test)]
 mod failing_questions;
 #[cfg(test)]
 mod failing_replays;
+#[cfg(test)]
+mod records;

@@ -5,5 +5,3 @@ pub mod course;
 mod faults;
 pub mod run;
 pub mod stage;
-#[cfg(test)]
-mod tests;

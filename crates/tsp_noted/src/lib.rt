@@ -7,6 +7,4 @@ pub mod posts;
 pub mod rounds;
 pub mod scans;
 pub mod sends;
-#[cfg(test)]
-mod tests;
 mod ticks;

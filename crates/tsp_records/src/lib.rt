@@ -16,6 +16,3 @@ mod summary;
 mod tally;
 
 pub use run::average;
-
-#[cfg(test)]
-mod tests;

@@ -9,5 +9,3 @@ pub mod laws;
 pub mod making;
 pub mod run;
 pub mod summary;
-#[cfg(test)]
-mod tests;

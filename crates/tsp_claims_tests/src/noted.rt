@@ -1,13 +1,6 @@
 //! Each fact of a few lines that were made by hand.
-ghost use Rattle.std.specs.Prelude.{◌≡◌, ◌<◌, ◌^◌, length, IfOk};
-ghost use Rattle.tsp_noted.specs.Rounds.{trips_of};
+ghost use Rattle.std.specs.Prelude.{◌<◌, ◌^◌, length};
 
-use crate::clocks::{corrected_at, is_spaced, moved_at, target_at};
-use crate::noted::{Noted, Why};
-use crate::posts::{has_taken, post_at};
-use crate::rounds::{asked_at, best_at, closed_at, is_going, trip_of};
-use crate::scans::{is_held, role_at};
-use crate::sends::{begun_to, open_to};
 use std::alloc::{AllocError, Global};
 use std::test::Fail;
 use tsp_base::act::Act;
@@ -20,6 +13,12 @@ use tsp_base::name::Name;
 use tsp_base::place::{PeerId, Place, Port};
 use tsp_base::role::Role;
 use tsp_base::stamp::Stamp;
+use tsp_noted::clocks::{corrected_at, is_spaced, moved_at, target_at};
+use tsp_noted::noted::{Noted, Why};
+use tsp_noted::posts::{has_taken, post_at};
+use tsp_noted::rounds::{Best, asked_at, best_after, closed_at, is_going, trip_of};
+use tsp_noted::scans::{is_held, role_at};
+use tsp_noted::sends::{begun_to, open_to};
 
 const NODE: u32 = 3;
 
@@ -107,13 +106,21 @@ fn sample(tick: u64, counter: u64, diff: i64) -> Noted {
 /// The round trip of each line.
 fn trips(alloc: Global, lines: &[Noted]) -> Result<Vec<i128>, AllocError>
     requires { length lines.now < 2 ^ 32 }
-    ensures { IfOk result (λ v. v.items ≡ trips_of lines.now) }
 {
     let mut trips = Vec::new(alloc);
     for (index, line) in lines.iter().enumerate() {
         trips.push(trip_of(&lines[..index], line))?;
     }
     Ok(trips)
+}
+
+/// The best sample of the peer, where these are the round trips of the lines.
+fn best_of(lines: &[Noted], trips: &[i128]) -> Option<Best> {
+    let mut best = None;
+    for (index, (line, trip)) in lines.iter().zip(trips).enumerate() {
+        best = best_after(line, index, *trip, NODE, PORT, PEER, best);
+    }
+    best
 }
 
 #[test]
@@ -201,7 +208,7 @@ fn tells_rounds(rt: HostRuntime) -> Result<(), Fail> {
     assert!(rt; asked_at(&lines, NODE, PORT, PEER, 1).is_none());
     let trips = trips(rt.alloc(), &lines)?;
     assert_eq!(rt; trips.as_slice(), [0, 0, 0, 24, 0, 10, 0, 10].as_slice());
-    let Some(best) = best_at(&lines, trips.as_slice(), NODE, PORT, PEER) else {
+    let Some(best) = best_of(&lines, trips.as_slice()) else {
         panic!(rt; "the peer was measured");
     };
     assert!(rt; best.index == 5 && best.diff == 6 && best.err == 4 && best.trip == 10);

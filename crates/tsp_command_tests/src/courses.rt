@@ -1,11 +1,11 @@
 //! What no clause says: that a schedule is read.
 ghost use Rattle.std.specs.Prelude.{None};
 
-use crate::course::Course;
-use crate::stage::Stage;
 use std::alloc::{AllocError, Global};
 use tsp_base::event::{Event, EventFault};
 use tsp_base::header::Header;
+use tsp_course::course::Course;
+use tsp_course::stage::Stage;
 use tsp_lines::treatment::Stop;
 
 /// Takes every event.
