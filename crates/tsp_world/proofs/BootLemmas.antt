@@ -4,8 +4,8 @@ use Rattle.std.proofs.Common.{sym, subst}
 use Rattle.tsp_base.specs.declared.act.Act.TheVariants.{Boot}
 use Rattle.tsp_base.specs.declared.act.Placed.{Placed}
 use Rattle.std.specs.Prelude.{List}
-use Rattle.tsp_base.specs.History.{Acts, dids}
-use Rattle.tsp_base.specs.Joins.{first_port, line_of}
+use Rattle.tsp_base.specs.History.{dids}
+use Rattle.tsp_base.specs.Joins.{first_port}
 use Rattle.tsp_base.specs.NodeFacts.{up}
 use Rattle.tsp_base.specs.Rows.{puts}
 use Rattle.tsp_rules.specs.GateRows.{all_ports, boots_all, boots_on}

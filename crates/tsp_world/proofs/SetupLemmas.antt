@@ -10,10 +10,8 @@ use Rattle.std.proofs.Math.ListN.{get_or-append}
 use Rattle.std.proofs.Math.Seq.{get_or-append_seam}
 use Rattle.tsp_base.specs.declared.place.PeerId.{PeerId}
 use Rattle.tsp_base.specs.Headers.{HeaderValue, IsHeader, IsNet, all_joined, has_member, is_whole}
-use Rattle.tsp_base.specs.Peers.{is_among}
 use Rattle.tsp_base.specs.Takings.{peer_of}
 use Rattle.tsp_base.proofs.HeaderLemmas.{length-net}
-use Rattle.tsp_acks.specs.Peers.{IsPeers}
 use Rattle.tsp_gateway.specs.declared.gateway.Gateway.{Gateway}
 use Rattle.tsp_node.specs.Configs.{IsPortSetup}
 use Rattle.tsp_gateway.specs.GateConfigs.{ArePorts, GateConfigValue, peers_of_ports}

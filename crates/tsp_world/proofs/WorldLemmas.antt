@@ -8,8 +8,7 @@ use Rattle.std.proofs.Math.ListN.{set}
 use Rattle.tsp_base.specs.declared.act.Placed.{Placed}
 use Rattle.tsp_base.specs.declared.event.Event.{Event}
 use Rattle.tsp_base.specs.Headers.{HeaderValue, IsHeader}
-use Rattle.tsp_base.specs.History.{Begins, Step, Line, of, dids}
-use Rattle.tsp_base.specs.Joins.{first_port, line_of}
+use Rattle.tsp_base.specs.History.{Step, Line, of, dids}
 use Rattle.tsp_base.specs.NodeFacts.{up}
 use Rattle.tsp_rules.specs.NodePerforms.{PerformsAll}
 use Rattle.tsp_rules.specs.NodeRows.{NodePast, NodeRow, in_node_step, spread}

@@ -3,7 +3,7 @@ use Rattle.std.specs.Prelude.{◌≡◌, ℕ, ◌+◌, ◌≤◌, Bool, true, fa
 use Rattle.tsp_base.specs.declared.act.Placed.{Placed}
 use Rattle.tsp_base.specs.declared.event.Event.{Event}
 use Rattle.tsp_base.specs.Headers.{HeaderValue}
-use Rattle.tsp_base.specs.History.{Cause, Step, Line, of, dids}
+use Rattle.tsp_base.specs.History.{Cause, Line, of, dids}
 use Rattle.tsp_base.specs.NodeFacts.{up}
 use Rattle.tsp_gateway.specs.declared.gateway.Gateway.{Gateway}
 use Rattle.tsp_gateway.specs.GatewayStands.{GatewayBegun, GatewayStands}
@@ -62,7 +62,7 @@ pub record IsReady (wanted : ℕ) (world : World) : Type 0 where
   pub desk : wanted ≤ world.desk.spare
   pub idle : world.desk.placed.items ≡ []
   pub lines : wanted ≤ vec_capacity world.lines
-  pub sent : vec_len world.sent + wanted ≤ vec_capacity world.sent
+  pub sent : wanted ≤ world.sent.spare
 
 -- the world stands for what it stood for
 abbrev pub Stays : World → World → Type 0
@@ -81,9 +81,9 @@ HappensBy row at node old new =
 -- the acts on the desk can be noted: there is room, and no limit is met
 pub record CanNote (world : World) : Type 0 where
   pub lines : length world.desk.placed.items ≤ vec_capacity world.lines
-  pub sent : vec_len world.sent + length world.desk.placed.items ≤ vec_capacity world.sent
+  pub sent : length world.desk.placed.items ≤ world.sent.spare
   pub few_events : world.events < 200000
-  pub few_posts : vec_len world.sent + length world.desk.placed.items ≤ 1000000
+  pub few_posts : length world.sent.items + length world.desk.placed.items ≤ 1000000
 
 -- an event at this time was noted by a world with this header, these nodes, so many events and these posts: these acts as lines and as posts
 pub record Notes (at node tick : ℕ) (header : HeaderValue) (nodes : List (Option Gateway)) (events : ℕ) (sent : List Posted) (acts : List Placed) (new : World) : Type 0 where

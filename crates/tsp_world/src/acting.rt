@@ -57,7 +57,7 @@ impl World {
         requires order { self.old.last ≤ at }
         requires node { node < vec_len self.old.nodes }
         requires events { self.old.events < 200000 }
-        requires posts { vec_len self.old.sent + room (ports_on node (networks self.old.header)) ≤ 1000000 }
+        requires posts { length self.old.sent.items + room (ports_on node (networks self.old.header)) ≤ 1000000 }
         ensures happens { OnOk result (Happens (Event.Boot at node word) self.old self.new) }
         ensures kept { OnErr result (Stays self.old self.new) }
     {
@@ -84,7 +84,7 @@ impl World {
         requires order { self.old.last ≤ at }
         requires node { node < vec_len self.old.nodes }
         requires events { self.old.events < 200000 }
-        requires posts { vec_len self.old.sent + room (ports_on node (networks self.old.header)) ≤ 1000000 }
+        requires posts { length self.old.sent.items + room (ports_on node (networks self.old.header)) ≤ 1000000 }
         ensures { Happens (Event.Turn at node) self.old self.new }
     {
         let tick = self.tick(node, at);
@@ -117,12 +117,14 @@ impl World {
         requires { goes_to (networks self.now.header) (slice_get self.now.sent.items k) ≡ Some address }
         ensures { (p : Posted) → slice_get self.now.sent.items k ≡ Some p → result ≡ record { node = address.node; port = address.port; from = Place.Peer (record { 0 = p.from }); taken = Taken.Good p.datagram } }
     {
-        let posted = &self.sent[k as usize];
+        let Some(way) = self.sent.way(k) else {
+            unreachable!()
+        };
         Arrival {
             node: address.node,
             port: address.port,
-            from: Place::Peer(PeerId(posted.from)),
-            taken: Taken::Good(posted.datagram.copy()),
+            from: Place::Peer(PeerId(way.from)),
+            taken: Taken::Good(self.sent.datagram(k)),
         }
     }
 
@@ -133,7 +135,7 @@ impl World {
         requires order { self.old.last ≤ at }
         requires node { node < vec_len self.old.nodes }
         requires events { self.old.events < 200000 }
-        requires posts { vec_len self.old.sent + room (ports_on node (networks self.old.header)) ≤ 1000000 }
+        requires posts { length self.old.sent.items + room (ports_on node (networks self.old.header)) ≤ 1000000 }
         requires port { port.0 < length (ports_on node (networks self.old.header)) }
         ensures happens { HappensBy (answers_all (GotOn port from (taken_of octets.now))) at node self.old self.new }
         ensures range { (i : ℕ) → octet_at octets.now i < 256 }
@@ -149,7 +151,7 @@ impl World {
         requires order { self.old.last ≤ at }
         requires node { node < vec_len self.old.nodes }
         requires events { self.old.events < 200000 }
-        requires posts { vec_len self.old.sent + room (ports_on node (networks self.old.header)) ≤ 1000000 }
+        requires posts { length self.old.sent.items + room (ports_on node (networks self.old.header)) ≤ 1000000 }
         requires port { port.0 < length (ports_on node (networks self.old.header)) }
         ensures { HappensBy (answers_all (GotOn port from taken.now)) at node self.old self.new }
     {

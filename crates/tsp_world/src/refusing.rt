@@ -33,8 +33,8 @@ impl World {
     pub(crate) fn address(&self, k: u64) -> Option<Address>
         ensures { result ≡ goes_to (networks self.now.header) (slice_get self.now.sent.items k) }
     {
-        let posted = self.sent.get(k as usize)?;
-        address_of(self.networks(), posted.from, posted.port, posted.to)
+        let way = self.sent.way(k)?;
+        address_of(self.networks(), way.from, way.port, way.to)
     }
 
     /// The node that would act at an event: of a datagram its addressee; none where it goes nowhere.

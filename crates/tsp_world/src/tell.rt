@@ -4,21 +4,9 @@ ghost use Rattle.tsp_run.specs.Run.{told_from, told_line, posts_by, number_of, p
 
 use tsp_base::act::{Act, Placed};
 use tsp_base::place::Port;
+use tsp_posts::posts::Posts;
+use tsp_posts::way::Way;
 use tsp_run::line::Line;
-use tsp_run::posted::Posted;
-
-/// Puts a value behind the others, where there is room.
-fn push<T: Drop>(held: &mut Vec<T>, value: T)
-    requires room { vec_len held.old < vec_capacity held.old }
-    ensures items { held.new.items ≡ held.old.items ++ value ∷ [] }
-    ensures len { vec_len held.new ≡ vec_len held.old + 1 }
-    ensures capacity { vec_capacity held.old ≤ vec_capacity held.new }
-{
-    match held.push(value) {
-        Ok(()) => {}
-        Err(_) => unreachable!(),
-    }
-}
 
 /// Tells acts of an event as lines; the first post among them gets the number `first`.
 pub(crate) fn tell(
@@ -64,7 +52,7 @@ fn tell_one(
         number,
         placed: placed.copy(),
     };
-    push(lines, line);
+    lines.push_reserved(line);
     next + posts_by(&placed.act)
 }
 
@@ -90,11 +78,10 @@ fn posts_by(act: &Act) -> u64
 }
 
 /// Notes the datagrams that acts post.
-pub(crate) fn send(sent: &mut Vec<Posted>, acts: &[Placed], at: u64, node: u32)
-    requires room { vec_len sent.old + length acts.now ≤ vec_capacity sent.old }
+pub(crate) fn send(sent: &mut Posts, acts: &[Placed], at: u64, node: u32)
+    requires room { length acts.now ≤ sent.old.spare }
     ensures sent { sent.new.items ≡ sent.old.items ++ posts_from at node acts.now }
-    ensures len { vec_len sent.new ≤ vec_len sent.old + length acts.now }
-    ensures capacity { vec_capacity sent.old ≤ vec_capacity sent.new }
+    ensures len { length sent.new.items ≤ length sent.old.items + length acts.now }
 {
     for placed in acts {
         send_one(sent, &placed.act, at, node, placed.port);
@@ -102,22 +89,21 @@ pub(crate) fn send(sent: &mut Vec<Posted>, acts: &[Placed], at: u64, node: u32)
 }
 
 /// Notes the datagram that an act posts on a port, if it posts one.
-fn send_one(sent: &mut Vec<Posted>, act: &Act, at: u64, node: u32, port: Port)
-    requires room { vec_len sent.old < vec_capacity sent.old }
+fn send_one(sent: &mut Posts, act: &Act, at: u64, node: u32, port: Port)
+    requires room { 0 < sent.old.spare }
     ensures sent { sent.new.items ≡ sent.old.items ++ posted_by at node port act.now }
-    ensures len { vec_len sent.new ≤ vec_len sent.old + 1 }
-    ensures capacity { vec_capacity sent.old ≤ vec_capacity sent.new }
+    ensures len { length sent.new.items ≤ length sent.old.items + 1 }
+    ensures spare { sent.old.spare ≤ sent.new.spare + 1 }
 {
     match act {
         Act::Post(to, datagram) => {
-            let posted = Posted {
+            let way = Way {
                 at,
                 from: node,
                 port,
                 to: *to,
-                datagram: datagram.copy(),
             };
-            push(sent, posted)
+            sent.push(way, datagram)
         }
         _ => {}
     }

@@ -12,8 +12,8 @@ use tsp_base::members::Members;
 use tsp_base::pad::Pad;
 use tsp_gateway::{GateConfig, Gateway};
 use tsp_nets::{all_nodes, networks_of};
+use tsp_posts::posts::Posts;
 use tsp_run::line::Line;
-use tsp_run::posted::Posted;
 
 /// The nodes and the posted datagrams; the lines of the last event.
 #[derive(Drop)]
@@ -29,7 +29,7 @@ pub struct World {
     /// The nodes that are up, each in its place.
     pub(crate) nodes: Vec<Option<Gateway>>,
     /// The datagrams that were posted, each under its number.
-    pub(crate) sent: Vec<Posted>,
+    pub(crate) sent: Posts,
     /// The lines of the last event.
     pub(crate) lines: Vec<Line>,
     /// The acts of the last step.
@@ -40,7 +40,7 @@ pub struct World {
     pub(crate) last: u64,
     ghost places: { vec_len nodes ≡ length header.nodes },
     ghost few_events: { events ≤ 200000 },
-    ghost few_posts: { vec_len sent ≤ 1000000 },
+    ghost few_posts: { length sent.items ≤ 1000000 },
     ghost ready: { NodesReady header one.items nodes.items configs.items last },
 }
 
@@ -74,7 +74,7 @@ impl World {
             one,
             configs,
             nodes,
-            sent: Vec::new(alloc),
+            sent: Posts::new(alloc),
             lines: Vec::new(alloc),
             desk: Pad::new(alloc),
             events: 0,
@@ -107,8 +107,8 @@ impl World {
     pub fn posted_at(&self, k: u64) -> Option<u64>
         ensures { result ≡ posted_time (slice_get self.now.sent.items k) }
     {
-        match self.sent.get(k as usize) {
-            Some(posted) => Some(posted.at),
+        match self.sent.way(k) {
+            Some(way) => Some(way.at),
             None => None,
         }
     }

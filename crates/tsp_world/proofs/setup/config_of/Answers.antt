@@ -1,5 +1,5 @@
 -- One network more.
-use Rattle.std.proofs.Common.{◌≡◌, ◌∙◌, ◌+◌, ◌<◌, ap, sym, drop, length, List, ℕ, [], ◌∷◌, ◌++◌, append_assoc, rules, arith, get_or}
+use Rattle.std.proofs.Common.{◌≡◌, ◌∙◌, ◌+◌, ap, sym, drop, List, ℕ, [], ◌∷◌, ◌++◌, append_assoc, rules}
 use Rattle.std.proofs.lemmas.List.{drop_more}
 use Rattle.tsp_gateway.specs.GateConfigs.{GateConfigValue}
 use Rattle.tsp_run.specs.Networks.{ports_on}

@@ -2,15 +2,12 @@
 use Rattle.std.proofs.Common.{◌≡◌, ◌<◌, ◌∙◌, ap, refl, subst, sym, arith, Some, rules, vec_len, length, pos, ◌+ℤ◌, SFits, w64, to_z, of_z, to_z-of_z, inl, inr, ◌++◌, get_or}
 use Rattle.std.proofs.Math.ListN.{set}
 use Rattle.tsp_base.specs.declared.event.Event.TheVariants.{Boot}
-use Rattle.tsp_base.specs.History.{dids}
-use Rattle.tsp_base.specs.NodeFacts.{up}
-use Rattle.tsp_base.specs.Rows.{puts}
 use Rattle.tsp_base.specs.Ticks.{tick_at}
 use Rattle.tsp_gateway.specs.GateConfigs.{ArePorts, GateBootsNot, GateConfigValue, UnbootedNode, peers_of_ports}
 use Rattle.tsp_gateway.specs.GatewayStands.{GatewayStands}
 use Rattle.tsp_rules.specs.GateRows.{boots_all}
 use Rattle.tsp_rules.specs.NodePerforms.{PerformsAll}
-use Rattle.tsp_rules.specs.NodeRows.{NodePast, in_node_step, spread}
+use Rattle.tsp_rules.specs.NodeRows.{NodePast, in_node_step}
 use Rattle.tsp_run.specs.Networks.{networks, ports_on}
 use Rattle.tsp_run.specs.Run.{boot_step, run, joins, steps, step_tick}
 use Rattle.tsp_run.specs.Setup.{node_line, past_of}

@@ -1,5 +1,5 @@
 -- The node takes what was read, by its row.
-use Rattle.std.proofs.Common.{◌≡◌, ◌≤◌, ◌∙◌, ap, subst, arith, Some, rules, vec_len, length, slice_get}
+use Rattle.std.proofs.Common.{◌≡◌, ◌∙◌, ap, subst, arith, Some, rules, vec_len, length, slice_get}
 use Rattle.std.proofs.Math.ListN.{set}
 use Rattle.tsp_base.specs.Ticks.{tick_at}
 use Rattle.tsp_rules.specs.GateRows.{GotOn, answers_all}

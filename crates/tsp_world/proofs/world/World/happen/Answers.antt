@@ -1,7 +1,7 @@
 -- Each kind of event, as nothing refuses it.
-use Rattle.std.proofs.Common.{◌≡◌, ◌≤◌, ◌<◌, ◌+◌, ◌∙◌, ℕ, List, refl, sym, subst, arith, Some, rules, vec_len, length}
+use Rattle.std.proofs.Common.{◌≡◌, ◌≤◌, ◌<◌, ◌+◌, ◌∙◌, ℕ, List, refl, subst, Some, rules, vec_len, length}
 use Rattle.tsp_base.specs.declared.event.Event.{Event}
-use Rattle.tsp_base.specs.declared.event.Event.TheVariants.{Boot, Turn, Bytes}
+use Rattle.tsp_base.specs.declared.event.Event.TheVariants.{Bytes}
 use Rattle.tsp_base.specs.History.{Handed}
 use Rattle.tsp_codec.specs.Numbers.{octet_at}
 use Rattle.tsp_codec.specs.Taken.{taken_of}
@@ -14,11 +14,8 @@ use Rattle.tsp_world.specs.WorldStands.{scene_of, HappensBy}
 use Rattle.tsp_world.proofs.WorldLemmas.{Alike-stands}
 use Rattle.tsp_world.proofs.world.World.happen.Goals as goal
 
-posts_room : (world : World) (e : Event) (n : ℕ) → Allowed (scene_of world) e → actor (scene_of world) e ≡ Some n → vec_len world.sent + room (ports_on n (networks world.header)) ≤ 1000000
-posts_room world e n a is =
-    let few = a.posts n is in
-    let len : vec_len world.sent ≡ length world.sent.items = search rules in
-    omega (arith, few, len)
+posts_room : (world : World) (e : Event) (n : ℕ) → Allowed (scene_of world) e → actor (scene_of world) e ≡ Some n → length world.sent.items + room (ports_on n (networks world.header)) ≤ 1000000
+posts_room world e n a is = a.posts n is
 
 pub boot-requires-clause-node : goal.boot-requires-clause-node
 boot-requires-clause-node c = (subst (λ e. Allowed (scene_of c.args.self.now) e) c.in-Boot.is c.requires.allowed).node

@@ -1,23 +1,19 @@
 -- The datagram reaches the node that the run says, or nobody.
-use Rattle.std.proofs.Common.{◌≡◌, ◌<◌, ◌≤◌, ◌+◌, ◌∙◌, ap, refl, sym, subst, arith, Option, Some, None, rules, vec_len, length, slice_get}
+use Rattle.std.proofs.Common.{◌≡◌, ◌∙◌, ap, refl, sym, subst, Some, None, rules, vec_len, length, slice_get}
 use Rattle.tsp_base.specs.declared.datagram.Taken.TheVariants.{Good}
 use Rattle.tsp_base.specs.declared.event.Event.TheVariants.{Take}
 use Rattle.tsp_base.specs.declared.place.Place.TheVariants.{Peer}
 use Rattle.tsp_base.specs.Headers.{HeaderValue}
 use Rattle.tsp_base.specs.History.{Came}
 use Rattle.tsp_rules.specs.GateRows.{GotOn, answers_all}
-use Rattle.tsp_run.specs.declared.address.Address.{Address}
 use Rattle.tsp_run.specs.declared.arrival.Arrival.{Arrival}
 use Rattle.tsp_run.specs.Networks.{networks}
 use Rattle.tsp_run.specs.Refusals.{actor, scene, down, node_in}
 use Rattle.tsp_run.specs.Run.{arrives, arrives_at, goes_to, reaches, run, posts, steps}
-use Rattle.tsp_run.proofs.NetworkLemmas.{GoesTo, goes_there}
+use Rattle.tsp_run.proofs.NetworkLemmas.{goes_there}
 use Rattle.tsp_run.proofs.RefusalLemmas.{refusal-none, up-down, goes_to-post, goes-nowhere}
 use Rattle.tsp_run.proofs.RunPromises.{posted-read}
-use Rattle.tsp_world.specs.declared.world.World.{World}
-use Rattle.tsp_world.specs.NodesReady.{wanted}
-use Rattle.tsp_world.specs.WorldStands.{IsReady, scene_of}
-use Rattle.tsp_world.proofs.SetupLemmas.{member_known}
+use Rattle.tsp_world.specs.WorldStands.{scene_of}
 use Rattle.tsp_world.proofs.WorldLemmas.{WorldStands-passed, Alike-stands, accepted}
 use Rattle.tsp_world.proofs.world.World.take.Goals as goal
 use Rattle.tsp_world.proofs.world.World.take.Goals.{In-Some}

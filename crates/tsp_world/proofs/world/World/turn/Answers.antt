@@ -1,5 +1,5 @@
 -- The node's timers are looked at by its row.
-use Rattle.std.proofs.Common.{◌≡◌, ◌≤◌, ◌∙◌, ap, refl, subst, arith, Some, rules, vec_len, length, slice_get}
+use Rattle.std.proofs.Common.{◌≡◌, ◌∙◌, ap, refl, subst, arith, Some, rules, vec_len, length, slice_get}
 use Rattle.std.proofs.Math.ListN.{set}
 use Rattle.tsp_base.specs.Ticks.{tick_at}
 use Rattle.tsp_rules.specs.GateRows.{NodeTurn, answers_all}
