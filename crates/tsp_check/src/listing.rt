@@ -6,13 +6,13 @@ ghost use Rattle.tsp_claims.specs.Listed.{NamesNode};
 ghost use Rattle.tsp_run.specs.Networks.{numbers_below};
 
 use crate::copies::copy_event;
-use crate::refusing::time_of;
 use std::alloc::{AllocError, Global};
 use tsp_base::event::{Event, EventFault};
 use tsp_base::header::Header;
 use tsp_base::members::Members;
 use tsp_course::course::Course;
 use tsp_nets::all_nodes;
+use tsp_nets::refusals::time_of;
 
 /// The header and the events of a schedule so far, at most 20,000, none of which is refused.
 #[derive(Drop)]

@@ -5,7 +5,7 @@
 #![tactic(auto)]
 
 mod acting;
-mod refusals;
+mod limits;
 mod refusing;
 mod setup;
 mod step;

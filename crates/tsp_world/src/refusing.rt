@@ -1,16 +1,33 @@
 //! What decides whether a world refuses an event.
 ghost use Rattle.std.specs.Prelude.{◌≡◌, ◌≤◌, length, vec_len, slice_get, IfSome};
 ghost use Rattle.tsp_run.specs.Networks.{networks};
-ghost use Rattle.tsp_run.specs.Refusals.{refusal, not_up, down, actor, room_at};
+ghost use Rattle.tsp_run.specs.Refusals.{refusal, no_datagram, not_up, down, actor, room_at};
 ghost use Rattle.tsp_run.specs.Run.{goes_to};
 ghost use Rattle.tsp_world.specs.WorldStands.{scene_of, up_at};
 
-use crate::refusals;
+use crate::limits::limit;
 use crate::world::World;
 use tsp_base::event::{Event, EventFault};
 use tsp_base::members::Members;
+use tsp_nets::refusals::{down_at, first_of, no_node, time_back, time_of};
 use tsp_nets::{address_of, networks_of, room_of};
 use tsp_run::address::Address;
+
+/// The event takes a datagram that was never posted.
+fn no_datagram(posted: u64, e: &Event) -> Option<EventFault>
+    ensures { result ≡ no_datagram posted e.now }
+{
+    match e {
+        Event::Take { datagram, .. } => {
+            if *datagram < posted {
+                None
+            } else {
+                Some(EventFault::NoDatagram(*datagram, posted))
+            }
+        }
+        _ => None,
+    }
+}
 
 impl World {
     /// The number of nodes.
@@ -68,12 +85,11 @@ impl World {
         requires { node ≡ actor (scene_of self.now) e.now }
         ensures { result ≡ refusal (scene_of self.now) e.now }
     {
-        let limit = refusals::limit(self.events, self.posted(), self.room(node));
-        let later = refusals::first_of(self.not_up(e, node), limit);
-        let unknown = refusals::first_of(refusals::no_datagram(self.posted(), e), later);
-        let absent = refusals::no_node(self.count(), self.networks(), e);
-        let placed = refusals::first_of(absent, unknown);
-        refusals::first_of(refusals::time_back(refusals::time_of(e), self.last), placed)
+        let full = limit(self.events, self.posted(), self.room(node));
+        let later = first_of(self.not_up(e, node), full);
+        let unposted = first_of(no_datagram(self.posted(), e), later);
+        let absent = first_of(no_node(self.count(), self.networks(), e), unposted);
+        first_of(time_back(time_of(e), self.last), absent)
     }
 
     /// Whether a node has booted.
@@ -101,7 +117,7 @@ impl World {
         ensures { result ≡ down (up_at self.now.nodes.items) node }
     {
         match node {
-            Some(n) => refusals::down_at(self.is_up(n), n),
+            Some(n) => down_at(self.is_up(n), n),
             None => None,
         }
     }
