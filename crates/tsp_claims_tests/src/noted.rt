@@ -13,7 +13,7 @@ use tsp_base::name::Name;
 use tsp_base::place::{PeerId, Place, Port};
 use tsp_base::role::Role;
 use tsp_base::stamp::Stamp;
-use tsp_noted::clocks::{corrected_at, is_spaced, moved_at, target_at};
+use tsp_noted::clocks::{is_spaced, moved_at, target_at};
 use tsp_noted::noted::{Noted, Why};
 use tsp_noted::posts::{has_taken, post_at};
 use tsp_noted::rounds::{Best, asked_at, best_after, closed_at, is_going, trip_of};
@@ -144,8 +144,6 @@ fn tells_clocks(rt: HostRuntime) -> Result<(), Fail> {
     assert!(rt; !is_spaced(&lines[..3], NODE, 60 + GAP));
     assert!(rt; is_spaced(&lines[..3], NODE, 61 + GAP));
     assert!(rt; is_spaced(&lines, NODE, 91));
-    assert!(rt; corrected_at(&lines[..3], NODE) == Some(2));
-    assert!(rt; corrected_at(&lines, NODE).is_none());
     assert_eq!(rt; moved_at(&lines[..3], NODE), 20);
     assert_eq!(rt; moved_at(&lines, NODE), 0);
     assert_eq!(rt; target_at(&lines[..3], NODE, 70), 1_040);

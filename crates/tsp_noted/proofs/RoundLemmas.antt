@@ -17,7 +17,7 @@ use Rattle.tsp_base.proofs.Views.{plain_view}
 use Rattle.tsp_noted.specs.declared.noted.Noted.{Noted}
 use Rattle.tsp_noted.specs.declared.rounds.Best.{Best}
 use Rattle.tsp_noted.specs.Histories.{line_of, noted_after, history_of}
-use Rattle.tsp_noted.specs.Rounds.{Asked, AskedAt, BestAt, Bests, better_of, LineAt, SeenAt, start_of, trip_after, trip_at, trips_after, trips_of}
+use Rattle.tsp_noted.specs.Rounds.{Asked, AskedAt, BestAt, Bests, better_of, LineAt, SeenAt, start_of, trip_after, trip_at}
 use Rattle.tsp_noted.proofs.HistoryLemmas.{Within-noted}
 use Rattle.tsp_noted.proofs.SendLemmas.{view-here}
 
@@ -123,26 +123,6 @@ trip-told l h p counter diff err ticket asked now deed told is =
     ap (λ a. trip_after a l.did (view l.port (of (node_of l) h))) deed
     ∙ ap₂ (λ a b. a -ℤ b) (ap (λ ds. target ds l.did.tick) (plain_view l.port (of (node_of l) h)) ∙ sym is) (start-there (exchange p counter (view l.port (of (node_of l) h))) asked told)
 
--- a round trip for each line
-pub length-trips : (h : List Line) (ns : List Noted) → length (trips_after h ns) ≡ length ns
-length-trips h [] = refl
-length-trips h (n ∷ rest) = ap suc (length-trips (line_of n ∷ h) rest)
-
--- that of the line at an index
-pub trip-of-line : (ns : List Noted) (i : ℕ) (n : Noted) (d : ℤ) → i < length ns → get_or ns i n ≡ n → get_or (trips_of ns) i d ≡ trip_at (line_of n) (history_of (take i ns))
-trip-of-line ns i n d below is = there [] ns i below is where
-  there : (h : List Line) (ms : List Noted) (j : ℕ) → j < length ms → get_or ms j n ≡ n → get_or (trips_after h ms) j d ≡ trip_at (line_of n) (noted_after h (take j ms))
-  there h [] j lt e = let bad : ⊥ = omega (arith, lt) in absurd bad
-  there h (m ∷ rest) zero lt e = ap (λ k. trip_at (line_of k) h) e
-  there h (m ∷ rest) (suc j) lt e = there (line_of m ∷ h) rest j (omega (arith, lt)) e
-
 -- the better of two, where what the later one says is written otherwise
 pub better-same : (keep : Option Best) (i : ℕ) (d d' e e' t t' : ℤ) → d ≡ d' → e ≡ e' → t ≡ t' → better_of keep (record { index = i; diff = d; err = e; trip = t }) ≡ better_of keep (record { index = i; diff = d'; err = e'; trip = t' })
 better-same keep i d d' e e' t t' same-d same-e same-t = rw (same-d, same-e, same-t) refl
-
--- the round trips of some lines and one more
-pub trips-more : (ns : List Noted) (i : ℕ) (n : Noted) → i < length ns → get_or ns i n ≡ n → trips_of (take (i + 1) ns) ≡ (trips_of (take i ns) ++ trip_at (line_of n) (history_of (take i ns)) ∷ [])
-trips-more ns i n below is = ap (λ ms. trips_of ms) (take_more ns i n below) ∙ append [] (take i ns) (get_or ns i n) ∙ ap (λ m. trips_of (take i ns) ++ trip_at (line_of m) (history_of (take i ns)) ∷ []) is where
-  append : (h : List Line) (ms : List Noted) (m : Noted) → trips_after h (ms ++ m ∷ []) ≡ (trips_after h ms ++ trip_at (line_of m) (noted_after h ms) ∷ [])
-  append h [] m = refl
-  append h (k ∷ rest) m = ap (λ ts. trip_at (line_of k) h ∷ ts) (append (line_of k ∷ h) rest m)

@@ -1,5 +1,4 @@
 pub mod Clocks
-pub mod Corrected
 pub mod Histories
 pub mod Holding
 pub mod Posts

@@ -37,15 +37,6 @@ trip_after _ here before = pos 0
 abbrev pub trip_at : Line → List Line → ℤ
 trip_at l h = trip_after l.did.deed l.did (view l.port (of (node_of l) h))
 
--- the round trips of these lines after a history
-abbrev pub trips_after : List Line → List Noted → List ℤ
-trips_after h [] = []
-trips_after h (n ∷ rest) = trip_at (line_of n) h ∷ trips_after (line_of n ∷ h) rest
-
--- the round trip of each line
-abbrev pub trips_of : List Noted → List ℤ
-trips_of ns = trips_after [] ns
-
 -- the line at index i, of these lines, is this one
 pub record LineAt (ns : List Noted) (i : ℕ) (noted : Noted) : Type 0 where
   pub below : i < length ns

@@ -1,11 +1,9 @@
 //! Facts of a node's clock, by one scan each.
-ghost use Rattle.std.specs.Prelude.{◌≡◌, ◌<◌, ◌≤◌, ◌+◌, ◌^◌, ℕ, [], pos, neg_ℤ, ◌-ℤ◌, ◌+ℤ◌, ◌≤ℤ◌, List, ◌∷◌, length, take, MatchBool};
+ghost use Rattle.std.specs.Prelude.{◌≡◌, ◌<◌, ◌≤◌, ◌+◌, ◌^◌, ℕ, [], pos, neg_ℤ, ◌-ℤ◌, ◌+ℤ◌, ◌≤ℤ◌, List, ◌∷◌, length, MatchBool};
 ghost use Rattle.tsp_base.specs.History.{Line, of, dids};
-ghost use Rattle.tsp_base.specs.NodeFacts.{correct_place, moved, target};
+ghost use Rattle.tsp_base.specs.NodeFacts.{moved, target};
 ghost use Rattle.tsp_noted.specs.Clocks.{IsSmall, IsSumOf, Keeps};
-ghost use Rattle.tsp_noted.specs.Corrected.{DoneBy};
 ghost use Rattle.tsp_noted.specs.Histories.{line_of, history_of};
-ghost use Rattle.tsp_noted.specs.Rounds.{LineAt};
 ghost use Rattle.tsp_noted.specs.Spacing.{Spaced};
 
 use crate::noted::{Noted, Why};
@@ -45,10 +43,9 @@ impl Clock {
         i128::from(self.wall) - i128::from(self.boot_tick)
     }
 
-    /// Its target at a tick after so many lines, in microseconds.
-    pub(crate) fn target(&self, count: usize, tick: u64) -> i128
-        requires few { count < 2 ^ 32 }
-        requires bounded { IsSumOf count self.now.moved }
+    /// Its target at a tick, in microseconds.
+    pub(crate) fn target(&self, tick: u64) -> i128
+        requires { IsSumOf 4294967295 self.now.moved }
         ensures target { result ≡ ((self.now.wall -ℤ pos self.now.boot_tick) +ℤ self.now.moved) +ℤ pos tick }
         ensures small { IsSmall result }
     {
@@ -88,11 +85,10 @@ pub fn is_spaced(lines: &[Noted], node: u32, tick: u64) -> bool
 }
 
 /// What is seen of a clock after a line.
-pub(crate) fn clock_after(line: &Noted, node: u32, count: usize, keep: Clock) -> Clock
-    requires few { count < 2 ^ 32 }
-    requires bounded { IsSumOf count keep.moved }
+pub(crate) fn clock_after(line: &Noted, node: u32, keep: Clock) -> Clock
+    requires { IsSumOf 4294967295 keep.moved }
     ensures keeps { (before : List Line) → Keeps node before keep → Keeps node (line_of line.now ∷ before) result }
-    ensures bounded { IsSumOf (count + 1) result.moved }
+    ensures bounded { (count : ℕ) → IsSumOf count keep.moved → IsSumOf (count + 1) result.moved }
 {
     if line.node != node {
         return keep;
@@ -121,8 +117,8 @@ fn clock_at(lines: &[Noted], node: u32) -> Clock
     ensures bounded { IsSumOf (length lines.now) result.moved }
 {
     let mut clock = Clock::new();
-    for (count, line) in lines.iter().enumerate() {
-        clock = clock_after(line, node, count, clock);
+    for line in lines {
+        clock = clock_after(line, node, clock);
     }
     clock
 }
@@ -142,31 +138,5 @@ pub fn target_at(lines: &[Noted], node: u32, tick: u64) -> i128
     ensures target { result ≡ target (dids (of node (history_of lines.now))) tick }
     ensures small { IsSmall result }
 {
-    clock_at(lines, node).target(lines.len(), tick)
-}
-
-/// The index of a node's last correction since its boot after the line with this index, where `keep` is that before it.
-fn corrected_after(line: &Noted, index: usize, node: u32, keep: Option<usize>) -> Option<usize>
-    ensures { (ns : List Noted) (before : List Line) → LineAt ns index line.now → before ≡ history_of (take index ns) → DoneBy ns node (correct_place (dids (of node before))) keep
-        → DoneBy ns node (correct_place (dids (of node (line_of line.now ∷ before)))) result }
-{
-    if line.node != node {
-        return keep;
-    }
-    match &line.act {
-        Some(Act::Boot) => None,
-        Some(Act::Correct { .. }) => Some(index),
-        _ => keep,
-    }
-}
-
-/// The index of a node's last correction since its boot, if there was one.
-pub fn corrected_at(lines: &[Noted], node: u32) -> Option<usize>
-    ensures { DoneBy lines.now node (correct_place (dids (of node (history_of lines.now)))) result }
-{
-    let mut corrected = None;
-    for (index, line) in lines.iter().enumerate() {
-        corrected = corrected_after(line, index, node, corrected);
-    }
-    corrected
+    clock_at(lines, node).target(tick)
 }

@@ -6,7 +6,7 @@ ghost use Rattle.tsp_base.specs.NodeFacts.{target};
 ghost use Rattle.tsp_base.specs.StepFacts.{closed};
 ghost use Rattle.tsp_noted.specs.Clocks.{IsSmall, IsSumOf, IsTrip, Keeps};
 ghost use Rattle.tsp_noted.specs.Histories.{line_of, history_of};
-ghost use Rattle.tsp_noted.specs.Rounds.{Asked, Bests, better_of, LineAt, SeenBy, start_of, trip_at, trips_of};
+ghost use Rattle.tsp_noted.specs.Rounds.{Asked, Bests, better_of, LineAt, SeenBy, start_of, trip_at};
 
 use crate::clocks::{Clock, clock_after, target_at};
 use crate::noted::Noted;
@@ -149,7 +149,6 @@ fn asked_then(
 /// The same after a line of any node, where its clock is this one before it.
 fn asked_after(
     line: &Noted,
-    count: usize,
     node: u32,
     port: Port,
     p: PeerId,
@@ -157,8 +156,7 @@ fn asked_after(
     clock: Clock,
     keep: Option<i128>,
 ) -> Option<i128>
-    requires few { count < 2 ^ 32 }
-    requires bounded { IsSumOf count clock.moved }
+    requires { IsSumOf 4294967295 clock.moved }
     ensures asked { (before : List Line) → Keeps node before clock → Asked (exchange p counter (view port (of node before))) keep
         → Asked (exchange p counter (view port (of node (line_of line.now ∷ before)))) result }
     ensures small { IfSome keep IsSmall → IfSome result IsSmall }
@@ -166,7 +164,7 @@ fn asked_after(
     if line.node != node {
         return keep;
     }
-    asked_then(line, port, p, counter, clock.target(count, line.tick), keep)
+    asked_then(line, port, p, counter, clock.target(line.tick), keep)
 }
 
 /// The clock's target, in microseconds, at the last request of a node's port to a peer under this counter, as long as
@@ -178,9 +176,9 @@ pub fn asked_at(lines: &[Noted], node: u32, port: Port, p: PeerId, counter: u64)
 {
     let mut clock = Clock::new();
     let mut asked = None;
-    for (count, line) in lines.iter().enumerate() {
-        asked = asked_after(line, count, node, port, p, counter, clock, asked);
-        clock = clock_after(line, node, count, clock);
+    for line in lines {
+        asked = asked_after(line, node, port, p, counter, clock, asked);
+        clock = clock_after(line, node, clock);
     }
     asked
 }
@@ -265,17 +263,4 @@ fn better(early: Option<Best>, late: Best) -> Best
         Some(early) if early.trip <= late.trip => early,
         _ => late,
     }
-}
-
-/// The best sample of a peer since the last round of a node's port began, if there is one; the trips are those of the
-/// lines, in order.
-pub fn best_at(lines: &[Noted], trips: &[i128], node: u32, port: Port, p: PeerId) -> Option<Best>
-    requires { trips.now ≡ trips_of lines.now }
-    ensures { Bests lines.now node port (best p (view port (of node (history_of lines.now)))) result }
-{
-    let mut best = None;
-    for (index, line) in lines.iter().enumerate() {
-        best = best_after(line, index, trips[index], node, port, p, best);
-    }
-    best
 }

@@ -7,6 +7,6 @@ use Rattle.tsp_noted.specs.Histories.{noted_after}
 use Rattle.tsp_noted.specs.Rounds.{Asked}
 use Rattle.tsp_noted.proofs.rounds.asked_at.Given as goal
 
-abbrev pub invariant-loop-count : goal.invariant-loop-count
-invariant-loop-count l = (h : List Line) × Keeps l.node h l.clock × IsSumOf l.count l.clock.moved × Asked (exchange l.p l.counter (view l.port (of l.node h))) l.asked × IfSome l.asked IsSmall
-    × (noted_after h (drop l.count l.lines) ≡ noted_after [] l.lines)
+abbrev pub invariant-loop-line : goal.invariant-loop-line
+invariant-loop-line l = (h : List Line) × Keeps l.node h l.clock × IsSumOf l.line-index l.clock.moved × Asked (exchange l.p l.counter (view l.port (of l.node h))) l.asked × IfSome l.asked IsSmall
+    × (noted_after h (drop l.line-index l.lines) ≡ noted_after [] l.lines)
