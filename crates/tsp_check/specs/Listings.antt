@@ -1,5 +1,5 @@
 -- By what the events of a schedule are refused that is to be audited: as in a run, but a take is looked at for its time alone, and there is room for fewer.
-use Rattle.std.specs.Prelude.{◌≡◌, ℕ, ◌≤◌, ◌||◌, nat_le, if◌then◌else◌, Bool, true, List, [], length, Option, None, Some}
+use Rattle.std.specs.Prelude.{◌≡◌, ℕ, ◌≤◌, nat_le, if◌then◌else◌, Bool, true, List, [], length, Option, None, Some}
 use Rattle.std.specs.Coded.{Unit-prop, le_prop}
 use Rattle.std.specs.List.{All}
 use Rattle.tsp_base.specs.declared.event.Event.{Event}
@@ -7,7 +7,7 @@ use Rattle.tsp_base.specs.declared.event.Event.TheVariants.{Boot, Turn, Take, By
 use Rattle.tsp_base.specs.declared.event.EventFault.{EventFault}
 use Rattle.tsp_base.specs.declared.event.EventFault.TheVariants.{Limit}
 use Rattle.tsp_base.specs.Headers.{HeaderValue, is_whole}
-use Rattle.tsp_claims.specs.Listed.{NamesNode, booted, boots, up_in}
+use Rattle.tsp_claims.specs.Listed.{NamesNode, booted}
 use Rattle.tsp_run.specs.Refusals.{down, first_of, no_node, scene, time_back}
 use Rattle.tsp_run.specs.Run.{event_at, last_at}
 
@@ -60,7 +60,3 @@ NamesNode-prop nodes (Bytes at node port from octets) = le_prop
 -- that they may be is known in one way
 pub AreListed-prop : (nodes : ℕ) (events : List Event) → IsProp (AreListed nodes events)
 AreListed-prop nodes events = hlevel (le_prop, NamesNode-prop)
-
--- after an event a node is up that was up before, or that the event boots
-abbrev pub Wakes : Event → List Bool → List Bool → Type 0
-Wakes e old new = (length new ≡ length old) × ((n : ℕ) → up_in new n ≡ (boots e n || up_in old n))

@@ -1,8 +1,7 @@
 //! The events of a schedule that is to be audited.
 ghost use Rattle.std.specs.Prelude.{◌≡◌, ◌≤◌, ◌∷◌, [], true, List, length, vec_len, IfOk};
 ghost use Rattle.tsp_base.specs.Headers.{is_whole};
-ghost use Rattle.tsp_check.specs.Listings.{AreListed, AreListed-prop, Wakes};
-ghost use Rattle.tsp_claims.specs.Listed.{NamesNode};
+ghost use Rattle.tsp_check.specs.Listings.{AreListed, AreListed-prop};
 ghost use Rattle.tsp_run.specs.Networks.{numbers_below};
 
 use crate::copies::copy_event;
@@ -10,13 +9,14 @@ use std::alloc::{AllocError, Global};
 use tsp_base::event::{Event, EventFault};
 use tsp_base::header::Header;
 use tsp_base::members::Members;
+use tsp_claims::booted::{none_booted, wake};
 use tsp_course::course::Course;
 use tsp_nets::all_nodes;
 use tsp_nets::refusals::time_of;
 
 /// The header and the events of a schedule so far, at most 20,000, none of which is refused.
 #[derive(Drop)]
-pub struct Listing {
+pub(crate) struct Listing {
     /// The nodes' clocks, names and networks.
     pub(crate) header: Header,
     /// The network of all nodes, which they are on where the header names none.
@@ -44,10 +44,7 @@ impl Listing {
         ensures { IfOk result (λ listing. ListingStands header [] listing) }
     {
         let one = all_nodes(alloc, header.nodes().len() as u32)?;
-        let mut up = Vec::new(alloc);
-        for _ in header.nodes() {
-            up.push(false)?;
-        }
+        let up = none_booted(alloc, header.nodes().len())?;
         Ok(Listing {
             header,
             one,
@@ -55,16 +52,6 @@ impl Listing {
             events: Vec::new(alloc),
             last: 0,
         })
-    }
-}
-
-/// A node has booted where the event is its boot.
-fn wake(up: &mut Vec<bool>, e: &Event)
-    requires { NamesNode (vec_len up.old) e.now }
-    ensures { Wakes e.now up.old.items up.new.items }
-{
-    if let Event::Boot { node, .. } = e {
-        up[*node as usize] = true;
     }
 }
 

@@ -1,5 +1,5 @@
 //! Why an event of a schedule that is to be audited is refused.
-ghost use Rattle.std.specs.Prelude.{◌≡◌, ◌≤◌, ℕ, [], length};
+ghost use Rattle.std.specs.Prelude.{◌≡◌, ◌≤◌, ℕ, [], length, Some};
 ghost use Rattle.tsp_check.specs.Listings.{no_room, refusal_at, wants_up};
 ghost use Rattle.tsp_claims.specs.Listed.{up_in};
 ghost use Rattle.tsp_run.specs.Networks.{networks};
@@ -8,11 +8,12 @@ ghost use Rattle.tsp_run.specs.Refusals.{down, no_node, scene};
 use crate::listing::Listing;
 use tsp_base::event::{Event, EventFault};
 use tsp_base::members::Members;
+use tsp_claims::booted::has_booted;
 use tsp_nets::networks_of;
 use tsp_nets::refusals::{down_at, first_of, no_node, time_back, time_of};
 
 /// How many events a schedule may have that is to be audited.
-pub(crate) const MOST_EVENTS: u64 = 20_000;
+const MOST_EVENTS: u64 = 20_000;
 
 /// There is room for no more events.
 fn no_room(events: u64) -> Option<EventFault>
@@ -41,11 +42,11 @@ impl Listing {
         no_node(self.header.nodes().len() as u32, self.networks(), e)
     }
 
-    /// Whether a node has booted.
-    fn is_up(&self, n: u32) -> bool
-        ensures { result ≡ up_in self.now.up.items n }
+    /// This node hasn't booted.
+    fn down_at(&self, n: u32) -> Option<EventFault>
+        ensures { result ≡ down (up_in self.now.up.items) (Some n) }
     {
-        matches!(self.up.get(n as usize), Some(true))
+        down_at(has_booted(self.up.as_slice(), n), n)
     }
 
     /// The node of a turn or of octets hasn't booted.
@@ -53,8 +54,8 @@ impl Listing {
         ensures { result ≡ down (up_in self.now.up.items) (wants_up e.now) }
     {
         match e {
-            Event::Turn { node, .. } => down_at(self.is_up(*node), *node),
-            Event::Bytes { node, .. } => down_at(self.is_up(*node), *node),
+            Event::Turn { node, .. } => self.down_at(*node),
+            Event::Bytes { node, .. } => self.down_at(*node),
             Event::Boot { .. } => None,
             Event::Take { .. } => None,
         }

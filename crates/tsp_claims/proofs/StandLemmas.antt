@@ -11,9 +11,9 @@ use Rattle.tsp_claims.specs.declared.claimed.Claimed.{Claimed}
 use Rattle.tsp_claims.specs.declared.claims.Claims.{Claims}
 use Rattle.tsp_claims.specs.ClaimedHistory.{Claim, claimed, events_of, joins_acts, lines_in, posts_by, posts_of, step_of}
 use Rattle.tsp_claims.specs.Fitting.{acts_of}
-use Rattle.tsp_claims.specs.Listed.{boots, booted, up_in}
+use Rattle.tsp_claims.specs.Listed.{Wakes, boots, booted, up_in}
 use Rattle.tsp_claims.specs.Stands.{ClaimsStand, claim_of}
-use Rattle.tsp_claims.specs.TakingIn.{Stays, TakesStep, Wakes}
+use Rattle.tsp_claims.specs.TakingIn.{Stays, TakesStep}
 use Rattle.tsp_noted.specs.Histories.{history_of}
 use Rattle.tsp_script.specs.declared.trace.Line2.{Line2}
 
@@ -56,8 +56,8 @@ stays-fields old new k P h =
 -- claims that took in an event stand for it too: it was counted with its lines, then its step was joined, and then its node woke
 pub ClaimsStand-taken : (header : HeaderValue) (claims : List Claim) (e : Event) (lines : List Line2) (old mid joined new : Claims) →
     mid.header ≡ old.header → mid.up ≡ old.up → mid.lines ≡ old.lines → mid.posts ≡ old.posts → mid.events ≡ old.events + 1 → mid.told ≡ old.told + length lines →
-    TakesStep e lines mid joined → Wakes e joined new → ClaimsStand header claims old → ClaimsStand header (claim_of e lines ∷ claims) new
-ClaimsStand-taken header claims e lines old mid joined new same_header same_up same_lines same_posts counted told takes wakes s =
+    TakesStep e lines mid joined → new.header ≡ joined.header → new.lines ≡ joined.lines → new.posts ≡ joined.posts → new.events ≡ joined.events → new.told ≡ joined.told → Wakes e joined.up.items new.up.items → ClaimsStand header claims old → ClaimsStand header (claim_of e lines ∷ claims) new
+ClaimsStand-taken header claims e lines old mid joined new same_header same_up same_lines same_posts counted told takes head_kept lines_kept posts_kept events_kept told_kept wakes s =
     let acts : List Placed = acts_of lines in
     let ups : List Bool = mid.up.items in
     let header_is : mid.header ≡ header = same_header ∙ s.header_is in
@@ -70,12 +70,12 @@ ClaimsStand-taken header claims e lines old mid joined new same_header same_up s
     let one_more : length claims + 1 ≡ length (claim_of e lines ∷ claims) = omega arith in
     let events_are : mid.events ≡ length claims + 1 = counted ∙ ap (λ n. n + 1) s.count in
     record {
-      header_is = wakes.header_is ∙ (takes.header_is ∙ header_is);
-      count = wakes.events_are ∙ (takes.events_are ∙ (events_are ∙ one_more));
-      told = wakes.told_is ∙ (takes.told_is ∙ (told ∙ (ap (λ n. n + length lines) s.told ∙ ap (λ n. lines_in claims + n) (sym (length-map lines (λ (l : Line2). l.placed))))));
-      history = ap (λ v. history_of v.items) wakes.lines_are ∙ (takes.history ∙ (ap (λ k. joins_acts k (step_of mid.header mid.posts.items (up_in ups) e acts) acts (history_of mid.lines.items)) header_is ∙
+      header_is = head_kept ∙ (takes.header_is ∙ header_is);
+      count = events_kept ∙ (takes.events_are ∙ (events_are ∙ one_more));
+      told = told_kept ∙ (takes.told_is ∙ (told ∙ (ap (λ n. n + length lines) s.told ∙ ap (λ n. lines_in claims + n) (sym (length-map lines (λ (l : Line2). l.placed))))));
+      history = ap (λ v. history_of v.items) lines_kept ∙ (takes.history ∙ (ap (λ k. joins_acts k (step_of mid.header mid.posts.items (up_in ups) e acts) acts (history_of mid.lines.items)) header_is ∙
           (ap (λ o. joins_acts header o acts (history_of mid.lines.items)) step_is ∙ ap (λ h. joins_acts header step acts h) history)));
-      posts_are = ap (λ v. v.items) wakes.posts_are ∙ (takes.posts_are ∙ (ap (λ ps. ps ++ posts_by mid.events (step_of mid.header mid.posts.items (up_in ups) e acts) acts) posts_are ∙
+      posts_are = ap (λ v. v.items) posts_kept ∙ (takes.posts_are ∙ (ap (λ ps. ps ++ posts_by mid.events (step_of mid.header mid.posts.items (up_in ups) e acts) acts) posts_are ∙
           (ap (λ o. posts_of header claims ++ posts_by mid.events o acts) step_is ∙ ap (λ n. posts_of header claims ++ posts_by n step acts) events_are)));
-      up_is = fun_ext (λ n. wakes.up_is n ∙ (ap (λ v. boots e n || up_in v.items n) (takes.up_is ∙ same_up) ∙ ap (λ u. boots e n || u n) s.up_is));
+      up_is = fun_ext (λ n. wakes.1 n ∙ (ap (λ v. boots e n || up_in v.items n) (takes.up_is ∙ same_up) ∙ ap (λ u. boots e n || u n) s.up_is));
     }

@@ -1,5 +1,5 @@
 -- What listed events decide, of which the newest is the first.
-use Rattle.std.specs.Prelude.{ℕ, ◌==◌, ◌<◌, Bool, false, ◌||◌, List, [], ◌∷◌, Option, None, Some, slice_get}
+use Rattle.std.specs.Prelude.{◌≡◌, ℕ, ◌==◌, ◌<◌, Bool, false, ◌||◌, List, [], ◌∷◌, length, Option, None, Some, slice_get}
 use Rattle.tsp_base.specs.declared.event.Event.{Event}
 use Rattle.tsp_base.specs.declared.event.Event.TheVariants.{Boot, Turn, Take, Bytes}
 
@@ -27,3 +27,7 @@ NamesNode nodes (Boot at node word) = node < nodes
 NamesNode nodes (Turn at node) = node < nodes
 NamesNode nodes (Take at k) = Unit {0}
 NamesNode nodes (Bytes at node port from octets) = node < nodes
+
+-- after an event a node is up that was up before, or that the event boots
+abbrev pub Wakes : Event → List Bool → List Bool → Type 0
+Wakes e old new = (length new ≡ length old) × ((n : ℕ) → up_in new n ≡ (boots e n || up_in old n))

@@ -1,12 +1,12 @@
 -- What it takes to take claimed lines in, and what it comes to.
-use Rattle.std.specs.Prelude.{◌≡◌, ℕ, ◌+◌, ◌≤◌, ◌||◌, List, ◌++◌, vec_len, vec_capacity}
+use Rattle.std.specs.Prelude.{◌≡◌, ℕ, ◌+◌, ◌≤◌, List, ◌++◌, vec_len, vec_capacity}
 use Rattle.tsp_base.specs.declared.event.Event.{Event}
 use Rattle.tsp_base.specs.Joins.{stepped}
 use Rattle.tsp_claims.specs.declared.acting.Acting.{Acting}
 use Rattle.tsp_claims.specs.declared.claims.Claims.{Claims}
 use Rattle.tsp_claims.specs.ClaimedHistory.{joins_acts, posts_by, posts_in, step_of}
 use Rattle.tsp_claims.specs.Fitting.{acts_of}
-use Rattle.tsp_claims.specs.Listed.{boots, up_in}
+use Rattle.tsp_claims.specs.Listed.{up_in}
 use Rattle.tsp_claims.specs.Steps.{step_by}
 use Rattle.tsp_noted.specs.Histories.{history_of}
 use Rattle.tsp_script.specs.declared.trace.Line2.{Line2}
@@ -40,14 +40,5 @@ pub record TakesStep (e : Event) (lines : List Line2) (old new : Claims) : Type 
   pub up_is : new.up ≡ old.up
   pub history : history_of new.lines.items ≡ joins_acts old.header (step_of old.header old.posts.items (up_in old.up.items) e (acts_of lines)) (acts_of lines) (history_of old.lines.items)
   pub posts_are : new.posts.items ≡ old.posts.items ++ posts_by old.events (step_of old.header old.posts.items (up_in old.up.items) e (acts_of lines)) (acts_of lines)
-  pub events_are : new.events ≡ old.events
-  pub told_is : new.told ≡ old.told
-
--- a node is up where it was before, or where the event boots it
-pub record Wakes (e : Event) (old new : Claims) : Type 0 where
-  pub header_is : new.header ≡ old.header
-  pub up_is : (n : ℕ) → up_in new.up.items n ≡ (boots e n || up_in old.up.items n)
-  pub lines_are : new.lines ≡ old.lines
-  pub posts_are : new.posts ≡ old.posts
   pub events_are : new.events ≡ old.events
   pub told_is : new.told ≡ old.told

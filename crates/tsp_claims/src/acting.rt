@@ -9,6 +9,7 @@ ghost use Rattle.tsp_claims.specs.ClaimedHistory.{reaches, step_at, taker};
 ghost use Rattle.tsp_claims.specs.Listed.{NamesNode, up_in};
 ghost use Rattle.tsp_claims.specs.Steps.{ActsIn, step_by};
 
+use crate::booted::has_booted;
 use crate::claims::Claims;
 use tsp_base::act::Act;
 use tsp_base::drift::tick_at;
@@ -67,17 +68,6 @@ impl Claims {
         tick_at(self.line(node).rate, at)
     }
 
-    /// Whether a node is up.
-    fn is_up(&self, n: u32) -> bool
-        ensures up { result ≡ up_in self.now.up.items n }
-        ensures node { result ≡ true → n < vec_len self.now.up }
-    {
-        match self.up.get(n as usize) {
-            Some(up) => *up,
-            None => false,
-        }
-    }
-
     /// Where the claimed post with this number goes; None where it goes nowhere, or isn't there.
     fn address(&self, k: u64) -> Option<Address>
         ensures { result ≡ reaches (networks self.now.header) (slice_get self.now.posts.items k) }
@@ -95,7 +85,7 @@ impl Claims {
         ensures node { IfSome result (λ a. a.node < vec_len self.now.up) }
     {
         let address = self.address(k)?;
-        if self.is_up(address.node) {
+        if has_booted(self.up.as_slice(), address.node) {
             Some(address)
         } else {
             None

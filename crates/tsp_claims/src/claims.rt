@@ -4,6 +4,7 @@ ghost use Rattle.tsp_base.specs.Headers.{is_whole};
 ghost use Rattle.tsp_run.specs.Networks.{numbers_below};
 
 use crate::audit_fault::AuditFault;
+use crate::booted::none_booted;
 use crate::claimed::Claimed;
 use crate::tally::Tally;
 use std::alloc::{AllocError, Global};
@@ -57,10 +58,7 @@ impl Claims {
         ensures { IfOk result (λ claims. ClaimsStand header [] claims) }
     {
         let one = all_nodes(alloc, header.nodes().len() as u32)?;
-        let mut up = Vec::new(alloc);
-        for _ in header.nodes() {
-            up.push(false)?;
-        }
+        let up = none_booted(alloc, header.nodes().len())?;
         Ok(Claims {
             header,
             one,

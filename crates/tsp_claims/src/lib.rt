@@ -3,6 +3,7 @@
 
 mod acting;
 pub mod audit_fault;
+pub mod booted;
 pub mod claimed;
 pub mod claims;
 mod fitting;

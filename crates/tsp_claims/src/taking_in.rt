@@ -7,10 +7,11 @@ ghost use Rattle.tsp_claims.specs.Fitting.{acts_of};
 ghost use Rattle.tsp_claims.specs.Listed.{NamesNode, up_in};
 ghost use Rattle.tsp_claims.specs.Stands.{ClaimsStand, claim_of};
 ghost use Rattle.tsp_claims.specs.Steps.{ActsIn, step_by};
-ghost use Rattle.tsp_claims.specs.TakingIn.{HasRoom, Joins, Stays, TakesStep, Wakes};
+ghost use Rattle.tsp_claims.specs.TakingIn.{HasRoom, Joins, Stays, TakesStep};
 ghost use Rattle.tsp_noted.specs.Histories.{history_of};
 
 use crate::acting::Acting;
+use crate::booted::wake;
 use crate::claimed::Claimed;
 use crate::claims::Claims;
 use std::alloc::AllocError;
@@ -19,19 +20,6 @@ use tsp_base::event::Event;
 use tsp_base::place::Port;
 use tsp_noted::noted::Noted;
 use tsp_script::trace::Line2;
-
-/// Puts a value behind the others, where there is room.
-fn push<T: Drop>(held: &mut Vec<T>, value: T)
-    requires room { vec_len held.old < vec_capacity held.old }
-    ensures items { held.new.items ≡ held.old.items ++ value ∷ [] }
-    ensures len { vec_len held.new ≡ vec_len held.old + 1 }
-    ensures capacity { vec_capacity held.old ≤ vec_capacity held.new }
-{
-    match held.push(value) {
-        Ok(()) => {}
-        Err(_) => unreachable!(),
-    }
-}
 
 /// A line of a step: its mark, or an act on a port.
 fn noted(step: Acting, port: Port, act: Option<Act>) -> Noted
@@ -55,7 +43,7 @@ fn note(lines: &mut Vec<Noted>, step: Acting, acts: &[Line2])
 {
     for line in acts {
         let act = line.placed.act.copy();
-        push(lines, noted(step, line.placed.port, Some(act)));
+        lines.push_reserved(noted(step, line.placed.port, Some(act)));
     }
 }
 
@@ -74,7 +62,7 @@ fn claim_one(posts: &mut Vec<Claimed>, event: u64, step: Acting, placed: &Placed
                 node: step.node,
                 placed: placed.copy(),
             };
-            push(posts, claimed)
+            posts.push_reserved(claimed);
         }
         _ => {}
     }
@@ -118,19 +106,9 @@ impl Claims {
         requires few { vec_len self.old.lines + length acts.now + 1 ≤ self.old.told + self.old.events }
         ensures { Joins step acts.now self.old self.new }
     {
-        push(&mut self.lines, noted(step, Port(0), None));
+        self.lines.push_reserved(noted(step, Port(0), None));
         note(&mut self.lines, step, acts);
         claim(&mut self.posts, self.events, step, acts);
-    }
-
-    /// A node has booted where the event is its boot.
-    fn wake(&mut self, e: &Event)
-        requires { NamesNode (length self.old.header.nodes) e.now }
-        ensures { Wakes e.now self.old self.new }
-    {
-        if let Event::Boot { node, .. } = e {
-            self.up[*node as usize] = true;
-        }
     }
 
     /// Joins the step of an event at which a node acts, if one does, with the acts of these lines; lines of a take only
@@ -162,6 +140,6 @@ impl Claims {
         self.events += 1;
         self.told += acts.len() as u64;
         self.take_step(e, step, acts);
-        self.wake(e);
+        wake(&mut self.up, e);
     }
 }

@@ -15,7 +15,7 @@ returns c =
       header_is = refl;
       up_is = refl;
       history = c.note.ensures.history ∙ ap (λ h. joined (step_by step) step.tick (acts_of c.args.acts.now) h)
-          (ap (λ ns. history_of ns) c.push.ensures.items ∙ history-push before c.noted.result ∙ ap (λ n. line_of n ∷ history_of before) c.noted.ensures);
+          (ap (λ ns. history_of ns) c.push_reserved.ensures.items ∙ history-push before c.noted.result ∙ ap (λ n. line_of n ∷ history_of before) c.noted.ensures);
       posts_are = c.claim.ensures;
       events_are = refl;
       told_is = refl;

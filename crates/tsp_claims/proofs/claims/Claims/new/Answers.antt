@@ -1,7 +1,5 @@
 -- Nothing is claimed, and no node is up.
-use Rattle.std.proofs.Common.{◌∙◌, ap, refl}
-use Rattle.tsp_claims.specs.Listed.{up_in}
-use Rattle.tsp_claims.proofs.StandLemmas.{none-up}
+use Rattle.std.proofs.Common.{ap, refl}
 use Rattle.tsp_claims.proofs.claims.Claims.new.Goals as goal
 use Rattle.tsp_noted.specs.Histories.{history_of}
 
@@ -12,5 +10,5 @@ returns c = record {
   told = refl;
   history = ap (λ ns. history_of ns) c.new.ensures.items;
   posts_are = c.new-2.ensures.items;
-  up_is = ap (λ ups. up_in ups) c.loop.invariant.none ∙ none-up c.loop.index;
+  up_is = c.in_ok-up.ensures.none;
 }
