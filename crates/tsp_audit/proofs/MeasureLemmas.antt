@@ -24,7 +24,7 @@ use Rattle.tsp_audit.specs.Acting.{CameAt, IsUnposted}
 use Rattle.tsp_audit.specs.Measuring.{IsNear, MeasuresAt, Replies, RepliesAt, RepliesTo}
 use Rattle.tsp_audit.specs.Parts.{MeasuresWell}
 use Rattle.tsp_audit.specs.Settings.{HasClocks, clock_in}
-use Rattle.tsp_audit.proofs.Prefixes.{history-more}
+use Rattle.tsp_noted.proofs.HistoryLemmas.{history-more}
 use Rattle.tsp_audit.proofs.TakeLemmas.{came-cause, came-there, came-within, clock-set, same-noted, unposted}
 use Rattle.tsp_noted.specs.declared.noted.Noted.{Noted}
 use Rattle.tsp_noted.specs.Histories.{history_of, line_of}

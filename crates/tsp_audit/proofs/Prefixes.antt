@@ -9,30 +9,19 @@ use Rattle.tsp_base.proofs.EverywhereLemmas.{Everywhere-at}
 use Rattle.tsp_base.proofs.PlaceLemmas.{Within-all, Within-tail}
 use Rattle.tsp_noted.specs.declared.noted.Noted.{Noted}
 use Rattle.tsp_noted.specs.Histories.{line_of, noted_after, history_of}
-
-noted-append : (h : List Line) (xs ys : List Noted) → noted_after h (xs ++ ys) ≡ noted_after (noted_after h xs) ys
-noted-append h [] ys = refl
-noted-append h (n ∷ xs) ys = noted-append (line_of n ∷ h) xs ys
+use Rattle.tsp_noted.proofs.HistoryLemmas.{Within-noted, history-more, noted-append}
 
 noted-within : (h : List Line) (xs : List Noted) → Within h (noted_after h xs)
 noted-within h [] = Within-all h
 noted-within h (n ∷ xs) = Within-tail (line_of n) h (noted_after (line_of n ∷ h) xs) (noted-within (line_of n ∷ h) xs)
 
--- one line more
-pub history-more : (ns : List Noted) (i : ℕ) (n : Noted) → i < length ns → get_or ns i n ≡ n → history_of (take (i + 1) ns) ≡ line_of n ∷ history_of (take i ns)
-history-more ns i n lt is = ap history_of (take_more ns i n lt) ∙ (noted-append [] (take i ns) (get_or ns i n ∷ []) ∙ ap (λ (m : Noted). line_of m ∷ history_of (take i ns)) is)
-
 -- the history of the first lines is a place of the whole
 pub history-within : (ns : List Noted) (i : ℕ) → Within (history_of (take i ns)) (history_of ns)
 history-within ns i = subst (λ ms. Within (history_of (take i ns)) ms) (sym (noted-append [] (take i ns) (drop i ns)) ∙ ap history_of (take-append-drop i ns)) (noted-within (history_of (take i ns)) (drop i ns))
 
--- a line's place
-pub line-within : (ns : List Noted) (i : ℕ) (n : Noted) → i < length ns → get_or ns i n ≡ n → Within (line_of n ∷ history_of (take i ns)) (history_of ns)
-line-within ns i n lt is = subst (λ h. Within h (history_of ns)) (history-more ns i n lt is) (history-within ns (i + 1))
-
 -- what holds everywhere holds at a line
 pub at-line : (P : Line → List Line → Type 0) (ns : List Noted) (i : ℕ) (n : Noted) → i < length ns → get_or ns i n ≡ n → Everywhere P (history_of ns) → P (line_of n) (history_of (take i ns))
-at-line P ns i n lt is e = Everywhere-at P (line_of n) (history_of (take i ns)) (history_of ns) e (line-within ns i n lt is)
+at-line P ns i n lt is e = Everywhere-at P (line_of n) (history_of (take i ns)) (history_of ns) e (Within-noted ns i n lt is)
 
 -- what holds of the first lines and of the next one
 pub one-more : (P : Line → List Line → Type 0) (ns : List Noted) (i : ℕ) (n : Noted) → i < length ns → get_or ns i n ≡ n → P (line_of n) (history_of (take i ns)) → Everywhere P (history_of (take i ns)) → Everywhere P (history_of (take (i + 1) ns))

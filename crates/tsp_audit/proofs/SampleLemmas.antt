@@ -13,7 +13,8 @@ use Rattle.tsp_base.specs.Takings.{peer_of, posted}
 use Rattle.tsp_base.proofs.PlaceLemmas.{Within-through}
 use Rattle.tsp_safe.proofs.SendPlaces.{posted-mono, posted-post}
 use Rattle.tsp_audit.proofs.CastLemmas.{begun-cast, begun-none, lines-one}
-use Rattle.tsp_audit.proofs.Prefixes.{history-more, history-within, line-within}
+use Rattle.tsp_audit.proofs.Prefixes.{history-within}
+use Rattle.tsp_noted.proofs.HistoryLemmas.{Within-noted, history-more}
 use Rattle.tsp_audit.proofs.TakeLemmas.{same-noted}
 use Rattle.tsp_audit.specs.Agreeing.{CastAs, IsNoCast, TripsTell}
 use Rattle.tsp_audit.specs.Casting.{BegunAt, HasNoRound, RoundAs, Rounds, TakesNone, TakesThen}
@@ -34,7 +35,7 @@ history-length ns i le = omega (arith, length-noted [] (take i ns), length-take 
 
 -- the round trip of a line by its index
 pub trip-here : (ns : List Noted) (trips : List ℤ) (i : ℕ) (noted : Noted) → TripsTell (history_of ns) trips → i < length ns → get_or ns i noted ≡ noted → get_or trips i (pos 0) ≡ trip_at (line_of noted) (history_of (take i ns))
-trip-here ns trips i noted tell lt is = subst (λ (k : ℕ). get_or trips k (pos 0) ≡ trip_at (line_of noted) (history_of (take i ns))) (history-length ns i (omega (arith, lt))) (tell (line_of noted) (history_of (take i ns)) (line-within ns i noted lt is))
+trip-here ns trips i noted tell lt is = subst (λ (k : ℕ). get_or trips k (pos 0) ≡ trip_at (line_of noted) (history_of (take i ns))) (history-length ns i (omega (arith, lt))) (tell (line_of noted) (history_of (take i ns)) (Within-noted ns i noted lt is))
 
 pub trips-before : (ns : List Noted) (trips : List ℤ) (i : ℕ) → TripsTell (history_of ns) trips → TripsTell (history_of (take i ns)) trips
 trips-before ns trips i tell = λ l before w. tell l before (Within-through (l ∷ before) (history_of (take i ns)) (history_of ns) w (history-within ns i))

@@ -25,7 +25,7 @@ use Rattle.tsp_base.specs.Takings.{heard, peer_of, posted, time_in}
 use Rattle.tsp_base.specs.CorrectFits.{amount_of}
 use Rattle.tsp_safe.proofs.Locating.{view-line}
 use Rattle.tsp_safe.proofs.SendPlaces.{post_unique, posted-mono, posted-post, same-number}
-use Rattle.tsp_audit.proofs.Prefixes.{history-more}
+use Rattle.tsp_noted.proofs.HistoryLemmas.{history-more}
 use Rattle.tsp_audit.proofs.SendPlaces.{brings-one}
 use Rattle.tsp_audit.specs.Acting.{ActsNow, BringsAt, CameAt, Corrects, IsNumbered, IsUnposted, Moves, PostsTo, TakesSend, deed_corrects}
 use Rattle.tsp_audit.specs.Settings.{HasClocks, clock_in}

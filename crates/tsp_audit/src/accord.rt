@@ -19,7 +19,7 @@ use tsp_noted::rounds::trip_of;
 
 /// What is kept of a history to tell whether clocks agree.
 #[derive(Drop)]
-pub struct Accord {
+pub(crate) struct Accord {
     /// The round trip of each line, in microseconds.
     pub(crate) trips: Vec<i128>,
     /// The index of the newest act.
@@ -94,7 +94,7 @@ impl Accord {
     ghost use Rattle.tsp_noted.specs.declared.noted.Noted.{Noted as NotedValue};
 
     /// Nothing has happened to so many nodes.
-    pub fn new(alloc: Global, count: usize) -> Result<Accord, AllocError>
+    pub(crate) fn new(alloc: Global, count: usize) -> Result<Accord, AllocError>
         requires { count ≤ 64 }
         ensures { IfOk result (λ accord. AccordIs count [] accord) }
     {
@@ -109,7 +109,7 @@ impl Accord {
     }
 
     /// Makes room for so many lines more. The refusal is want of memory; either way the accord stands for what it did.
-    pub fn make_room(&mut self, count: usize) -> Result<(), AllocError>
+    pub(crate) fn make_room(&mut self, count: usize) -> Result<(), AllocError>
         ensures room { OnOk result (vec_len self.new.trips + count ≤ vec_capacity self.new.trips) }
         ensures accord { (nodes : ℕ) (h : List Line) → AccordIs nodes h self.old → AccordIs nodes h self.new }
     {
@@ -158,7 +158,7 @@ impl Accord {
 
     /// Whether clocks agree in all lines, where they do in those before `from`, for which the accord stands; there is to be room
     /// for the others. It stands for all lines after that, where the answer is yes.
-    pub fn keeps_agreeing(&mut self, header: &Header, lines: &[Noted], from: usize) -> bool
+    pub(crate) fn keeps_agreeing(&mut self, header: &Header, lines: &[Noted], from: usize) -> bool
         requires from { from ≤ length lines.now }
         requires few { length lines.now < 2 ^ 32 }
         ensures keeps { (setting : Setting) (count : ℕ) → HasClocks header.now setting → Timely (history_of lines.now) → Numbered count (history_of lines.now) → vec_len self.old.trips + (length lines.now - from) ≤ vec_capacity self.old.trips

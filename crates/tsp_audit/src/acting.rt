@@ -130,7 +130,7 @@ fn acts(lines: &[Noted], line: &Noted) -> bool
 }
 
 /// The number of the datagram that begins the send of which a line's Correct takes a post, if it takes one.
-pub fn takes_send(lines: &[Noted], line: &Noted) -> Option<u64>
+pub(crate) fn takes_send(lines: &[Noted], line: &Noted) -> Option<u64>
     requires { length lines.now < 2 ^ 32 }
     ensures { MatchOption result ((s : ℕ) → TakesSend (line_of line.now) (history_of lines.now) s → ⊥) (λ s. TakesSend (line_of line.now) (history_of lines.now) s) }
 {
@@ -282,7 +282,7 @@ fn note(acted: &mut Vec<u64>, send: Option<u64>)
 
 /// Whether each correction acts at most once in all lines, where it is so in those before `from`. `acted` are the sends of
 /// which Corrects before `from` have taken posts, and then those of all.
-pub fn keeps_acting(
+pub(crate) fn keeps_acting(
     header: &Header,
     premises: Premises,
     lines: &[Noted],

@@ -35,7 +35,7 @@ fn backed_after(line: &Noted, node: u32, port: Port, keep: Option<PeerId>) -> Op
 }
 
 /// Whom the step of a node's port has backed last.
-pub fn backed_at(lines: &[Noted], node: u32, port: Port) -> Option<PeerId>
+fn backed_at(lines: &[Noted], node: u32, port: Port) -> Option<PeerId>
     ensures { result ≡ backed (view port (of node (history_of lines.now))) }
 {
     let mut backed = None;
@@ -67,7 +67,7 @@ fn is_unbacked_after(line: &Noted, node: u32, port: Port, keep: bool) -> bool
 }
 
 /// Whether a node's port became a candidate in its step and hasn't yet backed itself.
-pub fn is_unbacked_at(lines: &[Noted], node: u32, port: Port) -> bool
+fn is_unbacked_at(lines: &[Noted], node: u32, port: Port) -> bool
     ensures { result ≡ is_unbacked (view port (of node (history_of lines.now))) }
 {
     let mut unbacked = false;
@@ -160,7 +160,7 @@ fn is_backing(lines: &[Noted], from: usize, line: &Noted) -> bool
 }
 
 /// Whether nobody backs two candidates within the hold in all lines, where it is so in those before `from`.
-pub fn keeps_backing(lines: &[Noted], from: usize) -> bool
+pub(crate) fn keeps_backing(lines: &[Noted], from: usize) -> bool
     requires { from ≤ length lines.now }
     ensures { OneBack (history_of (take from lines.now)) → MatchBool result (OneBack (history_of lines.now)) (OneBack (history_of lines.now) → ⊥) }
 {

@@ -12,7 +12,7 @@ use tsp_noted::noted::{Noted, Why};
 use tsp_noted::posts::post_at;
 
 /// The index of the line, among these before it, that posts the datagram which a line's step takes.
-pub fn came_at(lines: &[Noted], line: &Noted) -> Option<usize>
+pub(crate) fn came_at(lines: &[Noted], line: &Noted) -> Option<usize>
     ensures { MatchOption result (IsUnposted (line_of line.now) (history_of lines.now)) (λ i. CameAt lines.now (line_of line.now) i) }
 {
     match line.why {
@@ -32,7 +32,7 @@ fn posts_to(line: &Noted, node: u32) -> bool
 }
 
 /// The index of the line, among these before it, that posts the message which a line's step brings to its node.
-pub fn brought(lines: &[Noted], line: &Noted) -> Option<usize>
+pub(crate) fn brought(lines: &[Noted], line: &Noted) -> Option<usize>
     ensures { MatchOption result ((post : Line) (older : List Line) → Brings (line_of line.now) (history_of lines.now) post older → ⊥) (λ i. BringsAt lines.now (line_of line.now) i) }
 {
     match came_at(lines, line) {

@@ -9,7 +9,7 @@ ghost use Rattle.tsp_base.specs.StepFacts.{closed};
 ghost use Rattle.tsp_noted.specs.Rounds.{Bests, SeenAt};
 
 use crate::acting::takes_send;
-use crate::counts::{corrects_at, lives_at};
+use crate::counts::counts_at;
 use crate::live::LiveCast;
 use tsp_base::act::Act;
 use tsp_base::datagram::Datagram;
@@ -28,7 +28,7 @@ fn trip_in(trips: &[i128], index: usize) -> i128
 
 /// The best sample of a peer since the last round of a node's port began, if there is one, where the round trips of these
 /// lines stand at their indices.
-pub fn best_in(lines: &[Noted], trips: &[i128], node: u32, port: Port, p: PeerId) -> Option<Best>
+pub(crate) fn best_in(lines: &[Noted], trips: &[i128], node: u32, port: Port, p: PeerId) -> Option<Best>
     ensures { TripsTell (history_of lines.now) trips.now → Bests lines.now node port (best p (view port (of node (history_of lines.now)))) result }
 {
     let mut best = None;
@@ -74,14 +74,17 @@ fn sampled(
     }
     match reading_of(&past[..best.index], &past[best.index]) {
         None => None,
-        Some(at) => Some(LiveCast {
-            master: first.node,
-            close,
-            lives: lives_at(&lines[..close + 1], first.node),
-            corrects: corrects_at(&lines[..close + 1], first.node),
-            at,
-            err: best.err,
-        }),
+        Some(at) => {
+            let counts = counts_at(&lines[..close + 1], first.node);
+            Some(LiveCast {
+                master: first.node,
+                close,
+                lives: counts.lives,
+                corrects: counts.corrects,
+                at,
+                err: best.err,
+            })
+        }
     }
 }
 
@@ -134,7 +137,7 @@ fn begun(lines: &[Noted], line: &Noted) -> Option<usize>
 }
 
 /// What a line's Correct came of, if that is a round, where these lines stand before it, with their round trips.
-pub fn cast_at(lines: &[Noted], trips: &[i128], line: &Noted) -> Option<LiveCast>
+pub(crate) fn cast_at(lines: &[Noted], trips: &[i128], line: &Noted) -> Option<LiveCast>
     requires { length lines.now < 2 ^ 32 }
     ensures { TripsTell (history_of lines.now) trips.now → MatchOption result (IsNoCast (line_of line.now) (history_of lines.now)) (λ c. CastAs (line_of line.now) (history_of lines.now) c) }
 {

@@ -37,10 +37,9 @@ fn tick_of(rate: i32, at: u64) -> u64
     }
 }
 
-/// A clock's wall at tick 0, the amounts of its corrections, of which there are at most so many, and its tick, in microseconds.
-fn add(wall: i64, moved: i128, count: usize, tick: u64) -> i128
-    requires few { count < 2 ^ 32 }
-    requires bounded { IsSumOf count moved }
+/// A clock's wall at tick 0, the amounts of its corrections, and its tick, in microseconds.
+fn add(wall: i64, moved: i128, tick: u64) -> i128
+    requires { IsSumOf 4294967295 moved }
     ensures sum { result ≡ (wall +ℤ moved) +ℤ pos tick }
     ensures small { IsSmall result }
 {
@@ -50,13 +49,13 @@ fn add(wall: i64, moved: i128, count: usize, tick: u64) -> i128
 
 /// A node's clock at a true time of a schedule after these lines, in microseconds: its wall at tick 0, its tick then, and the amounts of
 /// its corrections since its last boot.
-pub fn clock_at(header: &Header, lines: &[Noted], node: u32, at: u64) -> i128
+pub(crate) fn clock_at(header: &Header, lines: &[Noted], node: u32, at: u64) -> i128
     requires { length lines.now < 2 ^ 32 }
     ensures clock { at ≤ 1000000000000000 → result ≡ clock_in header.now node (history_of lines.now) at }
     ensures small { IsSmall result }
 {
     let (rate, wall) = clock_of(header, node);
-    add(wall, moved_at(lines, node), lines.len(), tick_of(rate, at))
+    add(wall, moved_at(lines, node), tick_of(rate, at))
 }
 
 /// The amounts of corrections, if they are no more than those of all lines can be; else 0.
@@ -73,10 +72,10 @@ fn bounded(moved: i128) -> i128
 }
 
 /// A node's clock at a true time of a schedule, in microseconds, where its corrections since its last boot come to `moved`.
-pub fn clock_of_moved(header: &Header, node: u32, moved: i128, at: u64) -> i128
+pub(crate) fn clock_of_moved(header: &Header, node: u32, moved: i128, at: u64) -> i128
     ensures clock { at ≤ 1000000000000000 → IsSumOf 4294967295 moved → result ≡ shown_by header.now node moved at }
     ensures small { IsSmall result }
 {
     let (rate, wall) = clock_of(header, node);
-    add(wall, bounded(moved), 4_294_967_295, tick_of(rate, at))
+    add(wall, bounded(moved), tick_of(rate, at))
 }

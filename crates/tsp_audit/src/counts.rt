@@ -9,58 +9,54 @@ use tsp_base::act::Act;
 use tsp_base::place::Port;
 use tsp_noted::noted::Noted;
 
-/// How often a node has booted after a line, where it is `keep` before it.
-fn lives_after(line: &Noted, node: u32, keep: usize) -> usize
-    requires { keep < 2 ^ 32 }
-    ensures lives { (before : List Line) → keep ≡ lives (dids (of node before)) → result ≡ lives (dids (of node (line_of line.now ∷ before))) }
-    ensures few { result ≤ keep + 1 }
+/// How often a node has booted, and how often it has corrected its clock over all its lives.
+#[derive(Clone, Copy)]
+pub(crate) struct Counts {
+    /// How often it has booted.
+    pub(crate) lives: usize,
+    /// How often it has corrected its clock.
+    pub(crate) corrects: usize,
+}
+
+/// The counts of a node after a line, where they are `keep` before it.
+fn counts_after(line: &Noted, node: u32, keep: Counts) -> Counts
+    requires lives { keep.lives < 2 ^ 32 }
+    requires corrects { keep.corrects < 2 ^ 32 }
+    ensures lives { (before : List Line) → keep.lives ≡ lives (dids (of node before)) → result.lives ≡ lives (dids (of node (line_of line.now ∷ before))) }
+    ensures corrects { (before : List Line) → keep.corrects ≡ all_corrects (dids (of node before)) → result.corrects ≡ all_corrects (dids (of node (line_of line.now ∷ before))) }
+    ensures few_lives { result.lives ≤ keep.lives + 1 }
+    ensures few_corrects { result.corrects ≤ keep.corrects + 1 }
 {
     if line.node != node {
         return keep;
     }
     match &line.act {
-        Some(Act::Boot) => keep + 1,
+        Some(Act::Boot) => Counts {
+            lives: keep.lives + 1,
+            ..keep
+        },
+        Some(Act::Correct { .. }) => Counts {
+            corrects: keep.corrects + 1,
+            ..keep
+        },
         _ => keep,
     }
 }
 
-/// How often a node has booted.
-pub fn lives_at(lines: &[Noted], node: u32) -> usize
+/// How often a node has booted, and how often it has corrected its clock over all its lives.
+pub(crate) fn counts_at(lines: &[Noted], node: u32) -> Counts
     requires { length lines.now < 2 ^ 32 }
-    ensures { result ≡ lives (dids (of node (history_of lines.now))) }
+    ensures lives { result.lives ≡ lives (dids (of node (history_of lines.now))) }
+    ensures corrects { result.corrects ≡ all_corrects (dids (of node (history_of lines.now))) }
 {
-    let mut lives = 0;
+    let mut counts = Counts {
+        lives: 0,
+        corrects: 0,
+    };
     for line in lines {
-        lives = lives_after(line, node, lives);
+        counts = counts_after(line, node, counts);
     }
-    lives
-}
-
-/// How often a node has corrected its clock after a line, where it is `keep` before it.
-fn corrects_after(line: &Noted, node: u32, keep: usize) -> usize
-    requires { keep < 2 ^ 32 }
-    ensures corrects { (before : List Line) → keep ≡ all_corrects (dids (of node before)) → result ≡ all_corrects (dids (of node (line_of line.now ∷ before))) }
-    ensures few { result ≤ keep + 1 }
-{
-    if line.node != node {
-        return keep;
-    }
-    match &line.act {
-        Some(Act::Correct { .. }) => keep + 1,
-        _ => keep,
-    }
-}
-
-/// How often a node has corrected its clock, over all its lives.
-pub fn corrects_at(lines: &[Noted], node: u32) -> usize
-    requires { length lines.now < 2 ^ 32 }
-    ensures { result ≡ all_corrects (dids (of node (history_of lines.now))) }
-{
-    let mut corrects = 0;
-    for line in lines {
-        corrects = corrects_after(line, node, corrects);
-    }
-    corrects
+    counts
 }
 
 /// Whether a port's step has taken something or an alarm, after a line, where `keep` says so before it.
@@ -78,7 +74,7 @@ fn is_acting_after(line: &Noted, node: u32, port: Port, keep: bool) -> bool
 }
 
 /// Whether the step that a port is in has taken something or an alarm: what it posts from here on is no repeat.
-pub fn is_acting(lines: &[Noted], node: u32, port: Port) -> bool
+pub(crate) fn is_acting(lines: &[Noted], node: u32, port: Port) -> bool
     ensures { result ≡ acting (view port (of node (history_of lines.now))) }
 {
     let mut is_acting = false;

@@ -44,7 +44,7 @@ fn keeps_agreeing_if(
 
 /// The number of the least part that fails of all lines, where all parts hold of those before `from`; none where all hold.
 /// The notes are those of the lines before `from`, with room for the others, and where all hold then those of all.
-pub fn judge(
+pub(crate) fn judge(
     header: &Header,
     premises: Premises,
     lines: &[Noted],

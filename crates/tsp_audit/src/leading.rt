@@ -14,7 +14,7 @@ use tsp_noted::noted::Noted;
 use tsp_noted::scans::role_at;
 
 /// Whether messages of this kind correct a clock.
-pub fn is_correction(kind: Kind) -> bool
+pub(crate) fn is_correction(kind: Kind) -> bool
     ensures { result ≡ is_correction kind }
 {
     matches!(kind, Kind::AdjTime | Kind::SetTime)
@@ -55,7 +55,7 @@ fn must_lead(lines: &[Noted], line: &Noted) -> bool
 }
 
 /// Whether a line is a master's where it must be, where these stand before it.
-pub fn leads(lines: &[Noted], line: &Noted) -> bool
+fn leads(lines: &[Noted], line: &Noted) -> bool
     ensures { MatchBool result (LeadsAt (line_of line.now) (history_of lines.now)) (LeadsAt (line_of line.now) (history_of lines.now) → ⊥) }
 {
     if must_lead(lines, line) {
@@ -69,7 +69,7 @@ pub fn leads(lines: &[Noted], line: &Noted) -> bool
 }
 
 /// Whether only masters correct in all lines, where it is so in those before `from`.
-pub fn keeps_leading(lines: &[Noted], from: usize) -> bool
+pub(crate) fn keeps_leading(lines: &[Noted], from: usize) -> bool
     requires { from ≤ length lines.now }
     ensures { OnlyMaster (history_of (take from lines.now)) → MatchBool result (OnlyMaster (history_of lines.now)) (OnlyMaster (history_of lines.now) → ⊥) }
 {

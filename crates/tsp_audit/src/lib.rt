@@ -1,22 +1,22 @@
 //! The audit of a claimed history: whether it keeps the promises that every run keeps.
 #![tactic(auto)]
 
-pub mod accord;
-pub mod acting;
+mod accord;
+mod acting;
 pub mod audit;
-pub mod backing;
-pub mod brought;
-pub mod casting;
-pub mod clock;
-pub mod counts;
-pub mod judging;
-pub mod leading;
-pub mod live;
-pub mod measuring;
-pub mod nearness;
-pub mod notes;
+mod backing;
+mod brought;
+mod casting;
+mod clock;
+mod counts;
+mod judging;
+mod leading;
+mod live;
+mod measuring;
+mod nearness;
+mod notes;
 pub mod premised;
 pub mod premises;
-pub mod resting;
-pub mod states;
+mod resting;
+mod states;
 pub mod verdict;

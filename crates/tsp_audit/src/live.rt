@@ -2,32 +2,32 @@
 
 /// A correction of a node's clock that a master's Close sent it, as long as nothing has moved the node's clock since.
 #[derive(Clone, Copy)]
-pub struct LiveCast {
+pub(crate) struct LiveCast {
     /// The master.
-    pub master: u32,
+    pub(crate) master: u32,
     /// How many lines stand before its Close.
-    pub close: usize,
+    pub(crate) close: usize,
     /// How often the master had booted by then.
-    pub lives: usize,
+    pub(crate) lives: usize,
     /// How often it had corrected its clock by then.
-    pub corrects: usize,
+    pub(crate) corrects: usize,
     /// The true time, in microseconds, of the reading by which the node was measured.
-    pub at: u64,
+    pub(crate) at: u64,
     /// By how much that may be wrong, in microseconds.
-    pub err: i64,
+    pub(crate) err: i64,
 }
 
 /// What is kept of a node.
 #[derive(Clone, Copy)]
-pub struct NodeState {
+pub(crate) struct NodeState {
     /// The amounts of its corrections since its boot, in microseconds.
-    pub moved: i128,
+    pub(crate) moved: i128,
     /// How often it has booted.
-    pub lives: usize,
+    pub(crate) lives: usize,
     /// How often it has corrected its clock, over all its lives.
-    pub corrects: usize,
+    pub(crate) corrects: usize,
     /// The index of the act before its last correction, if there is one.
-    pub after: Option<usize>,
+    pub(crate) after: Option<usize>,
     /// What its last correction came of, if that is a round and it hasn't booted since.
-    pub cast: Option<LiveCast>,
+    pub(crate) cast: Option<LiveCast>,
 }

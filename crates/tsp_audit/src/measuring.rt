@@ -190,7 +190,7 @@ fn measures(header: &Header, lines: &[Noted], line: &Noted) -> bool
 }
 
 /// Whether each measurement errs by at most half its round trip in all lines, where it is so in those before `from`.
-pub fn keeps_measuring(header: &Header, lines: &[Noted], from: usize) -> bool
+fn keeps_measuring(header: &Header, lines: &[Noted], from: usize) -> bool
     requires from { from ≤ length lines.now }
     requires few { length lines.now < 2 ^ 32 }
     ensures { (setting : Setting) → HasClocks header.now setting → Timely (history_of lines.now) → MeasuresWell setting (history_of (take from lines.now))
@@ -205,7 +205,7 @@ pub fn keeps_measuring(header: &Header, lines: &[Noted], from: usize) -> bool
 }
 
 /// The same, if that is asked.
-pub fn keeps_measuring_if(header: &Header, premises: Premises, lines: &[Noted], from: usize) -> bool
+pub(crate) fn keeps_measuring_if(header: &Header, premises: Premises, lines: &[Noted], from: usize) -> bool
     requires from { from ≤ length lines.now }
     requires few { length lines.now < 2 ^ 32 }
     ensures { (setting : Setting) → HasClocks header.now setting → Timely (history_of lines.now) → Keeps premises setting Measuring (history_of (take from lines.now))

@@ -25,7 +25,7 @@ fn drifted(drift: u32, at: u64, reading: u64) -> u64
 }
 
 /// Whether two clocks, or two times, differ by at most so many microseconds.
-pub fn is_near(a: i128, b: i128, most: i128) -> bool
+pub(crate) fn is_near(a: i128, b: i128, most: i128) -> bool
     requires first { IsTrip a }
     requires second { IsTrip b }
     ensures { MatchBool result (pos (nat_abs (a -ℤ b)) ≤ℤ most) (pos (nat_abs (a -ℤ b)) ≤ℤ most → ⊥) }
@@ -196,7 +196,7 @@ fn node_agrees(header: &Header, at: u64, node: u32, a: &NodeState, states: &[Nod
 }
 
 /// Whether each of these nodes does.
-pub fn all_agree(header: &Header, at: u64, states: &[NodeState]) -> bool
+pub(crate) fn all_agree(header: &Header, at: u64, states: &[NodeState]) -> bool
     requires { length states.now < 2 ^ 32 }
     ensures { at ≤ 1000000000000000 → AllBounded states.now → MatchBool result (AllAgree header.now at states.now) (AllAgree header.now at states.now → ⊥) }
 {

@@ -8,7 +8,7 @@ use std::alloc::{AllocError, Global};
 
 /// What is noted of the lines so far.
 #[derive(Drop)]
-pub struct Notes {
+pub(crate) struct Notes {
     /// The sends, by the numbers of the datagrams that begin them, of which Corrects have taken posts.
     pub(crate) acted: Vec<u64>,
     /// What tells whether clocks agree; it is kept only where the schedule keeps all premises.
@@ -19,7 +19,7 @@ impl Notes {
     ghost use Rattle.tsp_audit.specs.Notes.{HasRoom, NotesStand};
 
     /// Nothing is noted of so many nodes. The refusal is want of memory.
-    pub fn new(alloc: Global, count: usize) -> Result<Notes, AllocError>
+    pub(crate) fn new(alloc: Global, count: usize) -> Result<Notes, AllocError>
         requires { count ≤ 64 }
         ensures { IfOk result (λ notes. (premises : Premises) → NotesStand premises count [] notes) }
     {
@@ -33,7 +33,7 @@ impl Notes {
     }
 
     /// Makes room for so many lines more. The refusal is want of memory; either way they stand for what they did.
-    pub fn make_room(&mut self, lines: usize) -> Result<(), AllocError>
+    pub(crate) fn make_room(&mut self, lines: usize) -> Result<(), AllocError>
         ensures room { OnOk result (HasRoom lines self.new) }
         ensures stand { (premises : Premises) (count : ℕ) (h : List Line) → NotesStand premises count h self.old → NotesStand premises count h self.new }
     {

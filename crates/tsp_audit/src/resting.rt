@@ -33,7 +33,7 @@ fn has_sample(lines: &[Noted], trips: &[i128], node: u32, port: Port, p: PeerId)
 
 /// Whether an ADJTIME that a Close begins rests on a sample of its addressee, where these lines stand before it, with their
 /// round trips.
-pub fn rests(lines: &[Noted], trips: &[i128], line: &Noted) -> bool
+pub(crate) fn rests(lines: &[Noted], trips: &[i128], line: &Noted) -> bool
     ensures { TripsTell (history_of lines.now) trips.now
         → MatchBool result (RestsOnSample (line_of line.now) (view line.now.port (of line.now.node (history_of lines.now)))) (RestsOnSample (line_of line.now) (view line.now.port (of line.now.node (history_of lines.now))) → ⊥) }
 {

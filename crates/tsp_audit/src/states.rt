@@ -8,14 +8,14 @@ ghost use Rattle.tsp_base.specs.NodeFacts.{all_corrects_after, lives_after};
 ghost use Rattle.tsp_noted.specs.Histories.{deed_of, line_of, history_of};
 
 use crate::casting::cast_at;
-use crate::counts::{corrects_at, lives_at};
+use crate::counts::counts_at;
 use crate::live::NodeState;
 use tsp_base::act::Act;
 use tsp_noted::clocks::moved_at;
 use tsp_noted::noted::Noted;
 
 /// What is kept of a node before any line.
-pub fn blank() -> NodeState
+pub(crate) fn blank() -> NodeState
     ensures { (n : ℕ) → NodeIs n [] result }
 {
     NodeState {
@@ -58,7 +58,7 @@ fn corrected(
     NodeState {
         moved: moved_at(upto, line.node),
         lives: keep.lives,
-        corrects: corrects_at(upto, line.node),
+        corrects: counts_at(upto, line.node).corrects,
         after: last,
         cast: cast_at(before, trips, line),
     }
@@ -72,7 +72,7 @@ fn booted(upto: &[Noted], line: &Noted, keep: NodeState) -> NodeState
 {
     NodeState {
         moved: 0,
-        lives: lives_at(upto, line.node),
+        lives: counts_at(upto, line.node).lives,
         cast: None,
         ..keep
     }
@@ -80,7 +80,7 @@ fn booted(upto: &[Noted], line: &Noted, keep: NodeState) -> NodeState
 
 /// What is kept of a line's node after it, where these lines stand before it, with their round trips and the index of the
 /// newest act among them; `upto` are these lines and it.
-pub fn state_after(
+pub(crate) fn state_after(
     upto: &[Noted],
     before: &[Noted],
     trips: &[i128],

@@ -23,7 +23,7 @@ pub struct Failure {
 }
 
 /// The verdict that names a failure, if there is one.
-pub fn verdict_of(failed: Option<Failure>) -> Verdict
+pub(crate) fn verdict_of(failed: Option<Failure>) -> Verdict
     ensures { result ≡ named failed }
 {
     match failed {

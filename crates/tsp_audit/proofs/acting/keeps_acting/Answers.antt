@@ -6,7 +6,8 @@ use Rattle.tsp_noted.specs.declared.noted.Noted.{Noted}
 use Rattle.tsp_noted.specs.Histories.{line_of, history_of}
 use Rattle.tsp_audit.specs.Acting.{ActedIs, ActsAt, TakesAs}
 use Rattle.tsp_audit.proofs.ActLemmas.{acted-next, acts-all, acts-part, takes-as}
-use Rattle.tsp_audit.proofs.Prefixes.{at-line, history-more, one-more}
+use Rattle.tsp_audit.proofs.Prefixes.{at-line, one-more}
+use Rattle.tsp_noted.proofs.HistoryLemmas.{history-more}
 use Rattle.tsp_audit.proofs.acting.keeps_acting.Goals as goal
 
 pub loop-i-init : goal.loop-i-init

@@ -6,7 +6,7 @@ use Rattle.tsp_noted.specs.declared.noted.Noted.{Noted}
 use Rattle.tsp_noted.specs.Histories.{line_of, history_of}
 use Rattle.tsp_audit.specs.Backing.{concerns, is_stand}
 use Rattle.tsp_audit.proofs.BackLemmas.{neither, unbacked-more}
-use Rattle.tsp_audit.proofs.Prefixes.{history-more}
+use Rattle.tsp_noted.proofs.HistoryLemmas.{history-more}
 use Rattle.tsp_audit.proofs.backing.settles.Goals as goal
 use Rattle.tsp_audit.proofs.backing.settles.Goals.{else-stands-via-then-stands+else-is_unbacked_at, else-stands-via-else-stands}
 

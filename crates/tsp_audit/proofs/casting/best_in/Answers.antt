@@ -5,7 +5,7 @@ use Rattle.tsp_base.specs.RoundFacts.{best}
 use Rattle.tsp_noted.specs.Histories.{line_of, history_of}
 use Rattle.tsp_noted.specs.Rounds.{Bests, trip_at}
 use Rattle.tsp_noted.proofs.RoundLemmas.{line-at}
-use Rattle.tsp_audit.proofs.Prefixes.{history-more}
+use Rattle.tsp_noted.proofs.HistoryLemmas.{history-more}
 use Rattle.tsp_audit.proofs.SampleLemmas.{trip-here}
 use Rattle.tsp_audit.proofs.casting.best_in.Goals as goal
 

@@ -38,4 +38,4 @@ returns-in-Some-reading_of c tell s =
     let noted : Noted = c.index-past-best.result in
     let here : get_or (take c.args.close c.args.lines.now) c.in-Some.best.index noted ≡ noted = search rules in
     let err : to_z w64 (of_z w64 c.in-Some.best.err) ≡ c.in-Some.best.err = search rules in
-    round-found c.args.lines.now c.args.first.now.node c.args.first.now.port c.args.node c.args.close c.in-Some.best noted _ s b here c.in-Some-reading_of.ensures refl refl err c.lives_at.ensures c.corrects_at.ensures
+    round-found c.args.lines.now c.args.first.now.node c.args.first.now.port c.args.node c.args.close c.in-Some.best noted _ s b here c.in-Some-reading_of.ensures refl refl err c.counts_at-counts.ensures.lives c.counts_at-counts.ensures.corrects

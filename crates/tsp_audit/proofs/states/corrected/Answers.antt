@@ -13,5 +13,5 @@ returns c upto tell first correct is =
     let same : to_z w128 (of_z w128 c.moved_at.result) ≡ c.moved_at.result = search rules in
     let moved_is : to_z w128 (of_z w128 c.moved_at.result) ≡ moved (dids (of n (line_of c.args.line.now ∷ history_of c.args.before.now))) = same ∙ (c.moved_at.ensures.moved ∙ ap (λ (h : List Line). moved (dids (of n h))) upto) in
     let bounded : IsSumOf 4294967295 (to_z w128 (of_z w128 c.moved_at.result)) = subst (λ (z : ℤ). IsSumOf 4294967295 z) (sym same) (sum-more _ c.moved_at.result c.requires.few c.moved_at.ensures.bounded) in
-    let corrects_is = c.corrects_at.ensures ∙ ap (λ (h : List Line). all_corrects (dids (of n h))) upto in
+    let corrects_is = c.counts_at.ensures.corrects ∙ ap (λ (h : List Line). all_corrects (dids (of n h))) upto in
     node-correct n (line_of c.args.line.now) (history_of c.args.before.now) c.args.keep _ refl correct is first (c.cast_at.ensures tell) moved_is bounded refl corrects_is

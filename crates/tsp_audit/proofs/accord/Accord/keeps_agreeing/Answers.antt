@@ -7,7 +7,8 @@ use Rattle.tsp_base.proofs.EverywhereLemmas.{Everywhere-within}
 use Rattle.tsp_noted.specs.declared.noted.Noted.{Noted}
 use Rattle.tsp_noted.specs.Histories.{line_of, history_of}
 use Rattle.tsp_audit.specs.Agreeing.{AccordIs, Numbered}
-use Rattle.tsp_audit.proofs.Prefixes.{at-line, history-more, line-within, one-more}
+use Rattle.tsp_audit.proofs.Prefixes.{at-line, one-more}
+use Rattle.tsp_noted.proofs.HistoryLemmas.{Within-noted, history-more}
 use Rattle.tsp_audit.proofs.accord.Accord.keeps_agreeing.Goals as goal
 
 pub loop-i-init : goal.loop-i-init
@@ -23,7 +24,7 @@ returns-then-not-agrees-clause-keeps c setting count has timely numbered room a 
     let more : history_of (take (i + 1) lines) ≡ line_of noted ∷ history_of (take i lines) = history-more lines i noted lt here in
     let spare : vec_len c.loop-i.self.trips < vec_capacity c.loop-i.self.trips = omega (arith, c.loop-i.invariant.2 room, lt) in
     let is : AccordIs count (line_of noted ∷ history_of (take i lines)) c.note.new.self = subst (λ (h : List Line). AccordIs count h c.note.new.self) more (c.note.ensures.accord count spare (c.loop-i.invariant.0 count room a)) in
-    let below : Numbered count (line_of noted ∷ history_of (take i lines)) = Everywhere-within (λ l before. node_of l < count) (line_of noted ∷ history_of (take i lines)) (history_of lines) numbered (line-within lines i noted lt here) in
+    let below : Numbered count (line_of noted ∷ history_of (take i lines)) = Everywhere-within (λ l before. node_of l < count) (line_of noted ∷ history_of (take i lines)) (history_of lines) numbered (Within-noted lines i noted lt here) in
     let soon : noted.at ≤ 1000000000000000 = at-line (λ l before. l.did.step.at ≤ 1000000000000000) lines i noted lt here timely in
     let bad : AgreedAt setting (line_of noted) (history_of (take i lines)) → ⊥ =
     subst (λ (b : Bool). MatchBool b (AgreedAt setting (line_of noted) (history_of (take i lines))) (AgreedAt setting (line_of noted) (history_of (take i lines)) → ⊥)) c.if-not-agrees.true (c.agrees.ensures setting count has soon below is) in
@@ -43,7 +44,7 @@ loop-i-preserved c =
       (λ setting count has timely numbered room a agreed.
           let spare : vec_len c.loop-i.self.trips < vec_capacity c.loop-i.self.trips = omega (arith, c.loop-i.invariant.2 room, lt) in
           let is : AccordIs count (line_of noted ∷ history_of (take i lines)) c.note.new.self = subst (λ (h : List Line). AccordIs count h c.note.new.self) more (c.note.ensures.accord count spare (c.loop-i.invariant.0 count room a)) in
-          let below : Numbered count (line_of noted ∷ history_of (take i lines)) = Everywhere-within (λ l before. node_of l < count) (line_of noted ∷ history_of (take i lines)) (history_of lines) numbered (line-within lines i noted lt here) in
+          let below : Numbered count (line_of noted ∷ history_of (take i lines)) = Everywhere-within (λ l before. node_of l < count) (line_of noted ∷ history_of (take i lines)) (history_of lines) numbered (Within-noted lines i noted lt here) in
           let soon : noted.at ≤ 1000000000000000 = at-line (λ l before. l.did.step.at ≤ 1000000000000000) lines i noted lt here timely in
           let good : AgreedAt setting (line_of noted) (history_of (take i lines)) =
           subst (λ (b : Bool). MatchBool b (AgreedAt setting (line_of noted) (history_of (take i lines))) (AgreedAt setting (line_of noted) (history_of (take i lines)) → ⊥)) c.if-not-agrees.false (c.agrees.ensures setting count has soon below is) in

@@ -4,7 +4,7 @@ use Rattle.tsp_base.specs.History.{Line}
 use Rattle.tsp_audit.specs.Agreeing.{AccordIs, TripsTell}
 use Rattle.tsp_audit.specs.declared.accord.Accord.{Accord}
 use Rattle.tsp_audit.proofs.AccordSteps.{accord-next}
-use Rattle.tsp_audit.proofs.Prefixes.{history-more}
+use Rattle.tsp_noted.proofs.HistoryLemmas.{history-more}
 use Rattle.tsp_audit.proofs.SampleLemmas.{history-length}
 use Rattle.tsp_noted.specs.declared.noted.Noted.{Noted}
 use Rattle.tsp_noted.specs.Histories.{history_of, line_of}
