@@ -20,11 +20,11 @@ use tsp_lines::output::Output;
 use tsp_lines::treatment::{Stop, Treatment};
 
 /// How many nodes a schedule may have that is to be audited.
-pub const MOST_NODES: usize = 16;
+const MOST_NODES: usize = 16;
 
 /// What was read of an audit's input.
 #[derive(Drop)]
-pub enum Held {
+pub(crate) enum Held {
     /// A schedule, up to some line before its last.
     Schedule(Stage<Listing>),
     /// A whole schedule, and claimed lines behind it.
@@ -152,14 +152,14 @@ impl Held {
 
 /// Takes a schedule's lines and behind them claimed ones, and hands the verdict on these over at the end.
 #[derive(Drop)]
-pub struct Check {
+pub(crate) struct Check {
     alloc: Global,
     held: Held,
 }
 
 impl Check {
     /// No line was read. Takes no memory.
-    pub fn new(alloc: Global) -> Check
+    pub(crate) fn new(alloc: Global) -> Check
         ensures { result.held ≡ Held.Schedule Stage.Untitled }
     {
         Check {

@@ -24,7 +24,7 @@ use tsp_script::act_reader::act_of;
 use tsp_script::trace::Line2;
 
 /// How many lines may be claimed.
-pub const MOST_LINES: u64 = 20_000;
+const MOST_LINES: u64 = 20_000;
 
 /// Takes in an event and its lines, which fit. The refusal is want of memory.
 fn take_in(claims: &mut Claims, e: &Event, lines: &[Line2]) -> Result<(), AllocError>
@@ -52,7 +52,7 @@ fn bad_history() -> Stop
 /// The events of a schedule, and the lines that are claimed of them so far: those of the events that were passed, and
 /// those of the event at hand.
 #[derive(Drop)]
-pub struct Claiming {
+pub(crate) struct Claiming {
     pub(crate) alloc: Global,
     /// The header of the schedule.
     pub(crate) header: Header,

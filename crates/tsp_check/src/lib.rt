@@ -5,13 +5,13 @@
 //! what the events of the schedule meet, and [`claiming::Claiming`] what the claimed lines have come to.
 #![tactic(auto)]
 
-pub mod check;
-pub mod claiming;
+mod check;
+mod claiming;
 mod copies;
 mod judging;
 pub mod laws;
-pub mod listing;
+mod listing;
 mod refusing;
 pub mod run;
-pub mod told;
+mod told;
 mod verdict_text;

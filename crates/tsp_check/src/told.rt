@@ -7,7 +7,7 @@ use tsp_script::trace::Line2;
 
 /// The lines that are claimed of one event, in order.
 #[derive(Drop)]
-pub struct Told {
+pub(crate) struct Told {
     lines: Vec<Line2>,
 }
 
@@ -22,7 +22,7 @@ impl Model for Told {
 
 impl Told {
     /// No line yet. Takes no memory.
-    pub fn new(alloc: Global) -> Told
+    pub(crate) fn new(alloc: Global) -> Told
         ensures { result ≡ [] }
     {
         Told {
@@ -31,7 +31,7 @@ impl Told {
     }
 
     /// One line more. The refusal is want of memory.
-    pub fn push(&mut self, line: Line2) -> Result<(), AllocError>
+    pub(crate) fn push(&mut self, line: Line2) -> Result<(), AllocError>
         ensures { OnOk result (self.new ≡ self.old ++ line ∷ []) }
     {
         self.lines.push(line)?;
@@ -39,7 +39,7 @@ impl Told {
     }
 
     /// The lines.
-    pub fn lines(&self) -> &[Line2]
+    pub(crate) fn lines(&self) -> &[Line2]
         ensures { result.now ≡ self.now }
     {
         self.lines.as_slice()

@@ -6,8 +6,8 @@
 
 mod hand_over;
 pub mod laws;
-pub mod pack;
+mod pack;
 pub mod run;
-pub mod show;
+mod show;
 #[cfg(test)]
 mod tests;

@@ -48,13 +48,13 @@ fn digits_of(octets: &[u8], text: &mut [u8; 1024]) -> usize
 ///
 /// It keeps the place of a line's text, so that no line makes it.
 #[derive(Drop)]
-pub struct Pack {
+pub(crate) struct Pack {
     text: [u8; 1024],
 }
 
 impl Pack {
     /// No line was taken.
-    pub fn new() -> Pack {
+    pub(crate) fn new() -> Pack {
         Pack { text: [0; 1024] }
     }
 }

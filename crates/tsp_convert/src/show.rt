@@ -48,14 +48,14 @@ fn shown(line: &[u8], buffer: &mut [u8; 512], text: &mut ArrayVec<u8, 1024>) -> 
 ///
 /// It keeps the places of a line's octets and of its text, so that no line makes them.
 #[derive(Drop)]
-pub struct Show {
+pub(crate) struct Show {
     octets: [u8; 512],
     text: ArrayVec<u8, 1024>,
 }
 
 impl Show {
     /// No line was taken.
-    pub fn new() -> Show {
+    pub(crate) fn new() -> Show {
         Show {
             octets: [0; 512],
             text: ArrayVec::new(),
