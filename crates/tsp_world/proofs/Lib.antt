@@ -1,5 +1,5 @@
 pub mod BootLemmas
 pub mod ReadyLemmas
-pub mod SetCases
+pub mod Replicates
 pub mod SetupLemmas
 pub mod WorldLemmas

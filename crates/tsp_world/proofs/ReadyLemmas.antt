@@ -15,7 +15,7 @@ use Rattle.tsp_run.specs.Setup.{node_line}
 use Rattle.tsp_run.proofs.HeaderLines.{rate-node_line}
 use Rattle.tsp_world.specs.declared.world.World.{World}
 use Rattle.tsp_world.specs.NodesReady.{NodesReady, PlaceReady, CanAct, CanTake}
-use Rattle.tsp_world.proofs.SetCases.{set_cases}
+use Rattle.tsp_gateway.proofs.LiftLemmas.{set_cases}
 use Rattle.tsp_world.proofs.SetupLemmas.{many-ready, room-ready}
 
 -- a node's ticks don't fall

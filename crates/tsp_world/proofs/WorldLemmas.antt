@@ -25,7 +25,7 @@ use Rattle.tsp_gateway.proofs.StepLemmas.{GatewayStands_step, GatewayBegun_in_st
 use Rattle.tsp_run.proofs.NetworkLemmas.{some_same}
 use Rattle.tsp_run.proofs.RefusalLemmas.{Alike}
 use Rattle.tsp_run.proofs.RunLemmas.{stepped_own, stepped_other, posts_stepped, up_joined}
-use Rattle.tsp_world.proofs.SetCases.{set_cases}
+use Rattle.tsp_gateway.proofs.LiftLemmas.{set_cases}
 
 -- what the place of a node stands for after a step by this row
 pub PlaceStands-acted : (header : HeaderValue) (history : List Line) (row : NodeRow) (step : Step) (node : Gateway) →

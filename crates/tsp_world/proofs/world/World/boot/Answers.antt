@@ -17,7 +17,7 @@ use Rattle.tsp_world.specs.NodesReady.{NodeReady}
 use Rattle.tsp_world.specs.WorldStands.{Notes, PlaceStands}
 use Rattle.tsp_world.proofs.BootLemmas.{boots-up}
 use Rattle.tsp_world.proofs.ReadyLemmas.{NodesReady-later, NodesReady-set}
-use Rattle.tsp_world.proofs.SetCases.{set_cases}
+use Rattle.tsp_gateway.proofs.LiftLemmas.{set_cases}
 use Rattle.tsp_world.proofs.SetupLemmas.{can_boot, get_or-configs_below, length-configs_below, room-many, some_port}
 use Rattle.tsp_world.proofs.WorldLemmas.{WorldStands-acted, PlaceStands-acted, in_header}
 use Rattle.tsp_world.proofs.world.World.boot.Goals as goal

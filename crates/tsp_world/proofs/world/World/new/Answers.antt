@@ -4,7 +4,7 @@ use Rattle.tsp_run.specs.Networks.{numbers_below}
 use Rattle.std.proofs.lemmas.List.Elements.{All-nil}
 use Rattle.tsp_run.specs.Ranges.{IsInRange}
 use Rattle.tsp_world.specs.WorldStands.{PlaceStands}
-use Rattle.tsp_world.proofs.SetCases.{slice_get-replicate}
+use Rattle.tsp_world.proofs.Replicates.{slice_get-replicate}
 use Rattle.tsp_world.proofs.world.World.new.Goals as goal
 
 pub invariant_of-result-clause-ready : goal.invariant_of-result-clause-ready
