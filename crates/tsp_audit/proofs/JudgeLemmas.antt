@@ -1,5 +1,5 @@
 -- Which part fails, and what the newest event changes.
-use Rattle.std.specs.Prelude.{◌≡◌, ◌<◌, ◌≤◌, ◌+◌, ℕ, Bool, true, false, List, [], ◌∷◌, length, refl, MatchBool, Option}
+use Rattle.std.specs.Prelude.{◌≡◌, ◌<◌, ◌≤◌, ℕ, Bool, true, false, List, [], ◌∷◌, length, refl, MatchBool, Option}
 use Rattle.std.proofs.Common.{sym, ap, subst, ◌∙◌, arith, inl, inr, take}
 use Rattle.std.proofs.lemmas.List.{length-take}
 use Rattle.tsp_audit.specs.declared.premises.Premises.{Premises}
@@ -8,7 +8,7 @@ use Rattle.tsp_audit.specs.Judged.{FailsNow, Judges}
 use Rattle.tsp_audit.specs.Looking.{Grown}
 use Rattle.tsp_audit.specs.Parts.{Acting, ActsOnce, Agreeing, AllKeep, Backing, Keeps, Leading, Measuring, Part, part_number}
 use Rattle.tsp_audit.specs.Settings.{HasClocks, Timely}
-use Rattle.tsp_audit.proofs.Prefixes.{history-within}
+use Rattle.tsp_audit.proofs.Prefixes.{history-within, length-noted}
 use Rattle.tsp_base.specs.Headers.{HeaderValue}
 use Rattle.tsp_base.specs.History.{Line}
 use Rattle.tsp_base.specs.OneBack.{OneBack}
@@ -17,7 +17,7 @@ use Rattle.tsp_base.specs.Places.{Within}
 use Rattle.tsp_base.specs.Setting.{Setting}
 use Rattle.tsp_base.proofs.PlaceLemmas.{Within-comparable, Within-length}
 use Rattle.tsp_noted.specs.declared.noted.Noted.{Noted}
-use Rattle.tsp_noted.specs.Histories.{history_of, line_of, noted_after}
+use Rattle.tsp_noted.specs.Histories.{history_of}
 
 pub decided : (b : Bool) (P : Type 0) → b ≡ true → MatchBool b P (P → ⊥) → P
 decided true P e m = m
@@ -88,13 +88,9 @@ pub if-kept : (b : Bool) (K P Q : Type 0) → K → (Q → MatchBool b P (P → 
 if-kept true K P Q k m old = λ x. m (old k)
 if-kept false K P Q k m old = λ g. m (old k) (g k)
 
-after-length : (h : List Line) (ns : List Noted) → length (noted_after h ns) ≡ length h + length ns
-after-length h [] = omega arith
-after-length h (n ∷ rest) = omega (arith, after-length (line_of n ∷ h) rest)
-
 -- a history is as long as its lines
 pub history-length : (ns : List Noted) → length (history_of ns) ≡ length ns
-history-length ns = omega (arith, after-length [] ns)
+history-length ns = omega (arith, length-noted [] ns)
 
 same-length : (s t : List Line) → Within s t → length s ≡ length t → s ≡ t
 same-length s [] w e = w

@@ -1,7 +1,7 @@
 -- The history of some lines, and of those before them.
-use Rattle.std.specs.Prelude.{◌≡◌, ◌<◌, ◌+◌, ℕ, List, [], ◌∷◌, ◌++◌, length, refl}
-use Rattle.std.proofs.Common.{sym, ap, subst, ◌∙◌, take, drop, get_or}
-use Rattle.std.proofs.lemmas.List.{take_more, take-append-drop}
+use Rattle.std.specs.Prelude.{◌≡◌, ◌<◌, ◌+◌, ℕ, List, [], ◌∷◌, length}
+use Rattle.std.proofs.Common.{sym, ap, subst, ◌∙◌, take, drop, get_or, arith}
+use Rattle.std.proofs.lemmas.List.{take-append-drop}
 use Rattle.tsp_base.specs.Everywhere.{Everywhere}
 use Rattle.tsp_base.specs.History.{Line}
 use Rattle.tsp_base.specs.Places.{Within}
@@ -14,6 +14,11 @@ use Rattle.tsp_noted.proofs.HistoryLemmas.{Within-noted, history-more, noted-app
 noted-within : (h : List Line) (xs : List Noted) → Within h (noted_after h xs)
 noted-within h [] = Within-all h
 noted-within h (n ∷ xs) = Within-tail (line_of n) h (noted_after (line_of n ∷ h) xs) (noted-within (line_of n ∷ h) xs)
+
+-- a history is longer by its lines
+pub length-noted : (h : List Line) (ns : List Noted) → length (noted_after h ns) ≡ length h + length ns
+length-noted h [] = omega arith
+length-noted h (n ∷ rest) = omega (arith, length-noted (line_of n ∷ h) rest)
 
 -- the history of the first lines is a place of the whole
 pub history-within : (ns : List Noted) (i : ℕ) → Within (history_of (take i ns)) (history_of ns)

@@ -13,7 +13,7 @@ use Rattle.tsp_base.specs.Takings.{peer_of, posted}
 use Rattle.tsp_base.proofs.PlaceLemmas.{Within-through}
 use Rattle.tsp_safe.proofs.SendPlaces.{posted-mono, posted-post}
 use Rattle.tsp_audit.proofs.CastLemmas.{begun-cast, begun-none, lines-one}
-use Rattle.tsp_audit.proofs.Prefixes.{history-within}
+use Rattle.tsp_audit.proofs.Prefixes.{history-within, length-noted}
 use Rattle.tsp_noted.proofs.HistoryLemmas.{Within-noted, history-more}
 use Rattle.tsp_audit.proofs.TakeLemmas.{same-noted}
 use Rattle.tsp_audit.specs.Agreeing.{CastAs, IsNoCast, TripsTell}
@@ -21,13 +21,9 @@ use Rattle.tsp_audit.specs.Casting.{BegunAt, HasNoRound, RoundAs, Rounds, TakesN
 use Rattle.tsp_audit.specs.declared.live.LiveCast.{LiveCast}
 use Rattle.tsp_noted.specs.declared.noted.Noted.{Noted}
 use Rattle.tsp_noted.specs.declared.rounds.Best.{Best}
-use Rattle.tsp_noted.specs.Histories.{deed_of, history_of, line_of, noted_after}
+use Rattle.tsp_noted.specs.Histories.{deed_of, history_of, line_of}
 use Rattle.tsp_noted.specs.Posts.{PostsAt}
 use Rattle.tsp_noted.specs.Rounds.{BestAt, SeenAt, trip_at}
-
-length-noted : (h : List Line) (ns : List Noted) → length (noted_after h ns) ≡ length h + length ns
-length-noted h [] = omega arith
-length-noted h (n ∷ rest) = omega (arith, length-noted (line_of n ∷ h) rest)
 
 -- the index of a line is how many stand before it
 pub history-length : (ns : List Noted) (i : ℕ) → i ≤ length ns → length (history_of (take i ns)) ≡ i

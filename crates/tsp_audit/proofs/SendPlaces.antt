@@ -9,7 +9,7 @@ use Rattle.tsp_base.specs.declared.place.Place.{Place}
 use Rattle.tsp_base.specs.declared.place.Place.TheVariants.{Peer}
 use Rattle.tsp_base.specs.declared.place.Port.{Port}
 use Rattle.tsp_base.specs.Fits.{node_of}
-use Rattle.tsp_base.specs.History.{Acts, Came, Did, Here, Line, Seen, dids, is_shared, of, view}
+use Rattle.tsp_base.specs.History.{Acts, Did, Here, Line, Seen, dids, is_shared, of, view}
 use Rattle.tsp_base.specs.Messages.{MessageValue}
 use Rattle.tsp_base.specs.Once.{Brings, OfSend}
 use Rattle.tsp_base.specs.Places.{Within}
@@ -18,7 +18,7 @@ use Rattle.tsp_base.specs.Takings.{peer_of, posted}
 use Rattle.tsp_base.proofs.PlaceLemmas.{Within-through}
 use Rattle.tsp_safe.proofs.Locating.{line_on, locate, view-line}
 use Rattle.tsp_safe.proofs.SeenPlaces.{seen_same}
-use Rattle.tsp_safe.proofs.SendPlaces.{post_unique}
+use Rattle.tsp_safe.proofs.SendPlaces.{post_unique, same-number}
 use Rattle.tsp_safe.proofs.SendProof.{begun_at}
 use Rattle.tsp_audit.specs.Acting.{TakesSend}
 use Rattle.tsp_noted.specs.Told.{PostedAt}
@@ -89,13 +89,10 @@ pub send-number : (k : ℕ) (post : Line) (older : List Line) (first : Did) (beg
 send-number k post older first begun sends =
     begun-told (node_of post) post.port (peer_of k) (post ∷ older) first begun (subst (λ (s : List Seen). begun_to (peer_of k) s ≡ Here first ∷ begun) (sym (view-line (node_of post) post older refl)) sends.is)
 
-came : (j k : ℕ) → Came j ≡ Came k → j ≡ k
-came j k e = cc
-
 -- the step of a line brings one message
 pub brings-one : (l : Line) (h : List Line) (post other : Line) (older rest : List Line) → Brings l h post older → Brings l h other rest → post ∷ older ≡ other ∷ rest
 brings-one l h post other older rest a b =
-    post_unique h post other older rest (Peer (peer_of (node_of l))) (Peer (peer_of (node_of l))) (Message a.message) (Message b.message) a.place b.place a.deed b.deed (came (posted (dids older)) (posted (dids rest)) (sym a.cause ∙ b.cause))
+    post_unique h post other older rest (Peer (peer_of (node_of l))) (Peer (peer_of (node_of l))) (Message a.message) (Message b.message) a.place b.place a.deed b.deed (same-number (posted (dids older)) (posted (dids rest)) (sym a.cause ∙ b.cause))
 
 -- so a line takes posts of one send
 pub takes-one : (l : Line) (h : List Line) (s t : ℕ) → TakesSend l h s → TakesSend l h t → s ≡ t

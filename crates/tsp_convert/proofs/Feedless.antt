@@ -1,11 +1,10 @@
 -- No message line has a line feed.
-use Rattle.std.proofs.Common.{◌≡◌, ◌≢◌, ℕ, ◌<◌, ◌^◌, List, [], ◌∷◌, ◌++◌, zero, suc, Bool, true, false, Some, refl, arith, inl, inr}
+use Rattle.std.proofs.Common.{◌≡◌, ◌≢◌, ℕ, ◌<◌, ◌^◌, List, [], ◌∷◌, ◌++◌, zero, suc, Bool, true, false, Some, refl, arith}
 use Rattle.std.specs.Prelude.{ℤ, pos, negsuc, ◌≤ℤ◌, ◌<ℤ◌, decimal, codes, flat_map, if◌then◌else◌, not, ◌&&◌, ◌==◌, slice_index, ◌/◌, ◌%◌}
 use Rattle.std.specs.Fmt.{signed_decimal}
 use Rattle.std.specs.Str.Parse.{AllDigits}
 use Rattle.std.proofs.lemmas.Fmt.{decimal_is_IsNumeral}
 use Rattle.std.proofs.lemmas.Int.{ints}
-use Rattle.std.proofs.lemmas.List.Elements.{Contains-append_cases}
 use Rattle.hex.specs.Hex.{encode_lower, encode_with, hex_digit_value, lower_digits, IsBytes}
 use Rattle.hex.proofs.HexLemmas.{IsDigits-lower_digits}
 use Rattle.tsp_base.specs.Kinds.{kind_word}
@@ -19,12 +18,9 @@ use Rattle.tsp_base.specs.declared.stamp.Stamp.TheVariants.{Request, Reply}
 use Rattle.tsp_base.specs.declared.datagram.Datagram.{Datagram}
 use Rattle.tsp_base.specs.declared.datagram.Datagram.TheVariants.{Message, Stamp}
 use Rattle.tsp_lines.specs.Lines.{NoFeed}
+use Rattle.tsp_lines.proofs.Passes.{NoFeed-append}
 use Rattle.tsp_script.specs.Ranges.{IsBody, IsMessage, IsDatagram}
 use Rattle.tsp_script.specs.Texts.{space, is_plain, escaped, name_text, body_text, message_text}
-
--- octets and then others
-joined : (xs ys : List ℕ) → NoFeed xs → NoFeed ys → NoFeed (xs ++ ys)
-joined xs ys n m = λ c. elim (Contains-append_cases xs ys 10 c) [ inl a ↦ n a | inr b ↦ m b ]
 
 -- an octet and then others
 later : (c : ℕ) (cs : List ℕ) → c ≢ 10 → NoFeed cs → NoFeed (c ∷ cs)
@@ -78,7 +74,7 @@ octet c h = at (is_plain c) refl where
 
 octets : (cs : List ℕ) → IsBytes cs → NoFeed (flat_map escaped cs)
 octets [] b = word [] refl
-octets (c ∷ cs) b = joined (escaped c) (flat_map escaped cs) (octet c (b 0)) (octets cs (λ i. b (suc i)))
+octets (c ∷ cs) b = NoFeed-append (escaped c) (flat_map escaped cs) (octet c (b 0)) (octets cs (λ i. b (suc i)))
 
 name : (cs : List ℕ) → IsBytes cs → NoFeed (name_text cs)
 name [] b = word (37 ∷ []) refl
@@ -86,24 +82,24 @@ name (c ∷ cs) b = octets (c ∷ cs) b
 
 body : (b : Body) → IsBody b → NoFeed (body_text b)
 body Nothing h = word [] refl
-body (Time t) h = joined (signed_decimal t) space (time t (h.low, h.high)) blank
-body (Hops n) h = joined (decimal n) space (number n (omega (arith, h))) blank
+body (Time t) h = NoFeed-append (signed_decimal t) space (time t (h.low, h.high)) blank
+body (Hops n) h = NoFeed-append (decimal n) space (number n (omega (arith, h))) blank
 
 message : (m : MessageValue) → IsMessage m → NoFeed (message_text (Message m))
 message m h =
-    let front = joined (((kind_word m.kind ++ space) ++ decimal m.number)) space (joined (kind_word m.kind ++ space) (decimal m.number) (joined (kind_word m.kind) space (kind m.kind) blank) (number m.number (omega (arith, h.number)))) blank in
-    joined ((((kind_word m.kind ++ space) ++ decimal m.number) ++ space) ++ body_text m.body) (name_text m.name) (joined (((kind_word m.kind ++ space) ++ decimal m.number) ++ space) (body_text m.body) front (body m.body h.body)) (name m.name h.octets)
+    let front = NoFeed-append (((kind_word m.kind ++ space) ++ decimal m.number)) space (NoFeed-append (kind_word m.kind ++ space) (decimal m.number) (NoFeed-append (kind_word m.kind) space (kind m.kind) blank) (number m.number (omega (arith, h.number)))) blank in
+    NoFeed-append ((((kind_word m.kind ++ space) ++ decimal m.number) ++ space) ++ body_text m.body) (name_text m.name) (NoFeed-append (((kind_word m.kind ++ space) ++ decimal m.number) ++ space) (body_text m.body) front (body m.body h.body)) (name m.name h.octets)
 
 request : (word' counter : ℕ) → word' < 2 ^ 64 → counter < 2 ^ 64 → NoFeed (message_text (Stamp (Request word' counter)))
-request w c h k = joined ((codes "request " ++ decimal w) ++ space) (decimal c) (joined (codes "request " ++ decimal w) space (joined (codes "request ") (decimal w) (word (codes "request ") refl) (number w h)) blank) (number c k)
+request w c h k = NoFeed-append ((codes "request " ++ decimal w) ++ space) (decimal c) (NoFeed-append (codes "request " ++ decimal w) space (NoFeed-append (codes "request ") (decimal w) (word (codes "request ") refl) (number w h)) blank) (number c k)
 
 reply : (r : ReplyValue) → r.word < 2 ^ 64 → r.counter < 2 ^ 64 → IsReply r.ticket r.reading → NoFeed (message_text (Stamp (Reply r)))
 reply r h k v =
-    let a = joined (codes "reply ") (decimal r.ticket) (word (codes "reply ") refl) (number r.ticket (omega (arith, v.small))) in
-    let b = joined ((codes "reply " ++ decimal r.ticket) ++ space) (decimal r.word) (joined (codes "reply " ++ decimal r.ticket) space a blank) (number r.word h) in
-    let c = joined ((((codes "reply " ++ decimal r.ticket) ++ space) ++ decimal r.word) ++ space) (decimal r.counter) (joined (((codes "reply " ++ decimal r.ticket) ++ space) ++ decimal r.word) space b blank) (number r.counter k) in
-    joined ((((((codes "reply " ++ decimal r.ticket) ++ space) ++ decimal r.word) ++ space) ++ decimal r.counter) ++ space) (signed_decimal r.reading)
-    (joined (((((codes "reply " ++ decimal r.ticket) ++ space) ++ decimal r.word) ++ space) ++ decimal r.counter) space c blank) (time r.reading (omega (arith, ints, v.low), v.high))
+    let a = NoFeed-append (codes "reply ") (decimal r.ticket) (word (codes "reply ") refl) (number r.ticket (omega (arith, v.small))) in
+    let b = NoFeed-append ((codes "reply " ++ decimal r.ticket) ++ space) (decimal r.word) (NoFeed-append (codes "reply " ++ decimal r.ticket) space a blank) (number r.word h) in
+    let c = NoFeed-append ((((codes "reply " ++ decimal r.ticket) ++ space) ++ decimal r.word) ++ space) (decimal r.counter) (NoFeed-append (((codes "reply " ++ decimal r.ticket) ++ space) ++ decimal r.word) space b blank) (number r.counter k) in
+    NoFeed-append ((((((codes "reply " ++ decimal r.ticket) ++ space) ++ decimal r.word) ++ space) ++ decimal r.counter) ++ space) (signed_decimal r.reading)
+    (NoFeed-append (((((codes "reply " ++ decimal r.ticket) ++ space) ++ decimal r.word) ++ space) ++ decimal r.counter) space c blank) (time r.reading (omega (arith, ints, v.low), v.high))
 
 -- a message line has no line feed
 pub NoFeed-message_text : (d : Datagram) → IsDatagram d → NoFeed (message_text d)

@@ -4,10 +4,8 @@ use Rattle.std.specs.Prelude.{flat_map, if◌then◌else◌}
 use Rattle.hex.specs.Hex.{encode_lower, encode_with, decode_of, IsBytes}
 use Rattle.hex.proofs.HexLemmas.{decode_of-encode_lower}
 use Rattle.tsp_script.specs.Texts.{is_plain, escaped, name_text}
+use Rattle.tsp_script.proofs.Outcomes.{true_or_false}
 use Rattle.tsp_script.proofs.NameTexts.{IsBytes-one, escaped_some, name_empty}
-
-true_false : (b : Bool) → b ≡ true → b ≡ false → ⊥
-true_false b p q = cc
 
 -- the digits of one octet
 digits_apart : (c d : ℕ) (r s : List ℕ) → c < 256 → d < 256 → encode_lower (c ∷ []) ++ r ≡ encode_lower (d ∷ []) ++ s → (c ≡ d) × (r ≡ s)
@@ -20,8 +18,8 @@ digits_apart c d r s h k e =
 octets_case : (a b : Bool) (c d : ℕ) (r s : List ℕ) → is_plain c ≡ a → is_plain d ≡ b → c < 256 → d < 256
     → (if a then c ∷ [] else 37 ∷ encode_lower (c ∷ [])) ++ r ≡ (if b then d ∷ [] else 37 ∷ encode_lower (d ∷ [])) ++ s → (c ≡ d) × (r ≡ s)
 octets_case true true c d r s p q h k e = (cc, cc)
-octets_case true false c d r s p q h k e = let z : c ≡ 37 = cc in absurd (true_false (is_plain c) p (rw z refl))
-octets_case false true c d r s p q h k e = let z : d ≡ 37 = cc in absurd (true_false (is_plain d) q (rw z refl))
+octets_case true false c d r s p q h k e = let z : c ≡ 37 = cc in absurd (true_or_false (is_plain c) p (rw z refl))
+octets_case false true c d r s p q h k e = let z : d ≡ 37 = cc in absurd (true_or_false (is_plain d) q (rw z refl))
 octets_case false false c d r s p q h k e = digits_apart c d r s h k (ap (drop 1) e)
 
 octets_apart : (m n : List ℕ) → IsBytes m → IsBytes n → flat_map escaped m ≡ flat_map escaped n → m ≡ n

@@ -1,7 +1,6 @@
 -- How exchanges and samples are told.
-use Rattle.std.specs.Prelude.{◌≡◌, ◌==◌, ◌<◌, ◌+◌, ℕ, zero, suc, ℤ, ◌-ℤ◌, int_lt, Bool, true, false, if◌then◌else◌, List, [], ◌∷◌, ◌++◌, length, get_or, take, Option, None, Some}
-use Rattle.std.proofs.Common.{◌∙◌, ap, ap₂, sym, subst, arith, refl, eq-eqb}
-use Rattle.std.proofs.lemmas.List.{take_more}
+use Rattle.std.specs.Prelude.{◌≡◌, ◌==◌, ◌<◌, ℕ, ℤ, ◌-ℤ◌, int_lt, Bool, true, false, if◌then◌else◌, List, ◌∷◌, length, get_or, take, Option, None, Some}
+use Rattle.std.proofs.Common.{◌∙◌, ap, ap₂, sym, subst, refl, eq-eqb}
 use Rattle.tsp_base.specs.declared.act.Act.TheVariants.{Post, Sample}
 use Rattle.tsp_base.specs.declared.datagram.Datagram.TheVariants.{Stamp}
 use Rattle.tsp_base.specs.declared.place.PeerId.{PeerId}
@@ -16,7 +15,7 @@ use Rattle.tsp_base.proofs.ViewPlaces.{port-same}
 use Rattle.tsp_base.proofs.Views.{plain_view}
 use Rattle.tsp_noted.specs.declared.noted.Noted.{Noted}
 use Rattle.tsp_noted.specs.declared.rounds.Best.{Best}
-use Rattle.tsp_noted.specs.Histories.{line_of, noted_after, history_of}
+use Rattle.tsp_noted.specs.Histories.{line_of, history_of}
 use Rattle.tsp_noted.specs.Rounds.{Asked, AskedAt, BestAt, Bests, better_of, LineAt, SeenAt, start_of, trip_after, trip_at}
 use Rattle.tsp_noted.proofs.HistoryLemmas.{Within-noted}
 use Rattle.tsp_noted.proofs.SendLemmas.{view-here}
