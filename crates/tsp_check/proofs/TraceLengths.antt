@@ -13,14 +13,12 @@ use Rattle.tsp_base.specs.declared.datagram.DecodeFault.TheVariants.{Short, Long
 use Rattle.tsp_base.specs.declared.datagram.Taken.{Taken}
 use Rattle.tsp_base.specs.declared.datagram.Taken.TheVariants.{Good, Bad}
 use Rattle.tsp_base.specs.declared.place.PeerId.{PeerId}
-use Rattle.tsp_base.specs.declared.place.Place.{Place}
-use Rattle.tsp_base.specs.declared.place.Place.TheVariants.{Peer, Stranger}
 use Rattle.tsp_base.specs.declared.role.Role.{Role}
 use Rattle.tsp_base.specs.declared.role.Role.TheVariants.{Starting, Loose, Follow, Candidate, Master}
 use Rattle.tsp_convert.proofs.Lengths.{length-message_text}
+use Rattle.tsp_course.proofs.LongLines.{place_length}
 use Rattle.tsp_script.proofs.Lengths.{number_length}
 use Rattle.tsp_script.specs.ActLines.{IsAct, IsLine2, IsNumberOf, IsRole, IsTaken, SpellsTrace}
-use Rattle.tsp_script.specs.Schedules.{IsPlace}
 use Rattle.tsp_script.specs.Texts.{space, message_text}
 use Rattle.tsp_script.specs.Traces.{act_text, alarm_word, fault_word, place_text, role_text, taken_text, trace_text, way_word}
 use Rattle.tsp_script.specs.declared.trace.Line2.{Line2}
@@ -52,10 +50,6 @@ way_length false = omega arith
 
 peer_length : (p : PeerId) → p.0 < 2 ^ 32 → length (decimal p.0) ≤ 20
 peer_length p h = number_length p.0 (omega (arith, h))
-
-place_length : (p : Place) → IsPlace p → length (place_text p) ≤ 20
-place_length (Peer p) h = peer_length p h
-place_length Stranger h = omega arith
 
 role_length : (r : Role) → IsRole r → length (role_text r) ≤ 27
 role_length Starting h = omega arith

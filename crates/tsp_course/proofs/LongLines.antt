@@ -27,7 +27,8 @@ use Rattle.tsp_course.specs.declared.stage.Stage.TheVariants.{Titled as AtTitled
 use Rattle.tsp_course.specs.Refusing.{Refusing}
 use Rattle.tsp_course.specs.declared.run.Run.{Run}
 
-place_length : (p : Place) → IsPlace p → length (place_text p) ≤ 20
+-- a place has at most 20 octets
+pub place_length : (p : Place) → IsPlace p → length (place_text p) ≤ 20
 place_length (Peer p) h = number_length p.0 (omega (arith, h))
 place_length Stranger h = omega arith
 

@@ -19,7 +19,8 @@ use Rattle.tsp_course.specs.declared.stage.Stage.{Stage}
 use Rattle.tsp_course.specs.declared.stage.Stage.TheVariants.{Titled as AtTitled, Drifted as AtDrifted, Heading as AtHeading}
 use Rattle.tsp_course.specs.Schedules.{Progress, Untitled, Titled, Drifted, Heading, Running, Ended, GoesOn, RunsOn, Takes, TakesNet, IsComplete, next_place, new_header, IsCause, drifted}
 use Rattle.tsp_course.specs.Stages.{StageStands, Advances, Halts, HaltsFirst, HaltsNode, HaltsNet, HaltsEvent, StopsFor}
-use Rattle.tsp_course.specs.Refusing.{Refusing, IsCauseOf}
+use Rattle.tsp_course.specs.Refusing.{Refusing}
+use Rattle.tsp_run.specs.Refusals.{IsRefusal}
 
 pub MatchResult-map : {A B : Type 0} {P R : A → Type 0} {Q S : B → Type 0} (r : Result A B) → MatchResult r P Q → ((a : A) → P a → R a) → ((b : B) → Q b → S b) → MatchResult r R S
 MatchResult-map (Ok a) h f g = f a h
@@ -50,7 +51,7 @@ no_write (NoRoom a b) s = s
 no_write NoMemory s = s
 
 module _ {C : Type 0} (refused : Refusing) (stands : HeaderValue → List Event → C → Type 0) where
-  no_room : (header : HeaderValue) (events : List Event) (e : Event) (fault : EventFault) → StopsFor fault Limit → IsCauseOf (refused header events e) fault → HaltsEvent refused header events e Limit
+  no_room : (header : HeaderValue) (events : List Event) (e : Event) (fault : EventFault) → StopsFor fault Limit → IsRefusal (refused header events e) fault → HaltsEvent refused header events e Limit
   no_room header events e (TimeBack a b) s i = absurd s
   no_room header events e (NoNode a b) s i = absurd s
   no_room header events e (NoDatagram a b) s i = absurd s
@@ -60,7 +61,7 @@ module _ {C : Type 0} (refused : Refusing) (stands : HeaderValue → List Event 
   no_room header events e NoMemory s i = absurd s
 
   -- a refused event stops the reading as its fault says
-  pub HaltsEvent-stops : (header : HeaderValue) (events : List Event) (e : Event) (fault : EventFault) (stop : Stop) → StopsFor fault stop → IsCauseOf (refused header events e) fault → HaltsEvent refused header events e stop
+  pub HaltsEvent-stops : (header : HeaderValue) (events : List Event) (e : Event) (fault : EventFault) (stop : Stop) → StopsFor fault stop → IsRefusal (refused header events e) fault → HaltsEvent refused header events e stop
   HaltsEvent-stops header events e fault (Bad cause) s (inl r) = (fault, r, bad_cause fault cause s)
   HaltsEvent-stops header events e fault (Bad cause) s (inr r) = absurd (not_memory fault cause s r.1)
   HaltsEvent-stops header events e fault Limit s i = no_room header events e fault s i

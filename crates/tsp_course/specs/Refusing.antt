@@ -1,14 +1,9 @@
 -- By what the events of a schedule are refused.
-use Rattle.std.specs.Prelude.{◌≡◌, ◌⊎◌, List, Option, None, Some}
+use Rattle.std.specs.Prelude.{List, Option}
 use Rattle.tsp_base.specs.declared.event.Event.{Event}
 use Rattle.tsp_base.specs.declared.event.EventFault.{EventFault}
-use Rattle.tsp_base.specs.declared.event.EventFault.TheVariants.{OutOfMemory}
 use Rattle.tsp_base.specs.Headers.{HeaderValue}
 
 -- for what cause, if for one, an event may not follow these under a header; the newest of them is the first
 abbrev pub Refusing : Type 0
 Refusing = HeaderValue → List Event → Event → Option EventFault
-
--- this is the cause of a refusal; want of memory comes last, where there is no other
-abbrev pub IsCauseOf : Option EventFault → EventFault → Type 0
-IsCauseOf cause fault = (cause ≡ Some fault) ⊎ ((cause ≡ None) × (fault ≡ OutOfMemory))

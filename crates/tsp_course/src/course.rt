@@ -2,7 +2,8 @@
 ghost use Rattle.std.specs.Prelude.{◌≡◌, ◌≤◌, List, [], ◌∷◌, length, true, IfOk, OnOk, MatchResult, None};
 ghost use Rattle.tsp_base.specs.Headers.{HeaderValue, is_whole};
 ghost use Rattle.tsp_base.specs.declared.event.Event.{Event};
-ghost use Rattle.tsp_course.specs.Refusing.{Refusing, IsCauseOf};
+ghost use Rattle.tsp_course.specs.Refusing.{Refusing};
+ghost use Rattle.tsp_run.specs.Refusals.{IsRefusal};
 ghost use Rattle.tsp_script.specs.Schedules.{IsEvent};
 
 use std::alloc::{AllocError, Global};
@@ -27,5 +28,5 @@ pub trait Course: Drop {
     fn event(&mut self, e: &Event) -> Result<(), EventFault>
         requires { IsEvent e.now }
         ensures happens { (header : HeaderValue) (events : List Event) → stands header events self.old → OnOk result (stands header (e.now ∷ events) self.new) }
-        ensures fault { (header : HeaderValue) (events : List Event) → stands header events self.old → MatchResult result (λ _. refused header events e.now ≡ None) (λ f. IsCauseOf (refused header events e.now) f) };
+        ensures fault { (header : HeaderValue) (events : List Event) → stands header events self.old → MatchResult result (λ _. refused header events e.now ≡ None) (λ f. IsRefusal (refused header events e.now) f) };
 }
