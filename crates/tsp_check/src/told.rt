@@ -1,5 +1,5 @@
 //! The lines that are claimed of one event.
-ghost use Rattle.std.specs.Prelude.{◌≡◌, ◌++◌, ◌∷◌, [], OnOk};
+ghost use Rattle.std.specs.Prelude.{◌≡◌, ◌++◌, ◌∷◌, [], OnErr, OnOk};
 
 use std::alloc::{AllocError, Global};
 use std::marker::Model;
@@ -30,9 +30,10 @@ impl Told {
         }
     }
 
-    /// One line more. The refusal is want of memory.
+    /// One line more. The refusal is want of memory, and the lines are what they were.
     pub(crate) fn push(&mut self, line: Line2) -> Result<(), AllocError>
-        ensures { OnOk result (self.new ≡ self.old ++ line ∷ []) }
+        ensures ok { OnOk result (self.new ≡ self.old ++ line ∷ []) }
+        ensures err { OnErr result (self.new ≡ self.old) }
     {
         self.lines.push(line)?;
         Ok(())
