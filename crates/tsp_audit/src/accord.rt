@@ -93,7 +93,7 @@ impl Accord {
     ghost use Rattle.tsp_noted.specs.Histories.{line_of, history_of};
     ghost use Rattle.tsp_noted.specs.declared.noted.Noted.{Noted as NotedValue};
 
-    /// Nothing has happened to so many nodes.
+    /// Nothing has happened to so many nodes. Takes memory for them; the refusal is want of memory.
     pub(crate) fn new(alloc: Global, count: usize) -> Result<Accord, AllocError>
         requires { count ≤ 64 }
         ensures { IfOk result (λ accord. AccordIs count [] accord) }
