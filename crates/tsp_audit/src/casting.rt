@@ -28,7 +28,13 @@ fn trip_in(trips: &[i128], index: usize) -> i128
 
 /// The best sample of a peer since the last round of a node's port began, if there is one, where the round trips of these
 /// lines stand at their indices.
-pub(crate) fn best_in(lines: &[Noted], trips: &[i128], node: u32, port: Port, p: PeerId) -> Option<Best>
+pub(crate) fn best_in(
+    lines: &[Noted],
+    trips: &[i128],
+    node: u32,
+    port: Port,
+    p: PeerId,
+) -> Option<Best>
     ensures { TripsTell (history_of lines.now) trips.now → Bests lines.now node port (best p (view port (of node (history_of lines.now)))) result }
 {
     let mut best = None;

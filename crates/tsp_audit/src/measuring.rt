@@ -205,7 +205,12 @@ fn keeps_measuring(header: &Header, lines: &[Noted], from: usize) -> bool
 }
 
 /// The same, if that is asked.
-pub(crate) fn keeps_measuring_if(header: &Header, premises: Premises, lines: &[Noted], from: usize) -> bool
+pub(crate) fn keeps_measuring_if(
+    header: &Header,
+    premises: Premises,
+    lines: &[Noted],
+    from: usize,
+) -> bool
     requires from { from ≤ length lines.now }
     requires few { length lines.now < 2 ^ 32 }
     ensures { (setting : Setting) → HasClocks header.now setting → Timely (history_of lines.now) → Keeps premises setting Measuring (history_of (take from lines.now))

@@ -31,7 +31,11 @@ fn time_may_stand_and_not_go_back(rt: HostRuntime) {
 fn nodes_ports_and_senders_must_be_there(rt: HostRuntime) -> Result<(), Fail> {
     let nets = [Members::of(&[0, 1]).ok_or("no network")?];
     let away = Some(EventFault::NoNode(2, 2));
-    let boot = Event::Boot { at: 0, node: 2, word: 1 };
+    let boot = Event::Boot {
+        at: 0,
+        node: 2,
+        word: 1,
+    };
     assert!(rt; no_node(2, &nets, &boot) == away);
     assert!(rt; no_node(2, &nets, &Event::Turn { at: 0, node: 1 }).is_none());
     assert!(rt; no_node(2, &nets, &Event::Take { at: 0, datagram: 7 }).is_none());
