@@ -2,7 +2,9 @@
 
 use crate::auditing::Answer::{Misfit, Says};
 use crate::auditing::{Answer, audit_of, first_wrong};
+use std::alloc::Global;
 use std::test::Fail;
+use tsp_audit::audit::Audit;
 use tsp_audit::verdict::{Failure, Verdict};
 
 /// All parts hold so far.
@@ -203,12 +205,19 @@ fn backs_too_soon(rt: HostRuntime) -> Result<(), Fail> {
     Ok(())
 }
 
+/// An audit with what is claimed of a measurement; None where not all of it holds.
+fn measured(alloc: Global) -> Option<Audit> {
+    let mut audit = audit_of(alloc, 100, &[(0, 0), (0, 10_000)], true)?;
+    match first_wrong(&mut audit, alloc, &MEASURED) {
+        Some(_) => None,
+        None => Some(audit),
+    }
+}
+
 /// The err of a sample is a microsecond less than half its round trip.
 #[test]
 fn errs_too_little(rt: HostRuntime) -> Result<(), Fail> {
-    let clocks = [(0, 0), (0, 10_000)];
-    let mut audit = audit_of(rt.alloc(), 100, &clocks, true).ok_or("no audit")?;
-    assert_eq!(rt; first_wrong(&mut audit, rt.alloc(), &MEASURED), None);
+    let mut audit = measured(rt.alloc()).ok_or("no audit")?;
     let rows = [(
         "at 630000801 take 10",
         "17 0 0 630000801 took 1 reply 10 0 0 629999900\n17 0 0 630000801 sample 1 0 -500 400 10",
@@ -225,57 +234,46 @@ fn errs_too_little(rt: HostRuntime) -> Result<(), Fail> {
     Ok(())
 }
 
+/// The index of the first wrong row where the master closes its round, and its slave's clock is corrected by so many
+/// microseconds, of which this should come; and what has failed.
+fn corrected_by(
+    alloc: Global,
+    amount: u32,
+    answer: Answer,
+) -> Result<(Option<usize>, Option<Failure>), Fail> {
+    let mut audit = measured(alloc).ok_or("no audit")?;
+    if first_wrong(&mut audit, alloc, &PROBED).is_some() {
+        return Err("a probe doesn't hold".into());
+    }
+    let closed = format!(in alloc;
+        "21 0 0 638000000 ring close\n21 0 0 638000000 close 2 -500 500 -250\n21 0 0 638000000 correct -250 slew 638000000\n21 0 0 638000000 post 14 1 adjtime 10 {amount} a"
+    )?;
+    let corrected = format!(in alloc;
+        "22 1 0 638000400 took 0 adjtime 10 {amount} a\n22 1 0 638000400 correct {amount} slew 638000000\n22 1 0 638000400 arm elect 938000409\n22 1 0 638000400 post 15 0 ack 10 b"
+    )?;
+    let rows = [
+        ("at 638000000 turn 0", closed.as_str(), HOLDS),
+        ("at 638000400 take 14", corrected.as_str(), answer),
+    ];
+    Ok((first_wrong(&mut audit, alloc, &rows), audit.failure()))
+}
+
 /// A master sends another correction than its round gave, and the clock of its slave goes wrong by it.
 #[test]
 fn corrects_wildly(rt: HostRuntime) -> Result<(), Fail> {
-    let clocks = [(0, 0), (0, 10_000)];
-    let mut audit = audit_of(rt.alloc(), 100, &clocks, true).ok_or("no audit")?;
-    assert_eq!(rt; first_wrong(&mut audit, rt.alloc(), &MEASURED), None);
-    assert_eq!(rt; first_wrong(&mut audit, rt.alloc(), &PROBED), None);
-    let rows = [
-        (
-            "at 638000000 turn 0",
-            "21 0 0 638000000 ring close\n21 0 0 638000000 close 2 -500 500 -250\n21 0 0 638000000 correct -250 slew 638000000\n21 0 0 638000000 post 14 1 adjtime 10 1000000 a",
-            HOLDS,
-        ),
-        (
-            "at 638000400 take 14",
-            "22 1 0 638000400 took 0 adjtime 10 1000000 a\n22 1 0 638000400 correct 1000000 slew 638000000\n22 1 0 638000400 arm elect 938000409\n22 1 0 638000400 post 15 0 ack 10 b",
-            Says(Verdict::Fails(16)),
-        ),
-    ];
-    assert_eq!(rt; first_wrong(&mut audit, rt.alloc(), &rows), None);
-    assert_eq!(rt;
-        audit.failure(),
-        Some(Failure {
-            part: 16,
-            event: 22
-        })
-    );
+    let failure = Some(Failure {
+        part: 16,
+        event: 22,
+    });
+    let came = corrected_by(rt.alloc(), 1_000_000, Says(Verdict::Fails(16)))?;
+    assert_eq!(rt; came, (None, failure));
     Ok(())
 }
 
 /// The master sends the correction that its round gave, and the slave's clock agrees with it from then on.
 #[test]
 fn corrects_as_measured(rt: HostRuntime) -> Result<(), Fail> {
-    let clocks = [(0, 0), (0, 10_000)];
-    let mut audit = audit_of(rt.alloc(), 100, &clocks, true).ok_or("no audit")?;
-    assert_eq!(rt; first_wrong(&mut audit, rt.alloc(), &MEASURED), None);
-    assert_eq!(rt; first_wrong(&mut audit, rt.alloc(), &PROBED), None);
-    let rows = [
-        (
-            "at 638000000 turn 0",
-            "21 0 0 638000000 ring close\n21 0 0 638000000 close 2 -500 500 -250\n21 0 0 638000000 correct -250 slew 638000000\n21 0 0 638000000 post 14 1 adjtime 10 250 a",
-            HOLDS,
-        ),
-        (
-            "at 638000400 take 14",
-            "22 1 0 638000400 took 0 adjtime 10 250 a\n22 1 0 638000400 correct 250 slew 638000000\n22 1 0 638000400 arm elect 938000409\n22 1 0 638000400 post 15 0 ack 10 b",
-            HOLDS,
-        ),
-    ];
-    assert_eq!(rt; first_wrong(&mut audit, rt.alloc(), &rows), None);
-    assert_eq!(rt; audit.failure(), None);
+    assert_eq!(rt; corrected_by(rt.alloc(), 250, HOLDS)?, (None, None));
     Ok(())
 }
 
