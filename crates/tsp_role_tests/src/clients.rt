@@ -1,164 +1,153 @@
 //! What a port answers to clients, in each of its roles.
-ghost use Rattle.std.specs.Prelude.{◌≡◌, length, IfOk};
 
+use crate::acts::are_told;
+use crate::clients::Step::{Follows, Leads, Loosens, Names, Says, Tests, Traces};
+use crate::node::{Node, PORT};
 use std::alloc::{AllocError, Global};
 use std::test::Fail;
-use tsp_acks::me::Me;
-use tsp_acks::station::Station;
-use tsp_base::act::Act;
-use tsp_base::alarm::Alarm;
-use tsp_base::datagram::Datagram;
 use tsp_base::desk::Desk;
-use tsp_base::kind::Kind;
 use tsp_base::name::Name;
-use tsp_base::pad::Pad;
-use tsp_base::place::{PeerId, Place, Port};
+use tsp_base::place::{PeerId, Place};
 use tsp_base::role::Role;
 use tsp_clients::candidature::take_test;
 use tsp_clients::naming::{name_master, say_master};
 use tsp_clients::tracing::turn_trace;
-use tsp_clock::clock::Clock;
 use tsp_slave::follow::follow;
-use tsp_slave::last::Last;
 
-const PORT: Port = Port(0);
-
-/// A station of peer 0 of two, which booted at tick 0 with the word 7, and whose node is called `a`.
-fn station(alloc: Global) -> Result<Station, AllocError>
-    ensures { IfOk result (λ s. length s.peers ≡ 2) }
-{
-    let me = Me {
-        own: PeerId(0),
-        name: Name::of(b"a").unwrap_or(Name::empty()),
-        word: 7,
-        may: true,
-        strict: false,
-    };
-    Station::new(alloc, me, &[PeerId(0), PeerId(1)], 0)
+/// What a stranger asks a port for by a message of a number, or what the port becomes.
+#[derive(Clone, Copy)]
+enum Step {
+    /// Which master it knows of.
+    Names(u16),
+    /// Whether it leads.
+    Says(u16),
+    /// That it turns the node's trace on or off.
+    Traces(bool, u16),
+    /// That it stands for election, at this tick.
+    Tests(u32, u16),
+    /// It follows the other peer, whose name is `b`, from tick 80,000,000 on.
+    Follows,
+    /// It follows nobody.
+    Loosens,
+    /// It leads.
+    Leads,
 }
 
-/// Whether an act answers a stranger by an ACK of this number, in this name.
-fn answers(act: &Act, number: u16, name: &[u8]) -> bool {
-    match act {
-        Act::Post(Place::Stranger, Datagram::Message(m)) => {
-            m.kind() == Kind::Ack && m.number() == number && m.name().octets() == name
-        }
-        _ => false,
+/// A step, and what a trace tells of it.
+type Row = (Step, &'static [&'static str]);
+
+/// Peer 0 of two.
+fn node(alloc: Global) -> Result<Node, Fail> {
+    Node::new(alloc, PeerId(0), &[PeerId(0), PeerId(1)])
+}
+
+/// Lets the node follow its second peer, whose name is `b`.
+fn follows(node: &mut Node) -> Result<(), AllocError> {
+    let name = Name::of(b"b").unwrap_or(Name::empty());
+    if let Some(other) = node.peer_at(1) {
+        node.pad.reserve(3)?;
+        follow(
+            &mut node.station,
+            &mut node.last,
+            &node.clock,
+            80_000_000,
+            other,
+            &name,
+            PORT,
+            &mut node.pad,
+        );
     }
+    Ok(())
+}
+
+/// Lets the node go through a step; its trace is on or off.
+fn goes(node: &mut Node, tracing: &mut bool, step: Step) -> Result<(), AllocError> {
+    node.pad.clear();
+    node.pad.reserve(node.station.peers().len() + 4)?;
+    let from = Place::Stranger;
+    let (station, pad) = (&mut node.station, &mut node.pad);
+    match step {
+        Names(number) => name_master(station, &node.last, from, number, PORT, pad),
+        Says(number) => say_master(station, from, number, PORT, pad),
+        Traces(on, number) => turn_trace(station, tracing, on, from, number, PORT, pad),
+        Tests(tick, number) => take_test(station, tick as u64, from, number, PORT, pad),
+        Follows => follows(node)?,
+        Loosens => station.become_role(Role::Loose, PORT, pad),
+        Leads => station.become_role(Role::Master, PORT, pad),
+    }
+    Ok(())
+}
+
+/// Goes through steps one after the other. The index of the first row that tells something else than its step does.
+fn first_wrong(
+    node: &mut Node,
+    tracing: &mut bool,
+    rows: &[Row],
+) -> Result<Option<usize>, AllocError> {
+    for (i, (step, acts)) in rows.iter().enumerate() {
+        goes(node, tracing, *step)?;
+        if !are_told(node.pad.acts(), acts) {
+            return Ok(Some(i));
+        }
+    }
+    Ok(None)
 }
 
 #[test]
 fn names_the_master(rt: HostRuntime) -> Result<(), Fail> {
-    let mut pad = Pad::new(rt.alloc());
-    pad.reserve(20)?;
-    let mut station = station(rt.alloc())?;
-    let mut last = Last::new();
-    let name = Name::of(b"b").unwrap_or(Name::empty());
-    let Ok(clock) = Clock::boot(0, 0, 7) else {
-        panic!(rt; "the wall is in range");
-    };
-    name_master(&station, &last, Place::Stranger, 1, PORT, &mut pad);
-    let p = station.peers()[1];
-    follow(
-        &mut station,
-        &mut last,
-        &clock,
-        80_000_000,
-        p,
-        &name,
-        PORT,
-        &mut pad,
-    );
-    name_master(&station, &last, Place::Stranger, 2, PORT, &mut pad);
-    say_master(&station, Place::Stranger, 3, PORT, &mut pad);
-    station.become_role(Role::Master, PORT, &mut pad);
-    name_master(&station, &last, Place::Stranger, 4, PORT, &mut pad);
-    say_master(&station, Place::Stranger, 5, PORT, &mut pad);
-    match pad.acts() {
-        [unknown, _, _, _, kept, _, own, leads] => {
-            assert!(rt; answers(&unknown.act, 1, b"".as_slice()));
-            assert!(rt; answers(&kept.act, 2, b"b".as_slice()));
-            assert!(rt; answers(&own.act, 4, b"a".as_slice()));
-            assert!(rt; answers(&leads.act, 5, b"a".as_slice()));
-        }
-        _ => panic!(rt; "four of eight acts answer"),
-    }
+    let mut node = node(rt.alloc())?;
+    let rows: [Row; 7] = [
+        (Names(1), &["post 0 - ack 1 %"]),
+        (
+            Follows,
+            &[
+                "become follow 1",
+                "arm elect 380000007",
+                "post 0 1 slaveup 7 a",
+            ],
+        ),
+        (Names(2), &["post 0 - ack 2 b"]),
+        (Says(3), &[]),
+        (Leads, &["become master"]),
+        (Names(4), &["post 0 - ack 4 a"]),
+        (Says(5), &["post 0 - ack 5 a"]),
+    ];
+    assert_eq!(rt; first_wrong(&mut node, &mut false, &rows)?, None);
     Ok(())
 }
 
 #[test]
 fn turns_the_trace(rt: HostRuntime) -> Result<(), Fail> {
-    let mut pad = Pad::new(rt.alloc());
-    pad.reserve(4)?;
-    let station = station(rt.alloc())?;
+    let mut node = node(rt.alloc())?;
     let mut tracing = false;
-    turn_trace(
-        &station,
-        &mut tracing,
-        true,
-        Place::Stranger,
-        6,
-        PORT,
-        &mut pad,
-    );
+    let on: [Row; 1] = [(Traces(true, 6), &["trace on", "post 0 - ack 6 a"])];
+    assert_eq!(rt; first_wrong(&mut node, &mut tracing, &on)?, None);
     assert!(rt; tracing);
-    turn_trace(
-        &station,
-        &mut tracing,
-        false,
-        Place::Stranger,
-        7,
-        PORT,
-        &mut pad,
-    );
+    let off: [Row; 1] = [(Traces(false, 7), &["trace off", "post 0 - ack 7 a"])];
+    assert_eq!(rt; first_wrong(&mut node, &mut tracing, &off)?, None);
     assert!(rt; !tracing);
-    match pad.acts() {
-        [on, first, off, second] => {
-            assert!(rt; matches!(on.act, Act::Trace(true)));
-            assert!(rt; answers(&first.act, 6, b"a".as_slice()));
-            assert!(rt; matches!(off.act, Act::Trace(false)));
-            assert!(rt; answers(&second.act, 7, b"a".as_slice()));
-        }
-        _ => panic!(rt; "four acts turn the trace on and off"),
-    }
     Ok(())
 }
 
+/// It may stand 300 seconds after its boot.
 #[test]
 fn stands_when_it_is_asked_to(rt: HostRuntime) -> Result<(), Fail> {
-    let mut pad = Pad::new(rt.alloc());
-    pad.reserve(30)?;
-    let mut station = station(rt.alloc())?;
-    take_test(&mut station, 79_000_000, Place::Stranger, 1, PORT, &mut pad);
-    assert!(rt; pad.acts().is_empty());
-    station.become_role(Role::Loose, PORT, &mut pad);
-    // It may stand 300 seconds after its boot.
-    take_test(
-        &mut station,
-        299_999_999,
-        Place::Stranger,
-        2,
-        PORT,
-        &mut pad,
-    );
-    take_test(
-        &mut station,
-        300_000_000,
-        Place::Stranger,
-        3,
-        PORT,
-        &mut pad,
-    );
-    match pad.acts() {
-        [_, early, asked, role, back, alarm, ask] => {
-            assert!(rt; answers(&early.act, 2, b"a".as_slice()));
-            assert!(rt; answers(&asked.act, 3, b"a".as_slice()));
-            assert!(rt; matches!(role.act, Act::Become(Role::Candidate)));
-            assert!(rt; matches!(back.act, Act::Back(PeerId(0))));
-            assert!(rt; matches!(alarm.act, Act::Arm(Alarm::Window, 305_000_000)));
-            assert!(rt; matches!(ask.act, Act::Post(Place::Peer(PeerId(1)), _)));
-        }
-        _ => panic!(rt; "seven acts end with a candidature"),
-    }
+    let mut node = node(rt.alloc())?;
+    let rows: [Row; 4] = [
+        (Tests(79_000_000, 1), &[]),
+        (Loosens, &["become loose"]),
+        (Tests(299_999_999, 2), &["post 0 - ack 2 a"]),
+        (
+            Tests(300_000_000, 3),
+            &[
+                "post 0 - ack 3 a",
+                "become candidate",
+                "back 0",
+                "arm window 305000000",
+                "post 0 1 election 32775 a",
+            ],
+        ),
+    ];
+    assert_eq!(rt; first_wrong(&mut node, &mut false, &rows)?, None);
     Ok(())
 }

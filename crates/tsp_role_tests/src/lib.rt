@@ -1,12 +1,17 @@
 //! Tests of a port's roles, and of what it answers to clients.
 //!
-//! They stand apart from the crates that they try, so that each of those is proved once.
+//! They stand apart from the crates that they try, so that each of those is proved once. Each is a table of steps with
+//! what a trace tells of them, and one function for each kind of steps goes through its tables.
 #![tactic(auto)]
 
+#[cfg(test)]
+mod acts;
 #[cfg(test)]
 mod candidate;
 #[cfg(test)]
 mod clients;
+#[cfg(test)]
+mod node;
 #[cfg(test)]
 mod resolve;
 #[cfg(test)]

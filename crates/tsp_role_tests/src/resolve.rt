@@ -1,102 +1,111 @@
 //! A master that asks who leads too, and sends away who says so.
-ghost use Rattle.std.specs.Prelude.{◌≡◌, length, IfOk};
+ghost use Rattle.std.specs.Prelude.{◌≡◌, ◌≤◌, length};
+ghost use Rattle.tsp_base.specs.Pad.{spare_of};
 
+use crate::acts::are_told;
+use crate::node::{Node, PORT};
+use crate::resolve::Step::{Answers, Forgets, Leads, Rings, Starts};
 use std::alloc::{AllocError, Global};
 use std::test::Fail;
-use tsp_acks::me::Me;
-use tsp_acks::station::Station;
-use tsp_base::act::Act;
-use tsp_base::alarm::Alarm;
-use tsp_base::datagram::Datagram;
 use tsp_base::desk::Desk;
-use tsp_base::kind::Kind;
-use tsp_base::name::Name;
-use tsp_base::pad::Pad;
-use tsp_base::place::{PeerId, Place, Port};
+use tsp_base::place::PeerId;
 use tsp_base::role::Role;
 use tsp_resolve::resolve::Resolve;
 
-const PORT: Port = Port(0);
-
-/// A station of peer 2 of three, which booted at tick 0 with the word 7.
-fn station(alloc: Global) -> Result<Station, AllocError>
-    ensures { IfOk result (λ s. length s.peers ≡ 3) }
-{
-    let me = Me {
-        own: PeerId(2),
-        name: Name::empty(),
-        word: 7,
-        may: true,
-        strict: false,
-    };
-    Station::new(alloc, me, &[PeerId(1), PeerId(2), PeerId(4)], 0)
+/// What a port does, or is told.
+#[derive(Clone, Copy)]
+enum Step {
+    /// It leads.
+    Leads,
+    /// It asks at this tick who leads too.
+    Starts(u32),
+    /// The first peer answers that it is a master, where the port is one.
+    Answers,
+    /// At this tick the time for answers is over.
+    Rings(u32),
+    /// It forgets who answered.
+    Forgets,
 }
 
-/// Whether an act posts a message of this kind and number to a peer.
-fn posts(act: &Act, to: PeerId, kind: Kind, number: u16) -> bool {
-    match act {
-        Act::Post(Place::Peer(p), Datagram::Message(m)) => {
-            *p == to && m.kind() == kind && m.number() == number
-        }
-        _ => false,
+/// A step, and what a trace tells of it.
+type Row = (Step, &'static [&'static str]);
+
+/// The first peer is found to be a rival.
+fn answers(node: &mut Node, resolve: &mut Resolve)
+    requires many { length resolve.old.marks ≡ length node.old.station.peers }
+    requires room { 1 ≤ spare_of node.old.pad }
+    ensures many { length resolve.new.marks ≡ length node.new.station.peers }
+{
+    if let (Role::Master, Some(first)) = (node.station.role, node.peer_at(0)) {
+        resolve.rival(&node.station, first, PORT, &mut node.pad);
     }
 }
 
-/// The first peer answers that it is a master, where the port is one.
-fn answered(resolve: &mut Resolve, station: &Station, pad: &mut Pad) -> Result<(), AllocError>
-    requires many { length resolve.old.marks ≡ length station.now.peers }
-    requires peers { length station.now.peers ≡ 3 }
-    ensures many { length resolve.new.marks ≡ length resolve.old.marks }
+/// Lets a node go through a step.
+fn goes(node: &mut Node, resolve: &mut Resolve, step: Step) -> Result<(), AllocError>
+    requires many { length resolve.old.marks ≡ length node.old.station.peers }
+    ensures many { length resolve.new.marks ≡ length node.new.station.peers }
 {
-    pad.reserve(20)?;
-    let p = station.peers()[0];
-    match station.role {
-        Role::Master => resolve.rival(station, p, PORT, pad),
-        _ => {}
+    node.pad.clear();
+    node.pad.reserve(node.station.peers().len() + 1)?;
+    let (station, pad) = (&mut node.station, &mut node.pad);
+    match step {
+        Leads => station.become_role(Role::Master, PORT, pad),
+        Starts(tick) => resolve.start(station, tick as u64, PORT, pad),
+        Answers => answers(node, resolve),
+        Rings(tick) => resolve.ring(station, tick as u64, PORT, pad),
+        Forgets => resolve.clear(),
     }
     Ok(())
 }
 
+/// Lets peer 2 of three go through steps one after the other. The index of the first row that tells something else than
+/// its step does.
+fn first_wrong(alloc: Global, rows: &[Row]) -> Result<Option<usize>, Fail> {
+    let mut node = Node::new(alloc, PeerId(2), &[PeerId(1), PeerId(2), PeerId(4)])?;
+    let mut resolve = Resolve::new(alloc, node.station.peers())?;
+    for (i, (step, acts)) in rows.iter().enumerate() {
+        goes(&mut node, &mut resolve, *step)?;
+        if !are_told(node.pad.acts(), acts) {
+            return Ok(Some(i));
+        }
+    }
+    Ok(None)
+}
+
+/// What the node asks the others at tick 100.
+const STARTS: Row = (
+    Starts(100),
+    &[
+        "arm resolve 5000100",
+        "post 0 1 resolve 0 a",
+        "post 0 4 resolve 0 a",
+    ],
+);
+
 #[test]
 fn sends_a_rival_away(rt: HostRuntime) -> Result<(), Fail> {
-    let mut pad = Pad::new(rt.alloc());
-    pad.reserve(20)?;
-    let mut station = station(rt.alloc())?;
-    let mut resolve = Resolve::new(rt.alloc(), station.peers())?;
-    station.become_role(Role::Master, PORT, &mut pad);
-    resolve.start(&mut station, 100, PORT, &mut pad);
-    resolve.start(&mut station, 200, PORT, &mut pad);
-    answered(&mut resolve, &station, &mut pad)?;
-    answered(&mut resolve, &station, &mut pad)?;
-    pad.reserve(20)?;
-    resolve.ring(&mut station, 6_000_100, PORT, &mut pad);
-    match pad.acts() {
-        [_, alarm, first, second, rival, ring, quit] => {
-            assert!(rt; matches!(alarm.act, Act::Arm(Alarm::Resolve, 5_000_100)));
-            assert!(rt; posts(&first.act, PeerId(1), Kind::Resolve, 0));
-            assert!(rt; posts(&second.act, PeerId(4), Kind::Resolve, 0));
-            assert!(rt; matches!(rival.act, Act::Rival(PeerId(1))));
-            assert!(rt; matches!(ring.act, Act::Ring(Alarm::Resolve)));
-            assert!(rt; posts(&quit.act, PeerId(1), Kind::Quit, 32_775));
-        }
-        _ => panic!(rt; "seven acts find one rival"),
-    }
+    let rows: [Row; 6] = [
+        (Leads, &["become master"]),
+        STARTS,
+        (Starts(200), &[]),
+        (Answers, &["rival 1"]),
+        (Answers, &[]),
+        (Rings(6_000_100), &["ring resolve", "post 0 1 quit 32775 a"]),
+    ];
+    assert_eq!(rt; first_wrong(rt.alloc(), &rows)?, None);
     Ok(())
 }
 
 #[test]
 fn forgets_its_rivals(rt: HostRuntime) -> Result<(), Fail> {
-    let mut pad = Pad::new(rt.alloc());
-    pad.reserve(20)?;
-    let mut station = station(rt.alloc())?;
-    let mut resolve = Resolve::new(rt.alloc(), station.peers())?;
-    station.become_role(Role::Master, PORT, &mut pad);
-    resolve.start(&mut station, 100, PORT, &mut pad);
-    answered(&mut resolve, &station, &mut pad)?;
-    resolve.clear();
-    pad.clear();
-    pad.reserve(20)?;
-    resolve.ring(&mut station, 5_000_100, PORT, &mut pad);
-    assert_eq!(rt; pad.acts().len(), 1);
+    let rows: [Row; 5] = [
+        (Leads, &["become master"]),
+        STARTS,
+        (Answers, &["rival 1"]),
+        (Forgets, &[]),
+        (Rings(5_000_100), &["ring resolve"]),
+    ];
+    assert_eq!(rt; first_wrong(rt.alloc(), &rows)?, None);
     Ok(())
 }

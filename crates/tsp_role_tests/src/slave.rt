@@ -1,126 +1,185 @@
 //! A follower that is corrected, hears the correction again, and is corrected once more; and a port that is
 //! asked to back two candidates.
-ghost use Rattle.std.specs.Prelude.{◌≡◌, ◌<◌, ◌≤◌, length, IfOk};
+ghost use Rattle.std.specs.Prelude.{◌≤◌, IfOk};
 ghost use Rattle.tsp_base.specs.Frames.{IsTick};
 
+use crate::acts::are_told;
+use crate::node::{Node, PORT};
+use crate::slave::Told::{Plain, Timed};
 use std::alloc::{AllocError, Global};
 use std::test::Fail;
-use tsp_acks::me::Me;
-use tsp_acks::station::Station;
 use tsp_base::alarm::Alarm;
 use tsp_base::desk::Desk;
 use tsp_base::kind::Kind;
 use tsp_base::message::{Body, Message};
 use tsp_base::micros::Micros;
 use tsp_base::name::Name;
-use tsp_base::pad::Pad;
-use tsp_base::place::{PeerId, Port};
+use tsp_base::place::PeerId;
 use tsp_base::role::Role;
-use tsp_clock::clock::Clock;
-use tsp_slave::last::Last;
 use tsp_slave::ring::slave_ring;
 use tsp_slave::take::slave_take;
-
-const PORT: Port = Port(0);
 
 /// The places of two peers among the port's.
 const MASTER: usize = 1;
 
 const OTHER: usize = 2;
 
-/// A node with one port, and the acts of its last step.
-#[derive(Drop)]
-struct Node {
-    station: Station,
-    last: Last,
-    clock: Clock,
-    pad: Pad,
+/// A message of a kind and a number, without a body or with a time.
+#[derive(Clone, Copy)]
+enum Told {
+    Plain(Kind, u16),
+    Timed(Kind, u16, i64),
 }
 
-impl Node {
-    /// Peer 0 of three, which booted at tick 0 with the word 7 and this clock; its quiet time has just ended.
-    fn new(alloc: Global, clock: Clock) -> Result<Node, AllocError>
-        ensures peers { IfOk result (λ n. length n.station.peers ≡ 3) }
-        ensures clock { IfOk result (λ n. n.clock ≡ clock) }
-    {
-        let me = Me {
-            own: PeerId(0),
-            name: Name::empty(),
-            word: 7,
-            may: false,
-            strict: false,
-        };
-        let mut station = Station::new(alloc, me, &[PeerId(0), PeerId(1), PeerId(2)], 0)?;
-        let mut pad = Pad::new(alloc);
-        pad.reserve(22)?;
-        slave_ring(&mut station, Alarm::Quiet, 80_000_000, PORT, &mut pad);
-        Ok(Node {
-            station,
-            last: Last::new(),
-            clock,
-            pad,
-        })
-    }
+/// At this tick the peer at this place tells the port this; what a trace tells of it, and what the clock shows then.
+type Row = (u32, usize, Told, &'static [&'static str], i64);
 
-    /// The number of acts that a message of the peer at a place makes, and what the clock shows then.
-    fn takes(&mut self, tick: u64, place: usize, m: Option<Message>) -> Result<(usize, i64), Fail>
-        requires tick { IsTick tick }
-        requires later { self.old.clock.at ≤ tick }
-        requires place { place < 3 }
-        requires peers { length self.old.station.peers ≡ 3 }
-        ensures peers { length self.new.station.peers ≡ 3 }
-        ensures clock { self.new.clock.at ≤ tick }
-    {
-        self.pad.clear();
-        self.pad.reserve(22)?;
-        if let Some(m) = m {
-            let from = self.station.peers()[place];
-            slave_take(
-                &mut self.station,
-                &mut self.last,
-                &mut self.clock,
-                tick,
-                from,
-                &m,
-                PORT,
-                &mut self.pad,
-            );
+/// What the port does when it begins to follow its master at tick 81,000,000.
+const FOLLOWS: [&str; 3] = [
+    "become follow 1",
+    "arm elect 381000007",
+    "post 0 1 slaveup 7 a",
+];
+
+/// The message of a peer whose name is `b`.
+fn message(told: Told) -> Option<Message> {
+    let name = Name::of(b"b").ok()?;
+    match told {
+        Plain(kind, number) => Message::of(kind, number, Body::Nothing, name),
+        Timed(kind, number, time) => Message::of(kind, number, Body::Time(Micros::of(time)?), name),
+    }
+}
+
+/// Peer 0 of three, which may not be master, and whose quiet time has just ended.
+fn node(alloc: Global) -> Result<Node, Fail>
+    ensures { IfOk result (λ n. n.clock.at ≤ 0) }
+{
+    let mut node = Node::new(alloc, PeerId(0), &[PeerId(0), PeerId(1), PeerId(2)])?;
+    node.station.me.may = false;
+    node.pad.reserve(node.station.peers().len() + 3)?;
+    slave_ring(
+        &mut node.station,
+        Alarm::Quiet,
+        80_000_000,
+        PORT,
+        &mut node.pad,
+    );
+    Ok(node)
+}
+
+/// Lets the node take a message of the peer at a place.
+fn takes(node: &mut Node, tick: u64, place: usize, m: &Message) -> Result<(), AllocError>
+    requires tick { IsTick tick }
+    requires later { node.old.clock.at ≤ tick }
+    ensures clock { node.new.clock.at ≤ tick }
+{
+    node.pad.clear();
+    node.pad.reserve(5)?;
+    if let Some(from) = node.peer_at(place) {
+        slave_take(
+            &mut node.station,
+            &mut node.last,
+            &mut node.clock,
+            tick,
+            from,
+            m,
+            PORT,
+            &mut node.pad,
+        );
+    }
+    Ok(())
+}
+
+/// Hands messages over one after the other. The index of the first row that tells something else than the node does, or
+/// that stands behind a later one.
+fn first_wrong(node: &mut Node, rows: &[Row]) -> Result<Option<usize>, AllocError>
+    requires { node.old.clock.at ≤ 0 }
+{
+    let mut before = 0;
+    for (i, (tick, place, told, acts, shown)) in rows.iter().enumerate() {
+        if *tick < before {
+            return Ok(Some(i));
         }
-        Ok((self.pad.acts().len(), self.clock.shown(tick)))
+        before = *tick;
+        let Some(m) = message(*told) else {
+            return Ok(Some(i));
+        };
+        takes(node, before as u64, *place, &m)?;
+        if !are_told(node.pad.acts(), acts) || node.clock.shown(before as u64) != *shown {
+            return Ok(Some(i));
+        }
     }
-}
-
-/// A message of a peer whose name is `b`.
-fn message(kind: Kind, number: u16, time: Option<i64>) -> Option<Message> {
-    let body = match time {
-        Some(v) => Body::Time(Micros::of(v)?),
-        None => Body::Nothing,
-    };
-    let Ok(name) = Name::of(b"b") else {
-        return None;
-    };
-    Message::of(kind, number, body, name)
+    Ok(None)
 }
 
 #[test]
 fn corrects_once(rt: HostRuntime) -> Result<(), Fail> {
-    let Ok(clock) = Clock::boot(0, 0, 7) else {
-        panic!(rt; "the wall is in range");
-    };
-    let mut node = Node::new(rt.alloc(), clock)?;
-    assert_eq!(rt; node.pad.acts().len(), 5);
-    let m = message(Kind::MasterUp, 0, None);
-    assert_eq!(rt; node.takes(81_000_000, MASTER, m)?, (3, 81_000_000));
-    let m = message(Kind::AdjTime, 7, Some(10_000));
-    assert_eq!(rt; node.takes(82_000_000, MASTER, m)?, (3, 82_000_000));
-    let m = message(Kind::AdjTime, 7, Some(10_000));
-    assert_eq!(rt; node.takes(82_500_000, MASTER, m)?, (1, 82_502_500));
-    let m = message(Kind::AdjTime, 8, Some(1));
-    assert_eq!(rt; node.takes(82_999_999, MASTER, m)?, (0, 83_004_998));
-    let m = message(Kind::AdjTime, 8, Some(1));
-    assert_eq!(rt; node.takes(83_000_000, MASTER, m)?, (3, 83_005_000));
-    let m = message(Kind::SetTime, 9, Some(100_000_000));
-    assert_eq!(rt; node.takes(84_000_000, MASTER, m)?, (3, 100_000_000));
+    let mut node = node(rt.alloc())?;
+    let quiet = [
+        "ring quiet",
+        "become loose",
+        "arm search 85000000",
+        "post 0 1 masterreq 0 a",
+        "post 0 2 masterreq 0 a",
+    ];
+    assert!(rt; are_told(node.pad.acts(), &quiet));
+    let rows: [Row; 6] = [
+        (
+            81_000_000,
+            MASTER,
+            Plain(Kind::MasterUp, 0),
+            &FOLLOWS,
+            81_000_000,
+        ),
+        (
+            82_000_000,
+            MASTER,
+            Timed(Kind::AdjTime, 7, 10_000),
+            &[
+                "correct 10000 slew 82000000",
+                "arm elect 382000007",
+                "post 0 1 ack 7 a",
+            ],
+            82_000_000,
+        ),
+        (
+            82_500_000,
+            MASTER,
+            Timed(Kind::AdjTime, 7, 10_000),
+            &["post 0 1 ack 7 a"],
+            82_502_500,
+        ),
+        (
+            82_999_999,
+            MASTER,
+            Timed(Kind::AdjTime, 8, 1),
+            &[],
+            83_004_998,
+        ),
+        (
+            83_000_000,
+            MASTER,
+            Timed(Kind::AdjTime, 8, 1),
+            &[
+                "correct 1 slew 83005000",
+                "arm elect 383000007",
+                "post 0 1 ack 8 a",
+            ],
+            83_005_000,
+        ),
+        (
+            84_000_000,
+            MASTER,
+            Timed(Kind::SetTime, 9, 100_000_000),
+            &[
+                "correct 15989999 step 100000000",
+                "arm elect 384000007",
+                "post 0 1 ack 9 a",
+            ],
+            100_000_000,
+        ),
+    ];
+    assert_eq!(rt; first_wrong(&mut node, &rows)?, None);
     assert!(rt; node.station.role == Role::Follow(PeerId(1)));
     assert!(rt;
         node.last.tick() == Some(84_000_000) && node.last.name().octets() == b"b".as_slice()
@@ -132,44 +191,99 @@ fn corrects_once(rt: HostRuntime) -> Result<(), Fail> {
 
 #[test]
 fn reports_another_master_and_takes_a_quit(rt: HostRuntime) -> Result<(), Fail> {
-    let Ok(clock) = Clock::boot(0, 0, 7) else {
-        panic!(rt; "the wall is in range");
-    };
-    let mut node = Node::new(rt.alloc(), clock)?;
-    let m = message(Kind::MasterUp, 0, None);
-    assert_eq!(rt; node.takes(81_000_000, MASTER, m)?.0, 3);
-    // A CONFLICT begins to the master, and no second one while it is open.
-    let m = message(Kind::MasterAck, 0, None);
-    assert_eq!(rt; node.takes(82_000_000, OTHER, m)?.0, 1);
-    let m = message(Kind::MasterUp, 0, None);
-    assert_eq!(rt; node.takes(82_000_001, OTHER, m)?.0, 0);
-    let m = message(Kind::Ack, 32_775, None);
-    assert_eq!(rt; node.takes(82_000_002, MASTER, m)?.0, 1);
-    let m = message(Kind::MasterUp, 0, None);
-    assert_eq!(rt; node.takes(82_000_003, OTHER, m)?.0, 1);
-    // A QUIT is noted and acknowledged, and a follower stays with its master.
-    let m = message(Kind::Quit, 40_000, None);
-    assert_eq!(rt; node.takes(83_000_000, OTHER, m)?.0, 2);
+    let mut node = node(rt.alloc())?;
+    let rows: [Row; 6] = [
+        (
+            81_000_000,
+            MASTER,
+            Plain(Kind::MasterUp, 0),
+            &FOLLOWS,
+            81_000_000,
+        ),
+        // A CONFLICT begins to the master, and no second one while it is open.
+        (
+            82_000_000,
+            OTHER,
+            Plain(Kind::MasterAck, 0),
+            &["post 0 1 conflict 32775 a"],
+            82_000_000,
+        ),
+        (82_000_001, OTHER, Plain(Kind::MasterUp, 0), &[], 82_000_001),
+        (
+            82_000_002,
+            MASTER,
+            Plain(Kind::Ack, 32_775),
+            &["acked 1"],
+            82_000_002,
+        ),
+        (
+            82_000_003,
+            OTHER,
+            Plain(Kind::MasterUp, 0),
+            &["post 0 1 conflict 32776 a"],
+            82_000_003,
+        ),
+        // A QUIT is noted and acknowledged, and a follower stays with its master.
+        (
+            83_000_000,
+            OTHER,
+            Plain(Kind::Quit, 40_000),
+            &["quit 2", "post 0 2 ack 40000 a"],
+            83_000_000,
+        ),
+    ];
+    assert_eq!(rt; first_wrong(&mut node, &rows)?, None);
     assert!(rt; node.station.role == Role::Follow(PeerId(1)));
     assert!(rt; node.last.name().octets() == b"b".as_slice());
     Ok(())
 }
 
+/// The port backs the first candidate that asks it.
+const BACKS: Row = (
+    81_000_000,
+    OTHER,
+    Plain(Kind::Election, 40_000),
+    &["back 2", "arm elect 381000007", "post 0 2 accept 40000 a"],
+    81_000_000,
+);
+
+#[test]
+fn waits_for_whom_it_backs(rt: HostRuntime) -> Result<(), Fail> {
+    let mut node = node(rt.alloc())?;
+    let rows: [Row; 1] = [BACKS];
+    assert_eq!(rt; first_wrong(&mut node, &rows)?, None);
+    assert!(rt; node.station.alarms.at(Alarm::Elect) == Some(381_000_007));
+    Ok(())
+}
+
 #[test]
 fn backs_one_candidate(rt: HostRuntime) -> Result<(), Fail> {
-    let Ok(clock) = Clock::boot(0, 0, 7) else {
-        panic!(rt; "the wall is in range");
-    };
-    let mut node = Node::new(rt.alloc(), clock)?;
-    let m = message(Kind::Election, 40_000, None);
-    assert_eq!(rt; node.takes(81_000_000, OTHER, m)?, (3, 81_000_000));
-    assert!(rt; node.station.alarms.at(Alarm::Elect) == Some(381_000_007));
-    let m = message(Kind::Election, 50_000, None);
-    assert_eq!(rt; node.takes(140_999_999, MASTER, m)?, (1, 140_999_999));
-    let m = message(Kind::Ack, 50_000, None);
-    assert_eq!(rt; node.takes(140_999_999, MASTER, m)?, (0, 140_999_999));
-    let m = message(Kind::Election, 50_001, None);
-    assert_eq!(rt; node.takes(141_000_000, MASTER, m)?, (3, 141_000_000));
+    let mut node = node(rt.alloc())?;
+    let rows: [Row; 4] = [
+        BACKS,
+        (
+            140_999_999,
+            MASTER,
+            Plain(Kind::Election, 50_000),
+            &["post 0 1 refuse 50000 a"],
+            140_999_999,
+        ),
+        (
+            140_999_999,
+            MASTER,
+            Plain(Kind::Ack, 50_000),
+            &[],
+            140_999_999,
+        ),
+        (
+            141_000_000,
+            MASTER,
+            Plain(Kind::Election, 50_001),
+            &["back 1", "arm elect 441000007", "post 0 1 accept 50001 a"],
+            141_000_000,
+        ),
+    ];
+    assert_eq!(rt; first_wrong(&mut node, &rows)?, None);
     assert!(rt; node.station.role == Role::Loose);
     assert!(rt; !node.station.hold.may_back(141_000_000, PeerId(2)));
     Ok(())
