@@ -2,16 +2,16 @@
 use Rattle.std.specs.Prelude.{◌≡◌, ◌<◌, ◌≤ℤ◌, ◌+◌, ◌-◌, ◌*◌, ℕ, ℤ, pos, ◌+ℤ◌, ◌-ℤ◌, nat_abs, Option, None, Some, List, [], ◌∷◌, length, refl}
 use Rattle.std.proofs.Common.{sym, ap, subst, subst₂, ◌∙◌, arith, inl, inr, get_or}
 use Rattle.std.proofs.lemmas.List.{get_or_default}
-use Rattle.tsp_base.specs.Agreed.{Cast, ClocksAgree, MasterAgrees, PeersAgree, RightAfter, Unchanged, UnchangedBut}
-use Rattle.tsp_base.specs.ClockAt.{clock_at}
-use Rattle.tsp_base.specs.Fits.{node_of}
+use Rattle.tsp_promises.specs.Agreed.{Cast, ClocksAgree, MasterAgrees, PeersAgree, RightAfter, Unchanged, UnchangedBut}
+use Rattle.tsp_promises.specs.ClockAt.{clock_at}
+use Rattle.tsp_promises.specs.Fits.{node_of}
 use Rattle.tsp_base.specs.Headers.{HeaderValue}
 use Rattle.tsp_base.specs.History.{Acts, Begins, Deed, Line, dids, from_act, from_act_at, of}
 use Rattle.tsp_base.specs.NodeFacts.{all_corrects, lives, moved}
 use Rattle.tsp_base.specs.Places.{Within}
-use Rattle.tsp_base.specs.Setting.{Setting}
+use Rattle.tsp_promises.specs.Setting.{Setting}
 use Rattle.tsp_base.specs.Ticks.{tick_at, width}
-use Rattle.tsp_base.proofs.EverywhereLemmas.{Everywhere-at}
+use Rattle.tsp_promises.proofs.EverywhereLemmas.{Everywhere-at}
 use Rattle.tsp_base.proofs.PlaceLemmas.{Within-all, Within-comparable, Within-length, Within-tail, Within-through}
 use Rattle.tsp_audit.specs.Agreeing.{AccordIs, AfterAs, AfterIs, AllAgree, BossAgrees, IsAt, LiveAs, LiveIs, MasterNear, NodeIs, Numbered, PairAgrees, PairNear, Stands, shown_by}
 use Rattle.tsp_audit.specs.Settings.{HasClocks}

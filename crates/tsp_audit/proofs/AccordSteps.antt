@@ -12,16 +12,16 @@ use Rattle.tsp_base.specs.declared.kind.Kind.TheVariants.{AdjTime}
 use Rattle.tsp_base.specs.declared.place.PeerId.{PeerId}
 use Rattle.tsp_base.specs.declared.place.Place.TheVariants.{Peer}
 use Rattle.tsp_base.specs.declared.place.Port.{Port}
-use Rattle.tsp_base.specs.Agreed.{AgreedAt, RestsOnSample}
-use Rattle.tsp_base.specs.Fits.{node_of}
+use Rattle.tsp_promises.specs.Agreed.{AgreedAt, RestsOnSample}
+use Rattle.tsp_promises.specs.Fits.{node_of}
 use Rattle.tsp_base.specs.Headers.{HeaderValue}
 use Rattle.tsp_base.specs.History.{Acts, Begins, Here, Line, Seen, from_act, of, view}
 use Rattle.tsp_base.specs.Messages.{MessageValue}
 use Rattle.tsp_base.specs.Places.{Within}
 use Rattle.tsp_base.specs.PortFacts.{acting}
 use Rattle.tsp_base.specs.RoundFacts.{best}
-use Rattle.tsp_base.specs.Setting.{Setting}
-use Rattle.tsp_base.specs.StepFacts.{closed}
+use Rattle.tsp_promises.specs.Setting.{Setting}
+use Rattle.tsp_promises.specs.StepFacts.{closed}
 use Rattle.tsp_base.proofs.PlaceLemmas.{Within-length}
 use Rattle.tsp_audit.specs.Agreeing.{AccordIs, AllAgree, AllAre, AllBounded, AreBlank, FirstIs, IsAt, NodeIs, Numbered, TripsTell}
 use Rattle.tsp_audit.specs.Resting.{RestsOn}
@@ -30,10 +30,10 @@ use Rattle.tsp_audit.specs.declared.accord.Accord.{Accord}
 use Rattle.tsp_audit.specs.declared.live.NodeState.{NodeState}
 use Rattle.tsp_audit.proofs.AccordLemmas.{clocks-agree, clocks-back}
 use Rattle.tsp_audit.proofs.StateLemmas.{node-still, still-other}
-use Rattle.tsp_noted.specs.declared.noted.Noted.{Noted}
-use Rattle.tsp_noted.specs.declared.rounds.Best.{Best}
-use Rattle.tsp_noted.specs.Histories.{deed_of, history_of, line_of}
-use Rattle.tsp_noted.specs.Rounds.{Bests, SeenAt, trip_at}
+use Rattle.tsp_history.specs.declared.noted.Noted.{Noted}
+use Rattle.tsp_history.specs.declared.rounds.Best.{Best}
+use Rattle.tsp_history.specs.Histories.{deed_of, history_of, line_of}
+use Rattle.tsp_history.specs.Rounds.{Bests, SeenAt, trip_at}
 
 -- one blank node more
 pub blank-more : (count : ℕ) (states : List NodeState) (s : NodeState) → AreBlank count states → ((n : ℕ) → NodeIs n [] s) → AreBlank (count + 1) (states ++ s ∷ [])

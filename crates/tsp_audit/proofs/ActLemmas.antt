@@ -6,23 +6,23 @@ use Rattle.tsp_base.specs.declared.act.Act.TheVariants.{Acked, Post}
 use Rattle.tsp_base.specs.declared.datagram.Datagram.TheVariants.{Message}
 use Rattle.tsp_base.specs.declared.place.PeerId.{PeerId}
 use Rattle.tsp_base.specs.declared.place.Place.TheVariants.{Peer}
-use Rattle.tsp_base.specs.Everywhere.{Everywhere}
-use Rattle.tsp_base.specs.Fits.{node_of}
+use Rattle.tsp_promises.specs.Everywhere.{Everywhere}
+use Rattle.tsp_promises.specs.Fits.{node_of}
 use Rattle.tsp_base.specs.History.{Acts, Did, Here, Line, Seen, of, view}
 use Rattle.tsp_base.specs.Messages.{MessageValue}
-use Rattle.tsp_base.specs.Once.{ConfirmedAt, ObeysAt, OfSend, OnceAt, SpacedAt}
-use Rattle.tsp_base.specs.Setting.{Setting}
+use Rattle.tsp_promises.specs.Once.{ConfirmedAt, ObeysAt, OfSend, OnceAt, SpacedAt}
+use Rattle.tsp_promises.specs.Setting.{Setting}
 use Rattle.tsp_base.specs.Places.{Within}
 use Rattle.tsp_base.specs.SendFacts.{is_correction, is_numbered, open_to}
 use Rattle.tsp_base.specs.Takings.{peer_of}
-use Rattle.tsp_base.proofs.EverywhereLemmas.{Everywhere-at, Everywhere-from}
+use Rattle.tsp_promises.proofs.EverywhereLemmas.{Everywhere-at, Everywhere-from}
 use Rattle.tsp_base.proofs.PlaceLemmas.{Within-all, Within-tail, Within-through}
-use Rattle.tsp_safe.proofs.SendProof.{opened}
+use Rattle.tsp_promises.proofs.SendProof.{opened}
 use Rattle.tsp_audit.proofs.SendPlaces.{one-number, one-place, send-number, takes-one}
 use Rattle.tsp_audit.specs.Acting.{ActedIs, ActsAt, Corrects, TakenIn, TakesAs, TakesSend, TakesWell, is_in, is_unknown, with_send}
 use Rattle.tsp_audit.specs.declared.premises.Premises.{Premises}
 use Rattle.tsp_audit.specs.Parts.{ActsOnce, AllKept}
-use Rattle.tsp_noted.specs.Told.{PostedAt}
+use Rattle.tsp_history.specs.Told.{PostedAt}
 
 -- what takes no post of a send takes none twice
 pub once-none : (l : Line) (h : List Line) → ((s : ℕ) → TakesSend l h s → ⊥) → OnceAt is_numbered l h

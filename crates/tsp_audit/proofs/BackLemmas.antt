@@ -6,15 +6,15 @@ use Rattle.tsp_base.specs.declared.constants.TheConstants.{HOLD}
 use Rattle.tsp_base.specs.declared.place.PeerId.{PeerId}
 use Rattle.tsp_base.specs.declared.place.Port.{Port}
 use Rattle.tsp_base.specs.declared.role.Role.TheVariants.{Candidate}
-use Rattle.tsp_base.specs.Everywhere.{Everywhere}
-use Rattle.tsp_base.specs.Fits.{node_of}
+use Rattle.tsp_promises.specs.Everywhere.{Everywhere}
+use Rattle.tsp_promises.specs.Fits.{node_of}
 use Rattle.tsp_base.specs.History.{Acts, Begins, Deed, Line, is_shared, of, seen_as, view}
-use Rattle.tsp_base.specs.OneBack.{BacksAt, HoldsAt, OneBack}
-use Rattle.tsp_base.specs.StepFacts.{is_unbacked, is_unbacked_after}
-use Rattle.tsp_base.proofs.EverywhereLemmas.{Everywhere-at, Everywhere-from}
+use Rattle.tsp_promises.specs.OneBack.{BacksAt, HoldsAt, OneBack}
+use Rattle.tsp_promises.specs.StepFacts.{is_unbacked, is_unbacked_after}
+use Rattle.tsp_promises.proofs.EverywhereLemmas.{Everywhere-at, Everywhere-from}
 use Rattle.tsp_base.proofs.ViewPlaces.{or-false, port-same}
 use Rattle.tsp_audit.specs.Backing.{Backs, Settled, is_stand, is_standing}
-use Rattle.tsp_noted.specs.Holding.{Apart}
+use Rattle.tsp_history.specs.Holding.{Apart}
 
 kept : (b keep : Bool) → (if b then false else keep) ≡ true → keep ≡ true
 kept true keep e = let bad : ⊥ = cc in absurd bad

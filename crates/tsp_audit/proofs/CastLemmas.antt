@@ -6,20 +6,20 @@ use Rattle.tsp_base.specs.declared.datagram.Datagram.TheVariants.{Message}
 use Rattle.tsp_base.specs.declared.kind.Kind.TheVariants.{AdjTime}
 use Rattle.tsp_base.specs.declared.place.Place.TheVariants.{Peer}
 use Rattle.tsp_base.specs.declared.place.Port.{Port}
-use Rattle.tsp_base.specs.Agreed.{Cast, ReadingOf}
-use Rattle.tsp_base.specs.Fits.{node_of}
+use Rattle.tsp_promises.specs.Agreed.{Cast, ReadingOf}
+use Rattle.tsp_promises.specs.Fits.{node_of}
 use Rattle.tsp_base.specs.History.{Acts, Did, Here, Line, Seen, dids, of, view}
 use Rattle.tsp_base.specs.Messages.{MessageValue}
-use Rattle.tsp_base.specs.Once.{ActsOn, OfSend}
+use Rattle.tsp_promises.specs.Once.{ActsOn, OfSend}
 use Rattle.tsp_base.specs.NodeFacts.{all_corrects, lives}
 use Rattle.tsp_base.specs.Places.{Within}
 use Rattle.tsp_base.specs.RoundFacts.{Sampled, best}
 use Rattle.tsp_base.specs.SendFacts.{begun_to}
 use Rattle.tsp_base.specs.Takings.{peer_of, posted}
 use Rattle.tsp_base.proofs.PlaceLemmas.{Within-tail, Within-through}
-use Rattle.tsp_safe.proofs.Locating.{line_on}
-use Rattle.tsp_safe.proofs.SeenPlaces.{seen_same}
-use Rattle.tsp_safe.proofs.SendPlaces.{post_unique, posted-mono, posted-post, same-number}
+use Rattle.tsp_promises.proofs.Locating.{line_on}
+use Rattle.tsp_promises.proofs.SeenPlaces.{seen_same}
+use Rattle.tsp_promises.proofs.SendPlaces.{post_unique, posted-mono, posted-post, same-number}
 use Rattle.tsp_audit.proofs.Prefixes.{history-within}
 use Rattle.tsp_audit.proofs.SendPlaces.{brings-one, send-number}
 use Rattle.tsp_audit.proofs.TakeLemmas.{same-noted}
@@ -27,9 +27,9 @@ use Rattle.tsp_audit.specs.Acting.{TakesSend}
 use Rattle.tsp_audit.specs.Agreeing.{CastAs, IsNoCast}
 use Rattle.tsp_audit.specs.Casting.{BegunAt, HasNoRound, IsAdjusting, RoundAs, Rounds}
 use Rattle.tsp_audit.specs.declared.live.LiveCast.{LiveCast}
-use Rattle.tsp_noted.specs.declared.noted.Noted.{Noted}
-use Rattle.tsp_noted.specs.Histories.{deed_of, history_of, line_of}
-use Rattle.tsp_noted.specs.Posts.{PostsAt}
+use Rattle.tsp_history.specs.declared.noted.Noted.{Noted}
+use Rattle.tsp_history.specs.Histories.{deed_of, history_of, line_of}
+use Rattle.tsp_history.specs.Posts.{PostsAt}
 
 -- what a port sees as its own at one place is one line
 pub lines-one : (m : ℕ) (q : Port) (world : List Line) (a b : Line) (s t : List Line) → node_of a ≡ m → node_of b ≡ m → a.port ≡ q → b.port ≡ q → Within (a ∷ s) world → Within (b ∷ t) world →

@@ -20,7 +20,7 @@ use Rattle.tsp_base.specs.Headers.{HeaderValue}
 use Rattle.tsp_base.specs.History.{Acts, Begins, Line, Step}
 use Rattle.tsp_base.specs.Joins.{first_port, joined, line_of}
 use Rattle.tsp_base.specs.Places.{Within}
-use Rattle.tsp_base.specs.Setting.{Setting}
+use Rattle.tsp_promises.specs.Setting.{Setting}
 use Rattle.tsp_audit.proofs.JoinLemmas.{OfStep, grown-all, made}
 use Rattle.tsp_audit.proofs.NumberedLemmas.{AllName, numbered-claims}
 use Rattle.tsp_base.proofs.PlaceLemmas.{Within-all, Within-tail}

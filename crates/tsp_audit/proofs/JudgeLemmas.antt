@@ -11,13 +11,13 @@ use Rattle.tsp_audit.specs.Settings.{HasClocks, Timely}
 use Rattle.tsp_audit.proofs.Prefixes.{history-within, length-noted}
 use Rattle.tsp_base.specs.Headers.{HeaderValue}
 use Rattle.tsp_base.specs.History.{Line}
-use Rattle.tsp_base.specs.OneBack.{OneBack}
-use Rattle.tsp_base.specs.OnlyMaster.{OnlyMaster}
+use Rattle.tsp_promises.specs.OneBack.{OneBack}
+use Rattle.tsp_promises.specs.OnlyMaster.{OnlyMaster}
 use Rattle.tsp_base.specs.Places.{Within}
-use Rattle.tsp_base.specs.Setting.{Setting}
+use Rattle.tsp_promises.specs.Setting.{Setting}
 use Rattle.tsp_base.proofs.PlaceLemmas.{Within-comparable, Within-length}
-use Rattle.tsp_noted.specs.declared.noted.Noted.{Noted}
-use Rattle.tsp_noted.specs.Histories.{history_of}
+use Rattle.tsp_history.specs.declared.noted.Noted.{Noted}
+use Rattle.tsp_history.specs.Histories.{history_of}
 
 pub decided : (b : Bool) (P : Type 0) → b ≡ true → MatchBool b P (P → ⊥) → P
 decided true P e m = m

@@ -6,29 +6,29 @@ use Rattle.tsp_base.specs.declared.datagram.Datagram.TheVariants.{Stamp}
 use Rattle.tsp_base.specs.declared.place.PeerId.{PeerId}
 use Rattle.tsp_base.specs.declared.place.Place.TheVariants.{Peer}
 use Rattle.tsp_base.specs.declared.stamp.Stamp.TheVariants.{Reply}
-use Rattle.tsp_base.specs.ClockAt.{clock, clock_at}
-use Rattle.tsp_base.specs.Everywhere.{Everywhere}
-use Rattle.tsp_base.specs.Fits.{node_of}
+use Rattle.tsp_promises.specs.ClockAt.{clock, clock_at}
+use Rattle.tsp_promises.specs.Everywhere.{Everywhere}
+use Rattle.tsp_promises.specs.Fits.{node_of}
 use Rattle.tsp_base.specs.Headers.{HeaderValue}
 use Rattle.tsp_base.specs.History.{Acts, Did, Here, Line, Seen, dids, of, plain, view}
-use Rattle.tsp_base.specs.Measured.{MeasuredAt, ReadBy, TripAt, TripOf}
+use Rattle.tsp_promises.specs.Measured.{MeasuredAt, ReadBy, TripAt, TripOf}
 use Rattle.tsp_base.specs.NodeFacts.{target}
 use Rattle.tsp_base.specs.RoundFacts.{exchange, is_going}
 use Rattle.tsp_base.specs.Samples.{half_up}
-use Rattle.tsp_base.specs.Setting.{Setting}
+use Rattle.tsp_promises.specs.Setting.{Setting}
 use Rattle.tsp_base.specs.Takings.{peer_of, posted}
-use Rattle.tsp_base.proofs.EverywhereLemmas.{Everywhere-at, Everywhere-from}
+use Rattle.tsp_promises.proofs.EverywhereLemmas.{Everywhere-at, Everywhere-from}
 use Rattle.tsp_base.proofs.Views.{plain_view}
-use Rattle.tsp_safe.proofs.SendPlaces.{post_unique, same-number}
+use Rattle.tsp_promises.proofs.SendPlaces.{post_unique, same-number}
 use Rattle.tsp_audit.specs.Acting.{CameAt, IsUnposted}
 use Rattle.tsp_audit.specs.Measuring.{IsNear, MeasuresAt, Replies, RepliesAt, RepliesTo}
 use Rattle.tsp_audit.specs.Parts.{MeasuresWell}
 use Rattle.tsp_audit.specs.Settings.{HasClocks, clock_in}
-use Rattle.tsp_noted.proofs.HistoryLemmas.{history-more}
+use Rattle.tsp_history.proofs.HistoryLemmas.{history-more}
 use Rattle.tsp_audit.proofs.TakeLemmas.{came-cause, came-there, came-within, clock-set, same-noted, unposted}
-use Rattle.tsp_noted.specs.declared.noted.Noted.{Noted}
-use Rattle.tsp_noted.specs.Histories.{history_of, line_of}
-use Rattle.tsp_noted.specs.Rounds.{AskedAt}
+use Rattle.tsp_history.specs.declared.noted.Noted.{Noted}
+use Rattle.tsp_history.specs.Histories.{history_of, line_of}
+use Rattle.tsp_history.specs.Rounds.{AskedAt}
 
 -- no reply comes that was never posted
 pub replies-none : (l : Line) (h : List Line) (p : PeerId) → IsUnposted l h → (post : Line) (older : List Line) → Replies l h p post older → ⊥

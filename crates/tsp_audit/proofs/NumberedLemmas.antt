@@ -5,8 +5,8 @@ use Rattle.tsp_audit.specs.Agreeing.{Numbered}
 use Rattle.tsp_base.specs.declared.event.Event.{Event}
 use Rattle.tsp_base.specs.declared.event.Event.TheVariants.{Boot, Turn, Take, Bytes}
 use Rattle.tsp_audit.proofs.JoinLemmas.{OfStep, grown-all, made}
-use Rattle.tsp_base.specs.Everywhere.{Everywhere}
-use Rattle.tsp_base.specs.Fits.{node_of}
+use Rattle.tsp_promises.specs.Everywhere.{Everywhere}
+use Rattle.tsp_promises.specs.Fits.{node_of}
 use Rattle.tsp_base.specs.Headers.{HeaderValue}
 use Rattle.tsp_base.specs.History.{Step}
 use Rattle.tsp_claims.specs.declared.claimed.Claimed.{Claimed}

@@ -2,14 +2,14 @@
 use Rattle.std.specs.Prelude.{◌≡◌, ◌<◌, ◌+◌, ℕ, List, [], ◌∷◌, length}
 use Rattle.std.proofs.Common.{sym, ap, subst, ◌∙◌, take, drop, get_or, arith}
 use Rattle.std.proofs.lemmas.List.{take-append-drop}
-use Rattle.tsp_base.specs.Everywhere.{Everywhere}
+use Rattle.tsp_promises.specs.Everywhere.{Everywhere}
 use Rattle.tsp_base.specs.History.{Line}
 use Rattle.tsp_base.specs.Places.{Within}
-use Rattle.tsp_base.proofs.EverywhereLemmas.{Everywhere-at}
+use Rattle.tsp_promises.proofs.EverywhereLemmas.{Everywhere-at}
 use Rattle.tsp_base.proofs.PlaceLemmas.{Within-all, Within-tail}
-use Rattle.tsp_noted.specs.declared.noted.Noted.{Noted}
-use Rattle.tsp_noted.specs.Histories.{line_of, noted_after, history_of}
-use Rattle.tsp_noted.proofs.HistoryLemmas.{Within-noted, history-more, noted-append}
+use Rattle.tsp_history.specs.declared.noted.Noted.{Noted}
+use Rattle.tsp_history.specs.Histories.{line_of, noted_after, history_of}
+use Rattle.tsp_history.proofs.HistoryLemmas.{Within-noted, history-more, noted-append}
 
 noted-within : (h : List Line) (xs : List Noted) → Within h (noted_after h xs)
 noted-within h [] = Within-all h

@@ -3,27 +3,27 @@ use Rattle.std.specs.Prelude.{◌≡◌, ◌<◌, ◌≤◌, ◌+◌, ℕ, ℤ, 
 use Rattle.std.proofs.Common.{sym, ap, subst, ◌∙◌, arith, get_or, take}
 use Rattle.std.proofs.lemmas.List.{length-take}
 use Rattle.tsp_base.specs.declared.place.Port.{Port}
-use Rattle.tsp_base.specs.Fits.{node_of}
+use Rattle.tsp_promises.specs.Fits.{node_of}
 use Rattle.tsp_base.specs.History.{Came, Line, dids, of, view}
 use Rattle.tsp_base.specs.NodeFacts.{all_corrects, lives}
 use Rattle.tsp_base.specs.Places.{Within}
 use Rattle.tsp_base.specs.RoundFacts.{Sampled, best}
-use Rattle.tsp_base.specs.StepFacts.{closed}
+use Rattle.tsp_promises.specs.StepFacts.{closed}
 use Rattle.tsp_base.specs.Takings.{peer_of, posted}
 use Rattle.tsp_base.proofs.PlaceLemmas.{Within-through}
-use Rattle.tsp_safe.proofs.SendPlaces.{posted-mono, posted-post}
+use Rattle.tsp_promises.proofs.SendPlaces.{posted-mono, posted-post}
 use Rattle.tsp_audit.proofs.CastLemmas.{begun-cast, begun-none, lines-one}
 use Rattle.tsp_audit.proofs.Prefixes.{history-within, length-noted}
-use Rattle.tsp_noted.proofs.HistoryLemmas.{Within-noted, history-more}
+use Rattle.tsp_history.proofs.HistoryLemmas.{Within-noted, history-more}
 use Rattle.tsp_audit.proofs.TakeLemmas.{same-noted}
 use Rattle.tsp_audit.specs.Agreeing.{CastAs, IsNoCast, TripsTell}
 use Rattle.tsp_audit.specs.Casting.{BegunAt, HasNoRound, RoundAs, Rounds, TakesNone, TakesThen}
 use Rattle.tsp_audit.specs.declared.live.LiveCast.{LiveCast}
-use Rattle.tsp_noted.specs.declared.noted.Noted.{Noted}
-use Rattle.tsp_noted.specs.declared.rounds.Best.{Best}
-use Rattle.tsp_noted.specs.Histories.{deed_of, history_of, line_of}
-use Rattle.tsp_noted.specs.Posts.{PostsAt}
-use Rattle.tsp_noted.specs.Rounds.{BestAt, SeenAt, trip_at}
+use Rattle.tsp_history.specs.declared.noted.Noted.{Noted}
+use Rattle.tsp_history.specs.declared.rounds.Best.{Best}
+use Rattle.tsp_history.specs.Histories.{deed_of, history_of, line_of}
+use Rattle.tsp_history.specs.Posts.{PostsAt}
+use Rattle.tsp_history.specs.Rounds.{BestAt, SeenAt, trip_at}
 
 -- the index of a line is how many stand before it
 pub history-length : (ns : List Noted) (i : ℕ) → i ≤ length ns → length (history_of (take i ns)) ≡ i

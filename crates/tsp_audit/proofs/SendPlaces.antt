@@ -8,20 +8,20 @@ use Rattle.tsp_base.specs.declared.place.PeerId.{PeerId}
 use Rattle.tsp_base.specs.declared.place.Place.{Place}
 use Rattle.tsp_base.specs.declared.place.Place.TheVariants.{Peer}
 use Rattle.tsp_base.specs.declared.place.Port.{Port}
-use Rattle.tsp_base.specs.Fits.{node_of}
+use Rattle.tsp_promises.specs.Fits.{node_of}
 use Rattle.tsp_base.specs.History.{Acts, Did, Here, Line, Seen, dids, is_shared, of, view}
 use Rattle.tsp_base.specs.Messages.{MessageValue}
-use Rattle.tsp_base.specs.Once.{Brings, OfSend}
+use Rattle.tsp_promises.specs.Once.{Brings, OfSend}
 use Rattle.tsp_base.specs.Places.{Within}
 use Rattle.tsp_base.specs.SendFacts.{begun_to}
 use Rattle.tsp_base.specs.Takings.{peer_of, posted}
 use Rattle.tsp_base.proofs.PlaceLemmas.{Within-through}
-use Rattle.tsp_safe.proofs.Locating.{line_on, locate, view-line}
-use Rattle.tsp_safe.proofs.SeenPlaces.{seen_same}
-use Rattle.tsp_safe.proofs.SendPlaces.{post_unique, same-number}
-use Rattle.tsp_safe.proofs.SendProof.{begun_at}
+use Rattle.tsp_promises.proofs.Locating.{line_on, locate, view-line}
+use Rattle.tsp_promises.proofs.SeenPlaces.{seen_same}
+use Rattle.tsp_promises.proofs.SendPlaces.{post_unique, same-number}
+use Rattle.tsp_promises.proofs.SendProof.{begun_at}
 use Rattle.tsp_audit.specs.Acting.{TakesSend}
-use Rattle.tsp_noted.specs.Told.{PostedAt}
+use Rattle.tsp_history.specs.Told.{PostedAt}
 
 not-shared : (d : Did) (to : Place) (datagram : Datagram) → d.deed ≡ Acts (Post to datagram) → is_shared d.deed ≡ false
 not-shared d to datagram e = rw e refl

@@ -3,20 +3,20 @@ use Rattle.std.specs.Prelude.{◌≡◌, ◌==◌, ◌<◌, ◌≤◌, ◌+◌, 
 use Rattle.std.proofs.Common.{sym, ap, subst, ◌∙◌, arith, inl, inr}
 use Rattle.std.proofs.lemmas.Int.{ints}
 use Rattle.tsp_base.specs.declared.act.Act.TheVariants.{Boot, Correct}
-use Rattle.tsp_base.specs.Agreed.{Cast}
-use Rattle.tsp_base.specs.Fits.{node_of}
+use Rattle.tsp_promises.specs.Agreed.{Cast}
+use Rattle.tsp_promises.specs.Fits.{node_of}
 use Rattle.tsp_base.specs.History.{Acts, Deed, Did, Line, dids, from_act, of}
 use Rattle.tsp_base.specs.NodeFacts.{all_corrects, all_corrects_after, lives, lives_after, moved, moved_after}
 use Rattle.tsp_base.specs.Places.{Within}
 use Rattle.tsp_base.proofs.PlaceLemmas.{Within-all, Within-comparable}
 use Rattle.tsp_base.proofs.ViewPlaces.{Within-dids}
-use Rattle.tsp_safe.proofs.HistoryPlaces.{Within-of, of-other, of-own}
-use Rattle.tsp_safe.proofs.LateProof.{lives-deed}
+use Rattle.tsp_promises.proofs.HistoryPlaces.{Within-of, of-other, of-own}
+use Rattle.tsp_promises.proofs.LateProof.{lives-deed}
 use Rattle.tsp_audit.specs.Agreeing.{AfterIs, CastAs, FirstIs, IsNoCast, LiveIs, NodeIs}
 use Rattle.tsp_audit.specs.Changes.{IsCorrect}
 use Rattle.tsp_audit.specs.declared.live.LiveCast.{LiveCast}
 use Rattle.tsp_audit.specs.declared.live.NodeState.{NodeState}
-use Rattle.tsp_noted.specs.Clocks.{IsSumOf}
+use Rattle.tsp_history.specs.Clocks.{IsSumOf}
 
 -- a node's Corrects and Boots grow in number
 corrects-deed : (deed : Deed) (n : ℕ) → n ≤ all_corrects_after deed n

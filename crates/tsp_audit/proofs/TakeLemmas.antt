@@ -8,32 +8,32 @@ use Rattle.tsp_base.specs.declared.datagram.Datagram.TheVariants.{Message}
 use Rattle.tsp_base.specs.declared.place.PeerId.{PeerId}
 use Rattle.tsp_base.specs.declared.place.Place.{Place}
 use Rattle.tsp_base.specs.declared.place.Place.TheVariants.{Peer}
-use Rattle.tsp_base.specs.Fits.{node_of}
+use Rattle.tsp_promises.specs.Fits.{node_of}
 use Rattle.tsp_base.specs.History.{Acts, Came, Here, Line, Seen, dids, of, view}
 use Rattle.tsp_base.specs.Messages.{MessageValue}
 use Rattle.tsp_base.specs.declared.role.Role.TheVariants.{Follow}
 use Rattle.tsp_base.specs.Headers.{HeaderValue}
 use Rattle.tsp_base.specs.NodeFacts.{moved}
-use Rattle.tsp_base.specs.Once.{Brings, Obeys, ObeysAt, SpacedAt}
+use Rattle.tsp_promises.specs.Once.{Brings, Obeys, ObeysAt, SpacedAt}
 use Rattle.tsp_base.specs.PortFacts.{role}
 use Rattle.tsp_base.specs.Ticks.{tick_at}
-use Rattle.tsp_base.specs.ClockAt.{clock_at}
+use Rattle.tsp_promises.specs.ClockAt.{clock_at}
 use Rattle.tsp_base.specs.Places.{Within}
 use Rattle.tsp_base.specs.SendFacts.{begun_to, is_correction, is_numbered}
-use Rattle.tsp_base.specs.Setting.{Setting}
+use Rattle.tsp_promises.specs.Setting.{Setting}
 use Rattle.tsp_base.specs.Takings.{heard, peer_of, posted, time_in}
-use Rattle.tsp_base.specs.CorrectFits.{amount_of}
-use Rattle.tsp_safe.proofs.Locating.{view-line}
-use Rattle.tsp_safe.proofs.SendPlaces.{post_unique, posted-mono, posted-post, same-number}
-use Rattle.tsp_noted.proofs.HistoryLemmas.{history-more}
+use Rattle.tsp_promises.specs.CorrectFits.{amount_of}
+use Rattle.tsp_promises.proofs.Locating.{view-line}
+use Rattle.tsp_promises.proofs.SendPlaces.{post_unique, posted-mono, posted-post, same-number}
+use Rattle.tsp_history.proofs.HistoryLemmas.{history-more}
 use Rattle.tsp_audit.proofs.SendPlaces.{brings-one}
 use Rattle.tsp_audit.specs.Acting.{ActsNow, BringsAt, CameAt, Corrects, IsNumbered, IsUnposted, Moves, PostsTo, TakesSend, deed_corrects}
 use Rattle.tsp_audit.specs.Settings.{HasClocks, clock_in}
-use Rattle.tsp_noted.specs.declared.noted.Noted.{Noted}
-use Rattle.tsp_noted.specs.Histories.{deed_of, history_of, line_of}
-use Rattle.tsp_noted.specs.Posts.{PostsAt}
-use Rattle.tsp_noted.specs.Spacing.{Spaced}
-use Rattle.tsp_noted.specs.Told.{PostedAt, Told}
+use Rattle.tsp_history.specs.declared.noted.Noted.{Noted}
+use Rattle.tsp_history.specs.Histories.{deed_of, history_of, line_of}
+use Rattle.tsp_history.specs.Posts.{PostsAt}
+use Rattle.tsp_history.specs.Spacing.{Spaced}
+use Rattle.tsp_history.specs.Told.{PostedAt, Told}
 
 -- one line stands at an index
 pub same-noted : (ns : List Noted) (i : ℕ) (a b : Noted) → i < length ns → get_or ns i a ≡ a → get_or ns i b ≡ b → a ≡ b

@@ -8,19 +8,19 @@ use Rattle.tsp_base.specs.declared.datagram.Datagram.TheVariants.{Message}
 use Rattle.tsp_base.specs.declared.place.PeerId.{PeerId}
 use Rattle.tsp_base.specs.declared.place.Place.{Place}
 use Rattle.tsp_base.specs.declared.place.Place.TheVariants.{Peer}
-use Rattle.tsp_base.specs.CorrectFits.{amount_of}
-use Rattle.tsp_base.specs.Fits.{node_of}
+use Rattle.tsp_promises.specs.CorrectFits.{amount_of}
+use Rattle.tsp_promises.specs.Fits.{node_of}
 use Rattle.tsp_base.specs.History.{Acts, Came, Deed, Did, Here, Line, Seen, dids, of}
 use Rattle.tsp_base.specs.Messages.{MessageValue}
-use Rattle.tsp_base.specs.Once.{ActsOn, Brings, ConfirmedAt, ObeysAt, OfSend, OnceAt, SpacedAt}
+use Rattle.tsp_promises.specs.Once.{ActsOn, Brings, ConfirmedAt, ObeysAt, OfSend, OnceAt, SpacedAt}
 use Rattle.tsp_base.specs.Places.{Within}
 use Rattle.tsp_base.specs.SendFacts.{is_correction, is_numbered}
-use Rattle.tsp_base.specs.Setting.{Setting}
+use Rattle.tsp_promises.specs.Setting.{Setting}
 use Rattle.tsp_base.specs.Takings.{heard, peer_of, posted, time_in}
-use Rattle.tsp_noted.specs.declared.noted.Noted.{Noted}
-use Rattle.tsp_noted.specs.Histories.{history_of, line_of}
-use Rattle.tsp_noted.specs.Posts.{PostsAt}
-use Rattle.tsp_noted.specs.Told.{PostedAt}
+use Rattle.tsp_history.specs.declared.noted.Noted.{Noted}
+use Rattle.tsp_history.specs.Histories.{history_of, line_of}
+use Rattle.tsp_history.specs.Posts.{PostsAt}
+use Rattle.tsp_history.specs.Told.{PostedAt}
 
 -- the datagram that the line's step takes, if it takes one, was never posted
 abbrev pub IsUnposted : Line → List Line → Type 0

@@ -3,16 +3,16 @@ use Rattle.std.specs.Prelude.{◌≡◌, ◌<◌, ◌≤◌, ◌≤ℤ◌, ◌�
 use Rattle.tsp_audit.specs.declared.live.LiveCast.{LiveCast}
 use Rattle.tsp_audit.specs.declared.live.NodeState.{NodeState}
 use Rattle.tsp_audit.specs.declared.accord.Accord.{Accord}
-use Rattle.tsp_base.specs.Agreed.{Cast, RightAfter, Unchanged}
-use Rattle.tsp_base.specs.Everywhere.{Everywhere}
-use Rattle.tsp_base.specs.Fits.{node_of}
+use Rattle.tsp_promises.specs.Agreed.{Cast, RightAfter, Unchanged}
+use Rattle.tsp_promises.specs.Everywhere.{Everywhere}
+use Rattle.tsp_promises.specs.Fits.{node_of}
 use Rattle.tsp_base.specs.Headers.{HeaderValue}
 use Rattle.tsp_base.specs.History.{Line, dids, from_act, of}
 use Rattle.tsp_base.specs.NodeFacts.{all_corrects, lives, moved}
 use Rattle.tsp_base.specs.Places.{Within}
 use Rattle.tsp_base.specs.Ticks.{tick_at, width}
-use Rattle.tsp_noted.specs.Clocks.{IsSumOf}
-use Rattle.tsp_noted.specs.Rounds.{trip_at}
+use Rattle.tsp_history.specs.Clocks.{IsSumOf}
+use Rattle.tsp_history.specs.Rounds.{trip_at}
 use Rattle.tsp_run.specs.Setup.{node_line}
 
 -- each line's node is one of so many

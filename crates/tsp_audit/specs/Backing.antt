@@ -10,8 +10,8 @@ use Rattle.tsp_base.specs.declared.place.Place.TheVariants.{Peer}
 use Rattle.tsp_base.specs.declared.place.Port.{Port}
 use Rattle.tsp_base.specs.declared.role.Role.TheVariants.{Candidate}
 use Rattle.tsp_base.specs.History.{Acts, Deed, Line, of, view}
-use Rattle.tsp_base.specs.OneBack.{BacksAt, HoldsAt}
-use Rattle.tsp_base.specs.StepFacts.{is_unbacked}
+use Rattle.tsp_promises.specs.OneBack.{BacksAt, HoldsAt}
+use Rattle.tsp_promises.specs.StepFacts.{is_unbacked}
 
 abbrev pub is_standing : Deed → Bool
 is_standing (Acts (Become Candidate)) = true

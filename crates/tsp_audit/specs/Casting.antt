@@ -8,19 +8,19 @@ use Rattle.tsp_base.specs.declared.kind.Kind.TheVariants.{AdjTime}
 use Rattle.tsp_base.specs.declared.place.Place.{Place}
 use Rattle.tsp_base.specs.declared.place.Place.TheVariants.{Peer}
 use Rattle.tsp_base.specs.declared.place.Port.{Port}
-use Rattle.tsp_base.specs.Agreed.{ReadingOf}
-use Rattle.tsp_base.specs.Fits.{node_of}
+use Rattle.tsp_promises.specs.Agreed.{ReadingOf}
+use Rattle.tsp_promises.specs.Fits.{node_of}
 use Rattle.tsp_base.specs.History.{Acts, Came, Deed, Here, Line, Seen, dids, of, view}
 use Rattle.tsp_base.specs.Messages.{MessageValue}
 use Rattle.tsp_base.specs.NodeFacts.{all_corrects, lives}
-use Rattle.tsp_base.specs.Once.{ActsOn, OfSend}
+use Rattle.tsp_promises.specs.Once.{ActsOn, OfSend}
 use Rattle.tsp_base.specs.Places.{Within}
 use Rattle.tsp_base.specs.RoundFacts.{Sampled, best}
-use Rattle.tsp_base.specs.StepFacts.{closed}
+use Rattle.tsp_promises.specs.StepFacts.{closed}
 use Rattle.tsp_base.specs.Takings.{peer_of, posted}
-use Rattle.tsp_noted.specs.declared.noted.Noted.{Noted}
-use Rattle.tsp_noted.specs.Histories.{history_of, line_of}
-use Rattle.tsp_noted.specs.Rounds.{LineAt}
+use Rattle.tsp_history.specs.declared.noted.Noted.{Noted}
+use Rattle.tsp_history.specs.Histories.{history_of, line_of}
+use Rattle.tsp_history.specs.Rounds.{LineAt}
 
 -- a deed posts an ADJTIME
 pub record IsAdjusting (deed : Deed) : Type 0 where

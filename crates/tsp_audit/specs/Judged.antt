@@ -3,7 +3,7 @@ use Rattle.std.specs.Prelude.{◌≡◌, ◌<◌, ℕ, List, Option, None, Some}
 use Rattle.tsp_audit.specs.declared.premises.Premises.{Premises}
 use Rattle.tsp_audit.specs.Parts.{Part, part_number, Keeps, AllKeep}
 use Rattle.tsp_base.specs.History.{Line}
-use Rattle.tsp_base.specs.Setting.{Setting}
+use Rattle.tsp_promises.specs.Setting.{Setting}
 
 -- the part with this number is the least that fails of a history
 pub record FailsNow (premises : Premises) (setting : Setting) (h : List Line) (number : ℕ) : Type 0 where

@@ -11,7 +11,7 @@ use Rattle.tsp_audit.specs.Settings.{HasClocks, Timely}
 use Rattle.tsp_base.specs.Headers.{HeaderValue}
 use Rattle.tsp_base.specs.History.{Line}
 use Rattle.tsp_base.specs.Places.{Within}
-use Rattle.tsp_base.specs.Setting.{Setting}
+use Rattle.tsp_promises.specs.Setting.{Setting}
 use Rattle.tsp_claims.specs.ClaimedHistory.{Claim, claimed}
 
 -- a history of so many lines has grown to another, at true times of a schedule, by lines of its nodes

@@ -5,15 +5,15 @@ use Rattle.tsp_base.specs.declared.datagram.Datagram.TheVariants.{Stamp}
 use Rattle.tsp_base.specs.declared.place.PeerId.{PeerId}
 use Rattle.tsp_base.specs.declared.place.Place.TheVariants.{Peer}
 use Rattle.tsp_base.specs.declared.stamp.Stamp.TheVariants.{Reply}
-use Rattle.tsp_base.specs.Fits.{node_of}
+use Rattle.tsp_promises.specs.Fits.{node_of}
 use Rattle.tsp_base.specs.History.{Acts, Came, Line, dids}
-use Rattle.tsp_base.specs.Measured.{MeasuredAt, TripAt}
+use Rattle.tsp_promises.specs.Measured.{MeasuredAt, TripAt}
 use Rattle.tsp_base.specs.Places.{Within}
-use Rattle.tsp_base.specs.Setting.{Setting}
+use Rattle.tsp_promises.specs.Setting.{Setting}
 use Rattle.tsp_base.specs.Stamps.{ReplyValue}
 use Rattle.tsp_base.specs.Takings.{peer_of, posted}
-use Rattle.tsp_noted.specs.declared.noted.Noted.{Noted}
-use Rattle.tsp_noted.specs.Histories.{history_of, line_of}
+use Rattle.tsp_history.specs.declared.noted.Noted.{Noted}
+use Rattle.tsp_history.specs.Histories.{history_of, line_of}
 
 -- a line is that of peer p, and posts a reply to this node
 pub record RepliesTo (post : Line) (p : PeerId) (node : ℕ) : Type 0 where

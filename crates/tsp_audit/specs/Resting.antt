@@ -3,7 +3,7 @@ use Rattle.std.specs.Prelude.{◌≡◌, true, List, ◌∷◌, is_some}
 use Rattle.tsp_base.specs.declared.place.PeerId.{PeerId}
 use Rattle.tsp_base.specs.History.{Did, Here, Seen}
 use Rattle.tsp_base.specs.RoundFacts.{best}
-use Rattle.tsp_base.specs.StepFacts.{closed}
+use Rattle.tsp_promises.specs.StepFacts.{closed}
 
 -- the last Close of the step, if there is one, had a sample of p
 abbrev pub RestsOn : PeerId → List Seen → Type 0

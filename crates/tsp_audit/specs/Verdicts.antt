@@ -12,10 +12,10 @@ use Rattle.tsp_audit.specs.Notes.{NotesStand}
 use Rattle.tsp_audit.specs.Parts.{AllKeep}
 use Rattle.tsp_audit.specs.Settings.{HasClocks, Timely}
 use Rattle.tsp_base.specs.declared.event.Event.{Event}
-use Rattle.tsp_base.specs.Everywhere.{Everywhere}
+use Rattle.tsp_promises.specs.Everywhere.{Everywhere}
 use Rattle.tsp_base.specs.Headers.{HeaderValue}
 use Rattle.tsp_base.specs.Places.{Within}
-use Rattle.tsp_base.specs.Setting.{Setting}
+use Rattle.tsp_promises.specs.Setting.{Setting}
 use Rattle.tsp_claims.specs.declared.audit_fault.AuditFault.{AuditFault}
 use Rattle.tsp_claims.specs.declared.audit_fault.AuditFault.TheVariants.{History, OutOfMemory}
 use Rattle.tsp_claims.specs.ClaimedHistory.{Claim, claimed}

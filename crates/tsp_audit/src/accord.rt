@@ -2,11 +2,11 @@
 ghost use Rattle.std.specs.Prelude.{◌≡◌, ◌≤◌, ◌<◌, ◌+◌, ◌-◌, ◌^◌, ℕ, [], ◌∷◌, ◌++◌, List, length, get_or, take, vec_len, vec_capacity, true, MatchBool, IfOk, OnOk};
 ghost use Rattle.tsp_audit.specs.Agreeing.{AccordIs, AllAre, AreBlank, FirstIs, Numbered, TripsTell};
 ghost use Rattle.tsp_audit.specs.Settings.{HasClocks, Timely};
-ghost use Rattle.tsp_base.specs.Agreed.{Agreed, AgreedAt};
+ghost use Rattle.tsp_promises.specs.Agreed.{Agreed, AgreedAt};
 ghost use Rattle.tsp_base.specs.History.{Line, from_act};
-ghost use Rattle.tsp_base.specs.Setting.{Setting};
-ghost use Rattle.tsp_noted.specs.Histories.{line_of, history_of};
-ghost use Rattle.tsp_noted.specs.declared.noted.Noted.{Noted as NotedValue};
+ghost use Rattle.tsp_promises.specs.Setting.{Setting};
+ghost use Rattle.tsp_history.specs.Histories.{line_of, history_of};
+ghost use Rattle.tsp_history.specs.declared.noted.Noted.{Noted as NotedValue};
 
 use crate::live::NodeState;
 use crate::nearness::all_agree;
@@ -14,8 +14,8 @@ use crate::resting::rests;
 use crate::states::{blank, state_after};
 use std::alloc::{AllocError, Global};
 use tsp_base::header::Header;
-use tsp_noted::noted::Noted;
-use tsp_noted::rounds::trip_of;
+use tsp_history::noted::Noted;
+use tsp_history::rounds::trip_of;
 
 /// What is kept of a history to tell whether clocks agree.
 #[derive(Drop)]
@@ -87,11 +87,11 @@ impl Accord {
     ghost use Rattle.std.specs.Prelude.{ℕ, List};
     ghost use Rattle.tsp_audit.specs.Agreeing.{AccordIs, Numbered};
     ghost use Rattle.tsp_audit.specs.Settings.{HasClocks, Timely};
-    ghost use Rattle.tsp_base.specs.Agreed.{Agreed, AgreedAt};
+    ghost use Rattle.tsp_promises.specs.Agreed.{Agreed, AgreedAt};
     ghost use Rattle.tsp_base.specs.History.{Line};
-    ghost use Rattle.tsp_base.specs.Setting.{Setting};
-    ghost use Rattle.tsp_noted.specs.Histories.{line_of, history_of};
-    ghost use Rattle.tsp_noted.specs.declared.noted.Noted.{Noted as NotedValue};
+    ghost use Rattle.tsp_promises.specs.Setting.{Setting};
+    ghost use Rattle.tsp_history.specs.Histories.{line_of, history_of};
+    ghost use Rattle.tsp_history.specs.declared.noted.Noted.{Noted as NotedValue};
 
     /// Nothing has happened to so many nodes. Takes memory for them; the refusal is want of memory.
     pub(crate) fn new(alloc: Global, count: usize) -> Result<Accord, AllocError>

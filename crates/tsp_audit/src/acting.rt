@@ -1,16 +1,16 @@
 //! Whether each correction acts at most once.
 ghost use Rattle.std.specs.Prelude.{◌≡◌, ◌≤◌, ◌<◌, ◌+◌, ◌-◌, ◌^◌, ℕ, true, List, length, take, vec_len, vec_capacity, MatchBool, MatchOption};
-ghost use Rattle.tsp_base.specs.CorrectFits.{amount_of};
+ghost use Rattle.tsp_promises.specs.CorrectFits.{amount_of};
 ghost use Rattle.tsp_base.specs.History.{Line};
-ghost use Rattle.tsp_base.specs.Once.{ConfirmedAt, Obeys, ObeysAt, OnceAt, SpacedAt};
+ghost use Rattle.tsp_promises.specs.Once.{ConfirmedAt, Obeys, ObeysAt, OnceAt, SpacedAt};
 ghost use Rattle.tsp_base.specs.SendFacts.{is_numbered};
-ghost use Rattle.tsp_base.specs.Setting.{Setting};
+ghost use Rattle.tsp_promises.specs.Setting.{Setting};
 ghost use Rattle.tsp_base.specs.Takings.{time_in};
 ghost use Rattle.tsp_audit.specs.Parts.{ActsOnce, AllKept};
 ghost use Rattle.tsp_audit.specs.Settings.{HasClocks, Timely};
 ghost use Rattle.tsp_audit.specs.Acting.{ActedIs, ActsAt, ActsNow, Corrects, IsNumbered, Moves, TakesAs, TakesSend, TakesWell, deed_corrects, is_unknown, with_send};
-ghost use Rattle.tsp_noted.specs.Clocks.{IsSmall};
-ghost use Rattle.tsp_noted.specs.Histories.{deed_of, line_of, history_of};
+ghost use Rattle.tsp_history.specs.Clocks.{IsSmall};
+ghost use Rattle.tsp_history.specs.Histories.{deed_of, line_of, history_of};
 
 use crate::brought::brought;
 use crate::clock::clock_at;
@@ -23,11 +23,11 @@ use tsp_base::kind::Kind;
 use tsp_base::message::Body;
 use tsp_base::place::{PeerId, Place};
 use tsp_base::role::Role;
-use tsp_noted::clocks::is_spaced;
-use tsp_noted::noted::Noted;
-use tsp_noted::posts::{has_taken, post_at};
-use tsp_noted::scans::role_at;
-use tsp_noted::sends::{begun_to, open_to};
+use tsp_history::clocks::is_spaced;
+use tsp_history::noted::Noted;
+use tsp_history::posts::{has_taken, post_at};
+use tsp_history::scans::role_at;
+use tsp_history::sends::{begun_to, open_to};
 
 /// Whether a Correct stands GAP ticks after each one of its node's life, where these lines stand before it.
 fn spaces(lines: &[Noted], line: &Noted) -> bool

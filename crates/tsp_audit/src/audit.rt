@@ -71,7 +71,7 @@ impl Audit {
     ghost use Rattle.tsp_audit.specs.Settings.{HasClocks};
     ghost use Rattle.tsp_audit.specs.Verdicts.{AuditStands, Audits, IsFound};
     ghost use Rattle.tsp_base.specs.Headers.{HeaderValue};
-    ghost use Rattle.tsp_base.specs.Setting.{Setting};
+    ghost use Rattle.tsp_promises.specs.Setting.{Setting};
     ghost use Rattle.tsp_claims.specs.ClaimedHistory.{Claim};
     ghost use Rattle.tsp_claims.specs.Listed.{NamesNode};
     ghost use Rattle.tsp_run.specs.Run.{event_at};

@@ -2,17 +2,17 @@
 ghost use Rattle.std.specs.Prelude.{◌≡◌, ◌≤◌, ◌&&◌, ℕ, List, ◌∷◌, length, take, MatchBool, None};
 ghost use Rattle.tsp_audit.specs.Backing.{Settled, concerns, Backs, deed_backs, is_stand, post_backs};
 ghost use Rattle.tsp_base.specs.History.{Line, of, view};
-ghost use Rattle.tsp_base.specs.OneBack.{BacksAt, HoldsAt, OneBack};
-ghost use Rattle.tsp_base.specs.StepFacts.{backed, is_unbacked};
-ghost use Rattle.tsp_noted.specs.Histories.{deed_of, line_of, history_of};
+ghost use Rattle.tsp_promises.specs.OneBack.{BacksAt, HoldsAt, OneBack};
+ghost use Rattle.tsp_promises.specs.StepFacts.{backed, is_unbacked};
+ghost use Rattle.tsp_history.specs.Histories.{deed_of, line_of, history_of};
 
 use tsp_base::act::Act;
 use tsp_base::datagram::Datagram;
 use tsp_base::kind::Kind;
 use tsp_base::place::{PeerId, Place, Port};
 use tsp_base::role::Role;
-use tsp_noted::noted::Noted;
-use tsp_noted::scans::is_held;
+use tsp_history::noted::Noted;
+use tsp_history::scans::is_held;
 
 /// Whom the step of a node's port has backed last after a line, where it was `keep` before.
 fn backed_after(line: &Noted, node: u32, port: Port, keep: Option<PeerId>) -> Option<PeerId>

@@ -1,15 +1,15 @@
 //! Which message a line's step brings.
 ghost use Rattle.std.specs.Prelude.{◌≡◌, ◌<◌, ◌^◌, List, length, MatchBool, MatchOption};
 ghost use Rattle.tsp_base.specs.History.{Line};
-ghost use Rattle.tsp_base.specs.Once.{Brings};
+ghost use Rattle.tsp_promises.specs.Once.{Brings};
 ghost use Rattle.tsp_audit.specs.Acting.{BringsAt, CameAt, IsUnposted, PostsTo};
-ghost use Rattle.tsp_noted.specs.Histories.{deed_of, line_of, history_of};
+ghost use Rattle.tsp_history.specs.Histories.{deed_of, line_of, history_of};
 
 use tsp_base::act::Act;
 use tsp_base::datagram::Datagram;
 use tsp_base::place::Place;
-use tsp_noted::noted::{Noted, Why};
-use tsp_noted::posts::post_at;
+use tsp_history::noted::{Noted, Why};
+use tsp_history::posts::post_at;
 
 /// The index of the line, among these before it, that posts the datagram which a line's step takes.
 pub(crate) fn came_at(lines: &[Noted], line: &Noted) -> Option<usize>

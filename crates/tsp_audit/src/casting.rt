@@ -4,9 +4,9 @@ ghost use Rattle.tsp_audit.specs.Agreeing.{CastAs, IsNoCast, TripsTell};
 ghost use Rattle.tsp_audit.specs.Casting.{BegunAt, HasNoRound, IsAdjusting, RoundAs, TakesNone, TakesThen};
 ghost use Rattle.tsp_base.specs.History.{Line, dids, of, view};
 ghost use Rattle.tsp_base.specs.RoundFacts.{best};
-ghost use Rattle.tsp_noted.specs.Histories.{deed_of, line_of, history_of};
-ghost use Rattle.tsp_base.specs.StepFacts.{closed};
-ghost use Rattle.tsp_noted.specs.Rounds.{Bests, SeenAt};
+ghost use Rattle.tsp_history.specs.Histories.{deed_of, line_of, history_of};
+ghost use Rattle.tsp_promises.specs.StepFacts.{closed};
+ghost use Rattle.tsp_history.specs.Rounds.{Bests, SeenAt};
 
 use crate::acting::takes_send;
 use crate::counts::counts_at;
@@ -15,9 +15,9 @@ use tsp_base::act::Act;
 use tsp_base::datagram::Datagram;
 use tsp_base::kind::Kind;
 use tsp_base::place::{PeerId, Port};
-use tsp_noted::noted::{Noted, Why};
-use tsp_noted::posts::post_at;
-use tsp_noted::rounds::{Best, best_after, closed_at};
+use tsp_history::noted::{Noted, Why};
+use tsp_history::posts::post_at;
+use tsp_history::rounds::{Best, best_after, closed_at};
 
 /// The round trip at an index, in microseconds; 0 where there is none.
 fn trip_in(trips: &[i128], index: usize) -> i128

@@ -4,14 +4,14 @@ ghost use Rattle.tsp_audit.specs.Agreeing.{shown_by};
 ghost use Rattle.tsp_audit.specs.Settings.{clock_in};
 ghost use Rattle.tsp_base.specs.Ticks.{tick_at};
 ghost use Rattle.tsp_run.specs.Setup.{node_line};
-ghost use Rattle.tsp_noted.specs.Clocks.{IsSmall, IsSumOf};
-ghost use Rattle.tsp_noted.specs.Histories.{history_of};
+ghost use Rattle.tsp_history.specs.Clocks.{IsSmall, IsSumOf};
+ghost use Rattle.tsp_history.specs.Histories.{history_of};
 
 use tsp_base::constants::SCHEDULE_END;
 use tsp_base::drift::tick_at;
 use tsp_base::header::Header;
-use tsp_noted::clocks::moved_at;
-use tsp_noted::noted::Noted;
+use tsp_history::clocks::moved_at;
+use tsp_history::noted::Noted;
 
 /// A node's rate, in millionths, and its wall clock at tick 0, in microseconds; 0 for a number that no node has.
 fn clock_of(header: &Header, node: u32) -> (i32, i64)

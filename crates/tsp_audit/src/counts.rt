@@ -3,11 +3,11 @@ ghost use Rattle.std.specs.Prelude.{◌≡◌, ◌≤◌, ◌<◌, ◌+◌, ◌^
 ghost use Rattle.tsp_base.specs.History.{Line, dids, of, view};
 ghost use Rattle.tsp_base.specs.NodeFacts.{all_corrects, lives};
 ghost use Rattle.tsp_base.specs.PortFacts.{acting};
-ghost use Rattle.tsp_noted.specs.Histories.{line_of, history_of};
+ghost use Rattle.tsp_history.specs.Histories.{line_of, history_of};
 
 use tsp_base::act::Act;
 use tsp_base::place::Port;
-use tsp_noted::noted::Noted;
+use tsp_history::noted::Noted;
 
 /// How often a node has booted, and how often it has corrected its clock over all its lives.
 #[derive(Clone, Copy)]

@@ -5,8 +5,8 @@ ghost use Rattle.tsp_audit.specs.Judged.{Judges};
 ghost use Rattle.tsp_audit.specs.Notes.{HasRoom, NotesStand};
 ghost use Rattle.tsp_audit.specs.Parts.{Agreeing, AllKeep, AllKept, Keeps};
 ghost use Rattle.tsp_audit.specs.Settings.{HasClocks, Timely};
-ghost use Rattle.tsp_base.specs.Setting.{Setting};
-ghost use Rattle.tsp_noted.specs.Histories.{history_of};
+ghost use Rattle.tsp_promises.specs.Setting.{Setting};
+ghost use Rattle.tsp_history.specs.Histories.{history_of};
 
 use crate::accord::Accord;
 use crate::acting::keeps_acting;
@@ -16,7 +16,7 @@ use crate::measuring::keeps_measuring_if;
 use crate::notes::Notes;
 use crate::premises::Premises;
 use tsp_base::header::Header;
-use tsp_noted::noted::Noted;
+use tsp_history::noted::Noted;
 
 /// Whether clocks agree in all lines, if that is asked, where they do in those before `from`, for which the accord stands; there is
 /// to be room for the others. It stands for all lines after that, where that is asked and the answer is yes.

@@ -1,17 +1,17 @@
 //! Whether only masters correct.
 ghost use Rattle.std.specs.Prelude.{◌≡◌, ◌≤◌, List, ◌∷◌, length, take, MatchBool};
 ghost use Rattle.tsp_base.specs.History.{Line};
-ghost use Rattle.tsp_base.specs.OnlyMaster.{LeadsAt, OnlyMaster};
+ghost use Rattle.tsp_promises.specs.OnlyMaster.{LeadsAt, OnlyMaster};
 ghost use Rattle.tsp_base.specs.SendFacts.{is_correction};
 ghost use Rattle.tsp_audit.specs.Leading.{closing, must_lead};
-ghost use Rattle.tsp_noted.specs.Histories.{line_of, history_of, deed_of};
+ghost use Rattle.tsp_history.specs.Histories.{line_of, history_of, deed_of};
 
 use tsp_base::act::Act;
 use tsp_base::datagram::Datagram;
 use tsp_base::kind::Kind;
 use tsp_base::role::Role;
-use tsp_noted::noted::Noted;
-use tsp_noted::scans::role_at;
+use tsp_history::noted::Noted;
+use tsp_history::scans::role_at;
 
 /// Whether messages of this kind correct a clock.
 pub(crate) fn is_correction(kind: Kind) -> bool

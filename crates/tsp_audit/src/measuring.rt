@@ -1,14 +1,14 @@
 //! Whether each measurement errs by at most half its round trip.
 ghost use Rattle.std.specs.Prelude.{◌≡◌, ◌≤◌, ◌<◌, ◌^◌, ◌-ℤ◌, List, length, take, MatchBool, MatchOption};
 ghost use Rattle.tsp_base.specs.History.{Line, of, view};
-ghost use Rattle.tsp_base.specs.Measured.{MeasuredAt, ReadBy, TripAt, TripOf};
+ghost use Rattle.tsp_promises.specs.Measured.{MeasuredAt, ReadBy, TripAt, TripOf};
 ghost use Rattle.tsp_base.specs.Samples.{half_down, half_up};
-ghost use Rattle.tsp_base.specs.Setting.{Setting};
+ghost use Rattle.tsp_promises.specs.Setting.{Setting};
 ghost use Rattle.tsp_audit.specs.Measuring.{IsNear, MeasuresAt, Replies, RepliesAt, RepliesTo};
 ghost use Rattle.tsp_audit.specs.Parts.{Keeps, Measuring, MeasuresWell};
 ghost use Rattle.tsp_audit.specs.Settings.{HasClocks, Timely};
-ghost use Rattle.tsp_noted.specs.Clocks.{IsSmall, IsTrip};
-ghost use Rattle.tsp_noted.specs.Histories.{line_of, history_of};
+ghost use Rattle.tsp_history.specs.Clocks.{IsSmall, IsTrip};
+ghost use Rattle.tsp_history.specs.Histories.{line_of, history_of};
 
 use crate::brought::came_at;
 use crate::clock::clock_at;
@@ -19,9 +19,9 @@ use tsp_base::datagram::Datagram;
 use tsp_base::header::Header;
 use tsp_base::place::{PeerId, Place};
 use tsp_base::stamp::Stamp;
-use tsp_noted::clocks::target_at;
-use tsp_noted::noted::Noted;
-use tsp_noted::rounds::{asked_at, is_going};
+use tsp_history::clocks::target_at;
+use tsp_history::noted::Noted;
+use tsp_history::rounds::{asked_at, is_going};
 
 /// Whether a line is a peer's, and posts a reply to a node.
 fn replies_to(post: &Noted, peer: PeerId, node: u32) -> bool

@@ -3,7 +3,7 @@ ghost use Rattle.std.specs.Prelude.{◌≡◌, ◌≤◌, ◌<◌, ◌^◌, ◌+
 ghost use Rattle.tsp_audit.specs.Agreeing.{AllAgree, AllBounded, BossAgrees, IsAt, MasterNear, NodeAgrees, PairAgrees, PairNear, Stands, shown_by};
 ghost use Rattle.tsp_audit.specs.declared.live.NodeState.{NodeState as NodeValue};
 ghost use Rattle.tsp_base.specs.Ticks.{width};
-ghost use Rattle.tsp_noted.specs.Clocks.{IsSumOf, IsTrip};
+ghost use Rattle.tsp_history.specs.Clocks.{IsSumOf, IsTrip};
 
 use crate::clock::clock_of_moved;
 use crate::live::{LiveCast, NodeState};

@@ -2,9 +2,9 @@
 ghost use Rattle.std.specs.Prelude.{◌≡◌, true, is_some, MatchBool};
 ghost use Rattle.tsp_audit.specs.Agreeing.{TripsTell};
 ghost use Rattle.tsp_audit.specs.Resting.{RestsOn};
-ghost use Rattle.tsp_base.specs.Agreed.{RestsOnSample};
+ghost use Rattle.tsp_promises.specs.Agreed.{RestsOnSample};
 ghost use Rattle.tsp_base.specs.History.{of, view};
-ghost use Rattle.tsp_noted.specs.Histories.{line_of, history_of};
+ghost use Rattle.tsp_history.specs.Histories.{line_of, history_of};
 
 use crate::casting::best_in;
 use crate::counts::is_acting;
@@ -12,8 +12,8 @@ use tsp_base::act::Act;
 use tsp_base::datagram::Datagram;
 use tsp_base::kind::Kind;
 use tsp_base::place::{PeerId, Place, Port};
-use tsp_noted::noted::Noted;
-use tsp_noted::rounds::closed_at;
+use tsp_history::noted::Noted;
+use tsp_history::rounds::closed_at;
 
 /// Whether the last Close of a port's step, if there is one, had a sample of a peer.
 fn has_sample(lines: &[Noted], trips: &[i128], node: u32, port: Port, p: PeerId) -> bool

@@ -5,14 +5,14 @@ ghost use Rattle.tsp_audit.specs.Changes.{IsCorrect};
 ghost use Rattle.tsp_base.specs.declared.act.Act.TheVariants.{Boot};
 ghost use Rattle.tsp_base.specs.History.{Acts, Line, from_act};
 ghost use Rattle.tsp_base.specs.NodeFacts.{all_corrects_after, lives_after};
-ghost use Rattle.tsp_noted.specs.Histories.{deed_of, line_of, history_of};
+ghost use Rattle.tsp_history.specs.Histories.{deed_of, line_of, history_of};
 
 use crate::casting::cast_at;
 use crate::counts::counts_at;
 use crate::live::NodeState;
 use tsp_base::act::Act;
-use tsp_noted::clocks::moved_at;
-use tsp_noted::noted::Noted;
+use tsp_history::clocks::moved_at;
+use tsp_history::noted::Noted;
 
 /// What is kept of a node before any line.
 pub(crate) fn blank() -> NodeState

@@ -1,5 +1,4 @@
 pub mod AlarmLemmas
-pub mod EverywhereLemmas
 pub mod HeaderLemmas
 pub mod KindLemmas
 pub mod LeadsLemmas

@@ -14,7 +14,7 @@ use Rattle.tsp_claims.specs.Fitting.{acts_of}
 use Rattle.tsp_claims.specs.Listed.{Wakes, boots, booted, up_in}
 use Rattle.tsp_claims.specs.Stands.{ClaimsStand, claim_of}
 use Rattle.tsp_claims.specs.TakingIn.{Stays, TakesStep}
-use Rattle.tsp_noted.specs.Histories.{history_of}
+use Rattle.tsp_history.specs.Histories.{history_of}
 use Rattle.tsp_script.specs.declared.trace.Line2.{Line2}
 
 -- what holds of the fields holds of the claims that they stand for

@@ -8,9 +8,9 @@ use Rattle.tsp_base.specs.Joins.{joined, line_of as line_in}
 use Rattle.tsp_claims.specs.declared.acting.Acting.{Acting}
 use Rattle.tsp_claims.specs.Fitting.{acts_of}
 use Rattle.tsp_claims.specs.Steps.{ActsIn, step_by}
-use Rattle.tsp_noted.specs.declared.noted.Noted.{Noted}
-use Rattle.tsp_noted.specs.Histories.{history_of, line_of}
-use Rattle.tsp_noted.proofs.HistoryLemmas.{noted-append}
+use Rattle.tsp_history.specs.declared.noted.Noted.{Noted}
+use Rattle.tsp_history.specs.Histories.{history_of, line_of}
+use Rattle.tsp_history.proofs.HistoryLemmas.{noted-append}
 use Rattle.tsp_run.specs.Run.{step_tick}
 use Rattle.tsp_script.specs.declared.trace.Line2.{Line2}
 

@@ -8,7 +8,7 @@ use Rattle.tsp_claims.specs.ClaimedHistory.{joins_acts, posts_by, posts_in, step
 use Rattle.tsp_claims.specs.Fitting.{acts_of}
 use Rattle.tsp_claims.specs.Listed.{up_in}
 use Rattle.tsp_claims.specs.Steps.{step_by}
-use Rattle.tsp_noted.specs.Histories.{history_of}
+use Rattle.tsp_history.specs.Histories.{history_of}
 use Rattle.tsp_script.specs.declared.trace.Line2.{Line2}
 
 -- there is room for a mark and so many lines, and for as many posts

@@ -11,9 +11,9 @@ use std::alloc::{AllocError, Global};
 use tsp_base::event::Event;
 use tsp_base::header::Header;
 use tsp_base::members::Members;
-use tsp_nets::all_nodes;
-use tsp_noted::clocks::moved_at;
-use tsp_noted::noted::Noted;
+use tsp_networks::all_nodes;
+use tsp_history::clocks::moved_at;
+use tsp_history::noted::Noted;
 use tsp_script::trace::Line2;
 
 /// The claimed lines of some events, event by event: all fit the schedule.
@@ -43,7 +43,7 @@ pub struct Claims {
 impl Claims {
     ghost use Rattle.tsp_base.specs.Headers.{HeaderValue};
     ghost use Rattle.tsp_run.specs.Run.{event_at};
-    ghost use Rattle.tsp_noted.specs.Histories.{history_of};
+    ghost use Rattle.tsp_history.specs.Histories.{history_of};
     ghost use Rattle.tsp_claims.specs.ClaimedHistory.{Claim, base_of, claimed, posts_of};
     ghost use Rattle.tsp_claims.specs.Fitting.{FitsNext};
     ghost use Rattle.tsp_claims.specs.Listed.{NamesNode};

@@ -8,7 +8,7 @@ ghost use Rattle.tsp_claims.specs.Listed.{NamesNode, up_in};
 ghost use Rattle.tsp_claims.specs.Stands.{ClaimsStand, claim_of};
 ghost use Rattle.tsp_claims.specs.Steps.{ActsIn, step_by};
 ghost use Rattle.tsp_claims.specs.TakingIn.{HasRoom, Joins, Stays, TakesStep};
-ghost use Rattle.tsp_noted.specs.Histories.{history_of};
+ghost use Rattle.tsp_history.specs.Histories.{history_of};
 
 use crate::acting::Acting;
 use crate::booted::wake;
@@ -18,7 +18,7 @@ use std::alloc::AllocError;
 use tsp_base::act::{Act, Placed};
 use tsp_base::event::Event;
 use tsp_base::place::Port;
-use tsp_noted::noted::Noted;
+use tsp_history::noted::Noted;
 use tsp_script::trace::Line2;
 
 /// A line of a step: its mark, or an act on a port.

@@ -1,7 +1,7 @@
 -- From what the treatment of a claimed history comes to, to how an audit's run ends.
 use Rattle.std.specs.Prelude.{◌≡◌, ◌≢◌, ◌⊎◌, ℕ, ◌≤◌, List, length, Option, Some, Bool, true}
 use Rattle.std.proofs.Common.{sym, ◌∙◌, ap, subst}
-use Rattle.tsp_check.specs.Meaning.{IsAuditText, auditing}
+use Rattle.tsp_audit_command.specs.Meaning.{IsAuditText, auditing}
 use Rattle.tsp_io.specs.Counts.{Rose}
 use Rattle.tsp_lines.specs.declared.limits.TheConstants.{MOST_INPUT}
 use Rattle.tsp_lines.specs.declared.treat.Outcome.{Outcome}

@@ -2,9 +2,9 @@
 use Rattle.std.specs.Prelude.{◌≡◌, ◌⊎◌, ◌≤◌, ◌<◌, ℕ, ℤ, Bool, true, false, List, [], ◌++◌, length, Option, None, Some, IfSome, IfOk, MatchOption, codes}
 use Rattle.std.specs.declared.result.Result.{Result}
 use Rattle.std.proofs.Common.{sym, ◌∙◌, inl, inr, subst, refl, ap, arith}
-use Rattle.tsp_asking.specs.declared.end.Asking.{Asking}
-use Rattle.tsp_asking.specs.declared.end.Asking.TheVariants.{Answered, NoAnswer as Unanswered, LinkFault as NotAsked, WriteFault as Untold, OutOfMemory as Unasked}
-use Rattle.tsp_asking.specs.Asks.{AsksAs}
+use Rattle.tsp_query.specs.declared.exit.Asking.{Asking}
+use Rattle.tsp_query.specs.declared.exit.Asking.TheVariants.{Answered, NoAnswer as Unanswered, LinkFault as NotAsked, WriteFault as Untold, OutOfMemory as Unasked}
+use Rattle.tsp_query.specs.Asks.{AsksAs}
 use Rattle.tsp_io.specs.Counts.{Rose}
 use Rattle.tsp_lines.proofs.Outputs.{Grows-nil}
 use Rattle.tsp_query.proofs.AskLemmas.{of_some}
@@ -14,15 +14,15 @@ use Rattle.tsp_rules.specs.Guards.{is_clock_value}
 use Rattle.tsp_storm.specs.declared.run.StormEnd.{StormEnd}
 use Rattle.tsp_storm.specs.declared.run.StormEnd.TheVariants.{Done as Summed, Limit as Full, WriteFault as Unsaid, OutOfMemory as Unmade}
 use Rattle.tsp_storm.specs.Answers.{IsAnswer, Agrees, HasRoom, StormsAs}
-use Rattle.tsp_serving.specs.declared.end.Served.{Served}
-use Rattle.tsp_serving.specs.declared.end.Served.TheVariants.{Done as AllTurns, BadWall, LinkFault as NotHeard, WriteFault as NotShown, OutOfMemory as Unserved}
-use Rattle.tsp_serving.specs.Serving.{ServesAs}
-use Rattle.tsp_words.specs.Commands.{words_of, IsCommand, IsNoCommand}
-use Rattle.tsp_words.specs.declared.command.Command.{Command}
-use Rattle.tsp_words.specs.declared.command.Command.TheVariants.{Replay, Show, Pack, Serve, Ask, Storm, Icmp, Audit}
-use Rattle.tsp_words.specs.declared.query.Query.{Query}
-use Rattle.tsp_words.specs.declared.serve.ServeWords.{ServeWords}
-use Rattle.tsp_words.specs.declared.storm.StormWords.{StormWords}
+use Rattle.tsp_daemon.specs.declared.exit.Served.{Served}
+use Rattle.tsp_daemon.specs.declared.exit.Served.TheVariants.{Done as AllTurns, BadWall, LinkFault as NotHeard, WriteFault as NotShown, OutOfMemory as Unserved}
+use Rattle.tsp_daemon.specs.Serving.{ServesAs}
+use Rattle.tsp_args.specs.Commands.{words_of, IsCommand, IsNoCommand}
+use Rattle.tsp_args.specs.declared.command.Command.{Command}
+use Rattle.tsp_args.specs.declared.command.Command.TheVariants.{Replay, Show, Pack, Serve, Ask, Storm, Icmp, Audit}
+use Rattle.tsp_args.specs.declared.query.Query.{Query}
+use Rattle.tsp_args.specs.declared.serve.ServeWords.{ServeWords}
+use Rattle.tsp_args.specs.declared.storm.StormWords.{StormWords}
 use Rattle.tsp_cli.specs.declared.status.Status.{Status}
 use Rattle.tsp_cli.specs.declared.status.Status.TheVariants.{Ok, Usage, ReadFault, WriteFault, LinkFault, NoAnswer, OutOfMemory}
 use Rattle.tsp_cli.specs.Commands.{Now, Does, IsAsk, IsQuestion, Untouched, RunsDaemon, RunsQuery, RunsStorm}

@@ -9,7 +9,7 @@ use Rattle.tsp_base.specs.Headers.{HeaderValue}
 use Rattle.tsp_io.specs.Streams.{Grows}
 use Rattle.tsp_script.specs.declared.event_line.EventItem.TheVariants.{Event as EventOf}
 use Rattle.tsp_script.specs.Schedules.{SpellsEvent}
-use Rattle.tsp_course.specs.Schedules.{Progress, Untitled, Titled, Drifted, Heading, Running, Ended, IsEnded, new_header}
+use Rattle.tsp_schedule.specs.Schedules.{Progress, Untitled, Titled, Drifted, Heading, Running, Ended, IsEnded, new_header}
 use Rattle.tsp_replay.proofs.Places.{GoesOn, RunsOn}
 use Rattle.tsp_replay.specs.Schedules.{Reaches}
 use Rattle.tsp_replay.specs.Traces.{written_at, trace}

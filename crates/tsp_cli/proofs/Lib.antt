@@ -1,5 +1,16 @@
+mod ActsFit
 pub mod AuditLemmas
+mod ClaimedPosts
 pub mod CommandLemmas
+mod EachLine
+mod Happens
 pub mod HeadlineLemmas
+pub mod LinesFit
+mod RunClaims
+mod RunHonest
 pub mod RunLemmas
+mod RunLife
+mod RunWords
 pub mod Statuses
+mod Told
+pub mod Verdict

@@ -1,8 +1,8 @@
 -- What each command of the program comes to.
 use Rattle.std.specs.Prelude.{◌≡◌, ◌≢◌, ◌⊎◌, ◌≤◌, ℕ, ℤ, Bool, true, List, length, Option, Some}
-use Rattle.tsp_asking.specs.declared.end.Asking.{Asking}
-use Rattle.tsp_asking.specs.Asks.{AsksAs}
-use Rattle.tsp_check.specs.Meaning.{IsAuditText, auditing}
+use Rattle.tsp_query.specs.declared.exit.Asking.{Asking}
+use Rattle.tsp_query.specs.Asks.{AsksAs}
+use Rattle.tsp_audit_command.specs.Meaning.{IsAuditText, auditing}
 use Rattle.tsp_io.specs.Counts.{Rose}
 use Rattle.tsp_lines.specs.declared.limits.TheConstants.{MOST_INPUT}
 use Rattle.tsp_lines.specs.declared.treat.Outcome.{Outcome}
@@ -13,14 +13,14 @@ use Rattle.tsp_query.specs.Told.{Told, Knows}
 use Rattle.tsp_rules.specs.Guards.{is_clock_value}
 use Rattle.tsp_storm.specs.declared.run.StormEnd.{StormEnd}
 use Rattle.tsp_storm.specs.Answers.{IsAnswer, Agrees, HasRoom, StormsAs}
-use Rattle.tsp_serving.specs.declared.end.Served.{Served}
-use Rattle.tsp_serving.specs.Serving.{ServesAs}
-use Rattle.tsp_words.specs.Commands.{words_of, IsCommand}
-use Rattle.tsp_words.specs.declared.command.Command.{Command}
-use Rattle.tsp_words.specs.declared.command.Command.TheVariants.{Replay, Show, Pack, Serve, Ask, Storm, Icmp, Audit}
-use Rattle.tsp_words.specs.declared.query.Query.{Query}
-use Rattle.tsp_words.specs.declared.serve.ServeWords.{ServeWords}
-use Rattle.tsp_words.specs.declared.storm.StormWords.{StormWords}
+use Rattle.tsp_daemon.specs.declared.exit.Served.{Served}
+use Rattle.tsp_daemon.specs.Serving.{ServesAs}
+use Rattle.tsp_args.specs.Commands.{words_of, IsCommand}
+use Rattle.tsp_args.specs.declared.command.Command.{Command}
+use Rattle.tsp_args.specs.declared.command.Command.TheVariants.{Replay, Show, Pack, Serve, Ask, Storm, Icmp, Audit}
+use Rattle.tsp_args.specs.declared.query.Query.{Query}
+use Rattle.tsp_args.specs.declared.serve.ServeWords.{ServeWords}
+use Rattle.tsp_args.specs.declared.storm.StormWords.{StormWords}
 use Rattle.tsp_cli.specs.declared.status.Status.{Status}
 use Rattle.tsp_cli.specs.declared.status.Status.TheVariants.{Ok, NoAnswer, OutOfMemory, ReadFault}
 use Rattle.tsp_cli.specs.Lines.{LineCommand, Replay as Replays, Show as Shows, Pack as Packs, Icmp as Averages, Runs}

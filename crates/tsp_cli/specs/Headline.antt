@@ -2,7 +2,7 @@
 use Rattle.std.specs.Prelude.{ℕ, List, Option}
 use Rattle.tsp_base.specs.declared.event.Event.{Event}
 use Rattle.tsp_base.specs.Headers.{HeaderValue}
-use Rattle.tsp_base.specs.Setting.{Setting}
+use Rattle.tsp_promises.specs.Setting.{Setting}
 use Rattle.tsp_io.specs.Streams.{Grows}
 use Rattle.tsp_lines.specs.declared.limits.TheConstants.{MOST_INPUT}
 use Rattle.tsp_lines.specs.Lines.{IsInput, IsOver}

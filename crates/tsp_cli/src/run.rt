@@ -1,10 +1,10 @@
 //! The top call.
 ghost use Rattle.std.specs.Prelude.{◌≡◌, ◌≢◌, ◌≤◌, ◌⊎◌, [], ◌∷◌, true, false, map, codes, string_bytes};
 ghost use Rattle.tsp_io.specs.Counts.{Rose};
-ghost use Rattle.tsp_words.specs.Commands.{IsCommand, IsNoCommand, words_of};
-ghost use Rattle.tsp_words.specs.Serves.{IsServe};
-ghost use Rattle.tsp_words.specs.Storms.{IsStorm};
-ghost use Rattle.tsp_words.specs.declared.command.Command.{Command};
+ghost use Rattle.tsp_args.specs.Commands.{IsCommand, IsNoCommand, words_of};
+ghost use Rattle.tsp_args.specs.Serves.{IsServe};
+ghost use Rattle.tsp_args.specs.Storms.{IsStorm};
+ghost use Rattle.tsp_args.specs.declared.command.Command.{Command};
 ghost use Rattle.tsp_cli.specs.Commands.{Does, DoesOrNot, RunsDaemon, RunsQuery, RunsStorm, Untouched, IsAsk, IsQuestion};
 ghost use Rattle.tsp_cli.specs.Headline.{PrintsHistory};
 ghost use Rattle.tsp_cli.specs.Lines.{Says};
@@ -12,8 +12,8 @@ ghost use Rattle.tsp_cli.specs.Usage.{usage_line};
 
 use crate::status::Status;
 use std::alloc::Global;
-use tsp_asking::ask::ask;
-use tsp_check::run::check;
+use tsp_query::command::ask;
+use tsp_audit_command::run::check;
 use tsp_convert::run::{pack, show};
 use tsp_io::addr::Addr;
 use tsp_io::link::Link;
@@ -21,14 +21,14 @@ use tsp_io::sink::Sink;
 use tsp_io::source::Source;
 use tsp_io::ticker::Ticker;
 use tsp_lines::output::{Unwritten, write_all};
-use tsp_records::average;
+use tsp_icmp_command::average;
 use tsp_replay::run::replay;
-use tsp_serving::serve::serve_words;
+use tsp_daemon::command::serve_words;
 use tsp_storm::run::storm;
-use tsp_words::command::{Command, command_of};
-use tsp_words::query::Query;
-use tsp_words::serve::ServeWords;
-use tsp_words::storm::StormWords;
+use tsp_args::command::{Command, command_of};
+use tsp_args::query::Query;
+use tsp_args::serve::ServeWords;
+use tsp_args::storm::StormWords;
 
 /// Writes a text, and then answers with this status; with another one where not all of it was written.
 pub fn say<K: Sink>(sink: &mut K, text: &[u8], status: Status) -> Status

@@ -2,9 +2,9 @@
 ghost use Rattle.std.specs.Prelude.{◌≡◌};
 ghost use Rattle.tsp_cli.specs.Statuses.{status_number, status_of, status_of_served, status_of_asking, status_of_storm};
 
-use tsp_asking::end::Asking;
+use tsp_query::exit::Asking;
 use tsp_lines::treat::Outcome;
-use tsp_serving::end::Served;
+use tsp_daemon::exit::Served;
 use tsp_storm::run::StormEnd;
 
 /// What a run comes to; the number is the program's exit status, 0 to 8 in this order.

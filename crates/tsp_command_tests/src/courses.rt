@@ -4,8 +4,8 @@ ghost use Rattle.std.specs.Prelude.{None};
 use std::alloc::{AllocError, Global};
 use tsp_base::event::{Event, EventFault};
 use tsp_base::header::Header;
-use tsp_course::course::Course;
-use tsp_course::stage::Stage;
+use tsp_schedule::course::Course;
+use tsp_schedule::stage::Stage;
 use tsp_lines::treatment::Stop;
 
 /// Takes every event.

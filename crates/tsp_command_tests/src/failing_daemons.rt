@@ -5,9 +5,9 @@ use tsp_base::place::Place;
 use tsp_io::memory::MemorySink;
 use tsp_io::memory_link::MemoryLink;
 use tsp_io::memory_ticker::MemoryTicker;
-use tsp_serving::end::Served;
-use tsp_serving::serve::serve_words;
-use tsp_words::command::{Command, command_of};
+use tsp_daemon::exit::Served;
+use tsp_daemon::command::serve_words;
+use tsp_args::command::{Command, command_of};
 
 /// A stranger's TRACEON with number 2 and the name `x`.
 const TRACE_ON: &[u8] = &[17, 1, 0, 2, 0, 0, 0, 0, 0, 0, 0, 0, b'x', 0];

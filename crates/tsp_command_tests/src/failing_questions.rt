@@ -1,14 +1,14 @@
 //! Questions to a daemon, each of whose calls of link and sink fails in turn.
 use std::alloc::{AllocError, Global};
 use std::process::Abort;
-use tsp_asking::ask::ask;
-use tsp_asking::end::Asking;
+use tsp_query::command::ask;
+use tsp_query::exit::Asking;
 use tsp_base::place::{PeerId, Place};
 use tsp_io::addr::Addr;
 use tsp_io::memory::MemorySink;
 use tsp_io::memory_link::MemoryLink;
 use tsp_io::memory_ticker::MemoryTicker;
-use tsp_words::query::Query;
+use tsp_args::query::Query;
 
 /// An acknowledgment of number 9 in the name `a`.
 const ACK: &[u8] = &[2, 1, 0, 9, 0, 0, 0, 0, 0, 0, 0, 0, b'a', 0];

@@ -1,5 +1,4 @@
 mod Conversions
-pub mod Lengths
 mod NamesApart
 mod LinesApart
 mod InRanges

@@ -1,4 +1,6 @@
 pub mod LineLemmas
+pub mod NodeLemmas
 pub mod SendLemmas
+pub mod ServeLemmas
 pub mod SessionLemmas
 pub mod StrangerLemmas

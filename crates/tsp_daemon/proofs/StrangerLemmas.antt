@@ -20,11 +20,11 @@ use Rattle.tsp_base.specs.History.{Past, view}
 use Rattle.tsp_base.specs.Messages.{MessageValue}
 use Rattle.tsp_base.specs.RoundFacts.{is_going}
 use Rattle.tsp_base.specs.Rows.{Row, nothing, others, placed, puts}
-use Rattle.tsp_fit.specs.Strangers.{is_stranger, IsKnown}
-use Rattle.tsp_fit.proofs.CalmAlarms.{calm_rings}
-use Rattle.tsp_fit.proofs.CalmRows.{calm_due_sends, calm-elect}
-use Rattle.tsp_fit.proofs.CalmSteps.{calm_handles, known_calm, taking, TakesFirst}
-use Rattle.tsp_fit.proofs.FewActs.{Calm, calm_either, calm_more, calm_nothing, calm_puts, calm_then}
+use Rattle.tsp_rules.specs.Strangers.{is_stranger, IsKnown}
+use Rattle.tsp_rules.proofs.CalmAlarms.{calm_rings}
+use Rattle.tsp_rules.proofs.CalmRows.{calm_due_sends, calm-elect}
+use Rattle.tsp_rules.proofs.CalmSteps.{calm_handles, known_calm, taking, TakesFirst}
+use Rattle.tsp_rules.proofs.FewActs.{Calm, calm_either, calm_more, calm_nothing, calm_puts, calm_then}
 use Rattle.tsp_rules.specs.Answers.{rings, takes, handles}
 use Rattle.tsp_rules.specs.CandidateRows.{yields}
 use Rattle.tsp_rules.specs.CommonRows.{arms_elect}

@@ -1,4 +1,6 @@
 pub mod Ends
+pub mod Nodes
 pub mod Posts
+pub mod Serving
 pub mod Sessions
 pub mod Waits

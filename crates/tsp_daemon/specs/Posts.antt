@@ -4,7 +4,7 @@ use Rattle.tsp_base.specs.declared.act.Act.{Act}
 use Rattle.tsp_base.specs.declared.act.Act.TheVariants.{Post}
 use Rattle.tsp_base.specs.declared.act.Placed.{Placed}
 use Rattle.tsp_codec.specs.Canon.{canon}
-use Rattle.tsp_fit.specs.Strangers.{IsKnown}
+use Rattle.tsp_rules.specs.Strangers.{IsKnown}
 use Rattle.tsp_io.specs.Links.{Tried}
 use Rattle.tsp_script.specs.Traces.{trace_text}
 

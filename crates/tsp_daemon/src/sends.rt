@@ -1,6 +1,6 @@
 //! The sends of a step.
 ghost use Rattle.std.specs.Prelude.{◌≡◌, ◌≢◌, ◌≤◌, ◌+◌, length, OnOk, OnErr};
-ghost use Rattle.tsp_fit.specs.Strangers.{IsKnown};
+ghost use Rattle.tsp_rules.specs.Strangers.{IsKnown};
 ghost use Rattle.tsp_daemon.specs.Ends.{TriesAll, TriesSome};
 ghost use Rattle.tsp_daemon.specs.Posts.{AreKnown, send_of, sends_of};
 

@@ -9,7 +9,7 @@ use Rattle.tsp_base.specs.PortFacts.{acting, kept_name, taken}
 use Rattle.tsp_base.specs.SendFacts.{Correcting, last_taken}
 use Rattle.tsp_rules.specs.RoundRows.{corrects, is_correct}
 use Rattle.tsp_rules.proofs.NodeRowLemmas.{Bootless}
-use Rattle.tsp_fit.proofs.Elsewheres.{all_aside, aside}
+use Rattle.tsp_rules.proofs.Asides.{all_aside, aside}
 use Rattle.tsp_acks.specs.Stands.{Stands}
 use Rattle.tsp_clock.specs.Clocks.{ClockValue}
 use Rattle.tsp_clock.specs.ClockStands.{ClockStands}

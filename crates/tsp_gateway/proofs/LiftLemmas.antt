@@ -19,8 +19,7 @@ use Rattle.tsp_rules.specs.NodeRows.{NodePast, NodeRow, abandons_on, for_ports, 
 use Rattle.tsp_rules.specs.RoundRows.{corrects, is_correct}
 use Rattle.tsp_rules.proofs.Emits.{Sort, Acking, Alarming, AllOf, Asking, Backing, Changing, Closing, Correcting, Counting, Emits, Emits_more, Following, Giving, Leading, Numbering, Posting, Rivalling, Rounding, Sampling, Tabling, is_in, sort_of}
 use Rattle.tsp_rules.proofs.NodeRowLemmas.{All_then, Bootless, on_own}
-use Rattle.tsp_fit.proofs.Elsewheres.{all_aside}
-use Rattle.tsp_fit.proofs.GateFacts.{on_other}
+use Rattle.tsp_rules.proofs.Asides.{all_aside, on_other}
 use Rattle.tsp_clients.specs.ClientStands.{TraceStands}
 use Rattle.tsp_clients.proofs.ClientLemmas.{TraceStands_by}
 use Rattle.tsp_clock.specs.Clocks.{ClockValue}

@@ -21,9 +21,9 @@ use Rattle.tsp_rules.specs.NodeRows.{NodePast, on, on_port, spread}
 use Rattle.tsp_rules.specs.RoundRows.{corrects, is_correct}
 use Rattle.tsp_rules.proofs.Emits.{Emits, Emits_more}
 use Rattle.tsp_rules.proofs.NodeRowLemmas.{Bootless, on_own}
-use Rattle.tsp_fit.proofs.CalmAlarms.{calm_rings, moves_by}
-use Rattle.tsp_fit.proofs.FewActs.{is_calm, is_calm_act}
-use Rattle.tsp_fit.proofs.GateFacts.{on_other}
+use Rattle.tsp_rules.proofs.CalmAlarms.{calm_rings, moves_by}
+use Rattle.tsp_rules.proofs.FewActs.{is_calm, is_calm_act}
+use Rattle.tsp_rules.proofs.Asides.{on_other}
 use Rattle.tsp_clients.specs.ClientStands.{TraceStands}
 use Rattle.tsp_clients.proofs.ClientLemmas.{TraceStands_by}
 use Rattle.tsp_clock.specs.Clocks.{ClockValue}

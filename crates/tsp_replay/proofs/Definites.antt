@@ -3,9 +3,9 @@ use Rattle.std.proofs.Common.{◌≡◌, ℕ, ◌≤◌, inl, inr, List, [], ◌
 use Rattle.std.specs.Prelude.{reverse, ◌==◌, Bool, true, false, if◌then◌else◌, refl}
 use Rattle.tsp_base.specs.declared.event.Event.{Event}
 use Rattle.tsp_base.specs.Headers.{HeaderValue}
-use Rattle.tsp_course.proofs.Definites.{Lacks-not_ended, Lacks-one, Refuses-one, Refuses-within}
-use Rattle.tsp_course.proofs.OneReading.{Reaches-one, GoesOn-not_refused, GoesOn-not_limited}
-use Rattle.tsp_course.specs.Schedules.{Progress, Untitled, Titled, Drifted, Heading, Running, Ended, Lacks, IsEnded, new_header}
+use Rattle.tsp_schedule.proofs.Definites.{Lacks-not_ended, Lacks-one, Refuses-one, Refuses-within}
+use Rattle.tsp_schedule.proofs.OneReading.{Reaches-one, GoesOn-not_refused, GoesOn-not_limited}
+use Rattle.tsp_schedule.specs.Schedules.{Progress, Untitled, Titled, Drifted, Heading, Running, Ended, Lacks, IsEnded, new_header}
 use Rattle.tsp_lines.specs.Answers.{IsAnswer}
 use Rattle.tsp_lines.specs.Definite.{IsDefinite}
 use Rattle.tsp_lines.specs.declared.treat.Outcome.TheVariants.{Ok as Done}

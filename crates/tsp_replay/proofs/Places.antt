@@ -2,9 +2,9 @@
 use Rattle.std.specs.Prelude.{ℕ, List}
 use Rattle.tsp_base.specs.declared.event.Event.{Event}
 use Rattle.tsp_base.specs.Headers.{HeaderValue}
-use Rattle.tsp_course.specs.declared.stage.Stage.{Stage}
-use Rattle.tsp_course.specs.Schedules.{Progress, RunsOn as RunsOnBy, GoesOn as GoesOnBy}
-use Rattle.tsp_course.specs.Stages.{Advances as AdvancesBy, Halts as HaltsBy, StageStands as StageStandsBy}
+use Rattle.tsp_schedule.specs.declared.stage.Stage.{Stage}
+use Rattle.tsp_schedule.specs.Schedules.{Progress, RunsOn as RunsOnBy, GoesOn as GoesOnBy}
+use Rattle.tsp_schedule.specs.Stages.{Advances as AdvancesBy, Halts as HaltsBy, StageStands as StageStandsBy}
 use Rattle.tsp_lines.specs.declared.treatment.Stop.{Stop}
 use Rattle.tsp_replay.specs.declared.replayed.Replayed.{Replayed}
 use Rattle.tsp_replay.specs.Schedules.{refused}

@@ -10,9 +10,9 @@ use Rattle.std.proofs.lemmas.Grind.{flat_map-append}
 use Rattle.tsp_base.specs.declared.event.Event.{Event}
 use Rattle.tsp_base.specs.Headers.{HeaderValue}
 use Rattle.tsp_run.specs.Run.{told, gained}
-use Rattle.tsp_course.specs.declared.stage.Stage.{Stage}
-use Rattle.tsp_course.specs.declared.stage.Stage.TheVariants.{Untitled as AtUntitled, Titled as AtTitled, Drifted as AtDrifted, Heading as AtHeading, Running as AtRunning}
-use Rattle.tsp_course.specs.Schedules.{Progress, Untitled, Titled, Drifted, Heading, Running, Ended, new_header}
+use Rattle.tsp_schedule.specs.declared.stage.Stage.{Stage}
+use Rattle.tsp_schedule.specs.declared.stage.Stage.TheVariants.{Untitled as AtUntitled, Titled as AtTitled, Drifted as AtDrifted, Heading as AtHeading, Running as AtRunning}
+use Rattle.tsp_schedule.specs.Schedules.{Progress, Untitled, Titled, Drifted, Heading, Running, Ended, new_header}
 use Rattle.tsp_replay.proofs.Places.{GoesOn, RunsOn, StageStands}
 use Rattle.tsp_replay.specs.declared.replayed.Replayed.{Replayed}
 use Rattle.tsp_replay.specs.Stages.{told_at}

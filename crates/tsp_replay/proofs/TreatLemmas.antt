@@ -6,9 +6,9 @@ use Rattle.tsp_lines.specs.declared.treatment.Stop.TheVariants.{Bad, Limit, Writ
 use Rattle.tsp_lines.specs.Meanings.{Goes, StopsAt}
 use Rattle.tsp_lines.specs.Outputs.{Hands}
 use Rattle.tsp_lines.proofs.Outputs.{Hands-nil}
-use Rattle.tsp_course.specs.declared.stage.Stage.{Stage}
+use Rattle.tsp_schedule.specs.declared.stage.Stage.{Stage}
 use Rattle.tsp_replay.specs.Meaning.{replaying, Replays}
-use Rattle.tsp_course.specs.Schedules.{Progress}
+use Rattle.tsp_schedule.specs.Schedules.{Progress}
 use Rattle.tsp_replay.specs.Schedules.{Reaches}
 use Rattle.tsp_replay.specs.declared.replayed.Replayed.{Replayed}
 use Rattle.tsp_replay.proofs.Places.{StageStands, Advances, Halts}

@@ -4,7 +4,7 @@ use Rattle.tsp_base.specs.declared.event.Event.{Event}
 use Rattle.tsp_base.specs.Headers.{HeaderValue}
 use Rattle.tsp_lines.specs.Lines.{NoFeed, AreLines}
 use Rattle.tsp_lines.specs.Meanings.{Meaning}
-use Rattle.tsp_course.specs.Schedules.{Progress, Ended, Lacks, IsEnded}
+use Rattle.tsp_schedule.specs.Schedules.{Progress, Ended, Lacks, IsEnded}
 use Rattle.tsp_replay.specs.Schedules.{Reaches, Refuses, Limits}
 use Rattle.tsp_replay.specs.Traces.{written_at}
 

@@ -3,7 +3,7 @@ use Rattle.std.specs.Prelude.{ℕ, List, Option}
 use Rattle.tsp_base.specs.declared.event.Event.{Event}
 use Rattle.tsp_base.specs.declared.event.EventFault.{EventFault}
 use Rattle.tsp_base.specs.Headers.{HeaderValue}
-use Rattle.tsp_course.specs.Schedules.{Progress, Reaches as ReachesBy, Refuses as RefusesBy, Limits as LimitsBy}
+use Rattle.tsp_schedule.specs.Schedules.{Progress, Reaches as ReachesBy, Refuses as RefusesBy, Limits as LimitsBy}
 use Rattle.tsp_run.specs.Refusals.{scene, refusal}
 
 -- for what cause, if for one, a world refuses an event after these, of which the newest is the first

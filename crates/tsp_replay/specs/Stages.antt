@@ -2,10 +2,10 @@
 use Rattle.std.specs.Prelude.{◌≡◌, ℕ, if◌then◌else◌, List, [], ◌++◌, Option}
 use Rattle.tsp_base.specs.declared.event.Event.{Event}
 use Rattle.tsp_base.specs.Headers.{HeaderValue}
-use Rattle.tsp_course.specs.declared.run.Run.{Run}
-use Rattle.tsp_course.specs.declared.stage.Stage.{Stage}
-use Rattle.tsp_course.specs.declared.stage.Stage.TheVariants.{Untitled as AtUntitled, Titled as AtTitled, Drifted as AtDrifted, Heading as AtHeading, Running as AtRunning}
-use Rattle.tsp_course.specs.Stages.{Stands as StandsBy}
+use Rattle.tsp_schedule.specs.declared.run.Run.{Run}
+use Rattle.tsp_schedule.specs.declared.stage.Stage.{Stage}
+use Rattle.tsp_schedule.specs.declared.stage.Stage.TheVariants.{Untitled as AtUntitled, Titled as AtTitled, Drifted as AtDrifted, Heading as AtHeading, Running as AtRunning}
+use Rattle.tsp_schedule.specs.Stages.{Stands as StandsBy}
 use Rattle.tsp_lines.specs.Outputs.{Hands}
 use Rattle.tsp_lines.specs.declared.treatment.Stop.{Stop}
 use Rattle.tsp_lines.specs.declared.treatment.Stop.TheVariants.{Bad, Limit, WriteFault, OutOfMemory}

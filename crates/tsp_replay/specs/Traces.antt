@@ -5,7 +5,7 @@ use Rattle.tsp_base.specs.Headers.{HeaderValue}
 use Rattle.tsp_script.specs.Traces.{trace_text}
 use Rattle.tsp_run.specs.declared.line.Line.{Line}
 use Rattle.tsp_run.specs.Run.{told}
-use Rattle.tsp_course.specs.Schedules.{Progress, Untitled, Titled, Drifted, Heading, Running, Ended}
+use Rattle.tsp_schedule.specs.Schedules.{Progress, Untitled, Titled, Drifted, Heading, Running, Ended}
 
 -- a post's number; other acts have none, and their lines show none
 abbrev pub number_in : Option ℕ → ℕ

@@ -4,7 +4,7 @@ ghost use Rattle.tsp_base.specs.declared.event.Event.{Event};
 ghost use Rattle.tsp_base.specs.Headers.{HeaderValue, IsHeader};
 ghost use Rattle.tsp_lines.specs.Definite.{IsDefinite};
 ghost use Rattle.tsp_replay.specs.Meaning.{IsSchedule, replaying};
-ghost use Rattle.tsp_course.specs.Schedules.{Progress};
+ghost use Rattle.tsp_schedule.specs.Schedules.{Progress};
 ghost use Rattle.tsp_replay.specs.Schedules.{Reaches};
 
 /// A text is one schedule's at most.

@@ -4,7 +4,7 @@ ghost use Rattle.std.specs.Prelude.{◌≡◌};
 use crate::replayed::Replayed;
 use crate::tell::tell_stage;
 use std::alloc::Global;
-use tsp_course::stage::Stage;
+use tsp_schedule::stage::Stage;
 use tsp_io::sink::Sink;
 use tsp_lines::cause::Cause;
 use tsp_lines::output::Output;

@@ -3,7 +3,7 @@
 use std::alloc::{AllocError, Global};
 use tsp_base::event::{Event, EventFault};
 use tsp_base::header::Header;
-use tsp_course::course::Course;
+use tsp_schedule::course::Course;
 use tsp_world::world::World;
 
 /// The world of a replay.

@@ -7,8 +7,8 @@ ghost use Rattle.tsp_replay.specs.Traces.{line_text, lines_text, number_in};
 
 use crate::replayed::Replayed;
 use arrayvec::ArrayVec;
-use tsp_course::run::Run;
-use tsp_course::stage::Stage;
+use tsp_schedule::run::Run;
+use tsp_schedule::stage::Stage;
 use tsp_io::sink::Sink;
 use tsp_lines::output::{Output, Unwritten};
 use tsp_lines::treatment::Stop;

@@ -1,4 +1,4 @@
-//! Tests of a port's roles, and of what it answers to clients.
+//! Tests of a port's roles, of what it answers to clients, and of what all roles stand on: the clock and the station.
 //!
 //! They stand apart from the crates that they try, so that each of those is proved once. Each is a table of steps with
 //! what a trace tells of them, and one function for each kind of steps goes through its tables.
@@ -11,8 +11,12 @@ mod candidate;
 #[cfg(test)]
 mod clients;
 #[cfg(test)]
+mod clock;
+#[cfg(test)]
 mod node;
 #[cfg(test)]
 mod resolve;
 #[cfg(test)]
 mod slave;
+#[cfg(test)]
+mod station;

@@ -1,10 +1,10 @@
+pub mod Asides
+pub mod CalmAlarms
+pub mod CalmRows
+pub mod CalmSteps
+pub mod CalmTaken
 mod ClientsScriptAnswered
 mod DateScriptAnswered
-mod GatewayScriptAnswered
-mod ResolutionScriptAnswered
-mod RolesScriptAnswered
-mod RoundsScriptAnswered
-mod StrictScriptAnswered
 pub mod Emits
 pub mod EmitsCandidate
 pub mod EmitsClients
@@ -13,6 +13,13 @@ pub mod EmitsRounds
 pub mod EmitsSends
 pub mod EmitsSlave
 pub mod EmitsTables
+pub mod FewActs
+mod GatewayScriptAnswered
+pub mod GuardFacts
 pub mod NodeRowLemmas
+mod ResolutionScriptAnswered
+mod RolesScriptAnswered
+mod RoundsScriptAnswered
 pub mod RowsOther
 pub mod ScriptsAnswered
+mod StrictScriptAnswered

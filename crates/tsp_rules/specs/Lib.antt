@@ -25,4 +25,5 @@ pub mod RoundsScript
 pub mod Scripts
 pub mod SendRows
 pub mod SlaveRows
+pub mod Strangers
 pub mod StrictScript

@@ -9,13 +9,13 @@ use Rattle.tsp_base.specs.declared.act.Placed.{Placed}
 use Rattle.tsp_base.specs.declared.datagram.Taken.{Taken}
 use Rattle.tsp_base.specs.declared.place.Place.{Place}
 use Rattle.tsp_base.specs.declared.place.Port.{Port}
-use Rattle.tsp_base.specs.Fits.{TookFits}
+use Rattle.tsp_promises.specs.Fits.{TookFits}
 use Rattle.tsp_base.specs.History.{Booted, Step, Acts, Line}
-use Rattle.tsp_base.specs.Setting.{Setting}
+use Rattle.tsp_promises.specs.Setting.{Setting}
 use Rattle.tsp_rules.specs.GateRows.{NodeTurn, GotOn, all_ports, answers_all, boots_all, boots_on}
 use Rattle.tsp_rules.specs.NodeRows.{NodePast, on, ◌and_then◌, reading_all, for_ports, spread}
-use Rattle.tsp_fit.proofs.FewActs.{is_calm_act}
-use Rattle.tsp_fit.specs.Strangers.{is_stranger}
+use Rattle.tsp_rules.proofs.FewActs.{is_calm_act}
+use Rattle.tsp_rules.specs.Strangers.{is_stranger}
 use Rattle.tsp_run.specs.Networks.{room}
 use Rattle.tsp_run.proofs.CalmPorts.{AreCalm, Small, calm_boots, calm_turn_all, small_spread, takes_once_on}
 use Rattle.tsp_run.proofs.FitsLines.{TakenOk, AllTaken, AllAlive, ActsOn}

@@ -28,14 +28,14 @@ use Rattle.tsp_rules.specs.NodeRows.{PortSetup, NodePast, NodeRow, port_setup, o
 use Rattle.tsp_rules.specs.RoundRows.{corrects}
 use Rattle.tsp_rules.specs.SendRows.{due_sends}
 use Rattle.tsp_rules.specs.Guards.{is_master_at}
-use Rattle.tsp_fit.specs.Strangers.{is_stranger}
-use Rattle.tsp_fit.proofs.CalmAlarms.{calm_rings, calm-yields}
-use Rattle.tsp_fit.proofs.CalmRows.{calm_due_sends, none}
-use Rattle.tsp_fit.proofs.CalmSteps.{TakesFirst, taking, calm_handles}
-use Rattle.tsp_fit.proofs.FewActs.{is_calm_act, is_calm, Calm, calm_arms, calm_either, calm_puts, calm_then, filter_few}
-use Rattle.tsp_fit.proofs.GateLoops.{loops_calm}
-use Rattle.tsp_fit.proofs.PortLists.{Ranged, ranged_from, other_ranged}
-use Rattle.tsp_fit.proofs.GuardFacts.{and-cases}
+use Rattle.tsp_rules.specs.Strangers.{is_stranger}
+use Rattle.tsp_rules.proofs.CalmAlarms.{calm_rings, calm-yields}
+use Rattle.tsp_rules.proofs.CalmRows.{calm_due_sends, none}
+use Rattle.tsp_rules.proofs.CalmSteps.{TakesFirst, taking, calm_handles}
+use Rattle.tsp_rules.proofs.FewActs.{is_calm_act, is_calm, Calm, calm_arms, calm_either, calm_puts, calm_then, filter_few}
+use Rattle.tsp_promises.proofs.GateLoops.{loops_calm}
+use Rattle.tsp_promises.proofs.PortLists.{Ranged, ranged_from, other_ranged}
+use Rattle.tsp_rules.proofs.GuardFacts.{and-cases}
 
 -- calm acts, each on one of so many ports
 abbrev pub AreCalm : Bool → ℕ → List Placed → Type 0

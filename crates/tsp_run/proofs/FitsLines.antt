@@ -9,23 +9,23 @@ use Rattle.tsp_base.specs.declared.datagram.Taken.{Taken}
 use Rattle.tsp_base.specs.declared.place.Place.{Place}
 use Rattle.tsp_base.specs.declared.place.PeerId.{PeerId}
 use Rattle.tsp_base.specs.declared.place.Port.{Port}
-use Rattle.tsp_base.specs.DeedFits.{ActFits}
-use Rattle.tsp_base.specs.Fits.{Alive, TookFits, LineFits, Fits}
+use Rattle.tsp_promises.specs.DeedFits.{ActFits}
+use Rattle.tsp_promises.specs.Fits.{Alive, TookFits, LineFits, Fits}
 use Rattle.tsp_base.specs.History.{Cause, Booted, Turned, Came, Handed, Step, Deed, Begins, Acts, Did, Line, Seen, Here, of, view, seen_as, is_shared, dids}
 use Rattle.tsp_base.specs.NodeFacts.{time_of, up, up_after}
 use Rattle.tsp_base.specs.Places.{Within}
 use Rattle.tsp_base.specs.PortFacts.{role}
-use Rattle.tsp_base.specs.Setting.{Setting, setup_of}
+use Rattle.tsp_promises.specs.Setting.{Setting, setup_of}
 use Rattle.tsp_base.specs.Setup.{Setup}
 use Rattle.tsp_base.specs.RoundFacts.{exchange, exchange_after}
-use Rattle.tsp_base.specs.StepFacts.{StepEnds, is_unbacked, is_unbacked_after, owes, owes_after}
+use Rattle.tsp_promises.specs.StepFacts.{StepEnds, is_unbacked, is_unbacked_after, owes, owes_after}
 use Rattle.tsp_base.specs.Takings.{posted, posted_after}
 use Rattle.tsp_base.specs.Ticks.{tick_at}
 use Rattle.std.proofs.lemmas.Bool.{cases_lt}
 use Rattle.tsp_base.proofs.PlaceLemmas.{Within-through}
 use Rattle.tsp_base.proofs.ViewPlaces.{port-same, sees-own}
 use Rattle.tsp_run.specs.Networks.{ports_on}
-use Rattle.tsp_fit.specs.PortFits.{PortFits}
+use Rattle.tsp_promises.specs.PortFits.{PortFits}
 
 -- a line on one of so many ports, or of the whole node
 abbrev pub IsOn : ℕ → Line → Type 0

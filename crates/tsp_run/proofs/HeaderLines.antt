@@ -6,7 +6,7 @@ use Rattle.std.proofs.lemmas.List.{get_or_past}
 use Rattle.tsp_base.specs.declared.header.NodeLine.{NodeLine}
 use Rattle.tsp_base.specs.Headers.{HeaderValue, IsHeader}
 use Rattle.tsp_base.specs.Names.{IsName}
-use Rattle.tsp_fit.proofs.SoundFacts.{no_name}
+use Rattle.tsp_promises.proofs.SoundFacts.{no_name}
 use Rattle.tsp_run.specs.Setup.{node_line, nobody}
 
 -- no node's clock passes the drift

@@ -8,7 +8,7 @@ use Rattle.tsp_base.specs.declared.place.Place.TheVariants.{Peer, Stranger}
 use Rattle.tsp_base.specs.declared.place.Port.{Port}
 use Rattle.tsp_base.specs.Headers.{HeaderValue, IsHeader, has_member, nets_with}
 use Rattle.tsp_base.specs.Peers.{is_among}
-use Rattle.tsp_base.specs.Setting.{Alone}
+use Rattle.tsp_promises.specs.Setting.{Alone}
 use Rattle.tsp_base.specs.Takings.{peer_of}
 use Rattle.tsp_rules.specs.NodeRows.{PortSetup, no_port}
 use Rattle.tsp_run.specs.declared.address.Address.{Address}

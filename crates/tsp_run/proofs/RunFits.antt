@@ -9,11 +9,11 @@ use Rattle.tsp_base.specs.declared.event.Event.{Event}
 use Rattle.tsp_base.specs.declared.event.Event.TheVariants.{Boot as BootAt, Turn, Take, Bytes}
 use Rattle.tsp_base.specs.declared.place.Place.TheVariants.{Peer}
 use Rattle.tsp_base.specs.declared.place.Port.{Port}
-use Rattle.tsp_base.specs.Fits.{Fits, TookFits}
+use Rattle.tsp_promises.specs.Fits.{Fits, TookFits}
 use Rattle.tsp_base.specs.Headers.{HeaderValue, IsHeader}
 use Rattle.tsp_base.specs.History.{Booted, Turned, Came, Handed, Step, Begins, Acts, Line, of, view, dids}
 use Rattle.tsp_base.specs.NodeFacts.{time_of, up}
-use Rattle.tsp_base.specs.Setting.{Alone, Named, Setting, setup_of}
+use Rattle.tsp_promises.specs.Setting.{Alone, Named, Setting, setup_of}
 use Rattle.tsp_base.specs.Takings.{posted, peer_of}
 use Rattle.tsp_base.specs.Ticks.{tick_at}
 use Rattle.tsp_base.proofs.PlaceLemmas.{Within-all}
@@ -22,13 +22,13 @@ use Rattle.tsp_codec.specs.Canon.{canon}
 use Rattle.tsp_codec.specs.Taken.{taken_of}
 use Rattle.tsp_rules.specs.GateRows.{NodeGiven, NodeTurn, GotOn, answers_all, boots_all}
 use Rattle.tsp_rules.specs.NodeRows.{NodePast, NodeRow, PortSetup, in_node_step, on_port, port_setup, spread}
-use Rattle.tsp_fit.specs.PortFits.{PortFits, setup_in}
-use Rattle.tsp_fit.specs.Sound.{IsSound, IsSoundDeed}
-use Rattle.tsp_fit.proofs.GateFacts.{AllPorts}
-use Rattle.tsp_fit.proofs.GateLeads.{GivenOn, answers_all_lead}
-use Rattle.tsp_fit.proofs.Known.{Fresh, Rests}
-use Rattle.tsp_fit.proofs.NodeLeads.{begins_all, boots_all_lead}
-use Rattle.tsp_fit.proofs.RunLeads.{ends_of, rests_later, rests_seen, nothing-done}
+use Rattle.tsp_promises.specs.PortFits.{PortFits, setup_in}
+use Rattle.tsp_promises.specs.Sound.{IsSound, IsSoundDeed}
+use Rattle.tsp_promises.proofs.GateFacts.{AllPorts}
+use Rattle.tsp_promises.proofs.GateLeads.{GivenOn, answers_all_lead}
+use Rattle.tsp_promises.proofs.Known.{Fresh, Rests}
+use Rattle.tsp_promises.proofs.NodeLeads.{begins_all, boots_all_lead}
+use Rattle.tsp_promises.proofs.RunLeads.{ends_of, rests_later, rests_seen, nothing-done}
 use Rattle.tsp_run.specs.declared.address.Address.{Address}
 use Rattle.tsp_run.specs.declared.posted.Posted.{Posted}
 use Rattle.tsp_run.specs.Networks.{networks, network_from, ports_on, address_of, room}

@@ -3,21 +3,21 @@ use Rattle.std.specs.Prelude.{◌≡◌, ℕ, List, ◌∷◌, Some, slice_get}
 use Rattle.tsp_base.specs.declared.constants.TheConstants.{LIFE}
 use Rattle.tsp_base.specs.declared.datagram.Taken.TheVariants.{Good}
 use Rattle.tsp_base.specs.declared.event.Event.{Event}
-use Rattle.tsp_base.specs.Fits.{Fits}
+use Rattle.tsp_promises.specs.Fits.{Fits}
 use Rattle.tsp_base.specs.Headers.{HeaderValue}
 use Rattle.tsp_base.specs.History.{Line}
-use Rattle.tsp_base.specs.Premises.{FewAt, HonestAt, TakenWithinAt}
-use Rattle.tsp_base.specs.Setting.{Setting}
-use Rattle.tsp_base.proofs.EverywhereLemmas.{Everywhere-from, Everywhere-within}
+use Rattle.tsp_promises.specs.Premises.{FewAt, HonestAt, TakenWithinAt}
+use Rattle.tsp_promises.specs.Setting.{Setting}
+use Rattle.tsp_promises.proofs.EverywhereLemmas.{Everywhere-from, Everywhere-within}
 use Rattle.tsp_codec.specs.Canon.{canon}
 use Rattle.tsp_codec.specs.Taken.{taken_of}
-use Rattle.tsp_date.specs.Dated.{Dated, DateConfirmedAt, SetsAt}
-use Rattle.tsp_dated.proofs.ConfirmedDate.{date_confirmed}
-use Rattle.tsp_dated.proofs.SetProof.{sets_at}
-use Rattle.tsp_looped.proofs.ChainProof.{looped_in}
-use Rattle.tsp_safe.proofs.OneWinnerProof.{one_winner}
-use Rattle.tsp_safe.proofs.OwnFitsProof.{fits_at}
-use Rattle.tsp_safe.proofs.SafeProof.{safe}
+use Rattle.tsp_promises.specs.Dated.{Dated, DateConfirmedAt, SetsAt}
+use Rattle.tsp_promises.proofs.ConfirmedDate.{date_confirmed}
+use Rattle.tsp_promises.proofs.SetProof.{sets_at}
+use Rattle.tsp_promises.proofs.ChainProof.{looped_in}
+use Rattle.tsp_promises.proofs.OneWinnerProof.{one_winner}
+use Rattle.tsp_promises.proofs.OwnFitsProof.{fits_at}
+use Rattle.tsp_promises.proofs.SafeProof.{safe}
 use Rattle.tsp_run.specs.declared.posted.Posted.{Posted}
 use Rattle.tsp_run.specs.Ranges.{Accepted}
 use Rattle.tsp_run.specs.Run.{last_at, posts, run}

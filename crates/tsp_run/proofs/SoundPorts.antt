@@ -38,13 +38,13 @@ use Rattle.tsp_rules.specs.RoundRows.{corrects}
 use Rattle.tsp_rules.specs.SendRows.{due_sends}
 use Rattle.tsp_rules.specs.Guards.{is_master_at}
 use Rattle.tsp_rules.proofs.NodeRowLemmas.{view_own, spread_append}
-use Rattle.tsp_fit.specs.Sound.{IsSound, IsSoundAct, IsSoundBody, IsSoundDeed, IsSoundTaken, AreSound, SoundPast}
-use Rattle.tsp_fit.proofs.GateFacts.{LeadsAll, All_after, All_reading}
-use Rattle.tsp_fit.proofs.PortLists.{Ranged, ranged_from, other_ranged}
-use Rattle.tsp_fit.proofs.SoundAlarms.{sound_rings}
-use Rattle.tsp_fit.proofs.SoundRoles.{sound_yields}
-use Rattle.tsp_fit.proofs.SoundRows.{Soundly, sound_act, sound_arms, sound_either, sound_puts, sound_due_sends}
-use Rattle.tsp_fit.proofs.SoundSteps.{acts_sound, sound_takes}
+use Rattle.tsp_promises.specs.Sound.{IsSound, IsSoundAct, IsSoundBody, IsSoundDeed, IsSoundTaken, AreSound, SoundPast}
+use Rattle.tsp_promises.proofs.GateFacts.{LeadsAll, All_after, All_reading}
+use Rattle.tsp_promises.proofs.PortLists.{Ranged, ranged_from, other_ranged}
+use Rattle.tsp_promises.proofs.SoundAlarms.{sound_rings}
+use Rattle.tsp_promises.proofs.SoundRoles.{sound_yields}
+use Rattle.tsp_promises.proofs.SoundRows.{Soundly, sound_act, sound_arms, sound_either, sound_puts, sound_due_sends}
+use Rattle.tsp_promises.proofs.SoundSteps.{acts_sound, sound_takes}
 
 -- each deed of a node is sound
 abbrev pub AreSoundLines : List Line → Type 0

@@ -1,12 +1,12 @@
 -- What is promised of a history.
 use Rattle.std.specs.Prelude.{◌≡◌, true, List}
 use Rattle.tsp_base.specs.History.{Line}
-use Rattle.tsp_base.specs.OneWinner.{OneWinner}
-use Rattle.tsp_base.specs.Premises.{Few, Honest, Life}
-use Rattle.tsp_base.specs.Safe.{Safe}
-use Rattle.tsp_base.specs.Setting.{Setting}
-use Rattle.tsp_date.specs.Dated.{Dated}
-use Rattle.tsp_loop.specs.Looped.{Looped}
+use Rattle.tsp_promises.specs.OneWinner.{OneWinner}
+use Rattle.tsp_promises.specs.Premises.{Few, Honest, Life}
+use Rattle.tsp_promises.specs.Safe.{Safe}
+use Rattle.tsp_promises.specs.Setting.{Setting}
+use Rattle.tsp_promises.specs.Dated.{Dated}
+use Rattle.tsp_promises.specs.Looped.{Looped}
 
 -- all that is safe, what is promised of dates and of LOOPs; and where elections are strict, one candidate wins
 pub record Promises (setting : Setting) (world : List Line) : Type 0 where

@@ -3,9 +3,9 @@ use Rattle.std.specs.Prelude.{◌≡◌, ℕ, List, [], ◌∷◌, Option, None,
 use Rattle.tsp_base.specs.declared.event.Event.{Event}
 use Rattle.tsp_base.specs.declared.place.PeerId.{PeerId}
 use Rattle.tsp_base.specs.declared.place.Port.{Port}
-use Rattle.tsp_base.specs.Fits.{Fits, Finished}
+use Rattle.tsp_promises.specs.Fits.{Fits, Finished}
 use Rattle.tsp_base.specs.Headers.{HeaderValue, IsHeader}
-use Rattle.tsp_base.specs.Setting.{Alone, Named, Network, Setting}
+use Rattle.tsp_promises.specs.Setting.{Alone, Named, Network, Setting}
 use Rattle.tsp_base.specs.Takings.{peer_of}
 use Rattle.tsp_run.specs.Promises.{Promises}
 use Rattle.tsp_run.specs.Ranges.{Accepted}

@@ -9,7 +9,7 @@ use Rattle.tsp_storm.specs.declared.run.StormEnd.{StormEnd}
 use Rattle.tsp_storm.specs.declared.run.StormEnd.TheVariants.{Done, Limit, WriteFault, OutOfMemory}
 use Rattle.tsp_storm.specs.Answers.{IsLimit, StopsAfter, IsAnswer, IsPart, WritesPart, StormsAs, Agrees, refused_after, Says, HasRoom}
 use Rattle.tsp_storm.specs.Schedules.{header_of, events_of}
-use Rattle.tsp_words.specs.declared.storm.StormWords.{StormWords}
+use Rattle.tsp_args.specs.declared.storm.StormWords.{StormWords}
 use Rattle.tsp_run.specs.Refusals.{Valid}
 
 -- of a valid schedule each beginning is valid

@@ -14,8 +14,8 @@ use Rattle.tsp_script.specs.Storms.{StormValue, storm_line}
 use Rattle.tsp_storm.specs.Schedules.{after_lines, lines_of, header_of, generator_of, posted_in, next_event, made, events_of}
 use Rattle.tsp_storm.proofs.Draws.{IsNext, Moves, next_moves}
 use Rattle.tsp_storm.proofs.Ups.{up-later, up-booted}
-use Rattle.tsp_words.specs.Storms.{IsStorm}
-use Rattle.tsp_words.specs.declared.storm.StormWords.{StormWords}
+use Rattle.tsp_args.specs.Storms.{IsStorm}
+use Rattle.tsp_args.specs.declared.storm.StormWords.{StormWords}
 use Rattle.tsp_run.specs.declared.address.Address.{Address}
 use Rattle.tsp_run.specs.declared.posted.Posted.{Posted}
 use Rattle.tsp_run.specs.Networks.{networks, networks_among, ports_on}

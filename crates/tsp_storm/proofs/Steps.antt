@@ -11,8 +11,8 @@ use Rattle.tsp_storm.specs.Makings.{MakingStands}
 use Rattle.tsp_storm.specs.Schedules.{header_of, events_of, made, posted_in, next_event, event_after}
 use Rattle.tsp_storm.proofs.Draws.{Moves, next_moves}
 use Rattle.tsp_storm.proofs.Mades.{IsMade, made_is, OnlyLimit, only_limit}
-use Rattle.tsp_words.specs.Storms.{IsStorm}
-use Rattle.tsp_words.specs.declared.storm.StormWords.{StormWords}
+use Rattle.tsp_args.specs.Storms.{IsStorm}
+use Rattle.tsp_args.specs.declared.storm.StormWords.{StormWords}
 use Rattle.tsp_world.specs.declared.world.World.{World}
 use Rattle.tsp_run.specs.Refusals.{scene, refusal, IsRefusal}
 use Rattle.tsp_world.specs.WorldStands.{WorldStands}

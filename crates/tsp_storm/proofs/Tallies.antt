@@ -12,7 +12,7 @@ use Rattle.tsp_storm.specs.Makings.{MakingStands, StopsFor}
 use Rattle.tsp_storm.specs.Schedules.{header_of, events_of, posted_in}
 use Rattle.tsp_storm.specs.Summaries.{acts_like, is_took, is_correct, is_mastership, Counted, summary_text}
 use Rattle.tsp_storm.proofs.Steps.{made_now}
-use Rattle.tsp_words.specs.declared.storm.StormWords.{StormWords}
+use Rattle.tsp_args.specs.declared.storm.StormWords.{StormWords}
 use Rattle.tsp_run.specs.declared.line.Line.{Line}
 use Rattle.tsp_run.specs.Refusals.{Valid}
 use Rattle.tsp_run.specs.Run.{told, gained}

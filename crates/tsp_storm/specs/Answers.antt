@@ -11,7 +11,7 @@ use Rattle.tsp_storm.specs.declared.making.Stopped.TheVariants.{Limit as NoRoomF
 use Rattle.tsp_storm.specs.declared.summary.Summary.{Summary}
 use Rattle.tsp_storm.specs.Schedules.{header_of, events_of, event_after}
 use Rattle.tsp_storm.specs.Summaries.{summary, summary_text}
-use Rattle.tsp_words.specs.declared.storm.StormWords.{StormWords}
+use Rattle.tsp_args.specs.declared.storm.StormWords.{StormWords}
 use Rattle.tsp_run.specs.Refusals.{Valid, scene, refusal}
 
 -- there is no room for an event

@@ -5,8 +5,8 @@ use Rattle.tsp_storm.specs.declared.making.Stopped.{Stopped}
 use Rattle.tsp_storm.specs.declared.making.Stopped.TheVariants.{Limit, OutOfMemory}
 use Rattle.tsp_storm.specs.Answers.{StopsAfter}
 use Rattle.tsp_storm.specs.Schedules.{header_of, events_of, made}
-use Rattle.tsp_words.specs.Storms.{IsStorm}
-use Rattle.tsp_words.specs.declared.storm.StormWords.{StormWords}
+use Rattle.tsp_args.specs.Storms.{IsStorm}
+use Rattle.tsp_args.specs.declared.storm.StormWords.{StormWords}
 use Rattle.tsp_world.specs.WorldStands.{WorldStands}
 
 -- as many events of the schedule of these words were made as the generator has given, and the world has accepted them

@@ -6,7 +6,7 @@ use Rattle.tsp_base.specs.Headers.{HeaderValue}
 use Rattle.tsp_script.specs.declared.storm.Draw.{Draw}
 use Rattle.tsp_script.specs.declared.storm.Draw.TheVariants.{Event as Gives, Ask}
 use Rattle.tsp_script.specs.Storms.{StormValue, storm_begins, storm_line, storm_named, storm_next, storm_take}
-use Rattle.tsp_words.specs.declared.storm.StormWords.{StormWords}
+use Rattle.tsp_args.specs.declared.storm.StormWords.{StormWords}
 use Rattle.tsp_run.specs.Run.{run, posts, posted_time}
 
 -- a generator after the lines of so many nodes

@@ -1,12 +1,12 @@
 //! The header of a schedule that comes of a number.
 ghost use Rattle.std.specs.Prelude.{◌≡◌, IfOk};
 ghost use Rattle.tsp_storm.specs.Schedules.{header_of, made};
-ghost use Rattle.tsp_words.specs.Storms.{IsStorm};
+ghost use Rattle.tsp_args.specs.Storms.{IsStorm};
 
 use std::alloc::{AllocError, Global};
 use tsp_base::header::{Header, HeaderFault};
 use tsp_script::storm::Storm;
-use tsp_words::storm::StormWords;
+use tsp_args::storm::StormWords;
 
 /// The drift of the schedules that are made, in parts in a million.
 const DRIFT: u32 = 100;

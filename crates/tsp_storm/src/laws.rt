@@ -2,7 +2,7 @@
 ghost use Rattle.std.specs.Prelude.{◌≡◌, List, ℕ};
 ghost use Rattle.tsp_storm.specs.Answers.{IsAnswer};
 ghost use Rattle.tsp_storm.specs.declared.run.StormEnd.{StormEnd};
-ghost use Rattle.tsp_words.specs.declared.storm.StormWords.{StormWords};
+ghost use Rattle.tsp_args.specs.declared.storm.StormWords.{StormWords};
 
 /// Words have one answer at most.
 pub fn one_answer_of_words()

@@ -6,7 +6,7 @@ ghost use Rattle.tsp_script.specs.Schedules.{IsEvent};
 ghost use Rattle.tsp_script.specs.Storms.{storm_take};
 ghost use Rattle.tsp_storm.specs.Makings.{MakingStands, StopsFor};
 ghost use Rattle.tsp_storm.specs.Schedules.{next_event, event_after};
-ghost use Rattle.tsp_words.specs.Storms.{IsStorm};
+ghost use Rattle.tsp_args.specs.Storms.{IsStorm};
 ghost use Rattle.tsp_world.specs.WorldStands.{WorldStands};
 
 use crate::header::begin;
@@ -14,7 +14,7 @@ use std::alloc::{AllocError, Global};
 use tsp_base::event::{Event, EventFault};
 use tsp_run::line::Line;
 use tsp_script::storm::{Draw, Storm};
-use tsp_words::storm::StormWords;
+use tsp_args::storm::StormWords;
 use tsp_world::world::World;
 
 /// Why no event more was made.

@@ -4,7 +4,7 @@ ghost use Rattle.tsp_io.specs.Counts.{Rose};
 ghost use Rattle.tsp_io.specs.Streams.{Grows};
 ghost use Rattle.tsp_storm.specs.Answers.{StormsAs, IsAnswer, Agrees, HasRoom, IsPart, SumsUp, Halts, Says};
 ghost use Rattle.tsp_storm.specs.declared.run.StormEnd.{StormEnd};
-ghost use Rattle.tsp_words.specs.Storms.{IsStorm};
+ghost use Rattle.tsp_args.specs.Storms.{IsStorm};
 
 use crate::counts::Counts;
 use crate::making::{Making, Stopped};
@@ -13,7 +13,7 @@ use std::alloc::Global;
 use tsp_io::sink::Sink;
 use tsp_lines::output::{Unwritten, write_all};
 use tsp_lines::refusal::limit_line;
-use tsp_words::storm::StormWords;
+use tsp_args::storm::StormWords;
 
 /// How a storm ends.
 #[derive(Clone, Copy, PartialEq, Eq, Debug)]

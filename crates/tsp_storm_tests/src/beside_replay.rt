@@ -1,6 +1,6 @@
 //! A storm's summary, counted again from the trace that a replay writes of the same schedule.
 ghost use Rattle.std.specs.Prelude.{◌<◌};
-ghost use Rattle.tsp_words.specs.Storms.{IsStorm};
+ghost use Rattle.tsp_args.specs.Storms.{IsStorm};
 ghost use Rattle.std.specs.Prelude.{length};
 
 use arrayvec::ArrayVec;
@@ -14,7 +14,7 @@ use tsp_script::numbers::append_hex;
 use tsp_storm::header::begin;
 use tsp_storm::making::Making;
 use tsp_storm::run::{StormEnd, storm};
-use tsp_words::storm::StormWords;
+use tsp_args::storm::StormWords;
 
 /// Writes a node's line.
 fn push_node(alloc: Global, text: &mut Vec<u8>, node: &NodeLine) -> Result<(), AllocError> {

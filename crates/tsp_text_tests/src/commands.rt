@@ -2,9 +2,9 @@
 use std::alloc::{AllocError, Global};
 use tsp_base::micros::Micros;
 use tsp_io::addr::Addr;
-use tsp_words::command::{Command, command_of};
-use tsp_words::query::Query;
-use tsp_words::serve::Candidacy;
+use tsp_args::command::{Command, command_of};
+use tsp_args::query::Query;
+use tsp_args::serve::Candidacy;
 
 /// What some words ask for.
 fn read(alloc: Global, words: &[&str]) -> Result<Option<Command>, AllocError> {

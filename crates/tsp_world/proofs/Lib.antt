@@ -1,4 +1,5 @@
 pub mod BootLemmas
+pub mod HeadLemmas
 pub mod ReadyLemmas
 pub mod Replicates
 pub mod SetupLemmas

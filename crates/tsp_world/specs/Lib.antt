@@ -1,3 +1,5 @@
 pub mod Configs
+pub mod Heads
 pub mod NodesReady
+pub mod Posts
 pub mod WorldStands

@@ -9,8 +9,8 @@ use crate::limits::limit;
 use crate::world::World;
 use tsp_base::event::{Event, EventFault};
 use tsp_base::members::Members;
-use tsp_nets::refusals::{down_at, first_of, no_node, time_back, time_of};
-use tsp_nets::{address_of, networks_of, room_of};
+use tsp_networks::refusals::{down_at, first_of, no_node, time_back, time_of};
+use tsp_networks::{address_of, networks_of, room_of};
 use tsp_run::address::Address;
 
 /// The event takes a datagram that was never posted.

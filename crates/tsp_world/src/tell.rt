@@ -4,8 +4,8 @@ ghost use Rattle.tsp_run.specs.Run.{told_from, told_line, posts_by, number_of, p
 
 use tsp_base::act::{Act, Placed};
 use tsp_base::place::Port;
-use tsp_posts::posts::Posts;
-use tsp_posts::way::Way;
+use crate::posts::Posts;
+use crate::way::Way;
 use tsp_run::line::Line;
 
 /// Tells acts of an event as lines; the first post among them gets the number `first`.

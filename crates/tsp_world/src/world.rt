@@ -11,8 +11,8 @@ use tsp_base::header::Header;
 use tsp_base::members::Members;
 use tsp_base::pad::Pad;
 use tsp_gateway::{GateConfig, Gateway};
-use tsp_nets::{all_nodes, networks_of};
-use tsp_posts::posts::Posts;
+use tsp_networks::{all_nodes, networks_of};
+use crate::posts::Posts;
 use tsp_run::line::Line;
 
 /// The nodes and the posted datagrams; the lines of the last event.
@@ -46,7 +46,7 @@ pub struct World {
 
 impl World {
     ghost use Rattle.tsp_base.specs.Headers.{HeaderValue};
-    ghost use Rattle.tsp_base.specs.Setting.{Setting};
+    ghost use Rattle.tsp_promises.specs.Setting.{Setting};
     ghost use Rattle.tsp_base.specs.declared.event.Event.{Event};
     ghost use Rattle.tsp_run.specs.Promises.{Promises};
     ghost use Rattle.tsp_run.specs.Refusals.{refusal, scene, actor, Allowed, IsRefusal};

@@ -9,8 +9,8 @@ use tsp_base::message::{Body, Message};
 use tsp_base::name::Name;
 use tsp_base::place::{PeerId, Place, Port};
 use tsp_base::stamp::Stamp;
-use tsp_posts::posts::Posts;
-use tsp_posts::way::Way;
+use tsp_world::posts::Posts;
+use tsp_world::way::Way;
 
 /// A name of as many octets as it may have.
 const LONG: [u8; 255] = [b'x'; 255];

@@ -1,6 +1,6 @@
 use Rattle.std.proofs.Common.{◌≡◌, ◌<◌, ◌≤◌, rules, arith, refl, length, get_or}
 use Rattle.tsp_audit.proofs.AccordSteps.{all-next, all-other, kept-at}
-use Rattle.tsp_noted.specs.Histories.{history_of, line_of}
+use Rattle.tsp_history.specs.Histories.{history_of, line_of}
 use Rattle.tsp_audit.proofs.accord.note_node.Goals as goal
 
 pub returns-then-node-len-clause-nodes : goal.returns-then-node-len-clause-nodes

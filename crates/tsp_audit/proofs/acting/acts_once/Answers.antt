@@ -1,6 +1,6 @@
 use Rattle.std.proofs.Common.{◌≡◌, Bool, true, rules, subst, MatchBool}
-use Rattle.tsp_base.specs.Once.{ObeysAt, SpacedAt}
-use Rattle.tsp_noted.specs.Histories.{history_of, line_of}
+use Rattle.tsp_promises.specs.Once.{ObeysAt, SpacedAt}
+use Rattle.tsp_history.specs.Histories.{history_of, line_of}
 use Rattle.tsp_audit.proofs.ActLemmas.{acts-decide}
 use Rattle.tsp_audit.proofs.acting.acts_once.Goals as goal
 

@@ -1,7 +1,7 @@
 use Rattle.std.proofs.Common.{◌≡◌, rules, get_or}
-use Rattle.tsp_noted.specs.declared.noted.Noted.{Noted}
-use Rattle.tsp_noted.specs.Histories.{history_of}
-use Rattle.tsp_noted.specs.Posts.{PostsAt}
+use Rattle.tsp_history.specs.declared.noted.Noted.{Noted}
+use Rattle.tsp_history.specs.Histories.{history_of}
+use Rattle.tsp_history.specs.Posts.{PostsAt}
 use Rattle.tsp_audit.proofs.TakeLemmas.{corrects-at, corrects-none}
 use Rattle.tsp_audit.proofs.acting.corrects.Goals as goal
 

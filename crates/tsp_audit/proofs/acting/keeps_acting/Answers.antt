@@ -1,13 +1,13 @@
 use Rattle.std.proofs.Common.{◌≡◌, ◌<◌, ◌≤◌, ℕ, Bool, rules, arith, sym, subst, subst₂, List, length, take, get_or, MatchBool, vec_len, vec_capacity}
 use Rattle.std.proofs.lemmas.List.{take_all}
-use Rattle.tsp_base.specs.Everywhere.{Everywhere}
+use Rattle.tsp_promises.specs.Everywhere.{Everywhere}
 use Rattle.tsp_base.specs.History.{Line}
-use Rattle.tsp_noted.specs.declared.noted.Noted.{Noted}
-use Rattle.tsp_noted.specs.Histories.{line_of, history_of}
+use Rattle.tsp_history.specs.declared.noted.Noted.{Noted}
+use Rattle.tsp_history.specs.Histories.{line_of, history_of}
 use Rattle.tsp_audit.specs.Acting.{ActedIs, ActsAt, TakesAs}
 use Rattle.tsp_audit.proofs.ActLemmas.{acted-next, acts-all, acts-part, takes-as}
 use Rattle.tsp_audit.proofs.Prefixes.{at-line, one-more}
-use Rattle.tsp_noted.proofs.HistoryLemmas.{history-more}
+use Rattle.tsp_history.proofs.HistoryLemmas.{history-more}
 use Rattle.tsp_audit.proofs.acting.keeps_acting.Goals as goal
 
 pub loop-i-init : goal.loop-i-init

@@ -2,8 +2,8 @@ use Rattle.std.proofs.Common.{◌≡◌, ◌∙◌, ℤ, sym, rules, subst, to_z
 use Rattle.std.specs.Int.{w64}
 use Rattle.tsp_base.specs.declared.act.Act.TheVariants.{Correct}
 use Rattle.tsp_base.specs.History.{Acts}
-use Rattle.tsp_base.specs.Once.{Obeys}
-use Rattle.tsp_noted.specs.Histories.{history_of, line_of}
+use Rattle.tsp_promises.specs.Once.{Obeys}
+use Rattle.tsp_history.specs.Histories.{history_of, line_of}
 use Rattle.tsp_audit.proofs.TakeLemmas.{obeys-line}
 use Rattle.tsp_audit.proofs.acting.obeys.Goals as goal
 

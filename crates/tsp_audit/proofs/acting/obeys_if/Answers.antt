@@ -1,5 +1,5 @@
-use Rattle.tsp_base.specs.Once.{ObeysAt}
-use Rattle.tsp_noted.specs.Histories.{history_of, line_of}
+use Rattle.tsp_promises.specs.Once.{ObeysAt}
+use Rattle.tsp_history.specs.Histories.{history_of, line_of}
 use Rattle.tsp_audit.proofs.ActLemmas.{if-asked}
 use Rattle.tsp_audit.proofs.acting.obeys_if.Goals as goal
 

@@ -1,7 +1,7 @@
 use Rattle.std.proofs.Common.{◌≡◌, ℤ, rules, get_or, subst₂, to_z, of_z, MatchBool}
 use Rattle.std.specs.Int.{w64, w128}
-use Rattle.tsp_noted.specs.declared.noted.Noted.{Noted}
-use Rattle.tsp_noted.specs.Histories.{deed_of, line_of}
+use Rattle.tsp_history.specs.declared.noted.Noted.{Noted}
+use Rattle.tsp_history.specs.Histories.{deed_of, line_of}
 use Rattle.tsp_audit.specs.Acting.{BringsAt, Moves}
 use Rattle.tsp_audit.proofs.TakeLemmas.{obeys-decides, obeys-not}
 use Rattle.tsp_audit.proofs.acting.obeys_master.Goals as goal

@@ -1,6 +1,6 @@
 use Rattle.std.proofs.Common.{◌≡◌, rules, get_or}
-use Rattle.tsp_noted.specs.declared.noted.Noted.{Noted}
-use Rattle.tsp_noted.specs.Histories.{deed_of, history_of, line_of}
+use Rattle.tsp_history.specs.declared.noted.Noted.{Noted}
+use Rattle.tsp_history.specs.Histories.{deed_of, history_of, line_of}
 use Rattle.tsp_audit.specs.Acting.{ActsNow, BringsAt, IsNumbered}
 use Rattle.tsp_audit.proofs.TakeLemmas.{takes-decide, takes-unnumbered}
 use Rattle.tsp_audit.proofs.acting.takes_send.Goals as goal

@@ -1,7 +1,7 @@
 use Rattle.std.proofs.Common.{◌≡◌, rules}
 use Rattle.tsp_base.specs.declared.act.Act.TheVariants.{Back}
 use Rattle.tsp_base.specs.History.{Acts}
-use Rattle.tsp_noted.specs.Histories.{line_of, history_of}
+use Rattle.tsp_history.specs.Histories.{line_of, history_of}
 use Rattle.tsp_audit.proofs.BackLemmas.{held-decides}
 use Rattle.tsp_audit.proofs.backing.holds.Goals as goal
 

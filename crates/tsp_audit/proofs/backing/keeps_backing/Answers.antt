@@ -1,8 +1,8 @@
 use Rattle.std.proofs.Common.{◌≡◌, ℕ, Bool, None, rules, arith, sym, subst, List, take, get_or, MatchBool}
 use Rattle.std.proofs.lemmas.List.{take-take, take_all}
-use Rattle.tsp_base.specs.Everywhere.{Everywhere}
-use Rattle.tsp_noted.specs.declared.noted.Noted.{Noted}
-use Rattle.tsp_noted.specs.Histories.{line_of, history_of}
+use Rattle.tsp_promises.specs.Everywhere.{Everywhere}
+use Rattle.tsp_history.specs.declared.noted.Noted.{Noted}
+use Rattle.tsp_history.specs.Histories.{line_of, history_of}
 use Rattle.tsp_audit.specs.Backing.{Backs, Settled}
 use Rattle.tsp_audit.proofs.BackLemmas.{backs-all, ends-decide, settled}
 use Rattle.tsp_audit.proofs.Prefixes.{at-line, one-more}

@@ -1,12 +1,12 @@
 use Rattle.std.proofs.Common.{◌≡◌, ◌<◌, ◌+◌, ℕ, true, false, rules, arith, sym, ◌∙◌, subst, subst₂, inl, inr, List, ◌∷◌, length, take, get_or}
 use Rattle.tsp_base.specs.declared.place.Port.{Port}
 use Rattle.tsp_base.specs.History.{Line, of, view}
-use Rattle.tsp_base.specs.StepFacts.{is_unbacked}
-use Rattle.tsp_noted.specs.declared.noted.Noted.{Noted}
-use Rattle.tsp_noted.specs.Histories.{line_of, history_of}
+use Rattle.tsp_promises.specs.StepFacts.{is_unbacked}
+use Rattle.tsp_history.specs.declared.noted.Noted.{Noted}
+use Rattle.tsp_history.specs.Histories.{line_of, history_of}
 use Rattle.tsp_audit.specs.Backing.{concerns, is_stand}
 use Rattle.tsp_audit.proofs.BackLemmas.{neither, unbacked-more}
-use Rattle.tsp_noted.proofs.HistoryLemmas.{history-more}
+use Rattle.tsp_history.proofs.HistoryLemmas.{history-more}
 use Rattle.tsp_audit.proofs.backing.settles.Goals as goal
 use Rattle.tsp_audit.proofs.backing.settles.Goals.{else-stands-via-then-stands+else-is_unbacked_at, else-stands-via-else-stands}
 

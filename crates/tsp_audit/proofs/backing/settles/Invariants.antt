@@ -2,9 +2,9 @@
 use Rattle.std.proofs.Common.{◌≡◌, ℕ, true, false, take}
 use Rattle.tsp_base.specs.declared.place.Port.{Port}
 use Rattle.tsp_base.specs.History.{of, view}
-use Rattle.tsp_base.specs.StepFacts.{is_unbacked}
+use Rattle.tsp_promises.specs.StepFacts.{is_unbacked}
 use Rattle.tsp_audit.specs.Backing.{Settled, concerns}
-use Rattle.tsp_noted.specs.Histories.{history_of}
+use Rattle.tsp_history.specs.Histories.{history_of}
 use Rattle.tsp_audit.proofs.backing.settles.Given as goal
 
 abbrev pub invariant-loop-i : goal.invariant-loop-i

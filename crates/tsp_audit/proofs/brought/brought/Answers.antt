@@ -1,6 +1,6 @@
 use Rattle.std.proofs.Common.{◌≡◌, rules, get_or}
-use Rattle.tsp_noted.specs.declared.noted.Noted.{Noted}
-use Rattle.tsp_noted.specs.Histories.{deed_of, history_of, line_of}
+use Rattle.tsp_history.specs.declared.noted.Noted.{Noted}
+use Rattle.tsp_history.specs.Histories.{deed_of, history_of, line_of}
 use Rattle.tsp_audit.specs.Acting.{CameAt, PostsTo}
 use Rattle.tsp_audit.proofs.TakeLemmas.{brings-found, brings-none, brings-other}
 use Rattle.tsp_audit.proofs.brought.brought.Goals as goal

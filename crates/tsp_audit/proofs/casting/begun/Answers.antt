@@ -1,7 +1,7 @@
 use Rattle.std.proofs.Common.{◌≡◌, rules, get_or}
-use Rattle.tsp_noted.specs.declared.noted.Noted.{Noted}
-use Rattle.tsp_noted.specs.Histories.{deed_of, history_of, line_of}
-use Rattle.tsp_noted.specs.Posts.{PostsAt}
+use Rattle.tsp_history.specs.declared.noted.Noted.{Noted}
+use Rattle.tsp_history.specs.Histories.{deed_of, history_of, line_of}
+use Rattle.tsp_history.specs.Posts.{PostsAt}
 use Rattle.tsp_audit.specs.Acting.{TakesSend}
 use Rattle.tsp_audit.specs.Casting.{IsAdjusting}
 use Rattle.tsp_audit.proofs.CastLemmas.{begun-found, begun-other, takes-none, takes-posted}

@@ -2,10 +2,10 @@ use Rattle.std.proofs.Common.{◌≡◌, ◌<◌, ◌∙◌, sym, subst, refl, r
 use Rattle.std.specs.Int.{w128}
 use Rattle.tsp_base.specs.History.{of, view}
 use Rattle.tsp_base.specs.RoundFacts.{best}
-use Rattle.tsp_noted.specs.Histories.{line_of, history_of}
-use Rattle.tsp_noted.specs.Rounds.{Bests, trip_at}
-use Rattle.tsp_noted.proofs.RoundLemmas.{line-at}
-use Rattle.tsp_noted.proofs.HistoryLemmas.{history-more}
+use Rattle.tsp_history.specs.Histories.{line_of, history_of}
+use Rattle.tsp_history.specs.Rounds.{Bests, trip_at}
+use Rattle.tsp_history.proofs.RoundLemmas.{line-at}
+use Rattle.tsp_history.proofs.HistoryLemmas.{history-more}
 use Rattle.tsp_audit.proofs.SampleLemmas.{trip-here}
 use Rattle.tsp_audit.proofs.casting.best_in.Goals as goal
 

@@ -2,8 +2,8 @@
 use Rattle.std.proofs.Common.{take}
 use Rattle.tsp_base.specs.History.{of, view}
 use Rattle.tsp_base.specs.RoundFacts.{best}
-use Rattle.tsp_noted.specs.Histories.{history_of}
-use Rattle.tsp_noted.specs.Rounds.{Bests}
+use Rattle.tsp_history.specs.Histories.{history_of}
+use Rattle.tsp_history.specs.Rounds.{Bests}
 use Rattle.tsp_audit.specs.Agreeing.{TripsTell}
 use Rattle.tsp_audit.proofs.casting.best_in.Given as goal
 

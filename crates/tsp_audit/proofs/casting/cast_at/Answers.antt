@@ -1,6 +1,6 @@
 use Rattle.std.proofs.Common.{◌≡◌, rules, get_or}
-use Rattle.tsp_noted.specs.declared.noted.Noted.{Noted}
-use Rattle.tsp_noted.specs.Histories.{line_of}
+use Rattle.tsp_history.specs.declared.noted.Noted.{Noted}
+use Rattle.tsp_history.specs.Histories.{line_of}
 use Rattle.tsp_audit.specs.Casting.{BegunAt}
 use Rattle.tsp_audit.proofs.SampleLemmas.{cast-told, trips-before}
 use Rattle.tsp_audit.proofs.casting.cast_at.Goals as goal

@@ -1,8 +1,8 @@
 use Rattle.std.proofs.Common.{◌≡◌, rules, get_or}
 use Rattle.tsp_base.specs.History.{Came}
-use Rattle.tsp_noted.specs.declared.noted.Noted.{Noted}
-use Rattle.tsp_noted.specs.Histories.{line_of}
-use Rattle.tsp_noted.specs.Posts.{PostsAt}
+use Rattle.tsp_history.specs.declared.noted.Noted.{Noted}
+use Rattle.tsp_history.specs.Histories.{line_of}
+use Rattle.tsp_history.specs.Posts.{PostsAt}
 use Rattle.tsp_audit.proofs.SampleLemmas.{reading-found}
 use Rattle.tsp_audit.proofs.casting.reading_of.Goals as goal
 

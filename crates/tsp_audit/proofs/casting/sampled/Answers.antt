@@ -4,9 +4,9 @@ use Rattle.std.specs.Int.{w64}
 use Rattle.tsp_base.specs.History.{of, view}
 use Rattle.tsp_base.specs.RoundFacts.{best}
 use Rattle.tsp_base.specs.Takings.{peer_of}
-use Rattle.tsp_noted.specs.declared.noted.Noted.{Noted}
-use Rattle.tsp_noted.specs.Histories.{history_of}
-use Rattle.tsp_noted.specs.Rounds.{BestAt}
+use Rattle.tsp_history.specs.declared.noted.Noted.{Noted}
+use Rattle.tsp_history.specs.Histories.{history_of}
+use Rattle.tsp_history.specs.Rounds.{BestAt}
 use Rattle.tsp_audit.specs.Agreeing.{TripsTell}
 use Rattle.tsp_audit.proofs.SampleLemmas.{reading-none, round-found, sample-none, trips-before}
 use Rattle.tsp_audit.proofs.casting.sampled.Goals as goal

@@ -2,7 +2,7 @@
 use Rattle.std.proofs.Common.{◌≡◌, ◌≤◌, List, [], drop}
 use Rattle.tsp_base.specs.History.{Line, dids, of}
 use Rattle.tsp_base.specs.NodeFacts.{all_corrects, lives}
-use Rattle.tsp_noted.specs.Histories.{noted_after}
+use Rattle.tsp_history.specs.Histories.{noted_after}
 use Rattle.tsp_audit.proofs.counts.counts_at.Given as goal
 
 abbrev pub invariant-loop-line : goal.invariant-loop-line

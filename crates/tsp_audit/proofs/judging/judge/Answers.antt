@@ -1,9 +1,9 @@
 use Rattle.std.proofs.Common.{List}
 use Rattle.tsp_audit.specs.Parts.{Acting, ActsOnce, Agreeing, Backing, Keeps, Leading, Measuring}
 use Rattle.tsp_base.specs.History.{Line}
-use Rattle.tsp_base.specs.OneBack.{OneBack}
-use Rattle.tsp_base.specs.OnlyMaster.{OnlyMaster}
-use Rattle.tsp_noted.specs.Histories.{history_of}
+use Rattle.tsp_promises.specs.OneBack.{OneBack}
+use Rattle.tsp_promises.specs.OnlyMaster.{OnlyMaster}
+use Rattle.tsp_history.specs.Histories.{history_of}
 use Rattle.tsp_audit.proofs.JudgeLemmas.{all-keep, decided, fails-acting, fails-agreeing, fails-backing, fails-leading, fails-measuring, refuted}
 use Rattle.tsp_audit.proofs.judging.judge.Goals as goal
 

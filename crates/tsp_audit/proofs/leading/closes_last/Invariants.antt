@@ -2,7 +2,7 @@
 use Rattle.std.proofs.Common.{◌≡◌, List, [], drop}
 use Rattle.tsp_base.specs.History.{Line}
 use Rattle.tsp_audit.specs.Leading.{closing}
-use Rattle.tsp_noted.specs.Histories.{noted_after}
+use Rattle.tsp_history.specs.Histories.{noted_after}
 use Rattle.tsp_audit.proofs.leading.closes_last.Given as goal
 
 abbrev pub invariant-loop-line : goal.invariant-loop-line

@@ -1,7 +1,7 @@
 use Rattle.std.proofs.Common.{◌≡◌, rules, arith, List, take, get_or}
-use Rattle.tsp_base.specs.OnlyMaster.{LeadsAt}
-use Rattle.tsp_noted.specs.declared.noted.Noted.{Noted}
-use Rattle.tsp_noted.specs.Histories.{line_of, history_of}
+use Rattle.tsp_promises.specs.OnlyMaster.{LeadsAt}
+use Rattle.tsp_history.specs.declared.noted.Noted.{Noted}
+use Rattle.tsp_history.specs.Histories.{line_of, history_of}
 use Rattle.tsp_audit.proofs.Prefixes.{at-line, one-more}
 use Rattle.tsp_audit.proofs.leading.keeps_leading.Goals as goal
 

@@ -3,8 +3,8 @@ use Rattle.std.specs.Int.{w64, w128}
 use Rattle.tsp_base.specs.History.{of, view}
 use Rattle.tsp_base.specs.RoundFacts.{exchange, is_going}
 use Rattle.tsp_base.specs.Samples.{half_up}
-use Rattle.tsp_noted.specs.Histories.{history_of, line_of}
-use Rattle.tsp_noted.specs.Rounds.{AskedAt}
+use Rattle.tsp_history.specs.Histories.{history_of, line_of}
+use Rattle.tsp_history.specs.Rounds.{AskedAt}
 use Rattle.tsp_audit.proofs.MeasureLemmas.{trip-decides}
 use Rattle.tsp_audit.proofs.measuring.ends_exchange.Goals as goal
 

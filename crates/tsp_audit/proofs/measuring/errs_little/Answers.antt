@@ -2,8 +2,8 @@ use Rattle.std.proofs.Common.{◌≡◌, ℤ, rules, subst₂, to_z, of_z, Match
 use Rattle.std.specs.Int.{w64}
 use Rattle.tsp_base.specs.declared.act.Act.TheVariants.{Sample}
 use Rattle.tsp_base.specs.History.{Acts}
-use Rattle.tsp_base.specs.Measured.{ReadBy}
-use Rattle.tsp_noted.specs.Histories.{history_of, line_of}
+use Rattle.tsp_promises.specs.Measured.{ReadBy}
+use Rattle.tsp_history.specs.Histories.{history_of, line_of}
 use Rattle.tsp_audit.proofs.MeasureLemmas.{measured-line}
 use Rattle.tsp_audit.proofs.measuring.errs_little.Goals as goal
 

@@ -1,7 +1,7 @@
 use Rattle.std.proofs.Common.{◌≡◌, ◌≤◌, ℤ, rules, get_or, subst₂, to_z, of_z, MatchBool}
 use Rattle.std.specs.Int.{w64, w128}
-use Rattle.tsp_noted.specs.declared.noted.Noted.{Noted}
-use Rattle.tsp_noted.specs.Histories.{history_of, line_of}
+use Rattle.tsp_history.specs.declared.noted.Noted.{Noted}
+use Rattle.tsp_history.specs.Histories.{history_of, line_of}
 use Rattle.tsp_audit.specs.Measuring.{IsNear, RepliesAt}
 use Rattle.tsp_audit.proofs.MeasureLemmas.{read-decides, read-none}
 use Rattle.tsp_audit.proofs.Prefixes.{at-line}

@@ -1,9 +1,9 @@
 use Rattle.std.proofs.Common.{◌≡◌, ◌<◌, ◌≤◌, ℕ, Bool, rules, arith, subst, List, length, take, get_or, MatchBool}
 use Rattle.std.proofs.lemmas.List.{take_all}
-use Rattle.tsp_base.specs.Everywhere.{Everywhere}
-use Rattle.tsp_base.proofs.EverywhereLemmas.{Everywhere-within}
-use Rattle.tsp_noted.specs.declared.noted.Noted.{Noted}
-use Rattle.tsp_noted.specs.Histories.{line_of, history_of}
+use Rattle.tsp_promises.specs.Everywhere.{Everywhere}
+use Rattle.tsp_promises.proofs.EverywhereLemmas.{Everywhere-within}
+use Rattle.tsp_history.specs.declared.noted.Noted.{Noted}
+use Rattle.tsp_history.specs.Histories.{line_of, history_of}
 use Rattle.tsp_audit.specs.Measuring.{MeasuresAt}
 use Rattle.tsp_audit.specs.Settings.{Timely}
 use Rattle.tsp_audit.proofs.MeasureLemmas.{measures-all, measures-part}

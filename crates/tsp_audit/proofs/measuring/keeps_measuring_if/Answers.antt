@@ -1,7 +1,7 @@
 use Rattle.std.proofs.Common.{◌≡◌, true, rules, take}
 use Rattle.tsp_audit.specs.Parts.{MeasuresWell}
 use Rattle.tsp_audit.proofs.MeasureLemmas.{if-both}
-use Rattle.tsp_noted.specs.Histories.{history_of}
+use Rattle.tsp_history.specs.Histories.{history_of}
 use Rattle.tsp_audit.proofs.measuring.keeps_measuring_if.Goals as goal
 
 pub returns-then-premises-2 : goal.returns-then-premises-2

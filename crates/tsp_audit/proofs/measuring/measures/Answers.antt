@@ -1,6 +1,6 @@
 use Rattle.std.proofs.Common.{rules}
-use Rattle.tsp_base.specs.Measured.{TripAt}
-use Rattle.tsp_noted.specs.Histories.{history_of, line_of}
+use Rattle.tsp_promises.specs.Measured.{TripAt}
+use Rattle.tsp_history.specs.Histories.{history_of, line_of}
 use Rattle.tsp_audit.proofs.MeasureLemmas.{measures-decide}
 use Rattle.tsp_audit.proofs.measuring.measures.Goals as goal
 

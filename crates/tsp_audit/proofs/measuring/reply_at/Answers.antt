@@ -1,6 +1,6 @@
 use Rattle.std.proofs.Common.{◌≡◌, rules, get_or}
-use Rattle.tsp_noted.specs.declared.noted.Noted.{Noted}
-use Rattle.tsp_noted.specs.Histories.{history_of, line_of}
+use Rattle.tsp_history.specs.declared.noted.Noted.{Noted}
+use Rattle.tsp_history.specs.Histories.{history_of, line_of}
 use Rattle.tsp_audit.specs.Acting.{CameAt}
 use Rattle.tsp_audit.specs.Measuring.{RepliesTo}
 use Rattle.tsp_audit.proofs.MeasureLemmas.{replies-found, replies-none, replies-other}

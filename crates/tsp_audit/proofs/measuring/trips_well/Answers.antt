@@ -2,8 +2,8 @@ use Rattle.std.proofs.Common.{◌≡◌, ℤ, rules, subst, to_z, of_z, MatchBoo
 use Rattle.std.specs.Int.{w64}
 use Rattle.tsp_base.specs.declared.act.Act.TheVariants.{Sample}
 use Rattle.tsp_base.specs.History.{Acts, of, view}
-use Rattle.tsp_base.specs.Measured.{TripOf}
-use Rattle.tsp_noted.specs.Histories.{history_of, line_of}
+use Rattle.tsp_promises.specs.Measured.{TripOf}
+use Rattle.tsp_history.specs.Histories.{history_of, line_of}
 use Rattle.tsp_audit.proofs.MeasureLemmas.{trip-line}
 use Rattle.tsp_audit.proofs.measuring.trips_well.Goals as goal
 

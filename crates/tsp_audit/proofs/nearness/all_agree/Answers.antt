@@ -3,7 +3,7 @@ use Rattle.std.proofs.lemmas.Bool.{cases_lt}
 use Rattle.tsp_audit.specs.Agreeing.{NodeAgrees}
 use Rattle.tsp_audit.specs.declared.live.NodeState.{NodeState}
 use Rattle.tsp_audit.proofs.AccordSteps.{state-at}
-use Rattle.tsp_noted.specs.Clocks.{IsSumOf}
+use Rattle.tsp_history.specs.Clocks.{IsSumOf}
 use Rattle.tsp_audit.proofs.nearness.all_agree.Goals as goal
 
 pub loop-n-preserved : goal.loop-n-preserved

@@ -3,7 +3,7 @@ use Rattle.std.specs.Int.{w64, w128}
 use Rattle.tsp_base.specs.Ticks.{width}
 use Rattle.tsp_audit.specs.Agreeing.{shown_by}
 use Rattle.tsp_audit.proofs.NearLemmas.{bound-same, near-told}
-use Rattle.tsp_noted.specs.Clocks.{IsSumOf}
+use Rattle.tsp_history.specs.Clocks.{IsSumOf}
 use Rattle.tsp_audit.proofs.nearness.pair_near.Goals as goal
 
 pub returns : goal.returns

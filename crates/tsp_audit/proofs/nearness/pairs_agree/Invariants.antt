@@ -2,7 +2,7 @@
 use Rattle.std.proofs.Common.{◌≤◌, ◌<◌, ℕ}
 use Rattle.tsp_audit.specs.Agreeing.{AllBounded, IsAt, PairAgrees}
 use Rattle.tsp_audit.specs.declared.live.NodeState.{NodeState}
-use Rattle.tsp_noted.specs.Clocks.{IsSumOf}
+use Rattle.tsp_history.specs.Clocks.{IsSumOf}
 use Rattle.tsp_audit.proofs.nearness.pairs_agree.Given as goal
 
 abbrev pub invariant-loop-k : goal.invariant-loop-k

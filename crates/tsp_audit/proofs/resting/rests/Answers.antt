@@ -5,7 +5,7 @@ use Rattle.tsp_base.specs.declared.kind.Kind.TheVariants.{AdjTime}
 use Rattle.tsp_base.specs.declared.place.Place.TheVariants.{Peer}
 use Rattle.tsp_base.specs.History.{Acts, of, view}
 use Rattle.tsp_base.specs.PortFacts.{acting}
-use Rattle.tsp_noted.specs.Histories.{history_of, line_of}
+use Rattle.tsp_history.specs.Histories.{history_of, line_of}
 use Rattle.tsp_audit.proofs.AccordSteps.{rests-told}
 use Rattle.tsp_audit.proofs.resting.rests.Goals as goal
 

@@ -1,7 +1,7 @@
 use Rattle.std.proofs.Common.{◌≡◌, ◌∷◌, ap, ◌∙◌, refl, List}
 use Rattle.tsp_base.specs.History.{Line, dids, of}
 use Rattle.tsp_base.specs.NodeFacts.{lives}
-use Rattle.tsp_noted.specs.Histories.{line_of}
+use Rattle.tsp_history.specs.Histories.{line_of}
 use Rattle.tsp_audit.proofs.StateLemmas.{node-boot}
 use Rattle.tsp_audit.proofs.states.booted.Goals as goal
 

@@ -2,8 +2,8 @@ use Rattle.std.proofs.Common.{◌≡◌, ◌∷◌, ap, subst, sym, ◌∙◌, r
 use Rattle.std.specs.Int.{w128}
 use Rattle.tsp_base.specs.History.{Line, dids, of}
 use Rattle.tsp_base.specs.NodeFacts.{all_corrects, moved}
-use Rattle.tsp_noted.specs.Clocks.{IsSumOf}
-use Rattle.tsp_noted.specs.Histories.{line_of, history_of}
+use Rattle.tsp_history.specs.Clocks.{IsSumOf}
+use Rattle.tsp_history.specs.Histories.{line_of, history_of}
 use Rattle.tsp_audit.proofs.StateLemmas.{node-correct, sum-more}
 use Rattle.tsp_audit.proofs.states.corrected.Goals as goal
 

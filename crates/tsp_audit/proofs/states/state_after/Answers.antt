@@ -1,6 +1,6 @@
 use Rattle.std.proofs.Common.{◌≡◌, refl, rules, ℕ}
 use Rattle.tsp_base.specs.NodeFacts.{all_corrects_after, lives_after}
-use Rattle.tsp_noted.specs.Histories.{deed_of, history_of, line_of}
+use Rattle.tsp_history.specs.Histories.{deed_of, history_of, line_of}
 use Rattle.tsp_audit.proofs.StateLemmas.{node-still, still-deed}
 use Rattle.tsp_audit.proofs.states.state_after.Goals as goal
 

@@ -6,7 +6,7 @@ use Rattle.tsp_claims.specs.Fitting.{acts_of}
 use Rattle.tsp_claims.specs.Steps.{step_by}
 use Rattle.tsp_claims.proofs.StepLemmas.{note-next}
 use Rattle.tsp_claims.proofs.taking_in.note.Goals as goal
-use Rattle.tsp_noted.specs.Histories.{history_of, line_of}
+use Rattle.tsp_history.specs.Histories.{history_of, line_of}
 
 pub loop-line-preserved : goal.loop-line-preserved
 loop-line-preserved c =

@@ -3,7 +3,7 @@ use Rattle.std.proofs.Common.{◌≡◌, ◌≤◌, ◌+◌, drop, vec_len, vec_
 use Rattle.tsp_base.specs.Joins.{joined}
 use Rattle.tsp_claims.specs.Fitting.{acts_of}
 use Rattle.tsp_claims.specs.Steps.{step_by}
-use Rattle.tsp_noted.specs.Histories.{history_of}
+use Rattle.tsp_history.specs.Histories.{history_of}
 use Rattle.tsp_claims.proofs.taking_in.note.Given as goal
 
 abbrev pub invariant-loop-line : goal.invariant-loop-line

@@ -1,5 +1,5 @@
 use Rattle.std.proofs.Common.{inl, inr, refl}
-use Rattle.tsp_words.specs.declared.command.Command.TheVariants.{Replay}
+use Rattle.tsp_args.specs.declared.command.Command.TheVariants.{Replay}
 use Rattle.tsp_cli.proofs.CommandLemmas.{command_same, does_as, untouched_as, command_read, command_none, link_fault, Untouched-same, Says-nothing, Replay_prints}
 use Rattle.tsp_cli.proofs.run.run.Goals as goal
 

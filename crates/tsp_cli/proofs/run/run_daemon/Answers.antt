@@ -1,5 +1,5 @@
 use Rattle.std.proofs.Common.{◌∙◌, ap, sym}
-use Rattle.tsp_serving.specs.declared.end.Served.{Served}
+use Rattle.tsp_daemon.specs.declared.exit.Served.{Served}
 use Rattle.tsp_cli.specs.Statuses.{status_of_served}
 use Rattle.tsp_cli.proofs.CommandLemmas.{RunsDaemon-served, served_unread, served_used, served_linked, served_written}
 use Rattle.tsp_cli.proofs.run.run_daemon.Goals as goal

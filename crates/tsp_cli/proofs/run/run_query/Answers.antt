@@ -1,5 +1,5 @@
 use Rattle.std.proofs.Common.{◌∙◌, ap, sym}
-use Rattle.tsp_asking.specs.declared.end.Asking.{Asking}
+use Rattle.tsp_query.specs.declared.exit.Asking.{Asking}
 use Rattle.tsp_cli.specs.Statuses.{status_of_asking}
 use Rattle.tsp_cli.proofs.CommandLemmas.{RunsQuery-asked, asking_unread, asking_used, asking_linked, asking_written}
 use Rattle.tsp_cli.proofs.run.run_query.Goals as goal

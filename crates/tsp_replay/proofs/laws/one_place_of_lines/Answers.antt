@@ -1,4 +1,4 @@
-use Rattle.tsp_course.proofs.OneReading.{Reaches-one}
+use Rattle.tsp_schedule.proofs.OneReading.{Reaches-one}
 use Rattle.tsp_replay.specs.Schedules.{refused}
 use Rattle.tsp_replay.proofs.laws.one_place_of_lines.Goals as goal
 

@@ -2,7 +2,7 @@ use Rattle.std.proofs.Common.{◌≡◌, ℤ, List, rules, sym, subst, is_none, 
 use Rattle.tsp_audit.specs.Agreeing.{AllAgree, AllBounded, TripsTell}
 use Rattle.tsp_audit.specs.declared.live.NodeState.{NodeState}
 use Rattle.tsp_audit.proofs.AccordSteps.{act-some, agrees-told, all-bounded, trips-less}
-use Rattle.tsp_noted.specs.Histories.{history_of, line_of}
+use Rattle.tsp_history.specs.Histories.{history_of, line_of}
 use Rattle.tsp_audit.proofs.accord.Accord.agrees.Goals as goal
 
 pub returns : goal.returns

@@ -1,14 +1,14 @@
 use Rattle.std.proofs.Common.{◌≡◌, ◌<◌, ◌≤◌, ◌+◌, ◌∷◌, ℕ, Bool, rules, arith, subst, List, length, take, get_or, MatchBool, vec_len, vec_capacity}
 use Rattle.std.proofs.lemmas.List.{take_all}
-use Rattle.tsp_base.specs.Agreed.{Agreed, AgreedAt}
-use Rattle.tsp_base.specs.Fits.{node_of}
+use Rattle.tsp_promises.specs.Agreed.{Agreed, AgreedAt}
+use Rattle.tsp_promises.specs.Fits.{node_of}
 use Rattle.tsp_base.specs.History.{Line}
-use Rattle.tsp_base.proofs.EverywhereLemmas.{Everywhere-within}
-use Rattle.tsp_noted.specs.declared.noted.Noted.{Noted}
-use Rattle.tsp_noted.specs.Histories.{line_of, history_of}
+use Rattle.tsp_promises.proofs.EverywhereLemmas.{Everywhere-within}
+use Rattle.tsp_history.specs.declared.noted.Noted.{Noted}
+use Rattle.tsp_history.specs.Histories.{line_of, history_of}
 use Rattle.tsp_audit.specs.Agreeing.{AccordIs, Numbered}
 use Rattle.tsp_audit.proofs.Prefixes.{at-line, one-more}
-use Rattle.tsp_noted.proofs.HistoryLemmas.{Within-noted, history-more}
+use Rattle.tsp_history.proofs.HistoryLemmas.{Within-noted, history-more}
 use Rattle.tsp_audit.proofs.accord.Accord.keeps_agreeing.Goals as goal
 
 pub loop-i-init : goal.loop-i-init

@@ -1,8 +1,8 @@
 -- The accord stands for the lines so far, clocks agree in them, and there is room for the rest.
 use Rattle.std.proofs.Common.{◌≤◌, ◌+◌, ◌-◌, ℕ, length, take, vec_len, vec_capacity}
-use Rattle.tsp_base.specs.Agreed.{Agreed}
-use Rattle.tsp_base.specs.Setting.{Setting}
-use Rattle.tsp_noted.specs.Histories.{history_of}
+use Rattle.tsp_promises.specs.Agreed.{Agreed}
+use Rattle.tsp_promises.specs.Setting.{Setting}
+use Rattle.tsp_history.specs.Histories.{history_of}
 use Rattle.tsp_audit.specs.Agreeing.{AccordIs, Numbered}
 use Rattle.tsp_audit.specs.Settings.{HasClocks, Timely}
 use Rattle.tsp_audit.proofs.accord.Accord.keeps_agreeing.Given as goal

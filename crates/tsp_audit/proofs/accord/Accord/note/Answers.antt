@@ -4,10 +4,10 @@ use Rattle.tsp_base.specs.History.{Line}
 use Rattle.tsp_audit.specs.Agreeing.{AccordIs, TripsTell}
 use Rattle.tsp_audit.specs.declared.accord.Accord.{Accord}
 use Rattle.tsp_audit.proofs.AccordSteps.{accord-next}
-use Rattle.tsp_noted.proofs.HistoryLemmas.{history-more}
+use Rattle.tsp_history.proofs.HistoryLemmas.{history-more}
 use Rattle.tsp_audit.proofs.SampleLemmas.{history-length}
-use Rattle.tsp_noted.specs.declared.noted.Noted.{Noted}
-use Rattle.tsp_noted.specs.Histories.{history_of, line_of}
+use Rattle.tsp_history.specs.declared.noted.Noted.{Noted}
+use Rattle.tsp_history.specs.Histories.{history_of, line_of}
 use Rattle.tsp_audit.proofs.accord.Accord.note.Goals as goal
 
 pub returns-clause-accord : goal.returns-clause-accord

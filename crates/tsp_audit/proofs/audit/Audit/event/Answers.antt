@@ -13,8 +13,8 @@ use Rattle.tsp_claims.specs.ClaimedHistory.{Claim, claimed}
 use Rattle.tsp_claims.specs.Fitting.{Fit, acts_of}
 use Rattle.tsp_claims.specs.Listed.{NamesNode}
 use Rattle.tsp_claims.specs.Stands.{ClaimsStand, claim_of}
-use Rattle.tsp_noted.specs.declared.noted.Noted.{Noted}
-use Rattle.tsp_noted.specs.Histories.{history_of}
+use Rattle.tsp_history.specs.declared.noted.Noted.{Noted}
+use Rattle.tsp_history.specs.Histories.{history_of}
 use Rattle.tsp_script.specs.declared.trace.Line2.{Line2}
 use Rattle.tsp_audit.proofs.audit.Audit.event.Goals as goal
 

@@ -5,7 +5,7 @@ use Rattle.tsp_claims.specs.Fitting.{acts_of}
 use Rattle.tsp_claims.specs.Steps.{step_by}
 use Rattle.tsp_claims.proofs.StepLemmas.{history-push}
 use Rattle.tsp_claims.proofs.claims.Claims.join.Goals as goal
-use Rattle.tsp_noted.specs.Histories.{history_of, line_of}
+use Rattle.tsp_history.specs.Histories.{history_of, line_of}
 
 pub returns : goal.returns
 returns c =

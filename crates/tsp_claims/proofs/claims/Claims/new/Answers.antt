@@ -1,7 +1,7 @@
 -- Nothing is claimed, and no node is up.
 use Rattle.std.proofs.Common.{ap, refl}
 use Rattle.tsp_claims.proofs.claims.Claims.new.Goals as goal
-use Rattle.tsp_noted.specs.Histories.{history_of}
+use Rattle.tsp_history.specs.Histories.{history_of}
 
 pub returns : goal.returns
 returns c = record {

@@ -1,5 +1,5 @@
 use Rattle.std.proofs.Common.{ap, arith, length}
-use Rattle.tsp_convert.proofs.Lengths.{length-message_text}
+use Rattle.tsp_script.proofs.MessageLengths.{length-message_text}
 use Rattle.tsp_convert.proofs.pack.PackTreatment.refuse_long.Goals as goal
 
 pub returns : goal.returns

@@ -1,7 +1,7 @@
 -- The stage goes on or halts, and what it tells is handed over.
 use Rattle.std.proofs.Common.{reverse}
-use Rattle.tsp_course.proofs.StageLemmas.{MatchResult-map}
-use Rattle.tsp_course.specs.Schedules.{Progress}
+use Rattle.tsp_schedule.proofs.StageLemmas.{MatchResult-map}
+use Rattle.tsp_schedule.specs.Schedules.{Progress}
 use Rattle.tsp_replay.specs.Schedules.{Reaches}
 use Rattle.tsp_replay.proofs.Places.{Advances}
 use Rattle.tsp_replay.proofs.TreatLemmas.{Goes-advances, StopsAt-untold, StopsAt-halts}

@@ -1,3 +1,0 @@
-pub mod AloneLemmas
-pub mod RunLemmas
-pub mod SteadyLemmas

@@ -1,5 +1,0 @@
-use Rattle.tsp_alone.proofs.AloneLemmas.{same_boots}
-use Rattle.tsp_alone.proofs.laws.boots_alone.Goals as goal
-
-pub returns : goal.returns
-returns c x past s one = same_boots.run x past s one tt

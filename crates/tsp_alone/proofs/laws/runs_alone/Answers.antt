@@ -1,5 +1,0 @@
-use Rattle.tsp_alone.proofs.RunLemmas.{runs_alike}
-use Rattle.tsp_alone.proofs.laws.runs_alone.Goals as goal
-
-pub returns : goal.returns
-returns c = runs_alike

@@ -1,0 +1,86 @@
+//! The questions to a daemon.
+ghost use Rattle.std.specs.Prelude.{◌≡◌, ℤ, Bool, IfSome, Some, map, string_bytes, negsuc, ◌≤ℤ◌, [], ◌∷◌};
+ghost use Rattle.std.specs.Fmt.{signed_decimal};
+ghost use Rattle.tsp_base.specs.Times.{IsMicros};
+ghost use Rattle.tsp_args.specs.Queries.{query_word, query_rest, switch_word, IsQuery};
+ghost use Rattle.tsp_args.specs.declared.query.Query.{Query};
+
+use tsp_base::constants::LIMIT;
+use tsp_base::micros::Micros;
+use tsp_script::numbers::signed_of;
+
+/// What is asked of a daemon.
+#[derive(Clone, Copy, PartialEq, Eq, Debug)]
+pub enum Query {
+    /// Who is master.
+    Msite,
+    /// How far the daemon's clock is from this machine's.
+    ClockDiff,
+    /// To begin (true) or to end its trace.
+    Trace(bool),
+    /// Whether it hears.
+    Election,
+    /// To set the network's date: a time value strictly between -2^31 and 2^31 seconds.
+    Date(Micros),
+}
+
+/// Whether a trace is to begin.
+fn switch_of(word: &str) -> Option<bool>
+    ensures found { IfSome result (λ on. word.now ≡ switch_word on) }
+    ensures reads { (on : Bool) → word.now ≡ switch_word on → result ≡ Some on }
+{
+    match word {
+        "on" => Some(true),
+        "off" => Some(false),
+        _ => None,
+    }
+}
+
+/// The date that the word is.
+fn date_of(word: &str) -> Option<Micros>
+    ensures found { IfSome result (λ t. IsQuery (Query.Date t) × (word.now ≡ signed_decimal t)) }
+    ensures reads { (t : ℤ) → IsQuery (Query.Date t) → word.now ≡ signed_decimal t → result ≡ Some t }
+{
+    let time = Micros::of(signed_of(word.as_bytes())?)?;
+    if time.get() <= -LIMIT {
+        return None;
+    }
+    Some(time)
+}
+
+/// The question of a word that nothing follows but the address.
+fn plain_query(word: &str) -> Option<Query>
+    ensures found { IfSome result (λ q. IsQuery q × (word.now ≡ query_word q) × (query_rest q ≡ [])) }
+    ensures reads { (q : Query) → word.now ≡ query_word q → query_rest q ≡ [] → result ≡ Some q }
+{
+    match word {
+        "msite" => Some(Query::Msite),
+        "clockdiff" => Some(Query::ClockDiff),
+        "election" => Some(Query::Election),
+        _ => None,
+    }
+}
+
+/// The question of a word that another one follows behind the address.
+fn query_with(word: &str, value: &str) -> Option<Query>
+    ensures found { IfSome result (λ q. IsQuery q × (word.now ≡ query_word q) × (query_rest q ≡ value.now ∷ [])) }
+    ensures reads { (q : Query) → IsQuery q → word.now ≡ query_word q → query_rest q ≡ value.now ∷ [] → result ≡ Some q }
+{
+    match word {
+        "trace" => Some(Query::Trace(switch_of(value)?)),
+        "date" => Some(Query::Date(date_of(value)?)),
+        _ => None,
+    }
+}
+
+/// The question of this word, with what stands behind the address; None exactly where there is none.
+pub(crate) fn query_of(word: &str, rest: &[String]) -> Option<Query>
+    ensures found { IfSome result (λ q. IsQuery q × (word.now ≡ query_word q) × (map string_bytes rest.now ≡ query_rest q)) }
+    ensures reads { (q : Query) → IsQuery q → word.now ≡ query_word q → map string_bytes rest.now ≡ query_rest q → result ≡ Some q }
+{
+    match rest {
+        [] => plain_query(word),
+        [value] => query_with(word, value.as_str()),
+        _ => None,
+    }
+}

@@ -1,0 +1,37 @@
+-- How the lines of an event fit, one behind the other.
+use Rattle.std.specs.Prelude.{◌≡◌, ℕ, zero, suc, ◌+◌, ◌≤◌, false, List, [], ◌∷◌, ◌++◌, length}
+use Rattle.std.proofs.Common.{refl, arith}
+use Rattle.tsp_base.specs.declared.event.Event.{Event}
+use Rattle.tsp_audit_command.specs.Claimings.{tallied}
+use Rattle.tsp_audit_command.specs.Sound.{FitSoFar}
+use Rattle.tsp_claims.specs.declared.tally.Tally.{Tally}
+use Rattle.tsp_claims.specs.Fitting.{AllFit, Misfits, counted, lacks}
+use Rattle.tsp_claims.proofs.FitLemmas.{posts_by-few}
+use Rattle.tsp_script.specs.declared.trace.Line2.{Line2}
+
+-- one line more
+pub tallied-more : (t : Tally) (lines : List Line2) (l : Line2) → tallied t (lines ++ l ∷ []) ≡ counted (tallied t lines) l.placed.act
+tallied-more t [] l = refl
+tallied-more t (k ∷ rest) l = tallied-more (counted t k.placed.act) rest l
+
+-- lines claim one post each at the most
+pub tallied-posts : (t : Tally) (lines : List Line2) → (tallied t lines).posts ≤ t.posts + length lines
+tallied-posts t [] = omega arith
+tallied-posts t (k ∷ rest) = omega (arith, tallied-posts (counted t k.placed.act) rest, posts_by-few k.placed.act)
+
+module _ (fits : Event → Tally → Line2 → Type 0) (e : Event) where
+  -- a line that fits behind the others
+  pub FitSoFar-more : (t : Tally) (lines : List Line2) (l : Line2) → FitSoFar fits e t lines → fits e (tallied t lines) l → FitSoFar fits e t (lines ++ l ∷ [])
+  FitSoFar-more t [] l s f = (f, tt)
+  FitSoFar-more t (k ∷ rest) l s f = (s.0, FitSoFar-more (counted t k.placed.act) rest l s.1 f)
+
+  -- lines that fit, and with which nothing lacks, are all that is wanted
+  pub AllFit-so-far : (t : Tally) (lines : List Line2) → FitSoFar fits e t lines → lacks e (tallied t lines) ≡ false → AllFit fits e t lines
+  AllFit-so-far t [] s none = none
+  AllFit-so-far t (k ∷ rest) s none = (s.0, AllFit-so-far (counted t k.placed.act) rest s.1 none)
+
+  -- lines that fit don't misfit
+  pub fit-misfit : (t : Tally) (lines : List Line2) (i : ℕ) → AllFit fits e t lines → Misfits fits e t lines i → ⊥
+  fit-misfit t [] i f m = let none = f in let some = m.0 in let bad : ⊥ = cc in bad
+  fit-misfit t (k ∷ rest) zero f m = m f.0
+  fit-misfit t (k ∷ rest) (suc i) f m = fit-misfit (counted t k.placed.act) rest i f.1 m.1

@@ -1,0 +1,38 @@
+-- How events are passed, one after the other.
+use Rattle.std.specs.Prelude.{◌≡◌, ℕ, suc, false, List, [], ◌∷◌, Option, None, Some}
+use Rattle.std.proofs.Common.{◌∙◌, ap, sym, refl}
+use Rattle.tsp_base.specs.declared.event.Event.{Event}
+use Rattle.tsp_base.specs.Headers.{HeaderValue}
+use Rattle.tsp_audit_command.specs.Claimings.{ClaimingValue, and_then, pass_first, pass_one, passes, tallied}
+use Rattle.tsp_audit_command.specs.Stands.{Unpassed}
+use Rattle.tsp_claims.specs.ClaimedHistory.{Claim}
+use Rattle.tsp_claims.specs.Fitting.{lacks, untold}
+use Rattle.tsp_claims.specs.Stands.{claim_of}
+use Rattle.tsp_lines.specs.declared.treatment.Stop.{Stop}
+use Rattle.tsp_lines.specs.declared.treatment.Stop.TheVariants.{Bad, Limit, WriteFault, OutOfMemory}
+use Rattle.tsp_script.specs.declared.trace.Line2.{Line2}
+
+pub some-one : (a b : ClaimingValue) → Some a ≡ Some b → a ≡ b
+some-one a b p = cc
+
+pub none-some : (o : Option ClaimingValue) (a : ClaimingValue) → o ≡ None → o ≡ Some a → ⊥
+none-some o a p q = let e = sym p ∙ q in let bad : ⊥ = cc in bad
+
+-- one event is passed of those that are left
+pub passes-next : (n : ℕ) (c d : ClaimingValue) → pass_one c ≡ Some d → passes (suc n) c ≡ passes n d
+passes-next n c d p = ap (λ o. and_then o (λ x. passes n x)) p
+
+pub passes-none : (n : ℕ) (c : ClaimingValue) → pass_one c ≡ None → passes (suc n) c ≡ None
+passes-none n c p = ap (λ o. and_then o (λ x. passes n x)) p
+
+-- an event that lacks nothing is passed
+pub pass-whole : (header : HeaderValue) (passed : List Claim) (told : List Line2) (e : Event) (rest : List Event) → lacks e (tallied untold told) ≡ false →
+    pass_first header passed told (e ∷ rest) ≡ Some (record { header = header; passed = claim_of e told ∷ passed; told = []; ahead = rest })
+pass-whole header passed told e rest h = rw h refl
+
+-- where one event can't be passed, more can't
+pub Unpassed-more : (n : ℕ) (c : ClaimingValue) (all : Option ClaimingValue) (stop : Stop) → passes (suc n) c ≡ all → Unpassed (pass_one c) stop → Unpassed all stop
+Unpassed-more n c all (Bad cause) is u = (sym is ∙ passes-none n c u.0, u.1)
+Unpassed-more n c all Limit is u = u
+Unpassed-more n c all WriteFault is u = u
+Unpassed-more n c all OutOfMemory is u = u

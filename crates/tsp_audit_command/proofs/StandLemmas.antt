@@ -1,0 +1,108 @@
+-- What is held, and how far the lines have come.
+use Rattle.std.specs.Prelude.{◌≡◌, ℕ, ◌<◌, ◌≤◌, List, [], ◌∷◌, length, codes, reverse, Option, Some}
+use Rattle.std.proofs.Common.{◌∙◌, ap, subst, inl, inr, sym, refl, append-nil}
+use Rattle.tsp_audit_command.specs.declared.check.Held.{Held}
+use Rattle.tsp_audit_command.specs.declared.check.Held.TheVariants.{Schedule, Claims as ClaimsOf}
+use Rattle.tsp_audit_command.specs.declared.listing.Listing.{Listing}
+use Rattle.tsp_audit_command.specs.Claimings.{ClaimingValue, comes_to, told_more}
+use Rattle.tsp_audit_command.specs.Listings.{most_nodes, refused}
+use Rattle.tsp_audit_command.specs.Meaning.{auditing}
+use Rattle.tsp_audit_command.specs.Readings.{Claimed, Lacks, Reaches, Reading, Refuses, Scheduling, nodes_at, reading_of}
+use Rattle.tsp_audit_command.specs.Stands.{Advances, ClaimAdvances, Halts, HaltsBehind, HeldStands, ListingStands, Stands}
+use Rattle.tsp_audit_command.proofs.PassLemmas.{some-one}
+use Rattle.tsp_audit_command.proofs.Reverses.{reverse-more}
+use Rattle.tsp_audit_command.proofs.TraceLengths.{SpellsTrace-long}
+use Rattle.tsp_schedule.specs.declared.stage.Stage.{Stage}
+use Rattle.tsp_schedule.specs.Schedules.{Progress, Untitled, Titled, Drifted, Heading, Running, Ended, IsEnded}
+use Rattle.tsp_schedule.specs.Stages.{StageStands, Advances as AdvancesBy}
+use Rattle.tsp_lines.specs.declared.treatment.Stop.{Stop}
+use Rattle.tsp_lines.specs.declared.treatment.Stop.TheVariants.{Bad, Limit, WriteFault, OutOfMemory}
+use Rattle.tsp_lines.specs.Meanings.{Goes, StopsAt}
+use Rattle.tsp_lines.proofs.Outputs.{Hands-nil}
+use Rattle.tsp_script.specs.declared.trace.Line2.{Line2}
+
+-- a long line is no trace's
+pub Refuses-long : (r : Reading) (held : Held) (c : ClaimingValue) (line cause : List ℕ) → held ≡ ClaimsOf c → HeldStands r held → 1024 < length line → cause ≡ codes "line" → Refuses r line cause
+Refuses-long (Scheduling p) held c line cause is stands long cause_is = let bad : ⊥ = subst (λ h. HeldStands (Scheduling p) h) is stands in absurd bad
+Refuses-long (Claimed v) held c line cause is stands long cause_is = inl (SpellsTrace-long line long, cause_is)
+
+-- a line of the schedule that it took, and which brings no node too many
+pub Advances-scheduled : (p : Progress) (line : List ℕ) (stage : Stage Listing) (a : AdvancesBy refused ListingStands p line stage) (next : Held) → nodes_at a.to ≤ most_nodes → HeldStands (reading_of a.to) next → Advances (Scheduling p) line next
+Advances-scheduled p line stage a next few stands = record {
+  to = reading_of a.to;
+  goes = (a.to, a.goes, few, refl);
+  stands_for = stands;
+  only = λ other g. g.3 ∙ ap (λ q. reading_of q) (a.only g.0 g.1);
+}
+
+-- one that brings a node too many
+pub Halts-behind : (p : Progress) (line : List ℕ) (stage : Stage Listing) (a : AdvancesBy refused ListingStands p line stage) (stop : Stop) → HaltsBehind a.to stop → Halts (Scheduling p) line stop
+Halts-behind p line stage a (Bad cause) h = absurd h
+Halts-behind p line stage a Limit h = inr (a.to, a.goes, h)
+Halts-behind p line stage a WriteFault h = h
+Halts-behind p line stage a OutOfMemory h = h
+
+-- lines come to one place
+comes-same : (c : ClaimingValue) (l k : Line2) (here there : ClaimingValue) → k ≡ l → comes_to c l.event ≡ Some here → comes_to c k.event ≡ Some there → there ≡ here
+comes-same c l k here there same p q = some-one there here (sym q ∙ (ap (λ (x : Line2). comes_to c x.event) same ∙ p))
+
+-- a claimed line
+pub Advances-claimed : (c : ClaimingValue) (line : List ℕ) (next : ClaimingValue) → ClaimAdvances c line next → Advances (Claimed c) line (ClaimsOf next)
+Advances-claimed c line next (l, tells, (here, fits, room, is)) = record {
+  to = Claimed next;
+  goes = (l, here, tells, fits, room, ap (λ v. Claimed v) is);
+  stands_for = refl;
+  only = λ other g.
+      let same = tells.1 g.0 g.2.0 in
+      g.5 ∙ (ap (λ (k : Line2). Claimed (told_more g.1 k)) same ∙ (ap (λ v. Claimed (told_more v l)) (comes-same c l g.0 here g.1 same fits.0 g.3.0) ∙ ap (λ v. Claimed v) (sym is)));
+}
+
+pub Advances-held : (r : Reading) (held : Held) (c next : ClaimingValue) (line : List ℕ) → held ≡ ClaimsOf c → HeldStands r held → ClaimAdvances c line next → Advances r line (ClaimsOf next)
+Advances-held (Scheduling p) held c next line is stands a = let bad : ⊥ = subst (λ h. HeldStands (Scheduling p) h) is stands in absurd bad
+Advances-held (Claimed v) held c next line is stands a = let same : c ≡ v = subst (λ h. HeldStands (Claimed v) h) is stands in subst (λ x. Advances (Claimed x) line (ClaimsOf next)) same (Advances-claimed c line next a)
+
+-- an accepted line
+pub Goes-advances : (lines : List (List ℕ)) (text line : List ℕ) (r : Reading) (next : Held) (written : Option (List ℕ)) (held : List ℕ) → Reaches (reverse lines) r → text ≡ [] → ((q : Reading) → Reaches (reverse lines) q → Advances q line next) →
+    Goes auditing (Stands next) lines text line written held written held
+Goes-advances lines text line r next written held reaches text_is advances =
+    let a = advances r reaches in (
+      [],
+      Hands-nil written held,
+      (a.to, subst (λ ls. Reaches ls a.to) (sym (reverse-more lines line)) (r, reaches, a.goes), append-nil text ∙ text_is),
+      λ q goes. one q (subst (λ ls. Reaches ls q) (reverse-more lines line) goes),
+    )
+  where
+    one : (q : Reading) → Reaches (line ∷ reverse lines) q → HeldStands q next
+    one q h = let b = advances h.0 h.1 in subst (λ x. HeldStands x next) (sym (b.only q h.2)) b.stands_for
+
+-- a line that isn't accepted
+pub StopsAt-halts : (lines : List (List ℕ)) (text line : List ℕ) (r : Reading) (written : Option (List ℕ)) (held : List ℕ) (stop : Stop) → Reaches (reverse lines) r → Halts r line stop → StopsAt auditing lines text line written held written held stop
+StopsAt-halts lines text line r written held (Bad cause) reaches h = (Hands-nil written held, (r, reaches, h))
+StopsAt-halts lines text line r written held Limit reaches h = (Hands-nil written held, (r, reaches, h))
+StopsAt-halts lines text line r written held WriteFault reaches h = absurd h
+StopsAt-halts lines text line r written held OutOfMemory reaches h = ([], Hands-nil written held, inl refl)
+
+reading-open : (q p : Progress) → reading_of q ≡ Scheduling p → IsEnded p → ⊥
+reading-open Untitled p is e = let same : p ≡ Untitled = cc in subst (λ x. IsEnded x) same e
+reading-open (Titled version) p is e = let same : p ≡ Titled version = cc in subst (λ x. IsEnded x) same e
+reading-open (Drifted drift) p is e = let same : p ≡ Drifted drift = cc in subst (λ x. IsEnded x) same e
+reading-open (Heading header) p is e = let same : p ≡ Heading header = cc in subst (λ x. IsEnded x) same e
+reading-open (Running header events) p is e = let same : p ≡ Running header events = cc in subst (λ x. IsEnded x) same e
+reading-open (Ended header events) p is e = let bad : ⊥ = cc in bad
+
+-- a schedule whose last line wasn't read hasn't ended
+pub Reaches-open : (lines : List (List ℕ)) (p : Progress) → Reaches lines (Scheduling p) → IsEnded p → ⊥
+Reaches-open [] p is e = let same : p ≡ Untitled = cc in subst (λ x. IsEnded x) same e
+Reaches-open (line ∷ before) p (Scheduling q, r, g) e = reading-open g.0 p (sym g.3) e
+Reaches-open (line ∷ before) p (Claimed c, r, g) e = let is = g.5 in let bad : ⊥ = cc in bad
+
+-- the input ends within the schedule
+pub Ends-schedule : (lines : List (List ℕ)) (r : Reading) (held : Held) (stage : Stage Listing) (cause : List ℕ) → held ≡ Schedule stage → Reaches (reverse lines) r → HeldStands r held →
+    ((p : Progress) → StageStands ListingStands p stage → ¬ IsEnded p → Lacks (Scheduling p) cause) → Lacks r cause
+Ends-schedule lines (Scheduling p) held stage cause is reaches stands lacks = lacks p (subst (λ h. HeldStands (Scheduling p) h) is stands) (λ e. Reaches-open (reverse lines) p reaches e)
+Ends-schedule lines (Claimed c) held stage cause is reaches stands lacks = let bad : ⊥ = subst (λ h. HeldStands (Claimed c) h) is stands in absurd bad
+
+-- the claims that are held are those to which the lines have come
+pub held-claims : (r : Reading) (held : Held) (c : ClaimingValue) → held ≡ ClaimsOf c → HeldStands r held → r ≡ Claimed c
+held-claims (Scheduling p) held c is stands = let bad : ⊥ = subst (λ h. HeldStands (Scheduling p) h) is stands in absurd bad
+held-claims (Claimed v) held c is stands = let same : c ≡ v = subst (λ h. HeldStands (Claimed v) h) is stands in ap (λ x. Claimed x) (sym same)

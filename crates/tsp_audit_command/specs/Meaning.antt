@@ -1,0 +1,21 @@
+-- What lines mean to the audit of a claimed history.
+use Rattle.std.specs.Prelude.{◌≡◌, ℕ, List, [], reverse, All, Some}
+use Rattle.tsp_audit_command.specs.Claimings.{ClaimingValue, passes_all}
+use Rattle.tsp_audit_command.specs.Readings.{Claimed, Ends, Lacks, Limits, Reaches, Reading, Refuses}
+use Rattle.tsp_lines.specs.Lines.{NoFeed, AreLines}
+use Rattle.tsp_lines.specs.Meanings.{Meaning}
+
+-- octets are a schedule of at most 16 nodes and 20,000 events, and behind it at most 20,000 claimed lines that fit it, of which no event lacks anything
+abbrev pub IsAuditText : List ℕ → Type 0
+IsAuditText octets = (lines : List (List ℕ)) × (c : ClaimingValue) × (all : ClaimingValue) × All NoFeed lines × AreLines octets lines × Reaches (reverse lines) (Claimed c) × (passes_all c ≡ Some all)
+
+-- lines are accepted as a schedule and what is claimed of it, and have no output; the output of their end is the verdict
+abbrev pub auditing : Meaning
+auditing = record {
+  accepts = λ lines text. (r : Reading) × Reaches (reverse lines) r × (text ≡ []);
+  refuses = λ lines line cause. (r : Reading) × Reaches (reverse lines) r × Refuses r line cause;
+  limits = λ lines line. (r : Reading) × Reaches (reverse lines) r × Limits r line;
+  full = λ lines. ⊥;
+  ends = λ lines more. (r : Reading) × Reaches (reverse lines) r × Ends r more;
+  lacks = λ lines cause. (r : Reading) × Reaches (reverse lines) r × Lacks r cause;
+}

@@ -1,0 +1,209 @@
+//! The audit of a claimed history as a treatment of lines.
+ghost use Rattle.std.specs.Prelude.{◌≡◌, ◌≢◌, ◌≤◌, ◌<◌, ℕ, List, length, take, MatchResult, Err};
+ghost use Rattle.tsp_audit_command.specs.Listings.{most_nodes};
+ghost use Rattle.tsp_audit_command.specs.Readings.{Lacks, Reading, Refuses, Scheduling, nodes_at, reading_of};
+ghost use Rattle.tsp_audit_command.specs.Stands.{Advances, Concludes, Halts, HaltsBehind, HaltsConcluding, HasNodes, HeldStands, ListingStands};
+ghost use Rattle.tsp_schedule.specs.Schedules.{IsEnded, Progress};
+ghost use Rattle.tsp_schedule.specs.Stages.{RunStands, StageStands};
+ghost use Rattle.tsp_io.specs.Counts.{Rose};
+
+use crate::claiming::Claiming;
+use crate::listing::Listing;
+use crate::verdict_text::tell;
+use std::alloc::Global;
+use std::mem;
+use tsp_schedule::run::Run;
+use tsp_schedule::stage::Stage;
+use tsp_io::sink::Sink;
+use tsp_lines::cause::Cause;
+use tsp_lines::output::Output;
+use tsp_lines::treatment::{Stop, Treatment};
+
+/// How many nodes a schedule may have that is to be audited.
+const MOST_NODES: usize = 16;
+
+/// What was read of an audit's input.
+#[derive(Drop)]
+pub(crate) enum Held {
+    /// A schedule, up to some line before its last.
+    Schedule(Stage<Listing>),
+    /// A whole schedule, and claimed lines behind it.
+    Claims(Claiming),
+}
+
+/// How many nodes a schedule has so far.
+fn node_count(stage: &Stage<Listing>) -> usize
+    ensures count { (p : Progress) → StageStands ListingStands p stage.now → result ≡ nodes_at p }
+    ensures few { HasNodes stage.now result }
+{
+    match stage {
+        Stage::Untitled => 0,
+        Stage::Titled(_) => 0,
+        Stage::Drifted(_) => 0,
+        Stage::Heading(header) => header.nodes().len(),
+        Stage::Running(run) => run.course.header.nodes().len(),
+    }
+}
+
+/// What is missing of a schedule.
+fn missing(stage: &Stage<Listing>) -> Cause
+    ensures { (p : Progress) → StageStands ListingStands p stage.now → ¬ IsEnded p → Lacks (Scheduling p) result }
+{
+    match stage.lacks() {
+        Some(cause) => cause,
+        None => Cause::of(b"no-end"),
+    }
+}
+
+/// Passes the events that are left, and hands the verdict over.
+fn conclude<K: Sink>(claiming: Claiming, output: &mut Output, sink: &mut K) -> Result<(), Stop>
+    ensures ends { MatchResult result
+        (λ _. Concludes claiming (K.written sink.old) output.old (K.written sink.new) output.new)
+        (HaltsConcluding claiming (K.written sink.old) output.old (K.written sink.new) output.new) }
+    ensures later { K.faults sink.old ≤ K.faults sink.new }
+    ensures cause { result ≡ Err Stop.WriteFault → Rose (K.faults sink.old) (K.faults sink.new) × (0 < length output.new) }
+    ensures still { result ≢ Err Stop.WriteFault → K.faults sink.new ≡ K.faults sink.old }
+{
+    match claiming.pass_all() {
+        Ok(all) => match all.judge() {
+            Ok(found) => tell(found, output, sink),
+            Err(_) => Err(Stop::OutOfMemory),
+        },
+        Err(stop) => Err(stop),
+    }
+}
+
+impl Held {
+    /// No line was read. Takes no memory.
+    fn new() -> Held
+        ensures { result ≡ Held.Schedule Stage.Untitled }
+    {
+        Held::Schedule(Stage::Untitled)
+    }
+
+    /// What is held after one line more, or why the line may not follow.
+    fn next(self, alloc: Global, line: &[u8]) -> Result<Held, Stop>
+        ensures next { (r : Reading) → HeldStands r self → MatchResult result (Advances r line.now) (Halts r line.now) }
+        ensures kind { result ≢ Err Stop.WriteFault }
+    {
+        match self {
+            Held::Schedule(stage) => Self::schedule(alloc, stage, line),
+            Held::Claims(claiming) => match claiming.line(line) {
+                Ok(next) => Ok(Held::Claims(next)),
+                Err(stop) => Err(stop),
+            },
+        }
+    }
+
+    /// Reads a line of the schedule.
+    fn schedule(alloc: Global, mut stage: Stage<Listing>, line: &[u8]) -> Result<Held, Stop>
+        ensures next { (p : Progress) → StageStands ListingStands p stage → MatchResult result (Advances (Scheduling p) line.now) (Halts (Scheduling p) line.now) }
+        ensures kind { result ≢ Err Stop.WriteFault }
+    {
+        match stage.advance(alloc, line) {
+            Ok(()) => Self::behind(alloc, stage),
+            Err(stop) => Err(stop),
+        }
+    }
+
+    /// What is held behind a line that the schedule took; refused where it has a node too many.
+    fn behind(alloc: Global, stage: Stage<Listing>) -> Result<Held, Stop>
+        ensures next { (p : Progress) → StageStands ListingStands p stage → MatchResult result (λ next. (nodes_at p ≤ most_nodes) × HeldStands (reading_of p) next) (HaltsBehind p) }
+        ensures kind { result ≢ Err Stop.WriteFault }
+    {
+        if node_count(&stage) > MOST_NODES {
+            return Err(Stop::Limit);
+        }
+        match stage {
+            Stage::Running(run) => Self::behind_header(alloc, run),
+            Stage::Untitled => Ok(Held::Schedule(Stage::Untitled)),
+            Stage::Titled(version) => Ok(Held::Schedule(Stage::Titled(version))),
+            Stage::Drifted(header) => Ok(Held::Schedule(Stage::Drifted(header))),
+            Stage::Heading(header) => Ok(Held::Schedule(Stage::Heading(header))),
+        }
+    }
+
+    /// What is held behind a line behind the header: with the schedule's last one the claims begin.
+    fn behind_header(alloc: Global, run: Run<Listing>) -> Result<Held, Stop>
+        requires { length run.course.header.nodes ≤ most_nodes }
+        ensures next { (p : Progress) → RunStands ListingStands p run → MatchResult result (HeldStands (reading_of p)) (λ stop. stop ≡ Stop.OutOfMemory) }
+        ensures kind { result ≢ Err Stop.WriteFault }
+    {
+        if !run.over {
+            return Ok(Held::Schedule(Stage::Running(run)));
+        }
+        let listing = run.course;
+        match Claiming::begin(alloc, listing.header, listing.events) {
+            Ok(claiming) => Ok(Held::Claims(claiming)),
+            Err(_) => Err(Stop::OutOfMemory),
+        }
+    }
+
+    /// For what cause a line of more than 1,024 octets is refused, of which these are the first 8.
+    fn refuse_long(&self, start: &[u8]) -> Cause
+        ensures { (r : Reading) → HeldStands r self.now → (line : List ℕ) → 1024 < length line → start.now ≡ take 8 line → Refuses r line result }
+    {
+        match self {
+            Held::Schedule(stage) => stage.refuse_long(start),
+            Held::Claims(_) => Cause::of(b"line"),
+        }
+    }
+}
+
+/// Takes a schedule's lines and behind them claimed ones, and hands the verdict on these over at the end.
+#[derive(Drop)]
+pub(crate) struct Check {
+    alloc: Global,
+    held: Held,
+}
+
+impl Check {
+    /// No line was read. Takes no memory.
+    pub(crate) fn new(alloc: Global) -> Check
+        ensures { result.held ≡ Held.Schedule Stage.Untitled }
+    {
+        Check {
+            alloc,
+            held: Held::new(),
+        }
+    }
+}
+
+impl Treatment for Check {
+    ghost use Rattle.tsp_audit_command.specs.Meaning.{auditing};
+    ghost use Rattle.tsp_audit_command.specs.Stands.{Stands};
+
+    ghost meaning = { auditing };
+
+    ghost stands = { λ c lines. Stands c.held lines };
+
+    fn is_full(&self) -> bool {
+        false
+    }
+
+    fn treat<K: Sink>(
+        &mut self,
+        line: &[u8],
+        _output: &mut Output,
+        _sink: &mut K,
+    ) -> Result<(), Stop> {
+        match mem::replace(&mut self.held, Held::new()).next(self.alloc, line) {
+            Ok(next) => {
+                self.held = next;
+                Ok(())
+            }
+            Err(stop) => Err(stop),
+        }
+    }
+
+    fn refuse_long(&mut self, start: &[u8]) -> Cause {
+        self.held.refuse_long(start)
+    }
+
+    fn end<K: Sink>(&mut self, output: &mut Output, sink: &mut K) -> Result<(), Stop> {
+        match mem::replace(&mut self.held, Held::new()) {
+            Held::Schedule(stage) => Err(Stop::Bad(missing(&stage))),
+            Held::Claims(claiming) => conclude(claiming, output, sink),
+        }
+    }
+}

@@ -1,0 +1,81 @@
+//! The events of a schedule that is to be audited.
+ghost use Rattle.std.specs.Prelude.{◌≡◌, ◌≤◌, ◌∷◌, [], true, List, length, vec_len, IfOk};
+ghost use Rattle.tsp_base.specs.Headers.{is_whole};
+ghost use Rattle.tsp_audit_command.specs.Listings.{AreListed, AreListed-prop};
+ghost use Rattle.tsp_run.specs.Networks.{numbers_below};
+
+use crate::copies::copy_event;
+use std::alloc::{AllocError, Global};
+use tsp_base::event::{Event, EventFault};
+use tsp_base::header::Header;
+use tsp_base::members::Members;
+use tsp_claims::booted::{none_booted, wake};
+use tsp_schedule::course::Course;
+use tsp_networks::all_nodes;
+use tsp_networks::refusals::time_of;
+
+/// The header and the events of a schedule so far, at most 20,000, none of which is refused.
+#[derive(Drop)]
+pub(crate) struct Listing {
+    /// The nodes' clocks, names and networks.
+    pub(crate) header: Header,
+    /// The network of all nodes, which they are on where the header names none.
+    pub(crate) one: Vec<Members>,
+    /// Whether each node has booted.
+    pub(crate) up: Vec<bool>,
+    /// The events, the oldest first.
+    pub(crate) events: Vec<Event>,
+    /// The time of the last event, in microseconds; 0 before one.
+    pub(crate) last: u64,
+    ghost some: { 1 ≤ length header.nodes },
+    ghost whole: { is_whole header ≡ true },
+    ghost places: { vec_len up ≡ length header.nodes },
+    ghost one_is: { one.items ≡ numbers_below (length header.nodes) ∷ [] },
+    ghost listed: { AreListed (length header.nodes) events.items } by { AreListed-prop (length header.nodes) events.items },
+}
+
+impl Listing {
+    ghost use Rattle.tsp_audit_command.specs.Stands.{ListingStands};
+
+    /// No event has happened. Takes memory for the nodes; the refusal is want of memory, and drops the header.
+    fn new(alloc: Global, header: Header) -> Result<Listing, AllocError>
+        requires some { 1 ≤ length header.nodes }
+        requires whole { is_whole header ≡ true }
+        ensures { IfOk result (λ listing. ListingStands header [] listing) }
+    {
+        let one = all_nodes(alloc, header.nodes().len() as u32)?;
+        let up = none_booted(alloc, header.nodes().len())?;
+        Ok(Listing {
+            header,
+            one,
+            up,
+            events: Vec::new(alloc),
+            last: 0,
+        })
+    }
+}
+
+impl Course for Listing {
+    ghost use Rattle.tsp_audit_command.specs.Listings.{refused};
+    ghost use Rattle.tsp_audit_command.specs.Stands.{ListingStands};
+
+    ghost refused = { refused };
+
+    ghost stands = { ListingStands };
+
+    fn begin(alloc: Global, header: Header) -> Result<Listing, AllocError> {
+        Listing::new(alloc, header)
+    }
+
+    fn event(&mut self, e: &Event) -> Result<(), EventFault> {
+        if let Some(fault) = self.refusal(e) {
+            return Err(fault);
+        }
+        if self.events.push(copy_event(e)).is_err() {
+            return Err(EventFault::OutOfMemory);
+        }
+        wake(&mut self.up, e);
+        self.last = time_of(e);
+        Ok(())
+    }
+}

@@ -1,0 +1,58 @@
+-- A property of every line of a step, whatever it does, is one of every line after it.
+use Rattle.std.specs.Prelude.{◌≡◌, ℕ, ℤ, List, [], ◌∷◌, refl}
+use Rattle.std.proofs.Common.{inl, inr, subst, sym}
+use Rattle.tsp_base.specs.declared.act.Placed.{Placed}
+use Rattle.tsp_base.specs.declared.event.Event.{Event}
+use Rattle.tsp_base.specs.declared.event.Event.TheVariants.{Boot, Turn, Take, Bytes}
+use Rattle.tsp_base.specs.declared.place.Port.{Port}
+use Rattle.tsp_promises.specs.Everywhere.{Everywhere}
+use Rattle.tsp_base.specs.Headers.{HeaderValue}
+use Rattle.tsp_base.specs.History.{Acts, Begins, Booted, Came, Cause, Deed, Handed, Line, Step, Turned}
+use Rattle.tsp_base.specs.Joins.{first_port, joined, line_of, stepped}
+use Rattle.tsp_codec.specs.Taken.{taken_of}
+use Rattle.tsp_rules.specs.GateRows.{GotOn, NodeTurn, answers_all, boots_all}
+use Rattle.tsp_rules.specs.NodeRows.{NodeRow}
+use Rattle.tsp_run.specs.Run.{boot_step, joins, run, step_tick}
+use Rattle.tsp_cli.proofs.Happens.{acts_by, steps-are, takes-or, taking, taking_row, taking_step}
+
+-- every line of a step has a property, whatever it does and whatever was before
+abbrev pub AllLines : (Line → List Line → Type 0) → Step → ℕ → Type 0
+AllLines P step x = (port : Port) (deed : Deed) (before : List Line) → P (line_of step x port deed) before
+
+each-joined : (P : Line → List Line → Type 0) (step : Step) (x : ℕ) (acts : List Placed) (h : List Line) → AllLines P step x → Everywhere P h → Everywhere P (joined step x acts h)
+each-joined P step x [] h all e = e
+each-joined P step x (p ∷ rest) h all e = each-joined P step x rest (line_of step x p.port (Acts p.act) ∷ h) all (all p.port (Acts p.act) h, e)
+
+each-stepped : (P : Line → List Line → Type 0) (step : Step) (x : ℕ) (acts : List Placed) (h : List Line) → AllLines P step x → Everywhere P h → Everywhere P (stepped step x acts h)
+each-stepped P step x acts h all e = each-joined P step x acts (line_of step x first_port Begins ∷ h) all (all first_port Begins h, e)
+
+-- the cause of a step that an event makes
+abbrev pub IsCause : Event → Cause → Type 0
+IsCause (Boot at node word) cause = (wall : ℤ) × (cause ≡ Booted word wall)
+IsCause (Turn at node) cause = cause ≡ Turned
+IsCause (Take at k) cause = cause ≡ Came k
+IsCause (Bytes at node port from octets) cause = cause ≡ Handed
+
+module _ (P : Line → List Line → Type 0) (header : HeaderValue) (before : List Event) (e : Everywhere P (run header before)) where
+  by-row : (row : NodeRow) (step : Step) → AllLines P step (step_tick header step) → Everywhere P (stepped step (step_tick header step) (acts_by header (run header before) row step) (run header before))
+  by-row row step all = each-stepped P step (step_tick header step) (acts_by header (run header before) row step) (run header before) all e
+
+  -- a property of every line with an event's cause holds everywhere after it, if it did before
+  pub each_event : (event : Event) → ((step : Step) (x : ℕ) → IsCause event step.cause → AllLines P step x) → Everywhere P (run header (event ∷ before))
+  each_event (Boot at node word) all =
+      let step = boot_step header at node word in
+      subst (λ h. Everywhere P (stepped h.step h.tick h.acts (run header before))) (sym (steps-are header (run header before) boots_all step)) (by-row boots_all step (all step _ (_, refl)))
+  each_event (Turn at node) all =
+      let step : Step = record { at = at; node = node; cause = Turned } in
+      let row = answers_all NodeTurn in
+      subst (λ h. Everywhere P (stepped h.step h.tick h.acts (run header before))) (sym (steps-are header (run header before) row step)) (by-row row step (all step _ refl))
+  each_event (Bytes at node port from octets) all =
+      let step : Step = record { at = at; node = node; cause = Handed } in
+      let row = answers_all (GotOn port from (taken_of octets)) in
+      subst (λ h. Everywhere P (stepped h.step h.tick h.acts (run header before))) (sym (steps-are header (run header before) row step)) (by-row row step (all step _ refl))
+  each_event (Take at k) all = elim (takes-or header (run header before) at k) [
+    | inl a ↦
+        let step = taking_step at k a.to in
+        subst (λ o. Everywhere P (joins o (run header before))) (sym (taking header (run header before) at k a)) (by-row (taking_row a.post a.to) step (all step _ refl))
+    | inr nothing ↦ subst (λ o. Everywhere P (joins o (run header before))) (sym nothing.1) e
+  ]

@@ -1,0 +1,53 @@
+-- What is told of the run of a schedule, taken as a claim. The newest event is the first.
+use Rattle.std.specs.Prelude.{◌≡◌, ℕ, true, List, [], ◌∷◌, map, Option, None, Some}
+use Rattle.tsp_audit.specs.declared.verdict.Verdict.{Verdict}
+use Rattle.tsp_audit.specs.declared.verdict.Verdict.TheVariants.{Holds}
+use Rattle.tsp_audit.specs.Premised.{premises_of}
+use Rattle.tsp_audit.specs.Verdicts.{IsVerdict}
+use Rattle.tsp_base.specs.declared.event.Event.{Event}
+use Rattle.tsp_promises.specs.Everywhere.{Everywhere}
+use Rattle.tsp_base.specs.Headers.{HeaderValue, is_whole}
+use Rattle.tsp_promises.specs.Setting.{Setting}
+use Rattle.tsp_claims.specs.ClaimedHistory.{Claim, claimed}
+use Rattle.tsp_claims.specs.Fitting.{Fit}
+use Rattle.tsp_claims.specs.Stands.{claim_of}
+use Rattle.tsp_run.specs.declared.line.Line.{Line as ToldLine}
+use Rattle.tsp_run.specs.Ranges.{Accepted}
+use Rattle.tsp_run.specs.Run.{gained, run}
+use Rattle.tsp_run.specs.Setting.{SetBy}
+use Rattle.tsp_script.specs.declared.trace.Line2.{Line2}
+
+-- the number of a post, and 0 for any other act
+abbrev pub number_or_zero : Option ℕ → ℕ
+number_or_zero None = 0
+number_or_zero (Some k) = k
+
+-- a line that is told, as a line of a trace
+abbrev pub traced : ToldLine → Line2
+traced l = record { event = l.event; node = l.node; tick = l.tick; number = number_or_zero l.number; placed = l.placed }
+
+-- the lines of a trace that the run tells of the last event of a schedule
+abbrev pub last_lines : HeaderValue → List Event → List Line2
+last_lines header events = map traced (gained header events)
+
+-- each event, with what the run tells of it
+abbrev pub claims_of : HeaderValue → List Event → List Claim
+claims_of header [] = []
+claims_of header (e ∷ before) = claim_of e (last_lines header (e ∷ before)) ∷ claims_of header before
+
+-- what is told of the run of a schedule, where it is claimed, makes the run
+abbrev pub RunsAreClaimed : Type 0
+RunsAreClaimed = (header : HeaderValue) (events : List Event) → Accepted header events → claimed header (claims_of header events) ≡ run header events
+
+-- the lines that the run of a whole header's schedule tells of each event fit after those of the events before
+abbrev pub RunsFitClaims : Type 0
+RunsFitClaims = (header : HeaderValue) (events : List Event) → is_whole header ≡ true → Accepted header events → Everywhere (λ e before. Fit header (claims_of header before) e (last_lines header (e ∷ before))) events
+
+-- the verdict is that all parts hold, and no other
+pub record Holding (setting : Setting) (header : HeaderValue) (claims : List Claim) : Type 0 where
+  pub holds : IsVerdict (premises_of header claims) setting header claims Holds
+  pub only : (v : Verdict) → IsVerdict (premises_of header claims) setting header claims v → v ≡ Holds
+
+-- that is the verdict on what is told of the run of every schedule, with the premises that the schedule keeps
+abbrev pub RunsHold : Type 0
+RunsHold = (header : HeaderValue) (setting : Setting) (events : List Event) → SetBy header setting → Accepted header events → Holding setting header (claims_of header events)

@@ -1,6 +1,0 @@
--- No event's line is so long.
-use Rattle.tsp_course.proofs.LongLines.{Refuses-running}
-use Rattle.tsp_course.proofs.run.Run.refuse_long.Goals as goal
-
-pub returns : goal.returns
-returns g c = λ p s line l. rw c.of-2.ensures (Refuses-running g.C.Course.refused g.C.Course.stands p c.args.self.now line s c.if-self.false l)

@@ -1,7 +1,0 @@
--- Behind the header the run says it.
-use Rattle.std.proofs.Common.{subst}
-use Rattle.tsp_course.specs.Stages.{StageStands}
-use Rattle.tsp_course.proofs.stage.Stage.lacks.Goals as goal
-
-pub returns-in-Running : goal.returns-in-Running
-returns-in-Running g c = λ p s. c.lacks.ensures p (subst (λ t. StageStands g.C.Course.stands p t) c.in-Running.is s)

@@ -1,0 +1,57 @@
+-- From the readings of a boot to the session that follows it.
+use Rattle.std.specs.Prelude.{◌≡◌, ℕ, ℤ, true, List, Option, Some}
+use Rattle.std.proofs.Common.{ap, ◌∙◌, subst, refl}
+use Rattle.tsp_daemon.specs.declared.end.ServeEnd.{ServeEnd}
+use Rattle.tsp_daemon.specs.Ends.{IsAt, Serves}
+use Rattle.tsp_daemon.specs.Sessions.{Session, read_once}
+use Rattle.tsp_daemon.proofs.SessionLemmas.{reading_taken}
+use Rattle.tsp_gateway.specs.declared.gateway.Gateway.{Gateway}
+use Rattle.tsp_gateway.specs.GatewayStands.{GatewayStands}
+use Rattle.tsp_io.specs.Clocks.{TakesReading}
+use Rattle.tsp_io.specs.Links.{Arrival, Tried}
+use Rattle.tsp_query.specs.Clocks.{reading}
+use Rattle.tsp_query.specs.Ends.{Outside, Tells}
+use Rattle.tsp_query.specs.Told.{Told}
+use Rattle.tsp_rules.specs.Guards.{is_clock_value}
+use Rattle.tsp_args.specs.declared.serve.ServeWords.{ServeWords}
+use Rattle.tsp_daemon.specs.declared.exit.Served.{Served}
+use Rattle.tsp_daemon.specs.Nodes.{first_past}
+use Rattle.tsp_daemon.specs.Serving.{served_of, first_session, IsServed}
+
+-- what is told once the tick counter was read
+pub Tells_read : (o : Outside) (arrivals : Option (List Arrival)) (tried : Option (List Tried)) (calls : Option ℕ) (readings between now_readings : Option (List ℕ)) (last tick now_last : ℕ)
+    → TakesReading readings between last tick → now_readings ≡ between → now_last ≡ tick → Tells o arrivals tried calls readings last → Tells (read_once o) arrivals tried calls now_readings now_last × (tick ≡ (read_once o).last)
+Tells_read o arrivals tried calls readings between now_readings last tick now_last takes same is k =
+    let taken = reading_taken o.readings readings between last tick k.readings_are takes in
+    let read = taken.1 ∙ ap (λ n. reading n o.readings 0) k.last_is in (
+      record {
+        arrivals_are = k.arrivals_are;
+        tried_are = k.tried_are;
+        calls_are = k.calls_are;
+        readings_are = same ∙ taken.0;
+        last_is = is ∙ read;
+      },
+      read,
+    )
+
+-- a node that has booted at these readings serves the first session
+pub IsServed_serves : (s : ServeWords) (o : Outside) (wall wall' : ℤ) (word word' tick : ℕ) (written : List ℕ) (node : Gateway) (arrivals : Option (List Arrival)) (tried : Option (List Tried)) (calls : Option ℕ) (readings : Option (List ℕ)) (last : ℕ) (before : Option (List ℕ)) (now : Told) (end : ServeEnd) (served : Served)
+    → tick ≡ (read_once o).last → wall' ≡ wall → word' ≡ word → is_clock_value wall' ≡ true → GatewayStands (first_past s tick wall' word') node → Tells (read_once o) arrivals tried calls readings last → before ≡ Some written → served ≡ served_of end
+    → ((x : Session) → IsAt x node (record { turns = 0; posts = 0 }) arrivals tried calls readings last before → Serves s.turns x now.arrivals now.tried now.calls now.readings now.last now.written end)
+    → IsServed s o wall word written now served
+IsServed_serves s o wall wall' word word' tick written node arrivals tried calls readings last before now end served t w v within stands tells b is serves =
+    let at_wall : GatewayStands (first_past s tick wall word') node = subst (λ (x : ℤ). GatewayStands (first_past s tick x word') node) w stands in
+    let at_word : GatewayStands (first_past s tick wall word) node = subst (λ (x : ℕ). GatewayStands (first_past s tick wall x) node) v at_wall in
+    let at_tick : GatewayStands (first_past s (read_once o).last wall word) node = subst (λ (x : ℕ). GatewayStands (first_past s x wall word) node) t at_word in
+    record {
+      within = subst (λ (x : ℤ). is_clock_value x ≡ true) w within;
+      end = end;
+      served_is = is;
+      serves = serves (first_session s o wall word written) (record {
+        stands = at_tick;
+        turns_is = refl;
+        posts_is = refl;
+        tells = tells;
+        written_is = b;
+      });
+    }

@@ -1,0 +1,50 @@
+use Rattle.std.proofs.Common.{◌≡◌, ◌∙◌, ap, inl, inr, refl, subst, ℤ, ℕ, false, rules, w64, to_z, of_z}
+use Rattle.tsp_query.proofs.AskLemmas.{of_some}
+use Rattle.tsp_query.proofs.ToldLemmas.{Says_from}
+use Rattle.tsp_rules.specs.Guards.{is_clock_value}
+use Rattle.tsp_daemon.proofs.NodeLemmas.{turns_fit}
+use Rattle.tsp_daemon.proofs.ServeLemmas.{Tells_read, IsServed_serves}
+use Rattle.tsp_daemon.specs.declared.end.ServeEnd.{ServeEnd}
+use Rattle.tsp_daemon.specs.Nodes.{first_past}
+use Rattle.tsp_daemon.specs.Serving.{served_of}
+use Rattle.tsp_serving.proofs.serve.serve_bound.Goals as goal
+
+pub serve-requires-clause-lives : goal.serve-requires-clause-lives
+serve-requires-clause-lives g c =
+    let back : to_z w64 (of_z w64 c.wall-wall.result) ≡ c.wall-wall.result = search rules in
+    record { past = first_past c.args.words.now c.tick-tick.result c.wall-wall.result c.word-word.result; stands = rw back at c.in-Ok.ensures.stands }
+
+pub serve-requires-clause-few : goal.serve-requires-clause-few
+serve-requires-clause-few g c = turns_fit _ _ c.requires.serve.few c.in-Ok.ensures.room
+
+pub returns-in-Ok-clause-serves : goal.returns-in-Ok-clause-serves
+returns-in-Ok-clause-serves g c = λ o wall word written k.
+    let wall_is = of_some (λ (x : ℤ). c.wall-wall.result ≡ x) _ wall c.wall-wall.ensures.answers (c.tick-tick.ensures.same.0 ∙ k.wall_is) in
+    let word_is = of_some (λ (x : ℕ). c.word-word.result ≡ x) _ word c.word-word.ensures.answers (c.wall-wall.ensures.same.2 ∙ c.tick-tick.ensures.same.1 ∙ k.word_is) in
+    let readings = c.word-word.ensures.same.0 ∙ c.wall-wall.ensures.same.0 in
+    let last = c.word-word.ensures.same.3 ∙ c.wall-wall.ensures.same.3 ∙ c.tick-tick.ensures.last in
+    let read = Tells_read o _ _ _ _ _ _ _ _ _ c.tick-tick.ensures.takes readings last k.tells in
+    let back : to_z w64 (of_z w64 c.wall-wall.result) ≡ c.wall-wall.result = search rules in
+    inr (inr (IsServed_serves _ o wall _ word _ _ written c.in-Ok.node _ _ _ _ _ _ _ c.serve.result c.of.result read.1 (back ∙ wall_is) word_is c.in-Ok.ensures.wall c.in-Ok.ensures.stands read.0 k.written_is c.of.ensures c.serve.ensures.serves))
+
+pub returns-in-Ok-clause-still : goal.returns-in-Ok-clause-still
+returns-in-Ok-clause-still g c = (
+  (λ h. c.serve.ensures.still.0 (λ e. h (c.of.ensures ∙ ap (λ (x : ServeEnd). served_of x) e))),
+  (λ h. c.serve.ensures.still.1 (λ e. h (c.of.ensures ∙ ap (λ (x : ServeEnd). served_of x) e))),
+)
+
+pub returns-in-Err-BadWall-clause-serves : goal.returns-in-Err-BadWall-clause-serves
+returns-in-Err-BadWall-clause-serves g c = λ o wall word written k.
+    let wall_is = of_some (λ (x : ℤ). c.wall-wall.result ≡ x) _ wall c.wall-wall.ensures.answers (c.tick-tick.ensures.same.0 ∙ k.wall_is) in
+    let readings = c.word-word.ensures.same.0 ∙ c.wall-wall.ensures.same.0 in
+    let last = c.word-word.ensures.same.3 ∙ c.wall-wall.ensures.same.3 ∙ c.tick-tick.ensures.last in
+    let read = Tells_read o _ _ _ _ _ _ _ _ _ c.tick-tick.ensures.takes readings last k.tells in
+    let back : to_z w64 (of_z w64 c.wall-wall.result) ≡ c.wall-wall.result = search rules in
+    inr (inl (record {
+      out = subst (λ (x : ℤ). is_clock_value x ≡ false) (back ∙ wall_is) (c.in-Err-BadWall.ensures.cause c.in-Err-BadWall.field-0-is);
+      tells = read.0;
+      says = Says_from _ _ _ _ _ _ _ written k.written_is c.say_bad_wall.ensures.says;
+    }))
+
+pub returns-in-Err-OutOfMemory-clause-serves : goal.returns-in-Err-OutOfMemory-clause-serves
+returns-in-Err-OutOfMemory-clause-serves g c = λ o wall word written k. inl (record { cause = refl; tried_are = k.tells.tried_are; written_is = k.written_is })

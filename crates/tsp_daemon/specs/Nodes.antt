@@ -1,0 +1,65 @@
+-- The daemon's node, as its words set it up.
+use Rattle.std.specs.Prelude.{ℕ, ◌+◌, ℤ, Bool, true, false, List, [], ◌∷◌, length, map}
+use Rattle.std.specs.List.{range_with_len}
+use Rattle.tsp_base.specs.declared.place.PeerId.{PeerId}
+use Rattle.tsp_base.specs.History.{Booted}
+use Rattle.tsp_gateway.specs.GateConfigs.{GateConfigValue}
+use Rattle.tsp_io.specs.declared.addr.Addr.{Addr}
+use Rattle.tsp_rules.specs.GateRows.{boots_all}
+use Rattle.tsp_rules.specs.NodeRows.{NodePast, PortSetup, in_node_step, spread}
+use Rattle.tsp_args.specs.declared.serve.Candidacy.{Candidacy}
+use Rattle.tsp_args.specs.declared.serve.Candidacy.TheVariants.{Never, Plain, Strict}
+use Rattle.tsp_args.specs.declared.serve.ServeWords.{ServeWords}
+
+-- the peer with this number
+abbrev pub peer_of : ℕ → PeerId
+peer_of number = record { 0 = number }
+
+-- the peers of a port behind so many of earlier ports: the daemon itself, which is peer 0, and so many more
+abbrev pub port_peers : ℕ → ℕ → List PeerId
+port_peers done count = peer_of 0 ∷ map (λ number. peer_of number) (range_with_len (done + 1) count)
+
+-- how such a port is set up
+abbrev pub setup_of : ℕ → ℕ → PortSetup
+setup_of done count = record { own = peer_of 0; peers = port_peers done count }
+
+-- how ports are set up behind so many peers of earlier ones: peers are numbered from 1 over all ports, in the order of the words
+abbrev pub setups_from : ℕ → List (List Addr) → List PortSetup
+setups_from done [] = []
+setups_from done (peers ∷ ports) = setup_of done (length peers) ∷ setups_from (done + length peers) ports
+
+-- whether a node may be master
+abbrev pub may_be : Candidacy → Bool
+may_be Never = false
+may_be Plain = true
+may_be Strict = true
+
+-- whether a candidate needs more than half of the peers
+abbrev pub is_strict : Candidacy → Bool
+is_strict Never = false
+is_strict Plain = false
+is_strict Strict = true
+
+-- what the node is set up with: its name, its candidacy, and a port for each list of peers
+abbrev pub config_of : ServeWords → GateConfigValue
+config_of s = record {
+  name = s.name;
+  may = may_be s.candidacy;
+  strict = is_strict s.candidacy;
+  ports = setups_from 0 s.ports;
+}
+
+-- the past of a node that is set up so and is about to boot at this tick, with this wall clock and this word: only the step's mark stands
+abbrev pub booting : GateConfigValue → ℕ → ℤ → ℕ → NodePast
+booting c tick wall word = in_node_step (record { at = tick; node = 0; cause = Booted word wall }) tick (record {
+  name = c.name;
+  may = c.may;
+  strict = c.strict;
+  ports = c.ports;
+  step = record { at = tick; node = 0; cause = Booted word wall };
+  lines = [];
+})
+
+-- the past of the daemon's node once it has booted
+abbrev pub first_past : ServeWords → ℕ → ℤ → ℕ → NodePast
+first_past s tick wall word = spread tick (booting (config_of s) tick wall word) (boots_all tick (booting (config_of s) tick wall word))

@@ -1,0 +1,34 @@
+//! How a daemon ends.
+ghost use Rattle.std.specs.Prelude.{◌≡◌};
+ghost use Rattle.tsp_daemon.specs.Serving.{served_of};
+
+use crate::end::ServeEnd;
+
+/// How a daemon ends as a command.
+#[derive(Clone, Copy, PartialEq, Eq, Debug)]
+pub enum Served {
+    /// All turns were taken.
+    Done,
+    /// The wall clock doesn't lie strictly between -2^31 and 2^31 seconds, and a line says so.
+    BadWall,
+    /// The bind or a receive failed.
+    LinkFault,
+    /// A write failed.
+    WriteFault,
+    /// There was no memory.
+    OutOfMemory,
+}
+
+impl Served {
+    /// How a daemon ends whose session ended so.
+    pub(crate) fn of(end: ServeEnd) -> Served
+        ensures { result ≡ served_of end }
+    {
+        match end {
+            ServeEnd::Done => Served::Done,
+            ServeEnd::LinkFault => Served::LinkFault,
+            ServeEnd::WriteFault => Served::WriteFault,
+            ServeEnd::OutOfMemory => Served::OutOfMemory,
+        }
+    }
+}

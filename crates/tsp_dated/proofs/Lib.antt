@@ -1,3 +1,0 @@
-pub mod ConfirmedDate
-pub mod DateAt
-pub mod SetProof

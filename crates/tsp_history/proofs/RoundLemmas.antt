@@ -1,0 +1,127 @@
+-- How exchanges and samples are told.
+use Rattle.std.specs.Prelude.{◌≡◌, ◌==◌, ◌<◌, ℕ, ℤ, ◌-ℤ◌, int_lt, Bool, true, false, if◌then◌else◌, List, ◌∷◌, length, get_or, take, Option, None, Some}
+use Rattle.std.proofs.Common.{◌∙◌, ap, ap₂, sym, subst, refl, eq-eqb}
+use Rattle.tsp_base.specs.declared.act.Act.TheVariants.{Post, Sample}
+use Rattle.tsp_base.specs.declared.datagram.Datagram.TheVariants.{Stamp}
+use Rattle.tsp_base.specs.declared.place.PeerId.{PeerId}
+use Rattle.tsp_base.specs.declared.place.Place.TheVariants.{Peer}
+use Rattle.tsp_base.specs.declared.place.Port.{Port}
+use Rattle.tsp_base.specs.declared.stamp.Stamp.TheVariants.{Request}
+use Rattle.tsp_promises.specs.Fits.{node_of}
+use Rattle.tsp_base.specs.History.{Acts, Did, Line, Seen, Here, of, view, dids}
+use Rattle.tsp_base.specs.NodeFacts.{target}
+use Rattle.tsp_base.specs.RoundFacts.{Sampled, best, best_after, better, exchange, target_there}
+use Rattle.tsp_base.proofs.ViewPlaces.{port-same}
+use Rattle.tsp_base.proofs.Views.{plain_view}
+use Rattle.tsp_history.specs.declared.noted.Noted.{Noted}
+use Rattle.tsp_history.specs.declared.rounds.Best.{Best}
+use Rattle.tsp_history.specs.Histories.{line_of, history_of}
+use Rattle.tsp_history.specs.Rounds.{Asked, AskedAt, BestAt, Bests, better_of, LineAt, SeenAt, start_of, trip_after, trip_at}
+use Rattle.tsp_history.proofs.HistoryLemmas.{Within-noted}
+use Rattle.tsp_history.proofs.SendLemmas.{view-here}
+
+-- a line among others, by its index
+pub line-at : (ns : List Noted) (i : ℕ) (n : Noted) → i < length ns → get_or ns i n ≡ n → LineAt ns i n
+line-at ns i n below is = record { below = below; noted_is = is; within = Within-noted ns i n below is }
+
+exchange-here : (p r : PeerId) (c counter word : ℕ) (d : Did) (s : List Seen) → d.deed ≡ Acts (Post (Peer r) (Stamp (Request word counter))) → (r.0 == p.0) ≡ true → (counter == c) ≡ true → exchange p c (Here d ∷ s) ≡ (Here d ∷ s)
+exchange-here p r c counter word d s deed to same = rw (deed, to, same) refl
+
+-- an exchange is begun
+pub asked-here : (n : ℕ) (q : Port) (p r : PeerId) (c counter word : ℕ) (l : Line) (h : List Line) (t : ℤ) → node_of l ≡ n → l.port.0 ≡ q.0 → l.did.deed ≡ Acts (Post (Peer r) (Stamp (Request word counter))) →
+    r.0 ≡ p.0 → counter ≡ c → t ≡ target (dids (of n h)) l.did.tick → AskedAt (exchange p c (view q (of n (l ∷ h)))) t
+asked-here n q p r c counter word l h t node port deed to same now =
+    record {
+      request = l.did;
+      older = view q (of n h);
+      is = ap (exchange p c) (view-here n q l h node (port-same l.port q (eq-eqb l.port.0 q.0 port))) ∙ exchange-here p r c counter word l.did (view q (of n h)) deed (eq-eqb r.0 p.0 to) (eq-eqb counter c same);
+      target_is = now ∙ ap (λ ds. target ds l.did.tick) (sym (plain_view q (of n h)));
+    }
+
+-- what a sample says, at its place
+abbrev sample-at : (p : PeerId) (counter : ℕ) (diff err : ℤ) (ticket : ℕ) (d : Did) (s : List Seen) → Sampled
+sample-at p counter diff err ticket d s =
+    record { counter = counter; diff = diff; err = err; ticket = ticket; trip = target_there (Here d ∷ s) -ℤ target_there (exchange p counter s); place = Here d ∷ s }
+
+best-sample : (p : PeerId) (counter : ℕ) (diff err : ℤ) (ticket : ℕ) (d : Did) (s : List Seen) → d.deed ≡ Acts (Sample p counter diff err ticket) → best p (Here d ∷ s) ≡ Some (better (best p s) (sample-at p counter diff err ticket d s))
+best-sample p counter diff err ticket d s deed = let same : (p.0 == p.0) ≡ true = eq-eqb p.0 p.0 refl in ap (λ a. best_after p a (Here d ∷ s) s (best p s)) deed ∙ (rw same refl)
+
+-- a sample is told by this
+record TellsOf (ns : List Noted) (n : ℕ) (q : Port) (x : Sampled) (b : Best) : Type 0 where
+  diff_is : x.diff ≡ b.diff
+  err_is : x.err ≡ b.err
+  trip_is : x.trip ≡ b.trip
+  place : SeenAt ns n q x.place b.index
+
+pick : (ns : List Noted) (n : ℕ) (q : Port) (t : Bool) (x y : Sampled) (u v : Best) → TellsOf ns n q x u → TellsOf ns n q y v → TellsOf ns n q (if t then x else y) (if t then u else v)
+pick ns n q true x y u v a b = a
+pick ns n q false x y u v a b = b
+
+tells-best : (ns : List Noted) (n : ℕ) (q : Port) (o : Option Sampled) (x : Sampled) (b : Best) → o ≡ Some x → TellsOf ns n q x b → BestAt ns n q o b
+tells-best ns n q o x b is told = record { sampled = x; is = is; diff_is = told.diff_is; err_is = told.err_is; trip_is = told.trip_is; place = told.place }
+
+-- the better of what was seen and a new sample
+better-told : (ns : List Noted) (n : ℕ) (q : Port) (o : Option Sampled) (keep : Option Best) (late : Sampled) (new : Best) → Bests ns n q o keep → TellsOf ns n q late new → BestAt ns n q (Some (better o late)) (better_of keep new)
+better-told ns n q o None late new none told = tells-best ns n q (Some (better o late)) late new (ap (λ k. Some (better k late)) none) told
+better-told ns n q o (Some b) late new is told =
+    let early : TellsOf ns n q is.sampled b = record { diff_is = is.diff_is; err_is = is.err_is; trip_is = is.trip_is; place = is.place } in
+    let one : Sampled = if int_lt new.trip b.trip then late else is.sampled in
+    let same : better (Some is.sampled) late ≡ one = ap₂ (λ s t. let r : Sampled = if int_lt s t then late else is.sampled in r) told.trip_is is.trip_is in
+    tells-best ns n q (Some (better o late)) one (better_of (Some b) new) (ap (λ k. Some (better k late)) is.is ∙ ap (λ k. Some k) same) (pick ns n q (int_lt new.trip b.trip) late is.sampled new b told early)
+
+peer-same : (p r : PeerId) → p.0 ≡ r.0 → p ≡ r
+peer-same p r e = ap (λ n. let o : PeerId = record { 0 = n } in o) e
+
+-- a sample is taken
+pub best-here : (ns : List Noted) (n : ℕ) (q : Port) (p r : PeerId) (counter : ℕ) (diff err : ℤ) (ticket : ℕ) (noted : Noted) (i : ℕ) (h : List Line) (keep : Option Best) (trip : ℤ) →
+    LineAt ns i noted → h ≡ history_of (take i ns) → noted.node ≡ n → noted.port.0 ≡ q.0 → (line_of noted).did.deed ≡ Acts (Sample r counter diff err ticket) → r.0 ≡ p.0 → trip ≡ trip_at (line_of noted) h →
+    Bests ns n q (best p (view q (of n h))) keep → BestAt ns n q (best p (view q (of n (line_of noted ∷ h)))) (better_of keep (record { index = i; diff = diff; err = err; trip = trip }))
+best-here ns n q p r counter diff err ticket noted i h keep trip at past node port0 deed to trips best_is =
+    subst (λ o. BestAt ns n q o (better_of keep new)) (sym now) (better-told ns n q (best p s) keep late new best_is told)
+  where
+    l : Line
+    l = line_of noted
+
+    s : List Seen
+    s = view q (of n h)
+
+    port : noted.port ≡ q
+    port = port-same noted.port q (eq-eqb noted.port.0 q.0 port0)
+
+    own : l.did.deed ≡ Acts (Sample p counter diff err ticket)
+    own = deed ∙ ap (λ k. Acts (Sample k counter diff err ticket)) (peer-same r p to)
+
+    late : Sampled
+    late = sample-at p counter diff err ticket l.did s
+
+    new : Best
+    new = record { index = i; diff = diff; err = err; trip = trip }
+
+    now : best p (view q (of n (l ∷ h))) ≡ Some (better (best p s) late)
+    now = ap (best p) (view-here n q l h node port) ∙ best-sample p counter diff err ticket l.did s own
+
+    measured : trip_at l h ≡ late.trip
+    measured = ap (λ a. trip_after a l.did (view noted.port (of noted.node h))) own ∙ ap₂ (λ k m. trip_after (Acts (Sample p counter diff err ticket)) l.did (view k (of m h))) port node
+
+    told : TellsOf ns n q late new
+    told = record {
+      diff_is = refl;
+      err_is = refl;
+      trip_is = sym (trips ∙ measured);
+      place = record { noted = noted; at = at; node = node; port = port; is = ap (λ k. Here l.did ∷ view q (of n k)) past };
+    }
+
+start-there : (seen : List Seen) (asked : Option ℤ) → Asked seen asked → target_there seen ≡ start_of asked
+start-there seen None none = ap target_there none
+start-there seen (Some t) at = ap target_there at.is ∙ sym at.target_is
+
+-- a round trip is the time since the exchange that is open
+pub trip-told : (l : Line) (h : List Line) (p : PeerId) (counter : ℕ) (diff err : ℤ) (ticket : ℕ) (asked : Option ℤ) (now : ℤ) → l.did.deed ≡ Acts (Sample p counter diff err ticket) →
+    Asked (exchange p counter (view l.port (of (node_of l) h))) asked → now ≡ target (dids (of (node_of l) h)) l.did.tick → trip_at l h ≡ now -ℤ start_of asked
+trip-told l h p counter diff err ticket asked now deed told is =
+    ap (λ a. trip_after a l.did (view l.port (of (node_of l) h))) deed
+    ∙ ap₂ (λ a b. a -ℤ b) (ap (λ ds. target ds l.did.tick) (plain_view l.port (of (node_of l) h)) ∙ sym is) (start-there (exchange p counter (view l.port (of (node_of l) h))) asked told)
+
+-- the better of two, where what the later one says is written otherwise
+pub better-same : (keep : Option Best) (i : ℕ) (d d' e e' t t' : ℤ) → d ≡ d' → e ≡ e' → t ≡ t' → better_of keep (record { index = i; diff = d; err = e; trip = t }) ≡ better_of keep (record { index = i; diff = d'; err = e'; trip = t' })
+better-same keep i d d' e e' t t' same-d same-e same-t = rw (same-d, same-e, same-t) refl

@@ -1,0 +1,129 @@
+-- How spacing carries over a line.
+use Rattle.std.specs.Prelude.{◌≡◌, ◌<◌, ◌≤◌, ◌+◌, ◌==◌, ℕ, ℤ, Bool, true, false, List, [], ◌∷◌, MatchBool}
+use Rattle.std.proofs.Common.{◌∙◌, ap, sym, subst, arith, refl, inl, inr, eq-eqb}
+use Rattle.tsp_base.specs.declared.act.Act.{Act}
+use Rattle.tsp_base.specs.declared.act.Act.TheVariants.{Boot, Correct}
+use Rattle.tsp_base.specs.declared.constants.TheConstants.{GAP}
+use Rattle.tsp_promises.specs.Fits.{node_of}
+use Rattle.tsp_base.specs.History.{Deed, Acts, Line, of, dids}
+use Rattle.tsp_base.specs.NodeFacts.{lives, lives_after}
+use Rattle.tsp_base.specs.Places.{Within}
+use Rattle.tsp_base.proofs.PlaceLemmas.{Within-tail}
+use Rattle.tsp_history.specs.Spacing.{Spaced}
+
+-- a node's lines with one of its own
+pub of-own : (n : ℕ) (l : Line) (h : List Line) → node_of l ≡ n → of n (l ∷ h) ≡ (l ∷ of n h)
+of-own n l h e = let same : (node_of l == n) ≡ true = eq-eqb (node_of l) n e in rw same refl
+
+-- a node's lines without another's
+pub of-other : (n : ℕ) (l : Line) (h : List Line) → (node_of l == n) ≡ false → of n (l ∷ h) ≡ of n h
+of-other n l h e = rw e refl
+
+lives-own : (n : ℕ) (l : Line) (h : List Line) → node_of l ≡ n → lives (dids (of n (l ∷ h))) ≡ lives_after l.did.deed (lives (dids (of n h)))
+lives-own n l h e = ap (λ o. lives (dids o)) (of-own n l h e)
+
+after-no-fewer : (d : Deed) (k : ℕ) → k ≤ lives_after d k
+after-no-fewer d k = grind arith
+
+lives-no-fewer : (n : ℕ) (l : Line) (h : List Line) (b : Bool) → (node_of l == n) ≡ b → lives (dids (of n h)) ≤ lives (dids (of n (l ∷ h)))
+lives-no-fewer n l h true e = rw e (after-no-fewer l.did.deed (lives (dids (of n h))))
+lives-no-fewer n l h false e = rw e (omega arith)
+
+-- an earlier place has no more lives before it
+pub lives-mono : (n : ℕ) (s h : List Line) → Within s h → lives (dids (of n s)) ≤ lives (dids (of n h))
+lives-mono n s [] e = subst (λ k. lives (dids (of n k)) ≤ 0) (sym e) (omega arith)
+lives-mono n s (l ∷ h) (inl e) = subst (λ k. lives (dids (of n k)) ≤ lives (dids (of n (l ∷ h)))) (sym e) (omega arith)
+lives-mono n s (l ∷ h) (inr w) = omega (arith, lives-mono n s h w, lives-no-fewer n l h (node_of l == n) refl)
+
+-- another node's line changes nothing
+pub spaced-other : (b : Bool) (n x : ℕ) (l : Line) (h : List Line) → (node_of l == n) ≡ false → MatchBool b (Spaced n x h) (Spaced n x h → ⊥) → MatchBool b (Spaced n x (l ∷ h)) (Spaced n x (l ∷ h) → ⊥)
+spaced-other b n x l h other m = over b m where
+  same : lives (dids (of n (l ∷ h))) ≡ lives (dids (of n h))
+  same = ap (λ o. lives (dids o)) (of-other n l h other)
+
+  not-it : (k : Line) → k ≡ l → node_of k ≡ n → ⊥
+  not-it k e node = let bad : true ≡ false = sym (eq-eqb (node_of l) n (sym (ap node_of e) ∙ node)) ∙ other in grind (arith, bad)
+
+  carry : Spaced n x h → Spaced n x (l ∷ h)
+  carry f k older a s y (inl e) node deed lived = let here : k ≡ l = cc in absurd (not-it k here node)
+  carry f k older a s y (inr w) node deed lived = f k older a s y w node deed (lived ∙ same)
+
+  over : (b : Bool) → MatchBool b (Spaced n x h) (Spaced n x h → ⊥) → MatchBool b (Spaced n x (l ∷ h)) (Spaced n x (l ∷ h) → ⊥)
+  over true f = carry f
+  over false f = λ g. f (λ k older a s y w node deed lived. g k older a s y (inr w) node deed (lived ∙ sym same))
+
+-- nor does a line that neither boots nor corrects
+pub spaced-plain : (b : Bool) (n x : ℕ) (l : Line) (h : List Line) → node_of l ≡ n → ((k : ℕ) → lives_after l.did.deed k ≡ k) → ((a : ℤ) (s : Bool) (y : ℤ) → l.did.deed ≡ Acts (Correct a s y) → ⊥) →
+    MatchBool b (Spaced n x h) (Spaced n x h → ⊥) → MatchBool b (Spaced n x (l ∷ h)) (Spaced n x (l ∷ h) → ⊥)
+spaced-plain b n x l h own quiet other m = over b m where
+  same : lives (dids (of n (l ∷ h))) ≡ lives (dids (of n h))
+  same = lives-own n l h own ∙ quiet (lives (dids (of n h)))
+
+  carry : Spaced n x h → Spaced n x (l ∷ h)
+  carry f k older a s y (inl e) node deed lived = let here : k ≡ l = cc in absurd (other a s y (sym (ap (λ (m : Line). m.did.deed) here) ∙ deed))
+  carry f k older a s y (inr w) node deed lived = f k older a s y w node deed (lived ∙ same)
+
+  over : (b : Bool) → MatchBool b (Spaced n x h) (Spaced n x h → ⊥) → MatchBool b (Spaced n x (l ∷ h)) (Spaced n x (l ∷ h) → ⊥)
+  over true f = carry f
+  over false f = λ g. f (λ k older a s y w node deed lived. g k older a s y (inr w) node deed (lived ∙ sym same))
+
+-- right after a boot there is no correction of this life
+pub spaced-boot : (n x : ℕ) (l : Line) (h : List Line) → node_of l ≡ n → l.did.deed ≡ Acts Boot → Spaced n x (l ∷ h)
+spaced-boot n x l h own boot k older a s y (inl e) node deed lived =
+    let here : k ≡ l = cc in
+    let bad : Acts Boot ≡ Acts (Correct a s y) = sym boot ∙ sym (ap (λ (m : Line). m.did.deed) here) ∙ deed in
+    absurd (cc)
+spaced-boot n x l h own boot k older a s y (inr w) node deed lived =
+    let more : lives (dids (of n (l ∷ h))) ≡ lives (dids (of n h)) + 1 = lives-own n l h own ∙ ap (λ d. lives_after d (lives (dids (of n h)))) boot in
+    let few : lives (dids (of n older)) ≤ lives (dids (of n h)) = lives-mono n older h (Within-tail k older h w) in
+    absurd (omega (arith, more, few, lived))
+
+-- a correction that is far enough before
+pub spaced-far : (b : Bool) (n x : ℕ) (l : Line) (h : List Line) (a : ℤ) (s : Bool) (y : ℤ) → node_of l ≡ n → l.did.deed ≡ Acts (Correct a s y) → l.did.tick + GAP ≤ x →
+    MatchBool b (Spaced n x h) (Spaced n x h → ⊥) → MatchBool b (Spaced n x (l ∷ h)) (Spaced n x (l ∷ h) → ⊥)
+spaced-far b n x l h a s y own correct far m = over b m where
+  same : lives (dids (of n (l ∷ h))) ≡ lives (dids (of n h))
+  same = lives-own n l h own ∙ ap (λ d. lives_after d (lives (dids (of n h)))) correct
+
+  carry : Spaced n x h → Spaced n x (l ∷ h)
+  carry f k older c t z (inl e) node deed lived = let here : k ≡ l = cc in subst (λ (m : Line). m.did.tick + GAP ≤ x) (sym here) far
+  carry f k older c t z (inr w) node deed lived = f k older c t z w node deed (lived ∙ same)
+
+  over : (b : Bool) → MatchBool b (Spaced n x h) (Spaced n x h → ⊥) → MatchBool b (Spaced n x (l ∷ h)) (Spaced n x (l ∷ h) → ⊥)
+  over true f = carry f
+  over false f = λ g. f (λ k older c t z w node deed lived. g k older c t z (inr w) node deed (lived ∙ sym same))
+
+-- a correction that is too near
+pub spaced-near : (n x : ℕ) (l : Line) (h : List Line) (a : ℤ) (s : Bool) (y : ℤ) → node_of l ≡ n → l.did.deed ≡ Acts (Correct a s y) → x < l.did.tick + GAP → Spaced n x (l ∷ h) → ⊥
+spaced-near n x l h a s y own correct near f =
+    let same : lives (dids (of n (l ∷ h))) ≡ lives (dids (of n h)) = lives-own n l h own ∙ ap (λ d. lives_after d (lives (dids (of n h)))) correct in
+    let far : l.did.tick + GAP ≤ x = f l h a s y (inl refl) own correct (sym same) in
+    omega (arith, near, far)
+
+-- an act that is no boot begins no life
+pub no-boot : (a : Act) → (a ≡ Boot → ⊥) → (k : ℕ) → lives_after (Acts a) k ≡ k
+no-boot Boot other k = absurd (other refl)
+no-boot _ other k = refl
+
+-- a correction, after a history that is spaced
+pub spaced-correct : (r b : Bool) (n x : ℕ) (l : Line) (h : List Line) (a : ℤ) (s : Bool) (y : ℤ) → node_of l ≡ n → l.did.deed ≡ Acts (Correct a s y) → b ≡ true →
+    MatchBool r (l.did.tick + GAP ≤ x) (x < l.did.tick + GAP) → MatchBool b (Spaced n x h) (Spaced n x h → ⊥) → MatchBool r (Spaced n x (l ∷ h)) (Spaced n x (l ∷ h) → ⊥)
+spaced-correct true b n x l h a s y own correct e far m = spaced-far true n x l h a s y own correct far (subst (λ c. MatchBool c (Spaced n x h) (Spaced n x h → ⊥)) e m)
+spaced-correct false b n x l h a s y own correct e near m = spaced-near n x l h a s y own correct near
+
+-- a correction, after a history that isn't spaced
+pub spaced-not : (b : Bool) (n x : ℕ) (l : Line) (h : List Line) (a : ℤ) (s : Bool) (y : ℤ) → node_of l ≡ n → l.did.deed ≡ Acts (Correct a s y) → b ≡ false →
+    MatchBool b (Spaced n x h) (Spaced n x h → ⊥) → MatchBool b (Spaced n x (l ∷ h)) (Spaced n x (l ∷ h) → ⊥)
+spaced-not b n x l h a s y own correct e m = subst (λ c. MatchBool c (Spaced n x (l ∷ h)) (Spaced n x (l ∷ h) → ⊥)) (sym e) bad where
+  same : lives (dids (of n (l ∷ h))) ≡ lives (dids (of n h))
+  same = lives-own n l h own ∙ ap (λ d. lives_after d (lives (dids (of n h)))) correct
+
+  before : Spaced n x h → ⊥
+  before = subst (λ c. MatchBool c (Spaced n x h) (Spaced n x h → ⊥)) e m
+
+  bad : Spaced n x (l ∷ h) → ⊥
+  bad g = before (λ k older c t z w node deed lived. g k older c t z (inr w) node deed (lived ∙ sym same))
+
+-- an act is the one that a deed is
+pub acts-is : (a c : Act) → Acts a ≡ Acts c → a ≡ c
+acts-is a c e = cc

@@ -1,0 +1,12 @@
+-- How far Backs of one port for different candidates lie apart.
+use Rattle.std.specs.Prelude.{◌≡◌, ◌≤◌, ◌⊎◌, ℕ, ◌+◌}
+use Rattle.tsp_base.specs.declared.act.Act.TheVariants.{Back}
+use Rattle.tsp_base.specs.declared.constants.TheConstants.{HOLD}
+use Rattle.tsp_base.specs.declared.place.PeerId.{PeerId}
+use Rattle.tsp_base.specs.declared.place.Port.{Port}
+use Rattle.tsp_promises.specs.Fits.{node_of}
+use Rattle.tsp_base.specs.History.{Acts, Line}
+
+-- an earlier line is no Back of this port for another candidate, or stands HOLD ticks before
+abbrev pub Apart : ℕ → Port → ℕ → PeerId → Line → Type 0
+Apart n q x p other = (c : PeerId) → node_of other ≡ n → other.port ≡ q → other.did.deed ≡ Acts (Back c) → (c ≡ p) ⊎ (other.did.tick + HOLD ≤ x)

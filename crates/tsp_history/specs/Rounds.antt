@@ -1,0 +1,76 @@
+-- The exchanges and the samples of a port's round, among noted lines.
+use Rattle.std.specs.Prelude.{◌≡◌, ◌<◌, ℕ, ℤ, pos, ◌-ℤ◌, int_lt, if◌then◌else◌, List, [], ◌∷◌, length, get_or, take, Option, None, Some}
+use Rattle.tsp_base.specs.declared.act.Act.TheVariants.{Sample}
+use Rattle.tsp_base.specs.declared.place.Port.{Port}
+use Rattle.tsp_promises.specs.Fits.{node_of}
+use Rattle.tsp_base.specs.History.{Deed, Acts, Did, Line, Seen, Here, of, plain, view}
+use Rattle.tsp_base.specs.NodeFacts.{target}
+use Rattle.tsp_base.specs.Places.{Within}
+use Rattle.tsp_base.specs.RoundFacts.{Sampled, exchange, target_there}
+use Rattle.tsp_history.specs.declared.noted.Noted.{Noted}
+use Rattle.tsp_history.specs.declared.rounds.Best.{Best}
+use Rattle.tsp_history.specs.Histories.{line_of, history_of}
+
+-- an exchange that is open, by the clock's target at its request
+pub record AskedAt (seen : List Seen) (t : ℤ) : Type 0 where
+  pub request : Did
+  pub older : List Seen
+  pub is : seen ≡ Here request ∷ older
+  pub target_is : t ≡ target (plain older) request.tick
+
+-- the target at the request tells an exchange; none tells that there is none
+abbrev pub Asked : List Seen → Option ℤ → Type 0
+Asked seen None = seen ≡ []
+Asked seen (Some t) = AskedAt seen t
+
+-- the target at the request; 0 where no exchange is open
+abbrev pub start_of : Option ℤ → ℤ
+start_of None = pos 0
+start_of (Some t) = t
+
+-- the clock's time from a request of this peer and counter to the deed that is done after these
+abbrev pub trip_after : Deed → Did → List Seen → ℤ
+trip_after (Acts (Sample p counter diff err ticket)) here before = target_there (Here here ∷ before) -ℤ target_there (exchange p counter before)
+trip_after _ here before = pos 0
+
+-- the round trip of the Sample at a line; 0 at another line
+abbrev pub trip_at : Line → List Line → ℤ
+trip_at l h = trip_after l.did.deed l.did (view l.port (of (node_of l) h))
+
+-- the line at index i, of these lines, is this one
+pub record LineAt (ns : List Noted) (i : ℕ) (noted : Noted) : Type 0 where
+  pub below : i < length ns
+  pub noted_is : get_or ns i noted ≡ noted
+  pub within : Within (line_of noted ∷ history_of (take i ns)) (history_of ns)
+
+-- a place of what port q of node n sees is that of the line at index i
+pub record SeenAt (ns : List Noted) (n : ℕ) (q : Port) (seen : List Seen) (i : ℕ) : Type 0 where
+  pub noted : Noted
+  pub at : LineAt ns i noted
+  pub node : noted.node ≡ n
+  pub port : noted.port ≡ q
+  pub is : seen ≡ Here (line_of noted).did ∷ view q (of n (history_of (take i ns)))
+
+-- the index of its line tells a place; none tells the empty one
+abbrev pub SeenBy : List Noted → ℕ → Port → List Seen → Option ℕ → Type 0
+SeenBy ns n q seen None = seen ≡ []
+SeenBy ns n q seen (Some i) = SeenAt ns n q seen i
+
+-- the best sample of a peer, by the index of its line and what it says
+pub record BestAt (ns : List Noted) (n : ℕ) (q : Port) (sample : Option Sampled) (b : Best) : Type 0 where
+  pub sampled : Sampled
+  pub is : sample ≡ Some sampled
+  pub diff_is : sampled.diff ≡ b.diff
+  pub err_is : sampled.err ≡ b.err
+  pub trip_is : sampled.trip ≡ b.trip
+  pub place : SeenAt ns n q sampled.place b.index
+
+-- of two samples the one of the less round trip, and the earlier where they are equal
+abbrev pub better_of : Option Best → Best → Best
+better_of None late = late
+better_of (Some early) late = if int_lt late.trip early.trip then late else early
+
+-- the best sample, if there is one
+abbrev pub Bests : List Noted → ℕ → Port → Option Sampled → Option Best → Type 0
+Bests ns n q sample None = sample ≡ None
+Bests ns n q sample (Some b) = BestAt ns n q sample b

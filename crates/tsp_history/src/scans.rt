@@ -1,0 +1,64 @@
+//! Facts of noted lines, by one scan each.
+ghost use Rattle.std.specs.Prelude.{◌≡◌, ℕ, List, ◌∷◌, MatchBool};
+ghost use Rattle.tsp_base.specs.History.{Line, of, view};
+ghost use Rattle.tsp_base.specs.PortFacts.{role};
+ghost use Rattle.tsp_promises.specs.Everywhere.{Everywhere};
+ghost use Rattle.tsp_history.specs.Histories.{line_of, history_of};
+ghost use Rattle.tsp_history.specs.Holding.{Apart};
+
+use crate::noted::Noted;
+use crate::ticks::is_far;
+use tsp_base::act::Act;
+use tsp_base::constants::HOLD;
+use tsp_base::place::{PeerId, Port};
+use tsp_base::role::Role;
+
+/// The role of a node's port after a line, where it was `keep` before.
+fn role_after(line: &Noted, node: u32, port: Port, keep: Role) -> Role
+    ensures { (before : List Line) → keep ≡ role (view port (of node before)) → result ≡ role (view port (of node (line_of line.now ∷ before))) }
+{
+    if line.node != node {
+        return keep;
+    }
+    match &line.act {
+        Some(Act::Boot) => Role::Starting,
+        Some(Act::Become(role)) => { if line.port.0 == port.0 { *role } else { keep } }
+        _ => keep,
+    }
+}
+
+/// The role of a node's port.
+pub fn role_at(lines: &[Noted], node: u32, port: Port) -> Role
+    ensures { result ≡ role (view port (of node (history_of lines.now))) }
+{
+    let mut role = Role::Starting;
+    for line in lines {
+        role = role_after(line, node, port, role);
+    }
+    role
+}
+
+/// Whether a line is no Back for another candidate that is too near.
+fn is_apart(line: &Noted, node: u32, port: Port, tick: u64, p: PeerId) -> bool
+    ensures { MatchBool result (Apart node port tick p (line_of line.now)) (Apart node port tick p (line_of line.now) → ⊥) }
+{
+    if line.node != node || line.port != port {
+        return true;
+    }
+    match &line.act {
+        Some(Act::Back(q)) => *q == p || is_far(line.tick, HOLD, tick),
+        _ => true,
+    }
+}
+
+/// Whether a Back of p at this tick keeps the hold.
+pub fn is_held(lines: &[Noted], node: u32, port: Port, tick: u64, p: PeerId) -> bool
+    ensures { MatchBool result (Everywhere (λ other older. Apart node port tick p other) (history_of lines.now)) (Everywhere (λ other older. Apart node port tick p other) (history_of lines.now) → ⊥) }
+{
+    for line in lines {
+        if !is_apart(line, node, port, tick, p) {
+            return false;
+        }
+    }
+    true
+}

@@ -1,0 +1,47 @@
+-- What an exchange says of another clock.
+use Rattle.std.specs.Prelude.{ℕ, ℤ, pos, List, ◌++◌, Bool, not, ◌&&◌, ◌==◌, nat_lt, if◌then◌else◌, Option, None, Some, codes, unsigned_abs}
+use Rattle.std.specs.Fmt.{signed_decimal}
+use Rattle.tsp_icmp.specs.Days.{trip_of, difference_of, IsAtMost}
+use Rattle.tsp_icmp.specs.declared.timestamp.Timestamp.{Timestamp}
+use Rattle.tsp_script.specs.Texts.{space}
+use Rattle.tsp_icmp_command.specs.declared.exchange.Exchange.{Exchange}
+use Rattle.tsp_icmp_command.specs.declared.finding.Finding.{Finding}
+use Rattle.tsp_icmp_command.specs.declared.finding.Finding.TheVariants.{Unlike, NoTime, Late, Apart}
+
+-- the reply repeats what the request has
+abbrev pub is_answer : Timestamp → Timestamp → Bool
+is_answer request reply = (request.ident == reply.ident && request.seq == reply.seq) && request.originate == reply.originate
+
+-- milliseconds since midnight
+abbrev pub is_time : ℕ → Bool
+is_time stamp = nat_lt stamp 86400000
+
+-- a difference, with the round trip that it took
+abbrev pub apart_or_late : Option (ℤ × ℤ) → ℕ → Finding
+apart_or_late None trip = Late
+apart_or_late (Some x) trip = Apart (record { diff = x.0; err = x.1; trip = trip })
+
+-- what an exchange comes to
+abbrev pub finding_of : Exchange → Finding
+finding_of e =
+    if not (is_answer e.request e.reply) then Unlike
+    else (if not (is_time e.request.originate && is_time e.reply.receive) then NoTime
+    else apart_or_late (difference_of e.request.originate e.reply.receive e.arrival) (unsigned_abs (trip_of e.request.originate e.arrival)))
+
+-- a difference is of at most three quarters of a day either way
+abbrev pub IsNear : Finding → Type 0
+IsNear (Apart a) = IsAtMost (pos 64800000) a.diff
+IsNear Unlike = Unit {0}
+IsNear NoTime = Unit {0}
+IsNear Late = Unit {0}
+
+-- the words of a finding
+abbrev pub finding_text : Finding → List ℕ
+finding_text Unlike = codes "unlike"
+finding_text NoTime = codes "no-time"
+finding_text Late = codes "late"
+finding_text (Apart a) = signed_decimal a.diff ++ space ++ signed_decimal a.err
+
+-- the line of a finding
+abbrev pub line_of : List ℕ → Finding → List ℕ
+line_of name finding = name ++ space ++ finding_text finding

@@ -1,0 +1,32 @@
+-- What lines of exchanges come to.
+use Rattle.std.specs.Prelude.{◌≡◌, ℕ, ◌≤◌, ◌-◌, List, length, map}
+use Rattle.std.specs.List.{All, AllZip}
+use Rattle.tsp_lines.specs.Lines.{NoFeed, closed, AreLines}
+use Rattle.tsp_lines.specs.Meanings.{Meaning}
+use Rattle.tsp_icmp_command.specs.Records.{IsExchange, RefusesRecord}
+use Rattle.tsp_icmp_command.specs.Findings.{finding_of, line_of}
+use Rattle.tsp_icmp_command.specs.Bests.{TallyValue, bests, differences, summary}
+use Rattle.tsp_icmp_command.specs.declared.exchange.Exchange.{Exchange}
+
+-- the line of what an exchange comes to
+abbrev pub exchange_line : Exchange → List ℕ
+exchange_line e = line_of e.name (finding_of e)
+
+-- the tally is where these lines have brought it
+abbrev pub Stands : TallyValue → List (List ℕ) → Type 0
+Stands t lines = (exchanges : List Exchange) × AllZip IsExchange lines exchanges × (t.bests ≡ bests (differences exchanges)) × (t.left ≡ 1000 - length lines)
+
+-- what lines mean: each is an exchange, of which there are at most 1,000, and gives a line; the end gives the group and its corrections
+abbrev pub averaging : Meaning
+averaging = record {
+  accepts = λ lines text. (exchanges : List Exchange) × AllZip IsExchange lines exchanges × (length lines ≤ 1000) × (text ≡ closed (map exchange_line exchanges));
+  refuses = λ lines line cause. RefusesRecord line cause;
+  limits = λ lines line. ⊥;
+  full = λ lines. 1000 ≤ length lines;
+  ends = λ lines more. (exchanges : List Exchange) × AllZip IsExchange lines exchanges × (more ≡ summary (bests (differences exchanges)));
+  lacks = λ lines cause. ⊥;
+}
+
+-- octets are at most 1,000 lines of exchanges, an exchange a line
+abbrev pub AreExchangeLines : List ℕ → Type 0
+AreExchangeLines octets = (lines : List (List ℕ)) × (exchanges : List Exchange) × All NoFeed lines × AreLines octets lines × AllZip IsExchange lines exchanges × (length lines ≤ 1000)

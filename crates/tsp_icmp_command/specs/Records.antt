@@ -1,0 +1,53 @@
+-- The lines of exchanges, and why a line is none.
+use Rattle.std.specs.Prelude.{◌≡◌, ℕ, ◌<◌, ◌≤◌, ◌⊎◌, List, ◌∷◌, ◌++◌, length, Bool, true, false, if◌then◌else◌, decimal, codes}
+use Rattle.std.specs.declared.result.Result.{Result}
+use Rattle.std.specs.declared.result.Result.TheVariants.{Ok, Err}
+use Rattle.hex.specs.Hex.{decode_of}
+use Rattle.tsp_icmp.specs.Spelling.{icmp_octets, IsTimestamp, IsFault}
+use Rattle.tsp_icmp.specs.declared.timestamp.Timestamp.{Timestamp}
+use Rattle.tsp_icmp.specs.declared.timestamp.IcmpFault.{IcmpFault}
+use Rattle.tsp_icmp.specs.declared.timestamp.IcmpFault.TheVariants.{Length, Kind, Code, Checksum}
+use Rattle.tsp_script.specs.Schedules.{IsHost}
+use Rattle.tsp_icmp_command.specs.declared.record.Record.{Record}
+use Rattle.tsp_icmp_command.specs.declared.exchange.Exchange.{Exchange}
+
+-- what octets are: a Timestamp message, or none for this first fault
+abbrev pub Says : List ℕ → Result Timestamp IcmpFault → Type 0
+Says octets (Ok t) = IsTimestamp t × (octets ≡ icmp_octets t)
+Says octets (Err fault) = IsFault octets fault
+
+-- a word is octets in hexadecimal, at least one, in either case of the letters, which are this
+abbrev pub SaysInHex : List ℕ → Result Timestamp IcmpFault → Type 0
+SaysInHex word message = (octets : List ℕ) × (0 < length octets) × (decode_of word ≡ Ok octets) × Says octets message
+
+-- a line's four words: a name, two words of hexadecimal, and a time of the day in milliseconds
+pub record IsRecord (line : List ℕ) (r : Record) : Type 0 where
+  pub short : length line ≤ 1024
+  pub name : IsHost r.name
+  pub arrival : r.arrival < 86400000
+  pub words : (request : List ℕ) × (reply : List ℕ) × SaysInHex request r.request × SaysInHex reply r.reply × (line ≡ r.name ++ 32 ∷ (request ++ 32 ∷ (reply ++ 32 ∷ decimal r.arrival)))
+
+-- the message, if it goes in this direction; another one is refused for its kind
+abbrev pub expected : Bool → Result Timestamp IcmpFault → Result Timestamp IcmpFault
+expected true (Ok t) = if t.reply then Ok t else Err Kind
+expected false (Ok t) = if t.reply then Err Kind else Ok t
+expected reply (Err fault) = Err fault
+
+-- the line is this exchange: its request, its reply, and when that came
+pub record IsExchange (line : List ℕ) (e : Exchange) : Type 0 where
+  pub messages : (request : Result Timestamp IcmpFault) × (reply : Result Timestamp IcmpFault) × IsRecord line (record { name = e.name; request = request; reply = reply; arrival = e.arrival })
+      × (expected false request ≡ Ok e.request) × (expected true reply ≡ Ok e.reply)
+
+-- the word of a fault
+abbrev pub fault_word : IcmpFault → List ℕ
+fault_word Length = codes "length"
+fault_word Kind = codes "kind"
+fault_word Code = codes "code"
+fault_word Checksum = codes "checksum"
+
+-- the line isn't four such words; else its request is refused; else its reply
+abbrev pub RefusesRecord : List ℕ → List ℕ → Type 0
+RefusesRecord line cause =
+    (((r : Record) → IsRecord line r → ⊥) × (cause ≡ codes "record"))
+    ⊎ (((r : Record) × (fault : IcmpFault) × IsRecord line r × (expected false r.request ≡ Err fault) × (cause ≡ codes "request " ++ fault_word fault))
+    ⊎ ((r : Record) × (t : Timestamp) × (fault : IcmpFault) × IsRecord line r × (expected false r.request ≡ Ok t) × (expected true r.reply ≡ Err fault) × (cause ≡ codes "reply " ++ fault_word fault)))

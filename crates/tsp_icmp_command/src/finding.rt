@@ -1,0 +1,85 @@
+//! What an exchange says of another clock.
+ghost use Rattle.std.specs.Prelude.{◌≡◌, ◌≤◌, ◌<◌, ◌+◌, ◌++◌};
+ghost use Rattle.arrayvec.specs.ArrayVec.{array_vec_len};
+ghost use Rattle.tsp_lines.specs.Lines.{close};
+ghost use Rattle.tsp_icmp_command.specs.Findings.{is_answer, finding_of, IsNear, finding_text, line_of};
+
+use crate::apart::Apart;
+use crate::exchange::Exchange;
+use arrayvec::ArrayVec;
+use tsp_base::name::Name;
+use tsp_icmp::{Timestamp, difference, standard, trip};
+use tsp_script::numbers::{append, append_next_signed, append_signed};
+
+/// What an exchange comes to.
+#[derive(Clone, Copy, PartialEq, Eq, Debug)]
+pub enum Finding {
+    /// The reply isn't that of the request.
+    Unlike,
+    /// The sender's or the replier's stamp is no time.
+    NoTime,
+    /// The reply came half a day or more after the request.
+    Late,
+    /// A difference.
+    Apart(Apart),
+}
+
+/// Whether the reply repeats what the request has.
+fn is_answer(request: &Timestamp, reply: &Timestamp) -> bool
+    ensures { result ≡ is_answer request.now reply.now }
+{
+    request.ident == reply.ident && request.seq == reply.seq && request.originate == reply.originate
+}
+
+/// What an exchange comes to.
+pub(crate) fn finding_of(exchange: &Exchange) -> Finding
+    requires { exchange.now.arrival < 86400000 }
+    ensures value { result ≡ finding_of exchange.now }
+    ensures near { IsNear result }
+{
+    let (originate, receive) = (exchange.request.originate, exchange.reply.receive);
+    if !is_answer(&exchange.request, &exchange.reply) {
+        return Finding::Unlike;
+    }
+    if !standard(originate) || !standard(receive) {
+        return Finding::NoTime;
+    }
+    match difference(originate, receive, exchange.arrival) {
+        Some((diff, err)) => Finding::Apart(Apart {
+            diff,
+            err,
+            trip: trip(originate, exchange.arrival),
+        }),
+        None => Finding::Late,
+    }
+}
+
+/// Writes the words of a finding, in at most 41 octets.
+fn append_finding(out: &mut ArrayVec<u8, 1024>, finding: &Finding)
+    requires { array_vec_len out.old + 41 ≤ 1024 }
+    ensures text { out.new.items ≡ out.old.items ++ finding_text finding.now }
+    ensures short { array_vec_len out.new ≤ array_vec_len out.old + 41 }
+{
+    match finding {
+        Finding::Unlike => append(out, b"unlike"),
+        Finding::NoTime => append(out, b"no-time"),
+        Finding::Late => append(out, b"late"),
+        Finding::Apart(apart) => {
+            append_signed(out, apart.diff);
+            append_next_signed(out, apart.err);
+        }
+    }
+}
+
+/// The line of a finding, with its line feed.
+pub(crate) fn finding_line(name: &Name, finding: &Finding) -> ArrayVec<u8, 1024>
+    ensures text { result.items ≡ close (line_of name.now finding.now) }
+    ensures short { array_vec_len result ≤ 1024 }
+{
+    let mut text = ArrayVec::new();
+    append(&mut text, name.octets());
+    append(&mut text, b" ");
+    append_finding(&mut text, finding);
+    append(&mut text, b"\n");
+    text
+}

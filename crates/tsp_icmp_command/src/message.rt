@@ -1,0 +1,51 @@
+//! A Timestamp message in hexadecimal.
+ghost use Rattle.std.specs.Prelude.{◌≡◌, ◌≤◌, length, MatchOption};
+ghost use Rattle.std.specs.declared.result.Result.{Result};
+ghost use Rattle.tsp_icmp.specs.declared.timestamp.Timestamp.{Timestamp};
+ghost use Rattle.tsp_icmp.specs.declared.timestamp.IcmpFault.{IcmpFault};
+ghost use Rattle.tsp_icmp_command.specs.Records.{SaysInHex, expected, fault_word};
+
+use tsp_icmp::{IcmpFault, Timestamp, icmp_decode};
+use tsp_script::numbers::octets_of;
+
+/// What the octets are that a word has in hexadecimal, in either case of the letters: a message, or
+/// none for a fault. None where the word isn't pairs of hexadecimal digits, at least one.
+pub(crate) fn message_in(word: &[u8]) -> Option<Result<Timestamp, IcmpFault>>
+    requires { length word.now ≤ 1024 }
+    ensures { MatchOption result ((message : Result Timestamp IcmpFault) → SaysInHex word.now message → ⊥) (λ message. SaysInHex word.now message) }
+{
+    let octets = octets_of(word)?;
+    if octets.is_empty() {
+        return None;
+    }
+    Some(icmp_decode(octets.as_slice()))
+}
+
+/// The message, if it is a reply or a request as is asked for. One that goes the other way is refused
+/// for its kind.
+pub(crate) fn expected(
+    message: Result<Timestamp, IcmpFault>,
+    reply: bool,
+) -> Result<Timestamp, IcmpFault>
+    ensures { result ≡ expected reply message }
+{
+    let t = message?;
+    if t.reply == reply {
+        Ok(t)
+    } else {
+        Err(IcmpFault::Kind)
+    }
+}
+
+/// The word of a fault.
+pub(crate) fn fault_word(fault: IcmpFault) -> &'static [u8]
+    ensures word { result.now ≡ fault_word fault }
+    ensures short { length result.now ≤ 8 }
+{
+    match fault {
+        IcmpFault::Length => b"length",
+        IcmpFault::Kind => b"kind",
+        IcmpFault::Code => b"code",
+        IcmpFault::Checksum => b"checksum",
+    }
+}

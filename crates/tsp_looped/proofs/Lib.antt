@@ -1,2 +1,0 @@
-pub mod ChainProof
-pub mod HeardPosts

@@ -1,0 +1,138 @@
+-- The alarms of a port that is Loose or follows, and Resolve, keep what is known of it.
+use Rattle.std.specs.Prelude.{◌≡◌, ◌≤◌, ℕ, ◌+◌, Bool, true, false, refl}
+use Rattle.std.proofs.Common.{sym, subst, inl, inr, arith, ◌∙◌, true≢false}
+use Rattle.tsp_base.specs.declared.act.Act.TheVariants.{Become, Ring, Late}
+use Rattle.tsp_base.specs.declared.alarm.Alarm.{Alarm}
+use Rattle.tsp_base.specs.declared.alarm.Alarm.TheVariants.{Quiet, Search, Elect, Resolve}
+use Rattle.tsp_base.specs.declared.constants.TheConstants.{QUIET}
+use Rattle.tsp_base.specs.declared.kind.Kind.TheVariants.{Quit}
+use Rattle.tsp_base.specs.declared.role.Role.{Role}
+use Rattle.tsp_base.specs.declared.role.Role.TheVariants.{Starting, Loose, Master}
+use Rattle.tsp_base.specs.History.{Past, plain}
+use Rattle.tsp_base.specs.Hold.{may_stand}
+use Rattle.tsp_base.specs.Leads.{Leads}
+use Rattle.tsp_base.specs.NodeFacts.{boot_tick}
+use Rattle.tsp_base.specs.PortFacts.{role, held, armed}
+use Rattle.tsp_base.specs.Rows.{nothing, puts, ◌followed_by◌, either_by, for_each}
+use Rattle.tsp_base.proofs.LeadsLemmas.{Leads_then, Leads_either, Leads_reading, Leads_nothing, Leads_puts, Leads_each, Leads_from, Leads_to}
+use Rattle.tsp_rules.specs.Answers.{alarm_rings, rings}
+use Rattle.tsp_rules.specs.CommonRows.{arms_elect, searches, candidature_row}
+use Rattle.tsp_rules.specs.ResolveRows.{quits_rivals, resolve_rings}
+use Rattle.tsp_rules.specs.SendRows.{begins}
+use Rattle.tsp_rules.specs.SlaveRows.{quiet_rings, rings_or_late, search_rings, loosens, elect_rings}
+use Rattle.tsp_rules.specs.Guards.{is_due, is_in_time, is_follow, may_stand_at, follows_at, rivals_at}
+use Rattle.tsp_promises.proofs.Known.{Free, Open, Untaken}
+use Rattle.tsp_promises.proofs.Leaves.{none-some}
+use Rattle.tsp_promises.proofs.Rings.{open_of, rested_of, ring_search, late_search, ring_elect, late_elect, ring_resolve, late_resolve, ring_quiet}
+use Rattle.tsp_promises.proofs.Changes.{become_loose}
+use Rattle.tsp_rules.proofs.GuardFacts.{due_is, stand_is, and-cases}
+use Rattle.tsp_promises.proofs.CommonLeads.{arms_elect_during, searches_during, begins_quit, candidature_leads}
+use Rattle.tsp_promises.proofs.TakenLeads.{master_awake}
+
+-- a port whose alarm is due
+abbrev pub Due : Alarm → ℕ → Past → Type 0
+Due alarm x past = Open x past × (is_due alarm x past ≡ true)
+
+-- an alarm's turn
+pub rings_lead : {P Q : ℕ → Past → Type 0} (own wait : Bool) (alarm : Alarm) → Leads (λ x past. P x past × (is_due alarm x past ≡ true)) (alarm_rings own wait alarm) Q → ((x : ℕ) (past : Past) → P x past → is_due alarm x past ≡ false → Q x past) → Leads P (rings own wait alarm) Q
+unfolding rings
+rings_lead own wait alarm k idle = Leads_either (is_due alarm) (alarm_rings own wait alarm) nothing k (Leads_from (λ x past h. idle x past h.0 h.1) Leads_nothing)
+
+pub to_open : (x : ℕ) (past : Past) → Free Untaken x past → Open x past
+to_open x past h = open_of h
+
+pub stays : (alarm : Alarm) (x : ℕ) (past : Past) → Open x past → is_due alarm x past ≡ false → Open x past
+stays alarm x past h e = h
+
+-- a port that was silent for the quiet time
+record Quieted (x : ℕ) (past : Past) : Type 0 where
+  pub free : Free Untaken x past
+  pub starts : role past.seen ≡ Starting
+
+-- the quiet time is over for a port whose alarm is due, unless that is Quiet
+search_rested : (x : ℕ) (past : Past) → Due Search x past → boot_tick (plain past.seen) + QUIET ≤ x
+search_rested x past h =
+    let due = due_is (armed past.seen).search x h.1 in
+    elim h.0.knows.quiet.rested [
+      | inl z ↦ none-some due.at (sym z.unsearched ∙ due.is)
+      | inr r ↦ r
+    ]
+
+elect_rested : (x : ℕ) (past : Past) → Due Elect x past → boot_tick (plain past.seen) + QUIET ≤ x
+elect_rested x past h =
+    let due = due_is (armed past.seen).elect x h.1 in
+    elim h.0.knows.quiet.rested [
+      | inl z ↦ none-some due.at (sym z.unelected ∙ due.is)
+      | inr r ↦ r
+    ]
+
+resolve_rested : (x : ℕ) (past : Past) → Due Resolve x past → boot_tick (plain past.seen) + QUIET ≤ x
+resolve_rested x past h =
+    let due = due_is (armed past.seen).resolve x h.1 in
+    elim h.0.knows.quiet.rested [
+      | inl z ↦ none-some due.at (sym z.unresolved ∙ due.is)
+      | inr r ↦ r
+    ]
+
+-- a master's quiet time is over
+pub master_rested : (x : ℕ) (past : Past) → Open x past → role past.seen ≡ Master → boot_tick (plain past.seen) + QUIET ≤ x
+master_rested x past h e = rested_of x (boot_tick (plain past.seen)) h.knows.quiet.rested (master_awake (role past.seen) e)
+
+pub quiet_leads : (own wait : Bool) → Leads Open (rings own wait Quiet) Open
+unfolding alarm_rings quiet_rings
+quiet_leads own wait = rings_lead own wait Quiet
+    (Leads_then {Q = Quieted} (puts (Ring Quiet)) (puts (Become Loose) followed_by searches)
+    (Leads_puts (Ring Quiet) (λ x past h.
+    let due = due_is (armed past.seen).quiet x h.1 in
+    let silent = h.0.knows.quiet.silent due.at due.is in
+    let long = silent.1 in
+    let over = due.over in
+    record { free = ring_quiet (omega (arith, long, over)) h.0; starts = silent.0 }))
+    (Leads_to to_open (Leads_then {Q = Free Untaken} (puts (Become Loose)) searches
+    (Leads_puts (Become Loose) (λ x past h. become_loose (λ e. let s = h.starts in let bad : ⊥ = cc in absurd bad) h.free))
+    searches_during)))
+    (stays Quiet)
+
+pub search_leads : (own wait : Bool) → Leads Open (rings own wait Search) Open
+unfolding alarm_rings search_rings rings_or_late
+search_leads own wait = rings_lead own wait Search
+    (Leads_to to_open (Leads_then {Q = Free Untaken} (rings_or_late Search) arms_elect
+    (Leads_either (is_in_time Search) (puts (Ring Search)) (puts (Late Search))
+    (Leads_puts (Ring Search) (λ x past h. ring_search (search_rested x past h.0) h.0.0))
+    (Leads_puts (Late Search) (λ x past h. late_search (search_rested x past h.0) h.0.0)))
+    arms_elect_during))
+    (stays Search)
+
+follow_led : {A : Type 0} (r : Role) → is_follow r ≡ true → r ≡ Master → A
+follow_led r e is = absurd (true≢false (sym e ∙ subst (λ k. is_follow k ≡ false) (sym is) refl))
+
+loosens_leads : Leads (Free Untaken) loosens (Free Untaken)
+unfolding loosens
+loosens_leads = Leads_either follows_at (puts (Become Loose)) nothing
+    (Leads_puts (Become Loose) (λ x past h. become_loose (follow_led (role past.seen) h.1) h.0))
+    (Leads_from (λ x past h. h.0) Leads_nothing)
+
+pub elect_leads : (own wait : Bool) → Leads Open (rings own wait Elect) Open
+unfolding alarm_rings elect_rings
+elect_leads own wait = rings_lead own wait Elect
+    (Leads_either (is_in_time Elect) (puts (Ring Elect) followed_by either_by may_stand_at candidature_row (loosens followed_by searches)) (puts (Late Elect) followed_by arms_elect)
+    (Leads_then {Q = Free Untaken} (puts (Ring Elect)) (either_by may_stand_at candidature_row (loosens followed_by searches))
+    (Leads_puts (Ring Elect) (λ x past h. ring_elect (elect_rested x past h.0) h.0.0))
+    (Leads_either may_stand_at candidature_row (loosens followed_by searches)
+    (Leads_from (λ x past h. record { free = h.0; may = stand_is (held past.seen) x past.own (and-cases past.may (may_stand (held past.seen) x past.own) h.1).1 })
+    (Leads_to (λ x past h. open_of h.free) candidature_leads))
+    (Leads_from (λ x past h. h.0) (Leads_to to_open (Leads_then loosens searches loosens_leads searches_during)))))
+    (Leads_to to_open (Leads_then {Q = Free Untaken} (puts (Late Elect)) arms_elect
+    (Leads_puts (Late Elect) (λ x past h. late_elect (elect_rested x past h.0) h.0.0))
+    arms_elect_during)))
+    (stays Elect)
+
+pub resolve_leads : (own wait : Bool) → Leads Open (rings own wait Resolve) Open
+unfolding alarm_rings resolve_rings quits_rivals
+resolve_leads own wait = rings_lead own wait Resolve
+    (Leads_to to_open (Leads_either (is_in_time Resolve) (puts (Ring Resolve) followed_by quits_rivals) (puts (Late Resolve))
+    (Leads_then {Q = Free Untaken} (puts (Ring Resolve)) quits_rivals
+    (Leads_puts (Ring Resolve) (λ x past h. ring_resolve (resolve_rested x past h.0) h.0.0))
+    (Leads_reading rivals_at (for_each (begins Quit)) (λ ps. Leads_from (λ x past h. h.0) (Leads_each (begins Quit) ps begins_quit))))
+    (Leads_puts (Late Resolve) (λ x past h. late_resolve (resolve_rested x past h.0) h.0.0))))
+    (stays Resolve)

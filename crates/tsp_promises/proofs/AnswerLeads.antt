@@ -1,0 +1,168 @@
+-- What a port does with what it takes, and a whole step, keeps what is known of it.
+use Rattle.std.specs.Prelude.{◌≡◌, ℕ, not, Bool, true, false, List, [], ◌∷◌, None, refl}
+use Rattle.std.proofs.Common.{sym, subst, inl, inr, ap, true≢false, eq-eqb, ◌∙◌}
+use Rattle.tsp_base.specs.declared.act.Act.TheVariants.{Took}
+use Rattle.tsp_base.specs.declared.alarm.Alarm.TheVariants.{Quiet, Search, Elect, Window, Probe, Close, Resolve, Round}
+use Rattle.tsp_base.specs.declared.datagram.Datagram.TheVariants.{Message, Stamp}
+use Rattle.tsp_base.specs.declared.datagram.Taken.{Taken}
+use Rattle.tsp_base.specs.declared.datagram.Taken.TheVariants.{Good, Bad}
+use Rattle.tsp_base.specs.declared.kind.Kind.{Kind}
+use Rattle.tsp_base.specs.declared.kind.Kind.TheVariants.{Quit as QuitKind, Date, DateReq, DateAck, SetDate, SetDateReq, Loop, TraceOn, TraceOff, Msite, MsiteReq, Test}
+use Rattle.tsp_base.specs.declared.place.PeerId.{PeerId}
+use Rattle.tsp_base.specs.declared.place.Place.{Place}
+use Rattle.tsp_base.specs.declared.place.Place.TheVariants.{Peer, Stranger}
+use Rattle.tsp_base.specs.declared.role.Role.{Role}
+use Rattle.tsp_base.specs.declared.role.Role.TheVariants.{Starting, Loose, Follow, Candidate, Master}
+use Rattle.tsp_base.specs.declared.stamp.Stamp.TheVariants.{Request, Reply}
+use Rattle.tsp_promises.specs.AckFits.{Answers}
+use Rattle.tsp_promises.specs.DeedFits.{is_answered_early}
+use Rattle.tsp_base.specs.History.{Seen, Past}
+use Rattle.tsp_base.specs.Leads.{Leads}
+use Rattle.tsp_base.specs.Messages.{MessageValue}
+use Rattle.tsp_base.specs.Peers.{is_among}
+use Rattle.tsp_base.specs.PortFacts.{role}
+use Rattle.tsp_base.specs.Rows.{Row, grown, nothing, puts, ◌followed_by◌}
+use Rattle.tsp_base.specs.SendFacts.{is_date_request, sets_date}
+use Rattle.tsp_base.specs.Stamps.{ReplyValue}
+use Rattle.tsp_base.proofs.LeadsLemmas.{Leads_then, Leads_reading, Leads_nothing, Leads_from}
+use Rattle.tsp_rules.specs.Answers.{rings_alone, due_alarms, says_in, peer_says, replies_in, peer_replies, from_peer, handles_kind, is_left, handles, takes, Given, Turn, Got, input_row, answers}
+use Rattle.tsp_rules.specs.CandidateRows.{candidate_takes}
+use Rattle.tsp_rules.specs.CommonRows.{quits}
+use Rattle.tsp_rules.specs.DateRows.{date_request_of, date_acked}
+use Rattle.tsp_rules.specs.MasterRows.{master_takes}
+use Rattle.tsp_rules.specs.SendRows.{due_sends}
+use Rattle.tsp_rules.specs.SlaveRows.{slave_takes}
+use Rattle.tsp_rules.specs.Guards.{role_at, is_own, is_heard, is_starting_role}
+use Rattle.tsp_promises.proofs.Known.{Open, Fresh, Early, Rests}
+use Rattle.tsp_promises.proofs.Leaves.{none-some}
+use Rattle.tsp_promises.proofs.Rings.{open_of}
+use Rattle.tsp_promises.proofs.Changes.{Is, JustTook, take}
+use Rattle.tsp_rules.proofs.GuardFacts.{and-cases, not-true, awake_is}
+use Rattle.tsp_promises.proofs.AlarmLeads.{quiet_leads, search_leads, elect_leads, resolve_leads}
+use Rattle.tsp_promises.proofs.WindowLeads.{window_leads}
+use Rattle.tsp_promises.proofs.RoundLeads.{probe_leads, round_leads}
+use Rattle.tsp_promises.proofs.CloseLeads.{close_leads}
+use Rattle.tsp_promises.proofs.CorrectionLeads.{due_sends_lead}
+use Rattle.tsp_promises.proofs.TakenLeads.{Heard, HeardIn, rests_of, took_awake, names_master_leads, says_master_leads, traces_leads, tests_leads, replies_lead, quits_lead}
+use Rattle.tsp_promises.proofs.SlaveLeads.{quit_follower, idle_heard}
+use Rattle.tsp_promises.proofs.RoleLeads.{slave_leads, candidate_leads, master_leads}
+use Rattle.tsp_promises.proofs.SampleLeads.{samples_lead}
+use Rattle.tsp_promises.proofs.Upsets.{Upsets, upsets_of, upsets_from, upsets_either}
+use Rattle.tsp_promises.proofs.DateLeads.{date_upsets, date_request_upsets, date_acked_leads}
+use Rattle.tsp_promises.proofs.Stirring.{upsetting_lead}
+
+pub due_alarms_lead : Leads Open due_alarms Open
+unfolding due_alarms rings_alone
+due_alarms_lead = Leads_then (rings_alone Quiet) _ (quiet_leads true false) (Leads_then (rings_alone Search) _ (search_leads true false) (Leads_then (rings_alone Elect) _ (elect_leads true false) (Leads_then (rings_alone Window) _ (window_leads true false)
+    (Leads_then (rings_alone Probe) _ (probe_leads true false) (Leads_then (rings_alone Close) _ (close_leads true false) (Leads_then (rings_alone Resolve) (rings_alone Round) (resolve_leads true false) (round_leads true false)))))))
+
+module _ {p : PeerId} {m : MessageValue} where
+  pub quit_loose : m.kind ≡ QuitKind → Leads (HeardIn p m Loose) (quits p m.number) Rests
+  quit_loose e = quits_lead Loose None (λ q i. let bad : ⊥ = cc in absurd bad) refl (λ q i. let bad : ⊥ = cc in absurd bad) e
+
+  pub says_leads : (r : Role) → Leads (HeardIn p m r) (says_in p m r) Rests
+  unfolding says_in slave_takes candidate_takes master_takes
+  says_leads Starting = idle_heard (λ x past h. h.0)
+  says_leads Loose = slave_leads Loose (λ e. let bad : ⊥ = cc in absurd bad) quit_loose m.kind refl
+  says_leads (Follow q) = slave_leads (Follow q) (λ e. let bad : ⊥ = cc in absurd bad) (quit_follower q) m.kind refl
+  says_leads Candidate = candidate_leads m.kind refl
+  says_leads Master = master_leads m.kind refl
+
+  pub peer_says_leads : Leads (Heard p (Good (Message m))) (peer_says m p) Rests
+  unfolding peer_says
+  peer_says_leads = Leads_reading role_at (says_in p m) says_leads
+
+module _ {p : PeerId} {r : ReplyValue} where
+  pub replies_in_leads : (a : Role) → Leads (Heard p (Good (Stamp (Reply r)))) (replies_in p r a) Rests
+  unfolding replies_in
+  replies_in_leads Master = samples_lead
+  replies_in_leads _ = Leads_from (λ x past h. rests_of h.just.free) Leads_nothing
+
+  pub peer_replies_lead : Leads (Heard p (Good (Stamp (Reply r)))) (peer_replies r p) Rests
+  unfolding peer_replies
+  peer_replies_lead = Leads_reading role_at (replies_in p r) (λ a. Leads_from (λ x past h. h.0) (replies_in_leads a))
+
+-- a port that has taken a datagram which isn't its own
+pub record Foreign (from : Place) (t : Taken) (x : ℕ) (past : Past) : Type 0 where
+  pub just : JustTook false from t x past
+  pub other : is_own from x past ≡ false
+
+-- nothing is done with it
+pub passes_over : {from : Place} {t : Taken} {P : ℕ → Past → Type 0} → ((x : ℕ) (past : Past) → P x past → JustTook false from t x past) → Leads P nothing Rests
+passes_over k = Leads_from (λ x past h. rests_of (k x past h).free) Leads_nothing
+
+pub hears : (p : PeerId) (t : Taken) (x : ℕ) (past : Past) → Foreign (Peer p) t x past → is_heard p x past ≡ true → Heard p t x past
+hears p t x past h e =
+    let both = and-cases (is_among p past.peers) (not (is_starting_role (role past.seen))) e in
+    let awake = awake_is (role past.seen) (not-true (is_starting_role (role past.seen)) both.1) in
+    record {
+      just = took_awake awake h.just;
+      awake = awake;
+      peer = both.0;
+      other = λ same. true≢false (sym (eq-eqb p.0 past.own.0 (ap (λ (q : PeerId). q.0) same ∙ sym h.just.free.own)) ∙ h.other);
+    }
+
+-- what only a peer may say
+pub from_peer_upsets : {dates : Bool} (from : Place) (t : Taken) (row : PeerId → Row) → ((p : PeerId) → from ≡ Peer p → Upsets dates (Heard p t) (row p)) → Upsets dates (Foreign from t) (from_peer from row)
+unfolding from_peer
+from_peer_upsets (Peer p) t row k = upsets_either (is_heard p) (row p) nothing (upsets_from (λ x past h. hears p t x past h.0 h.1) (k p refl)) (upsets_of (passes_over (λ x past h. h.0.just)))
+from_peer_upsets Stranger t row k = upsets_of (passes_over (λ x past h. h.just))
+
+answers_any : (from : Place) (m : MessageValue) (k : Kind) → m.kind ≡ k → ((seen : List Seen) → Answers k from seen m.number) → (seen : List Seen) → Answers m.kind from seen m.number
+answers_any from m k e a seen = subst (λ i. Answers i from seen m.number) (sym e) (a seen)
+
+module _ {from : Place} {m : MessageValue} where
+  pub freely : {dates : Bool} {row : Row} → Leads (Early (Is from (Good (Message m)))) row Rests → Upsets dates (Foreign from (Good (Message m))) row
+  freely k = upsets_of (Leads_from (λ x past h. h.just.free) k)
+
+  -- by the kind of the message
+  pub handles_kind_upsets : (charge : Bool) (k : Kind) → m.kind ≡ k → Upsets (sets_date m.kind) (Foreign from (Good (Message m))) (handles_kind charge from m k)
+  unfolding handles_kind
+  handles_kind_upsets charge Msite e = freely (names_master_leads m (ap is_answered_early e) (answers_any from m Msite e (λ seen. tt)))
+  handles_kind_upsets charge MsiteReq e = freely (says_master_leads m (answers_any from m MsiteReq e (λ seen. tt)))
+  handles_kind_upsets charge TraceOn e = freely (traces_leads m (ap is_answered_early e) (answers_any from m TraceOn e (λ seen. tt)) true)
+  handles_kind_upsets charge TraceOff e = freely (traces_leads m (ap is_answered_early e) (answers_any from m TraceOff e (λ seen. tt)) false)
+  handles_kind_upsets charge Test e = freely (tests_leads m (answers_any from m Test e (λ seen. tt)))
+  handles_kind_upsets charge Date e = upsets_from (λ x past h. h.just) (date_upsets charge (inl e))
+  handles_kind_upsets charge SetDate e = upsets_from (λ x past h. h.just) (date_upsets charge (inr e))
+  handles_kind_upsets charge DateReq e = from_peer_upsets from (Good (Message m)) (date_request_of charge m) (λ p i. date_request_upsets charge (ap is_date_request e))
+  handles_kind_upsets charge SetDateReq e = from_peer_upsets from (Good (Message m)) (date_request_of charge m) (λ p i. date_request_upsets charge (ap is_date_request e))
+  handles_kind_upsets charge DateAck e = from_peer_upsets from (Good (Message m)) (date_acked m) (λ p i. upsets_of (date_acked_leads e))
+  handles_kind_upsets charge Loop e = upsets_of (passes_over (λ x past h. h.just))
+  handles_kind_upsets charge _ e = from_peer_upsets from (Good (Message m)) (peer_says m) (λ p i. upsets_of peer_says_leads)
+
+-- whether what was taken may set the date
+abbrev pub dates_by : Taken → Bool
+dates_by (Good (Message m)) = sets_date m.kind
+dates_by _ = false
+
+-- what is done with what was taken
+pub handles_upsets : (steer charge : Bool) (from : Place) (t : Taken) → Upsets (dates_by t) (Foreign from t) (handles steer charge from t)
+unfolding handles
+handles_upsets steer charge from (Bad fault) = upsets_of (passes_over (λ x past h. h.just))
+handles_upsets steer charge from (Good (Message m)) = upsets_either (is_left steer m.kind) nothing (handles_kind charge from m m.kind)
+    (upsets_of (passes_over (λ x past h. h.0.just))) (upsets_from (λ x past h. h.0) (handles_kind_upsets charge m.kind refl))
+handles_upsets steer charge from (Good (Stamp (Request word counter))) = upsets_of (Leads_from (λ x past h. h.just.free) (replies_lead from word counter))
+handles_upsets steer charge from (Good (Stamp (Reply r))) = from_peer_upsets from (Good (Stamp (Reply r))) (peer_replies r) (λ p i. upsets_of peer_replies_lead)
+
+-- a datagram is taken
+pub takes_upsets : (steer charge : Bool) (from : Place) (t : Taken) → Upsets (dates_by t) Open (takes steer charge from t)
+unfolding takes puts ◌followed_by◌
+takes_upsets steer charge from t =
+    let k = upsets_either (is_own from) nothing (handles steer charge from t)
+    (upsets_of (passes_over (λ x past h. h.0))) (upsets_from (λ x past h. record { just = h.0; other = h.1 }) (handles_upsets steer charge from t)) in
+    record { run = λ x past h. k.run x (grown x past (Took from t ∷ [])) (take from t h) }
+
+pub open_rests : (x : ℕ) (past : Past) → Open x past → Rests x past
+open_rests x past h = record { fits = h.fits; knows = h.knows; backs = h.backs; follows = λ p e. none-some p (sym h.owed ∙ e) }
+
+pub input_leads : (g : Given) → Leads Open (input_row g) Rests
+unfolding input_row
+input_leads Turn = Leads_from open_rests Leads_nothing
+input_leads (Got from t) = upsetting_lead (takes true true from t) (takes_upsets true true from t)
+
+-- what a port answers keeps what is known of it
+pub answers_lead : (g : Given) → Leads Fresh (answers g) Rests
+unfolding answers
+answers_lead g = Leads_then due_sends (due_alarms followed_by input_row g) due_sends_lead
+    (Leads_from (λ x past h. open_of h) (Leads_then due_alarms (input_row g) due_alarms_lead (input_leads g)))

@@ -1,0 +1,191 @@
+-- Small histories that break the promises of clocks.
+use Rattle.std.specs.Prelude.{◌≡◌, ◌≤ℤ◌, false, ℕ, pos, negsuc, ◌-ℤ◌, nat_abs, List, [], ◌∷◌, refl}
+use Rattle.std.proofs.Common.{sym, ap, arith, subst, inl, inr, true≢false, ◌∙◌}
+use Rattle.std.proofs.lemmas.Int.{ints}
+use Rattle.tsp_base.specs.declared.act.Act.TheVariants.{Arm, Boot, Took, Post, Ring, Sample, Close, Correct}
+use Rattle.tsp_base.specs.declared.alarm.Alarm.TheVariants.{Close as AlarmClose}
+use Rattle.tsp_base.specs.declared.datagram.Datagram.TheVariants.{Message, Stamp}
+use Rattle.tsp_base.specs.declared.datagram.Taken.TheVariants.{Good}
+use Rattle.tsp_base.specs.declared.kind.Kind.TheVariants.{AdjTime}
+use Rattle.tsp_base.specs.declared.message.Body.TheVariants.{Time}
+use Rattle.tsp_base.specs.declared.place.PeerId.{PeerId}
+use Rattle.tsp_base.specs.declared.place.Place.TheVariants.{Peer}
+use Rattle.tsp_base.specs.declared.stamp.Stamp.TheVariants.{Request, Reply}
+use Rattle.tsp_promises.specs.Agreed.{Agreed, Cast, MasterAgrees, StayAgreed}
+use Rattle.tsp_promises.specs.ClockAt.{clock}
+use Rattle.tsp_promises.specs.Fits.{node_of}
+use Rattle.tsp_base.specs.History.{Booted, Came, Turned, Did, Line, Seen, Here, of, view}
+use Rattle.tsp_promises.specs.Measured.{Measured, Trips}
+use Rattle.tsp_base.specs.Messages.{MessageValue}
+use Rattle.tsp_base.specs.Places.{Within}
+use Rattle.tsp_promises.specs.Relayed.{Relayed}
+use Rattle.tsp_base.specs.Takings.{peer_of}
+use Rattle.tsp_promises.specs.Broken.{AllBreak, Breaks, ClocksBreak}
+use Rattle.tsp_promises.proofs.BrokenRoles.{roles_break}
+use Rattle.tsp_promises.proofs.BrokenSends.{sends_break}
+use Rattle.tsp_promises.proofs.CastBy.{cast-by}
+use Rattle.tsp_promises.proofs.Histories.{begins, does, line, msg, skip, skipped, step_at, still}
+use Rattle.tsp_promises.proofs.StepChecks.{port0}
+use Rattle.tsp_promises.proofs.WitnessCasts.{answers, closing, far-cast, far-close, far-reading, first, first-cast, near-cast, near-close, near-correct, near-reading, second-cast, sounds}
+use Rattle.tsp_promises.proofs.WitnessRelay.{g17, g19, g20, g23, g25, g26}
+use Rattle.tsp_promises.proofs.WitnessUse.{reply1, w15, w16, w17, w19, w20, w21}
+
+abbrev reply : ℕ → Line
+reply n = does 10 n Turned (Post (Peer (peer_of 0)) (Stamp (Reply (record { ticket = 0; word = 0; counter = 0; reading = pos 10 }))))
+
+abbrev samples : Line
+samples = does 20 0 (Came 0) (Sample (peer_of 1) 0 (pos 100) (pos 0) 0)
+
+only-post : (p q : Line) (older : List Line) → Within (p ∷ older) (q ∷ []) → p ∷ older ≡ q ∷ []
+only-post p q older (inl e) = e
+only-post p q older (inr e) = let bad : ⊥ = cc in absurd bad
+
+errs : Breaks (Measured (still false))
+errs = record {
+  world = samples ∷ (reply 1 ∷ []);
+  broken = λ h.
+      let r = h.0 (peer_of 1) 0 (pos 100) (pos 0) 0 refl in
+      let k : pos 100 ≤ℤ pos 0 = subst (λ z. pos (nat_abs (pos 100 -ℤ (clock (still false) 1 z -ℤ clock (still false) 0 z))) ≤ℤ pos 0) (only-post r.post (reply 1) r.older r.place) r.near in
+      omega (arith, ints);
+}
+
+turned : (k : ℕ) → Turned ≡ Came k → ⊥
+turned k e = cc
+
+unread : Breaks (Measured (still false))
+unread = record { world = does 20 0 Turned (Sample (peer_of 1) 0 (pos 0) (pos 0) 0) ∷ (reply 1 ∷ []); broken = λ h. turned _ (h.0 (peer_of 1) 0 (pos 0) (pos 0) 0 refl).takes }
+
+misread : Breaks (Measured (still false))
+misread = record {
+  world = samples ∷ (reply 2 ∷ []);
+  broken = λ h.
+      let r = h.0 (peer_of 1) 0 (pos 100) (pos 0) 0 refl in
+      let two : r.post ≡ reply 2 = line-same r.post (reply 2) r.older (only-post r.post (reply 2) r.older r.place) in
+      let k : 2 ≡ 1 = ap (λ (z : Line). node_of z) (sym two) ∙ ap (λ (p : PeerId). p.0) r.from in
+      omega arith;
+} where
+  line-same : (p q : Line) (older : List Line) → p ∷ older ≡ q ∷ [] → p ≡ q
+  line-same p q older e = cc
+
+none-there : (d : Did) (older : List Seen) → [] ≡ Here d ∷ older → ⊥
+none-there d older e = cc
+
+unasked : Breaks Trips
+unasked = record { world = samples ∷ []; broken = λ h. (let t = h.0 (peer_of 1) 0 (pos 100) (pos 0) 0 refl in none-there t.request t.older t.exchange_is) }
+
+abbrev outlives : List Line
+outlives = does 15 0 (Booted 3 (pos 15)) Boot ∷ (does 10 0 Turned (Post (Peer (peer_of 1)) (Stamp (Request 0 0))) ∷ (does 10 0 Turned (Arm AlarmClose 30) ∷ []))
+
+outlived : Breaks Trips
+outlived = record { world = samples ∷ outlives; broken = λ h. (let t = h.0 (peer_of 1) 0 (pos 100) (pos 0) 0 refl in none-there t.request t.older t.exchange_is) }
+
+-- an ADJTIME of a second to a clock that is 101 behind and a round whose mean is 84 behind
+abbrev misleads : MessageValue
+misleads = msg AdjTime 10 (Time (pos 1000000))
+
+abbrev a1 : List Line
+a1 = does 408000000 0 Turned (Post (Peer (peer_of 1)) (Message misleads)) ∷ (does 408000000 0 Turned (Correct (negsuc 83) false (pos 408000000)) ∷ skip 3 w19)
+
+abbrev a2 : List Line
+a2 = does 408000400 1 (Came 10) (Took (Peer (peer_of 0)) (Good (Message misleads))) ∷ (begins 408000400 1 (Came 10) ∷ a1)
+
+abbrev obeys : Line
+obeys = does 408000400 1 (Came 10) (Correct (pos 1000000) false (pos 0))
+
+misled-cast : Cast 0 closing (skip 4 w19) obeys a2 sounds (skip 1 w15) (pos 401)
+misled-cast =
+    cast-by 0 closing (skip 4 w19) obeys a2 sounds (skip 1 w15) (does 408000000 0 Turned (Post (Peer (peer_of 1)) (Message misleads))) (skip 1 a1) misleads (pos 1000000) false (pos 0)
+    (record { counter = 0; diff = negsuc 100; err = pos 401; ticket = 10; trip = pos 801; place = view port0 (of 0 w17) })
+    (record { correct = refl; place = skipped 2 a2; cause = refl; deed = refl; took = refl; node = refl; kind = refl; numbered = refl; is = refl })
+    (record { closes = skipped 4 a2; node = refl; port = refl; is = refl; best_is = refl })
+    (record { line = does 400000801 0 (Came 8) (Sample (peer_of 1) 0 (negsuc 100) (pos 401) 10); before = skip 1 w17; at = skipped 10 a2; node = refl; port = refl; is = refl; reads = skipped 5 (skip 1 w17); takes = refl; to = Peer (peer_of 0); datagram = Stamp (Reply reply1); deed = refl })
+
+misled : Breaks (Agreed (still false))
+misled = record {
+  world = obeys ∷ a2;
+  broken = λ h.
+      let k : pos 1000083 ≤ℤ pos 403 = (h.0.clocks (Correct (pos 1000000) false (pos 0)) refl).master 0 closing (skip 4 w19) obeys a2 sounds (skip 1 w15) (pos 401) misled-cast
+      (record { within = inl refl; since = record { corrects = refl; lives = refl } })
+      (record { lives = refl; corrects = inr (record { next = does 408000000 0 Turned (Correct (negsuc 83) false (pos 408000000)); before = skip 3 w19; is = refl; amount = negsuc 83; stepped = false; shown = pos 408000000; place = skipped 4 (obeys ∷ a2); node = refl; deed = refl; corrects = refl }) }) in
+      omega (arith, ints);
+}
+
+-- a follower whose clock moves by five seconds where its ADJTIME says 67
+abbrev strays : Line
+strays = line (step_at 408000500 2 (Came 11)) port0 (Correct (pos 5000000) false (pos 0))
+
+abbrev stray : List Line
+stray = strays ∷ skip 2 w21
+
+far-apart : MasterAgrees (still false) stray 408000500 → ⊥
+far-apart m =
+    let k : pos 5000083 ≤ℤ pos 452 = m 0 closing (skip 4 w19) strays (skip 2 w21) answers (skip 1 w16) (pos 450) (second-cast (pos 5000000) false (pos 0))
+    (record { within = inl refl; since = record { corrects = refl; lives = refl } })
+    (record { lives = refl; corrects = inr (record { next = does 408000000 0 Turned (Correct (negsuc 83) false (pos 408000000)); before = skip 3 w19; is = refl; amount = negsuc 83; stepped = false; shown = pos 408000000; place = skipped 9 stray; node = refl; deed = refl; corrects = refl }) }) in
+    omega (arith, ints)
+
+agreed : Breaks (Agreed (still false))
+agreed = record { world = stray; broken = λ h. far-apart (h.0.clocks (Correct (pos 5000000) false (pos 0)) refl).master }
+
+peers : Breaks (Agreed (still false))
+peers = record {
+  world = stray;
+  broken = λ h.
+      let k : pos 4999983 ≤ℤ pos 855 = (h.0.clocks (Correct (pos 5000000) false (pos 0)) refl).peers 0 closing (skip 4 w19) strays first (skip 2 w21) (skip 2 w20) answers sounds (skip 1 w16) (skip 1 w15) (pos 450) (pos 401)
+      (second-cast (pos 5000000) false (pos 0)) first-cast (record { within = inl refl; since = record { corrects = refl; lives = refl } }) (record { within = skipped 4 stray; since = record { corrects = refl; lives = refl } }) in
+      omega (arith, ints);
+}
+
+agreed_before : Breaks (Agreed (still false))
+agreed_before = record {
+  world = does 500000000 2 (Booted 13 (pos 500000000)) Boot ∷ (begins 500000000 2 (Booted 13 (pos 500000000)) ∷ stray);
+  broken = λ h. far-apart (h.1.1.0.clocks (Correct (pos 5000000) false (pos 0)) refl).master;
+}
+
+stay_agreed : Breaks (StayAgreed (still false))
+stay_agreed = record { world = stray; broken = λ h. far-apart (h.0 408000500 (omega arith)).master }
+
+abbrev shuts : List Line
+shuts = does 10 0 Turned (Close 1 (pos 0) (pos 0) (pos 0)) ∷ (does 10 0 Turned (Ring AlarmClose) ∷ [])
+
+unsampled : Breaks (Agreed (still false))
+unsampled = record {
+  world = does 10 0 Turned (Post (Peer (peer_of 1)) (Message (msg AdjTime 5 (Time (pos 1))))) ∷ shuts;
+  broken = λ h. true≢false (sym (h.0.rests (peer_of 1) (msg AdjTime 5 (Time (pos 1))) (does 10 0 Turned (Close 1 (pos 0) (pos 0) (pos 0))).did (view port0 (of 0 (skip 1 shuts))) refl refl refl refl));
+}
+
+abbrev relays_wrong : Line
+relays_wrong = line (step_at 508000400 3 (Came 12)) port0 (Correct (pos 5000000) false (pos 0))
+
+abbrev wrong : List Line
+wrong = relays_wrong ∷ skip 2 g26
+
+relayed : Breaks (Relayed (still false))
+relayed = record {
+  world = wrong;
+  broken = λ h.
+      let k : pos 5000048 ≤ℤ pos 806 = h.0 508000400 (omega arith) 1 0 far-close near-close (skip 2 g25) (skip 3 g19) relays_wrong near-correct (skip 2 g26) (skip 2 g20) far-reading near-reading (skip 1 g23) (skip 1 g17) (pos 401) (pos 401)
+      (far-cast (pos 5000000) false (pos 0)) near-cast refl (skipped 16 (skip 2 g25)) (record { within = inl refl; since = record { corrects = refl; lives = refl } }) (record { within = skipped 21 wrong; since = record { corrects = refl; lives = refl } })
+      (record { lives = refl; corrects = inr (record { next = does 408000000 0 Turned (Correct (negsuc 49) false (pos 408000000)); before = skip 2 g19; is = refl; amount = negsuc 49; stepped = false; shown = pos 408000000; place = skipped 25 wrong; node = refl; deed = refl; corrects = refl }) }) in
+      omega (arith, ints);
+}
+
+clocks_break : ClocksBreak (still false)
+clocks_break = record {
+  errs = errs;
+  unread = unread;
+  misread = misread;
+  unasked = unasked;
+  outlived = outlived;
+  misled = misled;
+  agreed = agreed;
+  peers = peers;
+  agreed_before = agreed_before;
+  unsampled = unsampled;
+  stay_agreed = stay_agreed;
+  relayed = relayed;
+}
+
+-- each promise is broken by some history
+pub all_break : AllBreak
+all_break = record { setting = still false; roles = roles_break; sends = sends_break; clocks = clocks_break }

@@ -1,0 +1,162 @@
+-- Small histories that break the promises of roles.
+use Rattle.std.specs.Prelude.{◌≡◌, ◌≤◌, ◌<◌, false, ◌+◌, pos, List, [], ◌∷◌, Some, None, refl}
+use Rattle.std.proofs.Common.{ap, arith, inl, inr, true≢false}
+use Rattle.tsp_base.specs.declared.act.Act.TheVariants.{Took, Post, Become, Back, Quit, Ring, Close, Correct}
+use Rattle.tsp_base.specs.declared.alarm.Alarm.TheVariants.{Resolve}
+use Rattle.tsp_base.specs.declared.constants.TheConstants.{ELECT_MIN}
+use Rattle.tsp_base.specs.declared.datagram.Datagram.TheVariants.{Message}
+use Rattle.tsp_base.specs.declared.datagram.Taken.TheVariants.{Good}
+use Rattle.tsp_base.specs.declared.kind.Kind.TheVariants.{AdjTime, Accept, Election, Quit as QuitKind}
+use Rattle.tsp_base.specs.declared.message.Body.TheVariants.{Nothing, Time}
+use Rattle.tsp_base.specs.declared.place.PeerId.{PeerId}
+use Rattle.tsp_base.specs.declared.place.Place.TheVariants.{Peer}
+use Rattle.tsp_base.specs.declared.role.Role.TheVariants.{Candidate, Starting, Follow, Master}
+use Rattle.tsp_base.specs.History.{Came, Turned, Line, of, view}
+use Rattle.tsp_promises.specs.OneBack.{OneBack}
+use Rattle.tsp_promises.specs.OneWinner.{OneWinner}
+use Rattle.tsp_promises.specs.OnlyMaster.{OnlyMaster}
+use Rattle.tsp_promises.specs.Resolved.{StaysQuiet, StopsLeading, TakesQuit, Yields}
+use Rattle.tsp_base.specs.Takings.{peer_of}
+use Rattle.tsp_promises.specs.Broken.{Breaks, RolesBreak}
+use Rattle.tsp_promises.proofs.Histories.{begins, does, line, msg, step_at, still}
+use Rattle.tsp_promises.proofs.StepChecks.{port0, port1}
+use Rattle.tsp_promises.proofs.WitnessDebts.{not-same}
+
+one-two : peer_of 1 ≡ peer_of 2 → ⊥
+one-two e = not-same 1 2 (omega arith) (ap (λ (p : PeerId). p.0) e)
+
+holds : Breaks OneBack
+holds = record {
+  world = does 20 0 Turned (Back (peer_of 2)) ∷ (does 10 0 Turned (Back (peer_of 1)) ∷ []);
+  broken = λ h. elim (h.holds.0 (peer_of 2) (peer_of 1) (does 10 0 Turned (Back (peer_of 1))) [] refl (inl refl) refl refl refl) [
+    | inl e ↦ one-two e
+    | inr k ↦ omega arith
+  ];
+}
+
+none-peer : (p : PeerId) → None ≡ Some p → ⊥
+none-peer p e = cc
+
+accepts : Breaks OneBack
+accepts = record { world = does 10 0 Turned (Post (Peer (peer_of 1)) (Message (msg Accept 5 Nothing))) ∷ []; broken = λ h. none-peer (peer_of 1) (h.backs.0.accepts (peer_of 1) (msg Accept 5 Nothing) refl refl) }
+
+abbrev stands : List Line
+stands = does 10 0 Turned (Become Candidate) ∷ []
+
+asks : Breaks OneBack
+asks = record {
+  world = does 10 0 Turned (Post (Peer (peer_of 1)) (Message (msg Election 32768 Nothing))) ∷ stands;
+  broken = λ h. true≢false (h.backs.0.asks (Peer (peer_of 1)) (msg Election 32768 Nothing) refl refl);
+}
+
+ends : Breaks OneBack
+ends = record { world = begins 20 0 Turned ∷ stands; broken = λ h. true≢false (h.backs.0.ends refl port0) }
+
+finishes : Breaks OneBack
+finishes = record { world = stands; broken = λ h. true≢false (h.ends 0 port0) }
+
+starting : Starting ≡ Master → ⊥
+starting e = cc
+
+corrects : Breaks OnlyMaster
+corrects = record {
+  world = does 10 0 Turned (Post (Peer (peer_of 1)) (Message (msg AdjTime 5 (Time (pos 1))))) ∷ [];
+  broken = λ h. starting (h.0.posts (Peer (peer_of 1)) (msg AdjTime 5 (Time (pos 1))) refl refl);
+}
+
+follows : (p : PeerId) → Follow p ≡ Master → ⊥
+follows p e = cc
+
+closes : Breaks OnlyMaster
+closes = record {
+  world = does 20 0 Turned (Close 1 (pos 0) (pos 0) (pos 0)) ∷ (does 10 0 Turned (Become (Follow (peer_of 1))) ∷ []);
+  broken = λ h. follows (peer_of 1) (h.0.closes 1 (pos 0) (pos 0) (pos 0) refl);
+}
+
+abbrev closed : List Line
+closed = does 20 0 Turned (Close 1 (pos 0) (pos 0) (pos 5)) ∷ (does 10 0 Turned (Become Master) ∷ [])
+
+follows_close : Breaks OnlyMaster
+follows_close = record {
+  world = line (step_at 20 0 Turned) port1 (Correct (pos 5) false (pos 0)) ∷ (begins 20 1 Turned ∷ closed);
+  broken = λ h. starting (h.0.corrects (does 20 0 Turned (Close 1 (pos 0) (pos 0) (pos 5))) (does 10 0 Turned (Become Master) ∷ []) 1 (pos 0) (pos 0) (pos 5) (pos 5) false (pos 0) refl refl refl);
+}
+
+winners : Breaks (OneWinner (still false))
+winners = record {
+  world = does 20 1 Turned (Become Master) ∷ (does 10 0 Turned (Become Master) ∷ []);
+  broken = λ h. (let k : 10 + 50000000 < 20 = h.0 (does 10 0 Turned (Become Master)) [] refl (inl refl) refl (not-same 0 1 (omega arith)) refl in omega arith);
+}
+
+follow-master : (p : PeerId) → Master ≡ Follow p → ⊥
+follow-master p e = cc
+
+yields : Breaks Yields
+yields = record {
+  world = does 20 0 Turned (Quit (peer_of 1)) ∷ (does 10 0 Turned (Become Master) ∷ []);
+  broken = λ h. follow-master (peer_of 1) (h.ends 0 port0 (peer_of 1) refl);
+}
+
+quiet : Breaks StaysQuiet
+quiet = record {
+  world = does 20 0 Turned (Become Master) ∷ (does 10 0 Turned (Quit (peer_of 1)) ∷ []);
+  broken = λ h. (let k : 10 + ELECT_MIN ≤ 20 = h.0 (does 10 0 Turned (Quit (peer_of 1))) [] (peer_of 1) refl (inl refl) refl refl refl in omega arith);
+}
+
+abbrev ring : Line
+ring = does 10 0 Turned (Ring Resolve)
+
+abbrev quit : Line
+quit = does 10 0 Turned (Post (Peer (peer_of 1)) (Message (msg QuitKind 32768 Nothing)))
+
+abbrev leader : List Line
+leader = does 5 1 Turned (Become Master) ∷ []
+
+abbrev told : List Line
+told = does 20 1 (Came 0) (Took (Peer (peer_of 0)) (Good (Message (msg QuitKind 32768 Nothing)))) ∷ (quit ∷ (ring ∷ leader))
+
+abbrev leads_on : Line
+leads_on = does 20 1 (Came 0) (Quit (peer_of 0))
+
+takes : TakesQuit ring leader leads_on told
+takes = record {
+  quits = refl;
+  post = quit;
+  older = ring ∷ leader;
+  place = inr (inl refl);
+  takes = refl;
+  node = refl;
+  first = quit.did;
+  begun = view port0 (of 0 (ring ∷ leader));
+  of_send = record { message = msg QuitKind 32768 Nothing; deed = refl; numbered = refl; is = refl };
+  message = msg QuitKind 32768 Nothing;
+  deed = refl;
+  kind = refl;
+  step = refl;
+}
+
+stops : Breaks StopsLeading
+stops = record { world = leads_on ∷ told; broken = λ h. h.ends ring leads_on leads_on leader told told (inr (inr (inr (inl refl)))) refl (inl refl) takes (inl refl) takes refl refl }
+
+stops_later : Breaks StopsLeading
+stops_later = record {
+  world = does 30 0 Turned (Ring Resolve) ∷ (begins 30 0 Turned ∷ (leads_on ∷ told));
+  broken = λ h. h.marks.1.0 refl ring leads_on leads_on leader told told (inr (inr (inr (inl refl)))) refl (inl refl) takes (inl refl) takes refl refl;
+}
+
+pub roles_break : RolesBreak (still false)
+roles_break = record {
+  holds = holds;
+  accepts = accepts;
+  asks = asks;
+  ends = ends;
+  finishes = finishes;
+  corrects = corrects;
+  closes = closes;
+  follows_close = follows_close;
+  winners = winners;
+  yields = yields;
+  quiet = quiet;
+  stops = stops;
+  stops_later = stops_later;
+}

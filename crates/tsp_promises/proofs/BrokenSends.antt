@@ -1,0 +1,160 @@
+-- Small histories that break the promises of sends.
+use Rattle.std.specs.Prelude.{◌≡◌, ◌≤◌, false, true, ℕ, ◌+◌, pos, List, [], ◌∷◌, is_some, refl}
+use Rattle.std.proofs.Common.{arith, inl, inr}
+use Rattle.tsp_base.specs.declared.act.Act.TheVariants.{Boot, Took, Post, Become, Ring, Acked, Correct}
+use Rattle.tsp_base.specs.declared.alarm.Alarm.TheVariants.{Round}
+use Rattle.tsp_base.specs.declared.constants.TheConstants.{GAP}
+use Rattle.tsp_base.specs.declared.datagram.Datagram.TheVariants.{Message}
+use Rattle.tsp_base.specs.declared.datagram.Taken.TheVariants.{Good}
+use Rattle.tsp_base.specs.declared.kind.Kind.TheVariants.{AdjTime, SetTime, SetDateReq}
+use Rattle.tsp_base.specs.declared.message.Body.TheVariants.{Time}
+use Rattle.tsp_base.specs.declared.place.Place.TheVariants.{Peer}
+use Rattle.tsp_base.specs.declared.role.Role.TheVariants.{Follow}
+use Rattle.tsp_promises.specs.Fits.{node_of}
+use Rattle.tsp_base.specs.History.{Acts, Booted, Came, Handed, Turned, Line, dids, of, view}
+use Rattle.tsp_base.specs.Messages.{MessageValue}
+use Rattle.tsp_promises.specs.Once.{ActsOn, OfSend, OnceConfirmed, OnceCorrected, OnceObeyed, OnceSpaced, OnceSpacedOverLives, OnceTaken}
+use Rattle.tsp_base.specs.Places.{Within}
+use Rattle.tsp_base.specs.Takings.{heard, peer_of, posted}
+use Rattle.tsp_promises.proofs.EverywhereLemmas.{Everywhere-at}
+use Rattle.tsp_promises.specs.Broken.{Breaks, SendsBreak}
+use Rattle.tsp_promises.proofs.Histories.{begins, does, line, msg, step_at, still}
+use Rattle.tsp_promises.proofs.StepChecks.{port0, port1}
+
+abbrev moves : ℕ → ℕ → Line
+moves at k = does at 0 (Came k) (Correct (pos 1) false (pos 0))
+
+spaced : Breaks OnceSpaced
+spaced = record { world = moves 20 0 ∷ (moves 10 0 ∷ []); broken = λ h. (let k : 10 + GAP ≤ 20 = h.0 (moves 10 0) [] (pos 1) (pos 1) false false (pos 0) (pos 0) refl (inl refl) refl refl refl in omega arith) }
+
+spaced_over_lives : Breaks OnceSpacedOverLives
+spaced_over_lives = record {
+  world = moves 20 0 ∷ (does 15 0 (Booted 5 (pos 15)) Boot ∷ (moves 10 0 ∷ []));
+  broken = λ h. (let k : 10 + GAP ≤ 20 = h.0 (moves 10 0) [] (pos 1) (pos 1) false false (pos 0) (pos 0) refl (inr (inl refl)) refl refl in omega arith);
+}
+
+turned : (k : ℕ) → Turned ≡ Came k → ⊥
+turned k e = cc
+
+obeyed : Breaks (OnceObeyed (still false))
+obeyed = record {
+  world = does 20 0 Turned (Correct (pos 1) false (pos 0)) ∷ (does 10 0 Turned (Become (Follow (peer_of 1))) ∷ []);
+  broken = λ h. turned _ (h.0 (peer_of 1) (pos 1) false (pos 0) refl refl).brings.cause;
+}
+
+-- a Correct that takes a post
+abbrev acts : (l : Line) (world : List Line) (post : Line) (older : List Line) (m : MessageValue) → l.did.deed ≡ Acts (Correct (pos 1) false (pos 0)) → Within (post ∷ older) world → l.did.step.cause ≡ Came (posted (dids older)) →
+    post.did.deed ≡ Acts (Post (Peer (peer_of (node_of l))) (Message m)) → is_some (heard (dids (of (node_of l) world))) ≡ true → ActsOn l world post older
+acts l world post older m correct place cause deed took = record { amount = pos 1; stepped = false; shown = pos 0; correct = correct; brings = record { place = place; cause = cause; message = m; deed = deed }; took = took }
+
+abbrev adjusts : MessageValue
+adjusts = msg AdjTime 5 (Time (pos 1))
+
+abbrev ring : List Line
+ring = does 10 1 Turned (Ring Round) ∷ []
+
+abbrev adj : Line
+adj = does 10 1 Turned (Post (Peer (peer_of 0)) (Message adjusts))
+
+abbrev took : ℕ → ℕ → Line
+took at k = does at 0 (Came k) (Took (Peer (peer_of 1)) (Good (Message adjusts)))
+
+abbrev once : List Line
+once = took 20 0 ∷ (adj ∷ ring)
+
+begins-here : OfSend 0 adj ring adj.did (view port0 (of 1 ring))
+begins-here = record { message = adjusts; deed = refl; numbered = refl; is = refl }
+
+first : ActsOn (moves 20 0) once adj ring
+first = acts _ _ _ _ adjusts refl (inr (inl refl)) refl refl refl
+
+abbrev twice : List Line
+twice = took 30 0 ∷ (moves 20 0 ∷ once)
+
+abbrev second : ActsOn (moves 30 0) twice adj ring
+second = acts _ _ _ _ adjusts refl (inr (inr (inr (inl refl)))) refl refl refl
+
+corrected : Breaks OnceCorrected
+corrected = record { world = moves 30 0 ∷ twice; broken = λ h. h.0 adj (moves 20 0) adj ring once ring adj.did (view port0 (of 1 ring)) second refl (inr (inl refl)) first begins-here begins-here }
+
+-- the send has ended, and is posted again
+abbrev over : List Line
+over = does 25 1 Turned (Acked (peer_of 0)) ∷ (moves 20 0 ∷ once)
+
+abbrev rest : List Line
+rest = begins 26 1 Turned ∷ over
+
+abbrev again : Line
+again = does 26 1 Turned (Post (Peer (peer_of 0)) (Message adjusts))
+
+abbrev repeats : List Line
+repeats = took 30 1 ∷ (again ∷ rest)
+
+abbrev once-more : ActsOn (moves 30 1) repeats again rest
+once-more = acts _ _ _ _ adjusts refl (inr (inl refl)) refl refl refl
+
+of-ended : OfSend 0 again rest adj.did (view port0 (of 1 ring))
+of-ended = record { message = adjusts; deed = refl; numbered = refl; is = refl }
+
+repeated : Breaks OnceCorrected
+repeated = record { world = moves 30 1 ∷ repeats; broken = λ h. h.0 again (moves 20 0) adj rest once ring adj.did (view port0 (of 1 ring)) once-more refl (inr (inr (inr (inr (inl refl))))) first of-ended begins-here }
+
+abbrev aside : Line
+aside = line (step_at 30 0 (Came 0)) port1 (Correct (pos 1) false (pos 0))
+
+abbrev beside : ActsOn aside twice adj ring
+beside = acts _ _ _ _ adjusts refl (inr (inr (inr (inl refl)))) refl refl refl
+
+elsewhere : Breaks OnceCorrected
+elsewhere = record { world = aside ∷ twice; broken = λ h. h.0 adj (moves 20 0) adj ring once ring adj.did (view port0 (of 1 ring)) beside refl (inr (inl refl)) first begins-here begins-here }
+
+abbrev dates : MessageValue
+dates = msg SetDateReq 32775 (Time (pos 1))
+
+abbrev date : Line
+date = does 10 1 Turned (Post (Peer (peer_of 0)) (Message dates))
+
+abbrev dated_once : List Line
+dated_once = does 20 0 (Came 0) (Took (Peer (peer_of 1)) (Good (Message dates))) ∷ (date ∷ ring)
+
+abbrev forged : List Line
+forged = does 25 0 Handed (Correct (pos 1) false (pos 0)) ∷ (does 25 0 Handed (Took (Peer (peer_of 1)) (Good (Message (msg SetDateReq 100 (Time (pos 1)))))) ∷ (moves 20 0 ∷ dated_once))
+
+abbrev dated_twice : List Line
+dated_twice = does 30 0 (Came 0) (Took (Peer (peer_of 1)) (Good (Message dates))) ∷ forged
+
+dates-once : ActsOn (moves 20 0) dated_once date ring
+dates-once = acts _ _ _ _ dates refl (inr (inl refl)) refl refl refl
+
+abbrev dates-twice : ActsOn (moves 30 0) dated_twice date ring
+dates-twice = acts _ _ _ _ dates refl (inr (inr (inr (inr (inr (inl refl)))))) refl refl refl
+
+date-begins : OfSend 0 date ring date.did (view port0 (of 1 ring))
+date-begins = record { message = dates; deed = refl; numbered = refl; is = refl }
+
+dated : Breaks OnceTaken
+dated = record { world = moves 30 0 ∷ dated_twice; broken = λ h. h.0 date (moves 20 0) date ring dated_once ring date.did (view port0 (of 1 ring)) dates-twice refl (inr (inr (inr (inl refl)))) dates-once date-begins date-begins }
+
+abbrev sent : List Line
+sent = does 10 0 Turned (Post (Peer (peer_of 1)) (Message (msg SetTime 5 (Time (pos 1))))) ∷ (does 10 0 Turned (Ring Round) ∷ [])
+
+confirmed : Breaks OnceConfirmed
+confirmed = record {
+  world = does 20 0 Turned (Acked (peer_of 1)) ∷ sent;
+  broken = λ h.
+      let a = h.0 (peer_of 1) (does 10 0 Turned (Post (Peer (peer_of 1)) (Message (msg SetTime 5 (Time (pos 1)))))).did _ (msg SetTime 5 (Time (pos 1))) refl refl refl refl in
+      let own = Everywhere-at (λ (l : Line) (before : List Line). node_of l ≡ 0) a.correct a.past sent (refl, (refl, tt)) a.place in
+      omega (arith, own, a.node);
+}
+
+pub sends_break : SendsBreak (still false)
+sends_break = record {
+  spaced = spaced;
+  spaced_over_lives = spaced_over_lives;
+  obeyed = obeyed;
+  corrected = corrected;
+  repeated = repeated;
+  elsewhere = elsewhere;
+  dated = dated;
+  confirmed = confirmed;
+}

@@ -1,0 +1,52 @@
+-- The clock at a place is the target that the node's past gives.
+use Rattle.std.specs.Prelude.{◌≡◌, ◌==◌, Bool, true, false, ℕ, pos, ◌-ℤ◌, List, [], ◌∷◌, refl}
+use Rattle.std.proofs.Common.{sym, ap, arith, subst, eqb-true, true≢false, ◌∙◌}
+use Rattle.std.proofs.lemmas.Int.{ints}
+use Rattle.tsp_base.specs.declared.act.Act.TheVariants.{Boot, Post}
+use Rattle.tsp_base.specs.declared.datagram.Datagram.{Datagram}
+use Rattle.tsp_base.specs.declared.place.Place.{Place}
+use Rattle.tsp_promises.specs.ClockAt.{clock, clock_at}
+use Rattle.tsp_promises.specs.Fits.{Fits, LineFits, Alive, node_of}
+use Rattle.tsp_base.specs.History.{Deed, Begins, Acts, Did, Line, of, dids}
+use Rattle.tsp_base.specs.NodeFacts.{base, boot_after, boot_tick, moved, target, up, up_after, wall, wall_after}
+use Rattle.tsp_promises.specs.Setting.{Setting}
+use Rattle.tsp_promises.proofs.HistoryPlaces.{of-own}
+
+base-deed : (setting : Setting) (d : Did) (t : List Did) (deed : Deed) → Alive setting deed d (up t) → (up t ≡ true → base t ≡ setting.wall d.step.node) → up_after deed (up t) ≡ true →
+    wall_after deed d.step.cause (wall t) -ℤ pos (boot_after deed d.tick (boot_tick t)) ≡ setting.wall d.step.node
+base-deed setting d t Begins a h u = h u
+base-deed setting d t (Acts Boot) a h u = rw a.1 (omega (arith, ints))
+base-deed setting d t (Acts act) a h u = h u
+
+base-more : (setting : Setting) (n : ℕ) (l : Line) (world : List Line) (b : Bool) → (node_of l == n) ≡ b → LineFits setting l world → (up (dids (of n world)) ≡ true → base (dids (of n world)) ≡ setting.wall n) →
+    up (dids (of n (l ∷ world))) ≡ true → base (dids (of n (l ∷ world))) ≡ setting.wall n
+base-more setting n l world true e f h u =
+    let same : node_of l ≡ n = eqb-true (node_of l) n e in
+    let go : (up (dids (of n world)) ≡ true → base (dids (of n world)) ≡ setting.wall (node_of l)) → up_after l.did.deed (up (dids (of n world))) ≡ true →
+    wall_after l.did.deed l.did.step.cause (wall (dids (of n world))) -ℤ pos (boot_after l.did.deed l.did.tick (boot_tick (dids (of n world)))) ≡ setting.wall (node_of l) =
+    base-deed setting l.did (dids (of n world)) l.did.deed (subst (λ k. Alive setting l.did.deed l.did (up (dids (of k world)))) same f.alive) in
+    rw e (go (λ q. h q ∙ ap setting.wall (sym same)) (rw e at u) ∙ ap setting.wall same)
+base-more setting n l world false e f h u = rw e (h (rw e at u))
+
+-- an uncorrected clock is the node's wall and its ticks
+pub base_is : (setting : Setting) (n : ℕ) (world : List Line) → Fits setting world → up (dids (of n world)) ≡ true → base (dids (of n world)) ≡ setting.wall n
+base_is setting n [] f u = absurd (true≢false (sym u))
+base_is setting n (l ∷ world) f u = base-more setting n l world (node_of l == n) refl f.0 (base_is setting n world f.1) u
+
+-- the clock before a line, at its time, is the target that its node's past gives
+pub target_is : (setting : Setting) (l : Line) (world : List Line) → Fits setting (l ∷ world) → up (dids (of (node_of l) world)) ≡ true →
+    clock_at setting (node_of l) world l.did.step.at ≡ target (dids (of (node_of l) world)) l.did.tick
+target_is setting l world f u =
+    let b = base_is setting (node_of l) world f.1 u in
+    rw (f.0.tick, b) refl
+
+-- a poster has booted, and its clock is its target
+pub post_up : (setting : Setting) (l : Line) (world : List Line) (to : Place) (datagram : Datagram) → LineFits setting l world → l.did.deed ≡ Acts (Post to datagram) → up (dids (of (node_of l) world)) ≡ true
+post_up setting l world to datagram f e = subst (λ k. Alive setting k l.did (up (dids (of (node_of l) world)))) e f.alive
+
+pub clock_post : (setting : Setting) (l : Line) (world : List Line) (to : Place) (datagram : Datagram) → Fits setting (l ∷ world) → l.did.deed ≡ Acts (Post to datagram) →
+    clock setting (node_of l) (l ∷ world) ≡ target (dids (of (node_of l) world)) l.did.tick
+clock_post setting l world to datagram f e =
+    let own = of-own (node_of l) l world refl in
+    let still : moved (dids (l ∷ of (node_of l) world)) ≡ moved (dids (of (node_of l) world)) = rw e refl in
+    rw (own, still) (target_is setting l world f (post_up setting l world to datagram f.0 e))

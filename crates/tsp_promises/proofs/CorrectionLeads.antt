@@ -1,0 +1,228 @@
+-- When a correction may begin, and what a repeat owes.
+use Rattle.std.specs.Prelude.{◌≡◌, ◌⊎◌, ◌≤◌, ℕ, ◌+◌, ◌%◌, ◌==◌, ◌&&◌, ◌||◌, nat_lt, nat_le, cond, Bool, true, false, if◌then◌else◌, List, [], ◌∷◌, Option, None, Some, refl}
+use Rattle.std.proofs.Common.{sym, subst, inl, inr, ap, arith, true≢false, eqb-true, ltb-false, ◌∙◌}
+use Rattle.tsp_base.specs.declared.act.Act.TheVariants.{Boot, Post, Become, Acked, Gave, Leave}
+use Rattle.tsp_base.specs.declared.constants.TheConstants.{LAST, REUSE, TRIES}
+use Rattle.tsp_base.specs.declared.datagram.Datagram.TheVariants.{Message}
+use Rattle.tsp_base.specs.declared.kind.Kind.{Kind}
+use Rattle.tsp_base.specs.declared.kind.Kind.TheVariants.{AdjTime, SetTime, Election, Conflict, Quit, SetDateReq}
+use Rattle.tsp_base.specs.declared.place.PeerId.{PeerId}
+use Rattle.tsp_base.specs.declared.place.Place.TheVariants.{Peer}
+use Rattle.tsp_promises.specs.CorrectionFits.{RepeatFits, Rests, Follows}
+use Rattle.tsp_promises.specs.DeedFits.{MessageFits}
+use Rattle.tsp_base.specs.Hold.{is_past}
+use Rattle.tsp_base.specs.History.{Deed, Acts, Did, Seen, Here, Elsewhere, Past}
+use Rattle.tsp_base.specs.Leads.{Leads}
+use Rattle.tsp_base.specs.Messages.{MessageValue}
+use Rattle.tsp_base.specs.PortFacts.{role, acting}
+use Rattle.tsp_base.specs.Rows.{nothing, puts, ◌followed_by◌, either_by, for_each}
+use Rattle.tsp_base.specs.SendFacts.{is_correction, is_numbered, Sending, open_send, open_to, open_to_after, posts_of, sending_at, message_at, message_of, corrects_by, last_to, last_to_after, last_number, number_of, last_post, is_acknowledged, is_acknowledged_after}
+use Rattle.tsp_base.specs.Setup.{Setup}
+use Rattle.tsp_promises.specs.StepFacts.{is_unbacked}
+use Rattle.tsp_base.proofs.LeadsLemmas.{Leads_then, Leads_either, Leads_reading, Leads_nothing, Leads_puts, Leads_each, Leads_from, Leads_to}
+use Rattle.tsp_rules.specs.SendRows.{may_correct, open_at, leaves_after, gives_up, repeats, repeats_send, due_send, repeats_bare_send, bare_send, peers_at, due_sends, is_send_due, is_spent}
+use Rattle.tsp_rules.specs.Guards.{is_slave_at}
+use Rattle.tsp_promises.specs.PortFits.{PortFits, setup_in}
+use Rattle.tsp_promises.proofs.Known.{During, Fresh, Untaken}
+use Rattle.tsp_promises.proofs.Leaves.{none-some, gave, leave}
+use Rattle.tsp_rules.proofs.Asides.{now}
+use Rattle.tsp_promises.proofs.PostLeaves.{post_again}
+use Rattle.tsp_promises.proofs.Rings.{wake, forget}
+use Rattle.tsp_promises.proofs.SendFits.{OpenIs, open_is}
+use Rattle.tsp_rules.proofs.GuardFacts.{and-cases, or-cases, past_is, same_peer}
+
+-- the place where the last correction to p begins
+pub record LastIs (p : PeerId) (seen : List Seen) : Type 0 where
+  pub last : Did
+  pub older : List Seen
+  pub is : last_to p seen ≡ Here last ∷ older
+  pub message : MessageValue
+  pub deed : last.deed ≡ Acts (Post (Peer p) (Message message))
+
+last-more : (p : PeerId) (seen more : List Seen) → last_to p more ≡ last_to p seen → LastIs p seen → LastIs p more
+last-more p seen more e l = record { last = l.last; older = l.older; is = e ∙ l.is; message = l.message; deed = l.deed }
+
+last-post : (p q : PeerId) (m : MessageValue) (d : Did) (before : List Seen) → Acts (Post (Peer q) (Message m)) ≡ d.deed → LastIs p before → (b : Bool) → ((q.0 == p.0) && (is_correction m.kind && acting before)) ≡ b →
+    last_to p (Here d ∷ before) ≡ cond b (Here d ∷ before) (last_to p before) → LastIs p (Here d ∷ before)
+last-post p q m d before is l true test e =
+    let one = and-cases (q.0 == p.0) (is_correction m.kind && acting before) test in
+    let same : q ≡ p = same_peer q p one.0 in
+    record { last = d; older = before; is = e; message = m; deed = subst (λ t. d.deed ≡ Acts (Post (Peer t) (Message m))) same (sym is) }
+last-post p q m d before is l false test e = last-more p before (Here d ∷ before) e l
+
+if-true : (b : Bool) (keep : List Seen) → corrects_by (message_at (cond b [] keep)) ≡ true → corrects_by (message_at keep) ≡ true
+if-true true keep e = absurd (true≢false (sym e))
+if-true false keep e = e
+
+-- an open correction is the last one
+here-or-last : (p q : PeerId) (m : MessageValue) (d : Did) (before : List Seen) → Acts (Post (Peer q) (Message m)) ≡ d.deed → (corrects_by (message_at (open_to p before)) ≡ true → LastIs p before) →
+    (a : Bool) → ((q.0 == p.0) && (is_numbered m.kind && acting before)) ≡ a → corrects_by (message_at (cond a (Here d ∷ before) (open_to p before))) ≡ true →
+    (b : Bool) → ((q.0 == p.0) && (is_correction m.kind && acting before)) ≡ b → last_to p (Here d ∷ before) ≡ cond b (Here d ∷ before) (last_to p before) → LastIs p (Here d ∷ before)
+here-or-last p q m d before is k true one e true two place =
+    let first = and-cases (q.0 == p.0) (is_correction m.kind && acting before) two in
+    record { last = d; older = before; is = place; message = m; deed = subst (λ t. d.deed ≡ Acts (Post (Peer t) (Message m))) (same_peer q p first.0) (sym is) }
+here-or-last p q m d before is k true one e false two place =
+    let first = and-cases (q.0 == p.0) (is_numbered m.kind && acting before) one in
+    let second = and-cases (is_numbered m.kind) (acting before) first.1 in
+    let corrects : is_correction m.kind ≡ true = subst (λ t. corrects_by (message_of t) ≡ true) (sym is) e in
+    absurd (true≢false (sym (subst (λ b. (b && (is_correction m.kind && acting before)) ≡ true) (sym first.0) (subst (λ b. (b && acting before) ≡ true) (sym corrects) second.1)) ∙ two))
+here-or-last p q m d before is k false one e true two place =
+    let first = and-cases (q.0 == p.0) (is_correction m.kind && acting before) two in
+    record { last = d; older = before; is = place; message = m; deed = subst (λ t. d.deed ≡ Acts (Post (Peer t) (Message m))) (same_peer q p first.0) (sym is) }
+here-or-last p q m d before is k false one e false two place = last-more p before (Here d ∷ before) place (k e)
+
+open-last-deed : (p : PeerId) (d : Did) (before : List Seen) → (corrects_by (message_at (open_to p before)) ≡ true → LastIs p before) → (deed : Deed) → deed ≡ d.deed →
+    last_to p (Here d ∷ before) ≡ last_to_after p deed (acting before) (Here d ∷ before) (last_to p before) →
+    corrects_by (message_at (open_to_after p deed (acting before) (Here d ∷ before) (open_to p before))) ≡ true → LastIs p (Here d ∷ before)
+open-last-deed p d before k (Acts Boot) is t e = absurd (true≢false (sym e))
+open-last-deed p d before k (Acts (Become r)) is t e = absurd (true≢false (sym e))
+open-last-deed p d before k (Acts (Post (Peer q) (Message m))) is t e = here-or-last p q m d before is k _ refl e _ refl t
+open-last-deed p d before k (Acts (Acked q)) is t e = last-more p before (Here d ∷ before) t (k (if-true (q.0 == p.0) (open_to p before) e))
+open-last-deed p d before k (Acts (Gave q)) is t e = last-more p before (Here d ∷ before) t (k (if-true (q.0 == p.0) (open_to p before) e))
+open-last-deed p d before k _ is t e = last-more p before (Here d ∷ before) t (k e)
+
+open-last : (p : PeerId) (seen : List Seen) → corrects_by (message_at (open_to p seen)) ≡ true → LastIs p seen
+open-last p [] e = absurd (true≢false (sym e))
+open-last p (Elsewhere d ∷ before) e = last-more p before (Elsewhere d ∷ before) refl (open-last p before e)
+open-last p (Here d ∷ before) e = open-last-deed p d before (open-last p before) d.deed refl refl e
+
+acked-last : (p q : PeerId) (d : Did) (before : List Seen) → (is_acknowledged p before ≡ true → LastIs p before) → last_to p (Here d ∷ before) ≡ last_to p before → (b : Bool) → ((q.0 == p.0) && corrects_by (message_at (open_to p before))) ≡ b →
+    cond b true (is_acknowledged p before) ≡ true → LastIs p (Here d ∷ before)
+acked-last p q d before k t true test e =
+    let one = and-cases (q.0 == p.0) (corrects_by (message_at (open_to p before))) test in
+    last-more p before (Here d ∷ before) t (open-last p before one.1)
+acked-last p q d before k t false test e = last-more p before (Here d ∷ before) t (k e)
+
+if-false : (b keep : Bool) → cond b false keep ≡ true → keep ≡ true
+if-false true keep e = absurd (true≢false (sym e))
+if-false false keep e = e
+
+acknowledged-deed : (p : PeerId) (d : Did) (before : List Seen) → (is_acknowledged p before ≡ true → LastIs p before) → (deed : Deed) → deed ≡ d.deed →
+    last_to p (Here d ∷ before) ≡ last_to_after p deed (acting before) (Here d ∷ before) (last_to p before) →
+    is_acknowledged_after p deed (acting before) (corrects_by (message_at (open_to p before))) (is_acknowledged p before) ≡ true → LastIs p (Here d ∷ before)
+acknowledged-deed p d before k (Acts Boot) is t e = absurd (true≢false (sym e))
+acknowledged-deed p d before k (Acts (Post (Peer q) (Message m))) is t e = last-post p q m d before is (k (if-false ((q.0 == p.0) && (is_correction m.kind && acting before)) (is_acknowledged p before) e)) _ refl t
+acknowledged-deed p d before k (Acts (Acked q)) is t e = acked-last p q d before k t _ refl e
+acknowledged-deed p d before k _ is t e = last-more p before (Here d ∷ before) t (k e)
+
+-- an acknowledged correction has its beginning
+pub acknowledged_last : (p : PeerId) (seen : List Seen) → is_acknowledged p seen ≡ true → LastIs p seen
+acknowledged_last p [] e = absurd (true≢false (sym e))
+acknowledged_last p (Elsewhere d ∷ before) e = last-more p before (Elsewhere d ∷ before) refl (acknowledged_last p before e)
+acknowledged_last p (Here d ∷ before) e = acknowledged-deed p d before (acknowledged_last p before) d.deed refl refl e
+
+-- a correction that may begin rests or follows the last one
+pub may_fits : (p : PeerId) (number x : ℕ) (past : Past) (d : Did) (m : MessageValue) → d.tick ≡ x → m.number ≡ number → may_correct p number x past ≡ true → Rests d past.seen p ⊎ Follows past.seen p m
+may_fits p number x past d m tick_is number_is e = elim (or-cases (is_past (last_post p past.seen) REUSE x) (is_acknowledged p past.seen && (number == (last_number p past.seen + 1) % 32768)) e) [
+  | inl rests ↦ inl (record { long = λ t is. subst (λ y. t + REUSE ≤ y) (sym tick_is) (past_is (last_post p past.seen) REUSE x rests t is) })
+  | inr follows ↦
+      let both = and-cases (is_acknowledged p past.seen) (number == (last_number p past.seen + 1) % 32768) follows in
+      let l = acknowledged_last p past.seen both.0 in
+      let n : last_number p past.seen ≡ l.message.number = ap (λ place. number_of (message_at place)) l.is ∙ ap (λ t. number_of (message_of t)) l.deed in
+      inr (record {
+        last = l.last;
+        older = l.older;
+        is = l.is;
+        message = l.message;
+        deed = l.deed;
+        number = number_is ∙ eqb-true number ((last_number p past.seen + 1) % 32768) both.1 ∙ ap (λ k. (k + 1) % 32768) n;
+        acknowledged = both.0;
+      })
+]
+
+-- a repeat of the open send, no later than LAST after its beginning
+repeat_of : (setup : Setup) (p : PeerId) (seen : List Seen) (d : Did) (s : Sending) → OpenIs setup p seen s → d.tick ≤ s.began + LAST → RepeatFits d seen p s.message
+repeat_of setup p seen d s o soon = record {
+  first = o.began.first;
+  older = o.began.older;
+  is = o.began.is;
+  same = subst (λ m. o.began.first.deed ≡ Acts (Post (Peer p) (Message m))) (sym o.message_is) o.began.deed;
+  soon = (let e = o.tick_is in omega (arith, e, soon));
+}
+
+fits_kind : (setup : Setup) (k : Kind) (p : PeerId) (seen : List Seen) (d first : Did) (older : List Seen) (m : MessageValue) → is_numbered k ≡ true → MessageFits setup k first older p m → role seen ≡ role older → is_unbacked seen ≡ false → acting seen ≡ false →
+    RepeatFits d seen p m → MessageFits setup k d seen p m
+fits_kind setup AdjTime p seen d first older m n f r u a again = record { leads = r ∙ f.leads; begins = λ b. absurd (true≢false (sym b ∙ a)); repeats = λ i. again }
+fits_kind setup SetTime p seen d first older m n f r u a again = record { leads = r ∙ f.leads; begins = λ b. absurd (true≢false (sym b ∙ a)); repeats = λ i. again }
+fits_kind setup Election p seen d first older m n f r u a again = record { numbered = record { number = f.numbered.number; next = λ b. absurd (true≢false (sym b ∙ a)); repeats = λ i. again }; backs = u }
+fits_kind setup Conflict p seen d first older m n f r u a again = record { number = f.number; next = λ b. absurd (true≢false (sym b ∙ a)); repeats = λ i. again }
+fits_kind setup Quit p seen d first older m n f r u a again = record { number = f.number; next = λ b. absurd (true≢false (sym b ∙ a)); repeats = λ i. again }
+fits_kind setup SetDateReq p seen d first older m n f r u a again = record {
+  numbered = record { number = f.numbered.number; next = λ b. absurd (true≢false (sym b ∙ a)); repeats = λ i. again };
+  begins = λ b. absurd (true≢false (sym b ∙ a));
+}
+fits_kind setup _ p seen d first older m n f r u a again = absurd (true≢false (sym n))
+
+repeat_fits : (setup : Setup) (p : PeerId) (seen : List Seen) (d : Did) (s : Sending) → PortFits setup seen → open_send p seen ≡ Some s → is_unbacked seen ≡ false → acting seen ≡ false → d.tick ≤ s.began + LAST → MessageFits setup s.message.kind d seen p s.message
+repeat_fits setup p seen d s f e u a soon =
+    let o = open_is setup p seen s f e in
+    let m = o.message_is in
+    fits_kind setup s.message.kind p seen d o.began.first o.began.older s.message
+    (subst (λ t. is_numbered t.kind ≡ true) (sym m) o.began.numbered)
+    (subst (λ t. MessageFits setup t.kind o.began.first o.began.older p t) (sym m) o.began.fits)
+    o.began.role_is u a (repeat_of setup p seen d s o soon)
+
+-- the same port, which has a send open, so its quiet time is over
+abbrev Sending_on : ℕ → Past → Type 0
+Sending_on = During false true false None false Untaken
+
+awake_open : (p : PeerId) (s : Sending) (x : ℕ) (past : Past) → Fresh x past → open_send p past.seen ≡ Some s → Sending_on x past
+awake_open p s x past h e = wake (elim h.knows.quiet.rested [
+  | inl z ↦ none-some s (sym (ap (λ place. sending_at place (posts_of p past.seen)) (z.unsent p)) ∙ e)
+  | inr r ↦ r
+]) h
+
+leaves_fresh : (p : PeerId) (k : Kind) → Leads Sending_on (leaves_after p k) Fresh
+unfolding leaves_after
+leaves_fresh p k = by_case (is_correction k) where
+  by_case : (b : Bool) → Leads Sending_on (if b then either_by (is_slave_at p) (puts (Leave p)) nothing else nothing) Fresh
+  by_case true = Leads_either (is_slave_at p) (puts (Leave p)) nothing (Leads_puts (Leave p) (λ x past h. forget (leave p h.0))) (Leads_from (λ x past h. forget h.0) Leads_nothing)
+  by_case false = Leads_from (λ x past h. forget h) Leads_nothing
+
+soon_of : (s : Sending) (x : ℕ) (past : Past) → is_spent s x past ≡ false → x ≤ s.began + LAST
+soon_of s x past e = ltb-false (s.began + LAST) x (or-false (nat_lt (s.began + LAST) x) (nat_le TRIES s.posts) e) where
+  or-false : (a b : Bool) → (a || b) ≡ false → a ≡ false
+  or-false true b e = absurd (true≢false e)
+  or-false false b e = refl
+
+-- an open send that is due and not spent is posted again
+pub repeats_lead : (p : PeerId) (s : Sending) → Leads (λ x past. ((Fresh x past × (open_at p x past ≡ Some s)) × (is_send_due s x past ≡ true)) × (is_spent s x past ≡ false)) (repeats p s.message) Fresh
+unfolding repeats
+repeats_lead p s = Leads_puts (Post (Peer p) (Message s.message)) (λ x past h.
+    let f = h.0.0.0 in
+    forget (post_again p s.message (repeat_fits (setup_in past) p past.seen (now x past (Post (Peer p) (Message s.message))) s f.fits h.0.0.1 f.backs f.acting_is (soon_of s x past h.1)) (awake_open p s x past f h.0.0.1)))
+
+-- an open send that is due and spent is given up
+gives_up_leads : (p : PeerId) (s : Sending) → Leads (λ x past. ((Fresh x past × (open_at p x past ≡ Some s)) × (is_send_due s x past ≡ true)) × (is_spent s x past ≡ true)) (puts (Gave p)) Sending_on
+gives_up_leads p s = Leads_puts (Gave p) (λ x past h. gave p (awake_open p s x past h.0.0.0 h.0.0.1))
+
+repeats_send_leads : (p : PeerId) (o : Option Sending) → Leads (λ x past. Fresh x past × (open_at p x past ≡ o)) (repeats_send p o) Fresh
+unfolding repeats_send gives_up
+repeats_send_leads p None = Leads_from (λ x past h. h.0) Leads_nothing
+repeats_send_leads p (Some s) = Leads_either (is_send_due s) (either_by (is_spent s) (puts (Gave p) followed_by leaves_after p s.message.kind) (repeats p s.message)) nothing
+    (Leads_either (is_spent s) (puts (Gave p) followed_by leaves_after p s.message.kind) (repeats p s.message)
+    (Leads_then {Q = Sending_on} (puts (Gave p)) (leaves_after p s.message.kind) (gives_up_leads p s) (leaves_fresh p s.message.kind))
+    (repeats_lead p s))
+    (Leads_from (λ x past h. h.0.0) Leads_nothing)
+
+repeats_bare_leads : (p : PeerId) (o : Option Sending) → Leads (λ x past. Fresh x past × (open_at p x past ≡ o)) (repeats_bare_send p o) Fresh
+unfolding repeats_bare_send
+repeats_bare_leads p None = Leads_from (λ x past h. h.0) Leads_nothing
+repeats_bare_leads p (Some s) = Leads_either (is_send_due s) (either_by (is_spent s) (puts (Gave p)) (repeats p s.message)) nothing
+    (Leads_either (is_spent s) (puts (Gave p)) (repeats p s.message) (Leads_to (λ x past h. forget h) (gives_up_leads p s)) (repeats_lead p s))
+    (Leads_from (λ x past h. h.0.0) Leads_nothing)
+
+-- an open send that is due keeps what is known of a port
+pub due_send_leads : (p : PeerId) → Leads Fresh (due_send p) Fresh
+unfolding due_send
+due_send_leads p = Leads_reading (open_at p) (repeats_send p) (repeats_send_leads p)
+
+-- so it does without a slave table
+pub bare_send_leads : (p : PeerId) → Leads Fresh (bare_send p) Fresh
+unfolding bare_send
+bare_send_leads p = Leads_reading (open_at p) (repeats_bare_send p) (repeats_bare_leads p)
+
+-- and so do all sends
+pub due_sends_lead : Leads Fresh due_sends Fresh
+unfolding due_sends
+due_sends_lead = Leads_reading peers_at (for_each due_send) (λ ps. Leads_from (λ x past h. h.0) (Leads_each due_send ps due_send_leads))

@@ -1,0 +1,87 @@
+-- What elections add to what a deed owes, taken out of that.
+use Rattle.std.specs.Prelude.{◌≡◌, ◌⊎◌, ℕ, ◌+◌, ◌%◌, ◌==◌, ◌||◌, Bool, true, false, List, [], ◌∷◌, refl}
+use Rattle.std.proofs.Common.{sym, inl, inr, true≢false, eq-eqb, ◌∙◌}
+use Rattle.tsp_base.specs.declared.act.Act.TheVariants.{Post, Become, Backer}
+use Rattle.tsp_base.specs.declared.datagram.Datagram.TheVariants.{Message}
+use Rattle.tsp_base.specs.declared.kind.Kind.{Kind}
+use Rattle.tsp_base.specs.declared.kind.Kind.TheVariants.{Election, Accept}
+use Rattle.tsp_base.specs.declared.place.PeerId.{PeerId}
+use Rattle.tsp_base.specs.declared.place.Place.TheVariants.{Peer}
+use Rattle.tsp_base.specs.declared.role.Role.TheVariants.{Master}
+use Rattle.tsp_promises.specs.DeedFits.{DeedFits, MessageFits}
+use Rattle.tsp_promises.specs.Everywhere.{Everywhere}
+use Rattle.tsp_promises.specs.Fits.{Fits, node_of}
+use Rattle.tsp_base.specs.History.{Deed, Acts, Did, Line, Seen, of, view, plain}
+use Rattle.tsp_promises.specs.HoldFits.{AcceptFits, BackerFits, LeadFits}
+use Rattle.tsp_base.specs.Messages.{MessageValue}
+use Rattle.tsp_base.specs.NodeFacts.{word}
+use Rattle.tsp_base.specs.Peers.{is_among}
+use Rattle.tsp_base.specs.PortFacts.{acting}
+use Rattle.tsp_base.specs.SendFacts.{begun}
+use Rattle.tsp_promises.specs.Setting.{Setting, setup_of}
+use Rattle.tsp_base.specs.Setup.{Setup}
+use Rattle.tsp_promises.proofs.PortFits.{deed_fits}
+use Rattle.std.proofs.Math.Bool.{or-true}
+use Rattle.tsp_promises.proofs.SendProof.{peer-same}
+
+-- p is one of these
+abbrev pub In : PeerId → List PeerId → Type 0
+In p [] = ⊥
+In p (q ∷ rest) = (q ≡ p) ⊎ In p rest
+
+or-cases : (a b : Bool) → (a || b) ≡ true → (a ≡ true) ⊎ (b ≡ true)
+or-cases true b e = inl refl
+or-cases false b e = inr e
+
+pub in_among : (p : PeerId) (ps : List PeerId) → is_among p ps ≡ true → In p ps
+in_among p [] e = absurd (true≢false (sym e))
+in_among p (q ∷ rest) e = elim (or-cases (q.0 == p.0) (is_among p rest) e) [
+  | inl h ↦ inl (peer-same q p h)
+  | inr h ↦ inr (in_among p rest h)
+]
+
+among-in : (p : PeerId) (ps : List PeerId) → In p ps → is_among p ps ≡ true
+among-in p [] i = absurd i
+among-in p (q ∷ rest) (inl e) = (let same : (q.0 == p.0) ≡ true = eq-eqb q.0 p.0 (cc) in rw same refl)
+among-in p (q ∷ rest) (inr i) = (let later = among-in p rest i in rw later (or-true (q.0 == p.0)))
+
+pub not_among : (p : PeerId) (ps : List PeerId) → is_among p ps ≡ false → In p ps → ⊥
+not_among p ps e i = true≢false (sym (among-in p ps i) ∙ e)
+
+-- an ELECTION that begins has the port's next own number
+pub record AskFits (before : List Seen) (number : ℕ) : Type 0 where
+  pub next : acting before ≡ true → number ≡ 32768 + (word (plain before) + begun before) % 32768
+
+abbrev pub VoteFits : Kind → List Seen → PeerId → MessageValue → Type 0
+VoteFits Election before p m = AskFits before m.number
+VoteFits Accept before p m = AcceptFits before p m.number
+VoteFits _ before p m = Unit {0}
+
+-- what is owed to elections
+abbrev pub ElectFits : Setup → Deed → Did → List Seen → Type 0
+ElectFits who (Acts (Post (Peer p) (Message m))) here before = VoteFits m.kind before p m
+ElectFits who (Acts (Backer p)) here before = BackerFits who here before p
+ElectFits who (Acts (Become Master)) here before = LeadFits who here before
+ElectFits who _ here before = Unit {0}
+
+vote-fits : (who : Setup) (k : Kind) (here : Did) (before : List Seen) (p : PeerId) (m : MessageValue) → MessageFits who k here before p m → VoteFits k before p m
+vote-fits who Election here before p m f = record { next = f.numbered.next }
+vote-fits who Accept here before p m f = f
+vote-fits who _ here before p m f = tt
+
+elect-fits : (who : Setup) (deed : Deed) (here : Did) (before : List Seen) → DeedFits who deed here before → ElectFits who deed here before
+elect-fits who (Acts (Post (Peer p) (Message m))) here before f = vote-fits who m.kind here before p m f.fits
+elect-fits who (Acts (Backer p)) here before f = f
+elect-fits who (Acts (Become Master)) here before f = f
+elect-fits who _ here before f = tt
+
+abbrev pub ElectsAt : Setting → Line → List Line → Type 0
+ElectsAt setting l world = ElectFits (setup_of setting (node_of l) l.port) l.did.deed l.did (view l.port (of (node_of l) world))
+
+-- each line owes nothing to elections
+abbrev pub Elects : Setting → List Line → Type 0
+Elects setting = Everywhere (ElectsAt setting)
+
+pub elects : (setting : Setting) (world : List Line) → Fits setting world → Elects setting world
+elects setting [] f = tt
+elects setting (l ∷ world) f = (elect-fits (setup_of setting (node_of l) l.port) l.did.deed l.did (view l.port (of (node_of l) world)) (deed_fits setting l world l.did.deed refl f.0), elects setting world f.1)

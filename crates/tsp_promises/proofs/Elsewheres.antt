@@ -1,0 +1,193 @@
+-- What is known of a port while another port of its node acts.
+use Rattle.std.specs.Prelude.{◌≡◌, ℕ, ◌||◌, Bool, true, false, List, [], ◌∷◌, Option, None, refl}
+use Rattle.std.proofs.Common.{sym, subst, arith, true≢false}
+use Rattle.tsp_base.specs.declared.act.Act.{Act}
+use Rattle.tsp_base.specs.declared.act.Act.TheVariants.{Boot, Took, Post, Correct, Abandon}
+use Rattle.tsp_base.specs.declared.place.Place.TheVariants.{Stranger}
+use Rattle.tsp_base.specs.History.{Elsewhere, Past}
+use Rattle.tsp_base.specs.PortFacts.{Received, armed}
+use Rattle.tsp_base.specs.Rows.{grown}
+use Rattle.tsp_rules.proofs.NodeRowLemmas.{passed, Bootless}
+use Rattle.tsp_rules.specs.RoundRows.{is_correct, corrects}
+use Rattle.tsp_rules.proofs.Asides.{all_aside, aside, now}
+use Rattle.tsp_promises.proofs.Known.{KnowsOf, FreshIn, OpenIn, RestsIn}
+use Rattle.tsp_promises.proofs.Leaves.{stir, abandon}
+use Rattle.tsp_rules.proofs.FewActs.{is_calm_act, is_calm}
+use Rattle.tsp_promises.proofs.Stirring.{calmed, abandoned}
+use Rattle.tsp_rules.proofs.GuardFacts.{and-cases}
+
+-- whether an act elsewhere leaves all alone that is known of a port: it is no boot, and no correction
+abbrev pub is_apart : Act → Bool
+is_apart Boot = false
+is_apart (Correct amount stepped shown) = false
+is_apart _ = true
+
+-- so does a taking for what the port's own step has taken
+abbrev pub is_still : Act → Bool
+is_still (Took from t) = false
+is_still a = is_apart a
+
+-- what is known
+knows-aside : {stirred : Bool} (x : ℕ) (past : Past) (a : Act) → is_apart a ≡ true → KnowsOf stirred x past.own past.seen → KnowsOf stirred x past.own (aside x past a).seen
+knows-aside x past Boot e k = absurd (true≢false (sym e))
+knows-aside x past (Correct amount stepped shown) e k = absurd (true≢false (sym e))
+knows-aside x past _ e k = k
+
+-- a port that may be stirred
+pub stirring : (x : ℕ) (past : Past) → {stirred : Bool} → KnowsOf stirred x past.own past.seen → KnowsOf true x past.own past.seen
+stirring x past k = record {
+  times = k.times;
+  quiet = k.quiet;
+  vote = k.vote;
+  round = record { rounds = k.round.rounds; probing = k.round.probing; closes = λ calm. absurd (true≢false calm); exchanges = λ p i s older e. stir (k.round.exchanges p i s older e) };
+}
+
+-- a correction elsewhere stirs it
+knows-moved : (x : ℕ) (past : Past) (a : Act) → is_correct a ≡ true → KnowsOf true x past.own past.seen → KnowsOf true x past.own (aside x past a).seen
+knows-moved x past (Correct amount stepped shown) e k = record {
+  times = record { boot_le = k.times.boot_le; last_le = omega arith; boot_is = k.times.boot_is };
+  quiet = k.quiet;
+  vote = k.vote;
+  round = record { rounds = k.round.rounds; probing = k.round.probing; closes = λ calm. absurd (true≢false calm); exchanges = λ p i s older e. stir (k.round.exchanges p i s older e) };
+}
+knows-moved x past _ e k = absurd (true≢false (sym e))
+
+-- how a port stands, stirred or not, which other ports' acts keep
+pub record Family (S : Bool → ℕ → Past → Type 0) : Type 0 where
+  pub still : {stirred : Bool} (x : ℕ) (past : Past) (a : Act) → is_still a ≡ true → S stirred x past → S stirred x (aside x past a)
+  pub moved : (x : ℕ) (past : Past) (a : Act) → is_correct a ≡ true → S true x past → S true x (aside x past a)
+  pub weaken : (x : ℕ) (past : Past) → S false x past → S true x past
+  pub abandons : {stirred : Bool} (x : ℕ) (past : Past) → S stirred x past → S false x (grown x past (Abandon ∷ []))
+  pub shut : {stirred : Bool} (x : ℕ) (past : Past) → (armed past.seen).close ≡ None → S stirred x past → S false x past
+
+still-apart : (a : Act) → is_still a ≡ true → is_apart a ≡ true
+still-apart (Took from t) e = refl
+still-apart _ e = e
+
+fresh-aside : {stirred : Bool} (x : ℕ) (past : Past) (a : Act) → is_still a ≡ true → FreshIn stirred x past → FreshIn stirred x (aside x past a)
+fresh-aside x past Boot e h = absurd (true≢false (sym e))
+fresh-aside x past (Took from t) e h = absurd (true≢false (sym e))
+fresh-aside x past (Correct amount stepped shown) e h = absurd (true≢false (sym e))
+fresh-aside x past _ e h = record { own = h.own; fits = h.fits; knows = h.knows; rested = h.rested; backs = h.backs; owed = h.owed; acting_is = h.acting_is; took = h.took }
+
+fresh-moved : (x : ℕ) (past : Past) (a : Act) → is_correct a ≡ true → FreshIn true x past → FreshIn true x (aside x past a)
+fresh-moved x past (Correct amount stepped shown) e h = record {
+  own = h.own;
+  fits = h.fits;
+  knows = knows-moved x past (Correct amount stepped shown) e h.knows;
+  rested = h.rested;
+  backs = h.backs;
+  owed = h.owed;
+  acting_is = h.acting_is;
+  took = h.took;
+}
+fresh-moved x past _ e h = absurd (true≢false (sym e))
+
+-- before its turn
+pub fresh_family : Family FreshIn
+fresh_family = record {
+  still = fresh-aside;
+  moved = fresh-moved;
+  weaken = λ x past h. record { own = h.own; fits = h.fits; knows = stirring x past h.knows; rested = h.rested; backs = h.backs; owed = h.owed; acting_is = h.acting_is; took = h.took };
+  abandons = λ x past h. abandon h;
+  shut = λ x past e h. record { own = h.own; fits = h.fits; knows = calmed x past.own past.seen e h.knows; rested = h.rested; backs = h.backs; owed = h.owed; acting_is = h.acting_is; took = h.took };
+}
+
+open-aside : {stirred : Bool} {T : Option Received → Option Received → Type 0} (x : ℕ) (past : Past) (a : Act) → is_still a ≡ true → OpenIn stirred T x past → OpenIn stirred T x (aside x past a)
+open-aside x past Boot e h = absurd (true≢false (sym e))
+open-aside x past (Took from t) e h = absurd (true≢false (sym e))
+open-aside x past (Correct amount stepped shown) e h = absurd (true≢false (sym e))
+open-aside x past _ e h = record { own = h.own; fits = h.fits; knows = h.knows; backs = h.backs; owed = h.owed; took = h.took }
+
+open-moved : {T : Option Received → Option Received → Type 0} (x : ℕ) (past : Past) (a : Act) → is_correct a ≡ true → OpenIn true T x past → OpenIn true T x (aside x past a)
+open-moved x past (Correct amount stepped shown) e h = record { own = h.own; fits = h.fits; knows = knows-moved x past (Correct amount stepped shown) e h.knows; backs = h.backs; owed = h.owed; took = h.took }
+open-moved x past _ e h = absurd (true≢false (sym e))
+
+-- after its turn
+pub open_family : {T : Option Received → Option Received → Type 0} → Family (λ stirred. OpenIn stirred T)
+open_family = record {
+  still = open-aside;
+  moved = open-moved;
+  weaken = λ x past h. record { own = h.own; fits = h.fits; knows = stirring x past h.knows; backs = h.backs; owed = h.owed; took = h.took };
+  abandons = λ x past h. record { own = h.own; fits = (tt, h.fits); knows = abandoned x past h.knows; backs = h.backs; owed = h.owed; took = h.took };
+  shut = λ x past e h. record { own = h.own; fits = h.fits; knows = calmed x past.own past.seen e h.knows; backs = h.backs; owed = h.owed; took = h.took };
+}
+
+rests-aside : {stirred : Bool} (x : ℕ) (past : Past) (a : Act) → is_apart a ≡ true → RestsIn stirred x past → RestsIn stirred x (aside x past a)
+rests-aside x past Boot e h = absurd (true≢false (sym e))
+rests-aside x past (Correct amount stepped shown) e h = absurd (true≢false (sym e))
+rests-aside x past _ e h = record { fits = h.fits; knows = h.knows; backs = h.backs; follows = h.follows }
+
+rests-moved : (x : ℕ) (past : Past) (a : Act) → is_correct a ≡ true → RestsIn true x past → RestsIn true x (aside x past a)
+rests-moved x past (Correct amount stepped shown) e h = record { fits = h.fits; knows = knows-moved x past (Correct amount stepped shown) e h.knows; backs = h.backs; follows = h.follows }
+rests-moved x past _ e h = absurd (true≢false (sym e))
+
+-- at the end of the step; a taking elsewhere changes nothing then
+pub rests_family : Family RestsIn
+rests_family = record {
+  still = λ x past a e h. rests-aside x past a (still-apart a e) h;
+  moved = rests-moved;
+  weaken = λ x past h. record { fits = h.fits; knows = stirring x past h.knows; backs = h.backs; follows = h.follows };
+  abandons = λ x past h. record { fits = (tt, h.fits); knows = abandoned x past h.knows; backs = h.backs; follows = h.follows };
+  shut = λ x past e h. record { fits = h.fits; knows = calmed x past.own past.seen e h.knows; backs = h.backs; follows = h.follows };
+}
+
+pub rests_took : {stirred : Bool} (x : ℕ) (past : Past) (a : Act) → is_apart a ≡ true → RestsIn stirred x past → RestsIn stirred x (aside x past a)
+rests_took x past a e h = rests-aside x past a e h
+
+-- calm acts
+calm-apart : (strange moving : Bool) (a : Act) → is_calm_act strange moving a ≡ true → is_correct a ≡ false → is_still a ≡ true
+calm-apart strange moving Boot e n = e
+calm-apart strange moving (Took from t) e n = e
+calm-apart strange moving (Correct amount stepped shown) e n = absurd (true≢false n)
+calm-apart strange moving _ e n = refl
+
+calm-correct : (strange : Bool) (a : Act) → is_calm_act strange false a ≡ true → is_correct a ≡ false
+calm-correct strange (Correct amount stepped shown) e = absurd (true≢false (sym e))
+calm-correct strange _ e = refl
+
+calm-boot : (strange moving : Bool) (a : Act) → is_calm_act strange moving a ≡ true → a ≡ Boot → ⊥
+calm-boot strange moving a e is = true≢false (sym (subst (λ b. is_calm_act strange moving b ≡ true) is e))
+
+pub calm_bootless : (strange moving : Bool) (acts : List Act) → is_calm strange moving acts ≡ true → Bootless acts
+calm_bootless strange moving [] e = tt
+calm_bootless strange moving (a ∷ rest) e = let both = and-cases (is_calm_act strange moving a) (is_calm strange moving rest) e in (λ is. calm-boot strange moving a both.0 is, calm_bootless strange moving rest both.1)
+
+-- calm acts without a correction are calm where the clock may not be moved
+still-calm : (strange : Bool) (a : Act) → is_calm_act strange true a ≡ true → is_correct a ≡ false → is_calm_act strange false a ≡ true
+still-calm strange (Correct amount stepped shown) e n = absurd (true≢false n)
+still-calm strange Boot e n = e
+still-calm strange (Took from t) e n = e
+still-calm strange (Post Stranger datagram) e n = e
+still-calm strange _ e n = refl
+
+or-false : (a b : Bool) → (a || b) ≡ false → (a ≡ false) × (b ≡ false)
+or-false true b e = absurd (true≢false e)
+or-false false b e = (refl, e)
+
+pub calm_still : (strange : Bool) (acts : List Act) → is_calm strange true acts ≡ true → corrects acts ≡ false → is_calm strange false acts ≡ true
+calm_still strange [] e n = refl
+calm_still strange (a ∷ rest) e n =
+    let both = and-cases (is_calm_act strange true a) (is_calm strange true rest) e in
+    let none = or-false (is_correct a) (corrects rest) n in
+    let here = still-calm strange a both.0 none.0 in
+    rw here (calm_still strange rest both.1 none.1)
+
+module _ {S : Bool → ℕ → Past → Type 0} (family : Family S) where
+  -- calm acts elsewhere that don't move the clock
+  pub kept_aside : (strange : Bool) {stirred : Bool} (x : ℕ) (past : Past) (acts : List Act) → is_calm strange false acts ≡ true → S stirred x past → S stirred x (all_aside x past acts)
+  kept_aside strange x past [] e h = h
+  kept_aside strange x past (a ∷ rest) e h =
+      let both = and-cases (is_calm_act strange false a) (is_calm strange false rest) e in
+      kept_aside strange x (aside x past a) rest both.1 (family.still x past a (calm-apart strange false a both.0 (calm-correct strange a both.0)) h)
+
+  step-moved : (strange : Bool) (x : ℕ) (past : Past) (a : Act) → is_calm_act strange true a ≡ true → (b : Bool) → is_correct a ≡ b → S true x past → S true x (aside x past a)
+  step-moved strange x past a e true c h = family.moved x past a c h
+  step-moved strange x past a e false c h = family.still x past a (calm-apart strange true a e c) h
+
+  -- calm acts elsewhere, of which some may move it
+  pub moved_aside : (strange : Bool) (x : ℕ) (past : Past) (acts : List Act) → is_calm strange true acts ≡ true → S true x past → S true x (all_aside x past acts)
+  moved_aside strange x past [] e h = h
+  moved_aside strange x past (a ∷ rest) e h =
+      let both = and-cases (is_calm_act strange true a) (is_calm strange true rest) e in
+      moved_aside strange x (aside x past a) rest both.1 (step-moved strange x past a both.0 (is_correct a) refl h)

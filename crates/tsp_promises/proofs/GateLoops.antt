@@ -1,0 +1,67 @@
+-- The LOOPs after a round's last probe keep what is known of their port.
+use Rattle.std.specs.Prelude.{◌≡◌, ℕ, not, Bool, true, false, List, [], ◌∷◌, map, Option, None, Some, is_some, refl}
+use Rattle.std.proofs.Common.{sym, inl, ap, true≢false}
+use Rattle.tsp_base.specs.declared.alarm.Alarm.TheVariants.{Probe, Close}
+use Rattle.tsp_base.specs.declared.place.PeerId.{PeerId}
+use Rattle.tsp_base.specs.declared.place.Port.{Port}
+use Rattle.tsp_base.specs.Alarms.{deadline}
+use Rattle.tsp_base.specs.History.{Past}
+use Rattle.tsp_base.specs.PortFacts.{Received, acting, armed}
+use Rattle.tsp_base.specs.Rows.{grown, others}
+use Rattle.tsp_rules.specs.GateRows.{loop_to, sends_loops, is_last_probe}
+use Rattle.tsp_promises.proofs.Known.{OpenIn, During}
+use Rattle.tsp_promises.proofs.PostLeaves.{post_message}
+use Rattle.tsp_promises.proofs.Rings.{open_of, wake}
+use Rattle.tsp_promises.proofs.AlarmLeads.{master_rested}
+use Rattle.tsp_promises.proofs.RoundLeads.{Probed}
+use Rattle.tsp_rules.proofs.FewActs.{is_calm}
+use Rattle.tsp_rules.proofs.GuardFacts.{and-cases}
+
+-- a port in a step, whether it has acted or not
+pub during_open : {stirred : Bool} {T : Option Received → Option Received → Type 0} {x : ℕ} {past : Past} → OpenIn stirred T x past → During stirred false false None (acting past.seen) T x past
+during_open h = record { own = h.own; fits = h.fits; knows = h.knows; rested = λ e. absurd (true≢false (sym e)); backs = h.backs; owed = h.owed; acting_is = refl; took = h.took }
+
+-- port q, whose round has had its last probe
+record Looping (q : Port) (x : ℕ) (past : Past) : Type 0 where
+  pub probed : Probed x past
+  pub port_is : past.port ≡ q
+  pub until : ℕ
+  pub goes : (armed past.seen).close ≡ Some until
+
+loops-one : (q : Port) (x : ℕ) (past : Past) (p : PeerId) → Looping q x past → Looping q x (grown x past (loop_to q past.name p ∷ []))
+loops-one q x past p h =
+    let port = h.probed.open_port in
+    let rested = master_rested x past port (port.knows.round.closes refl h.until h.goes).leads in
+    record {
+      probed = record {
+        open_port = open_of (post_message p _ refl (inl (record { name = refl; number = ap (λ (r : Port). r.0) (sym h.port_is); hops = refl })) (wake rested (during_open port)));
+        later = h.probed.later;
+      };
+      port_is = h.port_is;
+      until = h.until;
+      goes = h.goes;
+    }
+
+loops-list : (q : Port) (ps : List PeerId) (x : ℕ) (past : Past) → Looping q x past → Looping q x (grown x past (map (loop_to q past.name) ps))
+loops-list q [] x past h = h
+loops-list q (p ∷ ps) x past h = loops-list q ps x (grown x past (loop_to q past.name p ∷ [])) (loops-one q x past p h)
+
+some-is : (o : Option ℕ) → is_some o ≡ true → (at : ℕ) × (o ≡ Some at)
+some-is None e = absurd (true≢false (sym e))
+some-is (Some at) e = (at, refl)
+
+-- a LOOP sets out to each other peer
+pub loops_kept : (q : Port) (x : ℕ) (past : Past) → past.port ≡ q → is_last_probe past ≡ true → Probed x past → Probed x (grown x past (sends_loops q x past))
+unfolding sends_loops
+loops_kept q x past port last h =
+    let both = and-cases (is_some (deadline (armed past.seen) Close)) (not (is_some (deadline (armed past.seen) Probe))) last in
+    let goes = some-is (armed past.seen).close both.0 in
+    (loops-list q (others past.own past.peers) x past (record { probed = h; port_is = port; until = goes.0; goes = goes.1 })).probed
+
+loops-calm : (strange moving : Bool) (q : Port) (name : List ℕ) (ps : List PeerId) → is_calm strange moving (map (loop_to q name) ps) ≡ true
+loops-calm strange moving q name [] = refl
+loops-calm strange moving q name (p ∷ ps) = loops-calm strange moving q name ps
+
+pub loops_calm : (strange moving : Bool) (q : Port) (x : ℕ) (past : Past) → is_calm strange moving (sends_loops q x past) ≡ true
+unfolding sends_loops
+loops_calm strange moving q x past = loops-calm strange moving q past.name (others past.own past.peers)

@@ -1,0 +1,267 @@
+-- What single acts make of what is known of a port.
+use Rattle.std.specs.Prelude.{◌≡◌, ◌≤◌, ℕ, ◌+◌, ◌==◌, ◌&&◌, ◌||◌, ℤ, Bool, true, false, if◌then◌else◌, cond, List, [], ◌∷◌, Option, None, Some, refl}
+use Rattle.std.proofs.Common.{sym, subst, arith, inr, ◌∙◌, true≢false}
+use Rattle.tsp_base.specs.declared.act.Act.{Act}
+use Rattle.tsp_base.specs.declared.act.Act.TheVariants.{Backer, Arm, Join, Leave, Rival, Acked, Gave, Sample, Close as CloseAct, Correct, Abandon, Trace}
+use Rattle.tsp_base.specs.declared.alarm.Alarm.TheVariants.{Search, Elect, Window, Probe, Close, Resolve, Round}
+use Rattle.tsp_base.specs.declared.constants.TheConstants.{QUIET, CLOSE, PROBE}
+use Rattle.tsp_base.specs.declared.place.PeerId.{PeerId}
+use Rattle.tsp_base.specs.declared.role.Role.TheVariants.{Master}
+use Rattle.tsp_rules.proofs.Asides.{now}
+use Rattle.tsp_promises.specs.AckFits.{AckedFits}
+use Rattle.tsp_promises.specs.CorrectFits.{CorrectFits}
+use Rattle.tsp_promises.specs.DeedFits.{ActFits}
+use Rattle.tsp_promises.specs.HoldFits.{BackerFits}
+use Rattle.tsp_promises.specs.MeasureFits.{SampleFits}
+use Rattle.tsp_base.specs.History.{Did, Acts, Seen, Here, Past, plain}
+use Rattle.tsp_base.specs.NodeFacts.{boot_tick}
+use Rattle.tsp_base.specs.Peers.{is_among}
+use Rattle.tsp_base.specs.PortFacts.{Received, role, armed, acting, taken, backers, held, stood}
+use Rattle.tsp_base.specs.RoundFacts.{exchange, probes}
+use Rattle.tsp_base.specs.Rows.{grown}
+use Rattle.tsp_base.specs.SendFacts.{open_to, message_at}
+use Rattle.tsp_promises.specs.StepFacts.{is_unbacked, owes}
+use Rattle.tsp_base.specs.Takings.{heard}
+use Rattle.tsp_promises.specs.PortFits.{PortFits, setup_in}
+use Rattle.tsp_promises.proofs.Known.{Asked, Probing, Candidature, asks_vote, KnowsOf, During}
+use Rattle.tsp_rules.proofs.GuardFacts.{same_peer}
+
+-- what a port has seen when it is done
+abbrev pub then_seen : ℕ → Past → Act → List Seen
+then_seen x past a = Here (now x past a) ∷ past.seen
+
+pub none-some : {A : Type 0} {B : Type 0} (a : A) → None ≡ Some a → B
+none-some a e = let bad : ⊥ = cc in absurd bad
+
+pub nil-cons : {B : Type 0} (s : Seen) (older : List Seen) → [] ≡ s ∷ older → B
+nil-cons s older e = let bad : ⊥ = cc in absurd bad
+
+pub some-same : {A : Type 0} (a b : A) → Some a ≡ Some b → a ≡ b
+some-same a b e = cc
+
+-- an exchange that is open after a sample was open before
+kept-asked : {B : Type 0} (b : Bool) (keep : List Seen) (s : Seen) (older : List Seen) → (keep ≡ s ∷ older → B) → (if b then [] else keep) ≡ s ∷ older → B
+kept-asked true keep s older old e = nil-cons s older e
+kept-asked false keep s older old e = old e
+
+-- a vote that is asked for after a send has ended was asked for before
+kept-vote : {B : Type 0} (b : Bool) (keep : List Seen) → (asks_vote (message_at keep) ≡ true → B) → asks_vote (message_at (cond b [] keep)) ≡ true → B
+kept-vote true keep old e = absurd (true≢false (sym e))
+kept-vote false keep old e = old e
+
+-- a peer that is asked isn't the new backer, whose send has ended
+new-backer : (p q : PeerId) (keep : List Seen) (bs : List PeerId) → (q ≡ p → keep ≡ []) → asks_vote (message_at keep) ≡ true → is_among q bs ≡ false → (b : Bool) → (p.0 == q.0) ≡ b → (b || is_among q bs) ≡ false
+new-backer p q keep bs ended e old true same = absurd (true≢false (sym (subst (λ place. asks_vote (message_at place) ≡ true) (ended (sym (same_peer p q same))) e)))
+new-backer p q keep bs ended e old false same = old
+
+-- an exchange of a port that is stirred now
+pub stir : {stirred : Bool} {close : Option ℕ} {nc nl nd nm w : ℕ} {s : Seen} {older : List Seen} → Asked stirred close nc nl w s older → Asked true close nd nm w s older
+stir a = record { post = a.post; is = a.is; at = a.at; goes = a.goes; word_is = a.word_is; corrects = λ calm. absurd (true≢false calm); life = λ calm. absurd (true≢false calm) }
+
+pub made : {stirred awake owing acts : Bool} {follow : Option PeerId} {T : Option Received → Option Received → Type 0} {x : ℕ} {past : Past} (a : Act) → past.own.0 ≡ past.step.node → ActFits (setup_in past) a (now x past a) past.seen → PortFits (setup_in past) past.seen →
+    KnowsOf stirred x past.own (then_seen x past a) → (awake ≡ true → boot_tick (plain (then_seen x past a)) + QUIET ≤ x) → is_unbacked (then_seen x past a) ≡ owing → owes (then_seen x past a) ≡ follow → acting (then_seen x past a) ≡ acts → T (taken (then_seen x past a)) (heard (plain (then_seen x past a))) →
+    During stirred awake owing follow acts T x (grown x past (a ∷ []))
+made a own f fits knows rested backs owed acting_is took = record { own = own; fits = (f, fits); knows = knows; rested = rested; backs = backs; owed = owed; acting_is = acting_is; took = took }
+
+-- acts that change nothing that is known
+module _ {stirred awake owing acts : Bool} {follow : Option PeerId} {T : Option Received → Option Received → Type 0} {x : ℕ} {past : Past} where
+  pub join : (p : PeerId) → During stirred awake owing follow acts T x past → During stirred awake owing follow acts T x (grown x past (Join p ∷ []))
+  join p h = made (Join p) h.own tt h.fits h.knows h.rested h.backs h.owed h.acting_is h.took
+
+  pub leave : (p : PeerId) → During stirred awake owing follow acts T x past → During stirred awake owing follow acts T x (grown x past (Leave p ∷ []))
+  leave p h = made (Leave p) h.own tt h.fits h.knows h.rested h.backs h.owed h.acting_is h.took
+
+  pub rival : (p : PeerId) → During stirred awake owing follow acts T x past → During stirred awake owing follow acts T x (grown x past (Rival p ∷ []))
+  rival p h = made (Rival p) h.own tt h.fits h.knows h.rested h.backs h.owed h.acting_is h.took
+
+  pub trace : (on : Bool) → During stirred awake owing follow acts T x past → During stirred awake owing follow acts T x (grown x past (Trace on ∷ []))
+  trace on h = made (Trace on) h.own tt h.fits h.knows h.rested h.backs h.owed h.acting_is h.took
+
+  pub close_act : (count : ℕ) (lo size mean : ℤ) → role past.seen ≡ Master → During stirred awake owing follow acts T x past → During stirred awake owing follow acts T x (grown x past (CloseAct count lo size mean ∷ []))
+  close_act count lo size mean f h = made (CloseAct count lo size mean) h.own f h.fits h.knows h.rested h.backs h.owed h.acting_is h.took
+
+-- acts of a port whose quiet time is over
+module _ {stirred owing acts : Bool} {follow : Option PeerId} {T : Option Received → Option Received → Type 0} {x : ℕ} {past : Past} where
+  pub arm_search : (at : ℕ) → During stirred true owing follow acts T x past → During stirred true owing follow acts T x (grown x past (Arm Search at ∷ []))
+  arm_search at h =
+      let k = h.knows in
+      made (Arm Search at) h.own tt h.fits (record { times = k.times; quiet = record { rested = inr (h.rested refl); silent = k.quiet.silent }; vote = k.vote; round = k.round }) h.rested h.backs h.owed h.acting_is h.took
+
+  pub arm_elect : (at : ℕ) → During stirred true owing follow acts T x past → During stirred true owing follow acts T x (grown x past (Arm Elect at ∷ []))
+  arm_elect at h =
+      let k = h.knows in
+      made (Arm Elect at) h.own tt h.fits (record { times = k.times; quiet = record { rested = inr (h.rested refl); silent = k.quiet.silent }; vote = k.vote; round = k.round }) h.rested h.backs h.owed h.acting_is h.took
+
+  pub arm_resolve : (at : ℕ) → During stirred true owing follow acts T x past → During stirred true owing follow acts T x (grown x past (Arm Resolve at ∷ []))
+  arm_resolve at h =
+      let k = h.knows in
+      made (Arm Resolve at) h.own tt h.fits (record { times = k.times; quiet = record { rested = inr (h.rested refl); silent = k.quiet.silent }; vote = k.vote; round = k.round }) h.rested h.backs h.owed h.acting_is h.took
+
+  pub gave : (p : PeerId) → During stirred true owing follow acts T x past → During stirred true owing follow acts T x (grown x past (Gave p ∷ []))
+  gave p h =
+      let k = h.knows in
+      made (Gave p) h.own tt h.fits
+      (record {
+        times = k.times;
+        quiet = record { rested = inr (h.rested refl); silent = k.quiet.silent };
+        vote = record { stands = k.vote.stands; windows = k.vote.windows; votes = λ q e. kept-vote (p.0 == q.0) (open_to q past.seen) (k.vote.votes q) e };
+        round = k.round;
+      })
+      h.rested h.backs h.owed h.acting_is h.took
+
+  pub acked : (p : PeerId) → AckedFits past.seen p → During stirred true owing follow acts T x past → During stirred true owing follow acts T x (grown x past (Acked p ∷ []))
+  acked p f h =
+      let k = h.knows in
+      made (Acked p) h.own f h.fits
+      (record {
+        times = k.times;
+        quiet = record { rested = inr (h.rested refl); silent = k.quiet.silent };
+        vote = record { stands = k.vote.stands; windows = k.vote.windows; votes = λ q e. kept-vote (p.0 == q.0) (open_to q past.seen) (k.vote.votes q) e };
+        round = k.round;
+      })
+      h.rested h.backs h.owed h.acting_is h.took
+
+  pub backer : (p : PeerId) → BackerFits (setup_in past) (now x past (Backer p)) past.seen p → open_to p past.seen ≡ [] → During stirred true owing follow acts T x past → During stirred true owing follow acts T x (grown x past (Backer p ∷ []))
+  backer p f ended h =
+      let k = h.knows in
+      made (Backer p) h.own f h.fits
+      (record {
+        times = k.times;
+        quiet = k.quiet;
+        vote = record {
+          stands = k.vote.stands;
+          windows = k.vote.windows;
+          votes = λ q e. new-backer p q (open_to q past.seen) (backers past.seen) (λ s. subst (λ r. open_to r past.seen ≡ []) (sym s) ended) e (k.vote.votes q e) (p.0 == q.0) refl;
+        };
+        round = k.round;
+      })
+      h.rested h.backs h.owed h.acting_is h.took
+
+module _ {stirred awake owing acts : Bool} {follow : Option PeerId} {T : Option Received → Option Received → Type 0} {x : ℕ} {past : Past} where
+  pub arm_window : (at : ℕ) → Candidature past.own at (role past.seen) (held past.seen).back (stood past.seen) → During stirred awake owing follow acts T x past → During stirred awake owing follow acts T x (grown x past (Arm Window at ∷ []))
+  arm_window at c h =
+      let k = h.knows in
+      made (Arm Window at) h.own tt h.fits
+      (record {
+        times = k.times;
+        quiet = k.quiet;
+        vote = record {
+          stands = k.vote.stands;
+          windows = λ n e. subst (λ i. Candidature past.own i (role past.seen) (held past.seen).back (stood past.seen)) (some-same at n e) c;
+          votes = k.vote.votes;
+        };
+        round = k.round;
+      })
+      h.rested h.backs h.owed h.acting_is h.took
+
+  pub arm_round : (at : ℕ) → role past.seen ≡ Master → During stirred awake owing follow acts T x past → During stirred awake owing follow acts T x (grown x past (Arm Round at ∷ []))
+  arm_round at r h =
+      let k = h.knows in
+      made (Arm Round at) h.own tt h.fits
+      (record { times = k.times; quiet = k.quiet; vote = k.vote; round = record { rounds = λ n e. r; probing = k.round.probing; closes = k.round.closes; exchanges = k.round.exchanges } })
+      h.rested h.backs h.owed h.acting_is h.took
+
+  pub arm_probe : (at : ℕ) → Probing at (armed past.seen).close (probes past.seen) → During stirred awake owing follow acts T x past → During stirred awake owing follow acts T x (grown x past (Arm Probe at ∷ []))
+  arm_probe at p h =
+      let k = h.knows in
+      made (Arm Probe at) h.own tt h.fits
+      (record {
+        times = k.times;
+        quiet = k.quiet;
+        vote = k.vote;
+        round = record {
+          rounds = k.round.rounds;
+          probing = λ n e. subst (λ i. Probing i (armed past.seen).close (probes past.seen)) (some-same at n e) p;
+          closes = k.round.closes;
+          exchanges = k.round.exchanges;
+        };
+      })
+      h.rested h.backs h.owed h.acting_is h.took
+
+  -- a round begins with its two alarms
+  pub arm_round_alarms : role past.seen ≡ Master → During stirred awake owing follow acts T x past → During stirred awake owing follow acts T x (grown x past (Arm Probe (x + PROBE) ∷ Arm Close (x + CLOSE) ∷ []))
+  arm_round_alarms leads h =
+      let k = h.knows in record {
+        own = h.own;
+        fits = (tt, (tt, h.fits));
+        knows = record {
+          times = k.times;
+          quiet = k.quiet;
+          vote = k.vote;
+          round = record {
+            rounds = k.round.rounds;
+            probing = λ n e. let is = some-same (x + PROBE) n e in record { until = x + CLOSE; goes = refl; soon = omega (arith, is); few = omega arith };
+            closes = λ calm n e. let is = some-same (x + CLOSE) n e in record {
+              leads = leads;
+              start = now x past (Arm Close (x + CLOSE));
+              idle = then_seen x past (Arm Probe (x + PROBE));
+              start_is = refl;
+              at_is = sym is;
+              last_le = k.times.last_le;
+              corrects = refl;
+              life = refl;
+            };
+            exchanges = λ p i s older e. nil-cons s older e;
+          };
+        };
+        rested = h.rested;
+        backs = h.backs;
+        owed = h.owed;
+        acting_is = h.acting_is;
+        took = h.took;
+      }
+
+  -- a round is given up, and with it all that stirs the port
+  pub abandon : During stirred awake owing follow acts T x past → During false awake owing follow acts T x (grown x past (Abandon ∷ []))
+  abandon h =
+      let k = h.knows in
+      made Abandon h.own tt h.fits
+      (record {
+        times = k.times;
+        quiet = k.quiet;
+        vote = k.vote;
+        round = record { rounds = k.round.rounds; probing = λ n e. none-some n e; closes = λ calm n e. none-some n e; exchanges = λ p i s older e. nil-cons s older e };
+      })
+      h.rested h.backs h.owed h.acting_is h.took
+
+  pub correct : (amount : ℤ) (stepped : Bool) (shown : ℤ) → (armed past.seen).close ≡ None → CorrectFits (now x past (Correct amount stepped shown)) past.seen amount → During stirred awake owing follow acts T x past → During stirred awake owing follow acts T x (grown x past (Correct amount stepped shown ∷ []))
+  correct amount stepped shown idle f h =
+      let k = h.knows in
+      made (Correct amount stepped shown) h.own f h.fits
+      (record {
+        times = record { boot_le = k.times.boot_le; last_le = omega arith; boot_is = k.times.boot_is };
+        quiet = k.quiet;
+        vote = k.vote;
+        round = record { rounds = k.round.rounds; probing = k.round.probing; closes = λ calm n e. none-some n (sym idle ∙ e); exchanges = λ p i s older e. let asked = k.round.exchanges p i s older e in none-some asked.at (sym idle ∙ asked.goes) };
+      })
+      h.rested h.backs h.owed h.acting_is h.took
+
+  -- the same where a round may go on
+  pub correct_stirring : (amount : ℤ) (stepped : Bool) (shown : ℤ) → CorrectFits (now x past (Correct amount stepped shown)) past.seen amount → During stirred awake owing follow acts T x past → During true awake owing follow acts T x (grown x past (Correct amount stepped shown ∷ []))
+  correct_stirring amount stepped shown f h =
+      let k = h.knows in
+      made (Correct amount stepped shown) h.own f h.fits
+      (record {
+        times = record { boot_le = k.times.boot_le; last_le = omega arith; boot_is = k.times.boot_is };
+        quiet = k.quiet;
+        vote = k.vote;
+        round = record { rounds = k.round.rounds; probing = k.round.probing; closes = λ calm. absurd (true≢false calm); exchanges = λ p i s older e. stir (k.round.exchanges p i s older e) };
+      })
+      h.rested h.backs h.owed h.acting_is h.took
+
+  pub sample : (p : PeerId) (counter : ℕ) (diff err : ℤ) (number : ℕ) → SampleFits (now x past (Sample p counter diff err number)) past.seen p counter diff err number → During stirred awake owing follow acts T x past → During stirred awake owing follow acts T x (grown x past (Sample p counter diff err number ∷ []))
+  sample p counter diff err number f h =
+      let k = h.knows in
+      made (Sample p counter diff err number) h.own f h.fits
+      (record {
+        times = k.times;
+        quiet = k.quiet;
+        vote = k.vote;
+        round = record {
+          rounds = k.round.rounds;
+          probing = k.round.probing;
+          closes = k.round.closes;
+          exchanges = λ q i s older e. kept-asked ((p.0 == q.0) && (counter == i)) (exchange q i past.seen) s older (k.round.exchanges q i s older) e;
+        };
+      })
+      h.rested h.backs h.owed h.acting_is h.took

@@ -1,0 +1,120 @@
+-- What a master's own clock has moved by since its Close.
+use Rattle.std.specs.Prelude.{◌≡◌, ◌==◌, ◌||◌, ◌⊎◌, Bool, true, false, ℕ, ◌+◌, ℤ, pos, ◌+ℤ◌, List, ◌∷◌, refl}
+use Rattle.std.proofs.Common.{sym, ap, arith, subst, subst₂, inl, inr, ◌∙◌}
+use Rattle.std.proofs.lemmas.Int.{ints}
+use Rattle.tsp_base.specs.declared.act.Act.TheVariants.{Close, Correct}
+use Rattle.tsp_base.specs.declared.place.Port.{Port}
+use Rattle.tsp_promises.specs.Agreed.{RightAfter, UnchangedBut}
+use Rattle.tsp_promises.specs.CorrectFits.{WhyCorrect, ByRound, ByMaster, ByDate}
+use Rattle.tsp_promises.specs.CorrectionFits.{FollowedBy}
+use Rattle.tsp_promises.specs.Fits.{Fits, node_of}
+use Rattle.tsp_base.specs.History.{Acts, Did, Line, Seen, Here, of, dids, view, plain, seen_as, is_shared}
+use Rattle.tsp_base.specs.NodeFacts.{all_corrects, lives, moved}
+use Rattle.tsp_base.specs.Places.{Within}
+use Rattle.tsp_promises.specs.Setting.{Setting}
+use Rattle.tsp_base.specs.Takings.{Undisturbed}
+use Rattle.tsp_base.proofs.PlaceLemmas.{Within-through}
+use Rattle.tsp_base.proofs.Views.{plain_view}
+use Rattle.tsp_promises.proofs.HistoryPlaces.{of-own, Within-of}
+use Rattle.tsp_promises.proofs.Locating.{line_on, locate, fits_in}
+use Rattle.tsp_promises.proofs.Matching.{kept_by}
+use Rattle.tsp_promises.proofs.NextAct.{right_after}
+use Rattle.tsp_promises.proofs.OwnFitsProof.{own_fits, fits_at}
+use Rattle.tsp_promises.proofs.PortFits.{deed_fits}
+use Rattle.tsp_promises.proofs.SinceProof.{since}
+
+-- where a node is left alone since a place, its clock moved no more
+pub unmoved : (setting : Setting) (n : ℕ) (s h : List Line) → Fits setting h → Within s h → Undisturbed (dids (of n s)) (dids (of n h)) → moved (dids (of n s)) ≡ moved (dids (of n h))
+unmoved setting n s h f w u = (kept_by (dids (of n s)) (dids (of n h)) (since setting (of n s) (of n h) (own_fits setting n h f) (Within-of n s h w)) u).moved
+
+-- a Close changes no clock
+pub record CloseKeeps (close : Did) (before : List Did) : Type 0 where
+  pub moved_is : moved (close ∷ before) ≡ moved before
+  pub corrects : all_corrects (close ∷ before) ≡ all_corrects before
+
+pub close-keeps : (close : Did) (before : List Did) (count : ℕ) (lo size mean : ℤ) → close.deed ≡ Acts (Close count lo size mean) → CloseKeeps close before
+close-keeps close before count lo size mean e = record { moved_is = rw e refl; corrects = rw e refl }
+
+-- a Correct changes it by its amount
+pub record CorrectMoves (next : Did) (before : List Did) (amount : ℤ) : Type 0 where
+  pub moved_is : moved (next ∷ before) ≡ moved before +ℤ amount
+  pub corrects : all_corrects (next ∷ before) ≡ all_corrects before + 1
+  pub lives : lives (next ∷ before) ≡ lives before
+
+pub correct-moves : (next : Did) (before : List Did) (amount : ℤ) (stepped : Bool) (shown : ℤ) → next.deed ≡ Acts (Correct amount stepped shown) → CorrectMoves next before amount
+correct-moves next before amount stepped shown e = record { moved_is = rw e refl; corrects = rw e refl; lives = rw e refl }
+
+pub same-mean : (count c : ℕ) (lo l size s mean amount : ℤ) → Acts (Close count lo size mean) ≡ Acts (Close c l s amount) → amount ≡ mean
+same-mean count c lo l size s mean amount e = cc
+
+-- right after a Close a Correct moves the clock by the mean
+mean-is : (here close : Did) (vs : List Seen) (b : Bool) (count : ℕ) (lo size mean amount : ℤ) → close.deed ≡ Acts (Close count lo size mean) → WhyCorrect here (seen_as b close ∷ vs) amount → amount ≡ mean
+mean-is here close vs true count lo size mean amount e (ByRound r) =
+    let same : close ≡ r.close = (let k = r.is in cc) in
+    same-mean count r.count lo r.lo size r.size mean amount (sym e ∙ (ap (λ (d : Did). d.deed) same ∙ r.deed))
+mean-is here close vs true count lo size mean amount e (ByMaster t) =
+    let same : close ≡ t.took = (let k = t.is in cc) in
+    let deeds = sym e ∙ (ap (λ (d : Did). d.deed) same ∙ t.deed) in
+    let bad : ⊥ = cc in absurd bad
+mean-is here close vs true count lo size mean amount e (ByDate t) =
+    let same : close ≡ t.took = (let k = t.is in cc) in
+    let deeds = sym e ∙ (ap (λ (d : Did). d.deed) same ∙ t.deed) in
+    let bad : ⊥ = cc in absurd bad
+mean-is here close vs false count lo size mean amount e (ByDate t) = let bad : ⊥ = (let k = t.is in cc) in absurd bad
+mean-is here close vs false count lo size mean amount e (ByRound r) = let bad : ⊥ = (let k = r.is in cc) in absurd bad
+mean-is here close vs false count lo size mean amount e (ByMaster t) = let bad : ⊥ = (let k = t.is in cc) in absurd bad
+
+plus-none : (a b mean : ℤ) → a ≡ b → mean ≡ pos 0 → a ≡ b +ℤ mean
+plus-none a b mean e z = omega (arith, ints)
+
+-- the line right after the Close was m's last Correct
+moved-right-after : (setting : Setting) (m : ℕ) (close next : Line) (cpast h : List Line) (count : ℕ) (lo size mean amount : ℤ) (stepped : Bool) (shown : ℤ) → Fits setting h → close.did.deed ≡ Acts (Close count lo size mean) → node_of close ≡ m →
+    lives (dids (of m (close ∷ cpast))) ≡ lives (dids (of m h)) → Within (next ∷ (close ∷ cpast)) h → node_of next ≡ m → next.did.deed ≡ Acts (Correct amount stepped shown) →
+    all_corrects (dids (of m (next ∷ (close ∷ cpast)))) ≡ all_corrects (dids (of m h)) → moved (dids (of m h)) ≡ moved (dids (of m cpast)) +ℤ mean
+moved-right-after setting m close next cpast h count lo size mean amount stepped shown f deed node lives_is place next_node next_deed all =
+    let own_c : of m (close ∷ cpast) ≡ close ∷ of m cpast = of-own m close cpast node in
+    let own_n : dids (of m (next ∷ (close ∷ cpast))) ≡ next.did ∷ dids (of m (close ∷ cpast)) = ap dids (of-own m next (close ∷ cpast) next_node) in
+    let fits = deed_fits setting next (close ∷ cpast) (Acts (Correct amount stepped shown)) next_deed (fits_in setting next (close ∷ cpast) h f place) in
+    let why : WhyCorrect next.did (view next.port (close ∷ of m cpast)) amount =
+    subst (λ w. WhyCorrect next.did (view next.port w) amount) own_c (subst (λ k. WhyCorrect next.did (view next.port (of k (close ∷ cpast))) amount) next_node fits.why) in
+    let amount_is = mean-is next.did close.did (view next.port (of m cpast)) ((close.port.0 == next.port.0) || is_shared close.did.deed) count lo size mean amount deed why in
+    let keeps = close-keeps close.did (dids (of m cpast)) count lo size mean deed in
+    let moves = correct-moves next.did (dids (of m (close ∷ cpast))) amount stepped shown next_deed in
+    let still = unmoved setting m (next ∷ (close ∷ cpast)) h f place (record { corrects = all; lives = (ap lives own_n ∙ moves.lives) ∙ lives_is }) in
+    let closed : moved (dids (of m (close ∷ cpast))) ≡ moved (dids (of m cpast)) = ap (λ w. moved (dids w)) own_c ∙ keeps.moved_is in
+    sym still ∙ (ap moved own_n ∙ (moves.moved_is ∙ subst₂ (λ x y. moved (dids (of m (close ∷ cpast))) +ℤ amount ≡ x +ℤ y) closed amount_is refl))
+
+-- m's last Correct was the next act after its Close
+moved-next : (setting : Setting) (m : ℕ) (close : Line) (cpast h : List Line) (count : ℕ) (lo size mean : ℤ) → Fits setting h → close.did.deed ≡ Acts (Close count lo size mean) → node_of close ≡ m →
+    lives (dids (of m (close ∷ cpast))) ≡ lives (dids (of m h)) → RightAfter m close cpast h → moved (dids (of m h)) ≡ moved (dids (of m cpast)) +ℤ mean
+moved-next setting m close cpast h count lo size mean f deed node lives_is n =
+    let same = right_after setting n.next n.before close cpast n.amount n.stepped n.shown (fits_at setting (n.next ∷ n.before) h f n.place) n.deed n.is in
+    moved-right-after setting m close n.next cpast h count lo size mean n.amount n.stepped n.shown f deed node lives_is (subst (λ w. Within (n.next ∷ w) h) same n.place) n.node n.deed
+    (subst (λ w. all_corrects (dids (of m (n.next ∷ w))) ≡ all_corrects (dids (of m h))) same n.corrects)
+
+-- m made no Correct since its Close: so the mean is 0
+moved-none : (setting : Setting) (m : ℕ) (q : Port) (close : Line) (cpast fw h : List Line) (count : ℕ) (lo size mean : ℤ) → Fits setting h → close.did.deed ≡ Acts (Close count lo size mean) → node_of close ≡ m → Within (close ∷ cpast) h →
+    lives (dids (of m (close ∷ cpast))) ≡ lives (dids (of m h)) → all_corrects (dids (of m (close ∷ cpast))) ≡ all_corrects (dids (of m h)) → Within fw h →
+    (mean ≡ pos 0) ⊎ FollowedBy close.did (view q (of m cpast)) (view q (of m fw)) mean → moved (dids (of m h)) ≡ moved (dids (of m cpast)) +ℤ mean
+moved-none setting m q close cpast fw h count lo size mean f deed node close_in lives_is none fw_in (inl zero_mean) =
+    let own_c : of m (close ∷ cpast) ≡ close ∷ of m cpast = of-own m close cpast node in
+    let keeps = close-keeps close.did (dids (of m cpast)) count lo size mean deed in
+    let still = unmoved setting m (close ∷ cpast) h f close_in (record { corrects = none; lives = lives_is }) in
+    plus-none (moved (dids (of m h))) (moved (dids (of m cpast))) mean (sym still ∙ (ap (λ w. moved (dids w)) own_c ∙ keeps.moved_is)) zero_mean
+moved-none setting m q close cpast fw h count lo size mean f deed node close_in lives_is none fw_in (inr n) =
+    let l = locate m q fw n.next (Here close.did ∷ view q (of m cpast)) (rw n.deed refl) n.place in
+    let own_c : dids (of m (close ∷ cpast)) ≡ close.did ∷ dids (of m cpast) = ap dids (of-own m close cpast node) in
+    let older_is : dids (of m l.older) ≡ close.did ∷ dids (of m cpast) = sym (plain_view q (of m l.older)) ∙ (ap plain l.before ∙ ap (λ z. close.did ∷ z) (plain_view q (of m cpast))) in
+    let own_n : dids (of m (line_on q n.next ∷ l.older)) ≡ n.next ∷ dids (of m l.older) = ap dids (of-own m (line_on q n.next) l.older l.node) in
+    let moves = correct-moves n.next (dids (of m l.older)) mean n.stepped n.shown n.deed in
+    let i = since setting (of m (line_on q n.next ∷ l.older)) (of m h) (own_fits setting m h f) (Within-of m (line_on q n.next ∷ l.older) h (Within-through (line_on q n.next ∷ l.older) fw h l.place fw_in)) in
+    let all_n : all_corrects (dids (of m (line_on q n.next ∷ l.older))) ≡ all_corrects (dids (of m (close ∷ cpast))) + 1 = ap all_corrects own_n ∙ (moves.corrects ∙ ap (λ z. all_corrects z + 1) (older_is ∙ sym own_c)) in
+    absurd (omega (arith, i.all))
+
+-- m's clock has moved by the mean, whichever it is
+pub master_moved : (setting : Setting) (m : ℕ) (q : Port) (close : Line) (cpast fw h : List Line) (count : ℕ) (lo size mean : ℤ) → Fits setting h → close.did.deed ≡ Acts (Close count lo size mean) → node_of close ≡ m → Within (close ∷ cpast) h →
+    UnchangedBut m close cpast h → Within fw h → (mean ≡ pos 0) ⊎ FollowedBy close.did (view q (of m cpast)) (view q (of m fw)) mean → moved (dids (of m h)) ≡ moved (dids (of m cpast)) +ℤ mean
+master_moved setting m q close cpast fw h count lo size mean f deed node close_in u fw_in followed = elim u.corrects [
+  | inl none ↦ moved-none setting m q close cpast fw h count lo size mean f deed node close_in u.lives none fw_in followed
+  | inr n ↦ moved-next setting m close cpast h count lo size mean f deed node u.lives n
+]

@@ -1,0 +1,283 @@
+-- A measurement errs by at most half its round trip.
+use Rattle.std.specs.Prelude.{◌≡◌, true, ℤ, pos, ◌+ℤ◌, ◌-ℤ◌, ◌≤ℤ◌, nat_abs, ℕ, zero, suc, ◌+◌, ◌-◌, ◌/◌, ◌%◌, ◌^◌, ◌<◌, ◌≤◌, List, ◌∷◌, refl}
+use Rattle.std.proofs.Common.{sym, ap, arith, subst, subst₂, inl, inr, ◌∙◌}
+use Rattle.std.proofs.lemmas.Int.{ints}
+use Rattle.tsp_base.specs.declared.act.Act.TheVariants.{Post, Sample}
+use Rattle.tsp_base.specs.declared.datagram.Datagram.{Datagram}
+use Rattle.tsp_base.specs.declared.datagram.Datagram.TheVariants.{Stamp}
+use Rattle.tsp_base.specs.declared.place.PeerId.{PeerId}
+use Rattle.tsp_base.specs.declared.place.Place.{Place}
+use Rattle.tsp_base.specs.declared.place.Place.TheVariants.{Peer}
+use Rattle.tsp_base.specs.declared.place.Port.{Port}
+use Rattle.tsp_base.specs.declared.stamp.Stamp.TheVariants.{Request, Reply}
+use Rattle.tsp_promises.specs.ClockAt.{clock}
+use Rattle.tsp_promises.specs.Fits.{Fits, LineFits, Alive, node_of}
+use Rattle.tsp_base.specs.History.{Came, Acts, Did, Line, Seen, Here, of, dids, view, plain}
+use Rattle.tsp_promises.specs.Measured.{MeasuredAt, Measured}
+use Rattle.tsp_promises.specs.MeasureFits.{RequestFits, ReplyFits, SampleFits}
+use Rattle.tsp_base.specs.NodeFacts.{all_corrects, base, boot_tick, lives, moved, target, up, word, wall, ticket}
+use Rattle.tsp_base.specs.Places.{Within}
+use Rattle.tsp_promises.specs.Premises.{Honest, HonestAt, Words, WordsAt}
+use Rattle.tsp_base.specs.RoundFacts.{asked}
+use Rattle.tsp_base.specs.Samples.{half_down, half_up, sample_diff, sample_err}
+use Rattle.tsp_promises.specs.Setting.{Setting}
+use Rattle.tsp_base.specs.Stamps.{ReplyValue}
+use Rattle.tsp_base.specs.Takings.{Undisturbed, peer_of, posted}
+use Rattle.tsp_base.specs.Ticks.{tick_at}
+use Rattle.tsp_promises.proofs.EverywhereLemmas.{Everywhere-from, Everywhere-within}
+use Rattle.tsp_base.proofs.PlaceLemmas.{Within-through, Within-tail, Within-comparable}
+use Rattle.tsp_base.proofs.Views.{plain_view}
+use Rattle.tsp_promises.specs.Since.{Since, OneLife}
+use Rattle.tsp_promises.proofs.AskedProof.{asked-mono, asked-few}
+use Rattle.tsp_promises.proofs.ClockProof.{base_is, clock_post, post_up}
+use Rattle.tsp_promises.proofs.Clocks.{tick-mono}
+use Rattle.tsp_promises.proofs.HistoryPlaces.{of-own, Within-of}
+use Rattle.tsp_promises.proofs.KnownProof.{known}
+use Rattle.tsp_promises.proofs.Locating.{Located, line_on, locate, fits_in, tick_in, view-line}
+use Rattle.tsp_promises.proofs.OwnFitsProof.{own_fits, fits_at, place-time}
+use Rattle.tsp_promises.proofs.PortFits.{deed_fits}
+use Rattle.tsp_promises.proofs.RoundPlaces.{started_at, exchange_at}
+use Rattle.tsp_promises.proofs.SendPlaces.{post_unique, same-number}
+use Rattle.tsp_promises.proofs.SinceProof.{since}
+use Rattle.tsp_promises.proofs.WordsProof.{word_moves}
+use Rattle.tsp_promises.proofs.SendProof.{number-same}
+
+-- a request of node n to p on a port, with this word and counter
+pub record Asks (n : ℕ) (line : Line) (p : PeerId) (w c : ℕ) : Type 0 where
+  pub node : node_of line ≡ n
+  pub deed : line.did.deed ≡ Acts (Post (Peer p) (Stamp (Request w c)))
+
+request-fits : (setting : Setting) (n : ℕ) (q : Line) (a : List Line) (p : PeerId) (w c : ℕ) → Asks n q p w c → LineFits setting q a → RequestFits (view q.port (of n a)) w c
+request-fits setting n q a p w c s f = subst (λ k. RequestFits (view q.port (of k a)) w c) s.node (deed_fits setting q a (Acts (Post (Peer p) (Stamp (Request w c)))) s.deed f).fits
+
+asks-up : (setting : Setting) (n : ℕ) (q : Line) (a : List Line) (p : PeerId) (w c : ℕ) → Asks n q p w c → LineFits setting q a → up (dids (of n a)) ≡ true
+asks-up setting n q a p w c s f = subst (λ k. up (dids (of k a)) ≡ true) s.node (post_up setting q a (Peer p) (Stamp (Request w c)) f s.deed)
+
+-- one more was asked after the request
+asked-next : (n : ℕ) (q : Line) (a : List Line) (p : PeerId) (w c : ℕ) → Asks n q p w c → asked (view q.port (of n (q ∷ a))) ≡ asked (view q.port (of n a)) + 1
+asked-next n q a p w c s = ap asked (view-line n q a s.node) ∙ rw s.deed refl
+
+-- an earlier request has another word or another counter
+request-before : (setting : Setting) (n : ℕ) (q t : Line) (a b : List Line) (p r : PeerId) (w c v d : ℕ) → Fits setting (t ∷ b) → Words (t ∷ b) → Asks n q p w c → Asks n t r v d → q.port ≡ t.port → Within (q ∷ a) b → w ≡ v → c ≡ d → ⊥
+request-before setting n q t a b p r w c v d f words x y port i same count =
+    let fq = fits_at setting (q ∷ a) b f.1 i in
+    let g = request-fits setting n q a p w c x fq.0 in
+    let h = request-fits setting n t b r v d y f.0 in
+    let own = own_fits setting n b f.1 in
+    let place : Within (of n (q ∷ a)) (of n b) = Within-of n (q ∷ a) b i in
+    let s = since setting (of n (q ∷ a)) (of n b) own place in
+    let qu = asks-up setting n q a p w c x fq.0 in
+    let tu = asks-up setting n t b r v d y f.0 in
+    let still : dids (of n (q ∷ a)) ≡ q.did ∷ dids (of n a) = ap dids (of-own n q a x.node) in
+    let word_q : w ≡ word (dids (of n (q ∷ a))) = (g.word_is ∙ ap word (plain_view q.port (of n a))) ∙ sym (ap word still ∙ rw x.deed refl) in
+    let word_t : v ≡ word (dids (of n b)) = h.word_is ∙ ap word (plain_view t.port (of n b)) in
+    let up_q : up (dids (of n (q ∷ a))) ≡ true = ap up still ∙ rw x.deed qu in
+    elim s.life [
+      | inl o ↦
+          let more = asked-mono setting q.port (of n (q ∷ a)) (of n b) own place o.lives in
+          let next = asked-next n q a p w c x in
+          let few = asked-few n q.port b in
+          let limit = f.0.few in
+          let cq : c ≡ asked (view q.port (of n a)) % 2 ^ 64 = g.counter_is in
+          let ct : d ≡ asked (view q.port (of n b)) % 2 ^ 64 = subst (λ k. d ≡ asked (view k (of n b)) % 2 ^ 64) (sym port) h.counter_is in
+          counters c d (asked (view q.port (of n a))) (asked (view q.port (of n b))) cq ct (omega arith) (omega arith) count
+      | inr o ↦ word_moves setting n (q ∷ a) b f.1 words.1 i fq up_q tu o.lives (sym word_q ∙ (same ∙ word_t))
+    ]
+  where
+    counters : (c d x y : ℕ) → c ≡ x % 2 ^ 64 → d ≡ y % 2 ^ 64 → x < y → y < 2 ^ 64 → c ≡ d → ⊥
+    counters c d x y e g h k s = omega arith
+
+-- a request is named by its port, word and counter
+pub request_unique : (setting : Setting) (n : ℕ) (q t : Line) (a b h : List Line) (p r : PeerId) (w c v d : ℕ) → Fits setting h → Words h → Within (q ∷ a) h → Within (t ∷ b) h → Asks n q p w c → Asks n t r v d → q.port ≡ t.port → w ≡ v → c ≡ d → q ∷ a ≡ t ∷ b
+request_unique setting n q t a b h p r w c v d f words i j x y port e g = elim (Within-comparable (q ∷ a) (t ∷ b) h i j) [
+  | inl (inl s) ↦ s
+  | inl (inr s) ↦ absurd (request-before setting n q t a b p r w c v d (fits_at setting (t ∷ b) h f j) (Everywhere-within WordsAt (t ∷ b) h words j) x y port s e g)
+  | inr (inl s) ↦ sym s
+  | inr (inr s) ↦ absurd (request-before setting n t q b a r p v d w c (fits_at setting (q ∷ a) h f i) (Everywhere-within WordsAt (q ∷ a) h words i) y x (sym port) s (sym e) (sym g))
+]
+
+-- the arithmetic of an exchange
+half-up-pos : (z : ℕ) → half_up (pos z) ≡ pos ((z + 1) / 2)
+half-up-pos zero = refl
+half-up-pos (suc z) = omega (arith, ints)
+
+half : (diff err s a c d : ℤ) (y z : ℕ) → y ≤ z → c ≡ a +ℤ pos y → d -ℤ a ≡ pos z → diff ≡ sample_diff a s d → err ≡ sample_err a d → pos (nat_abs (diff -ℤ (s -ℤ c))) ≤ℤ err
+half diff err s a c d y z h e g k l =
+    let err_is : err ≡ pos ((z + 1) / 2) = l ∙ (ap half_up g ∙ half-up-pos z) in
+    let diff_is : diff ≡ (s -ℤ a) -ℤ pos (z / 2) = k ∙ ap (λ w. (s -ℤ a) -ℤ half_down w) g in
+    omega (arith, ints)
+
+-- the reading of a Sample: the reply that its step takes, as its poster posted it
+pub record Reading (setting : Setting) (l : Line) (world : List Line) (k : ℕ) (diff err : ℤ) (start : Did) (idle : List Seen) (reply : ReplyValue) : Type 0 where
+  pub post : Line
+  pub older : List Line
+  pub place : Within (post ∷ older) world
+  pub deed : post.did.deed ≡ Acts (Post (Peer (peer_of (node_of l))) (Stamp (Reply reply)))
+  pub node : node_of post ≡ k
+  pub takes : l.did.step.cause ≡ Came (posted (dids older))
+  pub number : reply.ticket ≡ ticket (dids (of k older))
+  pub error : pos (nat_abs (diff -ℤ (clock setting k (post ∷ older) -ℤ clock setting (node_of l) (post ∷ older)))) ≤ℤ err
+  pub undisturbed : Undisturbed (dids (of (node_of l) (post ∷ older))) (dids (of (node_of l) world))
+  pub moved_is : moved (dids (of (node_of l) (post ∷ older))) ≡ moved (dids (of (node_of l) world))
+  pub after : start.step.at ≤ post.did.step.at
+
+-- from one place to a later one the node is left alone, where it is left alone from an earlier place to a still later one
+record Still (old mid now : List Did) : Type 0 where
+  pub all_mid : all_corrects mid ≡ all_corrects now
+  pub lives_mid : lives mid ≡ lives now
+  pub moved_mid : moved mid ≡ moved now
+  pub moved_old : moved old ≡ moved now
+  pub wall_old : wall old ≡ wall now
+  pub boot_old : boot_tick old ≡ boot_tick now
+  pub word_old : word old ≡ word now
+
+still : (first old mid now : List Did) → Since first old → Since old mid → Since mid now → Since old now → Undisturbed first now → Still old mid now
+still first old mid now a b c d u =
+    let one : OneLife old now = elim d.life [ inl o ↦ o | inr o ↦ absurd (omega (arith, a.lives, o.lives, u.lives)) ] in
+    let two : OneLife mid now = elim c.life [ inl o ↦ o | inr o ↦ absurd (omega (arith, a.lives, b.lives, o.lives, u.lives)) ] in
+    let all_old : all_corrects old ≡ all_corrects now = omega (arith, a.all, d.all, u.corrects) in
+    let all_mid : all_corrects mid ≡ all_corrects now = omega (arith, a.all, b.all, c.all, u.corrects) in
+    record {
+      all_mid = all_mid;
+      lives_mid = two.lives;
+      moved_mid = two.still all_mid;
+      moved_old = one.still all_old;
+      wall_old = one.wall;
+      boot_old = one.boot;
+      word_old = one.word;
+    }
+
+-- the two clocks at the reading, and the two targets of the exchange
+exchange : (w wt wn mt mm mn s diff err clock_k clock_n a d : ℤ) (bt bn tt tr tl : ℕ) → wt -ℤ pos bt ≡ w → wt ≡ wn → bt ≡ bn → mm ≡ mn → mt ≡ mn → tt ≤ tr → tr ≤ tl → clock_k ≡ s →
+    clock_n ≡ (w +ℤ mm) +ℤ pos tr → a ≡ ((wt -ℤ pos bt) +ℤ mt) +ℤ pos tt → d ≡ ((wn -ℤ pos bn) +ℤ mn) +ℤ pos tl → diff ≡ sample_diff a s d → err ≡ sample_err a d →
+    pos (nat_abs (diff -ℤ (clock_k -ℤ clock_n))) ≤ℤ err
+exchange w wt wn mt mm mn s diff err clock_k clock_n a d bt bn tt tr tl e1 e2 e3 e4 e5 o1 o2 ck cn ae de di er =
+    let z : d -ℤ a ≡ pos (tl - tt) = (rw (ae, de) (omega (arith, ints))) in
+    let c : clock_n ≡ a +ℤ pos (tr - tt) = (rw (ae, cn) (omega (arith, ints))) in
+    rw ck (half diff err s a clock_n d (tr - tt) (tl - tt) (omega arith) c z di er)
+
+-- with the request t, at its place in the history, and the start of the round
+reading-t : (setting : Setting) (l r t : Line) (world older tw : List Line) (p : PeerId) (k counter number : ℕ) (diff err : ℤ) (w : ℕ) → Fits setting (l ∷ world) → (f : SampleFits l.did (view l.port (of (node_of l) world)) p counter diff err number) →
+    up (dids (of (node_of l) world)) ≡ true → Within (r ∷ older) world → r.did.deed ≡ Acts (Post (Peer (peer_of (node_of l))) (Stamp (Reply f.reply))) → node_of r ≡ k → l.did.step.cause ≡ Came (posted (dids older)) →
+    ReplyFits r.did (view r.port (of k older)) (Peer (peer_of (node_of l))) f.reply → Within (t ∷ tw) older → Asks (node_of l) t p w counter → t.did ≡ f.post → view l.port (of (node_of l) tw) ≡ f.older →
+    Located (node_of l) l.port tw f.start f.idle → Reading setting l world k diff err f.start f.idle f.reply
+reading-t setting l r t world older tw p k counter number diff err w f s l_up r_in r_deed r_node takes g t_in asks t_is seen_t sl =
+    let n = node_of l in
+    let fr = fits_at setting (r ∷ older) world f.1 r_in in
+    let ft = fits_at setting (t ∷ tw) older fr.1 t_in in
+    let own = own_fits setting n world f.1 in
+    let t_world : Within (t ∷ tw) world = Within-through (t ∷ tw) (r ∷ older) world (inr t_in) r_in in
+    let start_in : Within (line_on l.port s.start ∷ sl.older) tw = sl.place in
+    let mid_now = since setting (of n (r ∷ older)) (of n world) own (Within-of n (r ∷ older) world r_in) in
+    let own_r = own_fits setting n (r ∷ older) fr in
+    let old_mid = since setting (of n (t ∷ tw)) (of n (r ∷ older)) own_r (Within-of n (t ∷ tw) (r ∷ older) (inr t_in)) in
+    let old_now = since setting (of n (t ∷ tw)) (of n world) own (Within-of n (t ∷ tw) world t_world) in
+    let own_t = own_fits setting n (t ∷ tw) ft in
+    let first_old = since setting (of n sl.older) (of n (t ∷ tw)) own_t (Within-of n sl.older (t ∷ tw) (inr (Within-tail (line_on l.port s.start) sl.older tw start_in))) in
+    let first_is : plain s.idle ≡ dids (of n sl.older) = ap plain (sym sl.before) ∙ plain_view l.port (of n sl.older) in
+    let now_is : plain (view l.port (of n world)) ≡ dids (of n world) = plain_view l.port (of n world) in
+    let quiet : Undisturbed (dids (of n sl.older)) (dids (of n world)) = subst₂ (λ x y. Undisturbed x y) first_is now_is s.undisturbed in
+    let st = still (dids (of n sl.older)) (dids (of n (t ∷ tw))) (dids (of n (r ∷ older))) (dids (of n world)) first_old old_mid mid_now old_now quiet in
+    let t_own : dids (of n (t ∷ tw)) ≡ t.did ∷ dids (of n tw) = ap dids (of-own n t tw asks.node) in
+    let moved_t : moved (dids (of n tw)) ≡ moved (dids (of n world)) = sym (ap moved t_own ∙ rw asks.deed refl) ∙ st.moved_old in
+    let wall_t : wall (dids (of n tw)) ≡ wall (dids (of n world)) = sym (ap wall t_own ∙ rw asks.deed refl) ∙ st.wall_old in
+    let boot_t : boot_tick (dids (of n tw)) ≡ boot_tick (dids (of n world)) = sym (ap boot_tick t_own ∙ rw asks.deed refl) ∙ st.boot_old in
+    let t_up : up (dids (of n tw)) ≡ true = asks-up setting n t tw p w counter asks ft.0 in
+    let base_t : base (dids (of n tw)) ≡ setting.wall n = base_is setting n tw ft.1 t_up in
+    let older_is : plain s.older ≡ dids (of n tw) = ap plain (sym seen_t) ∙ plain_view l.port (of n tw) in
+    let a_is : target (plain s.older) s.post.tick ≡ target (dids (of n tw)) t.did.tick = subst₂ (λ x y. target x y.tick ≡ target (dids (of n tw)) t.did.tick) (sym older_is) t_is refl in
+    let d_is : target (plain (view l.port (of n world))) l.did.tick ≡ target (dids (of n world)) l.did.tick = ap (λ x. target x l.did.tick) now_is in
+    let t_at : t.did.step.at ≤ r.did.step.at = place-time setting (t ∷ tw) (r ∷ older) fr (inr t_in) in
+    let r_at : r.did.step.at ≤ l.did.step.at = (let q = place-time setting (r ∷ older) world f.1 r_in in omega (arith, f.0.order)) in
+    let tick_t : t.did.tick ≡ tick_at (setting.rate n) t.did.step.at = tick_in setting n t tw older fr.1 asks.node t_in in
+    let m1 = tick-mono setting n t.did.step.at r.did.step.at t_at in
+    let m2 = tick-mono setting n r.did.step.at l.did.step.at r_at in
+    let clock_k : clock setting k (r ∷ older) ≡ s.reply.reading =
+    subst (λ x. clock setting x (r ∷ older) ≡ s.reply.reading) r_node (clock_post setting r older (Peer (peer_of n)) (Stamp (Reply s.reply)) fr r_deed ∙ sym (g.reading_is ∙ (ap (λ x. target x r.did.tick) (plain_view r.port (of k older)) ∙ ap (λ x. target (dids (of x older)) r.did.tick) (sym r_node)))) in
+    record {
+      post = r;
+      older = older;
+      place = r_in;
+      deed = r_deed;
+      node = r_node;
+      takes = takes;
+      number = g.ticket_is ∙ ap ticket (plain_view r.port (of k older));
+      error = exchange (setting.wall n) (wall (dids (of n tw))) (wall (dids (of n world))) (moved (dids (of n tw))) (moved (dids (of n (r ∷ older)))) (moved (dids (of n world))) s.reply.reading diff err (clock setting k (r ∷ older)) (clock setting n (r ∷ older))
+          (target (plain s.older) s.post.tick) (target (plain (view l.port (of n world))) l.did.tick) (boot_tick (dids (of n tw))) (boot_tick (dids (of n world))) t.did.tick (tick_at (setting.rate n) r.did.step.at) l.did.tick
+          base_t wall_t boot_t st.moved_mid moved_t (omega arith) (omega (arith, f.0.tick)) clock_k refl a_is d_is s.diff_is s.err_is;
+      undisturbed = record { corrects = st.all_mid; lives = st.lives_mid };
+      moved_is = st.moved_mid;
+      after = (let q = place-time setting (line_on l.port s.start ∷ sl.older) tw ft.1 start_in in omega (arith, ft.0.order));
+    }
+
+pub first-now : (q : Port) (now first : List Line) (idle : List Seen) → view q first ≡ idle → Undisturbed (plain idle) (plain (view q now)) → Undisturbed (dids first) (dids now)
+first-now q now first idle before u = subst₂ (λ x y. Undisturbed x y) (ap plain (sym before) ∙ plain_view q first) (plain_view q now) u
+
+-- the request has the word that its node still has
+word-now : (setting : Setting) (n : ℕ) (t start : Line) (tw sw world : List Line) (p : PeerId) (w c : ℕ) → Fits setting world → Within (t ∷ tw) world → Within (start ∷ sw) tw → Asks n t p w c → Undisturbed (dids (of n sw)) (dids (of n world)) → w ≡ word (dids (of n world))
+word-now setting n t start tw sw world p w c f t_in s_in asks u =
+    let own = own_fits setting n world f in
+    let tw_in : Within tw world = Within-tail t tw world t_in in
+    let sw_in : Within sw tw = Within-tail start sw tw s_in in
+    let g = request-fits setting n t tw p w c asks (fits_in setting t tw world f t_in) in
+    let a = since setting (of n tw) (of n world) own (Within-of n tw world tw_in) in
+    let b = since setting (of n sw) (of n tw) (own_fits setting n tw (fits_at setting tw world f tw_in)) (Within-of n sw tw sw_in) in
+    let life : OneLife (dids (of n tw)) (dids (of n world)) = elim a.life [ inl o ↦ o | inr o ↦ absurd (omega (arith, b.lives, o.lives, u.lives)) ] in
+    (g.word_is ∙ ap word (plain_view t.port (of n tw))) ∙ life.word
+
+-- with the request q that the reply r answers
+reading-q : (setting : Setting) (l r q : Line) (world older a : List Line) (p : PeerId) (counter number : ℕ) (diff err : ℤ) → Fits setting (l ∷ world) → Words (l ∷ world) →
+    (f : SampleFits l.did (view l.port (of (node_of l) world)) p counter diff err number) → up (dids (of (node_of l) world)) ≡ true → Within (r ∷ older) world →
+    r.did.deed ≡ Acts (Post (Peer (peer_of (node_of l))) (Stamp (Reply f.reply))) → l.did.step.cause ≡ Came (posted (dids older)) → ReplyFits r.did (view r.port (of (node_of r) older)) (Peer (peer_of (node_of l))) f.reply →
+    Within (q ∷ a) older → q.did.deed ≡ Acts (Post (Peer (peer_of (node_of r))) (Stamp (Request f.reply.word f.reply.counter))) → node_of q ≡ node_of l → q.port ≡ l.port →
+    Reading setting l world (node_of r) diff err f.start f.idle f.reply
+reading-q setting l r q world older a p counter number diff err w words s l_up r_in r_deed takes g q_in q_deed q_node q_port =
+    let n = node_of l in
+    let seen = view l.port (of n world) in
+    let e = exchange_at p counter seen s.post s.older s.exchange_is in
+    let t = locate n l.port world s.post s.older (rw e.deed refl) e.place in
+    let tl = line_on l.port s.post in
+    let asks_q : Asks n q (peer_of (node_of r)) s.reply.word s.reply.counter = record { node = q_node; deed = q_deed } in
+    let asks_t : Asks n tl p e.word counter = record { node = t.node; deed = e.deed } in
+    let q_world : Within (q ∷ a) world = Within-through (q ∷ a) (r ∷ older) world (inr q_in) r_in in
+    let start_in : Within (Here s.start ∷ s.idle) (view l.port (of n t.older)) = subst (λ x. Within (Here s.start ∷ s.idle) x) (sym t.before) (e.after s.start s.idle s.start_is) in
+    let sl = locate n l.port t.older s.start s.idle (rw (started_at seen s.start s.idle s.start_is).deed refl) start_in in
+    let word_is : s.reply.word ≡ e.word =
+    (s.word_is ∙ ap word (plain_view l.port (of n world))) ∙ sym (word-now setting n tl (line_on l.port s.start) t.older sl.older world p e.word counter w.1 t.place sl.place asks_t (first-now l.port (of n world) (of n sl.older) s.idle sl.before s.undisturbed)) in
+    let same = request_unique setting n q tl a t.older world (peer_of (node_of r)) p s.reply.word s.reply.counter e.word counter w.1 words.1 q_world t.place asks_q asks_t q_port word_is s.counter_is in
+    reading-t setting l r tl world older t.older p (node_of r) counter number diff err e.word w s l_up r_in r_deed refl takes g (subst (λ x. Within x older) same q_in) asks_t refl t.before sl
+
+pub sample_fits : (setting : Setting) (l : Line) (world : List Line) (p : PeerId) (counter number : ℕ) (diff err : ℤ) → LineFits setting l world → l.did.deed ≡ Acts (Sample p counter diff err number) →
+    SampleFits l.did (view l.port (of (node_of l) world)) p counter diff err number
+sample_fits setting l world p counter number diff err f is = deed_fits setting l world (Acts (Sample p counter diff err number)) is f
+
+pub reading_at : (setting : Setting) (l : Line) (world : List Line) (p : PeerId) (counter number : ℕ) (diff err : ℤ) → Fits setting (l ∷ world) → Honest (l ∷ world) → Words (l ∷ world) → l.did.deed ≡ Acts (Sample p counter diff err number) →
+    (s : SampleFits l.did (view l.port (of (node_of l) world)) p counter diff err number) → Reading setting l world p.0 diff err s.start s.idle s.reply
+reading_at setting l world p counter number diff err f h words is s =
+    let n = node_of l in
+    let r = known setting l world (Sample p counter diff err number) p (Stamp (Reply s.reply)) f h is s.took in
+    let fr = fits_at setting (r.post ∷ r.older) world f.1 r.place in
+    let hr = Everywhere-within HonestAt (r.post ∷ r.older) world h.1 r.place in
+    let g : ReplyFits r.post.did (view r.post.port (of (node_of r.post) r.older)) (Peer (peer_of n)) s.reply = (deed_fits setting r.post r.older (Acts (Post (Peer (peer_of n)) (Stamp (Reply s.reply)))) r.deed fr.0).fits in
+    let q = known setting r.post r.older (Post (Peer (peer_of n)) (Stamp (Reply s.reply))) (peer_of n) (Stamp (Request s.reply.word s.reply.counter)) fr hr r.deed g.took in
+    let q_node : node_of q.post ≡ n = number-same (node_of q.post) n q.node in
+    let net : setting.net n q.post.port ≡ setting.net n l.port = subst (λ k. setting.net k q.post.port ≡ setting.net n l.port) {x = node_of q.post} q_node (◌∙◌ {a = setting.net (node_of q.post) q.post.port} q.net r.net) in
+    let l_up : up (dids (of n world)) ≡ true = subst (λ k. Alive setting k l.did (up (dids (of n world)))) is f.0.alive in
+    subst (λ k. Reading setting l world k diff err s.start s.idle s.reply) {x = node_of r.post} (ap (λ (z : PeerId). z.0) r.node)
+    (reading-q setting l r.post q.post world r.older q.older p counter number diff err f words s l_up r.place r.deed r.takes g q.place q.deed q_node (setting.apart n q.post.port l.port net))
+
+-- the reading is the post that the step takes
+pub reading_is : (setting : Setting) (l : Line) (world : List Line) (k : ℕ) (diff err : ℤ) (start : Did) (idle : List Seen) (reply : ReplyValue) (post : Line) (older : List Line) (to : Place) (datagram : Datagram) →
+    (r : Reading setting l world k diff err start idle reply) → Within (post ∷ older) world → post.did.deed ≡ Acts (Post to datagram) → l.did.step.cause ≡ Came (posted (dids older)) → r.post ∷ r.older ≡ post ∷ older
+reading_is setting l world k diff err start idle reply post older to datagram r w deed takes =
+    post_unique world r.post post r.older older (Peer (peer_of (node_of l))) to (Stamp (Reply reply)) datagram r.place w r.deed deed (same-number (posted (dids r.older)) (posted (dids older)) (sym r.takes ∙ takes))
+
+measured_at : (setting : Setting) (l : Line) (world : List Line) → Fits setting (l ∷ world) → Honest (l ∷ world) → Words (l ∷ world) → MeasuredAt setting l world
+measured_at setting l world f h words p counter diff err number is =
+    let s = sample_fits setting l world p counter number diff err f.0 is in
+    let r = reading_at setting l world p counter number diff err f h words is s in
+    record { post = r.post; older = r.older; place = r.place; takes = r.takes; from = ap peer_of r.node; reply = s.reply; deed = r.deed; near = r.error }
+
+pub measured : (setting : Setting) (world : List Line) → Fits setting world → Honest world → Words world → Measured setting world
+measured setting world f h words = Everywhere-from (MeasuredAt setting) world (λ l s w.
+    measured_at setting l s (fits_at setting (l ∷ s) world f w) (Everywhere-within HonestAt (l ∷ s) world h w) (Everywhere-within WordsAt (l ∷ s) world words w))

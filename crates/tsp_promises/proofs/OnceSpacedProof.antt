@@ -1,0 +1,33 @@
+-- Corrects of a node stand apart.
+use Rattle.std.specs.Prelude.{◌≡◌, ◌≤◌, ◌+◌, List, ◌∷◌, refl}
+use Rattle.std.proofs.Common.{arith, subst}
+use Rattle.tsp_base.specs.declared.act.Act.TheVariants.{Correct}
+use Rattle.tsp_base.specs.declared.constants.TheConstants.{GAP}
+use Rattle.tsp_promises.specs.Fits.{Fits, node_of}
+use Rattle.tsp_base.specs.History.{Acts, Line, of, dids}
+use Rattle.tsp_base.specs.NodeFacts.{last_correct}
+use Rattle.tsp_promises.specs.Once.{SpacedAt, SpacedOverLivesAt, OnceSpaced, OnceSpacedOverLives}
+use Rattle.tsp_promises.specs.Setting.{Setting}
+use Rattle.tsp_promises.proofs.EverywhereLemmas.{Everywhere-from}
+use Rattle.tsp_base.proofs.Views.{plain_view}
+use Rattle.tsp_promises.proofs.HistoryPlaces.{own_in}
+use Rattle.tsp_promises.proofs.OwnFitsProof.{own_fits, fits_at}
+use Rattle.tsp_promises.proofs.PortFits.{deed_fits}
+use Rattle.tsp_promises.proofs.SinceProof.{since}
+
+spaced_over_at : (setting : Setting) (l : Line) (world : List Line) → Fits setting (l ∷ world) → SpacedOverLivesAt l world
+spaced_over_at setting l world f other older a b s t x y is w node other_is =
+    let n = node_of l in
+    let i = since setting (other ∷ of n older) (of n world) (own_fits setting n world f.1) (own_in n other older world node w) in
+    let fits = deed_fits setting l world (Acts (Correct a s x)) is f.0 in
+    let gap : last_correct (dids (of n world)) + GAP ≤ l.did.tick = subst (λ k. last_correct k + GAP ≤ l.did.tick) (plain_view l.port (of n world)) fits.gap in
+    let here : last_correct (dids (other ∷ of n older)) ≡ other.did.tick = rw other_is refl in
+    omega (arith, i.lasts)
+
+-- every two Corrects of a node
+pub once_spaced_over_lives : (setting : Setting) (world : List Line) → Fits setting world → OnceSpacedOverLives world
+once_spaced_over_lives setting world f = Everywhere-from SpacedOverLivesAt world (λ l s w. spaced_over_at setting l s (fits_at setting (l ∷ s) world f w))
+
+-- and so in one life
+pub once_spaced : (setting : Setting) (world : List Line) → Fits setting world → OnceSpaced world
+once_spaced setting world f = Everywhere-from SpacedAt world (λ l s w other older a b r t x y is i node other_is lives. spaced_over_at setting l s (fits_at setting (l ∷ s) world f w) other older a b r t x y is i node other_is)

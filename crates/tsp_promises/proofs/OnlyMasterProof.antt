@@ -1,0 +1,77 @@
+-- Only masters correct.
+use Rattle.std.specs.Prelude.{◌≡◌, ◌==◌, ◌||◌, ℕ, ℤ, Bool, true, false, List, ◌∷◌, refl}
+use Rattle.std.proofs.Common.{sym, ap, subst, true≢false}
+use Rattle.tsp_base.specs.declared.act.Act.TheVariants.{Post, Close, Correct}
+use Rattle.tsp_base.specs.declared.datagram.Datagram.TheVariants.{Message}
+use Rattle.tsp_base.specs.declared.kind.Kind.{Kind}
+use Rattle.tsp_base.specs.declared.kind.Kind.TheVariants.{Ack, AdjTime, DateAck, SetTime}
+use Rattle.tsp_base.specs.declared.place.PeerId.{PeerId}
+use Rattle.tsp_base.specs.declared.place.Place.{Place}
+use Rattle.tsp_base.specs.declared.place.Place.TheVariants.{Peer, Stranger}
+use Rattle.tsp_base.specs.declared.role.Role.TheVariants.{Master}
+use Rattle.tsp_promises.specs.CorrectFits.{WhyCorrect, ByRound, ByMaster, ByDate}
+use Rattle.tsp_promises.specs.CorrectionFits.{CorrectionFits}
+use Rattle.tsp_promises.specs.DeedFits.{DeedFits, PostFits, MessageFits, StrangerFits}
+use Rattle.tsp_promises.specs.Fits.{Fits, LineFits, SameStep, node_of}
+use Rattle.tsp_base.specs.History.{Acts, Did, Line, Step, Seen, from_act, of, dids, view, seen_as, is_shared}
+use Rattle.tsp_base.specs.Messages.{MessageValue}
+use Rattle.tsp_promises.specs.OnlyMaster.{Leads, LeadsAt, OnlyMaster}
+use Rattle.tsp_base.specs.PortFacts.{role}
+use Rattle.tsp_base.specs.SendFacts.{is_correction}
+use Rattle.tsp_promises.specs.Setting.{Setting, setup_of}
+use Rattle.tsp_base.specs.Setup.{Setup}
+use Rattle.tsp_promises.proofs.EverywhereLemmas.{Everywhere-from}
+use Rattle.tsp_promises.proofs.HistoryPlaces.{of-own}
+use Rattle.tsp_promises.proofs.OwnFitsProof.{fits_at}
+use Rattle.tsp_promises.proofs.NextAct.{right_after}
+use Rattle.tsp_promises.proofs.PortFits.{deed_fits}
+
+-- what the post of a correction to a peer owes
+pub correction_fits : (setup : Setup) (k : Kind) (here : Did) (seen : List Seen) (p : PeerId) (m : MessageValue) → is_correction k ≡ true → MessageFits setup k here seen p m → CorrectionFits here seen p m
+correction_fits setup AdjTime here seen p m e f = f
+correction_fits setup SetTime here seen p m e f = f
+correction_fits setup _ here seen p m e f = absurd (true≢false (sym e))
+
+-- strangers get no corrections
+strangers : (k : Kind) (here : Did) (seen : List Seen) (number : ℕ) → is_correction k ≡ true → StrangerFits k here seen number → ⊥
+strangers Ack here seen number e f = true≢false (sym e)
+strangers DateAck here seen number e f = true≢false (sym e)
+strangers _ here seen number e f = f
+
+posts-lead : (setup : Setup) (to : Place) (m : MessageValue) (here : Did) (seen : List Seen) → is_correction m.kind ≡ true → PostFits setup to (Message m) here seen → role seen ≡ Master
+posts-lead setup (Peer p) m here seen e f = (correction_fits setup m.kind here seen p m e f).leads
+posts-lead setup Stranger m here seen e f = absurd (strangers m.kind here seen m.number e f)
+
+-- a Correct right after a Close
+correct-leads : (setting : Setting) (l close : Line) (older : List Line) (count : ℕ) (lo size mean amount : ℤ) → node_of close ≡ node_of l → LineFits setting close older → close.did.deed ≡ Acts (Close count lo size mean) →
+    (b : Bool) → ((close.port.0 == l.port.0) || is_shared close.did.deed) ≡ b → WhyCorrect l.did (seen_as b close.did ∷ view l.port (of (node_of l) older)) amount →
+    role (seen_as b close.did ∷ view l.port (of (node_of l) older)) ≡ Master
+correct-leads setting l close older count lo size mean amount node f is true e why =
+    let leads : role (view l.port (of (node_of l) older)) ≡ Master =
+    subst (λ n. role (view l.port (of n older)) ≡ Master) node (subst (λ k. DeedFits (setup_of setting (node_of close) l.port) k close.did (view l.port (of (node_of close) older))) is (f.deeds l.port e)) in
+    rw is leads
+correct-leads setting l close older count lo size mean amount node f is false e (ByRound r) = let bad : ⊥ = (let k = r.is in cc) in absurd bad
+correct-leads setting l close older count lo size mean amount node f is false e (ByMaster t) = let bad : ⊥ = (let k = t.is in cc) in absurd bad
+correct-leads setting l close older count lo size mean amount node f is false e (ByDate t) = let bad : ⊥ = (let k = t.is in cc) in absurd bad
+
+leads_at : (setting : Setting) (l : Line) (world : List Line) → Fits setting (l ∷ world) → LeadsAt l world
+leads_at setting l world f = record {
+  posts = λ to m is kind. posts-lead (setup_of setting (node_of l) l.port) to m l.did (view l.port (of (node_of l) world)) kind (deed_fits setting l world (Acts (Post to (Message m))) is f.0).fits;
+  closes = λ count lo size mean is. deed_fits setting l world (Acts (Close count lo size mean)) is f.0;
+  corrects = λ close older count lo size mean amount stepped shown at close_is is. corrects_at setting l world f close older count lo size mean amount stepped shown at close_is is;
+} where
+  corrects_at : (setting : Setting) (l : Line) (world : List Line) → Fits setting (l ∷ world) → (close : Line) (older : List Line) (count : ℕ) (lo size mean amount : ℤ) (stepped : Bool) (shown : ℤ) → from_act world ≡ close ∷ older →
+      close.did.deed ≡ Acts (Close count lo size mean) → l.did.deed ≡ Acts (Correct amount stepped shown) → Leads l world
+  corrects_at setting l world f close older count lo size mean amount stepped shown from close_is is =
+      let at = right_after setting l world close older amount stepped shown f is from in
+      let g : Fits setting (l ∷ (close ∷ older)) = subst (λ w. Fits setting (l ∷ w)) at f in
+      let step : close.did.step ≡ l.did.step = subst (λ k. SameStep k l.did.step (dids (close ∷ older))) is g.0.step in
+      let node : node_of close ≡ node_of l = ap (λ (s : Step). s.node) step in
+      let own = of-own (node_of l) close older node in
+      let fits = deed_fits setting l (close ∷ older) (Acts (Correct amount stepped shown)) is g.0 in
+      let why : WhyCorrect l.did (view l.port (close ∷ of (node_of l) older)) amount = subst (λ w. WhyCorrect l.did (view l.port w) amount) own fits.why in
+      subst (λ w. Leads l w) (sym at) (subst (λ w. role (view l.port w) ≡ Master) (sym own)
+      (correct-leads setting l close older count lo size mean amount node g.1.0 close_is ((close.port.0 == l.port.0) || is_shared close.did.deed) refl why))
+
+pub only_master : (setting : Setting) (world : List Line) → Fits setting world → OnlyMaster world
+only_master setting world f = Everywhere-from LeadsAt world (λ l s w. leads_at setting l s (fits_at setting (l ∷ s) world f w))

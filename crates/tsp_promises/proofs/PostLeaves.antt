@@ -1,0 +1,146 @@
+-- What posts make of what is known of a port.
+use Rattle.std.specs.Prelude.{◌≡◌, ℕ, ◌%◌, ◌^◌, ◌==◌, ◌&&◌, Bool, true, false, if◌then◌else◌, cond, List, [], ◌∷◌, Option, Some, refl}
+use Rattle.std.proofs.Common.{sym, subst, inl, inr, ap, ◌∙◌, true≢false}
+use Rattle.tsp_base.specs.declared.act.Act.TheVariants.{Post}
+use Rattle.tsp_base.specs.declared.datagram.Datagram.TheVariants.{Message, Stamp}
+use Rattle.tsp_base.specs.declared.kind.Kind.TheVariants.{Ack}
+use Rattle.tsp_base.specs.declared.place.PeerId.{PeerId}
+use Rattle.tsp_base.specs.declared.place.Place.{Place}
+use Rattle.tsp_base.specs.declared.place.Place.TheVariants.{Peer, Stranger}
+use Rattle.tsp_base.specs.declared.stamp.Stamp.TheVariants.{Request, Reply}
+use Rattle.tsp_promises.specs.DeedFits.{PostFits, MessageFits, AskedEarly}
+use Rattle.tsp_base.specs.History.{Acts, Did, Seen, Here, Past, plain}
+use Rattle.tsp_base.specs.Messages.{MessageValue}
+use Rattle.tsp_base.specs.NodeFacts.{all_corrects, lives, word}
+use Rattle.tsp_base.specs.Peers.{is_among}
+use Rattle.tsp_base.specs.PortFacts.{Received, armed, acting, backers}
+use Rattle.tsp_base.specs.RoundFacts.{asked, exchange, word_asked}
+use Rattle.tsp_base.specs.Rows.{grown, bare}
+use Rattle.tsp_base.specs.SendFacts.{is_numbered, message_at, open_to}
+use Rattle.tsp_base.specs.Stamps.{ReplyValue}
+use Rattle.tsp_rules.specs.SendRows.{is_kind_election}
+use Rattle.tsp_promises.specs.PortFits.{setup_in}
+use Rattle.tsp_promises.proofs.Known.{Asked, asks_vote, During}
+use Rattle.tsp_promises.proofs.Leaves.{then_seen, made}
+use Rattle.tsp_rules.proofs.Asides.{now}
+use Rattle.tsp_rules.proofs.GuardFacts.{and-cases}
+
+-- a vote that is asked for after a post: by this message, which begins a send, or before
+post-vote : (p q : PeerId) (m : MessageValue) (d : Did) (before : List Seen) (bs : List PeerId) → d.deed ≡ Acts (Post (Peer p) (Message m)) → (is_kind_election m.kind ≡ true → acting before ≡ true → is_among q bs ≡ false) →
+    (asks_vote (message_at (open_to q before)) ≡ true → is_among q bs ≡ false) → (b : Bool) → ((p.0 == q.0) && (is_numbered m.kind && acting before)) ≡ b →
+    asks_vote (message_at (cond b (Here d ∷ before) (open_to q before))) ≡ true → is_among q bs ≡ false
+post-vote p q m d before bs deed new old true test e =
+    let one = and-cases (p.0 == q.0) (is_numbered m.kind && acting before) test in
+    let two = and-cases (is_numbered m.kind) (acting before) one.1 in
+    new (subst (λ t. asks_vote (message_at (Here (record d { deed = t }) ∷ before)) ≡ true) deed e) two.1
+post-vote p q m d before bs deed new old false test e = old e
+
+-- an exchange that is open after a request: the new one or an older one
+request-asked : (stirred : Bool) (d : Did) (seen : List Seen) (close : Option ℕ) (w at : ℕ) → close ≡ Some at → word_asked (Here d ∷ seen) ≡ w → (b : Bool) (keep : List Seen) (s : Seen) (older : List Seen) →
+    (keep ≡ s ∷ older → Asked stirred close (all_corrects (plain seen)) (lives (plain seen)) w s older) → (if b then Here d ∷ seen else keep) ≡ s ∷ older → Asked stirred close (all_corrects (plain seen)) (lives (plain seen)) w s older
+request-asked stirred d seen close w at goes is true keep s older old e =
+    let same : Here d ≡ s = cc in
+    let rest : seen ≡ older = cc in
+    record {
+      post = d;
+      is = sym same;
+      at = at;
+      goes = goes;
+      word_is = subst (λ z. word_asked z ≡ w) e is;
+      corrects = λ calm. ap (λ z. all_corrects (plain z)) (sym rest);
+      life = λ calm. ap (λ z. lives (plain z)) (sym rest);
+    }
+request-asked stirred d seen close w at goes is false keep s older old e = old e
+
+-- what begins no send opens none
+unsent : (b : Bool) (here keep : List Seen) → keep ≡ [] → cond (b && false) here keep ≡ []
+unsent true here keep e = e
+unsent false here keep e = e
+
+-- posts of a port whose quiet time is over
+module _ {stirred owing acts : Bool} {follow : Option PeerId} {T : Option Received → Option Received → Type 0} {x : ℕ} {past : Past} where
+  post_as : (p : PeerId) (m : MessageValue) → MessageFits (setup_in past) m.kind (now x past (Post (Peer p) (Message m))) past.seen p m →
+      ((q : PeerId) → is_kind_election m.kind ≡ true → acting past.seen ≡ true → is_among q (backers past.seen) ≡ false) → During stirred true owing follow acts T x past → During stirred true owing follow acts T x (grown x past (Post (Peer p) (Message m) ∷ []))
+  post_as p m f new h =
+      let k = h.knows in
+      made (Post (Peer p) (Message m)) h.own (record { rested = inl (h.rested refl); fits = f }) h.fits
+      (record {
+        times = k.times;
+        quiet = record { rested = inr (h.rested refl); silent = k.quiet.silent };
+        vote = record {
+          stands = k.vote.stands;
+          windows = k.vote.windows;
+          votes = λ q e. post-vote p q m (now x past (Post (Peer p) (Message m))) past.seen (backers past.seen) refl (new q) (k.vote.votes q) _ refl e;
+        };
+        round = k.round;
+      })
+      h.rested h.backs h.owed h.acting_is h.took
+
+  -- any message but an ELECTION
+  pub post_message : (p : PeerId) (m : MessageValue) → is_kind_election m.kind ≡ false → MessageFits (setup_in past) m.kind (now x past (Post (Peer p) (Message m))) past.seen p m → During stirred true owing follow acts T x past → During stirred true owing follow acts T x (grown x past (Post (Peer p) (Message m) ∷ []))
+  post_message p m other f h = post_as p m f (λ q e. absurd (true≢false (sym e ∙ other))) h
+
+  -- an ELECTION of a candidate that nobody has backed yet
+  pub post_election : (p : PeerId) (m : MessageValue) → backers past.seen ≡ [] → MessageFits (setup_in past) m.kind (now x past (Post (Peer p) (Message m))) past.seen p m → During stirred true owing follow acts T x past → During stirred true owing follow acts T x (grown x past (Post (Peer p) (Message m) ∷ []))
+  post_election p m none f h = post_as p m f (λ q e a. ap (is_among q) none) h
+
+  -- to wherever a datagram came from
+  pub post_back : (from : Place) (m : MessageValue) → is_kind_election m.kind ≡ false → PostFits (setup_in past) from (Message m) (now x past (Post from (Message m))) past.seen → During stirred true owing follow acts T x past → During stirred true owing follow acts T x (grown x past (Post from (Message m) ∷ []))
+  post_back (Peer p) m other f h = post_message p m other f h
+  post_back Stranger m other f h = made (Post Stranger (Message m)) h.own (record { rested = inl (h.rested refl); fits = f }) h.fits h.knows h.rested h.backs h.owed h.acting_is h.took
+
+  pub request : (p : PeerId) (at : ℕ) → (armed past.seen).close ≡ Some at → During stirred true owing follow acts T x past →
+      During stirred true owing follow acts T x (grown x past (Post (Peer p) (Stamp (Request (word (plain past.seen)) (asked past.seen % 2 ^ 64))) ∷ []))
+  request p at goes h =
+      let k = h.knows in
+      let a = Post (Peer p) (Stamp (Request (word (plain past.seen)) (asked past.seen % 2 ^ 64))) in
+      made a h.own (record { rested = inl (h.rested refl); fits = record { word_is = refl; counter_is = refl } }) h.fits
+      (record {
+        times = k.times;
+        quiet = k.quiet;
+        vote = k.vote;
+        round = record {
+          rounds = k.round.rounds;
+          probing = k.round.probing;
+          closes = k.round.closes;
+          exchanges = λ q i s older e. request-asked stirred (now x past a) past.seen (armed past.seen).close (word (plain past.seen)) at goes refl
+              ((p.0 == q.0) && (asked past.seen % 2 ^ 64 == i)) (exchange q i past.seen) s older (k.round.exchanges q i s older) e;
+        };
+      })
+      h.rested h.backs h.owed h.acting_is h.took
+
+-- a post before the step has acted begins nothing
+module _ {stirred owing : Bool} {follow : Option PeerId} {T : Option Received → Option Received → Type 0} {x : ℕ} {past : Past} where
+  pub post_again : (p : PeerId) (m : MessageValue) → MessageFits (setup_in past) m.kind (now x past (Post (Peer p) (Message m))) past.seen p m → During stirred true owing follow false T x past → During stirred true owing follow false T x (grown x past (Post (Peer p) (Message m) ∷ []))
+  post_again p m f h = post_as p m f (λ q e a. absurd (true≢false (sym a ∙ h.acting_is))) h
+
+-- posts in the quiet time too
+module _ {stirred awake owing acts : Bool} {follow : Option PeerId} {T : Option Received → Option Received → Type 0} {x : ℕ} {past : Past} where
+  pub post_reply : (from : Place) (r : ReplyValue) → PostFits (setup_in past) from (Stamp (Reply r)) (now x past (Post from (Stamp (Reply r)))) past.seen → During stirred awake owing follow acts T x past → During stirred awake owing follow acts T x (grown x past (Post from (Stamp (Reply r)) ∷ []))
+  post_reply (Peer p) r f h = made (Post (Peer p) (Stamp (Reply r))) h.own (record { rested = inr tt; fits = f }) h.fits h.knows h.rested h.backs h.owed h.acting_is h.took
+  post_reply Stranger r f h = made (Post Stranger (Stamp (Reply r))) h.own (record { rested = inr tt; fits = f }) h.fits h.knows h.rested h.backs h.owed h.acting_is h.took
+
+  pub post_early : (from : Place) (number : ℕ) (name : List ℕ) → PostFits (setup_in past) from (Message (bare Ack number name)) (now x past (Post from (Message (bare Ack number name)))) past.seen → AskedEarly past.seen →
+      During stirred awake owing follow acts T x past → During stirred awake owing follow acts T x (grown x past (Post from (Message (bare Ack number name)) ∷ []))
+  post_early Stranger number name f early h = made (Post Stranger (Message (bare Ack number name))) h.own (record { rested = inr (refl, early); fits = f }) h.fits h.knows h.rested h.backs h.owed h.acting_is h.took
+  post_early (Peer p) number name f early h =
+      let k = h.knows in
+      let m = bare Ack number name in
+      made (Post (Peer p) (Message m)) h.own (record { rested = inr (refl, early); fits = f }) h.fits
+      (record {
+        times = k.times;
+        quiet = record {
+          rested = elim k.quiet.rested [
+            | inl s ↦ inl (record { starts = s.starts; unsearched = s.unsearched; unelected = s.unelected; unresolved = s.unresolved; unsent = λ q. unsent (p.0 == q.0) (then_seen x past (Post (Peer p) (Message m))) (open_to q past.seen) (s.unsent q) })
+            | inr r ↦ inr r
+          ];
+          silent = k.quiet.silent;
+        };
+        vote = record {
+          stands = k.vote.stands;
+          windows = k.vote.windows;
+          votes = λ q e. post-vote p q m (now x past (Post (Peer p) (Message m))) past.seen (backers past.seen) refl (λ n. absurd (true≢false (sym n))) (k.vote.votes q) _ refl e;
+        };
+        round = k.round;
+      })
+      h.rested h.backs h.owed h.acting_is h.took

@@ -1,0 +1,148 @@
+-- What a port does with a message of a peer keeps what is known of it, in each role.
+use Rattle.std.specs.Prelude.{◌≡◌, ◌≢◌, ℕ, ◌+◌, ℤ, true, Option, None, Some, refl}
+use Rattle.std.proofs.Common.{sym, subst, inl, true≢false, ◌∙◌}
+use Rattle.tsp_base.specs.declared.act.Act.TheVariants.{Post, Join, Rival}
+use Rattle.tsp_base.specs.declared.alarm.Alarm.TheVariants.{Resolve as ResolveAlarm}
+use Rattle.tsp_base.specs.declared.constants.TheConstants.{WINDOW}
+use Rattle.tsp_base.specs.declared.datagram.Datagram.TheVariants.{Message}
+use Rattle.tsp_base.specs.declared.datagram.Taken.TheVariants.{Good}
+use Rattle.tsp_base.specs.declared.kind.Kind.{Kind}
+use Rattle.tsp_base.specs.declared.kind.Kind.TheVariants.{AdjTime, Ack, MasterReq, MasterAck, SetTime, MasterUp, SlaveUp, Election, Accept, Refuse, Conflict, Resolve, Quit}
+use Rattle.tsp_base.specs.declared.place.PeerId.{PeerId}
+use Rattle.tsp_base.specs.declared.place.Place.TheVariants.{Peer}
+use Rattle.tsp_base.specs.declared.role.Role.{Role}
+use Rattle.tsp_base.specs.declared.role.Role.TheVariants.{Candidate, Master}
+use Rattle.tsp_promises.specs.AckFits.{Answers}
+use Rattle.tsp_promises.specs.CorrectionFits.{CorrectionFits, SetsTarget}
+use Rattle.tsp_base.specs.History.{Past}
+use Rattle.tsp_base.specs.Leads.{Leads}
+use Rattle.tsp_base.specs.Messages.{MessageValue}
+use Rattle.tsp_base.specs.PortFacts.{Received, role}
+use Rattle.tsp_base.specs.Rows.{nothing, puts, ◌followed_by◌, either_by, reading, arms, bare, timed, posts, posts_to_others, posts_time}
+use Rattle.tsp_base.specs.Takings.{time_in}
+use Rattle.tsp_base.proofs.LeadsLemmas.{Leads_then, Leads_either, Leads_reading, Leads_nothing, Leads_puts, Leads_from, Leads_to}
+use Rattle.tsp_rules.specs.CandidateRows.{candidate_takes_kind}
+use Rattle.tsp_rules.specs.CommonRows.{quits}
+use Rattle.tsp_rules.specs.MasterRows.{may_join, joins, sends_away, master_takes_kind}
+use Rattle.tsp_rules.specs.ResolveRows.{resolves, is_new_rival, finds_rival}
+use Rattle.tsp_rules.specs.SendRows.{begins, acknowledges, may_correct, may_set, begins_settime, has_quit}
+use Rattle.tsp_rules.specs.SlaveRows.{masterup_in, masterack_in, from_master, adjtime_of, settime_of, slave_takes_kind}
+use Rattle.tsp_rules.specs.Guards.{role_at, is_armed, is_in_range, target_at}
+use Rattle.tsp_promises.proofs.Known.{Free, Rests}
+use Rattle.tsp_promises.proofs.Leaves.{join, rival, arm_resolve}
+use Rattle.tsp_rules.proofs.Asides.{now}
+use Rattle.tsp_promises.proofs.PostLeaves.{post_message}
+use Rattle.tsp_promises.proofs.LeadsLeaves.{Leads_arms, Leads_posts, Leads_others, Leads_posts_time}
+use Rattle.tsp_rules.proofs.GuardFacts.{and-cases}
+use Rattle.tsp_promises.proofs.TargetFacts.{sets_target}
+use Rattle.tsp_promises.proofs.CommonLeads.{begins_quit}
+use Rattle.tsp_promises.proofs.CorrectionLeads.{may_fits}
+use Rattle.tsp_promises.proofs.TakenLeads.{Says, Heard, HeardIn, rests_of, ack_fits, acknowledges_lead, quits_lead}
+use Rattle.tsp_promises.proofs.VoteLeads.{accepted_lead, refused_lead}
+use Rattle.tsp_promises.proofs.SlaveLeads.{follow_heard, idle_heard, masterup_leads, masterack_leads, election_leads, adjtime_leads, settime_leads, from_master_leads}
+
+none-only : {p : PeerId} (q : PeerId) → None ≡ Some q → q ≡ p
+none-only q e = let bad : ⊥ = cc in absurd bad
+
+module _ {p : PeerId} {m : MessageValue} where
+  pub acknowledged : {r : Role} → m.kind ≡ Ack → Leads (HeardIn p m r) (acknowledges p m.number) Rests
+  acknowledged k = Leads_from (λ x past h. h.0.just.free) (Leads_to (λ x past h. rests_of h) (acknowledges_lead k))
+
+  -- by the kind of the message
+  pub slave_leads : (r : Role) → r ≢ Candidate → (m.kind ≡ Quit → Leads (HeardIn p m r) (quits p m.number) Rests) → (k : Kind) → m.kind ≡ k → Leads (HeardIn p m r) (slave_takes_kind p m k) Rests
+  unfolding slave_takes_kind
+  slave_leads r other quit MasterUp e = Leads_reading role_at (masterup_in p) (λ a. Leads_from (λ x past h. h.0.0) (masterup_leads a))
+  slave_leads r other quit MasterAck e = Leads_reading role_at (masterack_in p) (λ a. Leads_from (λ x past h. h.0.0) (masterack_leads a))
+  slave_leads r other quit Election e = election_leads p m e other
+  slave_leads r other quit AdjTime e = Leads_reading role_at (from_master p (adjtime_of p m.number (time_in m.body))) (λ a. Leads_from (λ x past h. (h.0.0, h.1)) (from_master_leads (adjtime_of p m.number (time_in m.body)) (adjtime_leads e) a))
+  slave_leads r other quit SetTime e = Leads_reading role_at (from_master p (settime_of p m.number (time_in m.body))) (λ a. Leads_from (λ x past h. (h.0.0, h.1)) (from_master_leads (settime_of p m.number (time_in m.body)) (settime_leads e) a))
+  slave_leads r other quit Quit e = quit e
+  slave_leads r other quit Ack e = acknowledged e
+  slave_leads r other quit _ e = idle_heard (λ x past h. h.0)
+
+module _ {p : PeerId} {m : MessageValue} where
+  pub candidate_leads : (k : Kind) → m.kind ≡ k → Leads (HeardIn p m Candidate) (candidate_takes_kind p m k) Rests
+  unfolding candidate_takes_kind
+  candidate_leads MasterUp e = Leads_from (λ x past h. h.0) follow_heard
+  candidate_leads MasterAck e = Leads_from (λ x past h. h.0) follow_heard
+  candidate_leads Election e = Leads_posts p Refuse m.number (λ x past h. rests_of (post_message p (bare Refuse m.number past.name) refl tt h.0.just.free))
+  candidate_leads Accept e = Leads_from (λ x past h. h.0) (accepted_lead e)
+  candidate_leads Refuse e = refused_lead
+  candidate_leads Quit e = quits_lead Candidate None (λ q i. let bad : ⊥ = cc in absurd bad) refl (λ q i. none-only q i) e
+  candidate_leads Ack e = acknowledged e
+  candidate_leads _ e = idle_heard (λ x past h. h.0)
+
+-- a master that took a message
+record Leading (T : Option Received → Option Received → Type 0) (x : ℕ) (past : Past) : Type 0 where
+  pub free : Free T x past
+  pub leads : role past.seen ≡ Master
+
+module _ {p : PeerId} {m : MessageValue} where
+  answers_slave : (x : ℕ) (past : Past) (t : ℤ) → m.kind ≡ SlaveUp → may_correct p m.number x past ≡ true → SetsTarget (now x past (Post (Peer p) (Message (timed SetTime m.number t past.name)))) past.seen (timed SetTime m.number t past.name) → Leading (Says p m) x past →
+      CorrectionFits (now x past (Post (Peer p) (Message (timed SetTime m.number t past.name)))) past.seen p (timed SetTime m.number t past.name)
+  answers_slave x past t k may sets h = record {
+    leads = h.leads;
+    begins = λ acts. record {
+      rested = h.free.rested refl;
+      from = inl (record { sets = refl; message = m; took = h.free.took; kind = k; number = refl });
+      may = may_fits p m.number x past (now x past (Post (Peer p) (Message (timed SetTime m.number t past.name)))) (timed SetTime m.number t past.name) refl refl may;
+      sets = λ kind. sets;
+    };
+    repeats = λ still. absurd (true≢false (sym h.free.acting_is ∙ still));
+  }
+
+  pub joins_lead : m.kind ≡ SlaveUp → Leads (HeardIn p m Master) (joins p m.number) Rests
+  unfolding joins begins_settime
+  joins_lead k = Leads_either (may_join p m.number) (puts (Join p) followed_by either_by (may_set p m.number) (reading target_at (posts_time p SetTime m.number)) nothing) nothing
+      (Leads_then {Q = Leading (Says p m)} (puts (Join p)) (either_by (may_set p m.number) (reading target_at (posts_time p SetTime m.number)) nothing)
+      (Leads_puts (Join p) (λ x past h. record { free = join p h.0.0.just.free; leads = h.0.1 }))
+      (Leads_either (may_set p m.number) (reading target_at (posts_time p SetTime m.number)) nothing
+      (Leads_reading target_at (posts_time p SetTime m.number) (λ t. Leads_posts_time p SetTime m.number t (λ x past h.
+      let may = and-cases (may_correct p m.number x past) (is_in_range x past) h.0.1 in
+      rests_of (post_message p (timed SetTime m.number t past.name) refl (answers_slave x past t k may.0 (sets_target x past (now x past (Post (Peer p) (Message (timed SetTime m.number t past.name)))) (timed SetTime m.number t past.name) refl (sym h.1) may.1) h.0.0) h.0.0.free))))
+      (Leads_from (λ x past h. rests_of h.0.free) Leads_nothing)))
+      (idle_heard (λ x past h. h.0.0))
+
+  pub sends_away_leads : Leads (Heard p (Good (Message m))) (sends_away p) Rests
+  unfolding sends_away
+  sends_away_leads = Leads_either (has_quit p) nothing (begins Quit p)
+      (idle_heard (λ x past h. h.0))
+      (Leads_from (λ x past h. h.0.just.free) (Leads_to (λ x past h. rests_of h) (begins_quit p)))
+
+  pub resolves_free : Leads (Free (Says p m)) resolves Rests
+  unfolding resolves
+  resolves_free = Leads_either (is_armed ResolveAlarm) nothing (arms ResolveAlarm WINDOW followed_by posts_to_others Resolve 0)
+      (Leads_from (λ x past h. rests_of h.0) Leads_nothing)
+      (Leads_then {Q = Free (Says p m)} (arms ResolveAlarm WINDOW) (posts_to_others Resolve 0)
+      (Leads_arms ResolveAlarm WINDOW (λ x past h. arm_resolve (x + WINDOW) h.0))
+      (Leads_to (λ x past h. rests_of h) (Leads_others Resolve 0 (λ x past q h. post_message q (bare Resolve 0 past.name) refl tt h))))
+
+  pub finds_rival_leads : Leads (Heard p (Good (Message m))) (finds_rival p) Rests
+  unfolding finds_rival
+  finds_rival_leads = Leads_either (is_new_rival p) (puts (Rival p)) nothing
+      (Leads_puts (Rival p) (λ x past h. rests_of (rival p h.0.just.free)))
+      (idle_heard (λ x past h. h.0))
+
+  pub answers_master : Leads (Heard p (Good (Message m))) (posts p MasterAck m.number) Rests
+  answers_master = Leads_posts p MasterAck m.number (λ x past h. rests_of (post_message p (bare MasterAck m.number past.name) refl tt h.just.free))
+
+  pub conflict_leads : m.kind ≡ Conflict → Leads (Heard p (Good (Message m))) (posts p Ack m.number followed_by resolves) Rests
+  conflict_leads k = Leads_then {Q = Free (Says p m)} (posts p Ack m.number) resolves
+      (Leads_posts p Ack m.number (λ x past h. post_message p (bare Ack m.number past.name) refl (ack_fits (Peer p) m past.seen h.just.free.took (subst (λ i. Answers i (Peer p) past.seen m.number) (sym k) tt)) h.just.free))
+      resolves_free
+
+  pub master_leads : (k : Kind) → m.kind ≡ k → Leads (HeardIn p m Master) (master_takes_kind p m k) Rests
+  unfolding master_takes_kind
+  master_leads MasterReq e = Leads_from (λ x past h. h.0) answers_master
+  master_leads Resolve e = Leads_from (λ x past h. h.0) answers_master
+  master_leads SlaveUp e = joins_lead e
+  master_leads Election e = Leads_from (λ x past h. h.0) sends_away_leads
+  master_leads MasterUp e = Leads_from (λ x past h. h.0.just.free) resolves_free
+  master_leads Conflict e = Leads_from (λ x past h. h.0) (conflict_leads e)
+  master_leads MasterAck e = Leads_from (λ x past h. h.0) finds_rival_leads
+  master_leads Quit e = quits_lead Master (Some p) (λ q i. let bad : ⊥ = cc in absurd bad) refl (λ q i. some-only q i) e
+    where
+      some-only : (q : PeerId) → Some p ≡ Some q → q ≡ p
+      some-only q i = cc
+  master_leads Ack e = acknowledged e
+  master_leads _ e = idle_heard (λ x past h. h.0)

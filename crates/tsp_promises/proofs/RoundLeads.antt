@@ -1,0 +1,133 @@
+-- A round's beginning and its probes keep what is known of a port.
+use Rattle.std.specs.Prelude.{◌≡◌, ◌≤◌, ◌<◌, ℕ, ◌+◌, ◌*◌, Bool, true, false, [], ◌∷◌, None, Some, refl}
+use Rattle.std.proofs.Common.{sym, subst, arith, ◌∙◌, leb-false, ltb-true}
+use Rattle.tsp_base.specs.declared.act.Act.TheVariants.{Arm, Ring, Late, Abandon}
+use Rattle.tsp_base.specs.declared.alarm.Alarm.{Alarm}
+use Rattle.tsp_base.specs.declared.alarm.Alarm.TheVariants.{Probe, Close, Round}
+use Rattle.tsp_base.specs.declared.constants.TheConstants.{QUIET, CLOSE, PROBE, ROUND, WAIT}
+use Rattle.tsp_base.specs.declared.kind.Kind.TheVariants.{MasterUp}
+use Rattle.tsp_base.specs.declared.place.PeerId.{PeerId}
+use Rattle.tsp_base.specs.declared.role.Role.TheVariants.{Master}
+use Rattle.tsp_base.specs.History.{Past, plain}
+use Rattle.tsp_base.specs.Leads.{Leads}
+use Rattle.tsp_base.specs.NodeFacts.{boot_tick}
+use Rattle.tsp_base.specs.PortFacts.{role, armed}
+use Rattle.tsp_base.specs.RoundFacts.{probes}
+use Rattle.tsp_base.specs.Rows.{Row, grown, nothing, puts, ◌followed_by◌, for_each, arms, bare, posts_to_others}
+use Rattle.tsp_base.proofs.LeadsLemmas.{Leads_then, Leads_either, Leads_reading, Leads_nothing, Leads_puts, Leads_each, Leads_from, Leads_to}
+use Rattle.tsp_rules.specs.Answers.{alarm_rings, rings}
+use Rattle.tsp_rules.specs.RoundRows.{asks, asks_slaves, round_begins, begins_or_waits, round_rings, measured_at, asks_measured, has_more, arms_next, abandons, probe_rings}
+use Rattle.tsp_rules.specs.Guards.{is_in_time, is_over, table_at}
+use Rattle.tsp_promises.proofs.Known.{Free, Open, Untaken}
+use Rattle.tsp_promises.proofs.Leaves.{none-some, some-same, arm_round, arm_round_alarms, arm_probe, abandon}
+use Rattle.tsp_promises.proofs.PostLeaves.{post_message, request}
+use Rattle.tsp_promises.proofs.Rings.{open_of, ring_round, late_round, ring_probe, late_probe}
+use Rattle.tsp_promises.proofs.Changes.{FreeIn}
+use Rattle.tsp_promises.proofs.LeadsLeaves.{Leads_arms, Leads_others}
+use Rattle.tsp_rules.proofs.GuardFacts.{due_is, met_is}
+use Rattle.tsp_promises.proofs.AlarmLeads.{Due, rings_lead, master_rested, stays}
+use Rattle.tsp_promises.proofs.WindowLeads.{arms_round_in}
+
+-- a master in whose round requests are posted
+record InRound (until : ℕ) (x : ℕ) (past : Past) : Type 0 where
+  pub free : Free Untaken x past
+  pub goes : (armed past.seen).close ≡ Some until
+
+asks_in : (until : ℕ) (p : PeerId) → Leads (InRound until) (asks p) (InRound until)
+unfolding asks
+asks_in until p = record { run = λ x past h. record { free = request p until h.goes h.free; goes = h.goes } }
+
+two_arms : {P Q R : ℕ → Past → Type 0} (a b : Alarm) (long short : ℕ) (s : Row) → ((x : ℕ) (past : Past) → P x past → Q x (grown x past (Arm a (x + long) ∷ Arm b (x + short) ∷ []))) → Leads Q s R →
+    Leads P (arms a long followed_by (arms b short followed_by s)) R
+unfolding arms ◌followed_by◌
+two_arms a b long short s k q = record { run = λ x past h. q.run x (grown x past (Arm a (x + long) ∷ Arm b (x + short) ∷ [])) (k x past h) }
+
+-- a round that has begun at this tick
+record Begun (x : ℕ) (past : Past) : Type 0 where
+  pub in_round : InRound (x + CLOSE) x past
+
+round_master : (x : ℕ) (past : Past) → Due Round x past → role past.seen ≡ Master
+round_master x past h = let due = due_is (armed past.seen).round x h.1 in h.0.knows.round.rounds due.at due.is
+
+begun_asks : (p : PeerId) → Leads Begun (asks p) Begun
+begun_asks p = record { run = λ x past h. record { in_round = (asks_in (x + CLOSE) p).run x past h.in_round } }
+
+begins_or_waits_leads : (wait : Bool) → Leads (FreeIn None Untaken Master) (begins_or_waits wait) Open
+unfolding begins_or_waits round_begins asks_slaves
+begins_or_waits_leads true = Leads_to {Q = FreeIn None Untaken Master} (λ x past h. open_of h.free) (Leads_arms Round WAIT (λ x past h. record { free = arm_round (x + WAIT) h.role_is h.free; role_is = h.role_is }))
+begins_or_waits_leads false = Leads_then (arms Round ROUND) (arms Probe PROBE followed_by (arms Close CLOSE followed_by (posts_to_others MasterUp 0 followed_by asks_slaves))) arms_round_in
+    (two_arms {Q = Begun} Probe Close PROBE CLOSE (posts_to_others MasterUp 0 followed_by asks_slaves)
+    (λ x past h. record { in_round = record { free = arm_round_alarms h.role_is h.free; goes = refl } })
+    (Leads_then {Q = Begun} (posts_to_others MasterUp 0) asks_slaves
+    (Leads_others MasterUp 0 (λ x past p h. record { in_round = record { free = post_message p (bare MasterUp 0 past.name) refl tt h.in_round.free; goes = h.in_round.goes } }))
+    (Leads_to (λ x past h. open_of h.in_round.free) (Leads_reading table_at (for_each asks) (λ ps. Leads_from (λ x past h. h.0) (Leads_each asks ps begun_asks))))))
+
+pub round_leads : (own wait : Bool) → Leads Open (rings own wait Round) Open
+unfolding alarm_rings round_rings
+round_leads own wait = rings_lead own wait Round
+    (Leads_either (is_in_time Round) (puts (Ring Round) followed_by begins_or_waits wait) (puts (Late Round) followed_by arms Round ROUND)
+    (Leads_then {Q = FreeIn None Untaken Master} (puts (Ring Round)) (begins_or_waits wait)
+    (Leads_puts (Ring Round) (λ x past h. let m = round_master x past h.0 in record { free = ring_round (master_rested x past h.0.0 m) h.0.0; role_is = m }))
+    (begins_or_waits_leads wait))
+    (Leads_to (λ x past h. open_of h.free) (Leads_then {Q = FreeIn None Untaken Master} (puts (Late Round)) (arms Round ROUND)
+    (Leads_puts (Late Round) (λ x past h. let m = round_master x past h.0 in record { free = late_round (master_rested x past h.0.0 m) h.0.0; role_is = m }))
+    arms_round_in)))
+    (stays Round)
+
+-- a port whose next probe, if any, is still to come
+pub record Probed (x : ℕ) (past : Past) : Type 0 where
+  pub open_port : Open x past
+  pub later : (at : ℕ) → (armed past.seen).probe ≡ Some at → x < at
+
+-- a master that probes: when its round closes, and how much time the next probe has
+record Reprobing (x : ℕ) (past : Past) : Type 0 where
+  pub free : Free Untaken x past
+  pub until : ℕ
+  pub goes : (armed past.seen).close ≡ Some until
+  pub unprobed : (armed past.seen).probe ≡ None
+  pub soon : x + 8000000 ≤ until + probes past.seen * 2000000
+
+reprobing_asks : (p : PeerId) → Leads Reprobing (asks p) Reprobing
+unfolding asks
+reprobing_asks p = record { run = λ x past h. record { free = request p h.until h.goes h.free; until = h.until; goes = h.goes; unprobed = h.unprobed; soon = h.soon } }
+
+probe_rested : (x : ℕ) (past : Past) → Due Probe x past → boot_tick (plain past.seen) + QUIET ≤ x
+probe_rested x past h =
+    let due = due_is (armed past.seen).probe x h.1 in
+    let probing = h.0.knows.round.probing due.at due.is in
+    master_rested x past h.0 (h.0.knows.round.closes refl probing.until probing.goes).leads
+
+probe_rings_in : (x : ℕ) (past : Past) → Due Probe x past → is_in_time Probe x past ≡ true → Reprobing x (grown x past (Ring Probe ∷ []))
+probe_rings_in x past h timely =
+    let due = due_is (armed past.seen).probe x h.1 in
+    let met = met_is (armed past.seen).probe x due.at due.is timely in
+    let probing = h.0.knows.round.probing due.at due.is in
+    record {
+      free = ring_probe (probe_rested x past h) h.0;
+      until = probing.until;
+      goes = probing.goes;
+      unprobed = refl;
+      soon = let soon = probing.soon in omega (arith, met, soon);
+    }
+
+pub probe_leads : (own wait : Bool) → Leads Open (rings own wait Probe) Probed
+unfolding alarm_rings probe_rings asks_measured arms_next abandons
+probe_leads own wait = rings_lead own wait Probe
+    (Leads_either (is_in_time Probe) (puts (Ring Probe) followed_by (asks_measured followed_by arms_next)) (puts (Late Probe) followed_by abandons)
+    (Leads_then {Q = Reprobing} (puts (Ring Probe)) (asks_measured followed_by arms_next)
+    (Leads_puts (Ring Probe) (λ x past h. probe_rings_in x past h.0 h.1))
+    (Leads_then {Q = Reprobing} asks_measured arms_next
+    (Leads_reading measured_at (for_each asks) (λ ps. Leads_from (λ x past h. h.0) (Leads_each asks ps reprobing_asks)))
+    (Leads_either has_more (arms Probe PROBE) nothing
+    (Leads_arms Probe PROBE (λ x past h.
+    let few = ltb-true (probes past.seen) 3 h.1 in
+    let soon = h.0.soon in
+    record {
+      open_port = open_of (arm_probe (x + PROBE) (record { until = h.0.until; goes = h.0.goes; soon = omega (arith, soon); few = omega (arith, few) }) h.0.free);
+      later = λ at e. let is = some-same (x + PROBE) at e in omega (arith, is);
+    }))
+    (Leads_from (λ x past h. record { open_port = open_of h.0.free; later = λ at e. none-some at (sym h.0.unprobed ∙ e) }) Leads_nothing))))
+    (Leads_then {Q = Free Untaken} (puts (Late Probe)) (puts Abandon)
+    (Leads_puts (Late Probe) (λ x past h. late_probe (probe_rested x past h.0) h.0.0))
+    (Leads_puts Abandon (λ x past h. record { open_port = open_of (abandon h); later = λ at e. none-some at e }))))
+    (λ x past h e. record { open_port = h; later = λ at is. leb-false at x (subst (λ o. is_over o x ≡ false) is e) })

@@ -1,0 +1,122 @@
+-- Steps follow one another, and each deed of them fits.
+use Rattle.std.specs.Prelude.{◌≡◌, ◌≤◌, ℕ, ◌+◌, Bool, false, List, [], ◌∷◌, Some, refl}
+use Rattle.std.proofs.Common.{sym, subst, inl, inr, ap, arith, true≢false, ◌∙◌}
+use Rattle.tsp_base.specs.declared.constants.TheConstants.{QUIET}
+use Rattle.tsp_base.specs.declared.place.PeerId.{PeerId}
+use Rattle.tsp_base.specs.declared.role.Role.TheVariants.{Follow}
+use Rattle.tsp_base.specs.History.{Step, Seen, Past}
+use Rattle.tsp_base.specs.Leads.{Leads}
+use Rattle.tsp_base.specs.PortFacts.{role}
+use Rattle.tsp_base.specs.Rows.{in_step, puts, ◌followed_by◌, arms}
+use Rattle.tsp_promises.specs.StepFacts.{StepEnds, is_unbacked, owes}
+use Rattle.tsp_rules.specs.CommonRows.{boots}
+use Rattle.tsp_promises.specs.PortFits.{PortFits, setup_in}
+use Rattle.tsp_promises.specs.Runs.{Makes, Boots, Answers as Answering, row_of, Happening, ran, last_tick, Ordered, RulesFit}
+use Rattle.tsp_promises.proofs.Known.{KnowsOf, Fresh, Rests, RestsIn}
+use Rattle.tsp_promises.proofs.Leaves.{none-some, nil-cons, some-same}
+use Rattle.tsp_promises.proofs.AnswerLeads.{answers_lead}
+
+-- a step of a port at rest may end
+pub ends_of : {x : ℕ} {past : Past} → Rests x past → StepEnds past.seen
+ends_of h = record {
+  backs = h.backs;
+  follows = h.follows;
+  exchanges = λ p counter request older e. let asked = h.knows.round.exchanges p counter _ older e in record { corrects = asked.corrects refl; lives = asked.life refl };
+}
+
+-- a boot keeps what is known of a port
+pub boots_lead : Leads Fresh boots Rests
+unfolding boots puts arms ◌followed_by◌
+boots_lead = record {
+  run = λ x past h. record {
+    fits = (tt, (tt, (tt, h.fits)));
+    knows = record {
+      times = record { boot_le = omega arith; last_le = omega arith; boot_is = refl };
+      quiet = record {
+        rested = inl (record { starts = refl; unsearched = refl; unelected = refl; unresolved = refl; unsent = λ p. refl });
+        silent = λ at e. (refl, let is = some-same (x + QUIET) at e in omega (arith, is));
+      };
+      vote = record { stands = λ e. let bad : ⊥ = cc in absurd bad; windows = λ at e. none-some at e; votes = λ p e. absurd (true≢false (sym e)) };
+      round = record { rounds = λ at e. none-some at e; probing = λ at e. none-some at e; closes = λ calm at e. none-some at e; exchanges = λ p i s older e. nil-cons s older e };
+    };
+    backs = h.backs;
+    follows = λ p e. none-some p (sym h.owed ∙ e);
+  };
+}
+
+-- what is known of a port is known later too
+pub knows_later : {stirred : Bool} (x y : ℕ) (own : PeerId) (seen : List Seen) → x ≤ y → KnowsOf stirred x own seen → KnowsOf stirred y own seen
+knows_later x y own seen later k = record {
+  times = record { boot_le = (let b = k.times.boot_le in omega (arith, b, later)); last_le = (let b = k.times.last_le in omega (arith, b, later)); boot_is = k.times.boot_is };
+  quiet = record { rested = elim k.quiet.rested [ inl e ↦ inl e | inr r ↦ inr (omega (arith, r, later)) ]; silent = k.quiet.silent };
+  vote = record {
+    stands = λ e. let s = k.vote.stands e in let long = s.0 in (omega (arith, long, later), λ t i. let q = s.1 t i in omega (arith, q, later));
+    windows = k.vote.windows;
+    votes = k.vote.votes;
+  };
+  round = k.round;
+}
+
+-- a step begins at a later tick
+pub begins_fresh : (step : Step) (x y : ℕ) (past : Past) → x ≤ y → past.own.0 ≡ step.node → Rests x past → Fresh y (in_step step y past)
+begins_fresh step x y past later own h = record {
+  own = own;
+  fits = (ends_of h, h.fits);
+  knows = knows_later x y past.own past.seen later h.knows;
+  rested = λ e. absurd (true≢false (sym e));
+  backs = refl;
+  owed = refl;
+  acting_is = refl;
+  took = (refl, refl);
+}
+
+pub row_leads : (m : Makes) → Leads Fresh (row_of m) Rests
+row_leads Boots = boots_lead
+row_leads (Answering g) = answers_lead g
+
+pub rests_later : {stirred : Bool} (x y : ℕ) (past : Past) → x ≤ y → RestsIn stirred x past → RestsIn stirred y past
+rests_later x y past later h = record { fits = h.fits; knows = knows_later x y past.own past.seen later h.knows; backs = h.backs; follows = h.follows }
+
+-- and of another past of a port that is set up alike and has seen the same
+pub rests_seen : {stirred : Bool} (x : ℕ) (past now : Past) → past.own ≡ now.own → setup_in past ≡ setup_in now → past.seen ≡ now.seen → RestsIn stirred x past → RestsIn stirred x now
+rests_seen {stirred = stirred} x past now own setup seen h = record {
+  fits = subst (λ s. PortFits s now.seen) setup (subst (λ z. PortFits (setup_in past) z) seen h.fits);
+  knows = subst (λ o. KnowsOf stirred x o now.seen) own (subst (λ z. KnowsOf stirred x past.own z) seen h.knows);
+  backs = subst (λ z. is_unbacked z ≡ false) seen h.backs;
+  follows = subst (λ z. (p : PeerId) → owes z ≡ Some p → role z ≡ Follow p) seen h.follows;
+}
+
+-- a port that has done nothing
+pub nothing-done : (x : ℕ) (past : Past) → Rests x (record past { seen = [] })
+nothing-done x past = record {
+  fits = tt;
+  knows = record {
+    times = record { boot_le = omega arith; last_le = omega arith; boot_is = refl };
+    quiet = record {
+      rested = inl (record { starts = refl; unsearched = refl; unelected = refl; unresolved = refl; unsent = λ p. refl });
+      silent = λ at e. none-some at e;
+    };
+    vote = record { stands = λ e. let bad : ⊥ = cc in absurd bad; windows = λ at e. none-some at e; votes = λ p e. absurd (true≢false (sym e)) };
+    round = record { rounds = λ at e. none-some at e; probing = λ at e. none-some at e; closes = λ calm at e. none-some at e; exchanges = λ p i s older e. nil-cons s older e };
+  };
+  backs = refl;
+  follows = λ p e. none-some p e;
+}
+
+own-ran : (hs : List Happening) (past : Past) → (ran hs past).own ≡ past.own
+own-ran [] past = refl
+own-ran (h ∷ before) past = own-ran before past
+
+setup-ran : (hs : List Happening) (past : Past) → setup_in (ran hs past) ≡ setup_in past
+setup-ran [] past = refl
+setup-ran (h ∷ before) past = setup-ran before past
+
+ran-rests : (past : Past) (hs : List Happening) → past.seen ≡ [] → Ordered past.own.0 hs → Rests (last_tick hs) (ran hs past)
+ran-rests past [] e o = subst (λ s. Rests 0 (record past { seen = s })) (sym e) (nothing-done 0 past)
+ran-rests past (h ∷ before) e o =
+    let own : (ran before past).own.0 ≡ h.step.node = ap (λ (p : PeerId). p.0) (own-ran before past) ∙ sym o.1 in
+    (row_leads h.makes).run h.tick (in_step h.step h.tick (ran before past)) (begins_fresh h.step (last_tick before) h.tick (ran before past) o.0 own (ran-rests past before e o.2))
+
+-- a port that runs by the rules owes nothing
+pub rules-fit : RulesFit
+rules-fit past hs e o = let r = ran-rests past hs e o in (subst (λ s. PortFits s (ran hs past).seen) (setup-ran hs past) r.fits, ends_of r)

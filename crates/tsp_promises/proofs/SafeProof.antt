@@ -1,0 +1,37 @@
+-- All promises together.
+use Rattle.std.specs.Prelude.{List}
+use Rattle.tsp_promises.specs.Fits.{Fits, Finished}
+use Rattle.tsp_base.specs.History.{Line}
+use Rattle.tsp_promises.specs.Safe.{Safe}
+use Rattle.tsp_promises.specs.Setting.{Setting}
+use Rattle.tsp_promises.proofs.AgreedProof.{agreed, stay_agreed}
+use Rattle.tsp_promises.proofs.ConfirmedProof.{once_confirmed}
+use Rattle.tsp_promises.proofs.MeasuredProof.{measured}
+use Rattle.tsp_promises.proofs.OnceObeyedProof.{once_obeyed}
+use Rattle.tsp_promises.proofs.OnceSpacedProof.{once_spaced, once_spaced_over_lives}
+use Rattle.tsp_promises.proofs.OnceDatedProof.{once_taken}
+use Rattle.tsp_promises.proofs.OnceTakenProof.{once_corrected}
+use Rattle.tsp_promises.proofs.OneBackProof.{one_back}
+use Rattle.tsp_promises.proofs.OnlyMasterProof.{only_master}
+use Rattle.tsp_promises.proofs.RelayedProof.{relayed}
+use Rattle.tsp_promises.proofs.ResolvedProof.{yields, stays_quiet}
+use Rattle.tsp_promises.proofs.StopsProof.{stops_leading}
+use Rattle.tsp_promises.proofs.TripProof.{trips}
+
+pub safe : (setting : Setting) (world : List Line) → Fits setting world → Finished world → Safe setting world
+safe setting world f end = record {
+  one_back = one_back setting world f end;
+  only_master = only_master setting world f;
+  once_spaced = once_spaced setting world f;
+  once_spaced_over_lives = once_spaced_over_lives setting world f;
+  once_obeyed = once_obeyed setting world f;
+  once_corrected = once_corrected setting world f;
+  once_taken = λ honest life words. once_taken setting world f honest life;
+  once_confirmed = λ honest life words. once_confirmed setting world (record { fits = f; honest = honest; life = life; words = words });
+  trips = trips setting world f;
+  measured = measured setting world f;
+  agreed = λ honest life words. agreed setting world (record { fits = f; honest = honest; life = life; words = words });
+  stay_agreed = λ honest life words. stay_agreed setting world (record { fits = f; honest = honest; life = life; words = words });
+  relayed = λ honest life words. relayed setting world (record { fits = f; honest = honest; life = life; words = words });
+  resolved = record { yields = yields setting world f end; quiet = stays_quiet setting world f; stops = stops_leading setting world f end };
+}

@@ -1,0 +1,173 @@
+-- Sends: where the last one to a peer began, and which one a post belongs to.
+use Rattle.std.specs.Prelude.{◌≡◌, ◌==◌, ◌&&◌, cond, Bool, true, false, ℕ, ◌+◌, ◌≤◌, ◌⊎◌, List, [], ◌∷◌, refl}
+use Rattle.std.proofs.Common.{sym, ap, arith, subst, inl, inr, eq-eqb, eqb-true, true≢false, ◌∙◌}
+use Rattle.tsp_base.specs.declared.act.Act.TheVariants.{Boot, Post, Become, Acked, Gave}
+use Rattle.tsp_base.specs.declared.constants.TheConstants.{LAST}
+use Rattle.tsp_base.specs.declared.datagram.Datagram.TheVariants.{Message}
+use Rattle.tsp_base.specs.declared.kind.Kind.{Kind}
+use Rattle.tsp_base.specs.declared.kind.Kind.TheVariants.{AdjTime, SetTime}
+use Rattle.tsp_base.specs.declared.place.PeerId.{PeerId}
+use Rattle.tsp_base.specs.declared.place.Place.TheVariants.{Peer}
+use Rattle.tsp_promises.specs.CorrectionFits.{RepeatFits}
+use Rattle.tsp_base.specs.History.{Acts, Deed, Did, Seen, Here, Elsewhere}
+use Rattle.tsp_base.specs.Messages.{MessageValue}
+use Rattle.tsp_base.specs.Places.{Within}
+use Rattle.tsp_base.specs.PortFacts.{acting}
+use Rattle.tsp_base.specs.SendFacts.{begun_to, begun_to_after, is_correction, is_numbered, open_to, open_to_after}
+use Rattle.tsp_base.specs.Takings.{peer_of}
+
+-- a numbered send of this message to p begins here
+pub record BeginsSend (p : PeerId) (m : MessageValue) (first : Did) (older : List Seen) : Type 0 where
+  pub deed : first.deed ≡ Acts (Post (Peer p) (Message m))
+  pub kind : is_numbered m.kind ≡ true
+  pub begins : acting older ≡ true
+
+-- a correction to p with this message begins here
+pub record CorrectsTo (p : PeerId) (m : MessageValue) (first : Did) (older : List Seen) : Type 0 where
+  pub deed : first.deed ≡ Acts (Post (Peer p) (Message m))
+  pub kind : is_correction m.kind ≡ true
+  pub begins : acting older ≡ true
+
+pub numbered : (k : Kind) → is_correction k ≡ true → is_numbered k ≡ true
+numbered AdjTime e = refl
+numbered SetTime e = refl
+numbered _ e = absurd (true≢false (sym e))
+
+-- corrections are sends
+pub corrects-sends : (p : PeerId) (m : MessageValue) (first : Did) (older : List Seen) → CorrectsTo p m first older → BeginsSend p m first older
+corrects-sends p m first older c = record { deed = c.deed; kind = numbered m.kind c.kind; begins = c.begins }
+
+pub sends-correct : (p : PeerId) (m : MessageValue) (first : Did) (older : List Seen) → BeginsSend p m first older → is_correction m.kind ≡ true → CorrectsTo p m first older
+sends-correct p m first older b kind = record { deed = b.deed; kind = kind; begins = b.begins }
+
+pub and-true : (a b : Bool) → (a && b) ≡ true → (a ≡ true) × (b ≡ true)
+and-true true b e = (refl, e)
+and-true false b e = absurd (true≢false (sym e))
+
+pub peer-same : (q p : PeerId) → (q.0 == p.0) ≡ true → q ≡ p
+peer-same q p e = ap peer_of (eqb-true q.0 p.0 e)
+
+pub number-same : (m n : ℕ) → peer_of m ≡ peer_of n → m ≡ n
+number-same m n e = ap (λ (p : PeerId). p.0) e
+
+-- a post is of one message
+pub one-message : (j k : PeerId) (m n : MessageValue) → Acts (Post (Peer j) (Message m)) ≡ Acts (Post (Peer k) (Message n)) → m ≡ n
+one-message j k m n e = cc
+
+pub not-nil : {B : Type 0} (s : Seen) (older : List Seen) → [] ≡ s ∷ older → B
+not-nil s older e = let bad : ⊥ = cc in absurd bad
+
+pub if-nil : (b : Bool) (keep : List Seen) (s : Seen) (older : List Seen) → cond b [] keep ≡ s ∷ older → keep ≡ s ∷ older
+if-nil true keep s older e = not-nil s older e
+if-nil false keep s older e = e
+
+-- the last send begins at the newest deed
+pub record BeginsHere (p : PeerId) (d : Did) (before : List Seen) (first : Did) (older : List Seen) : Type 0 where
+  pub deed : d ≡ first
+  pub rest : before ≡ older
+  pub message : MessageValue
+  pub begins : BeginsSend p message first older
+
+begun-post : (p q : PeerId) (m : MessageValue) (d : Did) (before : List Seen) (first : Did) (older keep : List Seen) → Acts (Post (Peer q) (Message m)) ≡ d.deed → (b : Bool) → ((q.0 == p.0) && (is_numbered m.kind && acting before)) ≡ b →
+    cond b (Here d ∷ before) keep ≡ Here first ∷ older → BeginsHere p d before first older ⊎ (keep ≡ Here first ∷ older)
+begun-post p q m d before first older keep is true e h =
+    let one = and-true (q.0 == p.0) (is_numbered m.kind && acting before) e in
+    let two = and-true (is_numbered m.kind) (acting before) one.1 in
+    let same : q ≡ p = peer-same q p one.0 in
+    let deed : d ≡ first = cc in
+    let rest : before ≡ older = cc in
+    inl (record {
+      deed = deed;
+      rest = rest;
+      message = m;
+      begins = record {
+        deed = subst (λ r. first.deed ≡ Acts (Post (Peer r) (Message m))) same (sym (is ∙ ap (λ (k : Did). k.deed) deed));
+        kind = two.0;
+        begins = subst (λ k. acting k ≡ true) rest two.1;
+      };
+    })
+begun-post p q m d before first older keep is false e h = inr h
+
+begun-deed : (p : PeerId) (d : Did) (before : List Seen) (first : Did) (older : List Seen) (deed : Deed) → deed ≡ d.deed →
+    begun_to_after p deed (acting before) (Here d ∷ before) (begun_to p before) ≡ Here first ∷ older → BeginsHere p d before first older ⊎ (begun_to p before ≡ Here first ∷ older)
+begun-deed p d before first older (Acts Boot) is e = not-nil (Here first) older e
+begun-deed p d before first older (Acts (Post (Peer q) (Message m))) is e = begun-post p q m d before first older (begun_to p before) is _ refl e
+begun-deed p d before first older _ is e = inr e
+
+-- the last send begins at the newest deed, or it began before
+pub begun-here : (p : PeerId) (d : Did) (before : List Seen) (first : Did) (older : List Seen) → begun_to p (Here d ∷ before) ≡ Here first ∷ older → BeginsHere p d before first older ⊎ (begun_to p before ≡ Here first ∷ older)
+begun-here p d before first older e = begun-deed p d before first older d.deed refl e
+
+-- the beginning of a send stands at its place
+pub record Opened (p : PeerId) (first : Did) (older seen : List Seen) : Type 0 where
+  pub place : Within (Here first ∷ older) seen
+  pub message : MessageValue
+  pub begins : BeginsSend p message first older
+
+pub begun_at : (p : PeerId) (seen : List Seen) (first : Did) (older : List Seen) → begun_to p seen ≡ Here first ∷ older → Opened p first older seen
+begun_at p [] first older e = not-nil (Here first) older e
+begun_at p (Elsewhere d ∷ before) first older e = let o = begun_at p before first older e in record { place = inr o.place; message = o.message; begins = o.begins }
+begun_at p (Here d ∷ before) first older e = elim (begun-here p d before first older e) [
+  | inl h ↦ record { place = inl (let a = h.deed in let b = h.rest in cc); message = h.message; begins = h.begins }
+  | inr h ↦ let o = begun_at p before first older h in record { place = inr o.place; message = o.message; begins = o.begins }
+]
+
+open-if : (b : Bool) (here now began : List Seen) (s : Seen) (older : List Seen) → (now ≡ s ∷ older → began ≡ s ∷ older) → cond b here now ≡ s ∷ older → cond b here began ≡ s ∷ older
+open-if true here now began s older h e = e
+open-if false here now began s older h e = h e
+
+open-deed : (p : PeerId) (d : Did) (before : List Seen) (s : Seen) (older : List Seen) (deed : Deed) → (open_to p before ≡ s ∷ older → begun_to p before ≡ s ∷ older) →
+    open_to_after p deed (acting before) (Here d ∷ before) (open_to p before) ≡ s ∷ older → begun_to_after p deed (acting before) (Here d ∷ before) (begun_to p before) ≡ s ∷ older
+open-deed p d before s older (Acts Boot) h e = not-nil s older e
+open-deed p d before s older (Acts (Become r)) h e = not-nil s older e
+open-deed p d before s older (Acts (Post (Peer q) (Message m))) h e = open-if _ (Here d ∷ before) (open_to p before) (begun_to p before) s older h e
+open-deed p d before s older (Acts (Acked q)) h e = h (if-nil (q.0 == p.0) (open_to p before) s older e)
+open-deed p d before s older (Acts (Gave q)) h e = h (if-nil (q.0 == p.0) (open_to p before) s older e)
+open-deed p d before s older _ h e = h e
+
+-- the open send is the last one that began
+pub open_begun : (p : PeerId) (seen : List Seen) (s : Seen) (older : List Seen) → open_to p seen ≡ s ∷ older → begun_to p seen ≡ s ∷ older
+open_begun p [] s older e = not-nil s older e
+open_begun p (Elsewhere d ∷ before) s older e = open_begun p before s older e
+open_begun p (Here d ∷ before) s older e = open-deed p d before s older d.deed (open_begun p before s older) e
+
+pub opened : (p : PeerId) (seen : List Seen) (first : Did) (older : List Seen) → open_to p seen ≡ Here first ∷ older → Opened p first older seen
+opened p seen first older e = begun_at p seen first older (open_begun p seen (Here first) older e)
+
+-- a send begins where it begins
+pub begun-begins : (p : PeerId) (m : MessageValue) (t : Did) (b : List Seen) → BeginsSend p m t b → begun_to p (Here t ∷ b) ≡ Here t ∷ b
+begun-begins p m t b c =
+    let e : (p.0 == p.0) ≡ true = eq-eqb p.0 p.0 refl in
+    rw c.deed (rw (e, c.kind, c.begins) refl)
+
+-- another post begins none
+begun-again : (p : PeerId) (post : Did) (before : List Seen) (m : MessageValue) → post.deed ≡ Acts (Post (Peer p) (Message m)) → is_numbered m.kind ≡ true → acting before ≡ false → begun_to p (Here post ∷ before) ≡ begun_to p before
+begun-again p post before m is kind acts =
+    let e : (p.0 == p.0) ≡ true = eq-eqb p.0 p.0 refl in
+    rw is (rw (e, kind, acts) refl)
+
+-- the send of a post
+pub record SendIs (p : PeerId) (post : Did) (before : List Seen) (m : MessageValue) : Type 0 where
+  pub first : Did
+  pub older : List Seen
+  pub is : begun_to p (Here post ∷ before) ≡ Here first ∷ older
+  pub place : Within (Here first ∷ older) (Here post ∷ before)
+  pub begins : acting older ≡ true
+  pub same : first.deed ≡ Acts (Post (Peer p) (Message m))
+  pub soon : post.tick ≤ first.tick + LAST
+
+pub send_is : (p : PeerId) (post : Did) (before : List Seen) (m : MessageValue) → post.deed ≡ Acts (Post (Peer p) (Message m)) → is_numbered m.kind ≡ true → (acting before ≡ false → RepeatFits post before p m) → SendIs p post before m
+send_is p post before m is kind repeats = by-case (acting before) refl where
+  by-case : (b : Bool) → acting before ≡ b → SendIs p post before m
+  by-case true e = record { first = post; older = before; is = begun-begins p m post before (record { deed = is; kind = kind; begins = e }); place = inl refl; begins = e; same = is; soon = omega arith }
+  by-case false e =
+      let h = repeats e in
+      let o = opened p before h.first h.older h.is in record {
+        first = h.first;
+        older = h.older;
+        is = begun-again p post before m is kind e ∙ open_begun p before (Here h.first) h.older h.is;
+        place = inr o.place;
+        begins = o.begins.begins;
+        same = h.same;
+        soon = h.soon;
+      }

@@ -1,0 +1,195 @@
+-- What a step owes at its end, read from a history by computing.
+use Rattle.std.specs.Prelude.{◌≡◌, ◌==◌, ◌||◌, ◌&&◌, nat_lt, cond, Bool, true, false, ℕ, zero, suc, if◌then◌else◌, List, [], ◌∷◌, Option, None, Some, refl}
+use Rattle.std.proofs.Common.{sym, ap, arith, subst, eqb-true, true≢false, ◌∙◌}
+use Rattle.std.proofs.lemmas.Bool.{ltb-true}
+use Rattle.tsp_base.specs.declared.act.Act.TheVariants.{Abandon, Arm, Become, Boot, Correct, Late, Post, Ring, Sample}
+use Rattle.tsp_base.specs.declared.alarm.Alarm.TheVariants.{Close}
+use Rattle.tsp_base.specs.declared.datagram.Datagram.TheVariants.{Stamp}
+use Rattle.tsp_base.specs.declared.place.PeerId.{PeerId}
+use Rattle.tsp_base.specs.declared.place.Place.TheVariants.{Peer}
+use Rattle.tsp_base.specs.declared.place.Port.{Port}
+use Rattle.tsp_base.specs.declared.role.Role.{Role}
+use Rattle.tsp_base.specs.declared.role.Role.TheVariants.{Follow}
+use Rattle.tsp_base.specs.declared.stamp.Stamp.TheVariants.{Request}
+use Rattle.tsp_base.specs.History.{Begins, Acts, Deed, Did, Line, Seen, Here, Elsewhere, plain, view, seen_as, is_shared}
+use Rattle.tsp_base.specs.PortFacts.{role}
+use Rattle.tsp_base.specs.RoundFacts.{exchange, exchange_after}
+use Rattle.tsp_promises.specs.StepFacts.{StepEnds, is_unbacked, owes}
+use Rattle.tsp_base.specs.Takings.{Undisturbed}
+use Rattle.tsp_promises.proofs.SendProof.{and-true, not-nil, peer-same}
+
+abbrev asks_after : Deed → Bool → Bool
+asks_after (Acts Boot) keep = false
+asks_after (Acts (Become r)) keep = false
+asks_after (Acts (Arm Close at)) keep = false
+asks_after (Acts (Ring Close)) keep = false
+asks_after (Acts (Post (Peer q) (Stamp (Request word counter)))) keep = true
+asks_after _ keep = keep
+
+-- whether an exchange may be open
+abbrev asks : List Seen → Bool
+asks [] = false
+asks (Here d ∷ before) = asks_after d.deed (asks before)
+asks (Elsewhere d ∷ before) = asks before
+
+abbrev rests_after : Deed → Bool → Bool → Bool
+rests_after (Acts Boot) asking keep = true
+rests_after (Acts (Become r)) asking keep = true
+rests_after (Acts (Arm Close at)) asking keep = true
+rests_after (Acts (Ring Close)) asking keep = true
+rests_after (Acts (Correct amount stepped shown)) asking keep = if asking then false else keep
+rests_after _ asking keep = keep
+
+abbrev rests_elsewhere : Deed → Bool → Bool → Bool
+rests_elsewhere (Acts Boot) asking keep = false
+rests_elsewhere (Acts (Correct amount stepped shown)) asking keep = if asking then false else keep
+rests_elsewhere _ asking keep = keep
+
+-- whether the clock has rested since an exchange that may be open was begun
+abbrev rests : List Seen → Bool
+rests [] = true
+rests (Here d ∷ before) = rests_after d.deed (asks before) (rests before)
+rests (Elsewhere d ∷ before) = rests_elsewhere d.deed (asks before) (rests before)
+
+if-none : (b : Bool) (keep : List Seen) → keep ≡ [] → cond b [] keep ≡ []
+if-none true keep e = refl
+if-none false keep e = e
+
+none-deed : (p : PeerId) (c : ℕ) (deed : Deed) (here before : List Seen) → (asks before ≡ false → exchange p c before ≡ []) → asks_after deed (asks before) ≡ false → exchange_after p c deed here (exchange p c before) ≡ []
+none-deed p c (Acts Boot) here before h e = refl
+none-deed p c (Acts (Become r)) here before h e = refl
+none-deed p c (Acts (Arm Close at)) here before h e = refl
+none-deed p c (Acts (Ring Close)) here before h e = refl
+none-deed p c (Acts (Late Close)) here before h e = refl
+none-deed p c (Acts Abandon) here before h e = refl
+none-deed p c (Acts (Post (Peer q) (Stamp (Request word counter)))) here before h e = absurd (true≢false e)
+none-deed p c (Acts (Sample q counter diff err ticket)) here before h e = if-none ((q.0 == p.0) && (counter == c)) (exchange p c before) (h e)
+none-deed p c _ here before h e = h e
+
+-- where none may be open, none is
+none-open : (p : PeerId) (c : ℕ) (seen : List Seen) → asks seen ≡ false → exchange p c seen ≡ []
+none-open p c [] e = refl
+none-open p c (Elsewhere d ∷ before) e = none-open p c before e
+none-open p c (Here d ∷ before) e = none-deed p c d.deed (Here d ∷ before) before (none-open p c before) e
+
+abbrev Quiet : PeerId → ℕ → List Seen → Type 0
+Quiet p c seen = (request : Did) (older : List Seen) → exchange p c seen ≡ Here request ∷ older → Undisturbed (plain older) (plain seen)
+
+no-open : (p : PeerId) (c : ℕ) (before : List Seen) (request : Did) (older : List Seen) (asking keep : Bool) → (asking ≡ false → exchange p c before ≡ []) → (if asking then false else keep) ≡ true → exchange p c before ≡ Here request ∷ older → ⊥
+no-open p c before request older true keep h e open_is = true≢false (sym e)
+no-open p c before request older false keep h e open_is = not-nil (Here request) older (sym (h refl) ∙ open_is)
+
+quiet-post : (d : Did) (before : List Seen) (request : Did) (older keep : List Seen) (b : Bool) → (keep ≡ Here request ∷ older → Undisturbed (plain older) (plain before)) → cond b (Here d ∷ before) keep ≡ Here request ∷ older → Undisturbed (plain older) (plain before)
+quiet-post d before request older keep true h e = let same : before ≡ older = cc in subst (λ z. Undisturbed (plain z) (plain before)) same (record { corrects = refl; lives = refl })
+quiet-post d before request older keep false h e = h e
+
+quiet-sample : (request : Did) (older keep : List Seen) (b : Bool) → cond b [] keep ≡ Here request ∷ older → keep ≡ Here request ∷ older
+quiet-sample request older keep true e = not-nil (Here request) older e
+quiet-sample request older keep false e = e
+
+quiet-deed : (p : PeerId) (c : ℕ) (d : Did) (deed : Deed) (before : List Seen) → deed ≡ d.deed → (rests before ≡ true → Quiet p c before) → rests_after deed (asks before) (rests before) ≡ true → (request : Did) (older : List Seen) →
+    exchange_after p c deed (Here d ∷ before) (exchange p c before) ≡ Here request ∷ older → Undisturbed (plain older) (plain (Here d ∷ before))
+quiet-deed p c d (Acts Boot) before is h r request older e = not-nil (Here request) older e
+quiet-deed p c d (Acts (Become role)) before is h r request older e = not-nil (Here request) older e
+quiet-deed p c d (Acts (Arm Close at)) before is h r request older e = not-nil (Here request) older e
+quiet-deed p c d (Acts (Ring Close)) before is h r request older e = not-nil (Here request) older e
+quiet-deed p c d (Acts (Late Close)) before is h r request older e = not-nil (Here request) older e
+quiet-deed p c d (Acts Abandon) before is h r request older e = not-nil (Here request) older e
+quiet-deed p c d (Acts (Correct amount stepped shown)) before is h r request older e = absurd (no-open p c before request older (asks before) (rests before) (none-open p c before) r e)
+quiet-deed p c d (Acts (Post (Peer q) (Stamp (Request word counter)))) before is h r request older e =
+    let u = quiet-post d before request older (exchange p c before) ((q.0 == p.0) && (counter == c)) (h r request older) e in
+    record { corrects = u.corrects ∙ rw (sym is) refl; lives = u.lives ∙ rw (sym is) refl }
+quiet-deed p c d (Acts (Sample q counter diff err ticket)) before is h r request older e =
+    let u = h r request older (quiet-sample request older (exchange p c before) ((q.0 == p.0) && (counter == c)) e) in
+    record { corrects = u.corrects ∙ rw (sym is) refl; lives = u.lives ∙ rw (sym is) refl }
+quiet-deed p c d _ before is h r request older e = let u = h r request older e in record { corrects = u.corrects ∙ rw (sym is) refl; lives = u.lives ∙ rw (sym is) refl }
+
+quiet-elsewhere : (p : PeerId) (c : ℕ) (d : Did) (deed : Deed) (before : List Seen) → deed ≡ d.deed → (rests before ≡ true → Quiet p c before) → rests_elsewhere deed (asks before) (rests before) ≡ true → (request : Did) (older : List Seen) →
+    exchange p c before ≡ Here request ∷ older → Undisturbed (plain older) (plain (Elsewhere d ∷ before))
+quiet-elsewhere p c d (Acts Boot) before is h r request older e = absurd (true≢false (sym r))
+quiet-elsewhere p c d (Acts (Correct amount stepped shown)) before is h r request older e = absurd (no-open p c before request older (asks before) (rests before) (none-open p c before) r e)
+quiet-elsewhere p c d _ before is h r request older e = let u = h r request older e in record { corrects = u.corrects ∙ rw (sym is) refl; lives = u.lives ∙ rw (sym is) refl }
+
+quiet : (p : PeerId) (c : ℕ) (seen : List Seen) → rests seen ≡ true → Quiet p c seen
+quiet p c [] r request older e = not-nil (Here request) older e
+quiet p c (Here d ∷ before) r request older e = quiet-deed p c d d.deed before refl (quiet p c before) r request older e
+quiet p c (Elsewhere d ∷ before) r request older e = quiet-elsewhere p c d d.deed before refl (quiet p c before) r request older e
+
+abbrev met : Option PeerId → Role → Bool
+met None r = true
+met (Some p) (Follow q) = q.0 == p.0
+met (Some p) _ = false
+
+met-by : (o : Option PeerId) (r : Role) → met o r ≡ true → (p : PeerId) → o ≡ Some p → r ≡ Follow p
+met-by None r m p e = let bad : ⊥ = cc in absurd bad
+met-by (Some x) (Follow q) m p e = let one : x ≡ p = cc in ap Follow (peer-same q x m ∙ one)
+met-by (Some x) _ m p e = absurd (true≢false (sym m))
+
+not-so : (b : Bool) → cond b false true ≡ true → b ≡ false
+not-so true e = absurd (true≢false (sym e))
+not-so false e = refl
+
+-- whether all is paid that a port owes at a step's end
+abbrev pub paid : List Seen → Bool
+paid seen = cond (is_unbacked seen) false true && (met (owes seen) (role seen) && rests seen)
+
+paid-ends : (seen : List Seen) → paid seen ≡ true → StepEnds seen
+paid-ends seen e =
+    let a = and-true (cond (is_unbacked seen) false true) (met (owes seen) (role seen) && rests seen) e in
+    let b = and-true (met (owes seen) (role seen)) (rests seen) a.1 in
+    record { backs = not-so (is_unbacked seen) a.0; follows = met-by (owes seen) (role seen) b.0; exchanges = λ p c. quiet p c seen b.1 }
+
+-- lines on ports 0 and 1 alone
+abbrev pub on_two : List Line → Bool
+on_two [] = true
+on_two (l ∷ t) = nat_lt l.port.0 2 && on_two t
+
+-- what a port sees where nothing is done on it
+record Empty (seen : List Seen) : Type 0 where
+  pub backs : is_unbacked seen ≡ false
+  pub none : owes seen ≡ None
+  pub shut : (p : PeerId) (c : ℕ) → exchange p c seen ≡ []
+
+-- a port that its node doesn't have sees marks and boots alone
+far-deed : (b : Bool) (d : Did) (deed : Deed) (seen : List Seen) → deed ≡ d.deed → (false || is_shared deed) ≡ b → Empty seen → Empty (seen_as b d ∷ seen)
+far-deed true d Begins seen is e h = record { backs = rw (sym is) refl; none = rw (sym is) refl; shut = λ p c. rw (sym is) (h.shut p c) }
+far-deed true d (Acts Boot) seen is e h = record { backs = rw (sym is) h.backs; none = rw (sym is) h.none; shut = λ p c. rw (sym is) refl }
+far-deed true d _ seen is e h = let bad : ⊥ = cc in absurd bad
+far-deed false d deed seen is e h = record { backs = h.backs; none = h.none; shut = h.shut }
+
+other-port : (l k : ℕ) → nat_lt l 2 ≡ true → (b : Bool) → (l == suc (suc k)) ≡ b → b ≡ false
+other-port l k e true i = (let a = ltb-true l 2 e in let c = eqb-true l (suc (suc k)) i in absurd (omega arith))
+other-port l k e false i = refl
+
+far : (q : Port) (k : ℕ) (own : List Line) → q.0 ≡ suc (suc k) → on_two own ≡ true → Empty (view q own)
+far q k [] is e = record { backs = refl; none = refl; shut = λ p c. refl }
+far q k (l ∷ own) is e =
+    let a = and-true (nat_lt l.port.0 2) (on_two own) e in
+    let other : (l.port.0 == q.0) ≡ false = ap (λ n. l.port.0 == n) is ∙ other-port l.port.0 k a.0 (l.port.0 == suc (suc k)) refl in
+    rw other (far-deed (false || is_shared l.did.deed) l.did l.did.deed (view q own) refl refl (far q k own is a.1))
+
+abbrev pub port0 : Port
+port0 = record { 0 = 0 }
+
+abbrev pub port1 : Port
+port1 = record { 0 = 1 }
+
+-- whether all is paid that a node owes at a step's end
+abbrev pub settled : List Line → Bool
+settled own = on_two own && (paid (view port0 own) && paid (view port1 own))
+
+far-ends : (seen : List Seen) → Empty seen → StepEnds seen
+far-ends seen h = record { backs = h.backs; follows = λ p e. none-follows p (sym h.none ∙ e); exchanges = λ p c request older e. not-nil (Here request) older (sym (h.shut p c) ∙ e) } where
+  none-follows : (p : PeerId) → None ≡ Some p → role seen ≡ Follow p
+  none-follows p e = let bad : ⊥ = cc in absurd bad
+
+pub settled-ends : (own : List Line) → settled own ≡ true → (q : Port) → StepEnds (view q own)
+settled-ends own e q =
+    let a = and-true (on_two own) (paid (view port0 own) && paid (view port1 own)) e in
+    let b = and-true (paid (view port0 own)) (paid (view port1 own)) a.1 in
+    by-port a.0 b.0 b.1 q.0 refl
+  where
+    by-port : on_two own ≡ true → paid (view port0 own) ≡ true → paid (view port1 own) ≡ true → (k : ℕ) → q.0 ≡ k → StepEnds (view q own)
+    by-port two zero_is one_is zero is = subst (λ z. StepEnds (view z own)) (ap (λ k. let r : Port = record { 0 = k } in r) (sym is)) (paid-ends (view port0 own) zero_is)
+    by-port two zero_is one_is (suc zero) is = subst (λ z. StepEnds (view z own)) (ap (λ k. let r : Port = record { 0 = k } in r) (sym is)) (paid-ends (view port1 own) one_is)
+    by-port two zero_is one_is (suc (suc k)) is = far-ends (view q own) (far q k own is two)

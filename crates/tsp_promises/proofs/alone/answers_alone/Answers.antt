@@ -1,0 +1,10 @@
+use Rattle.tsp_promises.specs.NodeRuns.{NodeAnswers, node_ran}
+use Rattle.tsp_rules.specs.NodeRows.{in_node_step}
+use Rattle.tsp_promises.proofs.AloneLemmas.{same_answers}
+use Rattle.tsp_promises.proofs.RunLemmas.{fresh_alone}
+use Rattle.tsp_alone.proofs.laws.answers_alone.Goals as goal
+
+pub returns : goal.returns
+returns c past s hs step x g new o =
+    let known = fresh_alone past s hs step x (NodeAnswers g) new o in
+    (same_answers g o.2).run x (in_node_step step x (node_ran hs past)) s known.1 known.0

@@ -1,0 +1,17 @@
+-- As it is proved of each place.
+use Rattle.std.specs.Prelude.{◌∷◌}
+use Rattle.tsp_promises.proofs.EverywhereLemmas.{Everywhere-from, Everywhere-within}
+use Rattle.tsp_promises.specs.Premises.{FewAt, HonestAt, TakenWithinAt}
+use Rattle.tsp_base.specs.declared.constants.TheConstants.{LIFE}
+use Rattle.tsp_promises.proofs.OwnFitsProof.{fits_at}
+use Rattle.tsp_promises.specs.Dated.{DateConfirmedAt, SetsAt}
+use Rattle.tsp_promises.proofs.ConfirmedDate.{date_confirmed}
+use Rattle.tsp_promises.proofs.SetProof.{sets_at}
+use Rattle.tsp_promises.proofs.date.dated.Goals as goal
+
+pub returns : goal.returns
+returns c setting world f = record {
+  sets = Everywhere-from (SetsAt setting) world (λ l s w. sets_at setting l s (fits_at setting (l ∷ s) world f w));
+  confirmed = λ honest life few. Everywhere-from DateConfirmedAt world (λ l s w.
+      date_confirmed setting l s (fits_at setting (l ∷ s) world f w) (Everywhere-within HonestAt (l ∷ s) world honest w) (Everywhere-within (TakenWithinAt LIFE) (l ∷ s) world life w) (Everywhere-within FewAt (l ∷ s) world few w));
+}

@@ -1,0 +1,5 @@
+use Rattle.tsp_promises.proofs.safe.late_reply.Goals as goal
+use Rattle.tsp_promises.proofs.WitnessLife.{late_reply}
+
+pub returns : goal.returns
+returns c = late_reply

@@ -1,0 +1,5 @@
+use Rattle.tsp_promises.proofs.safe.relayed_use.Goals as goal
+use Rattle.tsp_promises.proofs.WitnessCasts.{relays}
+
+pub returns : goal.returns
+returns c = relays

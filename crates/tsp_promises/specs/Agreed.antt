@@ -1,0 +1,118 @@
+-- The promise that clocks corrected in one round agree.
+use Rattle.std.specs.Prelude.{◌≡◌, ◌⊎◌, ◌≤◌, ◌≤ℤ◌, ℕ, ◌+◌, ◌-◌, ◌*◌, ℤ, pos, ◌+ℤ◌, ◌-ℤ◌, nat_abs, Bool, true, List, ◌∷◌, Some, is_some}
+use Rattle.tsp_base.specs.declared.act.Act.{Act}
+use Rattle.tsp_base.specs.declared.act.Act.TheVariants.{Correct, Post}
+use Rattle.tsp_base.specs.declared.datagram.Datagram.{Datagram}
+use Rattle.tsp_base.specs.declared.datagram.Datagram.TheVariants.{Message}
+use Rattle.tsp_base.specs.declared.kind.Kind.TheVariants.{AdjTime}
+use Rattle.tsp_base.specs.declared.place.PeerId.{PeerId}
+use Rattle.tsp_base.specs.declared.place.Place.{Place}
+use Rattle.tsp_base.specs.declared.place.Place.TheVariants.{Peer}
+use Rattle.tsp_base.specs.declared.place.Port.{Port}
+use Rattle.tsp_promises.specs.ClockAt.{clock_at}
+use Rattle.tsp_promises.specs.Everywhere.{Everywhere}
+use Rattle.tsp_promises.specs.Fits.{node_of}
+use Rattle.tsp_base.specs.History.{Came, Acts, Did, Seen, Here, Line, from_act, of, dids, view}
+use Rattle.tsp_base.specs.Messages.{MessageValue}
+use Rattle.tsp_base.specs.NodeFacts.{all_corrects, lives}
+use Rattle.tsp_promises.specs.Once.{ActsOn, OfSend}
+use Rattle.tsp_base.specs.Places.{Within}
+use Rattle.tsp_base.specs.PortFacts.{acting}
+use Rattle.tsp_base.specs.RoundFacts.{Sampled, best}
+use Rattle.tsp_promises.specs.Setting.{Setting}
+use Rattle.tsp_promises.specs.StepFacts.{closed}
+use Rattle.tsp_base.specs.Takings.{Undisturbed, peer_of, posted}
+use Rattle.tsp_base.specs.Ticks.{width}
+
+-- the reading r of a sample that port q of m has at a place: the post of the reply that the Sample's step took
+pub record ReadingOf (m : ℕ) (q : Port) (place : List Seen) (world : List Line) (r : Line) (older : List Line) : Type 0 where
+  pub line : Line
+  pub before : List Line
+  pub at : Within (line ∷ before) world
+  pub node : node_of line ≡ m
+  pub port : line.port ≡ q
+  pub is : place ≡ Here line.did ∷ view q (of m before)
+  pub reads : Within (r ∷ older) before
+  pub takes : line.did.step.cause ≡ Came (posted (dids older))
+  pub to : Place
+  pub datagram : Datagram
+  pub deed : r.did.deed ≡ Acts (Post to datagram)
+
+-- this Close of m, the last one before it in its step on its port, begins an ADJTIME to the node of the Correct c, which takes a post of that send; r is the reading of the best sample that the Close had of that node, and err that sample's error
+pub record Cast (m : ℕ) (close : Line) (cpast : List Line) (c : Line) (past : List Line) (r : Line) (older : List Line) (err : ℤ) : Type 0 where
+  pub post : Line
+  pub before : List Line
+  pub acts : ActsOn c past post before
+  pub node : node_of post ≡ m
+  pub first : Did
+  pub begun : List Seen
+  pub of_send : OfSend (node_of c) post before first begun
+  pub message : MessageValue
+  pub begins : first.deed ≡ Acts (Post (Peer (peer_of (node_of c))) (Message message))
+  pub kind : message.kind ≡ AdjTime
+  pub closes : Within (close ∷ cpast) past
+  pub close_node : node_of close ≡ m
+  pub close_port : close.port ≡ post.port
+  pub close_is : closed begun ≡ Here close.did ∷ view post.port (of m cpast)
+  pub sample : Sampled
+  pub best_is : best (peer_of (node_of c)) (view post.port (of m cpast)) ≡ Some sample
+  pub err_is : sample.err ≡ err
+  pub reading : ReadingOf m post.port sample.place past r older
+
+-- node n neither booted nor corrected its clock after the place s
+pub record Unchanged (n : ℕ) (s h : List Line) : Type 0 where
+  pub within : Within s h
+  pub since : Undisturbed (dids (of n s)) (dids (of n h))
+
+-- the next act of all after the Close is m's last Correct
+pub record RightAfter (m : ℕ) (close : Line) (cpast h : List Line) : Type 0 where
+  pub next : Line
+  pub before : List Line
+  pub is : from_act before ≡ close ∷ cpast
+  pub amount : ℤ
+  pub stepped : Bool
+  pub shown : ℤ
+  pub place : Within (next ∷ before) h
+  pub node : node_of next ≡ m
+  pub deed : next.did.deed ≡ Acts (Correct amount stepped shown)
+  pub corrects : all_corrects (dids (of m (next ∷ before))) ≡ all_corrects (dids (of m h))
+
+-- since its Close m has no Boot, and no Correct but one that is the next act of all
+pub record UnchangedBut (m : ℕ) (close : Line) (cpast h : List Line) : Type 0 where
+  pub lives : lives (dids (of m (close ∷ cpast))) ≡ lives (dids (of m h))
+  pub corrects : (all_corrects (dids (of m (close ∷ cpast))) ≡ all_corrects (dids (of m h))) ⊎ RightAfter m close cpast h
+
+-- after the history h, at true time t: two nodes that one Close corrected, as long as they are left alone, differ by at most their errors and drift
+abbrev pub PeersAgree : Setting → List Line → ℕ → Type 0
+PeersAgree setting h t = (m : ℕ) (close : Line) (cpast : List Line) (c d : Line) (past qast : List Line) (r q : Line) (rolder qolder : List Line) (e f : ℤ) →
+    Cast m close cpast c past r rolder e → Cast m close cpast d qast q qolder f → Unchanged (node_of c) (c ∷ past) h → Unchanged (node_of d) (d ∷ qast) h →
+    pos (nat_abs (clock_at setting (node_of c) h t -ℤ clock_at setting (node_of d) h t)) ≤ℤ ((e +ℤ f) +ℤ pos (2 * width setting.drift (t - r.did.step.at) + 2 * width setting.drift (t - q.did.step.at)))
+
+-- likewise a node that a Close corrected and the master that closed: they differ by at most the error and drift
+abbrev pub MasterAgrees : Setting → List Line → ℕ → Type 0
+MasterAgrees setting h t = (m : ℕ) (close : Line) (cpast : List Line) (c : Line) (past : List Line) (r : Line) (rolder : List Line) (e : ℤ) →
+    Cast m close cpast c past r rolder e → Unchanged (node_of c) (c ∷ past) h → UnchangedBut m close cpast h →
+    pos (nat_abs (clock_at setting (node_of c) h t -ℤ clock_at setting m h t)) ≤ℤ (e +ℤ pos (2 * width setting.drift (t - r.did.step.at)))
+
+-- both
+pub record ClocksAgree (setting : Setting) (h : List Line) (t : ℕ) : Type 0 where
+  pub peers : PeersAgree setting h t
+  pub master : MasterAgrees setting h t
+
+-- an ADJTIME that a Close begins rests on a sample of its addressee
+abbrev pub RestsOnSample : Line → List Seen → Type 0
+RestsOnSample l seen = (p : PeerId) (m : MessageValue) (close : Did) (older : List Seen) → l.did.deed ≡ Acts (Post (Peer p) (Message m)) → m.kind ≡ AdjTime → acting seen ≡ true →
+    closed seen ≡ Here close ∷ older → is_some (best p older) ≡ true
+
+-- at a line: what it begins rests on a sample, and where it is an act the clocks agree at its time
+pub record AgreedAt (setting : Setting) (l : Line) (world : List Line) : Type 0 where
+  pub rests : RestsOnSample l (view l.port (of (node_of l) world))
+  pub clocks : (a : Act) → l.did.deed ≡ Acts a → ClocksAgree setting (l ∷ world) l.did.step.at
+
+-- at each act the clocks agree
+abbrev pub Agreed : Setting → List Line → Type 0
+Agreed setting = Everywhere (AgreedAt setting)
+
+-- and so they do after each line at any later time, as long as nothing more happens
+abbrev pub StayAgreed : Setting → List Line → Type 0
+StayAgreed setting = Everywhere (λ l world. (t : ℕ) → l.did.step.at ≤ t → ClocksAgree setting (l ∷ world) t)

@@ -1,0 +1,99 @@
+-- That the promises say something: for each part a small history that breaks it.
+use Rattle.std.specs.Prelude.{List}
+use Rattle.tsp_promises.specs.Agreed.{Agreed, StayAgreed}
+use Rattle.tsp_base.specs.History.{Line}
+use Rattle.tsp_promises.specs.Measured.{Measured, Trips}
+use Rattle.tsp_promises.specs.Once.{OnceConfirmed, OnceCorrected, OnceObeyed, OnceSpaced, OnceSpacedOverLives, OnceTaken}
+use Rattle.tsp_promises.specs.OneBack.{OneBack}
+use Rattle.tsp_promises.specs.OneWinner.{OneWinner}
+use Rattle.tsp_promises.specs.OnlyMaster.{OnlyMaster}
+use Rattle.tsp_promises.specs.Relayed.{Relayed}
+use Rattle.tsp_promises.specs.Resolved.{StaysQuiet, StopsLeading, Yields}
+use Rattle.tsp_promises.specs.Setting.{Setting}
+
+-- some history breaks the promise
+pub record Breaks (Promise : List Line → Type 0) : Type 0 where
+  pub world : List Line
+  pub broken : ¬ Promise world
+
+-- what breaks the promises of roles
+pub record RolesBreak (setting : Setting) : Type 0 where
+  -- two candidates backed within the hold
+  pub holds : Breaks OneBack
+  -- an ACCEPT without a Back
+  pub accepts : Breaks OneBack
+  -- an ELECTION before the candidate has backed itself
+  pub asks : Breaks OneBack
+  -- a step that ends before the candidate has backed itself
+  pub ends : Breaks OneBack
+  -- a history that ends so
+  pub finishes : Breaks OneBack
+  -- a correction that no master posts
+  pub corrects : Breaks OnlyMaster
+  -- a Close at a follower
+  pub closes : Breaks OnlyMaster
+  -- a Correct of another port after a Close, with a mark between
+  pub follows_close : Breaks OnlyMaster
+  -- two nodes on one network that win shortly after one another
+  pub winners : Breaks (OneWinner setting)
+  -- a master that stays master in the step in which it takes a QUIT
+  pub yields : Breaks Yields
+  -- a port that is master again soon after a QUIT
+  pub quiet : Breaks StaysQuiet
+  -- a rival that takes its QUIT and leads on
+  pub stops : Breaks StopsLeading
+  -- the same, and a turn more
+  pub stops_later : Breaks StopsLeading
+
+-- what breaks the promises of sends
+pub record SendsBreak (setting : Setting) : Type 0 where
+  -- two Corrects in short order
+  pub spaced : Breaks OnceSpaced
+  -- a boot between
+  pub spaced_over_lives : Breaks OnceSpacedOverLives
+  -- a follower that corrects its clock by itself
+  pub obeyed : Breaks (OnceObeyed setting)
+  -- one datagram that corrects a clock twice
+  pub corrected : Breaks OnceCorrected
+  -- a repeat of an ended send that is taken again
+  pub repeated : Breaks OnceCorrected
+  -- a Correct on another port than what its step takes
+  pub elsewhere : Breaks OnceCorrected
+  -- a date that is taken again, after a forged one
+  pub dated : Breaks OnceTaken
+  -- an Acked that nobody caused
+  pub confirmed : Breaks OnceConfirmed
+
+-- what breaks the promises of clocks
+pub record ClocksBreak (setting : Setting) : Type 0 where
+  -- a Sample that errs by more than it states
+  pub errs : Breaks (Measured setting)
+  -- a Sample without a reading
+  pub unread : Breaks (Measured setting)
+  -- a Sample by another peer's reply
+  pub misread : Breaks (Measured setting)
+  -- a Sample without a request
+  pub unasked : Breaks Trips
+  -- a Sample of an exchange that an earlier life began
+  pub outlived : Breaks Trips
+  -- an ADJTIME of another amount than the mean less the sample, obeyed
+  pub misled : Breaks (Agreed setting)
+  -- a clock that moves by another amount than the ADJTIME says
+  pub agreed : Breaks (Agreed setting)
+  -- of two clocks of one round one that does so
+  pub peers : Breaks (Agreed setting)
+  -- the first, and the clock boots
+  pub agreed_before : Breaks (Agreed setting)
+  -- an ADJTIME of a Close to a peer of which there is no sample
+  pub unsampled : Breaks (Agreed setting)
+  -- the first, seen later
+  pub stay_agreed : Breaks (StayAgreed setting)
+  -- a relayed clock that moves by another amount than the ADJTIME says
+  pub relayed : Breaks (Relayed setting)
+
+-- each promise is broken by some history, in one setting
+pub record AllBreak : Type 0 where
+  pub setting : Setting
+  pub roles : RolesBreak setting
+  pub sends : SendsBreak setting
+  pub clocks : ClocksBreak setting

@@ -1,0 +1,14 @@
+-- The clock of a node at a place of the history.
+use Rattle.std.specs.Prelude.{ℕ, ℤ, pos, ◌+ℤ◌, List}
+use Rattle.tsp_base.specs.History.{Line, of, dids}
+use Rattle.tsp_base.specs.NodeFacts.{moved, time_of}
+use Rattle.tsp_promises.specs.Setting.{Setting}
+use Rattle.tsp_base.specs.Ticks.{tick_at}
+
+-- the clock of node n at a true time, when the history is h: its wall at tick 0, its tick then, and the amounts of its Corrects since its last boot
+abbrev pub clock_at : Setting → ℕ → List Line → ℕ → ℤ
+clock_at setting n h at = (setting.wall n +ℤ moved (dids (of n h))) +ℤ pos (tick_at (setting.rate n) at)
+
+-- the clock of node n at the place that ends the history h
+abbrev pub clock : Setting → ℕ → List Line → ℤ
+clock setting n h = clock_at setting n h (time_of (dids h))

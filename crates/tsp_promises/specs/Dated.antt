@@ -1,0 +1,41 @@
+-- The promise of the network's date: a master alone sets it, to the time that was taken, and what is acknowledged was set.
+use Rattle.std.specs.Prelude.{◌≡◌, ℕ, ℤ, ◌-ℤ◌, Bool, true, List, ◌∷◌, Some}
+use Rattle.tsp_base.specs.declared.act.Act.TheVariants.{Acked, Correct, Post}
+use Rattle.tsp_base.specs.declared.datagram.Datagram.TheVariants.{Message}
+use Rattle.tsp_base.specs.declared.datagram.Taken.TheVariants.{Good}
+use Rattle.tsp_base.specs.declared.kind.Kind.TheVariants.{SetDateReq}
+use Rattle.tsp_base.specs.declared.place.PeerId.{PeerId}
+use Rattle.tsp_base.specs.declared.place.Place.{Place}
+use Rattle.tsp_base.specs.declared.place.Place.TheVariants.{Peer}
+use Rattle.tsp_base.specs.declared.role.Role.TheVariants.{Master}
+use Rattle.tsp_promises.specs.ClockAt.{clock_at}
+use Rattle.tsp_promises.specs.Everywhere.{Everywhere}
+use Rattle.tsp_promises.specs.Fits.{node_of}
+use Rattle.tsp_base.specs.History.{Acts, Did, Here, Line, Seen, dids, of, view}
+use Rattle.tsp_base.specs.Messages.{MessageValue}
+use Rattle.tsp_promises.specs.Once.{Acted}
+use Rattle.tsp_base.specs.PortFacts.{role}
+use Rattle.tsp_promises.specs.Premises.{Few, Honest, Life}
+use Rattle.tsp_base.specs.SendFacts.{open_to, sets_date}
+use Rattle.tsp_promises.specs.Setting.{Setting}
+use Rattle.tsp_base.specs.Takings.{heard, time_in}
+
+-- a Correct of this amount at a master, which sets the clock to the time in a message
+pub record SetsClock (setting : Setting) (l : Line) (world : List Line) (amount : ℤ) (m : MessageValue) : Type 0 where
+  pub leads : role (view l.port (of (node_of l) world)) ≡ Master
+  pub amount_is : amount ≡ time_in m.body -ℤ clock_at setting (node_of l) world l.did.step.at
+
+-- a Correct that stands after the Took of a date in its step, on whatever port that was, sets the clock to it
+abbrev pub SetsAt : Setting → Line → List Line → Type 0
+SetsAt setting l world = (amount : ℤ) (stepped : Bool) (shown : ℤ) (from : Place) (m : MessageValue) → l.did.deed ≡ Acts (Correct amount stepped shown) →
+    heard (dids (of (node_of l) world)) ≡ Some (record { from = from; taken = Good (Message m) }) → sets_date m.kind ≡ true → SetsClock setting l world amount m
+
+-- an Acked that ends the send of a date stands after a Correct that takes a post of it
+abbrev pub DateConfirmedAt : Line → List Line → Type 0
+DateConfirmedAt l world = (p : PeerId) (first : Did) (older : List Seen) (m : MessageValue) → l.did.deed ≡ Acts (Acked p) → open_to p (view l.port (of (node_of l) world)) ≡ Here first ∷ older →
+    first.deed ≡ Acts (Post (Peer p) (Message m)) → m.kind ≡ SetDateReq → Acted (node_of l) p.0 world first older
+
+-- dates are set so in every history, and what is acknowledged was set where no peer's datagram is forged, none lives longer than `LIFE`, and no port begins 32,768 sends with own numbers in one life
+pub record Dated (setting : Setting) (world : List Line) : Type 0 where
+  pub sets : Everywhere (SetsAt setting) world
+  pub confirmed : Honest world → Life world → Few world → Everywhere DateConfirmedAt world

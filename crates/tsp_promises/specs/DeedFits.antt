@@ -1,0 +1,130 @@
+-- What each deed owes to its port's past, and to what the port is set up with.
+use Rattle.std.specs.Prelude.{◌≡◌, ℕ, ◌≤◌, ◌⊎◌, ◌+◌, ◌%◌, Bool, true, false, List, None, Some}
+use Rattle.tsp_base.specs.declared.act.Act.{Act}
+use Rattle.tsp_base.specs.declared.act.Act.TheVariants.{Took, Post, Become, Back, Backer, Sample, Acked, Close, Correct}
+use Rattle.tsp_base.specs.declared.constants.TheConstants.{QUIET}
+use Rattle.tsp_base.specs.declared.datagram.Datagram.{Datagram}
+use Rattle.tsp_base.specs.declared.datagram.Datagram.TheVariants.{Message, Stamp}
+use Rattle.tsp_base.specs.declared.datagram.Taken.TheVariants.{Good}
+use Rattle.tsp_base.specs.declared.kind.Kind.{Kind}
+use Rattle.tsp_base.specs.declared.kind.Kind.TheVariants.{AdjTime, Ack, MasterReq, MasterAck, SetTime, MasterUp, SlaveUp, Election, Accept, Refuse, Conflict, Resolve, Quit, Date, DateReq, DateAck, TraceOn, TraceOff, Msite, MsiteReq, Test, SetDate, SetDateReq, Loop}
+use Rattle.tsp_base.specs.declared.place.PeerId.{PeerId}
+use Rattle.tsp_base.specs.declared.place.Place.{Place}
+use Rattle.tsp_base.specs.declared.place.Place.TheVariants.{Peer, Stranger}
+use Rattle.tsp_base.specs.declared.role.Role.TheVariants.{Master}
+use Rattle.tsp_base.specs.declared.stamp.Stamp.TheVariants.{Request, Reply}
+use Rattle.tsp_promises.specs.AckFits.{AckFits, AckedFits}
+use Rattle.tsp_promises.specs.CorrectFits.{CorrectFits}
+use Rattle.tsp_promises.specs.CorrectionFits.{CorrectionFits, RepeatFits}
+use Rattle.tsp_promises.specs.DateFits.{DateAckFits, PassOnFits}
+use Rattle.tsp_base.specs.History.{Deed, Begins, Acts, Did, Seen, plain}
+use Rattle.tsp_promises.specs.HoldFits.{AcceptFits, BackFits, BackerFits, BecomeFits}
+use Rattle.tsp_promises.specs.LoopFits.{LoopFits}
+use Rattle.tsp_promises.specs.MeasureFits.{RequestFits, ReplyFits, SampleFits}
+use Rattle.tsp_base.specs.Messages.{MessageValue}
+use Rattle.tsp_base.specs.NodeFacts.{boot_tick, ticket, word}
+use Rattle.tsp_base.specs.PortFacts.{role, acting, taken}
+use Rattle.tsp_base.specs.SendFacts.{begun}
+use Rattle.tsp_base.specs.Setup.{Setup}
+use Rattle.tsp_promises.specs.StepFacts.{StepEnds, is_unbacked}
+use Rattle.tsp_base.specs.Takings.{heard}
+
+-- a numbered send that is no correction: its number is no ticket but the port's next own one, and it begins a send or repeats the open one
+pub record NumberedFits (here : Did) (before : List Seen) (p : PeerId) (m : MessageValue) : Type 0 where
+  pub number : 32768 ≤ m.number
+  pub next : acting before ≡ true → m.number ≡ 32768 + (word (plain before) + begun before) % 32768
+  pub repeats : acting before ≡ false → RepeatFits here before p m
+
+-- a candidate asks for votes only when it has backed itself
+pub record ElectionFits (here : Did) (before : List Seen) (p : PeerId) (m : MessageValue) : Type 0 where
+  pub numbered : NumberedFits here before p m
+  pub backs : is_unbacked before ≡ false
+
+-- a date that is passed on
+pub record DateRequestFits (here : Did) (before : List Seen) (p : PeerId) (m : MessageValue) : Type 0 where
+  pub numbered : NumberedFits here before p m
+  pub begins : acting before ≡ true → PassOnFits here before
+
+-- what the post of a message to a peer owes, by its kind; what a node acknowledges to anybody it never posts
+abbrev pub MessageFits : Setup → Kind → Did → List Seen → PeerId → MessageValue → Type 0
+MessageFits setup AdjTime here before p m = CorrectionFits here before p m
+MessageFits setup SetTime here before p m = CorrectionFits here before p m
+MessageFits setup Ack here before p m = AckFits (Peer p) before m.number
+MessageFits setup SlaveUp here before p m = m.number ≡ ticket (plain before)
+MessageFits setup Accept here before p m = AcceptFits before p m.number
+MessageFits setup Election here before p m = ElectionFits here before p m
+MessageFits setup Conflict here before p m = NumberedFits here before p m
+MessageFits setup Quit here before p m = NumberedFits here before p m
+MessageFits setup SetDateReq here before p m = DateRequestFits here before p m
+MessageFits setup DateAck here before p m = DateAckFits (Peer p) here before m.number
+MessageFits setup Loop here before p m = LoopFits setup before m
+MessageFits setup MasterReq here before p m = Unit {0}
+MessageFits setup MasterAck here before p m = Unit {0}
+MessageFits setup MasterUp here before p m = Unit {0}
+MessageFits setup Refuse here before p m = Unit {0}
+MessageFits setup Resolve here before p m = Unit {0}
+MessageFits setup TraceOn here before p m = ⊥
+MessageFits setup TraceOff here before p m = ⊥
+MessageFits setup Msite here before p m = ⊥
+MessageFits setup MsiteReq here before p m = ⊥
+MessageFits setup Test here before p m = ⊥
+MessageFits setup Date here before p m = ⊥
+MessageFits setup DateReq here before p m = ⊥
+MessageFits setup SetDate here before p m = ⊥
+
+-- what the post of a message to a stranger owes: acknowledgments alone go there
+abbrev pub StrangerFits : Kind → Did → List Seen → ℕ → Type 0
+StrangerFits Ack here before number = AckFits Stranger before number
+StrangerFits DateAck here before number = DateAckFits Stranger here before number
+StrangerFits _ here before number = ⊥
+
+-- what a post owes, by its addressee; strangers get answers alone
+abbrev pub PostFits : Setup → Place → Datagram → Did → List Seen → Type 0
+PostFits setup (Peer p) (Message m) here before = MessageFits setup m.kind here before p m
+PostFits setup (Peer p) (Stamp (Request word counter)) here before = RequestFits before word counter
+PostFits setup Stranger (Message m) here before = StrangerFits m.kind here before m.number
+PostFits setup Stranger (Stamp (Request word counter)) here before = ⊥
+PostFits setup to (Stamp (Reply reply)) here before = ReplyFits here before to reply
+
+-- questions that are answered in the quiet time too
+abbrev pub is_answered_early : Kind → Bool
+is_answered_early Msite = true
+is_answered_early TraceOn = true
+is_answered_early TraceOff = true
+is_answered_early _ = false
+
+-- the step took such a question
+pub record AskedEarly (before : List Seen) : Type 0 where
+  pub from : Place
+  pub message : MessageValue
+  pub took : taken before ≡ Some (record { from = from; taken = Good (Message message) })
+  pub kind : is_answered_early message.kind ≡ true
+
+-- what may be posted in the quiet time: replies to stamp requests, and acknowledgments of such questions
+abbrev pub AnswersEarly : Datagram → List Seen → Type 0
+AnswersEarly (Stamp (Reply reply)) before = Unit {0}
+AnswersEarly (Stamp (Request word counter)) before = ⊥
+AnswersEarly (Message m) before = (m.kind ≡ Ack) × AskedEarly before
+
+-- what any post owes: nothing else is posted for QUIET after the boot
+pub record PostsFit (setup : Setup) (to : Place) (datagram : Datagram) (here : Did) (before : List Seen) : Type 0 where
+  pub rested : (boot_tick (plain before) + QUIET ≤ here.tick) ⊎ AnswersEarly datagram before
+  pub fits : PostFits setup to datagram here before
+
+-- what an act owes; a step takes one datagram at most, on whatever port
+abbrev pub ActFits : Setup → Act → Did → List Seen → Type 0
+ActFits setup (Post to datagram) here before = PostsFit setup to datagram here before
+ActFits setup (Took from taken) here before = heard (plain before) ≡ None
+ActFits setup (Become r) here before = BecomeFits setup r here before
+ActFits setup (Back p) here before = BackFits here before p
+ActFits setup (Backer p) here before = BackerFits setup here before p
+ActFits setup (Sample p counter diff err number) here before = SampleFits here before p counter diff err number
+ActFits setup (Close count lo size mean) here before = role before ≡ Master
+ActFits setup (Correct amount stepped shown) here before = CorrectFits here before amount
+ActFits setup (Acked p) here before = AckedFits before p
+ActFits setup _ here before = Unit {0}
+
+-- what a deed owes: a mark, that the step before it has ended well
+abbrev pub DeedFits : Setup → Deed → Did → List Seen → Type 0
+DeedFits setup Begins here before = StepEnds before
+DeedFits setup (Acts a) here before = ActFits setup a here before

@@ -1,0 +1,75 @@
+-- Histories that fit: what a schedule gives of each line, and what each deed owes.
+use Rattle.std.specs.Prelude.{◌≡◌, ◌≤◌, ◌<◌, ℕ, ◌^◌, ◌==◌, ◌||◌, pos, ◌+ℤ◌, Bool, true, List, [], ◌∷◌}
+use Rattle.tsp_base.specs.declared.act.Act.TheVariants.{Boot, Took, Post}
+use Rattle.tsp_base.specs.declared.datagram.Datagram.{Datagram}
+use Rattle.tsp_base.specs.declared.datagram.Taken.{Taken}
+use Rattle.tsp_base.specs.declared.datagram.Taken.TheVariants.{Good}
+use Rattle.tsp_base.specs.declared.place.Place.{Place}
+use Rattle.tsp_base.specs.declared.place.Place.TheVariants.{Peer}
+use Rattle.tsp_base.specs.declared.place.Port.{Port}
+use Rattle.tsp_promises.specs.DeedFits.{DeedFits}
+use Rattle.tsp_promises.specs.Everywhere.{Everywhere}
+use Rattle.tsp_base.specs.History.{Cause, Booted, Turned, Came, Handed, Step, Deed, Begins, Acts, Did, Line, of, dids, view, is_shared}
+use Rattle.tsp_base.specs.NodeFacts.{time_of, up}
+use Rattle.tsp_base.specs.Places.{Within}
+use Rattle.tsp_promises.specs.Setting.{Setting, setup_of}
+use Rattle.tsp_promises.specs.StepFacts.{StepEnds}
+use Rattle.tsp_base.specs.Takings.{peer_of, posted}
+use Rattle.tsp_base.specs.Ticks.{tick_at}
+
+-- the node of a line
+abbrev pub node_of : Line → ℕ
+node_of l = l.did.step.node
+
+-- port q sees the line as its own
+abbrev pub Sees : Port → Line → Type 0
+Sees q l = ((l.port.0 == q.0) || is_shared l.did.deed) ≡ true
+
+-- each line but a mark is of the step of the line before it
+abbrev pub SameStep : Deed → Step → List Did → Type 0
+SameStep Begins step world = Unit {0}
+SameStep (Acts a) step [] = ⊥
+SameStep (Acts a) step (last ∷ before) = last.step ≡ step
+
+-- a boot stands in a step for it and shows the node's wall clock; all else is done by a node that has booted
+abbrev pub Alive : Setting → Deed → Did → Bool → Type 0
+Alive setting Begins here is_up = Unit {0}
+Alive setting (Acts Boot) here is_up = (word : ℕ) × (here.step.cause ≡ Booted word (setting.wall here.step.node +ℤ pos here.tick))
+Alive setting (Acts a) here is_up = is_up ≡ true
+
+-- the datagram number k was posted to this line's node, on the network of its port, as the line says
+pub record Posted (setting : Setting) (l : Line) (world : List Line) (k : ℕ) (from : Place) (taken : Taken) : Type 0 where
+  pub post : Line
+  pub older : List Line
+  pub place : Within (post ∷ older) world
+  pub number : posted (dids older) ≡ k
+  pub datagram : Datagram
+  pub deed : post.did.deed ≡ Acts (Post (Peer (peer_of (node_of l))) datagram)
+  pub net : setting.net (node_of post) post.port ≡ setting.net (node_of l) l.port
+  pub from_is : from ≡ Peer (peer_of (node_of post))
+  pub taken_is : taken ≡ Good datagram
+
+-- what a node took, by the cause of its step
+abbrev pub TookFits : Cause → Setting → Line → List Line → Place → Taken → Type 0
+TookFits (Came k) setting l world from taken = Posted setting l world k from taken
+TookFits Handed setting l world from taken = Unit {0}
+TookFits (Booted word wall) setting l world from taken = ⊥
+TookFits Turned setting l world from taken = ⊥
+
+-- a line fits the history before it: time doesn't go back, its tick is its node's, and it does what it owes on each port that sees it
+pub record LineFits (setting : Setting) (l : Line) (world : List Line) : Type 0 where
+  pub order : time_of (dids world) ≤ l.did.step.at
+  pub tick : l.did.tick ≡ tick_at (setting.rate (node_of l)) l.did.step.at
+  pub few : posted (dids world) < 2 ^ 64
+  pub step : SameStep l.did.deed l.did.step (dids world)
+  pub alive : Alive setting l.did.deed l.did (up (dids (of (node_of l) world)))
+  pub took : (from : Place) (taken : Taken) → l.did.deed ≡ Acts (Took from taken) → TookFits l.did.step.cause setting l world from taken
+  pub deeds : (q : Port) → Sees q l → DeedFits (setup_of setting (node_of l) q) l.did.deed l.did (view q (of (node_of l) world))
+
+-- each line fits the history before it
+abbrev pub Fits : Setting → List Line → Type 0
+Fits setting = Everywhere (LineFits setting)
+
+-- the history ends where a step ends, on every port of every node
+abbrev pub Finished : List Line → Type 0
+Finished world = (n : ℕ) (q : Port) → StepEnds (view q (of n world))

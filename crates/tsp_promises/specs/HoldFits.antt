@@ -1,0 +1,79 @@
+-- What backings, votes and changes of the role owe to their port's past.
+use Rattle.std.specs.Prelude.{◌≡◌, ◌≢◌, ◌≤◌, ◌<◌, ◌⊎◌, ℕ, ◌+◌, ◌*◌, true, false, List, ◌∷◌, length, Some}
+use Rattle.tsp_base.specs.declared.act.Act.TheVariants.{Post, Acked}
+use Rattle.tsp_base.specs.declared.constants.TheConstants.{ELECT_MIN, HOLD, QUIET, SLACK, WINDOW}
+use Rattle.tsp_base.specs.declared.datagram.Datagram.TheVariants.{Message}
+use Rattle.tsp_base.specs.declared.kind.Kind.TheVariants.{Accept, Election, Loop as LoopKind}
+use Rattle.tsp_base.specs.declared.place.PeerId.{PeerId}
+use Rattle.tsp_base.specs.declared.place.Place.TheVariants.{Peer}
+use Rattle.tsp_base.specs.declared.role.Role.{Role}
+use Rattle.tsp_base.specs.declared.role.Role.TheVariants.{Candidate, Loose, Master}
+use Rattle.tsp_base.specs.History.{Acts, Did, Seen, Here, plain}
+use Rattle.tsp_base.specs.Messages.{MessageValue}
+use Rattle.tsp_base.specs.NodeFacts.{boot_tick}
+use Rattle.tsp_base.specs.Peers.{is_among}
+use Rattle.tsp_base.specs.PortFacts.{role, held, backers, stood}
+use Rattle.tsp_base.specs.SendFacts.{open_to}
+use Rattle.tsp_base.specs.Setup.{Setup}
+use Rattle.tsp_promises.specs.StepFacts.{backed}
+use Rattle.tsp_base.specs.Takings.{Receives, peer_of}
+
+-- a Back comes QUIET after the boot, and HOLD after the last Back, unless that was of the same candidate
+pub record BackFits (here : Did) (before : List Seen) (p : PeerId) : Type 0 where
+  pub rested : boot_tick (plain before) + QUIET ≤ here.tick
+  pub holds : (x : ℕ) (q : PeerId) → (held before).back ≡ Some (x, q) → (q ≡ p) ⊎ (x + HOLD ≤ here.tick)
+
+-- an ACCEPT answers the ELECTION that the step took from its addressee, with its number, after a Back of that peer
+pub record AcceptFits (before : List Seen) (p : PeerId) (number : ℕ) : Type 0 where
+  pub backs : backed before ≡ Some p
+  pub message : MessageValue
+  pub took : Receives before p (Message message)
+  pub kind : message.kind ≡ Election
+  pub number_is : message.number ≡ number
+
+-- a Backer is another peer, which hasn't backed this candidature yet; it stands right after the Acked that ended an ELECTION to it, in a step that took its ACCEPT of that number
+pub record BackerFits (setup : Setup) (here : Did) (before : List Seen) (p : PeerId) : Type 0 where
+  pub peer : is_among p setup.peers ≡ true
+  pub other : p ≢ peer_of here.step.node
+  pub new : is_among p (backers before) ≡ false
+  pub answer : MessageValue
+  pub took : Receives before p (Message answer)
+  pub kind : answer.kind ≡ Accept
+  pub acked : Did
+  pub past : List Seen
+  pub is : before ≡ Here acked ∷ past
+  pub deed : acked.deed ≡ Acts (Acked p)
+  pub first : Did
+  pub older : List Seen
+  pub ends : open_to p past ≡ Here first ∷ older
+  pub message : MessageValue
+  pub asks : first.deed ≡ Acts (Post (Peer p) (Message message))
+  pub election : message.kind ≡ Election
+  pub number : message.number ≡ answer.number
+
+-- a port becomes master ELECT_MIN after the boot and after the last Quit, as a candidate that has backed itself, at most WINDOW and SLACK after it stood; a strict election is won by a majority of the peers, itself counted
+pub record LeadFits (setup : Setup) (here : Did) (before : List Seen) : Type 0 where
+  pub rested : boot_tick (plain before) + ELECT_MIN ≤ here.tick
+  pub quiet : (x : ℕ) → (held before).quit ≡ Some x → x + ELECT_MIN ≤ here.tick
+  pub stands : role before ≡ Candidate
+  pub start : Did
+  pub idle : List Seen
+  pub start_is : stood before ≡ Here start ∷ idle
+  pub soon : here.tick ≤ start.tick + (WINDOW + SLACK)
+  pub backs : (held before).back ≡ Some (start.tick, peer_of here.step.node)
+  pub wins : setup.strict ≡ true → length setup.peers < 2 * length (backers before) + 2
+
+-- a master gives its lead up for a LOOP alone, which came back to this port with the node's own name, from one of its lower ports
+pub record YieldFits (setup : Setup) (before : List Seen) : Type 0 where
+  pub from : PeerId
+  pub message : MessageValue
+  pub took : Receives before from (Message message)
+  pub kind : message.kind ≡ LoopKind
+  pub name : message.name ≡ setup.name
+  pub number : message.number < setup.port.0
+
+-- what a change of the role owes
+abbrev pub BecomeFits : Setup → Role → Did → List Seen → Type 0
+BecomeFits setup Master here before = LeadFits setup here before
+BecomeFits setup Loose here before = role before ≡ Master → YieldFits setup before
+BecomeFits setup _ here before = Unit {0}

@@ -1,0 +1,36 @@
+-- A reply of an earlier life: what comes of no open exchange is no Sample.
+use Rattle.std.specs.Prelude.{◌≡◌, ◌<◌, ℤ, List, ◌∷◌}
+use Rattle.tsp_base.specs.declared.act.Act.TheVariants.{Post, Took}
+use Rattle.tsp_base.specs.declared.datagram.Datagram.TheVariants.{Stamp}
+use Rattle.tsp_base.specs.declared.datagram.Taken.TheVariants.{Good}
+use Rattle.tsp_base.specs.declared.place.PeerId.{PeerId}
+use Rattle.tsp_base.specs.declared.place.Place.TheVariants.{Peer}
+use Rattle.tsp_base.specs.declared.stamp.Stamp.TheVariants.{Request, Reply}
+use Rattle.tsp_promises.specs.Fits.{node_of}
+use Rattle.tsp_base.specs.History.{Acts, Line, of, dids, view}
+use Rattle.tsp_promises.specs.Measured.{TripOf}
+use Rattle.tsp_base.specs.NodeFacts.{lives}
+use Rattle.tsp_base.specs.Places.{Within}
+use Rattle.tsp_promises.specs.Setting.{Setting}
+use Rattle.tsp_promises.specs.Kept.{Kept}
+use Rattle.tsp_base.specs.Stamps.{ReplyValue}
+
+-- a history that fits and keeps every premise, in which a node takes the reply to a request that it posted in an earlier life; a Sample right after would end no exchange
+pub record LateReply : Type 0 where
+  pub setting : Setting
+  pub world : List Line
+  pub kept : Kept setting world
+  pub peer : PeerId
+  pub reply : ReplyValue
+  pub request : Line
+  pub before : List Line
+  pub asked : request.did.deed ≡ Acts (Post (Peer peer) (Stamp (Request reply.word reply.counter)))
+  pub took : Line
+  pub older : List Line
+  pub place : Within (took ∷ older) world
+  pub deed : took.did.deed ≡ Acts (Took (Peer peer) (Good (Stamp (Reply reply))))
+  pub request_in : Within (request ∷ before) older
+  pub node : node_of request ≡ node_of took
+  pub port : request.port ≡ took.port
+  pub booted : lives (dids (of (node_of took) before)) < lives (dids (of (node_of took) older))
+  pub no_trip : (err : ℤ) → ¬ TripOf took (view took.port (of (node_of took) (took ∷ older))) peer reply.counter err

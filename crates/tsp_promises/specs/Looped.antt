@@ -1,0 +1,84 @@
+-- The promise of LOOPs: each comes along a chain of posts, and a master gives its lead up for its own alone.
+use Rattle.std.specs.Prelude.{◌≡◌, ◌≢◌, ℕ, ◌+◌, ◌<◌, ◌≤◌, true, List, [], ◌∷◌, length, is_some}
+use Rattle.tsp_base.specs.declared.act.Act.TheVariants.{Become, Post}
+use Rattle.tsp_base.specs.declared.constants.TheConstants.{HOPS}
+use Rattle.tsp_base.specs.declared.datagram.Datagram.TheVariants.{Message}
+use Rattle.tsp_base.specs.declared.kind.Kind.TheVariants.{Loop as LoopKind}
+use Rattle.tsp_base.specs.declared.message.Body.TheVariants.{Hops}
+use Rattle.tsp_base.specs.declared.place.PeerId.{PeerId}
+use Rattle.tsp_base.specs.declared.place.Place.{Place}
+use Rattle.tsp_base.specs.declared.place.Place.TheVariants.{Peer}
+use Rattle.tsp_base.specs.declared.place.Port.{Port}
+use Rattle.tsp_base.specs.declared.role.Role.TheVariants.{Loose, Master}
+use Rattle.tsp_promises.specs.Everywhere.{Everywhere}
+use Rattle.tsp_promises.specs.Fits.{node_of}
+use Rattle.tsp_base.specs.History.{Acts, Line, dids, of, view}
+use Rattle.tsp_base.specs.Messages.{MessageValue}
+use Rattle.tsp_promises.specs.Once.{Brings}
+use Rattle.tsp_base.specs.PortFacts.{role}
+use Rattle.tsp_promises.specs.Premises.{Honest, NamesApart}
+use Rattle.tsp_promises.specs.Setting.{Setting}
+use Rattle.tsp_base.specs.Takings.{heard}
+
+-- the post of a LOOP to a peer, and what stands before it
+pub record LoopPost : Type 0 where
+  pub post : Line
+  pub older : List Line
+  pub to : PeerId
+  pub message : MessageValue
+  pub deed : post.did.deed ≡ Acts (Post (Peer to) (Message message))
+  pub kind : message.kind ≡ LoopKind
+  pub hops : ℕ
+  pub hops_is : message.body ≡ Hops hops
+
+-- the line stands after the Took of its step, by which such a post came to its node
+pub record TakesPost (l : Line) (world : List Line) (early : LoopPost) : Type 0 where
+  pub brings : Brings l world early.post early.older
+  pub took : is_some (heard (dids (of (node_of l) world))) ≡ true
+
+-- a chain of posts, the last one first: the first has all hops, and each other stands after the Took of the one before it, in the step of that, with one hop less
+abbrev pub IsChain : List LoopPost → Type 0
+IsChain [] = ⊥
+IsChain (first ∷ []) = first.hops ≡ HOPS
+IsChain (late ∷ early ∷ rest) = TakesPost late.post late.older early × ((early.hops ≡ late.hops + 1) × IsChain (early ∷ rest))
+
+-- the post of a LOOP here ends a chain of at most so many posts
+pub record EndsChain (l : Line) (world : List Line) : Type 0 where
+  pub last : LoopPost
+  pub rest : List LoopPost
+  pub post_is : last.post ≡ l
+  pub older_is : last.older ≡ world
+  pub chain : IsChain (last ∷ rest)
+  pub few : length (last ∷ rest) ≤ HOPS + 1
+
+-- a LOOP that is posted has at most so many hops
+abbrev pub HopsAt : Line → List Line → Type 0
+HopsAt l world = (to : Place) (m : MessageValue) → l.did.deed ≡ Acts (Post to (Message m)) → m.kind ≡ LoopKind → (hops : ℕ) × ((m.body ≡ Hops hops) × (hops ≤ HOPS))
+
+-- its post ends a chain
+abbrev pub ChainAt : Line → List Line → Type 0
+ChainAt l world = (to : Place) (m : MessageValue) → l.did.deed ≡ Acts (Post to (Message m)) → m.kind ≡ LoopKind → EndsChain l world
+
+-- the first post of these is by node n, on a port below p, and the others are by other nodes
+abbrev pub SentBy : ℕ → Port → List LoopPost → Type 0
+SentBy n p [] = ⊥
+SentBy n p (first ∷ []) = (node_of first.post ≡ n) × (first.post.port.0 < p.0)
+SentBy n p (late ∷ early ∷ rest) = (node_of late.post ≢ n) × SentBy n p (early ∷ rest)
+
+-- the step has taken the last post of a chain that this node began on a lower port and that others passed on
+pub record GivesUp (l : Line) (world : List Line) : Type 0 where
+  pub last : LoopPost
+  pub rest : List LoopPost
+  pub takes : TakesPost l world last
+  pub chain : IsChain (last ∷ rest)
+  pub sent : SentBy (node_of l) l.port (last ∷ rest)
+
+-- a master becomes Loose for such a LOOP alone
+abbrev pub GivesUpAt : Line → List Line → Type 0
+GivesUpAt l world = l.did.deed ≡ Acts (Become Loose) → role (view l.port (of (node_of l) world)) ≡ Master → GivesUp l world
+
+-- few hops in every history, chains where no peer's datagram is forged, and what a master gives its lead up for where the nodes' names differ besides
+pub record Looped (setting : Setting) (world : List Line) : Type 0 where
+  pub hops : Everywhere HopsAt world
+  pub chains : Honest world → Everywhere ChainAt world
+  pub gives_up : Honest world → NamesApart setting world → Everywhere GivesUpAt world

@@ -1,0 +1,54 @@
+-- A node that runs by the rules, over all its ports.
+use Rattle.std.specs.Prelude.{◌≡◌, ◌≤◌, ◌<◌, ℕ, List, [], ◌∷◌, length}
+use Rattle.tsp_base.specs.declared.place.Port.{Port}
+use Rattle.tsp_base.specs.History.{Step, view}
+use Rattle.tsp_promises.specs.StepFacts.{StepEnds}
+use Rattle.tsp_rules.specs.GateRows.{NodeGiven, NodeTurn, GotOn, answers_all, boots_all}
+use Rattle.tsp_rules.specs.NodeRows.{NodePast, NodeRow, port_setup, on_port, spread, in_node_step}
+use Rattle.tsp_promises.specs.PortFits.{PortFits, setup_in}
+
+-- what a step of a node is made of: a boot, or an answer to what is given
+pub data NodeMakes : Type 0 where
+  NodeBoots : NodeMakes
+  NodeAnswers : NodeGiven → NodeMakes
+
+-- the row that a step puts
+abbrev pub node_row_of : NodeMakes → NodeRow
+node_row_of NodeBoots = boots_all
+node_row_of (NodeAnswers g) = answers_all g
+
+-- one step of a node, at this tick
+pub record NodeHappening : Type 0 where
+  pub step : Step
+  pub tick : ℕ
+  pub makes : NodeMakes
+
+-- the past after one step more
+abbrev pub node_happens : NodeHappening → NodePast → NodePast
+node_happens h past = spread h.tick (in_node_step h.step h.tick past) (node_row_of h.makes h.tick (in_node_step h.step h.tick past))
+
+-- the past after these steps, the newest first
+abbrev pub node_ran : List NodeHappening → NodePast → NodePast
+node_ran [] past = past
+node_ran (h ∷ before) past = node_happens h (node_ran before past)
+
+-- the tick of the last step
+abbrev pub node_tick : List NodeHappening → ℕ
+node_tick [] = 0
+node_tick (h ∷ before) = h.tick
+
+-- what is given comes on one of so many ports
+abbrev pub IsGivenOn : ℕ → NodeMakes → Type 0
+IsGivenOn ports NodeBoots = Unit {0}
+IsGivenOn ports (NodeAnswers NodeTurn) = Unit {0}
+IsGivenOn ports (NodeAnswers (GotOn q from t)) = q.0 < ports
+
+-- the steps are those of node n with so many ports, and its ticks don't fall
+abbrev pub NodeOrdered : ℕ → ℕ → List NodeHappening → Type 0
+NodeOrdered n ports [] = Unit {0}
+NodeOrdered n ports (h ∷ before) = (node_tick before ≤ h.tick) × (h.step.node ≡ n) × IsGivenOn ports h.makes × NodeOrdered n ports before
+
+-- a node that has done nothing yet runs by the rules, under its number on each port: what each of its ports does fits what that port is set up with, and each step ends well there
+abbrev pub NodesFit : Type 0
+NodesFit = (past : NodePast) (n : ℕ) (hs : List NodeHappening) → past.lines ≡ [] → ((q : Port) → q.0 < length past.ports → (port_setup q past).own.0 ≡ n) → NodeOrdered n (length past.ports) hs →
+    (q : Port) → q.0 < length past.ports → PortFits (setup_in (on_port q past)) (view q (node_ran hs past).lines) × StepEnds (view q (node_ran hs past).lines)

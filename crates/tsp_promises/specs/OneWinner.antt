@@ -1,0 +1,18 @@
+-- The promise that one candidate wins a strict election.
+use Rattle.std.specs.Prelude.{◌≡◌, ◌≢◌, ◌<◌, ◌+◌, List, ◌∷◌}
+use Rattle.tsp_base.specs.declared.act.Act.TheVariants.{Become}
+use Rattle.tsp_base.specs.declared.role.Role.TheVariants.{Master}
+use Rattle.tsp_promises.specs.Everywhere.{Everywhere}
+use Rattle.tsp_promises.specs.Fits.{node_of}
+use Rattle.tsp_base.specs.History.{Acts, Line}
+use Rattle.tsp_base.specs.Places.{Within}
+use Rattle.tsp_promises.specs.Setting.{Setting}
+
+-- of two changes to master of different nodes on one network the later stands more than 50 s of true time after the earlier
+abbrev pub WinsAt : Setting → Line → List Line → Type 0
+WinsAt setting l world = (other : Line) (older : List Line) → l.did.deed ≡ Acts (Become Master) → Within (other ∷ older) world → other.did.deed ≡ Acts (Become Master) → node_of other ≢ node_of l →
+    setting.net (node_of other) other.port ≡ setting.net (node_of l) l.port → other.did.step.at + 50000000 < l.did.step.at
+
+-- one candidate wins
+abbrev pub OneWinner : Setting → List Line → Type 0
+OneWinner setting = Everywhere (WinsAt setting)

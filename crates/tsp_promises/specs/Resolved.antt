@@ -1,0 +1,71 @@
+-- The promise that a rival that takes Quit stops being master.
+use Rattle.std.specs.Prelude.{◌≡◌, ◌≢◌, ◌≤◌, ℕ, ◌+◌, List, ◌∷◌, Some}
+use Rattle.tsp_base.specs.declared.act.Act.TheVariants.{Become, Post, Quit, Ring}
+use Rattle.tsp_base.specs.declared.alarm.Alarm.TheVariants.{Resolve}
+use Rattle.tsp_base.specs.declared.constants.TheConstants.{ELECT_MIN}
+use Rattle.tsp_base.specs.declared.datagram.Datagram.TheVariants.{Message}
+use Rattle.tsp_base.specs.declared.kind.Kind.TheVariants.{Quit as QuitKind}
+use Rattle.tsp_base.specs.declared.place.PeerId.{PeerId}
+use Rattle.tsp_base.specs.declared.place.Place.TheVariants.{Peer}
+use Rattle.tsp_base.specs.declared.place.Port.{Port}
+use Rattle.tsp_base.specs.declared.role.Role.TheVariants.{Follow, Master}
+use Rattle.tsp_promises.specs.Everywhere.{Everywhere}
+use Rattle.tsp_promises.specs.Fits.{node_of}
+use Rattle.tsp_base.specs.History.{Came, Begins, Acts, Did, Line, Seen, of, dids, plain, view}
+use Rattle.tsp_base.specs.Messages.{MessageValue}
+use Rattle.tsp_promises.specs.Once.{OfSend}
+use Rattle.tsp_base.specs.Places.{Within}
+use Rattle.tsp_base.specs.PortFacts.{role}
+use Rattle.tsp_promises.specs.Premises.{Life}
+use Rattle.tsp_promises.specs.StepFacts.{owes}
+use Rattle.tsp_base.specs.Takings.{peer_of, posted, steps}
+
+-- a master that took a QUIT of p in the step that ends here follows p
+abbrev pub YieldsAt : List Seen → Type 0
+YieldsAt seen = (p : PeerId) → owes seen ≡ Some p → role seen ≡ Follow p
+
+-- at each step's end: of the step that a mark ends, and of the last one
+pub record Yields (world : List Line) : Type 0 where
+  pub marks : Everywhere (λ (l : Line) (before : List Line). l.did.deed ≡ Begins → (q : Port) → YieldsAt (view q (of (node_of l) before))) world
+  pub ends : (n : ℕ) (q : Port) → YieldsAt (view q (of n world))
+
+-- after a Quit a port doesn't become master for ELECT_MIN ticks, boots between included
+abbrev pub QuietAt : Line → List Line → Type 0
+QuietAt l world = (other : Line) (older : List Line) (p : PeerId) → l.did.deed ≡ Acts (Become Master) → Within (other ∷ older) world → node_of other ≡ node_of l → other.port ≡ l.port →
+    other.did.deed ≡ Acts (Quit p) → other.did.tick + ELECT_MIN ≤ l.did.tick
+
+abbrev pub StaysQuiet : List Line → Type 0
+StaysQuiet = Everywhere QuietAt
+
+-- in this line a node takes the QUIT that an alarm's step of m begins: the line is its Quit, and its step takes a post of that send
+pub record TakesQuit (ring : Line) (past : List Line) (x : Line) (xpast : List Line) : Type 0 where
+  pub quits : x.did.deed ≡ Acts (Quit (peer_of (node_of ring)))
+  pub post : Line
+  pub older : List Line
+  pub place : Within (post ∷ older) xpast
+  pub takes : x.did.step.cause ≡ Came (posted (dids older))
+  pub node : node_of post ≡ node_of ring
+  pub first : Did
+  pub begun : List Seen
+  pub of_send : OfSend (node_of x) post older first begun
+  pub message : MessageValue
+  pub deed : first.deed ≡ Acts (Post (Peer (peer_of (node_of x))) (Message message))
+  pub kind : message.kind ≡ QuitKind
+  -- it begins in the alarm's step
+  pub step : steps (plain begun) ≡ steps (dids (of (node_of ring) (ring ∷ past)))
+
+-- where a step ends in which the rival y takes a QUIT of this alarm: no rival x that has taken one leads on the port on which it took it
+abbrev pub StopsBy : List Line → Type 0
+StopsBy h = (ring x y : Line) (past xpast ypast : List Line) → Within (ring ∷ past) h → ring.did.deed ≡ Acts (Ring Resolve) → Within (x ∷ xpast) h → TakesQuit ring past x xpast →
+    Within (y ∷ ypast) h → TakesQuit ring past y ypast → steps (dids (y ∷ ypast)) ≡ steps (dids h) → role (view x.port (of (node_of x) h)) ≢ Master
+
+-- at each step's end: of the step that a mark ends, and of the last one
+pub record StopsLeading (world : List Line) : Type 0 where
+  pub marks : Everywhere (λ (l : Line) (before : List Line). l.did.deed ≡ Begins → StopsBy before) world
+  pub ends : StopsBy world
+
+-- the three parts, of a history that ends with a step; the last needs that no datagram outlives LIFE
+pub record Resolved (h : List Line) : Type 0 where
+  pub yields : Yields h
+  pub quiet : StaysQuiet h
+  pub stops : Life h → StopsLeading h

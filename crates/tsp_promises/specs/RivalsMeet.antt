@@ -1,0 +1,54 @@
+-- Rivals: the promises of backings and of resolutions aren't empty.
+use Rattle.std.specs.Prelude.{◌≡◌, ◌≢◌, List, ◌∷◌}
+use Rattle.tsp_base.specs.declared.act.Act.TheVariants.{Back, Become, Ring}
+use Rattle.tsp_base.specs.declared.alarm.Alarm.TheVariants.{Resolve}
+use Rattle.tsp_base.specs.declared.place.PeerId.{PeerId}
+use Rattle.tsp_base.specs.declared.role.Role.TheVariants.{Master}
+use Rattle.tsp_promises.specs.Fits.{Fits, Finished, node_of}
+use Rattle.tsp_base.specs.History.{Begins, Acts, Line, dids}
+use Rattle.tsp_base.specs.Places.{Within}
+use Rattle.tsp_promises.specs.Premises.{Life}
+use Rattle.tsp_promises.specs.Resolved.{TakesQuit}
+use Rattle.tsp_promises.specs.Setting.{Setting}
+use Rattle.tsp_base.specs.Takings.{steps}
+
+-- a history that fits, in which a rival takes the QUIT of a resolution, its step ends and another begins, the rival leads again later, and a node backs two candidates
+pub record RivalsMeet : Type 0 where
+  pub setting : Setting
+  pub world : List Line
+  pub fits : Fits setting world
+  pub finished : Finished world
+  pub life : Life world
+  pub ring : Line
+  pub past : List Line
+  pub ring_in : Within (ring ∷ past) world
+  pub rings : ring.did.deed ≡ Acts (Ring Resolve)
+  pub rival : Line
+  pub rpast : List Line
+  pub rival_in : Within (rival ∷ rpast) world
+  pub takes : TakesQuit ring past rival rpast
+  pub mark : Line
+  pub ended : List Line
+  pub mark_in : Within (mark ∷ ended) world
+  pub begins : mark.did.deed ≡ Begins
+  pub last : steps (dids (rival ∷ rpast)) ≡ steps (dids ended)
+  pub later : Line
+  pub before : List Line
+  pub later_in : Within (later ∷ before) world
+  pub earlier : Line
+  pub older : List Line
+  pub earlier_in : Within (earlier ∷ older) before
+  pub node : node_of earlier ≡ node_of later
+  pub port : earlier.port ≡ later.port
+  pub again : Line
+  pub since : List Line
+  pub again_in : Within (again ∷ since) world
+  pub leads : again.did.deed ≡ Acts (Become Master)
+  pub again_node : node_of again ≡ node_of rival
+  pub again_port : again.port ≡ rival.port
+  pub again_after : Within (rival ∷ rpast) since
+  pub one : PeerId
+  pub other : PeerId
+  pub backs_one : earlier.did.deed ≡ Acts (Back one)
+  pub backs_other : later.did.deed ≡ Acts (Back other)
+  pub apart : one ≢ other

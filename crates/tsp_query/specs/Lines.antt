@@ -1,0 +1,38 @@
+-- The lines that say what came of a question.
+use Rattle.std.specs.Prelude.{ℕ, ℤ, Bool, true, false, List, [], ◌∷◌, ◌++◌, codes}
+use Rattle.std.specs.Fmt.{signed_decimal}
+use Rattle.tsp_query.specs.declared.query.QueryEnd.{QueryEnd}
+use Rattle.tsp_query.specs.declared.query.QueryEnd.TheVariants.{Master, Diff, Heard, Date as Dated, NoAnswer, LinkFault, OutOfMemory}
+use Rattle.tsp_script.specs.Texts.{name_text, space}
+use Rattle.tsp_args.specs.Queries.{switch_word}
+use Rattle.tsp_args.specs.declared.query.Query.{Query}
+use Rattle.tsp_args.specs.declared.query.Query.TheVariants.{Trace}
+
+-- the line of a master's name; the empty name is none's
+abbrev pub master_line : List ℕ → List ℕ
+master_line [] = codes "no master\n"
+master_line (c ∷ cs) = codes "master " ++ name_text (c ∷ cs) ++ 10 ∷ []
+
+-- the line of how far a clock is, and by how much this may be wrong
+abbrev pub diff_line : ℤ → ℤ → List ℕ
+diff_line diff err = codes "clockdiff " ++ signed_decimal diff ++ space ++ signed_decimal err ++ 10 ∷ []
+
+-- the line of a question that a daemon has heard
+abbrev pub heard_line : Query → List ℕ
+heard_line (Trace on) = codes "trace " ++ switch_word on ++ 10 ∷ []
+heard_line _ = codes "election heard\n"
+
+-- the line of a date that was set, or passed on
+abbrev pub date_line : Bool → List ℕ
+date_line true = codes "date set\n"
+date_line false = codes "date forwarded\n"
+
+-- the line of what came of a question; none where it was given up
+abbrev pub end_line : Query → QueryEnd → List ℕ
+end_line q (Master name) = master_line name
+end_line q (Diff diff err) = diff_line diff err
+end_line q Heard = heard_line q
+end_line q (Dated set) = date_line set
+end_line q NoAnswer = codes "no answer\n"
+end_line q LinkFault = []
+end_line q OutOfMemory = []

@@ -1,0 +1,91 @@
+//! Asking as a command.
+ghost use Rattle.std.specs.Prelude.{◌≡◌, ◌≢◌, ◌⊎◌, ◌≤◌, ℕ, ℤ, List, Some};
+ghost use Rattle.tsp_io.specs.Counts.{Rose};
+ghost use Rattle.tsp_query.specs.Ends.{Outside, Tells};
+ghost use Rattle.tsp_query.specs.Told.{Knows, Says};
+ghost use Rattle.tsp_query.specs.Asks.{asking_of, QueryComes, AsksAs};
+ghost use Rattle.tsp_query.specs.Lines.{end_line};
+
+use crate::end::Asking;
+use crate::line::line_of;
+use tsp_io::addr::Addr;
+use tsp_io::link::{Bound, Link};
+use tsp_io::sink::Sink;
+use tsp_io::ticker::Ticker;
+use tsp_lines::output::{Unwritten, write_all};
+use crate::query::{QueryEnd, clockdiff, election, msite, setdate, trace};
+use tsp_args::query::Query;
+
+/// Any address of this machine, and a port that the system chooses.
+const ANYWHERE: Addr = Addr {
+    ip: [0, 0, 0, 0],
+    port: 0,
+};
+
+/// Asks over a link that is bound.
+fn ask_bound<L: Link, T: Ticker>(query: &Query, link: &mut L, ticker: &mut T) -> QueryEnd
+    ensures comes { (o : Outside) (wall : ℤ) (word : ℕ) → Tells o (L.arrivals link.old) (L.tried link.old) (L.calls link.old) (T.readings ticker.old) (T.last ticker.old) → T.wall_is ticker.old ≡ Some wall → T.word_is ticker.old ≡ Some word
+        → QueryComes query.now wall word o (L.tried link.new) (L.calls link.new) result }
+    ensures later { (L.faults link.old ≤ L.faults link.new) × (L.send_faults link.old ≤ L.send_faults link.new) × (T.last ticker.old ≤ T.last ticker.new) }
+    ensures cause { result ≡ QueryEnd.LinkFault → Rose (L.faults link.old) (L.faults link.new) ⊎ Rose (L.send_faults link.old) (L.send_faults link.new) }
+    ensures still { result ≢ QueryEnd.LinkFault → (L.faults link.new ≡ L.faults link.old) × (L.send_faults link.new ≡ L.send_faults link.old) }
+{
+    match query {
+        Query::Msite => msite(link, ticker),
+        Query::ClockDiff => clockdiff(link, ticker),
+        Query::Trace(on) => trace(*on, link, ticker),
+        Query::Election => election(link, ticker),
+        Query::Date(time) => setdate(*time, link, ticker),
+    }
+}
+
+/// Writes the line of what came of a question.
+fn tell<K: Sink>(query: &Query, end: &QueryEnd, sink: &mut K) -> Asking
+    ensures says { Says (end_line query.now end.now) (asking_of end.now) Asking.WriteFault Asking.OutOfMemory (K.written sink.old) (K.written sink.new) result }
+    ensures later { K.faults sink.old ≤ K.faults sink.new }
+    ensures write { result ≡ Asking.WriteFault → Rose (K.faults sink.old) (K.faults sink.new) }
+    ensures still { result ≢ Asking.WriteFault → K.faults sink.new ≡ K.faults sink.old }
+    ensures link { result ≡ Asking.LinkFault → end.now ≡ QueryEnd.LinkFault }
+    ensures linked { end.now ≡ QueryEnd.LinkFault → result ≡ Asking.LinkFault }
+{
+    match write_all(sink, line_of(query, end).as_slice()) {
+        Ok(()) => Asking::of(end),
+        Err(cut) => match cut.fault {
+            Unwritten::WriteFault => Asking::WriteFault,
+            Unwritten::OutOfMemory => Asking::OutOfMemory,
+        },
+    }
+}
+
+/// Asks the daemon at an address, and writes what came of it as one line.
+///
+/// The link is bound at any address, with the daemon as peer 0. The lines are `master NAME`, or `no master` for the
+/// empty name; `clockdiff DIFF ERR` in microseconds; `trace on` or `trace off`; `election heard`; `date set` or
+/// `date forwarded`; and `no answer`.
+/// `LinkFault` comes only where one of the link's counts of faults rose, and `WriteFault` only where the sink's did;
+/// where the link failed, nothing is written.
+pub fn ask<K: Sink, L: Link, T: Ticker>(
+    daemon: Addr,
+    query: &Query,
+    sink: &mut K,
+    link: &mut L,
+    ticker: &mut T,
+) -> Asking
+    ensures asks { (o : Outside) (wall : ℤ) (word : ℕ) (written : List ℕ)
+        → Knows o wall word written (record { arrivals = L.arrivals link.old; tried = L.tried link.old; calls = L.calls link.old; readings = T.readings ticker.old; last = T.last ticker.old; wall = T.wall_is ticker.old; word = T.word_is ticker.old; written = K.written sink.old })
+        → AsksAs query.now o wall word written (record { arrivals = L.arrivals link.new; tried = L.tried link.new; calls = L.calls link.new; readings = T.readings ticker.new; last = T.last ticker.new; wall = T.wall_is ticker.new; word = T.word_is ticker.new; written = K.written sink.new }) result }
+    ensures later { (L.faults link.old ≤ L.faults link.new) × (L.send_faults link.old ≤ L.send_faults link.new) × (K.faults sink.old ≤ K.faults sink.new) × (T.last ticker.old ≤ T.last ticker.new) }
+    ensures link { result ≡ Asking.LinkFault → Rose (L.faults link.old) (L.faults link.new) ⊎ Rose (L.send_faults link.old) (L.send_faults link.new) }
+    ensures write { result ≡ Asking.WriteFault → Rose (K.faults sink.old) (K.faults sink.new) }
+    ensures still { result ≢ Asking.WriteFault → K.faults sink.new ≡ K.faults sink.old }
+    ensures linked { result ≢ Asking.LinkFault → (L.faults link.new ≡ L.faults link.old) × (L.send_faults link.new ≡ L.send_faults link.old) }
+{
+    match link.bind(ANYWHERE, &[daemon]) {
+        Bound::Bound => {
+            let end = ask_bound(query, link, ticker);
+            tell(query, &end, sink)
+        }
+        Bound::Failed => Asking::LinkFault,
+        Bound::OutOfMemory => Asking::OutOfMemory,
+    }
+}

@@ -1,0 +1,85 @@
+//! The line that says what came of a question.
+ghost use Rattle.std.specs.Prelude.{◌≡◌, ◌≤◌, length};
+ghost use Rattle.tsp_query.specs.Lines.{master_line, diff_line, heard_line, date_line, end_line};
+
+use arrayvec::ArrayVec;
+use tsp_base::name::Name;
+use crate::query::QueryEnd;
+use tsp_script::names::append_name;
+use tsp_script::numbers::{append, append_next_signed, append_signed};
+use tsp_args::query::Query;
+
+/// A text of its own.
+fn text_of(text: &[u8]) -> ArrayVec<u8, 1024>
+    requires { length text.now ≤ 1024 }
+    ensures { result.items ≡ text.now }
+{
+    let mut line = ArrayVec::new();
+    append(&mut line, text);
+    line
+}
+
+/// The line of the master's name.
+fn master_line(name: &Name) -> ArrayVec<u8, 1024>
+    ensures { result.items ≡ master_line name.now }
+{
+    if name.octets().is_empty() {
+        return text_of(b"no master\n");
+    }
+    let mut line = ArrayVec::new();
+    append(&mut line, b"master ");
+    append_name(&mut line, name);
+    append(&mut line, b"\n");
+    line
+}
+
+/// The line of how far a clock is, and by how much this may be wrong.
+fn diff_line(diff: i64, err: i64) -> ArrayVec<u8, 1024>
+    ensures { result.items ≡ diff_line diff err }
+{
+    let mut line = ArrayVec::new();
+    append(&mut line, b"clockdiff ");
+    append_signed(&mut line, diff);
+    append_next_signed(&mut line, err);
+    append(&mut line, b"\n");
+    line
+}
+
+/// The line of a question that was heard.
+fn heard_line(query: &Query) -> &'static [u8]
+    ensures text { result.now ≡ heard_line query.now }
+    ensures short { length result.now ≤ 1024 }
+{
+    match query {
+        Query::Trace(true) => b"trace on\n",
+        Query::Trace(false) => b"trace off\n",
+        _ => b"election heard\n",
+    }
+}
+
+/// The line of a date that was set, or passed on.
+fn date_line(set: bool) -> &'static [u8]
+    ensures text { result.now ≡ date_line set }
+    ensures short { length result.now ≤ 1024 }
+{
+    if set {
+        b"date set\n"
+    } else {
+        b"date forwarded\n"
+    }
+}
+
+/// The line of what came of a question; none where it was given up.
+pub(crate) fn line_of(query: &Query, end: &QueryEnd) -> ArrayVec<u8, 1024>
+    ensures { result.items ≡ end_line query.now end.now }
+{
+    match end {
+        QueryEnd::Master(name) => master_line(name),
+        QueryEnd::Diff(diff, err) => diff_line(*diff, *err),
+        QueryEnd::Heard => text_of(heard_line(query)),
+        QueryEnd::Date(set) => text_of(date_line(*set)),
+        QueryEnd::NoAnswer => text_of(b"no answer\n"),
+        QueryEnd::LinkFault => ArrayVec::new(),
+        QueryEnd::OutOfMemory => ArrayVec::new(),
+    }
+}

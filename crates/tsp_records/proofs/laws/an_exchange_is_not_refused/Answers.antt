@@ -1,5 +1,0 @@
-use Rattle.tsp_records.proofs.OneExchange.{IsExchange-not_refused}
-use Rattle.tsp_records.proofs.laws.an_exchange_is_not_refused.Goals as goal
-
-pub returns : goal.returns
-returns c = IsExchange-not_refused

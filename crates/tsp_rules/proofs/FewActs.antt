@@ -1,0 +1,167 @@
+-- How many acts the rows put at the most, that only a taking takes, and that only a stranger's datagram is answered to a stranger.
+use Rattle.std.specs.Prelude.{◌≡◌, ◌≤◌, ℕ, suc, ◌+◌, ◌*◌, ◌&&◌, ◌==◌, not, ℤ, Bool, true, false, if◌then◌else◌, List, [], ◌∷◌, ◌++◌, length, map, filter, refl}
+use Rattle.std.proofs.Common.{sym, ap, arith, true≢false, length-append}
+use Rattle.tsp_base.specs.declared.act.Act.{Act}
+use Rattle.tsp_base.specs.declared.act.Act.TheVariants.{Boot, Took, Post, Correct}
+use Rattle.tsp_base.specs.declared.datagram.Datagram.{Datagram}
+use Rattle.tsp_base.specs.declared.datagram.Datagram.TheVariants.{Message}
+use Rattle.tsp_base.specs.declared.alarm.Alarm.{Alarm}
+use Rattle.tsp_base.specs.declared.kind.Kind.{Kind}
+use Rattle.tsp_base.specs.declared.place.PeerId.{PeerId}
+use Rattle.tsp_base.specs.declared.place.Place.{Place}
+use Rattle.tsp_base.specs.declared.place.Place.TheVariants.{Peer, Stranger}
+use Rattle.tsp_base.specs.History.{Past}
+use Rattle.tsp_base.specs.Rows.{Row, grown, nothing, puts, ◌followed_by◌, either_by, reading, for_each, arms, others, bare, post_of, posts, posts_to_others, posts_back, posts_time}
+use Rattle.tsp_rules.specs.Strangers.{is_stranger}
+
+-- an act that is neither a boot nor a taking, nor a post to a stranger where none may be answered, nor a correction where the clock may not be moved
+abbrev pub is_calm_act : Bool → Bool → Act → Bool
+is_calm_act strange moving Boot = false
+is_calm_act strange moving (Took from t) = false
+is_calm_act strange moving (Post Stranger datagram) = strange
+is_calm_act strange moving (Correct amount stepped shown) = moving
+is_calm_act strange moving _ = true
+
+abbrev pub is_calm : Bool → Bool → List Act → Bool
+is_calm strange moving [] = true
+is_calm strange moving (a ∷ rest) = is_calm_act strange moving a && is_calm strange moving rest
+
+-- a row's acts are calm, and at most k for each peer and c besides
+pub record Calm (strange moving : Bool) (k c : ℕ) (row : Row) : Type 0 where
+  pub few : (x : ℕ) (past : Past) → length (row x past) ≤ k * length past.peers + c
+  pub calm : (x : ℕ) (past : Past) → is_calm strange moving (row x past) ≡ true
+
+and-true : (a b : Bool) → a ≡ true → b ≡ true → (a && b) ≡ true
+and-true true b p q = q
+and-true false b p q = absurd (true≢false (sym p))
+
+pub calm_append : (strange moving : Bool) (xs ys : List Act) → is_calm strange moving xs ≡ true → is_calm strange moving ys ≡ true → is_calm strange moving (xs ++ ys) ≡ true
+calm_append strange moving [] ys p q = q
+calm_append strange moving (a ∷ xs) ys p q = both strange moving (is_calm_act strange moving a) (is_calm strange moving xs) xs ys p (calm_append strange moving xs ys) q where
+  both : (strange moving a b : Bool) (xs ys : List Act) → (a && b) ≡ true → (b ≡ true → is_calm strange moving ys ≡ true → is_calm strange moving (xs ++ ys) ≡ true) → is_calm strange moving ys ≡ true → (a && is_calm strange moving (xs ++ ys)) ≡ true
+  both strange moving true b xs ys e k q = k e q
+  both strange moving false b xs ys e k q = absurd (true≢false (sym e))
+
+filter-length : (test : PeerId → Bool) (ps : List PeerId) → length (filter test ps) ≤ length ps
+filter-length test [] = omega arith
+filter-length test (p ∷ ps) = by_case (test p) (filter-length test ps) where
+  by_case : (b : Bool) → length (filter test ps) ≤ length ps → length (if b then p ∷ filter test ps else filter test ps) ≤ length (p ∷ ps)
+  by_case true le = omega (arith, le)
+  by_case false le = omega (arith, le)
+
+map-calm : (strange moving : Bool) (kind : Kind) (number : ℕ) (name : List ℕ) (ps : List PeerId) → is_calm strange moving (map (post_of kind number name) ps) ≡ true
+map-calm strange moving kind number name [] = refl
+map-calm strange moving kind number name (p ∷ ps) = map-calm strange moving kind number name ps
+
+map-length : (kind : Kind) (number : ℕ) (name : List ℕ) (ps : List PeerId) → length (map (post_of kind number name) ps) ≡ length ps
+map-length kind number name [] = refl
+map-length kind number name (p ∷ ps) = ap (λ n. suc n) (map-length kind number name ps)
+
+pub filter_few : (test : PeerId → Bool) (ps : List PeerId) → length (filter test ps) ≤ length ps
+filter_few test ps = filter-length test ps
+
+-- what goes back to wherever a datagram came from is calm
+pub calm_back : (moving : Bool) (from : Place) (datagram : Datagram) → is_calm (is_stranger from) moving (Post from datagram ∷ []) ≡ true
+calm_back moving (Peer p) datagram = refl
+calm_back moving Stranger datagram = refl
+
+-- what is posted back to a stranger answers one
+pub calm_posts_back : (from : Place) (kind : Kind) (number : ℕ) → Calm (is_stranger from) true 0 1 (posts_back from kind number)
+unfolding posts_back
+calm_posts_back from kind number = record { few = λ x past. omega arith; calm = λ x past. calm_back true from (Message (bare kind number past.name)) }
+
+module _ {strange moving : Bool} where
+  pub calm_nothing : Calm strange moving 0 0 nothing
+  unfolding nothing
+  calm_nothing = record { few = λ x past. omega arith; calm = λ x past. refl }
+
+  pub calm_puts : (a : Act) → is_calm_act strange moving a ≡ true → Calm strange moving 0 1 (puts a)
+  unfolding puts
+  calm_puts a e = record { few = λ x past. omega arith; calm = λ x past. and-true (is_calm_act strange moving a) true e refl }
+
+  pub calm_then : (j b k c : ℕ) (r s : Row) → Calm strange moving j b r → Calm strange moving k c s → Calm strange moving (j + k) (b + c) (r followed_by s)
+  unfolding ◌followed_by◌
+  calm_then j b k c r s p q = record {
+    few = λ x past.
+        let first = p.few x past in
+        let second = q.few x (grown x past (r x past)) in
+        let whole = length-append (r x past) (s x (grown x past (r x past))) in
+        let spread : (j + k) * length past.peers ≡ j * length past.peers + k * length past.peers = mul-add j k (length past.peers) in
+        omega (arith, first, second, whole, spread);
+    calm = λ x past. calm_append strange moving (r x past) (s x (grown x past (r x past))) (p.calm x past) (q.calm x (grown x past (r x past)));
+  } where
+    mul-add : (j k n : ℕ) → (j + k) * n ≡ j * n + k * n
+    mul-add j k n = grind arith
+
+  pub calm_either : (k c : ℕ) (test : ℕ → Past → Bool) (r s : Row) → Calm strange moving k c r → Calm strange moving k c s → Calm strange moving k c (either_by test r s)
+  unfolding either_by
+  calm_either k c test r s p q = record {
+    few = λ x past. elim (test x past) as (λ t. length (if t then r x past else s x past) ≤ k * length past.peers + c) [ true ↦ p.few x past | false ↦ q.few x past ];
+    calm = λ x past. elim (test x past) as (λ t. is_calm strange moving (if t then r x past else s x past) ≡ true) [ true ↦ p.calm x past | false ↦ q.calm x past ];
+  }
+
+  pub calm_reading : {A : Type 0} (k c : ℕ) (fact : ℕ → Past → A) (rows : A → Row) → ((a : A) → Calm strange moving k c (rows a)) → Calm strange moving k c (reading fact rows)
+  unfolding reading
+  calm_reading k c fact rows p = record { few = λ x past. (p (fact x past)).few x past; calm = λ x past. (p (fact x past)).calm x past }
+
+  -- more is allowed
+  pub calm_more : (j b k c : ℕ) (row : Row) → j ≤ k → b ≤ c → Calm strange moving j b row → Calm strange moving k c row
+  calm_more j b k c row le more p = record {
+    few = λ x past. let first = p.few x past in let scaled = mul-le j k (length past.peers) le in omega (arith, first, scaled, more);
+    calm = p.calm;
+  } where
+    mul-le : (j k n : ℕ) → j ≤ k → j * n ≤ k * n
+    mul-le j k n le = grind (arith, le)
+
+  pub calm_arms : (alarm : Alarm) (long : ℕ) → Calm strange moving 0 1 (arms alarm long)
+  unfolding arms
+  calm_arms alarm long = record { few = λ x past. omega arith; calm = λ x past. refl }
+
+  pub calm_posts : (p : PeerId) (kind : Kind) (number : ℕ) → Calm strange moving 0 1 (posts p kind number)
+  unfolding posts
+  calm_posts p kind number = record { few = λ x past. omega arith; calm = λ x past. refl }
+
+  pub calm_posts_time : (p : PeerId) (kind : Kind) (number : ℕ) (time : ℤ) → Calm strange moving 0 1 (posts_time p kind number time)
+  unfolding posts_time
+  calm_posts_time p kind number time = record { few = λ x past. omega arith; calm = λ x past. refl }
+
+  pub calm_posts_to_others : (kind : Kind) (number : ℕ) → Calm strange moving 1 0 (posts_to_others kind number)
+  unfolding posts_to_others
+  calm_posts_to_others kind number = record {
+    few = λ x past.
+        let all = map-length kind number past.name (others past.own past.peers) in
+        let some = filter-length (λ p. not (p.0 == past.own.0)) past.peers in
+        let one : 1 * length past.peers ≡ length past.peers = grind arith in
+        omega (arith, all, some, one);
+    calm = λ x past. map-calm strange moving kind number past.name (others past.own past.peers);
+  }
+
+  -- a row for each of some that are no more than the peers
+  pub each_few : {A : Type 0} (c : ℕ) (r : A → Row) → ((a : A) → Calm strange moving 0 c (r a)) → (some : List A) (x : ℕ) (past : Past) → length (for_each r some x past) ≤ c * length some
+  unfolding for_each nothing ◌followed_by◌
+  each_few c r k [] x past = omega arith
+  each_few c r k (a ∷ rest) x past =
+      let first = (k a).few x past in
+      let second = each_few c r k rest x (grown x past (r a x past)) in
+      let whole = length-append (r a x past) (for_each r rest x (grown x past (r a x past))) in
+      let spread : c * length (a ∷ rest) ≡ c + c * length rest = grind arith in
+      let none : 0 * length past.peers ≡ 0 = grind arith in
+      omega (arith, first, second, whole, spread, none)
+
+  pub each_calm : {A : Type 0} (c : ℕ) (r : A → Row) → ((a : A) → Calm strange moving 0 c (r a)) → (some : List A) (x : ℕ) (past : Past) → is_calm strange moving (for_each r some x past) ≡ true
+  unfolding for_each nothing ◌followed_by◌
+  each_calm c r k [] x past = refl
+  each_calm c r k (a ∷ rest) x past =
+      calm_append strange moving (r a x past) (for_each r rest x (grown x past (r a x past))) ((k a).calm x past) (each_calm c r k rest x (grown x past (r a x past)))
+
+  pub calm_each : {A : Type 0} (c : ℕ) (fact : ℕ → Past → List A) (r : A → Row) → ((x : ℕ) (past : Past) → length (fact x past) ≤ length past.peers) → ((a : A) → Calm strange moving 0 c (r a)) → Calm strange moving c 0 (reading fact (for_each r))
+  unfolding reading
+  calm_each c fact r bound k = record {
+    few = λ x past.
+        let all = each_few c r k (fact x past) x past in
+        let some = mul-le c (length (fact x past)) (length past.peers) (bound x past) in
+        omega (arith, all, some);
+    calm = λ x past. each_calm c r k (fact x past) x past;
+  } where
+    mul-le : (c m n : ℕ) → m ≤ n → c * m ≤ c * n
+    mul-le c m n le = grind (arith, le)

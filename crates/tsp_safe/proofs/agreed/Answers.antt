@@ -1,8 +1,0 @@
-use Rattle.tsp_safe.proofs.agreed.Goals as goal
-use Rattle.tsp_safe.proofs.AgreedProof.{agreed, stay_agreed}
-
-pub returns : goal.returns
-returns c = record {
-  at = λ setting world f h life words. agreed setting world (record { fits = f; honest = h; life = life; words = words });
-  stay = λ setting world f h life words. stay_agreed setting world (record { fits = f; honest = h; life = life; words = words });
-}

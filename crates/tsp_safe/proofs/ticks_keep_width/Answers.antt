@@ -1,5 +1,0 @@
-use Rattle.tsp_base.proofs.TickLemmas.{tick_at-width}
-use Rattle.tsp_safe.proofs.ticks_keep_width.Goals as goal
-
-pub returns : goal.returns
-returns c = tick_at-width

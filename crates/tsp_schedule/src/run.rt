@@ -1,0 +1,103 @@
+//! What the events of a schedule met.
+ghost use Rattle.std.specs.Prelude.{◌≡◌, ◌≢◌, ◌≤◌, ◌<◌, ℕ, List, [], ◌∷◌, length, true, false, IfOk, MatchOption, MatchResult, None, Err};
+ghost use Rattle.tsp_base.specs.Headers.{HeaderValue, is_whole};
+ghost use Rattle.tsp_base.specs.declared.event.Event.{Event};
+ghost use Rattle.tsp_schedule.specs.Schedules.{IsEnded, Lacks, Progress, Refuses, Running};
+ghost use Rattle.tsp_schedule.specs.Stages.{Halts, HaltsEvent, RunAdvances, RunStands};
+ghost use Rattle.tsp_script.specs.Schedules.{IsEvent};
+
+use crate::course::Course;
+use crate::faults::stop_of;
+use std::alloc::{AllocError, Global};
+use tsp_base::event::Event;
+use tsp_base::header::Header;
+use tsp_lines::cause::Cause;
+use tsp_lines::treatment::Stop;
+use tsp_script::event_line::{EventItem, event_line};
+
+/// What the lines behind a header met.
+#[derive(Drop)]
+pub struct Run<C> {
+    /// What the events met.
+    pub course: C,
+    /// Whether the last line was read.
+    pub over: bool,
+}
+
+impl<C: Course> Run<C> {
+    /// No line behind the header was read.
+    pub(crate) fn begin(alloc: Global, header: Header) -> Result<Run<C>, AllocError>
+        requires some { 1 ≤ length header.nodes }
+        requires whole { is_whole header ≡ true }
+        ensures { IfOk result (λ run. C.stands header [] run.course × (run.over ≡ false)) }
+    {
+        match C::begin(alloc, header) {
+            Ok(course) => Ok(Run {
+                course,
+                over: false,
+            }),
+            Err(fault) => Err(fault),
+        }
+    }
+
+    /// Reads a line behind the header: an event, or the last line.
+    pub(crate) fn advance(&mut self, line: &[u8]) -> Result<(), Stop>
+        ensures next { (p : Progress) → RunStands C.stands p self.old → MatchResult result (λ _. RunAdvances C.refused C.stands p line.now self.new) (Halts C.refused p line.now) }
+        ensures kind { result ≢ Err Stop.WriteFault }
+    {
+        if self.over {
+            return Err(Stop::Bad(Cause::of(b"after-end")));
+        }
+        self.go_on(line)
+    }
+
+    /// For what cause a line of more than 1,024 octets is refused.
+    pub(crate) fn refuse_long(&self) -> Cause
+        ensures { (p : Progress) → RunStands C.stands p self.now → (line : List ℕ) → 1024 < length line → Refuses C.refused p line result }
+    {
+        if self.over {
+            return Cause::of(b"after-end");
+        }
+        Cause::of(b"line")
+    }
+
+    /// Whether the input may end, and else for what cause it may not.
+    pub(crate) fn lacks(&self) -> Option<Cause>
+        ensures { (p : Progress) → RunStands C.stands p self.now → MatchOption result (IsEnded p) (Lacks p) }
+    {
+        if self.over {
+            return None;
+        }
+        Some(Cause::of(b"no-end"))
+    }
+
+    /// Reads a line before the last one was read.
+    fn go_on(&mut self, line: &[u8]) -> Result<(), Stop>
+        requires { self.old.over ≡ false }
+        ensures next { (header : HeaderValue) (events : List Event) → C.stands header events self.old.course → MatchResult result (λ _. RunAdvances C.refused C.stands (Running header events) line.now self.new) (Halts C.refused (Running header events) line.now) }
+        ensures kind { result ≢ Err Stop.WriteFault }
+    {
+        match event_line(line) {
+            Ok(EventItem::Event(e)) => self.happen(&e),
+            Ok(EventItem::End) => {
+                self.over = true;
+                Ok(())
+            }
+            Err(_) => Err(Stop::Bad(Cause::of(b"line"))),
+        }
+    }
+
+    /// Lets an event happen.
+    fn happen(&mut self, e: &Event) -> Result<(), Stop>
+        requires { IsEvent e.now }
+        ensures next { (header : HeaderValue) (events : List Event) → C.stands header events self.old.course → MatchResult result
+            (λ _. (C.refused header events e.now ≡ None) × C.stands header (e.now ∷ events) self.new.course) (HaltsEvent C.refused header events e.now) }
+        ensures over { self.new.over ≡ self.old.over }
+        ensures kind { result ≢ Err Stop.WriteFault }
+    {
+        match self.course.event(e) {
+            Ok(()) => Ok(()),
+            Err(fault) => Err(stop_of(fault)),
+        }
+    }
+}

@@ -1,0 +1,272 @@
+//! How far the reading of a schedule has come.
+ghost use Rattle.std.specs.Prelude.{◌≡◌, ◌≢◌, ◌<◌, ◌≤◌, ℕ, true, List, [], ◌∷◌, ◌++◌, length, take, MatchBool, MatchResult, MatchOption, Err, codes};
+ghost use Rattle.tsp_schedule.specs.Schedules.{Progress, Untitled, Titled, Drifted, Heading, Running, Takes, TakesNet, IsComplete, next_place, drifted, new_header, Lacks, IsEnded, Refuses};
+ghost use Rattle.tsp_schedule.specs.Stages.{StageStands, RunStands, Advances, Halts, HaltsNode, HaltsNet, HaltsFirst};
+
+use crate::course::Course;
+use crate::run::Run;
+use std::alloc::Global;
+use std::mem;
+use tsp_base::header::{Header, HeaderFault, NodeLine};
+use tsp_base::members::Members;
+use tsp_lines::cause::Cause;
+use tsp_lines::treatment::Stop;
+use tsp_script::head_line::{HeadItem, head_line};
+
+/// What was read of a schedule.
+#[derive(Drop)]
+pub enum Stage<C> {
+    /// Nothing.
+    Untitled,
+    /// The title of this version.
+    Titled(u32),
+    /// The title of the second version and the drift: `strict` has to follow.
+    Drifted(Header),
+    /// The header up to some nodes and networks.
+    Heading(Header),
+    /// The header, and at least one line behind it.
+    Running(Run<C>),
+}
+
+/// The refusal of a line of the header.
+fn bad_header() -> Stop
+    ensures { result ≡ Stop.Bad (codes "header") }
+{
+    Stop::Bad(Cause::of(b"header"))
+}
+
+/// Whether a line with this beginning is a node's.
+fn is_node(start: &[u8]) -> bool
+    ensures { MatchBool result ((rest : List ℕ) × (start.now ≡ codes "node " ++ rest)) ((rest : List ℕ) → start.now ≡ codes "node " ++ rest → ⊥) }
+{
+    matches!(start, [b'n', b'o', b'd', b'e', b' ', ..])
+}
+
+/// Whether a line with this beginning is a network's.
+fn is_net(start: &[u8]) -> bool
+    ensures { MatchBool result ((rest : List ℕ) × (start.now ≡ codes "net " ++ rest)) ((rest : List ℕ) → start.now ≡ codes "net " ++ rest → ⊥) }
+{
+    matches!(start, [b'n', b'e', b't', b' ', ..])
+}
+
+/// The place of the next line in a header: the third, or a later one.
+fn next_place(header: &Header) -> u32
+    ensures { result ≡ next_place header.now }
+{
+    if header.nodes().is_empty() && !header.strict() {
+        3
+    } else {
+        4
+    }
+}
+
+/// Whether a header may end: it has a node, and where it has networks each node is on one.
+fn is_complete(header: &Header) -> bool
+    ensures { MatchBool result (IsComplete header.now) (¬ IsComplete header.now) }
+{
+    !header.nodes().is_empty() && header.whole()
+}
+
+impl<C: Course> Stage<C> {
+    /// Reads one line more, or says why it may not follow; after that none is to be read.
+    pub fn advance(&mut self, alloc: Global, line: &[u8]) -> Result<(), Stop>
+        ensures next { (p : Progress) → StageStands C.stands p self.old → MatchResult result (λ _. Advances C.refused C.stands p line.now self.new) (Halts C.refused p line.now) }
+        ensures kind { result ≢ Err Stop.WriteFault }
+    {
+        if let Stage::Running(run) = self {
+            return run.advance(line);
+        }
+        match mem::replace(self, Stage::Untitled).next(alloc, line) {
+            Ok(next) => {
+                *self = next;
+                Ok(())
+            }
+            Err(stop) => Err(stop),
+        }
+    }
+
+    /// The stage after one line more, or why the line may not follow.
+    fn next(self, alloc: Global, line: &[u8]) -> Result<Stage<C>, Stop>
+        ensures next { (p : Progress) → StageStands C.stands p self → MatchResult result (Advances C.refused C.stands p line.now) (Halts C.refused p line.now) }
+        ensures kind { result ≢ Err Stop.WriteFault }
+    {
+        match self {
+            Stage::Untitled => Self::title(line),
+            Stage::Titled(version) => Self::drift(alloc, version, line),
+            Stage::Drifted(header) => Self::strict(header, line),
+            Stage::Heading(header) => Self::head(alloc, header, line),
+            Stage::Running(run) => Self::behind(run, line),
+        }
+    }
+
+    /// Reads the title.
+    fn title(line: &[u8]) -> Result<Stage<C>, Stop>
+        ensures next { MatchResult result (Advances C.refused C.stands Untitled line.now) (Halts C.refused Untitled line.now) }
+        ensures kind { result ≢ Err Stop.WriteFault }
+    {
+        match head_line(line, 1) {
+            Ok(HeadItem::Title(version)) => Ok(Stage::Titled(version)),
+            Ok(_) => unreachable!(),
+            Err(_) => Err(bad_header()),
+        }
+    }
+
+    /// Reads the drift behind the title of a version.
+    fn drift(alloc: Global, version: u32, line: &[u8]) -> Result<Stage<C>, Stop>
+        ensures next { MatchResult result (Advances C.refused C.stands (Titled version) line.now) (Halts C.refused (Titled version) line.now) }
+        ensures kind { result ≢ Err Stop.WriteFault }
+    {
+        match head_line(line, 2) {
+            Ok(HeadItem::Drift(drift)) => Ok(Self::drifted(alloc, version, drift)),
+            Ok(_) => unreachable!(),
+            Err(_) => Err(bad_header()),
+        }
+    }
+
+    /// The stage behind the drift: in the second version `strict` has to follow.
+    fn drifted(alloc: Global, version: u32, drift: u32) -> Stage<C>
+        requires { drift ≤ 1000 }
+        ensures { StageStands C.stands (drifted version drift) result }
+    {
+        let strict = version == 2;
+        let header = Header::new(alloc, drift, strict);
+        if strict {
+            Stage::Drifted(header)
+        } else {
+            Stage::Heading(header)
+        }
+    }
+
+    /// Reads `strict`, as the header says already.
+    fn strict(header: Header, line: &[u8]) -> Result<Stage<C>, Stop>
+        ensures next { (drift : ℕ) → header ≡ new_header drift true → MatchResult result (Advances C.refused C.stands (Drifted drift) line.now) (Halts C.refused (Drifted drift) line.now) }
+        ensures kind { result ≢ Err Stop.WriteFault }
+    {
+        match head_line(line, 3) {
+            Ok(HeadItem::Strict) => Ok(Stage::Heading(header)),
+            Ok(_) => Err(bad_header()),
+            Err(_) => Err(bad_header()),
+        }
+    }
+
+    /// Reads a line where a node or a network is expected. `strict` stands before the nodes, and nodes stand before
+    /// networks.
+    fn head(alloc: Global, header: Header, line: &[u8]) -> Result<Stage<C>, Stop>
+        ensures next { MatchResult result (Advances C.refused C.stands (Heading header) line.now) (Halts C.refused (Heading header) line.now) }
+        ensures kind { result ≢ Err Stop.WriteFault }
+    {
+        match head_line(line, next_place(&header)) {
+            Ok(HeadItem::Node(node)) => Self::node(header, node),
+            Ok(HeadItem::Net(members)) => Self::net(header, &members),
+            Ok(HeadItem::NotHead) => Self::first(alloc, header, line),
+            Ok(HeadItem::Strict) => Err(bad_header()),
+            Ok(_) => unreachable!(),
+            Err(_) => Err(bad_header()),
+        }
+    }
+
+    /// Adds a node to the header.
+    fn node(mut header: Header, node: NodeLine) -> Result<Stage<C>, Stop>
+        ensures next { MatchResult result (λ next. Takes header node × (next ≡ Stage.Heading (record header { nodes = header.nodes ++ node ∷ [] }))) (HaltsNode header node) }
+        ensures kind { result ≢ Err Stop.WriteFault }
+    {
+        if !header.nets().is_empty() {
+            return Err(bad_header());
+        }
+        match header.push(node) {
+            Ok(()) => Ok(Stage::Heading(header)),
+            Err(HeaderFault::OutOfMemory) => Err(Stop::OutOfMemory),
+            Err(_) => Err(bad_header()),
+        }
+    }
+
+    /// Adds a network to the header.
+    fn net(mut header: Header, members: &Members) -> Result<Stage<C>, Stop>
+        ensures next { MatchResult result (λ next. TakesNet header members.now × (next ≡ Stage.Heading (record header { nets = header.nets ++ members.now ∷ [] }))) (HaltsNet header members.now) }
+        ensures kind { result ≢ Err Stop.WriteFault }
+    {
+        match header.net(members.numbers()) {
+            Ok(()) => Ok(Stage::Heading(header)),
+            Err(HeaderFault::OutOfMemory) => Err(Stop::OutOfMemory),
+            Err(_) => Err(bad_header()),
+        }
+    }
+
+    /// Reads the first line behind the header, which may end where it has a node and is whole.
+    fn first(alloc: Global, header: Header, line: &[u8]) -> Result<Stage<C>, Stop>
+        ensures next { MatchResult result (λ next. IsComplete header × Advances C.refused C.stands (Running header []) line.now next) (HaltsFirst C.refused header line.now) }
+        ensures kind { result ≢ Err Stop.WriteFault }
+    {
+        if !is_complete(&header) {
+            return Err(bad_header());
+        }
+        match Run::begin(alloc, header) {
+            Ok(run) => Self::behind(run, line),
+            Err(_) => Err(Stop::OutOfMemory),
+        }
+    }
+
+    /// Reads a line behind the header.
+    fn behind(mut run: Run<C>, line: &[u8]) -> Result<Stage<C>, Stop>
+        ensures next { (p : Progress) → RunStands C.stands p run → MatchResult result (Advances C.refused C.stands p line.now) (Halts C.refused p line.now) }
+        ensures kind { result ≢ Err Stop.WriteFault }
+    {
+        match run.advance(line) {
+            Ok(()) => Ok(Stage::Running(run)),
+            Err(stop) => Err(stop),
+        }
+    }
+
+    /// For what cause a line of more than 1,024 octets is refused, of which these are the first 8.
+    pub fn refuse_long(&self, start: &[u8]) -> Cause
+        ensures { (p : Progress) → StageStands C.stands p self.now → (line : List ℕ) → 1024 < length line → start.now ≡ take 8 line → Refuses C.refused p line result }
+    {
+        match self {
+            Stage::Untitled => Cause::of(b"header"),
+            Stage::Titled(_) => Cause::of(b"header"),
+            Stage::Drifted(_) => Cause::of(b"header"),
+            Stage::Heading(header) => Self::head_refuses_long(header, start),
+            Stage::Running(run) => run.refuse_long(),
+        }
+    }
+
+    /// For what cause a long line is refused where a node or a network is expected.
+    fn head_refuses_long(header: &Header, start: &[u8]) -> Cause
+        ensures { (line : List ℕ) → 1024 < length line → start.now ≡ take 8 line → Refuses C.refused (Heading header.now) line result }
+    {
+        if is_node(start) {
+            return Cause::of(b"header");
+        }
+        if is_net(start) {
+            return Cause::of(b"header");
+        }
+        if !is_complete(header) {
+            return Cause::of(b"header");
+        }
+        Cause::of(b"line")
+    }
+
+    /// Whether the input may end, and else for what cause it may not.
+    pub fn lacks(&self) -> Option<Cause>
+        ensures { (p : Progress) → StageStands C.stands p self.now → MatchOption result (IsEnded p) (Lacks p) }
+    {
+        match self {
+            Stage::Untitled => Some(Cause::of(b"header")),
+            Stage::Titled(_) => Some(Cause::of(b"header")),
+            Stage::Drifted(_) => Some(Cause::of(b"header")),
+            Stage::Heading(header) => Some(Self::head_lacks(header)),
+            Stage::Running(run) => run.lacks(),
+        }
+    }
+
+    /// What is missing where the input ends behind a line of the header.
+    fn head_lacks(header: &Header) -> Cause
+        ensures { Lacks (Heading header.now) result }
+    {
+        if is_complete(header) {
+            Cause::of(b"no-end")
+        } else {
+            Cause::of(b"header")
+        }
+    }
+}

@@ -1,9 +1,0 @@
-use Rattle.std.proofs.Common.{length}
-use Rattle.tsp_words.specs.Ports.{AllDiffer}
-use Rattle.tsp_words.proofs.ports.all_differ.Given as goal
-
-abbrev pub invariant-loop-first : goal.invariant-loop-first
-invariant-loop-first l = (AllDiffer l.left → AllDiffer l.addrs) × (AllDiffer l.addrs → AllDiffer l.left)
-
-abbrev pub decreases-loop-first : goal.decreases-loop-first
-decreases-loop-first l = length l.left

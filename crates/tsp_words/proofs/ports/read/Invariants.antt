@@ -1,7 +1,0 @@
-use Rattle.std.proofs.Common.{◌≡◌, take}
-use Rattle.std.specs.Prelude.{map, string_bytes}
-use Rattle.tsp_words.specs.Ports.{peer_words, ArePeers}
-use Rattle.tsp_words.proofs.ports.read.Given as goal
-
-abbrev pub invariant-loop-word : goal.invariant-loop-word
-invariant-loop-word l = (map string_bytes (take l.word-index l.words) ≡ peer_words l.ports) × ArePeers l.ports

@@ -1,0 +1,36 @@
+-- Names stay where they lie when more octets are put behind them.
+use Rattle.std.specs.Prelude.{◌≡◌, ℕ, ◌≤◌, ◌-◌, List, [], ◌∷◌, ◌++◌, length, map, take, drop, slice_range, All, refl}
+use Rattle.std.proofs.Common.{ap, ◌∙◌, arith, length-drop}
+use Rattle.std.proofs.lemmas.List.{drop-append-le, take-append-le, map_push}
+use Rattle.std.proofs.lemmas.List.Elements.{All-head, All-tail}
+use Rattle.tsp_base.specs.declared.datagram.Datagram.{Datagram}
+use Rattle.tsp_world.specs.declared.head.Head.{Head}
+use Rattle.tsp_world.specs.declared.head.Held.{Held}
+use Rattle.tsp_world.specs.declared.head.Held.TheVariants.{Message, Stamp}
+use Rattle.tsp_world.specs.Heads.{HeadStands, HeldStands, datagram_in, post_in}
+use Rattle.tsp_world.specs.Posts.{posted_on}
+
+range-append : (names more : List ℕ) (start end : ℕ) → start ≤ end → end ≤ length names → slice_range (names ++ more) start end ≡ slice_range names start end
+range-append names more start end ordered inside =
+    let left = length-drop start names in
+    ap (λ l. take (end - start) l) (drop-append-le start names more (omega (arith, ordered, inside)))
+    ∙ take-append-le (end - start) (drop start names) more (omega (arith, left, ordered, inside))
+
+datagram_in-append : (names more : List ℕ) (held : Held) → HeldStands names held → datagram_in (names ++ more) held ≡ datagram_in names held
+datagram_in-append names more (Message kind number body start end) h = rw (range-append names more start end h.ordered h.inside) refl
+datagram_in-append names more (Stamp s) h = refl
+
+posts-append : (names more : List ℕ) (heads : List Head) → All (HeadStands names) heads → map (post_in (names ++ more)) heads ≡ map (post_in names) heads
+posts-append names more [] all = refl
+posts-append names more (head ∷ rest) all =
+    let first = datagram_in-append names more head.held (All-head (HeadStands names) head rest all) in
+    let others = posts-append names more rest (All-tail (HeadStands names) head rest all) in
+    ap (λ d. posted_on head.way d ∷ map (post_in (names ++ more)) rest) first ∙ ap (λ l. post_in names head ∷ l) others
+
+-- the posts after one more
+pub posts-push : (names more : List ℕ) (heads : List Head) (head : Head) (datagram : Datagram) → All (HeadStands names) heads → datagram_in (names ++ more) head.held ≡ datagram →
+    map (post_in (names ++ more)) (heads ++ head ∷ []) ≡ map (post_in names) heads ++ posted_on head.way datagram ∷ []
+posts-push names more heads head datagram all is =
+    map_push (post_in (names ++ more)) heads head
+    ∙ ap (λ l. l ++ post_in (names ++ more) head ∷ []) (posts-append names more heads all)
+    ∙ ap (λ d. map (post_in names) heads ++ posted_on head.way d ∷ []) is

@@ -1,0 +1,50 @@
+-- How posts are kept: the octets of all names in one list, and in another all else.
+use Rattle.std.specs.Prelude.{◌≡◌, ℕ, ◌+◌, ◌*◌, ◌≤◌, true, List, [], length, slice_range, All, vec_len, vec_capacity}
+use Rattle.std.specs.Global.{Vec}
+use Rattle.tsp_base.specs.declared.datagram.Datagram.{Datagram}
+use Rattle.tsp_base.specs.declared.datagram.Datagram.TheVariants.{Message, Stamp}
+use Rattle.tsp_base.specs.declared.kind.Kind.{Kind}
+use Rattle.tsp_base.specs.declared.message.Body.{Body}
+use Rattle.tsp_base.specs.Messages.{body_fits}
+use Rattle.tsp_base.specs.Names.{IsName}
+use Rattle.tsp_run.specs.declared.posted.Posted.{Posted}
+use Rattle.tsp_world.specs.declared.head.Head.{Head}
+use Rattle.tsp_world.specs.declared.head.Held.{Held}
+use Rattle.tsp_world.specs.declared.head.Held.TheVariants.{Message as HeldMessage, Stamp as HeldStamp}
+use Rattle.tsp_world.specs.Posts.{posted_on}
+
+-- the octets that a datagram puts behind those of the others: its name, if it has one
+abbrev pub name_in : Datagram → List ℕ
+name_in (Message m) = m.name
+name_in (Stamp s) = []
+
+-- the datagram of which this is held, with its name among these octets
+abbrev pub datagram_in : List ℕ → Held → Datagram
+datagram_in names (HeldMessage kind number body start end) = Message (record { kind = kind; number = number; body = body; name = slice_range names start end })
+datagram_in names (HeldStamp s) = Stamp s
+
+-- the post of which this is kept
+abbrev pub post_in : List ℕ → Head → Posted
+post_in names head = posted_on head.way (datagram_in names head.held)
+
+-- a message's name lies among these octets, and its body is its kind's
+pub record MessageStands (names : List ℕ) (kind : Kind) (body : Body) (start end : ℕ) : Type 0 where
+  pub ordered : start ≤ end
+  pub inside : end ≤ length names
+  pub name : IsName (slice_range names start end)
+  pub body_is : body_fits kind body ≡ true
+
+-- what is held of a message has its name among these octets; of a stamp nothing is asked
+abbrev pub HeldStands : List ℕ → Held → Type 0
+HeldStands names (HeldMessage kind number body start end) = MessageStands names kind body start end
+HeldStands names (HeldStamp s) = Unit {0}
+
+-- the same of what a head holds
+abbrev pub HeadStands : List ℕ → Head → Type 0
+HeadStands names head = HeldStands names head.held
+
+-- each head has its name among these octets, and there is room for so many more heads, each with a name of 255 octets
+pub record ArePosts (names : Vec ℕ) (heads : Vec Head) (spare : ℕ) : Type 0 where
+  pub stand : All (HeadStands names.items) heads.items
+  pub heads_fit : vec_len heads + spare ≤ vec_capacity heads
+  pub names_fit : vec_len names + 255 * spare ≤ vec_capacity names

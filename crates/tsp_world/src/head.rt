@@ -1,0 +1,101 @@
+//! What is kept of a post beside the octets of its name.
+ghost use Rattle.std.specs.Prelude.{◌≡◌, ◌≤◌, ◌+◌, ◌++◌, length, vec_len, vec_capacity};
+ghost use Rattle.tsp_base.specs.declared.datagram.Datagram.{Datagram};
+ghost use Rattle.tsp_world.specs.Heads.{HeldStands, datagram_in, name_in};
+
+use crate::way::Way;
+use tsp_base::datagram::Datagram;
+use tsp_base::kind::Kind;
+use tsp_base::message::{Body, Message};
+use tsp_base::name::Name;
+use tsp_base::stamp::Stamp;
+
+/// What a datagram carries beside the octets of its name.
+#[derive(Clone, Copy)]
+pub(crate) enum Held {
+    /// A message. Its name begins at one place among the octets of all names, and ends before another.
+    Message {
+        kind: Kind,
+        number: u16,
+        body: Body,
+        start: usize,
+        end: usize,
+    },
+    /// A clock stamp.
+    Stamp(Stamp),
+}
+
+/// A post without the octets of its name.
+#[derive(Clone, Copy)]
+pub(crate) struct Head {
+    pub(crate) way: Way,
+    pub(crate) held: Held,
+}
+
+/// Puts octets behind the others, where there is room.
+fn append(names: &mut Vec<u8>, octets: &[u8])
+    requires room { vec_len names.old + length octets.now ≤ vec_capacity names.old }
+    ensures items { names.new.items ≡ names.old.items ++ octets.now }
+    ensures len { vec_len names.new ≡ vec_len names.old + length octets.now }
+    ensures capacity { vec_capacity names.old ≤ vec_capacity names.new }
+{
+    match names.extend_from_slice(octets) {
+        Ok(()) => {}
+        Err(_) => unreachable!(),
+    }
+}
+
+/// Puts the name of a message behind the others, and gives the rest of it.
+fn hold_message(names: &mut Vec<u8>, message: &Message) -> Held
+    requires room { vec_len names.old + 255 ≤ vec_capacity names.old }
+    ensures items { names.new.items ≡ names.old.items ++ message.now.name }
+    ensures few { vec_len names.new ≤ vec_len names.old + 255 }
+    ensures capacity { vec_capacity names.old ≤ vec_capacity names.new }
+    ensures datagram { datagram_in names.new.items result ≡ Datagram.Message message.now }
+    ensures stands { HeldStands names.new.items result }
+{
+    let start = names.len();
+    append(names, message.name().octets());
+    Held::Message {
+        kind: message.kind(),
+        number: message.number(),
+        body: message.body(),
+        start,
+        end: names.len(),
+    }
+}
+
+/// Puts the name of a datagram behind the others, and gives the rest of it.
+pub(crate) fn hold(names: &mut Vec<u8>, datagram: &Datagram) -> Held
+    requires room { vec_len names.old + 255 ≤ vec_capacity names.old }
+    ensures items { names.new.items ≡ names.old.items ++ name_in datagram.now }
+    ensures few { vec_len names.new ≤ vec_len names.old + 255 }
+    ensures capacity { vec_capacity names.old ≤ vec_capacity names.new }
+    ensures datagram { datagram_in names.new.items result ≡ datagram.now }
+    ensures stands { HeldStands names.new.items result }
+{
+    match datagram {
+        Datagram::Message(message) => hold_message(names, message),
+        Datagram::Stamp(stamp) => Held::Stamp(*stamp),
+    }
+}
+
+/// The datagram of which this is kept, with its name among these octets.
+pub(crate) fn datagram_of(names: &[u8], held: &Held) -> Datagram
+    requires { HeldStands names.now held.now }
+    ensures { result ≡ datagram_in names.now held.now }
+{
+    match held {
+        Held::Message {
+            kind,
+            number,
+            body,
+            start,
+            end,
+        } => {
+            let name = Name::new(&names[*start..*end]);
+            Datagram::Message(Message::new(*kind, *number, *body, name))
+        }
+        Held::Stamp(stamp) => Datagram::Stamp(*stamp),
+    }
+}
