@@ -1,4 +1,4 @@
-use Rattle.tsp_held.proofs.laws.runs_are_claimed.Goals as goal
+use Rattle.tsp_cli.proofs.laws.runs_are_claimed.Goals as goal
 use Rattle.tsp_cli.proofs.RunClaims.{told_are}
 
 pub returns : goal.returns

@@ -1,4 +1,4 @@
-use Rattle.tsp_held.proofs.laws.runs_fit_claims.Goals as goal
+use Rattle.tsp_cli.proofs.laws.runs_fit_claims.Goals as goal
 use Rattle.tsp_cli.proofs.LinesFit.{lines-fit}
 
 pub returns : goal.returns

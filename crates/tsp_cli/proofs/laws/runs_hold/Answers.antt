@@ -1,4 +1,4 @@
-use Rattle.tsp_held.proofs.laws.runs_hold.Goals as goal
+use Rattle.tsp_cli.proofs.laws.runs_hold.Goals as goal
 use Rattle.tsp_cli.proofs.Verdict.{verdict-holds}
 
 pub returns : goal.returns

@@ -7,7 +7,7 @@ use Rattle.tsp_daemon.proofs.ServeLemmas.{Tells_read, IsServed_serves}
 use Rattle.tsp_daemon.specs.declared.end.ServeEnd.{ServeEnd}
 use Rattle.tsp_daemon.specs.Nodes.{first_past}
 use Rattle.tsp_daemon.specs.Serving.{served_of}
-use Rattle.tsp_serving.proofs.serve.serve_bound.Goals as goal
+use Rattle.tsp_daemon.proofs.command.serve_bound.Goals as goal
 
 pub serve-requires-clause-lives : goal.serve-requires-clause-lives
 serve-requires-clause-lives g c =

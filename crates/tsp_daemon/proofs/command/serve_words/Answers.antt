@@ -1,7 +1,7 @@
 use Rattle.std.proofs.Common.{◌∙◌, inl, inr, refl}
 use Rattle.tsp_query.specs.Told.{bound}
 use Rattle.tsp_query.proofs.ToldLemmas.{Tells_bound}
-use Rattle.tsp_serving.proofs.serve.serve_words.Goals as goal
+use Rattle.tsp_daemon.proofs.command.serve_words.Goals as goal
 
 pub returns-in-Bound-clause-serves : goal.returns-in-Bound-clause-serves
 returns-in-Bound-clause-serves g c = λ o wall word written k.

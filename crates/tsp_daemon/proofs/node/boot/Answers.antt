@@ -1,7 +1,7 @@
 use Rattle.std.proofs.Common.{◌∙◌, ap, arith, length, sym, subst}
 use Rattle.tsp_gateway.specs.GateConfigs.{ArePorts, GateConfigValue, peers_of_ports}
 use Rattle.tsp_daemon.proofs.NodeLemmas.{ArePorts-setups_from, length-setups_from, room_is}
-use Rattle.tsp_serving.proofs.node.boot.Goals as goal
+use Rattle.tsp_daemon.proofs.node.boot.Goals as goal
 
 pub unreachable-requires : goal.unreachable-requires
 unreachable-requires c =

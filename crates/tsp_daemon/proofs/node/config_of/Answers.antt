@@ -3,7 +3,7 @@ use Rattle.std.proofs.Common.{◌≡◌, ◌∙◌, ◌+◌, ◌∷◌, [], ◌+
 use Rattle.tsp_gateway.specs.GateConfigs.{GateConfigValue}
 use Rattle.tsp_daemon.specs.Nodes.{setup_of, setups_from}
 use Rattle.tsp_daemon.proofs.NodeLemmas.{peers_more, setups_more}
-use Rattle.tsp_serving.proofs.node.config_of.Goals as goal
+use Rattle.tsp_daemon.proofs.node.config_of.Goals as goal
 
 pub overflow_cast-count : goal.overflow_cast-count
 overflow_cast-count c = let few = peers_more c.loop-port.done c.args.words.now.ports c.loop-port.port c.get.result.now c.get.ensures c.loop-port.invariant.few in omega (arith, few)

@@ -2,7 +2,7 @@
 use Rattle.std.proofs.Common.{◌≡◌, ◌≤◌, ◌+◌, ◌++◌, drop, length}
 use Rattle.tsp_args.specs.Ports.{all_peers}
 use Rattle.tsp_daemon.specs.Nodes.{may_be, is_strict, setups_from}
-use Rattle.tsp_serving.proofs.node.config_of.Given as goal
+use Rattle.tsp_daemon.proofs.node.config_of.Given as goal
 
 abbrev pub invariant-loop-port : goal.invariant-loop-port
 invariant-loop-port l = record {

@@ -2,7 +2,7 @@ use Rattle.tsp_promises.specs.NodeRuns.{NodeAnswers, node_ran}
 use Rattle.tsp_rules.specs.NodeRows.{in_node_step}
 use Rattle.tsp_promises.proofs.AloneLemmas.{same_answers}
 use Rattle.tsp_promises.proofs.RunLemmas.{fresh_alone}
-use Rattle.tsp_alone.proofs.laws.answers_alone.Goals as goal
+use Rattle.tsp_promises.proofs.alone.answers_alone.Goals as goal
 
 pub returns : goal.returns
 returns c past s hs step x g new o =

@@ -1,5 +1,5 @@
 use Rattle.tsp_promises.proofs.AloneLemmas.{same_boots}
-use Rattle.tsp_alone.proofs.laws.boots_alone.Goals as goal
+use Rattle.tsp_promises.proofs.alone.boots_alone.Goals as goal
 
 pub returns : goal.returns
 returns c x past s one = same_boots.run x past s one tt

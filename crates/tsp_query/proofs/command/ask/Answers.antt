@@ -1,7 +1,7 @@
 use Rattle.std.proofs.Common.{◌∙◌, inl, inr, refl}
 use Rattle.tsp_query.specs.Told.{bound}
 use Rattle.tsp_query.proofs.ToldLemmas.{Tells_bound, Says_from}
-use Rattle.tsp_asking.proofs.ask.ask.Goals as goal
+use Rattle.tsp_query.proofs.command.ask.Goals as goal
 
 pub returns-in-Bound-clause-asks : goal.returns-in-Bound-clause-asks
 returns-in-Bound-clause-asks g c = λ o wall word written k.

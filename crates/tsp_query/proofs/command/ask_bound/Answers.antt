@@ -1,4 +1,4 @@
-use Rattle.tsp_asking.proofs.ask.ask_bound.Goals as goal
+use Rattle.tsp_query.proofs.command.ask_bound.Goals as goal
 
 pub returns-in-Msite-clause-comes : goal.returns-in-Msite-clause-comes
 returns-in-Msite-clause-comes g c = λ o wall word t w v. rw c.in-Msite.is (c.msite.ensures.asks o word t v)

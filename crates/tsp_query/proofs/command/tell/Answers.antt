@@ -1,7 +1,7 @@
 use Rattle.std.proofs.Common.{◌∙◌, inl, inr, refl}
 use Rattle.tsp_query.proofs.ToldLemmas.{Says_cut}
 use Rattle.tsp_query.proofs.LineLemmas.{no_line}
-use Rattle.tsp_asking.proofs.ask.tell.Goals as goal
+use Rattle.tsp_query.proofs.command.tell.Goals as goal
 
 pub returns-in-WriteFault-clause-says : goal.returns-in-WriteFault-clause-says
 returns-in-WriteFault-clause-says g c = Says_cut _ _ _ _ _ _ _ _ c.in-Err.cut.at (c.as_slice.ensures.value ∙ c.line_of.ensures) (inl refl) c.in-Err.ensures.cut.0 c.in-Err.ensures.cut.1

@@ -3,7 +3,7 @@ use Rattle.std.proofs.Common.{◌≡◌, subst}
 use Rattle.tsp_world.specs.declared.head.Head.{Head}
 use Rattle.tsp_world.specs.Heads.{name_in, datagram_in}
 use Rattle.tsp_world.proofs.HeadLemmas.{posts-push}
-use Rattle.tsp_posts.proofs.posts.Posts.push.Goals as goal
+use Rattle.tsp_world.proofs.posts.Posts.push.Goals as goal
 
 pub returns-clause-items : goal.returns-clause-items
 returns-clause-items c =
