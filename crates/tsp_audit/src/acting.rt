@@ -24,13 +24,13 @@ use tsp_base::message::Body;
 use tsp_base::place::{PeerId, Place};
 use tsp_base::role::Role;
 use tsp_history::clocks::is_spaced;
-use tsp_history::noted::Noted;
+use tsp_history::line::HistoryLine;
 use tsp_history::posts::{has_taken, post_at};
 use tsp_history::scans::role_at;
 use tsp_history::sends::{begun_to, open_to};
 
 /// Whether a Correct stands GAP ticks after each one of its node's life, where these lines stand before it.
-fn spaces(lines: &[Noted], line: &Noted) -> bool
+fn spaces(lines: &[HistoryLine], line: &HistoryLine) -> bool
     ensures { MatchBool result (SpacedAt (line_of line.now) (history_of lines.now)) (SpacedAt (line_of line.now) (history_of lines.now) → ⊥) }
 {
     match &line.act {
@@ -55,7 +55,7 @@ fn amount_of(kind: Kind, body: Body, target: i128) -> i128
 }
 
 /// Whether a line posts a correction that moves a clock with this target by this amount.
-fn moves(post: &Noted, amount: i64, target: i128) -> bool
+fn moves(post: &HistoryLine, amount: i64, target: i128) -> bool
     requires { IsSmall target }
     ensures { MatchBool result (Moves (deed_of post.now.act) amount target) (Moves (deed_of post.now.act) amount target → ⊥) }
 {
@@ -68,7 +68,13 @@ fn moves(post: &Noted, amount: i64, target: i128) -> bool
 }
 
 /// Whether the step of a Correct brings a correction of this master, which moves the clock by this amount.
-fn obeys_master(header: &Header, lines: &[Noted], line: &Noted, amount: i64, master: PeerId) -> bool
+fn obeys_master(
+    header: &Header,
+    lines: &[HistoryLine],
+    line: &HistoryLine,
+    amount: i64,
+    master: PeerId,
+) -> bool
     requires { length lines.now < 2 ^ 32 }
     ensures { (setting : Setting) → HasClocks header.now setting → line.now.at ≤ 1000000000000000
         → MatchBool result (Obeys setting (line_of line.now) (history_of lines.now) amount master) (Obeys setting (line_of line.now) (history_of lines.now) amount master → ⊥) }
@@ -87,7 +93,7 @@ fn obeys_master(header: &Header, lines: &[Noted], line: &Noted, amount: i64, mas
 }
 
 /// Whether a follower's Correct does as its master says, where these lines stand before it.
-fn obeys(header: &Header, lines: &[Noted], line: &Noted) -> bool
+fn obeys(header: &Header, lines: &[HistoryLine], line: &HistoryLine) -> bool
     requires { length lines.now < 2 ^ 32 }
     ensures { (setting : Setting) → HasClocks header.now setting → line.now.at ≤ 1000000000000000
         → MatchBool result (ObeysAt setting (line_of line.now) (history_of lines.now)) (ObeysAt setting (line_of line.now) (history_of lines.now) → ⊥) }
@@ -102,7 +108,7 @@ fn obeys(header: &Header, lines: &[Noted], line: &Noted) -> bool
 }
 
 /// Whether a line posts a numbered message.
-fn is_numbered(line: &Noted) -> bool
+fn is_numbered(line: &HistoryLine) -> bool
     ensures { MatchBool result (IsNumbered (deed_of line.now.act)) (IsNumbered (deed_of line.now.act) → ⊥) }
 {
     match &line.act {
@@ -120,7 +126,7 @@ fn is_numbered(line: &Noted) -> bool
 }
 
 /// Whether a line is a Correct after its step's Took, where these lines stand before it.
-fn acts(lines: &[Noted], line: &Noted) -> bool
+fn acts(lines: &[HistoryLine], line: &HistoryLine) -> bool
     ensures { MatchBool result (ActsNow (line_of line.now) (history_of lines.now)) (ActsNow (line_of line.now) (history_of lines.now) → ⊥) }
 {
     match &line.act {
@@ -130,7 +136,7 @@ fn acts(lines: &[Noted], line: &Noted) -> bool
 }
 
 /// The number of the datagram that begins the send of which a line's Correct takes a post, if it takes one.
-pub(crate) fn takes_send(lines: &[Noted], line: &Noted) -> Option<u64>
+pub(crate) fn takes_send(lines: &[HistoryLine], line: &HistoryLine) -> Option<u64>
     requires { length lines.now < 2 ^ 32 }
     ensures { MatchOption result ((s : ℕ) → TakesSend (line_of line.now) (history_of lines.now) s → ⊥) (λ s. TakesSend (line_of line.now) (history_of lines.now) s) }
 {
@@ -161,7 +167,7 @@ fn is_new(acted: &[u64], send: Option<u64>) -> bool
 }
 
 /// Whether a line posts a correction.
-fn is_correcting(line: &Noted) -> bool
+fn is_correcting(line: &HistoryLine) -> bool
     ensures { result ≡ deed_corrects (deed_of line.now.act) }
 {
     match &line.act {
@@ -171,7 +177,7 @@ fn is_correcting(line: &Noted) -> bool
 }
 
 /// Whether the datagram with this number is a correction.
-fn corrects(lines: &[Noted], number: u64) -> bool
+fn corrects(lines: &[HistoryLine], number: u64) -> bool
     ensures { Corrects (history_of lines.now) number result }
 {
     match post_at(lines, number) {
@@ -182,7 +188,7 @@ fn corrects(lines: &[Noted], number: u64) -> bool
 
 /// Whether a correction that an Acked ends was taken, where these lines stand before it and these are the sends that Corrects
 /// have taken posts of.
-fn confirms(lines: &[Noted], acted: &[u64], line: &Noted) -> bool
+fn confirms(lines: &[HistoryLine], acted: &[u64], line: &HistoryLine) -> bool
     requires { length lines.now < 2 ^ 32 }
     ensures { ActedIs (history_of lines.now) acted.now → MatchBool result (ConfirmedAt (line_of line.now) (history_of lines.now)) (ConfirmedAt (line_of line.now) (history_of lines.now) → ⊥) }
 {
@@ -201,7 +207,7 @@ fn confirms(lines: &[Noted], acted: &[u64], line: &Noted) -> bool
 }
 
 /// Whether a follower's Correct does as its master says, if that is asked.
-fn obeys_if(honest: bool, header: &Header, lines: &[Noted], line: &Noted) -> bool
+fn obeys_if(honest: bool, header: &Header, lines: &[HistoryLine], line: &HistoryLine) -> bool
     requires { length lines.now < 2 ^ 32 }
     ensures { (setting : Setting) → HasClocks header.now setting → line.now.at ≤ 1000000000000000
         → MatchBool result (honest ≡ true → ObeysAt setting (line_of line.now) (history_of lines.now)) ((honest ≡ true → ObeysAt setting (line_of line.now) (history_of lines.now)) → ⊥) }
@@ -214,7 +220,7 @@ fn obeys_if(honest: bool, header: &Header, lines: &[Noted], line: &Noted) -> boo
 }
 
 /// Whether a line takes no send again, and confirms none that wasn't taken.
-fn takes_well(lines: &[Noted], acted: &[u64], line: &Noted, send: Option<u64>) -> bool
+fn takes_well(lines: &[HistoryLine], acted: &[u64], line: &HistoryLine, send: Option<u64>) -> bool
     requires { length lines.now < 2 ^ 32 }
     ensures { ActedIs (history_of lines.now) acted.now → TakesAs (line_of line.now) (history_of lines.now) send
         → MatchBool result (TakesWell (line_of line.now) (history_of lines.now)) (TakesWell (line_of line.now) (history_of lines.now) → ⊥) }
@@ -228,9 +234,9 @@ fn takes_well(lines: &[Noted], acted: &[u64], line: &Noted, send: Option<u64>) -
 /// The same, if that is asked.
 fn takes_well_if(
     premises: Premises,
-    lines: &[Noted],
+    lines: &[HistoryLine],
     acted: &[u64],
-    line: &Noted,
+    line: &HistoryLine,
     send: Option<u64>,
 ) -> bool
     requires { length lines.now < 2 ^ 32 }
@@ -249,9 +255,9 @@ fn takes_well_if(
 fn acts_once(
     header: &Header,
     premises: Premises,
-    lines: &[Noted],
+    lines: &[HistoryLine],
     acted: &[u64],
-    line: &Noted,
+    line: &HistoryLine,
     send: Option<u64>,
 ) -> bool
     requires { length lines.now < 2 ^ 32 }
@@ -285,7 +291,7 @@ fn note(acted: &mut Vec<u64>, send: Option<u64>)
 pub(crate) fn keeps_acting(
     header: &Header,
     premises: Premises,
-    lines: &[Noted],
+    lines: &[HistoryLine],
     from: usize,
     acted: &mut Vec<u64>,
 ) -> bool

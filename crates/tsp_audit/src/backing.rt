@@ -11,11 +11,11 @@ use tsp_base::datagram::Datagram;
 use tsp_base::kind::Kind;
 use tsp_base::place::{PeerId, Place, Port};
 use tsp_base::role::Role;
-use tsp_history::noted::Noted;
+use tsp_history::line::HistoryLine;
 use tsp_history::scans::is_held;
 
 /// Whom the step of a node's port has backed last after a line, where it was `keep` before.
-fn backed_after(line: &Noted, node: u32, port: Port, keep: Option<PeerId>) -> Option<PeerId>
+fn backed_after(line: &HistoryLine, node: u32, port: Port, keep: Option<PeerId>) -> Option<PeerId>
     ensures { (before : List Line) → keep ≡ backed (view port (of node before)) → result ≡ backed (view port (of node (line_of line.now ∷ before))) }
 {
     if line.node != node {
@@ -35,7 +35,7 @@ fn backed_after(line: &Noted, node: u32, port: Port, keep: Option<PeerId>) -> Op
 }
 
 /// Whom the step of a node's port has backed last.
-fn backed_at(lines: &[Noted], node: u32, port: Port) -> Option<PeerId>
+fn backed_at(lines: &[HistoryLine], node: u32, port: Port) -> Option<PeerId>
     ensures { result ≡ backed (view port (of node (history_of lines.now))) }
 {
     let mut backed = None;
@@ -46,7 +46,7 @@ fn backed_at(lines: &[Noted], node: u32, port: Port) -> Option<PeerId>
 }
 
 /// Whether a node's port is an unbacked candidate after a line, where it was `keep` before.
-fn is_unbacked_after(line: &Noted, node: u32, port: Port, keep: bool) -> bool
+fn is_unbacked_after(line: &HistoryLine, node: u32, port: Port, keep: bool) -> bool
     ensures { (before : List Line) → keep ≡ is_unbacked (view port (of node before)) → result ≡ is_unbacked (view port (of node (line_of line.now ∷ before))) }
 {
     if line.node != node {
@@ -67,7 +67,7 @@ fn is_unbacked_after(line: &Noted, node: u32, port: Port, keep: bool) -> bool
 }
 
 /// Whether a node's port became a candidate in its step and hasn't yet backed itself.
-fn is_unbacked_at(lines: &[Noted], node: u32, port: Port) -> bool
+fn is_unbacked_at(lines: &[HistoryLine], node: u32, port: Port) -> bool
     ensures { result ≡ is_unbacked (view port (of node (history_of lines.now))) }
 {
     let mut unbacked = false;
@@ -78,7 +78,7 @@ fn is_unbacked_at(lines: &[Noted], node: u32, port: Port) -> bool
 }
 
 /// Whether a line is no Back for another candidate than its port holds, where these stand before it.
-fn holds(lines: &[Noted], line: &Noted) -> bool
+fn holds(lines: &[HistoryLine], line: &HistoryLine) -> bool
     ensures { MatchBool result (HoldsAt (line_of line.now) (history_of lines.now)) (HoldsAt (line_of line.now) (history_of lines.now) → ⊥) }
 {
     match &line.act {
@@ -88,7 +88,7 @@ fn holds(lines: &[Noted], line: &Noted) -> bool
 }
 
 /// Whether a line makes a node's port a candidate; with no node any node's.
-fn stands(line: &Noted, node: Option<u32>) -> bool
+fn stands(line: &HistoryLine, node: Option<u32>) -> bool
     ensures { result ≡ is_stand (line_of line.now) && concerns node line.now.node }
 {
     if let Some(node) = node
@@ -100,7 +100,7 @@ fn stands(line: &Noted, node: Option<u32>) -> bool
 }
 
 /// Whether no port of the node, or with no node of any, is an unbacked candidate, where none was before `from`.
-fn settles(lines: &[Noted], from: usize, node: Option<u32>) -> bool
+fn settles(lines: &[HistoryLine], from: usize, node: Option<u32>) -> bool
     requires { from ≤ length lines.now }
     ensures { Settled node (history_of (take from lines.now)) → MatchBool result (Settled node (history_of lines.now)) (Settled node (history_of lines.now) → ⊥) }
 {
@@ -114,7 +114,7 @@ fn settles(lines: &[Noted], from: usize, node: Option<u32>) -> bool
 }
 
 /// Whether a post's addressee was backed, if it is accepted, and whether the port backed itself, if it asks for votes.
-fn may_post(lines: &[Noted], line: &Noted, to: Place, kind: Kind) -> bool
+fn may_post(lines: &[HistoryLine], line: &HistoryLine, to: Place, kind: Kind) -> bool
     ensures { let seen = view line.now.port (of line.now.node (history_of lines.now)) in result ≡ post_backs kind to (backed seen) (is_unbacked seen) }
 {
     match kind {
@@ -131,7 +131,7 @@ fn may_post(lines: &[Noted], line: &Noted, to: Place, kind: Kind) -> bool
 }
 
 /// Whether a line that is no mark keeps to whom its step has backed, where these stand before it.
-fn votes(lines: &[Noted], line: &Noted) -> bool
+fn votes(lines: &[HistoryLine], line: &HistoryLine) -> bool
     ensures { let seen = view line.now.port (of line.now.node (history_of lines.now)) in result ≡ deed_backs (deed_of line.now.act) (backed seen) (is_unbacked seen) }
 {
     match &line.act {
@@ -141,7 +141,7 @@ fn votes(lines: &[Noted], line: &Noted) -> bool
 }
 
 /// Whether a line keeps to whom its step has backed, where these stand before it, and before `from` no candidate was unbacked.
-fn backs(lines: &[Noted], from: usize, line: &Noted) -> bool
+fn backs(lines: &[HistoryLine], from: usize, line: &HistoryLine) -> bool
     requires { from ≤ length lines.now }
     ensures { Settled None (history_of (take from lines.now)) → MatchBool result (BacksAt (line_of line.now) (history_of lines.now)) (BacksAt (line_of line.now) (history_of lines.now) → ⊥) }
 {
@@ -152,7 +152,7 @@ fn backs(lines: &[Noted], from: usize, line: &Noted) -> bool
 }
 
 /// Whether a line keeps the promise about backing, where these stand before it.
-fn is_backing(lines: &[Noted], from: usize, line: &Noted) -> bool
+fn is_backing(lines: &[HistoryLine], from: usize, line: &HistoryLine) -> bool
     requires { from ≤ length lines.now }
     ensures { Settled None (history_of (take from lines.now)) → MatchBool result (Backs (line_of line.now) (history_of lines.now)) (Backs (line_of line.now) (history_of lines.now) → ⊥) }
 {
@@ -160,7 +160,7 @@ fn is_backing(lines: &[Noted], from: usize, line: &Noted) -> bool
 }
 
 /// Whether nobody backs two candidates within the hold in all lines, where it is so in those before `from`.
-pub(crate) fn keeps_backing(lines: &[Noted], from: usize) -> bool
+pub(crate) fn keeps_backing(lines: &[HistoryLine], from: usize) -> bool
     requires { from ≤ length lines.now }
     ensures { OneBack (history_of (take from lines.now)) → MatchBool result (OneBack (history_of lines.now)) (OneBack (history_of lines.now) → ⊥) }
 {

@@ -11,7 +11,7 @@ use tsp_base::constants::SCHEDULE_END;
 use tsp_base::drift::tick_at;
 use tsp_base::header::Header;
 use tsp_history::clocks::moved_at;
-use tsp_history::noted::Noted;
+use tsp_history::line::HistoryLine;
 
 /// A node's rate, in millionths, and its wall clock at tick 0, in microseconds; 0 for a number that no node has.
 fn clock_of(header: &Header, node: u32) -> (i32, i64)
@@ -49,7 +49,7 @@ fn add(wall: i64, moved: i128, tick: u64) -> i128
 
 /// A node's clock at a true time of a schedule after these lines, in microseconds: its wall at tick 0, its tick then, and the amounts of
 /// its corrections since its last boot.
-pub(crate) fn clock_at(header: &Header, lines: &[Noted], node: u32, at: u64) -> i128
+pub(crate) fn clock_at(header: &Header, lines: &[HistoryLine], node: u32, at: u64) -> i128
     requires { length lines.now < 2 ^ 32 }
     ensures clock { at ≤ 1000000000000000 → result ≡ clock_in header.now node (history_of lines.now) at }
     ensures small { IsSmall result }

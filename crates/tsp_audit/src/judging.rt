@@ -8,24 +8,24 @@ ghost use Rattle.tsp_audit.specs.Settings.{HasClocks, Timely};
 ghost use Rattle.tsp_promises.specs.Setting.{Setting};
 ghost use Rattle.tsp_history.specs.Histories.{history_of};
 
-use crate::accord::Accord;
 use crate::acting::keeps_acting;
+use crate::agreement_tracker::AgreementTracker;
 use crate::backing::keeps_backing;
 use crate::leading::keeps_leading;
 use crate::measuring::keeps_measuring_if;
 use crate::notes::Notes;
 use crate::premises::Premises;
 use tsp_base::header::Header;
-use tsp_history::noted::Noted;
+use tsp_history::line::HistoryLine;
 
 /// Whether clocks agree in all lines, if that is asked, where they do in those before `from`, for which the accord stands; there is
 /// to be room for the others. It stands for all lines after that, where that is asked and the answer is yes.
 fn keeps_agreeing_if(
     header: &Header,
     premises: Premises,
-    lines: &[Noted],
+    lines: &[HistoryLine],
     from: usize,
-    accord: &mut Accord,
+    accord: &mut AgreementTracker,
 ) -> bool
     requires from { from ≤ length lines.now }
     requires few { length lines.now < 2 ^ 32 }
@@ -47,7 +47,7 @@ fn keeps_agreeing_if(
 pub(crate) fn judge(
     header: &Header,
     premises: Premises,
-    lines: &[Noted],
+    lines: &[HistoryLine],
     from: usize,
     notes: &mut Notes,
 ) -> Option<u32>

@@ -10,7 +10,7 @@ use tsp_base::act::Act;
 use tsp_base::datagram::Datagram;
 use tsp_base::kind::Kind;
 use tsp_base::role::Role;
-use tsp_history::noted::Noted;
+use tsp_history::line::HistoryLine;
 use tsp_history::scans::role_at;
 
 /// Whether messages of this kind correct a clock.
@@ -21,7 +21,7 @@ pub(crate) fn is_correction(kind: Kind) -> bool
 }
 
 /// Whether the newest act after a line is a Close, where `keep` says so of what stands before.
-fn closes_after(line: &Noted, keep: bool) -> bool
+fn closes_after(line: &HistoryLine, keep: bool) -> bool
     ensures { (before : List Line) → keep ≡ closing before → result ≡ closing (line_of line.now ∷ before) }
 {
     match &line.act {
@@ -32,7 +32,7 @@ fn closes_after(line: &Noted, keep: bool) -> bool
 }
 
 /// Whether the newest act is a Close.
-fn closes_last(lines: &[Noted]) -> bool
+fn closes_last(lines: &[HistoryLine]) -> bool
     ensures { result ≡ closing (history_of lines.now) }
 {
     let mut closing = false;
@@ -43,7 +43,7 @@ fn closes_last(lines: &[Noted]) -> bool
 }
 
 /// Whether a line asks that its port leads, where these stand before it.
-fn must_lead(lines: &[Noted], line: &Noted) -> bool
+fn must_lead(lines: &[HistoryLine], line: &HistoryLine) -> bool
     ensures { result ≡ must_lead (deed_of line.now.act) (closing (history_of lines.now)) }
 {
     match &line.act {
@@ -55,7 +55,7 @@ fn must_lead(lines: &[Noted], line: &Noted) -> bool
 }
 
 /// Whether a line is a master's where it must be, where these stand before it.
-fn leads(lines: &[Noted], line: &Noted) -> bool
+fn leads(lines: &[HistoryLine], line: &HistoryLine) -> bool
     ensures { MatchBool result (LeadsAt (line_of line.now) (history_of lines.now)) (LeadsAt (line_of line.now) (history_of lines.now) → ⊥) }
 {
     if must_lead(lines, line) {
@@ -69,7 +69,7 @@ fn leads(lines: &[Noted], line: &Noted) -> bool
 }
 
 /// Whether only masters correct in all lines, where it is so in those before `from`.
-pub(crate) fn keeps_leading(lines: &[Noted], from: usize) -> bool
+pub(crate) fn keeps_leading(lines: &[HistoryLine], from: usize) -> bool
     requires { from ≤ length lines.now }
     ensures { OnlyMaster (history_of (take from lines.now)) → MatchBool result (OnlyMaster (history_of lines.now)) (OnlyMaster (history_of lines.now) → ⊥) }
 {

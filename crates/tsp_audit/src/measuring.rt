@@ -20,11 +20,11 @@ use tsp_base::header::Header;
 use tsp_base::place::{PeerId, Place};
 use tsp_base::stamp::Stamp;
 use tsp_history::clocks::target_at;
-use tsp_history::noted::Noted;
+use tsp_history::line::HistoryLine;
 use tsp_history::rounds::{asked_at, is_going};
 
 /// Whether a line is a peer's, and posts a reply to a node.
-fn replies_to(post: &Noted, peer: PeerId, node: u32) -> bool
+fn replies_to(post: &HistoryLine, peer: PeerId, node: u32) -> bool
     ensures { MatchBool result (RepliesTo (line_of post.now) peer node) (RepliesTo (line_of post.now) peer node → ⊥) }
 {
     match &post.act {
@@ -36,7 +36,7 @@ fn replies_to(post: &Noted, peer: PeerId, node: u32) -> bool
 }
 
 /// The index of the line, among these before it, at which a peer posts the reply that a line's step takes.
-fn reply_at(lines: &[Noted], line: &Noted, peer: PeerId) -> Option<usize>
+fn reply_at(lines: &[HistoryLine], line: &HistoryLine, peer: PeerId) -> Option<usize>
     ensures { MatchOption result ((post : Line) (older : List Line) → Replies (line_of line.now) (history_of lines.now) peer post older → ⊥) (λ i. RepliesAt lines.now (line_of line.now) peer i) }
 {
     match came_at(lines, line) {
@@ -73,8 +73,8 @@ fn stands_ahead(diff: i64, err: i64, ahead: i128, own: i128) -> bool
 /// Whether a Sample of a peer has a reading from which diff errs by at most err, where these lines stand before it.
 fn has_reading(
     header: &Header,
-    lines: &[Noted],
-    line: &Noted,
+    lines: &[HistoryLine],
+    line: &HistoryLine,
     peer: PeerId,
     diff: i64,
     err: i64,
@@ -96,7 +96,7 @@ fn has_reading(
 }
 
 /// Whether a Sample errs by at most its err, where these lines stand before it.
-fn errs_little(header: &Header, lines: &[Noted], line: &Noted) -> bool
+fn errs_little(header: &Header, lines: &[HistoryLine], line: &HistoryLine) -> bool
     requires { length lines.now < 2 ^ 32 }
     ensures { (setting : Setting) → HasClocks header.now setting → Timely (history_of lines.now)
         → MatchBool result (MeasuredAt setting (line_of line.now) (history_of lines.now)) (MeasuredAt setting (line_of line.now) (history_of lines.now) → ⊥) }
@@ -146,7 +146,13 @@ fn is_half(err: i64, now: i128, start: i128) -> bool
 }
 
 /// Whether a Sample under this counter ends an exchange with a peer whose trip takes twice err, where these lines stand before it.
-fn ends_exchange(lines: &[Noted], line: &Noted, peer: PeerId, counter: u64, err: i64) -> bool
+fn ends_exchange(
+    lines: &[HistoryLine],
+    line: &HistoryLine,
+    peer: PeerId,
+    counter: u64,
+    err: i64,
+) -> bool
     requires { length lines.now < 2 ^ 32 }
     ensures { MatchBool result (TripOf (line_of line.now) (view line.now.port (of line.now.node (history_of lines.now))) peer counter err) (TripOf (line_of line.now) (view line.now.port (of line.now.node (history_of lines.now))) peer counter err → ⊥) }
 {
@@ -160,7 +166,7 @@ fn ends_exchange(lines: &[Noted], line: &Noted, peer: PeerId, counter: u64, err:
 }
 
 /// Whether the err of a Sample is half its round trip, where these lines stand before it.
-fn trips_well(lines: &[Noted], line: &Noted) -> bool
+fn trips_well(lines: &[HistoryLine], line: &HistoryLine) -> bool
     requires { length lines.now < 2 ^ 32 }
     ensures { MatchBool result (TripAt (line_of line.now) (history_of lines.now)) (TripAt (line_of line.now) (history_of lines.now) → ⊥) }
 {
@@ -178,7 +184,7 @@ fn trips_well(lines: &[Noted], line: &Noted) -> bool
 }
 
 /// Whether a line keeps that each measurement errs by at most half its round trip, where these lines stand before it.
-fn measures(header: &Header, lines: &[Noted], line: &Noted) -> bool
+fn measures(header: &Header, lines: &[HistoryLine], line: &HistoryLine) -> bool
     requires { length lines.now < 2 ^ 32 }
     ensures { (setting : Setting) → HasClocks header.now setting → Timely (history_of lines.now)
         → MatchBool result (MeasuresAt setting (line_of line.now) (history_of lines.now)) (MeasuresAt setting (line_of line.now) (history_of lines.now) → ⊥) }
@@ -190,7 +196,7 @@ fn measures(header: &Header, lines: &[Noted], line: &Noted) -> bool
 }
 
 /// Whether each measurement errs by at most half its round trip in all lines, where it is so in those before `from`.
-fn keeps_measuring(header: &Header, lines: &[Noted], from: usize) -> bool
+fn keeps_measuring(header: &Header, lines: &[HistoryLine], from: usize) -> bool
     requires from { from ≤ length lines.now }
     requires few { length lines.now < 2 ^ 32 }
     ensures { (setting : Setting) → HasClocks header.now setting → Timely (history_of lines.now) → MeasuresWell setting (history_of (take from lines.now))
@@ -208,7 +214,7 @@ fn keeps_measuring(header: &Header, lines: &[Noted], from: usize) -> bool
 pub(crate) fn keeps_measuring_if(
     header: &Header,
     premises: Premises,
-    lines: &[Noted],
+    lines: &[HistoryLine],
     from: usize,
 ) -> bool
     requires from { from ≤ length lines.now }

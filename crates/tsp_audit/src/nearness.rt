@@ -1,12 +1,12 @@
 //! Whether clocks that one round corrected agree.
 ghost use Rattle.std.specs.Prelude.{◌≡◌, ◌≤◌, ◌<◌, ◌^◌, ◌+◌, ◌-◌, ◌*◌, ◌≤ℤ◌, ◌+ℤ◌, ◌-ℤ◌, pos, neg_ℤ, nat_abs, ℕ, length, get_or, Some, MatchBool};
 ghost use Rattle.tsp_audit.specs.Agreeing.{AllAgree, AllBounded, BossAgrees, IsAt, MasterNear, NodeAgrees, PairAgrees, PairNear, Stands, shown_by};
-ghost use Rattle.tsp_audit.specs.declared.live.NodeState.{NodeState as NodeValue};
+ghost use Rattle.tsp_audit.specs.declared.round_correction.NodeState.{NodeState as NodeValue};
 ghost use Rattle.tsp_base.specs.Ticks.{width};
 ghost use Rattle.tsp_history.specs.Clocks.{IsSumOf, IsTrip};
 
 use crate::clock::clock_of_moved;
-use crate::live::{LiveCast, NodeState};
+use crate::round_correction::{NodeState, RoundCorrection};
 use tsp_base::constants::SCHEDULE_END;
 use tsp_base::drift::width;
 use tsp_base::header::Header;
@@ -71,10 +71,10 @@ fn pair_near(
     at: u64,
     first: u32,
     a: &NodeState,
-    c: &LiveCast,
+    c: &RoundCorrection,
     second: u32,
     b: &NodeState,
-    d: &LiveCast,
+    d: &RoundCorrection,
 ) -> bool
     ensures { at ≤ 1000000000000000 → IsSumOf 4294967295 a.now.moved → IsSumOf 4294967295 b.now.moved
         → MatchBool result (PairNear header.now at first a.now c.now second b.now d.now) (PairNear header.now at first a.now c.now second b.now d.now → ⊥) }
@@ -130,7 +130,7 @@ fn pairs_agree(header: &Header, at: u64, node: u32, a: &NodeState, states: &[Nod
 }
 
 /// Whether the master of a cast was left alone since its Close, but for a Correct that is the next act.
-fn stands(c: &LiveCast, b: &NodeState) -> bool
+fn stands(c: &RoundCorrection, b: &NodeState) -> bool
     ensures { MatchBool result (Stands c.now b.now) (Stands c.now b.now → ⊥) }
 {
     if c.lives != b.lives {
@@ -151,7 +151,7 @@ fn master_near(
     at: u64,
     node: u32,
     a: &NodeState,
-    c: &LiveCast,
+    c: &RoundCorrection,
     b: &NodeState,
 ) -> bool
     ensures { at ≤ 1000000000000000 → IsSumOf 4294967295 a.now.moved → IsSumOf 4294967295 b.now.moved

@@ -3,7 +3,7 @@ ghost use Rattle.std.specs.Prelude.{◌≤◌, ℕ, [], List, IfOk, OnOk};
 ghost use Rattle.tsp_audit.specs.declared.premises.Premises.{Premises};
 ghost use Rattle.tsp_base.specs.History.{Line};
 
-use crate::accord::Accord;
+use crate::agreement_tracker::AgreementTracker;
 use std::alloc::{AllocError, Global};
 
 /// What is noted of the lines so far.
@@ -12,7 +12,7 @@ pub(crate) struct Notes {
     /// The sends, by the numbers of the datagrams that begin them, of which Corrects have taken posts.
     pub(crate) acted: Vec<u64>,
     /// What tells whether clocks agree; it is kept only where the schedule keeps all premises.
-    pub(crate) accord: Accord,
+    pub(crate) accord: AgreementTracker,
 }
 
 impl Notes {
@@ -23,7 +23,7 @@ impl Notes {
         requires { count ≤ 64 }
         ensures { IfOk result (λ notes. (premises : Premises) → NotesStand premises count [] notes) }
     {
-        match Accord::new(alloc, count) {
+        match AgreementTracker::new(alloc, count) {
             Ok(accord) => Ok(Notes {
                 acted: Vec::new(alloc),
                 accord,

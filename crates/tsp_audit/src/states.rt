@@ -9,10 +9,10 @@ ghost use Rattle.tsp_history.specs.Histories.{deed_of, line_of, history_of};
 
 use crate::casting::cast_at;
 use crate::counts::counts_at;
-use crate::live::NodeState;
+use crate::round_correction::NodeState;
 use tsp_base::act::Act;
 use tsp_history::clocks::moved_at;
-use tsp_history::noted::Noted;
+use tsp_history::line::HistoryLine;
 
 /// What is kept of a node before any line.
 pub(crate) fn blank() -> NodeState
@@ -28,14 +28,14 @@ pub(crate) fn blank() -> NodeState
 }
 
 /// Whether a line is a Boot.
-fn is_boot(line: &Noted) -> bool
+fn is_boot(line: &HistoryLine) -> bool
     ensures { MatchBool result (deed_of line.now.act ≡ Acts Boot) ((n : ℕ) → lives_after (deed_of line.now.act) n ≡ n) }
 {
     matches!(&line.act, Some(Act::Boot))
 }
 
 /// Whether a line is a Correct.
-fn is_correct(line: &Noted) -> bool
+fn is_correct(line: &HistoryLine) -> bool
     ensures { MatchBool result (IsCorrect (deed_of line.now.act)) ((n : ℕ) → all_corrects_after (deed_of line.now.act) n ≡ n) }
 {
     matches!(&line.act, Some(Act::Correct { .. }))
@@ -43,10 +43,10 @@ fn is_correct(line: &Noted) -> bool
 
 /// What is kept of a node after a Correct of it, before which this is the newest act.
 fn corrected(
-    upto: &[Noted],
-    before: &[Noted],
+    upto: &[HistoryLine],
+    before: &[HistoryLine],
     trips: &[i128],
-    line: &Noted,
+    line: &HistoryLine,
     last: Option<usize>,
     keep: NodeState,
 ) -> NodeState
@@ -65,7 +65,7 @@ fn corrected(
 }
 
 /// What is kept of a node after a Boot of it.
-fn booted(upto: &[Noted], line: &Noted, keep: NodeState) -> NodeState
+fn booted(upto: &[HistoryLine], line: &HistoryLine, keep: NodeState) -> NodeState
     requires { length upto.now < 2 ^ 32 }
     ensures { (before : List Line) → history_of upto.now ≡ line_of line.now ∷ before → deed_of line.now.act ≡ Acts Boot
         → NodeIs line.now.node before keep → NodeIs line.now.node (line_of line.now ∷ before) result }
@@ -81,10 +81,10 @@ fn booted(upto: &[Noted], line: &Noted, keep: NodeState) -> NodeState
 /// What is kept of a line's node after it, where these lines stand before it, with their round trips and the index of the
 /// newest act among them; `upto` are these lines and it.
 pub(crate) fn state_after(
-    upto: &[Noted],
-    before: &[Noted],
+    upto: &[HistoryLine],
+    before: &[HistoryLine],
     trips: &[i128],
-    line: &Noted,
+    line: &HistoryLine,
     last: Option<usize>,
     keep: NodeState,
 ) -> NodeState

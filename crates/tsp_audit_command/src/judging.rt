@@ -11,8 +11,8 @@ ghost use Rattle.tsp_claims.specs.Listed.{NamesNode};
 ghost use Rattle.tsp_claims.specs.Stands.{claim_of};
 ghost use Rattle.tsp_run.specs.Run.{event_at};
 
-use crate::claiming::Claiming;
-use crate::told::Told;
+use crate::claim_reader::ClaimReader;
+use crate::event_lines::EventLines;
 use std::alloc::AllocError;
 use tsp_audit::audit::Audit;
 use tsp_audit::verdict::Failure;
@@ -37,7 +37,7 @@ fn audit_one(audit: &mut Audit, e: &Event, lines: &[Line2]) -> Result<(), AllocE
 }
 
 /// Audits the first of these events, of which these lines are claimed, one after the other. The refusal is want of memory.
-fn audit_all(audit: &mut Audit, events: &[Event], told: &[Told]) -> Result<(), AllocError>
+fn audit_all(audit: &mut Audit, events: &[Event], told: &[EventLines]) -> Result<(), AllocError>
     requires fit { (premises : Premises) × (header : HeaderValue) × IsAuditable premises header events.now told.now audit.old }
     ensures { (premises : Premises) (header : HeaderValue) → IsAuditable premises header events.now told.now audit.old → OnOk result (AuditStands premises header (claims_on [] events.now told.now) audit.new) }
 {
@@ -47,7 +47,7 @@ fn audit_all(audit: &mut Audit, events: &[Event], told: &[Told]) -> Result<(), A
     Ok(())
 }
 
-impl Claiming {
+impl ClaimReader {
     /// What fails first of what is claimed of the events that were passed, under the premises that they keep. The
     /// refusal is want of memory.
     pub(crate) fn judge(self) -> Result<Option<Failure>, AllocError>

@@ -10,9 +10,9 @@ use tsp_base::event::{Event, EventFault};
 use tsp_base::header::Header;
 use tsp_base::members::Members;
 use tsp_claims::booted::{none_booted, wake};
-use tsp_schedule::course::Course;
 use tsp_networks::all_nodes;
 use tsp_networks::refusals::time_of;
+use tsp_schedule::handler::EventHandler;
 
 /// The header and the events of a schedule so far, at most 20,000, none of which is refused.
 #[derive(Drop)]
@@ -55,7 +55,7 @@ impl Listing {
     }
 }
 
-impl Course for Listing {
+impl EventHandler for Listing {
     ghost use Rattle.tsp_audit_command.specs.Listings.{refused};
     ghost use Rattle.tsp_audit_command.specs.Stands.{ListingStands};
 

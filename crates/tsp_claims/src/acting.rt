@@ -16,8 +16,8 @@ use tsp_base::drift::tick_at;
 use tsp_base::event::Event;
 use tsp_base::header::NodeLine;
 use tsp_base::members::Members;
+use tsp_history::line::Why;
 use tsp_networks::{address_of, networks_of, port_count};
-use tsp_history::noted::Why;
 use tsp_run::address::Address;
 
 /// A step in which a node acts.

@@ -11,9 +11,9 @@ use std::alloc::{AllocError, Global};
 use tsp_base::event::Event;
 use tsp_base::header::Header;
 use tsp_base::members::Members;
-use tsp_networks::all_nodes;
 use tsp_history::clocks::moved_at;
-use tsp_history::noted::Noted;
+use tsp_history::line::HistoryLine;
+use tsp_networks::all_nodes;
 use tsp_script::trace::Line2;
 
 /// The claimed lines of some events, event by event: all fit the schedule.
@@ -26,7 +26,7 @@ pub struct Claims {
     /// Whether each node has booted.
     pub(crate) up: Vec<bool>,
     /// The claimed lines and the marks of their steps, the oldest first.
-    pub(crate) lines: Vec<Noted>,
+    pub(crate) lines: Vec<HistoryLine>,
     /// The claimed posts, each under its number.
     pub(crate) posts: Vec<Claimed>,
     /// How many events were taken in.
@@ -125,7 +125,7 @@ impl Claims {
     }
 
     /// The claimed lines and the marks of their steps, the oldest first.
-    pub fn lines(&self) -> &[Noted]
+    pub fn lines(&self) -> &[HistoryLine]
         ensures lines { (header : HeaderValue) (claims : List Claim) → ClaimsStand header claims self.now → history_of result.now ≡ claimed header claims }
         ensures few { length result.now ≤ 40000 }
     {

@@ -18,14 +18,14 @@ use std::alloc::AllocError;
 use tsp_base::act::{Act, Placed};
 use tsp_base::event::Event;
 use tsp_base::place::Port;
-use tsp_history::noted::Noted;
+use tsp_history::line::HistoryLine;
 use tsp_script::trace::Line2;
 
 /// A line of a step: its mark, or an act on a port.
-fn noted(step: Acting, port: Port, act: Option<Act>) -> Noted
+fn noted(step: Acting, port: Port, act: Option<Act>) -> HistoryLine
     ensures { result ≡ record { at = step.at; node = step.node; why = step.why; tick = step.tick; port = port; act = act } }
 {
-    Noted {
+    HistoryLine {
         at: step.at,
         node: step.node,
         why: step.why,
@@ -36,7 +36,7 @@ fn noted(step: Acting, port: Port, act: Option<Act>) -> Noted
 }
 
 /// Notes acts of a step.
-fn note(lines: &mut Vec<Noted>, step: Acting, acts: &[Line2])
+fn note(lines: &mut Vec<HistoryLine>, step: Acting, acts: &[Line2])
     requires { vec_len lines.old + length acts.now ≤ vec_capacity lines.old }
     ensures history { history_of lines.new.items ≡ joined (step_by step) step.tick (acts_of acts.now) (history_of lines.old.items) }
     ensures len { vec_len lines.new ≡ vec_len lines.old + length acts.now }

@@ -1,5 +1,5 @@
 //! The laws.
-ghost use Rattle.tsp_cli.specs.Held.{RunsAreClaimed, RunsFitClaims, RunsHold};
+ghost use Rattle.tsp_cli.specs.AuditedRuns.{RunsAreClaimed, RunsFitClaims, RunsHold};
 
 /// The history that is claimed, where each event is claimed to do what the run tells of it, is the run.
 pub fn runs_are_claimed()

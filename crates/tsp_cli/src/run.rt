@@ -12,23 +12,23 @@ ghost use Rattle.tsp_cli.specs.Usage.{usage_line};
 
 use crate::status::Status;
 use std::alloc::Global;
-use tsp_query::command::ask;
+use tsp_args::command::{Command, command_of};
+use tsp_args::query::Query;
+use tsp_args::serve::ServeWords;
+use tsp_args::storm::StormWords;
 use tsp_audit_command::run::check;
 use tsp_convert::run::{pack, show};
+use tsp_daemon::command::serve_words;
+use tsp_icmp_command::average;
 use tsp_io::addr::Addr;
 use tsp_io::link::Link;
 use tsp_io::sink::Sink;
 use tsp_io::source::Source;
 use tsp_io::ticker::Ticker;
 use tsp_lines::output::{Unwritten, write_all};
-use tsp_icmp_command::average;
+use tsp_query::command::ask;
 use tsp_replay::run::replay;
-use tsp_daemon::command::serve_words;
 use tsp_storm::run::storm;
-use tsp_args::command::{Command, command_of};
-use tsp_args::query::Query;
-use tsp_args::serve::ServeWords;
-use tsp_args::storm::StormWords;
 
 /// Writes a text, and then answers with this status; with another one where not all of it was written.
 pub fn say<K: Sink>(sink: &mut K, text: &[u8], status: Status) -> Status

@@ -1,13 +1,13 @@
 //! A daemon of two turns, each of whose calls of link and sink fails in turn.
 use std::alloc::{AllocError, Global};
 use std::process::Abort;
+use tsp_args::command::{Command, command_of};
 use tsp_base::place::Place;
+use tsp_daemon::command::serve_words;
+use tsp_daemon::exit::DaemonExit;
 use tsp_io::memory::MemorySink;
 use tsp_io::memory_link::MemoryLink;
 use tsp_io::memory_ticker::MemoryTicker;
-use tsp_daemon::exit::Served;
-use tsp_daemon::command::serve_words;
-use tsp_args::command::{Command, command_of};
 
 /// A stranger's TRACEON with number 2 and the name `x`.
 const TRACE_ON: &[u8] = &[17, 1, 0, 2, 0, 0, 0, 0, 0, 0, 0, 0, b'x', 0];
@@ -29,7 +29,7 @@ const LINES: [&str; 5] = [
 /// How a daemon ended, what it showed, and how many sends it tried.
 #[derive(Drop)]
 struct Ran {
-    end: Served,
+    end: DaemonExit,
     shown: MemorySink,
     tried: usize,
 }
@@ -62,7 +62,7 @@ fn ends(
     alloc: Global,
     calls: &[u32],
     writes: &[u32],
-    end: Served,
+    end: DaemonExit,
     lines: usize,
     tried: usize,
 ) -> Result<bool, AllocError> {
@@ -82,12 +82,12 @@ fn ends(
 #[test]
 fn each_call_of_the_link_fails(rt: HostRuntime) {
     for (failing, end, lines, tried) in [
-        (0, Served::LinkFault, 0, 0),
-        (1, Served::LinkFault, 0, 0),
-        (2, Served::Done, 5, 2),
-        (3, Served::LinkFault, 3, 1),
-        (4, Served::Done, 5, 2),
-        (5, Served::Done, 5, 2),
+        (0, DaemonExit::LinkFault, 0, 0),
+        (1, DaemonExit::LinkFault, 0, 0),
+        (2, DaemonExit::Done, 5, 2),
+        (3, DaemonExit::LinkFault, 3, 1),
+        (4, DaemonExit::Done, 5, 2),
+        (5, DaemonExit::Done, 5, 2),
     ] {
         let right = ends(rt.alloc(), &[failing], &[], end, lines, tried);
         assert!(rt; right == Ok(true), "call {failing}");
@@ -98,12 +98,12 @@ fn each_call_of_the_link_fails(rt: HostRuntime) {
 #[test]
 fn each_write_fails(rt: HostRuntime) {
     for (failing, end, lines, tried) in [
-        (0, Served::WriteFault, 0, 1),
-        (1, Served::WriteFault, 1, 1),
-        (2, Served::WriteFault, 2, 1),
-        (3, Served::WriteFault, 3, 2),
-        (4, Served::WriteFault, 4, 2),
-        (5, Served::Done, 5, 2),
+        (0, DaemonExit::WriteFault, 0, 1),
+        (1, DaemonExit::WriteFault, 1, 1),
+        (2, DaemonExit::WriteFault, 2, 1),
+        (3, DaemonExit::WriteFault, 3, 2),
+        (4, DaemonExit::WriteFault, 4, 2),
+        (5, DaemonExit::Done, 5, 2),
     ] {
         let right = ends(rt.alloc(), &[], &[failing], end, lines, tried);
         assert!(rt; right == Ok(true), "write {failing}");

@@ -1,14 +1,14 @@
 //! Questions to a daemon, each of whose calls of link and sink fails in turn.
 use std::alloc::{AllocError, Global};
 use std::process::Abort;
-use tsp_query::command::ask;
-use tsp_query::exit::Asking;
+use tsp_args::query::Query;
 use tsp_base::place::{PeerId, Place};
 use tsp_io::addr::Addr;
 use tsp_io::memory::MemorySink;
 use tsp_io::memory_link::MemoryLink;
 use tsp_io::memory_ticker::MemoryTicker;
-use tsp_args::query::Query;
+use tsp_query::command::ask;
+use tsp_query::exit::QueryExit;
 
 /// An acknowledgment of number 9 in the name `a`.
 const ACK: &[u8] = &[2, 1, 0, 9, 0, 0, 0, 0, 0, 0, 0, 0, b'a', 0];
@@ -46,7 +46,7 @@ fn asked(
     question: &Question,
     calls: &[u32],
     writes: &[u32],
-) -> Result<(Asking, MemorySink, usize), AllocError> {
+) -> Result<(QueryExit, MemorySink, usize), AllocError> {
     let daemon = Addr {
         ip: [127, 0, 0, 1],
         port: 525,
@@ -65,11 +65,11 @@ fn ends(
     question: &Question,
     calls: &[u32],
     writes: &[u32],
-    end: Asking,
+    end: QueryExit,
     tried: usize,
 ) -> Result<bool, AllocError> {
     let (came, sink, sent) = asked(alloc, question, calls, writes)?;
-    let line = if end == Asking::Answered {
+    let line = if end == QueryExit::Answered {
         question.line
     } else {
         ""
@@ -82,10 +82,10 @@ fn ends(
 fn each_call_of_the_link_fails(rt: HostRuntime) {
     for question in &QUESTIONS {
         for (failing, end, tried) in [
-            (0, Asking::LinkFault, 0),
-            (1, Asking::LinkFault, 1),
-            (2, Asking::LinkFault, 1),
-            (3, Asking::Answered, 1),
+            (0, QueryExit::LinkFault, 0),
+            (1, QueryExit::LinkFault, 1),
+            (2, QueryExit::LinkFault, 1),
+            (3, QueryExit::Answered, 1),
         ] {
             let right = ends(rt.alloc(), question, &[failing], &[], end, tried);
             assert!(rt; right == Ok(true), "call {failing}: {}", question.line);
@@ -97,7 +97,7 @@ fn each_call_of_the_link_fails(rt: HostRuntime) {
 #[test]
 fn each_write_fails(rt: HostRuntime) {
     for question in &QUESTIONS {
-        for (failing, end) in [(0, Asking::WriteFault), (1, Asking::Answered)] {
+        for (failing, end) in [(0, QueryExit::WriteFault), (1, QueryExit::Answered)] {
             let right = ends(rt.alloc(), question, &[], &[failing], end, 1);
             assert!(rt; right == Ok(true), "write {failing}: {}", question.line);
         }

@@ -4,12 +4,12 @@
 #![tactic(auto)]
 
 #[cfg(test)]
-mod courses;
-#[cfg(test)]
 mod failing_daemons;
 #[cfg(test)]
 mod failing_questions;
 #[cfg(test)]
 mod failing_replays;
+#[cfg(test)]
+mod handlers;
 #[cfg(test)]
 mod records;

@@ -11,10 +11,10 @@ use Rattle.tsp_io.specs.Clocks.{TakesReading}
 use Rattle.tsp_io.specs.Links.{Arrival, Tried}
 use Rattle.tsp_query.specs.Clocks.{reading}
 use Rattle.tsp_query.specs.Ends.{Outside, Tells}
-use Rattle.tsp_query.specs.Told.{Told}
+use Rattle.tsp_query.specs.Outside.{Observed}
 use Rattle.tsp_rules.specs.Guards.{is_clock_value}
 use Rattle.tsp_args.specs.declared.serve.ServeWords.{ServeWords}
-use Rattle.tsp_daemon.specs.declared.exit.Served.{Served}
+use Rattle.tsp_daemon.specs.declared.exit.DaemonExit.{DaemonExit}
 use Rattle.tsp_daemon.specs.Nodes.{first_past}
 use Rattle.tsp_daemon.specs.Serving.{served_of, first_session, IsServed}
 
@@ -35,7 +35,7 @@ Tells_read o arrivals tried calls readings between now_readings last tick now_la
     )
 
 -- a node that has booted at these readings serves the first session
-pub IsServed_serves : (s : ServeWords) (o : Outside) (wall wall' : ℤ) (word word' tick : ℕ) (written : List ℕ) (node : Gateway) (arrivals : Option (List Arrival)) (tried : Option (List Tried)) (calls : Option ℕ) (readings : Option (List ℕ)) (last : ℕ) (before : Option (List ℕ)) (now : Told) (end : ServeEnd) (served : Served)
+pub IsServed_serves : (s : ServeWords) (o : Outside) (wall wall' : ℤ) (word word' tick : ℕ) (written : List ℕ) (node : Gateway) (arrivals : Option (List Arrival)) (tried : Option (List Tried)) (calls : Option ℕ) (readings : Option (List ℕ)) (last : ℕ) (before : Option (List ℕ)) (now : Observed) (end : ServeEnd) (served : DaemonExit)
     → tick ≡ (read_once o).last → wall' ≡ wall → word' ≡ word → is_clock_value wall' ≡ true → GatewayStands (first_past s tick wall' word') node → Tells (read_once o) arrivals tried calls readings last → before ≡ Some written → served ≡ served_of end
     → ((x : Session) → IsAt x node (record { turns = 0; posts = 0 }) arrivals tried calls readings last before → Serves s.turns x now.arrivals now.tried now.calls now.readings now.last now.written end)
     → IsServed s o wall word written now served

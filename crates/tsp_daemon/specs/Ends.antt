@@ -11,7 +11,7 @@ use Rattle.tsp_io.specs.declared.link.Recv.TheVariants.{Datagram}
 use Rattle.tsp_query.specs.Ends.{Tells}
 use Rattle.tsp_rules.specs.GateRows.{NodeGiven, NodeTurn, GotOn}
 use Rattle.tsp_rules.specs.NodeRows.{NodePast, PortSetup}
-use Rattle.tsp_daemon.specs.declared.course.Course.{Course}
+use Rattle.tsp_daemon.specs.declared.counters.Counters.{Counters}
 use Rattle.tsp_daemon.specs.declared.end.ServeEnd.{ServeEnd}
 use Rattle.tsp_daemon.specs.declared.end.ServeEnd.TheVariants.{Done, LinkFault, WriteFault, OutOfMemory}
 use Rattle.tsp_daemon.specs.Posts.{sends_of}
@@ -61,7 +61,7 @@ pub record Lives (node : Gateway) : Type 0 where
   pub stands : GatewayStands past node
 
 -- the node, the course and what is told of the outside are where a session has come to
-pub record IsAt (s : Session) (node : Gateway) (course : Course) (arrivals : Option (List Arrival)) (tried : Option (List Tried)) (calls : Option ℕ) (readings : Option (List ℕ)) (last : ℕ) (written : Option (List ℕ)) : Type 0 where
+pub record IsAt (s : Session) (node : Gateway) (course : Counters) (arrivals : Option (List Arrival)) (tried : Option (List Tried)) (calls : Option ℕ) (readings : Option (List ℕ)) (last : ℕ) (written : Option (List ℕ)) : Type 0 where
   pub stands : GatewayStands s.past node
   pub turns_is : course.turns ≡ s.turns
   pub posts_is : course.posts ≡ s.posts

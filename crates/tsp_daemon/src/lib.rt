@@ -7,7 +7,7 @@
 #![tactic(auto)]
 
 pub mod command;
-mod course;
+mod counters;
 pub mod end;
 pub mod exit;
 mod lines;

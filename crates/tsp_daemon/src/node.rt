@@ -9,13 +9,13 @@ ghost use Rattle.tsp_args.specs.Serves.{IsServe};
 ghost use Rattle.tsp_daemon.specs.Nodes.{port_peers, setup_of, may_be, is_strict, config_of, first_past};
 
 use std::alloc::{AllocError, Global};
+use tsp_args::serve::{Candidacy, ServeWords};
 use tsp_base::desk::Desk;
 use tsp_base::pad::Pad;
 use tsp_base::place::PeerId;
 use tsp_gateway::{GateConfig, Gateway};
 use tsp_io::addr::Addr;
 use tsp_node::BootFault;
-use tsp_args::serve::{Candidacy, ServeWords};
 
 /// Why the node doesn't boot.
 #[derive(Clone, Copy, PartialEq, Eq, Debug)]

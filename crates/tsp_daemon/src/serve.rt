@@ -6,7 +6,7 @@ ghost use Rattle.tsp_gateway.specs.Rooms.{ports_in, room_of_ports};
 ghost use Rattle.tsp_daemon.specs.Ends.{IsAt, Lives, Serves};
 ghost use Rattle.tsp_daemon.specs.Sessions.{Session};
 
-use crate::course::Course;
+use crate::counters::Counters;
 use crate::end::ServeEnd;
 use crate::turn::turn;
 use std::alloc::Global;
@@ -47,7 +47,7 @@ pub fn serve<K: Sink, L: Link, T: Ticker>(
     ensures still { (result ≢ ServeEnd.LinkFault → L.faults link.new ≡ L.faults link.old) × (result ≢ ServeEnd.WriteFault → K.faults sink.new ≡ K.faults sink.old) }
 {
     let mut pad = Pad::new(alloc);
-    let mut course = Course { turns: 0, posts: 0 };
+    let mut course = Counters { turns: 0, posts: 0 };
     for _ in 0..turns {
         if let Err(end) = turn(&mut gateway, &mut pad, &mut course, sink, link, ticker) {
             return end;

@@ -8,7 +8,7 @@ ghost use Rattle.tsp_daemon.specs.Ends.{IsAt, Lives, EndsTurn, FinishesUntil, Tr
 ghost use Rattle.tsp_daemon.specs.Posts.{AreKnown, sends_of, shown_lines};
 ghost use Rattle.tsp_daemon.specs.Sessions.{Session, turned};
 
-use crate::course::Course;
+use crate::counters::Counters;
 use crate::end::ServeEnd;
 use crate::lines::{is_shown, tell};
 use crate::sends::{posts_in, send_all};
@@ -24,7 +24,7 @@ use tsp_io::ticker::Ticker;
 /// Tries the sends of the acts of a turn, and then writes their lines where they are to be shown.
 fn finish<K: Sink, L: Link>(
     shown: bool,
-    course: &Course,
+    course: &Counters,
     tick: u64,
     acts: &[Placed],
     sink: &mut K,
@@ -54,7 +54,7 @@ fn finish<K: Sink, L: Link>(
 pub(crate) fn turn<K: Sink, L: Link, T: Ticker>(
     node: &mut Gateway,
     pad: &mut Pad,
-    course: &mut Course,
+    course: &mut Counters,
     sink: &mut K,
     link: &mut L,
     ticker: &mut T,

@@ -4,9 +4,9 @@ ghost use Rattle.tsp_base.specs.History.{Line, of, view};
 ghost use Rattle.tsp_base.specs.SendFacts.{begun_to, is_numbered, open_to};
 ghost use Rattle.tsp_history.specs.Histories.{line_of, history_of};
 ghost use Rattle.tsp_history.specs.Sends.{Sees};
-ghost use Rattle.tsp_history.specs.Told.{Told};
+ghost use Rattle.tsp_history.specs.PostedPlaces.{IsPlaceOf};
 
-use crate::noted::Noted;
+use crate::line::HistoryLine;
 use tsp_base::act::Act;
 use tsp_base::datagram::Datagram;
 use tsp_base::kind::Kind;
@@ -41,7 +41,7 @@ fn is_numbered(kind: Kind) -> bool
 }
 
 /// What is seen after a line.
-fn sight_after(line: &Noted, node: u32, port: Port, p: PeerId, keep: Sight) -> Sight
+fn sight_after(line: &HistoryLine, node: u32, port: Port, p: PeerId, keep: Sight) -> Sight
     requires { keep.posted + 1 < 2 ^ 64 }
     ensures sees { (before : List Line) → Sees node port p before keep → Sees node port p (line_of line.now ∷ before) result }
     ensures posted { result.posted ≤ keep.posted + 1 }
@@ -93,7 +93,7 @@ fn sight_after(line: &Noted, node: u32, port: Port, p: PeerId, keep: Sight) -> S
 }
 
 /// What is seen of the sends of a node's port to a peer.
-fn sight_at(lines: &[Noted], node: u32, port: Port, p: PeerId) -> Sight
+fn sight_at(lines: &[HistoryLine], node: u32, port: Port, p: PeerId) -> Sight
     requires { length lines.now < 2 ^ 32 }
     ensures { Sees node port p (history_of lines.now) result }
 {
@@ -110,17 +110,17 @@ fn sight_at(lines: &[Noted], node: u32, port: Port, p: PeerId) -> Sight
 }
 
 /// The number of the datagram with which the last send of a node's port to a peer began since the boot.
-pub fn begun_to(lines: &[Noted], node: u32, port: Port, p: PeerId) -> Option<u64>
+pub fn begun_to(lines: &[HistoryLine], node: u32, port: Port, p: PeerId) -> Option<u64>
     requires { length lines.now < 2 ^ 32 }
-    ensures { Told node port (history_of lines.now) (begun_to p (view port (of node (history_of lines.now)))) result }
+    ensures { IsPlaceOf node port (history_of lines.now) (begun_to p (view port (of node (history_of lines.now)))) result }
 {
     sight_at(lines, node, port, p).begun
 }
 
 /// The number of the datagram with which the open send of a node's port to a peer began, if one is open.
-pub fn open_to(lines: &[Noted], node: u32, port: Port, p: PeerId) -> Option<u64>
+pub fn open_to(lines: &[HistoryLine], node: u32, port: Port, p: PeerId) -> Option<u64>
     requires { length lines.now < 2 ^ 32 }
-    ensures { Told node port (history_of lines.now) (open_to p (view port (of node (history_of lines.now)))) result }
+    ensures { IsPlaceOf node port (history_of lines.now) (open_to p (view port (of node (history_of lines.now)))) result }
 {
     sight_at(lines, node, port, p).open
 }

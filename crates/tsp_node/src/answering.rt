@@ -8,8 +8,8 @@ ghost use Rattle.tsp_base.specs.PortFacts.{Received};
 ghost use Rattle.tsp_rules.specs.Answers.{handles_kind};
 ghost use Rattle.tsp_rules.specs.CommonRows.{tests};
 ghost use Rattle.tsp_clock.specs.Clocks.{ClockValue};
-ghost use Rattle.tsp_node.specs.declared.matter.Matter.TheVariants.{OfClients};
-ghost use Rattle.tsp_node.specs.Matters.{matter_of};
+ghost use Rattle.tsp_node.specs.declared.audience.Audience.TheVariants.{OfClients};
+ghost use Rattle.tsp_node.specs.Audiences.{audience_of};
 ghost use Rattle.tsp_node.specs.NodeStands.{PartStands, PartTook, TakeStands, TookStands};
 
 use crate::part::Part;
@@ -34,7 +34,7 @@ impl Part {
     )
         requires room { length self.old.station.peers + 4 ≤ D.spare desk.old }
         requires tick { IsTick tick }
-        requires matter { matter_of m.now.kind ≡ OfClients }
+        requires audience { audience_of m.now.kind ≡ OfClients }
         ensures row { (charge : Bool) (clock : ClockValue) → Performs (TookStands (record { from = from; taken = Good (MessageOf m.now) })) TakeStands (handles_kind charge from m.now m.now.kind) tick port ((self.old, clock), tracing.old) ((self.new, clock), tracing.new) (D.acts desk.old) (D.acts desk.new) }
         ensures peers { self.new.station.peers ≡ self.old.station.peers }
         ensures room { PutsAtMost (length self.old.station.peers + 4) (D.spare desk.old) (D.spare desk.new) (D.acts desk.old) (D.acts desk.new) }

@@ -6,10 +6,10 @@
 
 mod alarms;
 mod answering;
+mod audience;
 mod config;
 mod fault;
 mod hearing;
-mod matter;
 mod node;
 mod part;
 mod readings;

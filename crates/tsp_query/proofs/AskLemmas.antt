@@ -3,11 +3,11 @@ use Rattle.std.proofs.Common.{◌≡◌, ℕ, ◌<◌, ◌≤◌, ◌+◌, ◌-�
 use Rattle.tsp_base.specs.declared.datagram.Datagram.{Datagram}
 use Rattle.tsp_io.specs.Counts.{one_more}
 use Rattle.tsp_io.specs.Links.{Arrival, Tried}
-use Rattle.tsp_query.specs.Asked.{answer_in, next_arrival, rest_of, or_later, asked_from}
+use Rattle.tsp_query.specs.Arrivals.{answer_in, next_arrival, rest_of, or_later, asked_from}
 use Rattle.tsp_query.specs.Clocks.{reading}
 use Rattle.tsp_query.specs.Ends.{Outside, heard, counted, receives, Listens, sent, Asks}
-use Rattle.tsp_query.specs.declared.ask.Asked.{Asked}
-use Rattle.tsp_query.specs.declared.ask.Asked.TheVariants.{Answer, NoAnswer, LinkFault, OutOfMemory}
+use Rattle.tsp_query.specs.declared.ask.AskEnd.{AskEnd}
+use Rattle.tsp_query.specs.declared.ask.AskEnd.TheVariants.{Answer, NoAnswer, LinkFault, OutOfMemory}
 use Rattle.tsp_query.specs.declared.question.Question.{Question}
 
 -- what is held after so many waits
@@ -78,7 +78,7 @@ pub receives-least : (q : Question) (i : ℕ) (a : List Arrival) → i < 8 → i
 receives-least q i a h = receives_cases (asked_from q i (8 - i) a) i h (λ r e. asked-later q (8 - i) i a r e)
 
 -- what eight receives come to is what asking does, once the request was sent
-pub asks-listens : (request : Datagram) (q : Question) (o : Outside) (tried : Option (List Tried)) (calls : Option ℕ) (end : Asked) → Listens q (sent request o) tried calls end → Asks request q o tried calls end
+pub asks-listens : (request : Datagram) (q : Question) (o : Outside) (tried : Option (List Tried)) (calls : Option ℕ) (end : AskEnd) → Listens q (sent request o) tried calls end → Asks request q o tried calls end
 asks-listens request q o tried calls (Answer d tick) h = h
 asks-listens request q o tried calls NoAnswer h = h
 asks-listens request q o tried calls LinkFault h = h

@@ -10,12 +10,12 @@ use Rattle.tsp_base.specs.declared.kind.Kind.TheVariants.{Msite, SetDate, Test}
 use Rattle.tsp_base.specs.declared.message.Body.{Body}
 use Rattle.tsp_base.specs.declared.message.Body.TheVariants.{Nothing, Time}
 use Rattle.tsp_io.specs.Links.{Arrival, Tried}
-use Rattle.tsp_query.specs.Asked.{rest_of}
+use Rattle.tsp_query.specs.Arrivals.{rest_of}
 use Rattle.tsp_query.specs.Clocks.{reading}
 use Rattle.tsp_query.specs.Ends.{Outside, Tells, Asks}
 use Rattle.tsp_query.specs.Queries.{read_twice, trace_kind, message_with, question_of, stamp, diff_in, end_of, QueryEnds, master_in, heard_in, date_in}
-use Rattle.tsp_query.specs.declared.ask.Asked.{Asked}
-use Rattle.tsp_query.specs.declared.ask.Asked.TheVariants.{Answer, NoAnswer, LinkFault, OutOfMemory}
+use Rattle.tsp_query.specs.declared.ask.AskEnd.{AskEnd}
+use Rattle.tsp_query.specs.declared.ask.AskEnd.TheVariants.{Answer, NoAnswer, LinkFault, OutOfMemory}
 use Rattle.tsp_query.specs.declared.question.Question.{Question}
 use Rattle.tsp_query.specs.declared.question.Question.TheVariants.{OfWord}
 use Rattle.tsp_query.specs.declared.query.QueryEnd.{QueryEnd}
@@ -39,7 +39,7 @@ unfolding body_fits carries_time
 fits-date time = refl
 
 -- asking by a message of equal parts is asking by the query's message
-pub asks-message : (kind : Kind) (body : Body) (dates : Bool) (w word : ℕ) (name : List ℕ) (m : MessageValue) (q : Question) (o : Outside) (tried : Option (List Tried)) (calls : Option ℕ) (end : Asked)
+pub asks-message : (kind : Kind) (body : Body) (dates : Bool) (w word : ℕ) (name : List ℕ) (m : MessageValue) (q : Question) (o : Outside) (tried : Option (List Tried)) (calls : Option ℕ) (end : AskEnd)
     → m ≡ record { kind = kind; number = w % 65536; body = body; name = name } → name ≡ codes "timedc" → q ≡ question_of dates (w % 65536) → w ≡ word
     → Asks (Message m) q o tried calls end → Asks (message_with kind body word) (question_of dates (word % 65536)) o tried calls end
 asks-message kind body dates w word name m q o tried calls end e f t s h =
@@ -50,21 +50,21 @@ asks-message kind body dates w word name m q o tried calls end e f t s h =
     subst R s (subst Q f (subst P e (subst O t h)))
 
 -- asking in the words of the queries that a message asks
-pub ends-master : (request : Datagram) (q : Question) (o : Outside) (tried : Option (List Tried)) (calls : Option ℕ) (asked : Asked)
+pub ends-master : (request : Datagram) (q : Question) (o : Outside) (tried : Option (List Tried)) (calls : Option ℕ) (asked : AskEnd)
     → Asks request q (read_twice o) tried calls asked → QueryEnds request q master_in o tried calls (end_of master_in asked)
 ends-master request q o tried calls (Answer d tick) h = (d, tick, h, refl)
 ends-master request q o tried calls NoAnswer h = h
 ends-master request q o tried calls LinkFault h = h
 ends-master request q o tried calls OutOfMemory h = h
 
-pub ends-heard : (request : Datagram) (q : Question) (o : Outside) (tried : Option (List Tried)) (calls : Option ℕ) (asked : Asked)
+pub ends-heard : (request : Datagram) (q : Question) (o : Outside) (tried : Option (List Tried)) (calls : Option ℕ) (asked : AskEnd)
     → Asks request q (read_twice o) tried calls asked → QueryEnds request q heard_in o tried calls (end_of heard_in asked)
 ends-heard request q o tried calls (Answer d tick) h = (d, tick, h, refl)
 ends-heard request q o tried calls NoAnswer h = h
 ends-heard request q o tried calls LinkFault h = h
 ends-heard request q o tried calls OutOfMemory h = h
 
-pub ends-date : (request : Datagram) (q : Question) (o : Outside) (tried : Option (List Tried)) (calls : Option ℕ) (asked : Asked)
+pub ends-date : (request : Datagram) (q : Question) (o : Outside) (tried : Option (List Tried)) (calls : Option ℕ) (asked : AskEnd)
     → Asks request q (read_twice o) tried calls asked → QueryEnds request q date_in o tried calls (end_of date_in asked)
 ends-date request q o tried calls (Answer d tick) h = (d, tick, h, refl)
 ends-date request q o tried calls NoAnswer h = h
@@ -83,7 +83,7 @@ tells-twice o arrivals tried calls readings now last sent later t s r l = record
 }
 
 -- asking by a stamp of the same word
-pub asks-stamp : (w word : ℕ) (o : Outside) (tried : Option (List Tried)) (calls : Option ℕ) (end : Asked) → w ≡ word → Asks (stamp w) (OfWord w) o tried calls end → Asks (stamp word) (OfWord word) o tried calls end
+pub asks-stamp : (w word : ℕ) (o : Outside) (tried : Option (List Tried)) (calls : Option ℕ) (end : AskEnd) → w ≡ word → Asks (stamp w) (OfWord w) o tried calls end → Asks (stamp word) (OfWord word) o tried calls end
 asks-stamp w word o tried calls end e h = let P : ℕ → Type 0 = λ (v : ℕ). Asks (stamp v) (OfWord v) o tried calls end in subst P e h
 
 -- a sample of equal parts

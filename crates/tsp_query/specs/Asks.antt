@@ -5,18 +5,18 @@ use Rattle.tsp_io.specs.Links.{Tried}
 use Rattle.tsp_query.specs.Clocks.{reading}
 use Rattle.tsp_query.specs.Ends.{Outside, Tells}
 use Rattle.tsp_query.specs.Queries.{message, stamp, trace_kind, date_message, QueryEnds, master_in, heard_in, date_in, diff_in}
-use Rattle.tsp_query.specs.Told.{Told, bound, Says}
+use Rattle.tsp_query.specs.Outside.{Observed, bound, Says}
 use Rattle.tsp_query.specs.declared.query.QueryEnd.{QueryEnd}
 use Rattle.tsp_query.specs.declared.query.QueryEnd.TheVariants.{Master, Diff, Heard, Date as Dated, NoAnswer as Unanswered, LinkFault as Faulty, OutOfMemory as Refused}
 use Rattle.tsp_query.specs.declared.question.Question.TheVariants.{OfNumber, OfDate, OfWord}
 use Rattle.tsp_args.specs.declared.query.Query.{Query}
 use Rattle.tsp_args.specs.declared.query.Query.TheVariants.{Msite, ClockDiff, Trace, Election, Date}
-use Rattle.tsp_query.specs.declared.exit.Asking.{Asking}
-use Rattle.tsp_query.specs.declared.exit.Asking.TheVariants.{Answered, NoAnswer, LinkFault, WriteFault, OutOfMemory}
+use Rattle.tsp_query.specs.declared.exit.QueryExit.{QueryExit}
+use Rattle.tsp_query.specs.declared.exit.QueryExit.TheVariants.{Answered, NoAnswer, LinkFault, WriteFault, OutOfMemory}
 use Rattle.tsp_query.specs.Lines.{end_line}
 
 -- how a question ends whose line is written whole
-abbrev pub asking_of : QueryEnd → Asking
+abbrev pub asking_of : QueryEnd → QueryExit
 asking_of (Master name) = Answered
 asking_of (Diff diff err) = Answered
 asking_of Heard = Answered
@@ -34,17 +34,17 @@ QueryComes Election wall word o tried calls end = QueryEnds (message Test word) 
 QueryComes (Date time) wall word o tried calls end = QueryEnds (date_message time word) (OfDate (word % 65536)) date_in o tried calls end
 
 -- the bind was in vain: nothing was read of the ticker, nothing sent and nothing written
-pub record IsUnbound (o : Outside) (written : List ℕ) (now : Told) (asking : Asking) : Type 0 where
+pub record IsUnbound (o : Outside) (written : List ℕ) (now : Observed) (asking : QueryExit) : Type 0 where
   pub cause : (asking ≡ LinkFault) ⊎ (asking ≡ OutOfMemory)
   pub tells : Tells (bound o) now.arrivals now.tried now.calls now.readings now.last
   pub written_is : now.written ≡ Some written
 
 -- the question was asked once the link was bound, and the line of what came of it written, or a part of it
-pub record IsAsked (query : Query) (o : Outside) (wall : ℤ) (word : ℕ) (written : List ℕ) (now : Told) (asking : Asking) : Type 0 where
+pub record IsAsked (query : Query) (o : Outside) (wall : ℤ) (word : ℕ) (written : List ℕ) (now : Observed) (asking : QueryExit) : Type 0 where
   pub end : QueryEnd
   pub comes : QueryComes query wall word (bound o) now.tried now.calls end
   pub says : Says (end_line query end) (asking_of end) WriteFault OutOfMemory (Some written) now.written asking
 
 -- what a question comes to as a command, where the outside held this at its beginning
-abbrev pub AsksAs : Query → Outside → ℤ → ℕ → List ℕ → Told → Asking → Type 0
+abbrev pub AsksAs : Query → Outside → ℤ → ℕ → List ℕ → Observed → QueryExit → Type 0
 AsksAs query o wall word written now asking = IsUnbound o written now asking ⊎ IsAsked query o wall word written now asking

@@ -5,12 +5,12 @@ use Rattle.tsp_base.specs.declared.place.Place.TheVariants.{Peer}
 use Rattle.tsp_codec.specs.Canon.{canon}
 use Rattle.tsp_io.specs.Counts.{one_more}
 use Rattle.tsp_io.specs.Links.{Arrival, Tried}
-use Rattle.tsp_query.specs.Asked.{answers, answer_in, next_arrival, rest_of, asked}
+use Rattle.tsp_query.specs.Arrivals.{answers, answer_in, next_arrival, rest_of, asked}
 use Rattle.tsp_query.specs.Clocks.{reading}
-use Rattle.tsp_query.specs.declared.ask.Asked.{Asked}
-use Rattle.tsp_query.specs.declared.ask.Asked.TheVariants.{Answer, NoAnswer, LinkFault, OutOfMemory}
+use Rattle.tsp_query.specs.declared.ask.AskEnd.{AskEnd}
+use Rattle.tsp_query.specs.declared.ask.AskEnd.TheVariants.{Answer, NoAnswer, LinkFault, OutOfMemory}
 use Rattle.tsp_query.specs.declared.ask.Heard.{Heard}
-use Rattle.tsp_query.specs.declared.ask.Heard.TheVariants.{Answer as Told, Other, Failed}
+use Rattle.tsp_query.specs.declared.ask.Heard.TheVariants.{Answer as Observed, Other, Failed}
 use Rattle.tsp_query.specs.declared.question.Question.{Question}
 
 -- what a link and a ticker hold, where they tell it
@@ -45,17 +45,17 @@ receives (Some r) = r.0 + 1
 
 -- what one receive comes to
 abbrev pub Hears : Question → Outside → Option (List Arrival) → Option (List Tried) → Option ℕ → Option (List ℕ) → ℕ → Heard → Type 0
-Hears q o arrivals tried calls readings last (Told d tick) = Tells (heard o) arrivals tried calls readings last × (answer_in q (next_arrival o.arrivals) ≡ Some d) × (tick ≡ last)
+Hears q o arrivals tried calls readings last (Observed d tick) = Tells (heard o) arrivals tried calls readings last × (answer_in q (next_arrival o.arrivals) ≡ Some d) × (tick ≡ last)
 Hears q o arrivals tried calls readings last Other = Tells (heard o) arrivals tried calls readings last × (answer_in q (next_arrival o.arrivals) ≡ None)
 Hears q o arrivals tried calls readings last Failed = (tried ≡ Some o.tried) × (calls ≡ Some (one_more o.calls))
 
 -- a heard answer is one, and its tick isn't below the last one nor above 2 ^ 61
 abbrev pub HearsWell : Question → ℕ → Heard → Type 0
-HearsWell q last (Told d tick) = (answers q d ≡ true) × (last ≤ tick) × (tick ≤ 2 ^ 61)
+HearsWell q last (Observed d tick) = (answers q d ≡ true) × (last ≤ tick) × (tick ≤ 2 ^ 61)
 HearsWell q last _ = Unit {0}
 
 -- what eight receives come to: the first answer among them, unless one fails before
-abbrev pub Listens : Question → Outside → Option (List Tried) → Option ℕ → Asked → Type 0
+abbrev pub Listens : Question → Outside → Option (List Tried) → Option ℕ → AskEnd → Type 0
 Listens q o tried calls (Answer d tick) = (i : ℕ) × (asked q o.arrivals ≡ Some (i, d)) × (tick ≡ reading o.last o.readings i) × (calls ≡ Some (counted (i + 1) o.calls)) × (tried ≡ Some o.tried)
 Listens q o tried calls NoAnswer = (asked q o.arrivals ≡ None) × (calls ≡ Some (counted 8 o.calls)) × (tried ≡ Some o.tried)
 Listens q o tried calls LinkFault = (n : ℕ) × (n ≤ receives (asked q o.arrivals)) × (calls ≡ Some (counted n o.calls)) × (tried ≡ Some o.tried)
@@ -66,11 +66,11 @@ abbrev pub sent : Datagram → Outside → Outside
 sent request o = record o { tried = o.tried ++ (Peer (record { 0 = 0 }), canon request) ∷ [] }
 
 -- what asking comes to: the one datagram was tried, unless there was no memory for it
-abbrev pub Asks : Datagram → Question → Outside → Option (List Tried) → Option ℕ → Asked → Type 0
+abbrev pub Asks : Datagram → Question → Outside → Option (List Tried) → Option ℕ → AskEnd → Type 0
 Asks request q o tried calls OutOfMemory = (tried ≡ Some o.tried) × (calls ≡ Some o.calls)
 Asks request q o tried calls end = Listens q (sent request o) tried calls end
 
 -- an answer is one, and its tick isn't below the last one nor above 2 ^ 61
-abbrev pub AsksWell : Question → ℕ → Asked → Type 0
+abbrev pub AsksWell : Question → ℕ → AskEnd → Type 0
 AsksWell q last (Answer d tick) = (answers q d ≡ true) × (last ≤ tick) × (tick ≤ 2 ^ 61)
 AsksWell q last _ = Unit {0}

@@ -9,11 +9,11 @@ use Rattle.tsp_base.specs.declared.message.Body.{Body}
 use Rattle.tsp_base.specs.declared.message.Body.TheVariants.{Nothing, Time}
 use Rattle.tsp_base.specs.declared.stamp.Stamp.TheVariants.{Request, Reply}
 use Rattle.tsp_io.specs.Links.{Tried}
-use Rattle.tsp_query.specs.Asked.{rest_of}
+use Rattle.tsp_query.specs.Arrivals.{rest_of}
 use Rattle.tsp_query.specs.Clocks.{reading, own_clock}
 use Rattle.tsp_query.specs.Ends.{Outside, Asks}
-use Rattle.tsp_query.specs.declared.ask.Asked.{Asked}
-use Rattle.tsp_query.specs.declared.ask.Asked.TheVariants.{Answer, NoAnswer as Unanswered, LinkFault as Faulty, OutOfMemory as Refused}
+use Rattle.tsp_query.specs.declared.ask.AskEnd.{AskEnd}
+use Rattle.tsp_query.specs.declared.ask.AskEnd.TheVariants.{Answer, NoAnswer as Unanswered, LinkFault as Faulty, OutOfMemory as Refused}
 use Rattle.tsp_query.specs.declared.question.Question.{Question}
 use Rattle.tsp_query.specs.declared.question.Question.TheVariants.{OfNumber, OfDate}
 use Rattle.tsp_query.specs.declared.query.QueryEnd.{QueryEnd}
@@ -50,7 +50,7 @@ abbrev pub stamp : ℕ → Datagram
 stamp word = StampOf (Request word 0)
 
 -- what asking comes to in a query's words, which reads its answer so
-abbrev pub end_of : (Datagram → ℕ → QueryEnd) → Asked → QueryEnd
+abbrev pub end_of : (Datagram → ℕ → QueryEnd) → AskEnd → QueryEnd
 end_of answer (Answer d tick) = answer d tick
 end_of answer Unanswered = NoAnswer
 end_of answer Faulty = LinkFault

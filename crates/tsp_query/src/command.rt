@@ -1,20 +1,20 @@
-//! Asking as a command.
+//! A question as a command.
 ghost use Rattle.std.specs.Prelude.{◌≡◌, ◌≢◌, ◌⊎◌, ◌≤◌, ℕ, ℤ, List, Some};
 ghost use Rattle.tsp_io.specs.Counts.{Rose};
 ghost use Rattle.tsp_query.specs.Ends.{Outside, Tells};
-ghost use Rattle.tsp_query.specs.Told.{Knows, Says};
+ghost use Rattle.tsp_query.specs.Outside.{Knows, Says};
 ghost use Rattle.tsp_query.specs.Asks.{asking_of, QueryComes, AsksAs};
 ghost use Rattle.tsp_query.specs.Lines.{end_line};
 
-use crate::end::Asking;
+use crate::end::QueryExit;
 use crate::line::line_of;
+use crate::query::{QueryEnd, clockdiff, election, msite, setdate, trace};
+use tsp_args::query::Query;
 use tsp_io::addr::Addr;
 use tsp_io::link::{Bound, Link};
 use tsp_io::sink::Sink;
 use tsp_io::ticker::Ticker;
 use tsp_lines::output::{Unwritten, write_all};
-use crate::query::{QueryEnd, clockdiff, election, msite, setdate, trace};
-use tsp_args::query::Query;
 
 /// Any address of this machine, and a port that the system chooses.
 const ANYWHERE: Addr = Addr {
@@ -40,19 +40,19 @@ fn ask_bound<L: Link, T: Ticker>(query: &Query, link: &mut L, ticker: &mut T) ->
 }
 
 /// Writes the line of what came of a question.
-fn tell<K: Sink>(query: &Query, end: &QueryEnd, sink: &mut K) -> Asking
-    ensures says { Says (end_line query.now end.now) (asking_of end.now) Asking.WriteFault Asking.OutOfMemory (K.written sink.old) (K.written sink.new) result }
+fn tell<K: Sink>(query: &Query, end: &QueryEnd, sink: &mut K) -> QueryExit
+    ensures says { Says (end_line query.now end.now) (asking_of end.now) QueryExit.WriteFault QueryExit.OutOfMemory (K.written sink.old) (K.written sink.new) result }
     ensures later { K.faults sink.old ≤ K.faults sink.new }
-    ensures write { result ≡ Asking.WriteFault → Rose (K.faults sink.old) (K.faults sink.new) }
-    ensures still { result ≢ Asking.WriteFault → K.faults sink.new ≡ K.faults sink.old }
-    ensures link { result ≡ Asking.LinkFault → end.now ≡ QueryEnd.LinkFault }
-    ensures linked { end.now ≡ QueryEnd.LinkFault → result ≡ Asking.LinkFault }
+    ensures write { result ≡ QueryExit.WriteFault → Rose (K.faults sink.old) (K.faults sink.new) }
+    ensures still { result ≢ QueryExit.WriteFault → K.faults sink.new ≡ K.faults sink.old }
+    ensures link { result ≡ QueryExit.LinkFault → end.now ≡ QueryEnd.LinkFault }
+    ensures linked { end.now ≡ QueryEnd.LinkFault → result ≡ QueryExit.LinkFault }
 {
     match write_all(sink, line_of(query, end).as_slice()) {
-        Ok(()) => Asking::of(end),
+        Ok(()) => QueryExit::of(end),
         Err(cut) => match cut.fault {
-            Unwritten::WriteFault => Asking::WriteFault,
-            Unwritten::OutOfMemory => Asking::OutOfMemory,
+            Unwritten::WriteFault => QueryExit::WriteFault,
+            Unwritten::OutOfMemory => QueryExit::OutOfMemory,
         },
     }
 }
@@ -70,22 +70,22 @@ pub fn ask<K: Sink, L: Link, T: Ticker>(
     sink: &mut K,
     link: &mut L,
     ticker: &mut T,
-) -> Asking
+) -> QueryExit
     ensures asks { (o : Outside) (wall : ℤ) (word : ℕ) (written : List ℕ)
         → Knows o wall word written (record { arrivals = L.arrivals link.old; tried = L.tried link.old; calls = L.calls link.old; readings = T.readings ticker.old; last = T.last ticker.old; wall = T.wall_is ticker.old; word = T.word_is ticker.old; written = K.written sink.old })
         → AsksAs query.now o wall word written (record { arrivals = L.arrivals link.new; tried = L.tried link.new; calls = L.calls link.new; readings = T.readings ticker.new; last = T.last ticker.new; wall = T.wall_is ticker.new; word = T.word_is ticker.new; written = K.written sink.new }) result }
     ensures later { (L.faults link.old ≤ L.faults link.new) × (L.send_faults link.old ≤ L.send_faults link.new) × (K.faults sink.old ≤ K.faults sink.new) × (T.last ticker.old ≤ T.last ticker.new) }
-    ensures link { result ≡ Asking.LinkFault → Rose (L.faults link.old) (L.faults link.new) ⊎ Rose (L.send_faults link.old) (L.send_faults link.new) }
-    ensures write { result ≡ Asking.WriteFault → Rose (K.faults sink.old) (K.faults sink.new) }
-    ensures still { result ≢ Asking.WriteFault → K.faults sink.new ≡ K.faults sink.old }
-    ensures linked { result ≢ Asking.LinkFault → (L.faults link.new ≡ L.faults link.old) × (L.send_faults link.new ≡ L.send_faults link.old) }
+    ensures link { result ≡ QueryExit.LinkFault → Rose (L.faults link.old) (L.faults link.new) ⊎ Rose (L.send_faults link.old) (L.send_faults link.new) }
+    ensures write { result ≡ QueryExit.WriteFault → Rose (K.faults sink.old) (K.faults sink.new) }
+    ensures still { result ≢ QueryExit.WriteFault → K.faults sink.new ≡ K.faults sink.old }
+    ensures linked { result ≢ QueryExit.LinkFault → (L.faults link.new ≡ L.faults link.old) × (L.send_faults link.new ≡ L.send_faults link.old) }
 {
     match link.bind(ANYWHERE, &[daemon]) {
         Bound::Bound => {
             let end = ask_bound(query, link, ticker);
             tell(query, &end, sink)
         }
-        Bound::Failed => Asking::LinkFault,
-        Bound::OutOfMemory => Asking::OutOfMemory,
+        Bound::Failed => QueryExit::LinkFault,
+        Bound::OutOfMemory => QueryExit::OutOfMemory,
     }
 }

@@ -1,16 +1,16 @@
 //! Questions over links in memory: what is sent, and what is written of what comes back.
 
 use crate::ask::ask;
-use crate::end::Asking;
+use crate::end::QueryExit;
 use std::alloc::{AllocError, Global};
 use std::process::Abort;
+use tsp_args::query::Query;
 use tsp_base::micros::Micros;
 use tsp_base::place::{PeerId, Place};
 use tsp_io::addr::Addr;
 use tsp_io::memory::MemorySink;
 use tsp_io::memory_link::MemoryLink;
 use tsp_io::memory_ticker::MemoryTicker;
-use tsp_args::query::Query;
 
 /// The daemon that is asked.
 const DAEMON: Place = Place::Peer(PeerId(0));
@@ -45,7 +45,7 @@ struct Row {
     writes: &'static [u32],
     from: Place,
     comes: &'static [u8],
-    end: Asking,
+    end: QueryExit,
     tried: usize,
     text: &'static str,
 }
@@ -100,7 +100,7 @@ fn is_right(alloc: Global, row: &Row) -> Result<bool, AllocError> {
 }
 
 /// A question that this answers from the daemon, where no call fails.
-fn asked(kind: u8, word: u64, comes: &'static [u8], end: Asking, text: &'static str) -> Row {
+fn asked(kind: u8, word: u64, comes: &'static [u8], end: QueryExit, text: &'static str) -> Row {
     Row {
         kind,
         word,
@@ -119,7 +119,7 @@ fn failing(
     calls: &'static [u32],
     writes: &'static [u32],
     from: Place,
-    end: Asking,
+    end: QueryExit,
     tried: usize,
     text: &'static str,
 ) -> Row {
@@ -139,11 +139,11 @@ fn failing(
 /// Each question has its line, and the empty name is no master's.
 #[test]
 fn lines_say_what_came(rt: HostRuntime) {
-    let answered = Asking::Answered;
+    let answered = QueryExit::Answered;
     for row in [
         asked(19, 3, NAMED, answered, "master a\n"),
         asked(19, 3, NAMELESS, answered, "no master\n"),
-        asked(19, 3, &[], Asking::NoAnswer, "no answer\n"),
+        asked(19, 3, &[], QueryExit::NoAnswer, "no answer\n"),
         asked(128, 9, REPLY, answered, "clockdiff 100 401\n"),
         asked(17, 2, ACK, answered, "trace on\n"),
         asked(18, 2, ACK, answered, "trace off\n"),
@@ -158,14 +158,14 @@ fn lines_say_what_came(rt: HostRuntime) {
 /// A stranger's datagram is no answer. A bind, a send, a receive or a write that fails ends the question without a line.
 #[test]
 fn questions_fail(rt: HostRuntime) {
-    let silent = Asking::NoAnswer;
-    let faulty = Asking::LinkFault;
+    let silent = QueryExit::NoAnswer;
+    let faulty = QueryExit::LinkFault;
     for row in [
         failing(&[], &[], Place::Stranger, silent, 1, "no answer\n"),
         failing(&[0], &[], DAEMON, faulty, 0, ""),
         failing(&[1], &[], DAEMON, faulty, 1, ""),
         failing(&[2], &[], DAEMON, faulty, 1, ""),
-        failing(&[], &[0], DAEMON, Asking::WriteFault, 1, ""),
+        failing(&[], &[0], DAEMON, QueryExit::WriteFault, 1, ""),
     ] {
         assert!(rt; is_right(rt.alloc(), &row) == Ok(true), "{}", row.text);
     }

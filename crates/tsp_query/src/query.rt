@@ -5,12 +5,12 @@ ghost use Rattle.tsp_base.specs.declared.kind.Kind.{Kind};
 ghost use Rattle.tsp_base.specs.declared.message.Body.{Body};
 ghost use Rattle.tsp_io.specs.Clocks.{IsWall};
 ghost use Rattle.tsp_io.specs.Counts.{Rose};
-ghost use Rattle.tsp_query.specs.Asked.{rest_of};
+ghost use Rattle.tsp_query.specs.Arrivals.{rest_of};
 ghost use Rattle.tsp_query.specs.Clocks.{reading};
 ghost use Rattle.tsp_query.specs.Ends.{Outside, Tells, Asks};
 ghost use Rattle.tsp_query.specs.Queries.{read_twice, message, message_with, date_message, question_of, stamp, QueryEnds, end_of, trace_kind, name_in, master_in, heard_in, says_set, date_in, reading_in, IsReplied, diff_in};
 
-use crate::ask::{Asked, ask};
+use crate::ask::{AskEnd, ask};
 use crate::question::Question;
 use tsp_base::datagram::Datagram;
 use tsp_base::kind::Kind;
@@ -103,13 +103,13 @@ fn ask_by_message<L: Link, T: Ticker>(
     kind: Kind,
     body: Body,
     dates: bool,
-) -> Asked
+) -> AskEnd
     requires { body_fits kind body ≡ true }
     ensures asks { (o : Outside) (word : ℕ) → Tells o (L.arrivals link.old) (L.tried link.old) (L.calls link.old) (T.readings ticker.old) (T.last ticker.old) → T.word_is ticker.old ≡ Some word
         → Asks (message_with kind body word) (question_of dates (word % 65536)) (read_twice o) (L.tried link.new) (L.calls link.new) result }
     ensures later { (L.faults link.old ≤ L.faults link.new) × (L.send_faults link.old ≤ L.send_faults link.new) × (T.last ticker.old ≤ T.last ticker.new) }
-    ensures cause { result ≡ Asked.LinkFault → Rose (L.faults link.old) (L.faults link.new) ⊎ Rose (L.send_faults link.old) (L.send_faults link.new) }
-    ensures still { result ≢ Asked.LinkFault → (L.faults link.new ≡ L.faults link.old) × (L.send_faults link.new ≡ L.send_faults link.old) }
+    ensures cause { result ≡ AskEnd.LinkFault → Rose (L.faults link.old) (L.faults link.new) ⊎ Rose (L.send_faults link.old) (L.send_faults link.new) }
+    ensures still { result ≢ AskEnd.LinkFault → (L.faults link.new ≡ L.faults link.old) × (L.send_faults link.new ≡ L.send_faults link.old) }
 {
     let start = begin(ticker);
     let number = (start.word % 65536) as u16;
@@ -118,27 +118,27 @@ fn ask_by_message<L: Link, T: Ticker>(
 }
 
 /// What asking comes to where each answer says the same: that the daemon hears.
-fn heard_end(asked: Asked) -> QueryEnd
+fn heard_end(asked: AskEnd) -> QueryEnd
     ensures { result ≡ end_of heard_in asked }
 {
     match asked {
-        Asked::Answer(..) => QueryEnd::Heard,
-        Asked::NoAnswer => QueryEnd::NoAnswer,
-        Asked::LinkFault => QueryEnd::LinkFault,
-        Asked::OutOfMemory => QueryEnd::OutOfMemory,
+        AskEnd::Answer(..) => QueryEnd::Heard,
+        AskEnd::NoAnswer => QueryEnd::NoAnswer,
+        AskEnd::LinkFault => QueryEnd::LinkFault,
+        AskEnd::OutOfMemory => QueryEnd::OutOfMemory,
     }
 }
 
 /// What asking comes to where the answer's name is the master's.
-fn master_end(asked: Asked) -> QueryEnd
+fn master_end(asked: AskEnd) -> QueryEnd
     ensures { result ≡ end_of master_in asked }
 {
     match asked {
-        Asked::Answer(Datagram::Message(message), _) => QueryEnd::Master(message.name().copy()),
-        Asked::Answer(Datagram::Stamp(_), _) => QueryEnd::Master(Name::empty()),
-        Asked::NoAnswer => QueryEnd::NoAnswer,
-        Asked::LinkFault => QueryEnd::LinkFault,
-        Asked::OutOfMemory => QueryEnd::OutOfMemory,
+        AskEnd::Answer(Datagram::Message(message), _) => QueryEnd::Master(message.name().copy()),
+        AskEnd::Answer(Datagram::Stamp(_), _) => QueryEnd::Master(Name::empty()),
+        AskEnd::NoAnswer => QueryEnd::NoAnswer,
+        AskEnd::LinkFault => QueryEnd::LinkFault,
+        AskEnd::OutOfMemory => QueryEnd::OutOfMemory,
     }
 }
 
@@ -187,17 +187,17 @@ pub fn trace<L: Link, T: Ticker>(on: bool, link: &mut L, ticker: &mut T) -> Quer
 }
 
 /// What asking comes to where the answer says whether the date was set.
-fn date_end(asked: Asked) -> QueryEnd
+fn date_end(asked: AskEnd) -> QueryEnd
     ensures { result ≡ end_of date_in asked }
 {
     match asked {
-        Asked::Answer(Datagram::Message(message), _) => {
+        AskEnd::Answer(Datagram::Message(message), _) => {
             QueryEnd::Date(matches!(message.kind(), Kind::DateAck))
         }
-        Asked::Answer(Datagram::Stamp(_), _) => QueryEnd::Date(false),
-        Asked::NoAnswer => QueryEnd::NoAnswer,
-        Asked::LinkFault => QueryEnd::LinkFault,
-        Asked::OutOfMemory => QueryEnd::OutOfMemory,
+        AskEnd::Answer(Datagram::Stamp(_), _) => QueryEnd::Date(false),
+        AskEnd::NoAnswer => QueryEnd::NoAnswer,
+        AskEnd::LinkFault => QueryEnd::LinkFault,
+        AskEnd::OutOfMemory => QueryEnd::OutOfMemory,
     }
 }
 
@@ -257,9 +257,9 @@ pub fn clockdiff<L: Link, T: Ticker>(link: &mut L, ticker: &mut T) -> QueryEnd
         counter: 0,
     });
     match ask(link, ticker, &request, Question::OfWord(start.word)) {
-        Asked::Answer(answer, came) => sample(&start, &answer, came),
-        Asked::NoAnswer => QueryEnd::NoAnswer,
-        Asked::LinkFault => QueryEnd::LinkFault,
-        Asked::OutOfMemory => QueryEnd::OutOfMemory,
+        AskEnd::Answer(answer, came) => sample(&start, &answer, came),
+        AskEnd::NoAnswer => QueryEnd::NoAnswer,
+        AskEnd::LinkFault => QueryEnd::LinkFault,
+        AskEnd::OutOfMemory => QueryEnd::OutOfMemory,
     }
 }

@@ -7,12 +7,12 @@ ghost use Rattle.tsp_replay.specs.Traces.{line_text, lines_text, number_in};
 
 use crate::replayed::Replayed;
 use arrayvec::ArrayVec;
-use tsp_schedule::run::Run;
-use tsp_schedule::stage::Stage;
 use tsp_io::sink::Sink;
 use tsp_lines::output::{Output, Unwritten};
 use tsp_lines::treatment::Stop;
 use tsp_run::line::Line;
+use tsp_schedule::run::Run;
+use tsp_schedule::stage::Stage;
 use tsp_script::trace::append_placed;
 
 /// The lines of the last event's acts; none where the last line was no event.

@@ -76,4 +76,3 @@ clock_low z e = grind (arith, ints)
 
 clock_high : (z : ℤ) → is_clock_value z ≡ true → z <ℤ LIMIT
 clock_high z e = grind (arith, ints)
-

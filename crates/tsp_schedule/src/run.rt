@@ -6,8 +6,8 @@ ghost use Rattle.tsp_schedule.specs.Schedules.{IsEnded, Lacks, Progress, Refuses
 ghost use Rattle.tsp_schedule.specs.Stages.{Halts, HaltsEvent, RunAdvances, RunStands};
 ghost use Rattle.tsp_script.specs.Schedules.{IsEvent};
 
-use crate::course::Course;
 use crate::faults::stop_of;
+use crate::handler::EventHandler;
 use std::alloc::{AllocError, Global};
 use tsp_base::event::Event;
 use tsp_base::header::Header;
@@ -24,7 +24,7 @@ pub struct Run<C> {
     pub over: bool,
 }
 
-impl<C: Course> Run<C> {
+impl<C: EventHandler> Run<C> {
     /// No line behind the header was read.
     pub(crate) fn begin(alloc: Global, header: Header) -> Result<Run<C>, AllocError>
         requires some { 1 ≤ length header.nodes }

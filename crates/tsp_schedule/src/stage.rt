@@ -3,7 +3,7 @@ ghost use Rattle.std.specs.Prelude.{◌≡◌, ◌≢◌, ◌<◌, ◌≤◌, �
 ghost use Rattle.tsp_schedule.specs.Schedules.{Progress, Untitled, Titled, Drifted, Heading, Running, Takes, TakesNet, IsComplete, next_place, drifted, new_header, Lacks, IsEnded, Refuses};
 ghost use Rattle.tsp_schedule.specs.Stages.{StageStands, RunStands, Advances, Halts, HaltsNode, HaltsNet, HaltsFirst};
 
-use crate::course::Course;
+use crate::handler::EventHandler;
 use crate::run::Run;
 use std::alloc::Global;
 use std::mem;
@@ -67,7 +67,7 @@ fn is_complete(header: &Header) -> bool
     !header.nodes().is_empty() && header.whole()
 }
 
-impl<C: Course> Stage<C> {
+impl<C: EventHandler> Stage<C> {
     /// Reads one line more, or says why it may not follow; after that none is to be read.
     pub fn advance(&mut self, alloc: Global, line: &[u8]) -> Result<(), Stop>
         ensures next { (p : Progress) → StageStands C.stands p self.old → MatchResult result (λ _. Advances C.refused C.stands p line.now self.new) (Halts C.refused p line.now) }

@@ -4,9 +4,9 @@ ghost use Rattle.tsp_storm.specs.Schedules.{header_of, made};
 ghost use Rattle.tsp_args.specs.Storms.{IsStorm};
 
 use std::alloc::{AllocError, Global};
+use tsp_args::storm::StormWords;
 use tsp_base::header::{Header, HeaderFault};
 use tsp_script::storm::Storm;
-use tsp_args::storm::StormWords;
 
 /// The drift of the schedules that are made, in parts in a million.
 const DRIFT: u32 = 100;

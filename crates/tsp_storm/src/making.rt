@@ -11,10 +11,10 @@ ghost use Rattle.tsp_world.specs.WorldStands.{WorldStands};
 
 use crate::header::begin;
 use std::alloc::{AllocError, Global};
+use tsp_args::storm::StormWords;
 use tsp_base::event::{Event, EventFault};
 use tsp_run::line::Line;
 use tsp_script::storm::{Draw, Storm};
-use tsp_args::storm::StormWords;
 use tsp_world::world::World;
 
 /// Why no event more was made.

@@ -10,10 +10,10 @@ use crate::counts::Counts;
 use crate::making::{Making, Stopped};
 use crate::summary::Summary;
 use std::alloc::Global;
+use tsp_args::storm::StormWords;
 use tsp_io::sink::Sink;
 use tsp_lines::output::{Unwritten, write_all};
 use tsp_lines::refusal::limit_line;
-use tsp_args::storm::StormWords;
 
 /// How a storm ends.
 #[derive(Clone, Copy, PartialEq, Eq, Debug)]

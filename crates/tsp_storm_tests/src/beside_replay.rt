@@ -5,6 +5,7 @@ ghost use Rattle.std.specs.Prelude.{length};
 
 use arrayvec::ArrayVec;
 use std::alloc::{AllocError, Global};
+use tsp_args::storm::StormWords;
 use tsp_base::event::Event;
 use tsp_base::header::NodeLine;
 use tsp_io::memory::{MemorySink, MemorySource};
@@ -14,7 +15,6 @@ use tsp_script::numbers::append_hex;
 use tsp_storm::header::begin;
 use tsp_storm::making::Making;
 use tsp_storm::run::{StormEnd, storm};
-use tsp_args::storm::StormWords;
 
 /// Writes a node's line.
 fn push_node(alloc: Global, text: &mut Vec<u8>, node: &NodeLine) -> Result<(), AllocError> {

@@ -2,10 +2,10 @@
 ghost use Rattle.std.specs.Prelude.{◌≡◌, ◌≤◌, ◌<◌, ◌^◌, ◌+◌, ◌++◌, [], ◌∷◌, ℕ, length, vec_len, vec_capacity};
 ghost use Rattle.tsp_run.specs.Run.{told_from, told_line, posts_by, number_of, posts_from, posted_by};
 
-use tsp_base::act::{Act, Placed};
-use tsp_base::place::Port;
 use crate::posts::Posts;
 use crate::way::Way;
+use tsp_base::act::{Act, Placed};
+use tsp_base::place::Port;
 use tsp_run::line::Line;
 
 /// Tells acts of an event as lines; the first post among them gets the number `first`.

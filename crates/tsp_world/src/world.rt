@@ -3,6 +3,7 @@ ghost use Rattle.std.specs.Prelude.{◌≡◌, ◌≤◌, [], ◌∷◌, List, t
 ghost use Rattle.tsp_base.specs.Headers.{is_whole};
 ghost use Rattle.tsp_world.specs.NodesReady.{NodesReady};
 
+use crate::posts::Posts;
 use crate::setup::configs_of;
 use std::alloc::{AllocError, Global};
 use tsp_base::desk::Desk;
@@ -12,7 +13,6 @@ use tsp_base::members::Members;
 use tsp_base::pad::Pad;
 use tsp_gateway::{GateConfig, Gateway};
 use tsp_networks::{all_nodes, networks_of};
-use crate::posts::Posts;
 use tsp_run::line::Line;
 
 /// The nodes and the posted datagrams; the lines of the last event.

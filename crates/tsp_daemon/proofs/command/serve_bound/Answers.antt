@@ -1,6 +1,6 @@
 use Rattle.std.proofs.Common.{◌≡◌, ◌∙◌, ap, inl, inr, refl, subst, ℤ, ℕ, false, rules, w64, to_z, of_z}
 use Rattle.tsp_query.proofs.AskLemmas.{of_some}
-use Rattle.tsp_query.proofs.ToldLemmas.{Says_from}
+use Rattle.tsp_query.proofs.OutsideLemmas.{Says_from}
 use Rattle.tsp_rules.specs.Guards.{is_clock_value}
 use Rattle.tsp_daemon.proofs.NodeLemmas.{turns_fit}
 use Rattle.tsp_daemon.proofs.ServeLemmas.{Tells_read, IsServed_serves}

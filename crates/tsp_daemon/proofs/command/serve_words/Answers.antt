@@ -1,6 +1,6 @@
 use Rattle.std.proofs.Common.{◌∙◌, inl, inr, refl}
-use Rattle.tsp_query.specs.Told.{bound}
-use Rattle.tsp_query.proofs.ToldLemmas.{Tells_bound}
+use Rattle.tsp_query.specs.Outside.{bound}
+use Rattle.tsp_query.proofs.OutsideLemmas.{Tells_bound}
 use Rattle.tsp_daemon.proofs.command.serve_words.Goals as goal
 
 pub returns-in-Bound-clause-serves : goal.returns-in-Bound-clause-serves

@@ -1,5 +1,5 @@
 use Rattle.std.proofs.Common.{◌≡◌, ◌∙◌, refl, ap, arith, Some, ◌+◌, ◌-◌, ◌≤◌}
-use Rattle.tsp_query.specs.Asked.{asked_from}
+use Rattle.tsp_query.specs.Arrivals.{asked_from}
 use Rattle.tsp_query.specs.Clocks.{reading}
 use Rattle.tsp_query.specs.Ends.{counted, receives}
 use Rattle.tsp_query.proofs.AskLemmas.{after, after-calls, after-tried, after-reading, after-next, calls-next, asked-step, asked-hit, asked-none, receives-least}

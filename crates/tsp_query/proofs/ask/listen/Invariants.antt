@@ -1,5 +1,5 @@
 use Rattle.std.proofs.Common.{◌≡◌, ◌≤◌, ◌-◌}
-use Rattle.tsp_query.specs.Asked.{asked, asked_from}
+use Rattle.tsp_query.specs.Arrivals.{asked, asked_from}
 use Rattle.tsp_query.specs.Ends.{Outside, Tells}
 use Rattle.tsp_query.proofs.AskLemmas.{after}
 use Rattle.tsp_query.proofs.ask.listen.Given as goal

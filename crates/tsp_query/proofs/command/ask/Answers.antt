@@ -1,6 +1,6 @@
 use Rattle.std.proofs.Common.{◌∙◌, inl, inr, refl}
-use Rattle.tsp_query.specs.Told.{bound}
-use Rattle.tsp_query.proofs.ToldLemmas.{Tells_bound, Says_from}
+use Rattle.tsp_query.specs.Outside.{bound}
+use Rattle.tsp_query.proofs.OutsideLemmas.{Tells_bound, Says_from}
 use Rattle.tsp_query.proofs.command.ask.Goals as goal
 
 pub returns-in-Bound-clause-asks : goal.returns-in-Bound-clause-asks
