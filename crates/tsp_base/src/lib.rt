@@ -36,5 +36,3 @@ pub mod pad;
 pub mod place;
 pub mod role;
 pub mod stamp;
-#[cfg(test)]
-mod tests;

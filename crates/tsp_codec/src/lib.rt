@@ -22,5 +22,3 @@ mod layout;
 pub use decoding::{decode, read, read_back};
 pub use encoding::encode;
 
-#[cfg(test)]
-mod tests;

@@ -12,4 +12,10 @@ mod failing_replays;
 #[cfg(test)]
 mod handlers;
 #[cfg(test)]
+mod icmp;
+#[cfg(test)]
+mod queries;
+#[cfg(test)]
+mod questions;
+#[cfg(test)]
 mod records;

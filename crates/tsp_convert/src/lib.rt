@@ -9,5 +9,3 @@ pub mod laws;
 mod pack;
 pub mod run;
 mod show;
-#[cfg(test)]
-mod tests;

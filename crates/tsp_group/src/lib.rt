@@ -18,8 +18,6 @@
 
 mod group;
 mod sweep;
-#[cfg(test)]
-mod tests;
 mod values;
 mod window;
 

@@ -14,5 +14,3 @@ pub use encoding::icmp_encode;
 pub use exchange::{difference, standard, trip};
 pub use timestamp::{IcmpFault, Timestamp};
 
-#[cfg(test)]
-mod tests;

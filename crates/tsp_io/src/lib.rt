@@ -28,8 +28,6 @@ pub mod memory_ticker;
 pub mod sink;
 mod socket;
 pub mod source;
-#[cfg(test)]
-mod tests;
 pub mod ticker;
 mod tried_sends;
 pub mod udp;

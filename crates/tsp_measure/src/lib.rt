@@ -8,8 +8,6 @@ mod exchange;
 mod exchanges;
 mod peer_exchanges;
 mod sample;
-#[cfg(test)]
-mod tests;
 
 pub use exchange::Exchange;
 pub use exchanges::Exchanges;

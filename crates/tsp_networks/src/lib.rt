@@ -17,8 +17,6 @@ use tsp_rules::room::room_for;
 use tsp_run::address::Address;
 
 pub mod refusals;
-#[cfg(test)]
-mod tests;
 
 /// The network of so many nodes. The refusal is want of memory.
 pub fn all_nodes(alloc: Global, count: u32) -> Result<Vec<Members>, AllocError>

@@ -6,11 +6,7 @@
 
 pub mod ask;
 pub mod command;
-#[cfg(test)]
-mod command_tests;
 pub mod exit;
 mod line;
 pub mod query;
 pub mod question;
-#[cfg(test)]
-mod tests;

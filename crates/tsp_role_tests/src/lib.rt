@@ -13,9 +13,17 @@ mod clients;
 #[cfg(test)]
 mod clock;
 #[cfg(test)]
+mod groups;
+#[cfg(test)]
+mod loops;
+#[cfg(test)]
+mod measures;
+#[cfg(test)]
 mod node;
 #[cfg(test)]
 mod resolve;
+#[cfg(test)]
+mod sends;
 #[cfg(test)]
 mod slave;
 #[cfg(test)]

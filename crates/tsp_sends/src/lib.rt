@@ -8,8 +8,6 @@ mod sending;
 mod sends;
 mod slot;
 mod store;
-#[cfg(test)]
-mod tests;
 mod tree;
 
 pub use due::Due;

@@ -13,6 +13,8 @@ mod lan;
 #[cfg(test)]
 mod meetings;
 #[cfg(test)]
+mod networks;
+#[cfg(test)]
 mod posts;
 #[cfg(test)]
 mod refusals;

@@ -1,5 +1,5 @@
 use Rattle.std.proofs.Common.{◌≡◌, []}
-use Rattle.tsp_base.proofs.tests.refuses_nodes.Given as goal
+use Rattle.tsp_text_tests.proofs.values.refuses_nodes.Given as goal
 
 -- no network is added
 abbrev pub invariant-loop-rate : goal.invariant-loop-rate

@@ -1,5 +1,5 @@
 //! Messages and exchanges that were worked out by hand from RFC 792.
-use crate::{IcmpFault, Timestamp, difference, icmp_decode, icmp_encode, standard, trip};
+use tsp_icmp::{IcmpFault, Timestamp, difference, icmp_decode, icmp_encode, standard, trip};
 use std::process::Abort;
 
 /// A request of identifier 1 and sequence number 2, sent at second 1.

@@ -1,5 +1,5 @@
 //! Lines that were worked out by hand from the layout of the datagrams.
-use crate::run::{pack, show};
+use tsp_convert::run::{pack, show};
 use arrayvec::ArrayVec;
 use std::alloc::Global;
 use std::process::Abort;

@@ -1,6 +1,6 @@
 //! A node between two networks.
 
-use super::*;
+use tsp_networks::*;
 use std::test::Fail;
 use tsp_base::header::NodeLine;
 use tsp_base::name::Name;

@@ -1,23 +1,23 @@
 //! The values through their public calls, each on its happy path and at its edges.
 ghost use Rattle.std.specs.Prelude.{◌≡◌, [], IfSome};
 
-use crate::act::Act;
-use crate::alarm::Alarm;
-use crate::alarms::Alarms;
-use crate::constants::{ELECT_MIN, HOLD, LIMIT};
-use crate::desk::Desk;
-use crate::drift::{tick_at, width};
-use crate::header::{Header, HeaderFault, NodeLine};
-use crate::hold::Hold;
-use crate::kind::Kind;
-use crate::members::Members;
-use crate::message::{Body, Message};
-use crate::micros::Micros;
-use crate::name::{Name, NameFault};
-use crate::octets::Octets;
-use crate::pad::Pad;
-use crate::place::{PeerId, Port};
-use crate::stamp::Stamp;
+use tsp_base::act::Act;
+use tsp_base::alarm::Alarm;
+use tsp_base::alarms::Alarms;
+use tsp_base::constants::{ELECT_MIN, HOLD, LIMIT};
+use tsp_base::desk::Desk;
+use tsp_base::drift::{tick_at, width};
+use tsp_base::header::{Header, HeaderFault, NodeLine};
+use tsp_base::hold::Hold;
+use tsp_base::kind::Kind;
+use tsp_base::members::Members;
+use tsp_base::message::{Body, Message};
+use tsp_base::micros::Micros;
+use tsp_base::name::{Name, NameFault};
+use tsp_base::octets::Octets;
+use tsp_base::pad::Pad;
+use tsp_base::place::{PeerId, Port};
+use tsp_base::stamp::Stamp;
 use std::alloc::Global;
 use std::test::Fail;
 

@@ -1,6 +1,6 @@
 //! Exchanges that were worked by hand.
-use crate::exchanges::Exchanges;
-use crate::sample::{Reply, Sample, TimedSample};
+use tsp_measure::exchanges::Exchanges;
+use tsp_measure::sample::{Reply, Sample, TimedSample};
 use std::test::Fail;
 use tsp_base::place::PeerId;
 

@@ -1,5 +1,5 @@
 //! Worked queries over links and tickers in memory.
-use crate::query::{QueryEnd, clockdiff, election, msite, setdate, trace};
+use tsp_query::query::{QueryEnd, clockdiff, election, msite, setdate, trace};
 use std::alloc::{AllocError, Global};
 use tsp_base::micros::Micros;
 use tsp_base::place::{PeerId, Place};

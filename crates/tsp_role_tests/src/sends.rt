@@ -2,9 +2,9 @@
 ghost use Rattle.std.specs.Prelude.{◌≡◌, ◌^◌, ◌≤◌, ◌<◌, length, IfOk};
 ghost use Rattle.tsp_sends.specs.Slots.{IsAscending, peers_of};
 
-use crate::due::Due;
-use crate::sends::Sends;
-use crate::tree::Tree;
+use tsp_sends::due::Due;
+use tsp_sends::sends::Sends;
+use tsp_sends::tree::Tree;
 use std::alloc::{AllocError, Global};
 use tsp_base::kind::Kind;
 use tsp_base::message::{Body, Message};

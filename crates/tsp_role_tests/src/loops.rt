@@ -1,5 +1,5 @@
 //! The worked rows of LOOPs, and their edges.
-use crate::step::{LoopStep, judge};
+use tsp_loop::step::{LoopStep, judge};
 use std::test::Fail;
 use tsp_base::kind::Kind;
 use tsp_base::message::{Body, Message};

@@ -1,6 +1,6 @@
 use Rattle.std.proofs.Common.{◌≡◌}
 use Rattle.tsp_sends.specs.Slots.{peers_of}
-use Rattle.tsp_sends.proofs.tests.many_peers_cost_little.Given as goal
+use Rattle.tsp_role_tests.proofs.sends.many_peers_cost_little.Given as goal
 
 abbrev pub invariant-loop-place : goal.invariant-loop-place
 invariant-loop-place g l = peers_of l.sends ≡ l.peers.items

@@ -1,5 +1,5 @@
 //! Octets and values that were worked out by hand from the layout.
-use crate::{decode, encode, read, read_back};
+use tsp_codec::{decode, encode, read, read_back};
 use arrayvec::ArrayVec;
 use tsp_base::datagram::{Datagram, DecodeFault, Taken};
 use tsp_base::kind::{KINDS, Kind};

@@ -1,9 +1,9 @@
 //! Groups that were worked by hand, and the sweep beside a program that tries every value.
 ghost use Rattle.std.specs.Prelude.{◌^◌, ◌<◌, length};
 
-use crate::group::{Group, correction, mean};
-use crate::sweep::largest;
-use crate::values::Values;
+use tsp_group::group::{Group, correction, mean};
+use tsp_group::sweep::largest;
+use tsp_group::values::Values;
 use std::alloc::{AllocError, Global};
 use std::test::Fail;
 

@@ -1,7 +1,7 @@
 //! Questions over links in memory: what is sent, and what is written of what comes back.
 
-use crate::ask::ask;
-use crate::end::QueryExit;
+use tsp_query::ask::ask;
+use tsp_query::end::QueryExit;
 use std::alloc::{AllocError, Global};
 use std::process::Abort;
 use tsp_args::query::Query;
