@@ -14,7 +14,6 @@ ghost use Rattle.tsp_history.specs.Histories.{deed_of, line_of, history_of};
 
 use crate::brought::brought;
 use crate::clock::clock_at;
-use crate::leading::is_correction;
 use crate::premises::Premises;
 use tsp_base::act::Act;
 use tsp_base::datagram::Datagram;
@@ -61,7 +60,7 @@ fn moves(post: &HistoryLine, amount: i64, target: i128) -> bool
 {
     match &post.act {
         Some(Act::Post(_, Datagram::Message(m))) => {
-            is_correction(m.kind()) && i128::from(amount) == amount_of(m.kind(), m.body(), target)
+            m.kind().is_correction() && i128::from(amount) == amount_of(m.kind(), m.body(), target)
         }
         _ => false,
     }
@@ -112,15 +111,7 @@ fn is_numbered(line: &HistoryLine) -> bool
     ensures { MatchBool result (IsNumbered (deed_of line.now.act)) (IsNumbered (deed_of line.now.act) → ⊥) }
 {
     match &line.act {
-        Some(Act::Post(_, Datagram::Message(m))) => matches!(
-            m.kind(),
-            Kind::AdjTime
-                | Kind::SetTime
-                | Kind::Election
-                | Kind::Conflict
-                | Kind::Quit
-                | Kind::SetDateReq
-        ),
+        Some(Act::Post(_, Datagram::Message(m))) => m.kind().is_numbered(),
         _ => false,
     }
 }
@@ -171,7 +162,7 @@ fn is_correcting(line: &HistoryLine) -> bool
     ensures { result ≡ deed_corrects (deed_of line.now.act) }
 {
     match &line.act {
-        Some(Act::Post(_, Datagram::Message(m))) => is_correction(m.kind()),
+        Some(Act::Post(_, Datagram::Message(m))) => m.kind().is_correction(),
         _ => false,
     }
 }

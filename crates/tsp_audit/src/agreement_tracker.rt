@@ -93,7 +93,7 @@ impl AgreementTracker {
     ghost use Rattle.tsp_history.specs.Histories.{line_of, history_of};
     ghost use Rattle.tsp_history.specs.declared.line.HistoryLine.{HistoryLine as NotedValue};
 
-    /// Nothing has happened to so many nodes. Takes memory for them; the refusal is want of memory.
+    /// Nothing has happened to so many nodes. Takes memory for them; fails only if out of memory.
     pub(crate) fn new(alloc: Global, count: usize) -> Result<AgreementTracker, AllocError>
         requires { count ≤ 64 }
         ensures { IfOk result (λ accord. AccordIs count [] accord) }
@@ -108,7 +108,7 @@ impl AgreementTracker {
         }
     }
 
-    /// Makes room for so many lines more. The refusal is want of memory; either way the accord stands for what it did.
+    /// Makes room for so many lines more. Fails only if out of memory; either way the accord stands for what it did.
     pub(crate) fn make_room(&mut self, count: usize) -> Result<(), AllocError>
         ensures room { OnOk result (vec_len self.new.trips + count ≤ vec_capacity self.new.trips) }
         ensures accord { (nodes : ℕ) (h : List Line) → AccordIs nodes h self.old → AccordIs nodes h self.new }

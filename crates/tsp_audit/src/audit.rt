@@ -77,7 +77,7 @@ impl Audit {
     ghost use Rattle.tsp_run.specs.Run.{event_at};
     ghost use Rattle.std.specs.Prelude.{List};
 
-    /// Nothing is claimed. The refusal is want of memory, and drops the header.
+    /// Nothing is claimed. Fails only if out of memory, and then drops the header.
     pub fn new(alloc: Global, header: Header, premises: Premises) -> Result<Audit, AllocError>
         requires some { 1 ≤ length header.nodes }
         requires few { length header.nodes ≤ 16 }

@@ -2,23 +2,14 @@
 ghost use Rattle.std.specs.Prelude.{◌≡◌, ◌≤◌, List, ◌∷◌, length, take, MatchBool};
 ghost use Rattle.tsp_base.specs.History.{Line};
 ghost use Rattle.tsp_promises.specs.OnlyMaster.{LeadsAt, OnlyMaster};
-ghost use Rattle.tsp_base.specs.SendFacts.{is_correction};
 ghost use Rattle.tsp_audit.specs.Leading.{closing, must_lead};
 ghost use Rattle.tsp_history.specs.Histories.{line_of, history_of, deed_of};
 
 use tsp_base::act::Act;
 use tsp_base::datagram::Datagram;
-use tsp_base::kind::Kind;
 use tsp_base::role::Role;
 use tsp_history::line::HistoryLine;
 use tsp_history::scans::role_at;
-
-/// Whether messages of this kind correct a clock.
-pub(crate) fn is_correction(kind: Kind) -> bool
-    ensures { result ≡ is_correction kind }
-{
-    matches!(kind, Kind::AdjTime | Kind::SetTime)
-}
 
 /// Whether the newest act after a line is a Close, where `keep` says so of what stands before.
 fn closes_after(line: &HistoryLine, keep: bool) -> bool
@@ -47,7 +38,7 @@ fn must_lead(lines: &[HistoryLine], line: &HistoryLine) -> bool
     ensures { result ≡ must_lead (deed_of line.now.act) (closing (history_of lines.now)) }
 {
     match &line.act {
-        Some(Act::Post(_, Datagram::Message(m))) => is_correction(m.kind()),
+        Some(Act::Post(_, Datagram::Message(m))) => m.kind().is_correction(),
         Some(Act::Close { .. }) => true,
         Some(Act::Correct { .. }) => closes_last(lines),
         _ => false,

@@ -18,7 +18,7 @@ pub(crate) struct Notes {
 impl Notes {
     ghost use Rattle.tsp_audit.specs.Notes.{HasRoom, NotesStand};
 
-    /// Nothing is noted of so many nodes. The refusal is want of memory.
+    /// Nothing is noted of so many nodes. Fails only if out of memory.
     pub(crate) fn new(alloc: Global, count: usize) -> Result<Notes, AllocError>
         requires { count ≤ 64 }
         ensures { IfOk result (λ notes. (premises : Premises) → NotesStand premises count [] notes) }
@@ -32,7 +32,7 @@ impl Notes {
         }
     }
 
-    /// Makes room for so many lines more. The refusal is want of memory; either way they stand for what they did.
+    /// Makes room for so many lines more. Fails only if out of memory; either way they stand for what they did.
     pub(crate) fn make_room(&mut self, lines: usize) -> Result<(), AllocError>
         ensures room { OnOk result (HasRoom lines self.new) }
         ensures stand { (premises : Premises) (count : ℕ) (h : List Line) → NotesStand premises count h self.old → NotesStand premises count h self.new }

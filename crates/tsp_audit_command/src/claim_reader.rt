@@ -26,7 +26,7 @@ use tsp_script::trace::Line2;
 /// How many lines may be claimed.
 const MOST_LINES: u64 = 20_000;
 
-/// Takes in an event and its lines, which fit. The refusal is want of memory.
+/// Takes in an event and its lines, which fit. Fails only if out of memory.
 fn take_in(claims: &mut Claims, e: &Event, lines: &[Line2]) -> Result<(), AllocError>
     requires time { event_at e.now ≤ 1000000000000000 }
     requires node { NamesNode (length claims.old.header.nodes) e.now }
@@ -88,7 +88,7 @@ impl ClaimReader {
     ghost use Rattle.tsp_audit_command.specs.Readings.{Claimed};
     ghost use Rattle.tsp_audit_command.specs.Stands.{Adds, ClaimAdvances, Halts, HaltsAdding, HaltsTelling, TellsMore, Unpassed};
 
-    /// Nothing is claimed yet of these events. The refusal is want of memory.
+    /// Nothing is claimed yet of these events. Fails only if out of memory.
     pub(crate) fn begin(
         alloc: Global,
         header: Header,

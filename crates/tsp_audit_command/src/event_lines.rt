@@ -30,7 +30,7 @@ impl EventLines {
         }
     }
 
-    /// One line more. The refusal is want of memory, and the lines are what they were.
+    /// One line more. Fails only if out of memory; then the lines are what they were.
     pub(crate) fn push(&mut self, line: Line2) -> Result<(), AllocError>
         ensures ok { OnOk result (self.new ≡ self.old ++ line ∷ []) }
         ensures err { OnErr result (self.new ≡ self.old) }

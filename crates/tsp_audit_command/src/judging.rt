@@ -20,7 +20,7 @@ use tsp_base::event::Event;
 use tsp_claims::audit_fault::AuditFault;
 use tsp_script::trace::Line2;
 
-/// Audits an event and its lines, which fit. The refusal is want of memory.
+/// Audits an event and its lines, which fit. Fails only if out of memory.
 fn audit_one(audit: &mut Audit, e: &Event, lines: &[Line2]) -> Result<(), AllocError>
     requires time { event_at e.now ≤ 1000000000000000 }
     requires node { NamesNode (length audit.old.claims.header.nodes) e.now }
@@ -36,7 +36,7 @@ fn audit_one(audit: &mut Audit, e: &Event, lines: &[Line2]) -> Result<(), AllocE
     }
 }
 
-/// Audits the first of these events, of which these lines are claimed, one after the other. The refusal is want of memory.
+/// Audits the first of these events, of which these lines are claimed, one after the other. Fails only if out of memory.
 fn audit_all(audit: &mut Audit, events: &[Event], told: &[EventLines]) -> Result<(), AllocError>
     requires fit { (premises : Premises) × (header : HeaderValue) × IsAuditable premises header events.now told.now audit.old }
     ensures { (premises : Premises) (header : HeaderValue) → IsAuditable premises header events.now told.now audit.old → OnOk result (AuditStands premises header (claims_on [] events.now told.now) audit.new) }
@@ -48,8 +48,8 @@ fn audit_all(audit: &mut Audit, events: &[Event], told: &[EventLines]) -> Result
 }
 
 impl ClaimReader {
-    /// What fails first of what is claimed of the events that were passed, under the premises that they keep. The
-    /// refusal is want of memory.
+    /// What fails first of what is claimed of the events that were passed, under the premises that they keep. Fails
+    /// only if out of memory.
     pub(crate) fn judge(self) -> Result<Option<Failure>, AllocError>
         ensures { IfOk result (λ found. Judges self.header self.passed found) }
     {

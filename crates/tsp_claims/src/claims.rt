@@ -50,7 +50,7 @@ impl Claims {
     ghost use Rattle.tsp_claims.specs.Stands.{ClaimsStand, TakesIn};
     ghost use Rattle.std.specs.Prelude.{List, ℕ};
 
-    /// Nothing is claimed. Takes memory for the nodes; the refusal is want of memory, and drops the header.
+    /// Nothing is claimed. Takes memory for the nodes; fails only if out of memory, and then drops the header.
     pub fn new(alloc: Global, header: Header) -> Result<Claims, AllocError>
         requires some { 1 ≤ length header.nodes }
         requires few { length header.nodes ≤ 16 }

@@ -89,7 +89,7 @@ fn is_step(e: &Event, acts: &[Line2]) -> bool
 }
 
 impl Claims {
-    /// Makes room for so many lines of an event. The refusal is want of memory; either way the claims are what they were.
+    /// Makes room for so many lines of an event. Fails only if out of memory; either way the claims are what they were.
     pub(crate) fn make_room(&mut self, count: usize) -> Result<(), AllocError>
         requires { count ≤ 20000 }
         ensures room { OnOk result (HasRoom count self.new) }

@@ -43,7 +43,7 @@ Untouched-same (Storm s) source link ticker = (refl, refl, refl)
 Untouched-same Icmp source link ticker = (refl, refl)
 Untouched-same Audit source link ticker = (refl, refl)
 
--- nothing was written of the words of a wrong use, for want of memory
+-- nothing was written of the words of a wrong use, for lack of memory
 pub Says-nothing : (written : Option (List ℕ)) → Says usage_line Usage written written OutOfMemory
 Says-nothing written = inr (inr refl, ([], usage_line, omega arith, refl, Grows-nil written))
 

@@ -67,7 +67,7 @@ pub record RunsStorm (s : StormWords) (written now : Option (List ℕ)) (writes 
   pub status_is : status ≡ status_of_storm end
   -- what was written: the summary of the run, the number of the event for which there was no room, or a part of either
   pub storms : StormsAs s written now end
-  -- end and text are the answer to the words, but for a failed write and want of memory
+  -- end and text are the answer to the words, but for a failed write and lack of memory
   pub answers : (e : StormEnd) (text : List ℕ) → IsAnswer s e text → Agrees e text written now end
   -- where there is room for each event and no write failed: the status is Ok, or there was no memory
   pub complete : HasRoom s → ¬ Rose writes writes_now → (status ≡ Ok) ⊎ (status ≡ OutOfMemory)

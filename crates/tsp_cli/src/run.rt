@@ -56,7 +56,7 @@ pub fn say<K: Sink>(sink: &mut K, text: &[u8], status: Status) -> Status
 /// Of each command it is said what was read, sent and written with each status (`specs/Commands.antt`). A fault of
 /// reading, of writing or of the link comes only where that object's count rose: for the link the count of failed binds
 /// and receives, or, for a question, that of failed sends. With valid input, where no count rises, a run ends with `Ok`
-/// (a question: with `Ok` or `NoAnswer`), or for want of memory.
+/// (a question: with `Ok` or `NoAnswer`), or for lack of memory.
 pub fn run<S: Source, K: Sink, L: Link, T: Ticker>(
     alloc: Global,
     words: &[String],

@@ -21,4 +21,3 @@ mod layout;
 
 pub use decoding::{decode, read, read_back};
 pub use encoding::encode;
-

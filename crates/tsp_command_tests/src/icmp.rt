@@ -1,6 +1,6 @@
 //! Messages and exchanges that were worked out by hand from RFC 792.
-use tsp_icmp::{IcmpFault, Timestamp, difference, icmp_decode, icmp_encode, standard, trip};
 use std::process::Abort;
+use tsp_icmp::{IcmpFault, Timestamp, difference, icmp_decode, icmp_encode, standard, trip};
 
 /// A request of identifier 1 and sequence number 2, sent at second 1.
 const REQUEST: [u8; 20] = [

@@ -1,10 +1,10 @@
 //! Worked queries over links and tickers in memory.
-use tsp_query::query::{QueryEnd, clockdiff, election, msite, setdate, trace};
 use std::alloc::{AllocError, Global};
 use tsp_base::micros::Micros;
 use tsp_base::place::{PeerId, Place};
 use tsp_io::memory_link::MemoryLink;
 use tsp_io::memory_ticker::MemoryTicker;
+use tsp_query::query::{QueryEnd, clockdiff, election, msite, setdate, trace};
 
 /// The daemon.
 const DAEMON: Place = Place::Peer(PeerId(0));

@@ -1,7 +1,5 @@
 //! Questions over links in memory: what is sent, and what is written of what comes back.
 
-use tsp_query::ask::ask;
-use tsp_query::end::QueryExit;
 use std::alloc::{AllocError, Global};
 use std::process::Abort;
 use tsp_args::query::Query;
@@ -11,6 +9,8 @@ use tsp_io::addr::Addr;
 use tsp_io::memory::MemorySink;
 use tsp_io::memory_link::MemoryLink;
 use tsp_io::memory_ticker::MemoryTicker;
+use tsp_query::ask::ask;
+use tsp_query::end::QueryExit;
 
 /// The daemon that is asked.
 const DAEMON: Place = Place::Peer(PeerId(0));

@@ -33,7 +33,7 @@ first_session s o wall word written = record {
   written = written;
 }
 
--- nothing was sent and nothing written, for want of memory
+-- nothing was sent and nothing written, for lack of memory
 pub record IsRefused (o : Outside) (written : List ℕ) (now : Observed) (served : DaemonExit) : Type 0 where
   pub cause : served ≡ OutOfMemory
   pub tried_are : now.tried ≡ Some o.tried

@@ -50,7 +50,7 @@ fn port_peers(alloc: Global, done: u32, count: u32) -> Result<Vec<PeerId>, Alloc
     Ok(peers)
 }
 
-/// Gives the node one port more, with so many peers behind those of earlier ports. The refusal is want of memory: a
+/// Gives the node one port more, with so many peers behind those of earlier ports. Fails only if out of memory: a
 /// daemon has 4 ports at the most.
 fn join(alloc: Global, config: &mut GateConfig, done: u32, count: u32) -> Result<(), AllocError>
     requires { done + count ≤ 999 }

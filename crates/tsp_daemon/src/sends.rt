@@ -9,7 +9,7 @@ use tsp_base::act::{Act, Placed};
 use tsp_codec::encode;
 use tsp_io::link::{Link, Sent};
 
-/// Tries the send of one act, if it posts; a datagram that is lost isn't an error. The refusal is want of memory:
+/// Tries the send of one act, if it posts; a datagram that is lost isn't an error. Fails only if out of memory:
 /// then the send wasn't tried.
 fn send_one<L: Link>(link: &mut L, act: &Act) -> Result<(), AllocError>
     requires known { IsKnown (L.stranger link.old) act.now }
@@ -28,7 +28,7 @@ fn send_one<L: Link>(link: &mut L, act: &Act) -> Result<(), AllocError>
     }
 }
 
-/// Tries a send for each act that posts, in order. The refusal is want of memory: then some of the sends were tried,
+/// Tries a send for each act that posts, in order. Fails only if out of memory: then some of the sends were tried,
 /// from the first on.
 pub(crate) fn send_all<L: Link>(link: &mut L, acts: &[Placed]) -> Result<(), AllocError>
     requires known { AreKnown (L.stranger link.old) acts.now }

@@ -6,7 +6,6 @@ ghost use Rattle.tsp_base.specs.declared.datagram.Taken.TheVariants.{Good};
 ghost use Rattle.tsp_base.specs.declared.kind.Kind.TheVariants.{Loop};
 ghost use Rattle.tsp_base.specs.Frames.{IsTick, PutsAtMost};
 ghost use Rattle.tsp_base.specs.Rows.{puts};
-ghost use Rattle.tsp_base.specs.SendFacts.{sets_date};
 ghost use Rattle.tsp_rules.specs.Answers.{takes};
 ghost use Rattle.tsp_rules.specs.GateRows.{takes_loop, takes_message, takes_on};
 ghost use Rattle.tsp_rules.specs.NodePerforms.{PerformsAll};
@@ -87,7 +86,7 @@ impl Gateway {
             port_at(q),
             desk,
         ) {
-            self.upset(q, sets_date(m.kind()), tick, desk);
+            self.upset(q, m.kind().sets_date(), tick, desk);
         }
     }
 
@@ -156,14 +155,4 @@ impl Gateway {
             desk,
         );
     }
-}
-
-/// Whether messages of this kind set a date.
-fn sets_date(kind: Kind) -> bool
-    ensures { result ≡ sets_date kind }
-{
-    matches!(
-        kind,
-        Kind::Date | Kind::SetDate | Kind::DateReq | Kind::SetDateReq
-    )
 }

@@ -9,7 +9,6 @@ ghost use Rattle.tsp_history.specs.PostedPlaces.{IsPlaceOf};
 use crate::line::HistoryLine;
 use tsp_base::act::Act;
 use tsp_base::datagram::Datagram;
-use tsp_base::kind::Kind;
 use tsp_base::place::{PeerId, Place, Port};
 
 /// What a scan for the sends of a node's port to a peer has seen so far.
@@ -23,21 +22,6 @@ struct Sight {
     begun: Option<u64>,
     /// The same, as long as the send is open.
     open: Option<u64>,
-}
-
-/// Whether messages of this kind are numbered sends.
-fn is_numbered(kind: Kind) -> bool
-    ensures { result ≡ is_numbered kind }
-{
-    matches!(
-        kind,
-        Kind::AdjTime
-            | Kind::SetTime
-            | Kind::Election
-            | Kind::Conflict
-            | Kind::Quit
-            | Kind::SetDateReq
-    )
 }
 
 /// What is seen after a line.
@@ -77,7 +61,7 @@ fn sight_after(line: &HistoryLine, node: u32, port: Port, p: PeerId, keep: Sight
             ..keep
         },
         Some(Act::Post(Place::Peer(c), Datagram::Message(m))) => {
-            if here && c.0 == p.0 && is_numbered(m.kind()) && keep.acting {
+            if here && c.0 == p.0 && m.kind().is_numbered() && keep.acting {
                 Sight {
                     posted: keep.posted + 1,
                     acting: true,

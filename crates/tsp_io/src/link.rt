@@ -36,7 +36,7 @@ pub enum Sent {
     Sent,
     /// It was tried, and is lost.
     Failed,
-    /// It wasn't tried, for want of memory.
+    /// It wasn't tried, for lack of memory.
     OutOfMemory,
 }
 

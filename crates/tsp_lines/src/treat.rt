@@ -37,7 +37,7 @@ pub enum Outcome {
 /// An input of more octets than the limit is treated up to the line in which the first octet past the
 /// limit stands, and no octet behind that one is read. `ReadFault` and `WriteFault` come only where the
 /// source's or the sink's count of faults rose in this call, and a count that rose ends it so. With any
-/// other outcome, or with a part of its output and want of memory, the input's answer was written.
+/// other outcome, or with a part of its output and lack of memory, the input's answer was written.
 pub fn treat_all<S: Source, K: Sink, T: Treatment>(
     alloc: Global,
     limit: u64,

@@ -18,7 +18,7 @@ use tsp_run::address::Address;
 
 pub mod refusals;
 
-/// The network of so many nodes. The refusal is want of memory.
+/// The network of so many nodes. Fails only if out of memory.
 pub fn all_nodes(alloc: Global, count: u32) -> Result<Vec<Members>, AllocError>
     requires { count ≤ 64 }
     ensures { IfOk result (λ v. v.items ≡ numbers_below count ∷ []) }

@@ -23,7 +23,6 @@ ghost use Rattle.tsp_node.specs.NodeStands.{PartStands, PartTook, TakeStands, To
 
 use crate::audience::{Audience, audience_of};
 use crate::part::Part;
-use crate::sends::corrects;
 use tsp_base::desk::Desk;
 use tsp_base::kind::Kind;
 use tsp_base::message::Message;
@@ -283,5 +282,5 @@ impl Part {
 fn leaves(role: Role, steer: bool, kind: Kind) -> bool
     ensures { result ≡ (not steer && (is_correction kind && is_follow role)) }
 {
-    !steer && corrects(kind) && matches!(role, Role::Follow(_))
+    !steer && kind.is_correction() && matches!(role, Role::Follow(_))
 }

@@ -10,7 +10,6 @@ ghost use Rattle.tsp_base.specs.Messages.{MessageValue};
 ghost use Rattle.tsp_base.specs.Performs.{Performs};
 ghost use Rattle.tsp_base.specs.PortFacts.{acting};
 ghost use Rattle.tsp_base.specs.Rows.{grown};
-ghost use Rattle.tsp_base.specs.SendFacts.{is_correction};
 ghost use Rattle.tsp_rules.specs.SendRows.{due_send, due_sends, leaves_after};
 ghost use Rattle.tsp_sends.specs.Repeating.{IsAfter, RepeatsNext, peer_of};
 ghost use Rattle.tsp_clock.specs.Clocks.{ClockValue};
@@ -84,7 +83,7 @@ impl Part {
         ensures resolve { self.new.resolve ≡ self.old.resolve }
         ensures dates { self.new.dates ≡ self.old.dates }
     {
-        if corrects(kind) {
+        if kind.is_correction() {
             self.master.again(peer, tick);
         }
     }
@@ -99,18 +98,11 @@ impl Part {
         ensures dates { self.new.dates ≡ self.old.dates }
         ensures room { PutsAtMost 1 (D.spare desk.old) (D.spare desk.new) (D.acts desk.old) (D.acts desk.new) }
     {
-        if !corrects(kind) {
+        if !kind.is_correction() {
             return;
         }
         if self.master.leave(peer) {
             desk.put(port, Act::Leave(peer));
         }
     }
-}
-
-/// Whether messages of this kind correct a clock.
-pub(crate) fn corrects(kind: Kind) -> bool
-    ensures { result ≡ is_correction kind }
-{
-    matches!(kind, Kind::AdjTime | Kind::SetTime)
 }

@@ -31,6 +31,6 @@ bound o = record o { calls = one_more o.calls }
 abbrev pub IsCutShort : List ℕ → Option (List ℕ) → Option (List ℕ) → Type 0
 IsCutShort text written now = (part : List ℕ) × (rest : List ℕ) × (0 < length rest) × (text ≡ part ++ rest) × Grows written now part
 
--- a text was to be written, and then a command to end as was meant: it does, and all of it was written, or it ends for a failed write or for want of memory, and a part was
+-- a text was to be written, and then a command to end as was meant: it does, and all of it was written, or it ends for a failed write or for lack of memory, and a part was
 abbrev pub Says : {E : Type 0} → List ℕ → E → E → E → Option (List ℕ) → Option (List ℕ) → E → Type 0
 Says text meant fault memory written now end = ((end ≡ meant) × Grows written now text) ⊎ (((end ≡ fault) ⊎ (end ≡ memory)) × IsCutShort text written now)

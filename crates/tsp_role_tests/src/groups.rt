@@ -1,11 +1,11 @@
 //! Groups that were worked by hand, and the sweep beside a program that tries every value.
 ghost use Rattle.std.specs.Prelude.{◌^◌, ◌<◌, length};
 
+use std::alloc::{AllocError, Global};
+use std::test::Fail;
 use tsp_group::group::{Group, correction, mean};
 use tsp_group::sweep::largest;
 use tsp_group::values::Values;
-use std::alloc::{AllocError, Global};
-use std::test::Fail;
 
 /// A difference that is averaged is less than this, in microseconds.
 const FAR: i64 = 1_073_741_824_000_000;

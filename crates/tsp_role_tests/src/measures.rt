@@ -1,8 +1,8 @@
 //! Exchanges that were worked by hand.
-use tsp_measure::exchanges::Exchanges;
-use tsp_measure::sample::{Reply, Sample, TimedSample};
 use std::test::Fail;
 use tsp_base::place::PeerId;
+use tsp_measure::exchanges::Exchanges;
+use tsp_measure::sample::{Reply, Sample, TimedSample};
 
 #[test]
 fn errs_by_half_the_round_trip(rt: HostRuntime) -> Result<(), Fail> {

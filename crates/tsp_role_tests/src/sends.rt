@@ -2,14 +2,14 @@
 ghost use Rattle.std.specs.Prelude.{◌≡◌, ◌^◌, ◌≤◌, ◌<◌, length, IfOk};
 ghost use Rattle.tsp_sends.specs.Slots.{IsAscending, peers_of};
 
-use tsp_sends::due::Due;
-use tsp_sends::sends::Sends;
-use tsp_sends::tree::Tree;
 use std::alloc::{AllocError, Global};
 use tsp_base::kind::Kind;
 use tsp_base::message::{Body, Message};
 use tsp_base::name::Name;
 use tsp_base::place::PeerId;
+use tsp_sends::due::Due;
+use tsp_sends::sends::Sends;
+use tsp_sends::tree::Tree;
 
 /// The peers below a number.
 fn peers_below(alloc: Global, count: u32) -> Result<Vec<PeerId>, AllocError>

@@ -18,7 +18,7 @@ pub trait EventHandler: Drop {
     /// It is where a header and these events, of which the newest is the first, have brought it.
     ghost stands: { HeaderValue → List Event → Self → Type 0 };
 
-    /// No event has happened. The refusal is want of memory, and drops the header.
+    /// No event has happened. Fails only if out of memory, and then drops the header.
     fn begin(alloc: Global, header: Header) -> Result<Self, AllocError>
         requires some { 1 ≤ length header.nodes }
         requires whole { is_whole header ≡ true }

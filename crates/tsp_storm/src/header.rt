@@ -20,7 +20,7 @@ pub struct Begun {
     pub storm: Storm,
 }
 
-/// Makes the header of a schedule. The refusal is want of memory.
+/// Makes the header of a schedule. Fails only if out of memory.
 pub fn begin(alloc: Global, words: &StormWords) -> Result<Begun, AllocError>
     requires { IsStorm words.now }
     ensures header { IfOk result (λ b. b.header ≡ header_of words.now) }

@@ -67,8 +67,7 @@ fn answer(storm: &mut Storm, posted: u64, k: u64, time: u64) -> Event
 }
 
 impl Making {
-    /// A schedule without events: a node for each of the words' nodes, and none is up. The refusal is want
-    /// of memory.
+    /// A schedule without events: a node for each of the words' nodes, and none is up. Fails only if out of memory.
     pub fn begin(alloc: Global, words: &StormWords) -> Result<Making, AllocError>
         requires { IsStorm words.now }
         ensures stands { IfOk result (λ m. MakingStands words.now m) }

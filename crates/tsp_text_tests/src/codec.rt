@@ -1,11 +1,11 @@
 //! Octets and values that were worked out by hand from the layout.
-use tsp_codec::{decode, encode, read, read_back};
 use arrayvec::ArrayVec;
 use tsp_base::datagram::{Datagram, DecodeFault, Taken};
 use tsp_base::kind::{KINDS, Kind};
 use tsp_base::message::Body;
 use tsp_base::micros::Micros;
 use tsp_base::stamp::Stamp;
+use tsp_codec::{decode, encode, read, read_back};
 
 /// The octets of a head and a name, and then this many octets of fill.
 fn octets_of(head: &[u8], name: &[u8], fill: u8, count: usize) -> ArrayVec<u8, 300> {

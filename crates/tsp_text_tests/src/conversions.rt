@@ -1,8 +1,8 @@
 //! Lines that were worked out by hand from the layout of the datagrams.
-use tsp_convert::run::{pack, show};
 use arrayvec::ArrayVec;
 use std::alloc::Global;
 use std::process::Abort;
+use tsp_convert::run::{pack, show};
 use tsp_io::memory::{MemorySink, MemorySource};
 use tsp_lines::treat::Outcome;
 

@@ -1,6 +1,8 @@
 //! The values through their public calls, each on its happy path and at its edges.
 ghost use Rattle.std.specs.Prelude.{◌≡◌, [], IfSome};
 
+use std::alloc::Global;
+use std::test::Fail;
 use tsp_base::act::Act;
 use tsp_base::alarm::Alarm;
 use tsp_base::alarms::Alarms;
@@ -18,8 +20,6 @@ use tsp_base::octets::Octets;
 use tsp_base::pad::Pad;
 use tsp_base::place::{PeerId, Port};
 use tsp_base::stamp::Stamp;
-use std::alloc::Global;
-use std::test::Fail;
 
 #[test]
 fn bounds_values(rt: HostRuntime) -> Result<(), Fail> {

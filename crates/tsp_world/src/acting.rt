@@ -50,7 +50,7 @@ impl World {
         tick_at(self.line(node).rate, at)
     }
 
-    /// A node boots. The refusal is want of memory, and the world still stands for what it stood for.
+    /// A node boots. Fails only if out of memory, and the world still stands for what it stood for.
     pub(crate) fn boot(&mut self, at: u64, node: u32, word: u64) -> Result<(), AllocError>
         requires ready { IsReady (room (ports_on node (networks self.old.header))) self.old }
         requires time { at ≤ 1000000000000000 }

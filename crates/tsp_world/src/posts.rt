@@ -76,7 +76,7 @@ impl Posts {
         datagram_of(self.names.as_slice(), &self.heads[k as usize].held)
     }
 
-    /// Makes room for at least `n` more, whatever their names; the posts stay. The refusal is want of memory, and leaves the room as
+    /// Makes room for at least `n` more, whatever their names; the posts stay. Fails only if out of memory, and then leaves the room as
     /// it was.
     pub fn reserve(&mut self, n: usize) -> Result<(), AllocError>
         ensures items { self.new.items ≡ self.old.items }

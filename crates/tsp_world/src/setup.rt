@@ -9,7 +9,7 @@ use tsp_base::members::Members;
 use tsp_base::place::PeerId;
 use tsp_gateway::GateConfig;
 
-/// What each node of a header is set up with, in order, on these networks. The refusal is want of memory.
+/// What each node of a header is set up with, in order, on these networks. Fails only if out of memory.
 pub(crate) fn configs_of(
     alloc: Global,
     header: &Header,
@@ -26,7 +26,7 @@ pub(crate) fn configs_of(
     Ok(configs)
 }
 
-/// What a node is set up with on these networks. The refusal is want of memory.
+/// What a node is set up with on these networks. Fails only if out of memory.
 fn config_of(
     alloc: Global,
     line: &NodeLine,
@@ -43,7 +43,7 @@ fn config_of(
     Ok(config)
 }
 
-/// Gives a node a port on a network, where it is on it. The refusal is want of memory: a node is on 4 networks at
+/// Gives a node a port on a network, where it is on it. Fails only if out of memory: a node is on 4 networks at
 /// the most.
 fn join(
     alloc: Global,
@@ -63,7 +63,7 @@ fn join(
     }
 }
 
-/// The members of a network, as its ports have them as peers. The refusal is want of memory.
+/// The members of a network, as its ports have them as peers. Fails only if out of memory.
 fn peers_of(alloc: Global, net: &Members) -> Result<Vec<PeerId>, AllocError>
     ensures { IfOk result (λ v. v.items ≡ peers_on net.now) }
 {

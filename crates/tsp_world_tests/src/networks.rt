@@ -1,10 +1,10 @@
 //! A node between two networks.
 
-use tsp_networks::*;
 use std::test::Fail;
 use tsp_base::header::NodeLine;
 use tsp_base::name::Name;
 use tsp_base::place::PeerId;
+use tsp_networks::*;
 
 /// Three nodes: the middle one is on a network with each of the others.
 fn header_of(alloc: Global) -> Option<Header> {
