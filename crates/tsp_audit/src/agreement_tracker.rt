@@ -1,5 +1,26 @@
 //! Whether clocks that one round corrected agree, line by line.
-ghost use Rattle.std.specs.Prelude.{◌≡◌, ◌≤◌, ◌<◌, ◌+◌, ◌-◌, ◌^◌, ℕ, [], ◌∷◌, ◌++◌, List, length, get_or, take, vec_len, vec_capacity, true, MatchBool, IfOk, OnOk};
+ghost use Rattle.std.specs.Prelude.{
+  ◌≡◌,
+  ◌≤◌,
+  ◌<◌,
+  ◌+◌,
+  ◌-◌,
+  ◌^◌,
+  ℕ,
+  [],
+  ◌∷◌,
+  ◌++◌,
+  List,
+  length,
+  get_or,
+  take,
+  vec_len,
+  vec_capacity,
+  true,
+  MatchBool,
+  IfOk,
+  OnOk,
+};
 ghost use Rattle.tsp_audit.specs.Agreeing.{AccordIs, AllAre, AreBlank, FirstIs, Numbered, TripsTell};
 ghost use Rattle.tsp_audit.specs.Settings.{HasClocks, Timely};
 ghost use Rattle.tsp_promises.specs.Agreed.{Agreed, AgreedAt};
@@ -39,8 +60,8 @@ fn blanks(alloc: Global, count: usize) -> Result<Vec<NodeState>, AllocError>
     Ok(states)
 }
 
-/// Changes what is kept of a line's node, where these lines stand before it, with their round trips and the index of the
-/// newest act among them; `upto` are these lines and it.
+/// Changes what is kept of a line's node, where these lines stand before it, with their round trips
+/// and the index of the newest act among them; `upto` are these lines and it.
 fn note_node(
     nodes: &mut Vec<NodeState>,
     upto: &[HistoryLine],
@@ -51,7 +72,10 @@ fn note_node(
 )
     requires few { length upto.now < 2 ^ 32 }
     requires past { length before.now < 2 ^ 32 }
-    ensures nodes { history_of upto.now ≡ line_of line.now ∷ history_of before.now → TripsTell (history_of before.now) trips.now → FirstIs (from_act (history_of before.now)) last → AllAre (history_of before.now) nodes.old.items
+    ensures nodes { history_of upto.now ≡ line_of line.now ∷ history_of before.now
+        → TripsTell (history_of before.now) trips.now
+        → FirstIs (from_act (history_of before.now)) last
+        → AllAre (history_of before.now) nodes.old.items
         → AllAre (line_of line.now ∷ history_of before.now) nodes.new.items }
     ensures many { length nodes.new.items ≡ length nodes.old.items }
 {
@@ -64,7 +88,8 @@ fn note_node(
 
 /// Puts a round trip behind the others; there is to be room for it.
 fn note_trip(trips: &mut Vec<i128>, trip: i128)
-    ensures items { vec_len trips.old < vec_capacity trips.old → trips.new.items ≡ trips.old.items ++ trip ∷ [] }
+    ensures items { vec_len trips.old < vec_capacity trips.old
+        → trips.new.items ≡ trips.old.items ++ trip ∷ [] }
     ensures len { vec_len trips.new ≤ vec_len trips.old + 1 }
     ensures capacity { vec_capacity trips.new ≡ vec_capacity trips.old }
 {
@@ -75,7 +100,8 @@ fn note_trip(trips: &mut Vec<i128>, trip: i128)
 
 /// The index of the newest act after the line with this index, where `keep` is that before it.
 fn newest(line: &HistoryLine, index: usize, keep: Option<usize>) -> Option<usize>
-    ensures { (h : List Line) → index ≡ length h → FirstIs (from_act h) keep → FirstIs (from_act (line_of line.now ∷ h)) result }
+    ensures { (h : List Line) → index ≡ length h → FirstIs (from_act h) keep
+        → FirstIs (from_act (line_of line.now ∷ h)) result }
 {
     match &line.act {
         None => keep,
@@ -108,10 +134,12 @@ impl AgreementTracker {
         }
     }
 
-    /// Makes room for so many lines more. Fails only if out of memory; either way the accord stands for what it did.
+    /// Makes room for so many lines more. Fails only if out of memory; either way the accord stands
+    /// for what it did.
     pub(crate) fn make_room(&mut self, count: usize) -> Result<(), AllocError>
         ensures room { OnOk result (vec_len self.new.trips + count ≤ vec_capacity self.new.trips) }
-        ensures accord { (nodes : ℕ) (h : List Line) → AccordIs nodes h self.old → AccordIs nodes h self.new }
+        ensures accord { (nodes : ℕ) (h : List Line) → AccordIs nodes h self.old
+            → AccordIs nodes h self.new }
     {
         self.trips.reserve(count)
     }
@@ -120,7 +148,9 @@ impl AgreementTracker {
     fn note(&mut self, lines: &[HistoryLine], index: usize)
         requires few { length lines.now < 2 ^ 32 }
         requires below { index < length lines.now }
-        ensures accord { (count : ℕ) → vec_len self.old.trips < vec_capacity self.old.trips → AccordIs count (history_of (take index lines.now)) self.old → AccordIs count (history_of (take (index + 1) lines.now)) self.new }
+        ensures accord { (count : ℕ) → vec_len self.old.trips < vec_capacity self.old.trips
+            → AccordIs count (history_of (take index lines.now)) self.old
+            → AccordIs count (history_of (take (index + 1) lines.now)) self.new }
         ensures len { vec_len self.new.trips ≤ vec_len self.old.trips + 1 }
         ensures capacity { vec_capacity self.new.trips ≡ vec_capacity self.old.trips }
     {
@@ -141,8 +171,12 @@ impl AgreementTracker {
 
     /// Whether a line that was taken in keeps that clocks agree, where these lines stand before it.
     fn agrees(&self, header: &Header, before: &[HistoryLine], line: &HistoryLine) -> bool
-        ensures { (setting : Setting) (count : ℕ) → HasClocks header.now setting → line.now.at ≤ 1000000000000000 → Numbered count (line_of line.now ∷ history_of before.now) → AccordIs count (line_of line.now ∷ history_of before.now) self.now
-            → MatchBool result (AgreedAt setting (line_of line.now) (history_of before.now)) (AgreedAt setting (line_of line.now) (history_of before.now) → ⊥) }
+        ensures { (setting : Setting) (count : ℕ) → HasClocks header.now setting
+            → line.now.at ≤ 1000000000000000
+            → Numbered count (line_of line.now ∷ history_of before.now)
+            → AccordIs count (line_of line.now ∷ history_of before.now) self.now
+            → MatchBool result (AgreedAt setting (line_of line.now) (history_of before.now))
+            (AgreedAt setting (line_of line.now) (history_of before.now) → ⊥) }
     {
         if !rests(before, self.trips.as_slice(), line) {
             return false;
@@ -156,8 +190,9 @@ impl AgreementTracker {
         all_agree(header, line.at, self.nodes.as_slice())
     }
 
-    /// Whether clocks agree in all lines, where they do in those before `from`, for which the accord stands; there is to be room
-    /// for the others. It stands for all lines after that, where the answer is yes.
+    /// Whether clocks agree in all lines, where they do in those before `from`, for which the
+    /// accord stands; there is to be room for the others. It stands for all lines after that, where
+    /// the answer is yes.
     pub(crate) fn keeps_agreeing(
         &mut self,
         header: &Header,
@@ -166,9 +201,17 @@ impl AgreementTracker {
     ) -> bool
         requires from { from ≤ length lines.now }
         requires few { length lines.now < 2 ^ 32 }
-        ensures keeps { (setting : Setting) (count : ℕ) → HasClocks header.now setting → Timely (history_of lines.now) → Numbered count (history_of lines.now) → vec_len self.old.trips + (length lines.now - from) ≤ vec_capacity self.old.trips
-            → AccordIs count (history_of (take from lines.now)) self.old → Agreed setting (history_of (take from lines.now)) → MatchBool result (Agreed setting (history_of lines.now)) (Agreed setting (history_of lines.now) → ⊥) }
-        ensures accord { (count : ℕ) → result ≡ true → vec_len self.old.trips + (length lines.now - from) ≤ vec_capacity self.old.trips → AccordIs count (history_of (take from lines.now)) self.old → AccordIs count (history_of lines.now) self.new }
+        ensures keeps { (setting : Setting) (count : ℕ) → HasClocks header.now setting
+            → Timely (history_of lines.now) → Numbered count (history_of lines.now)
+            → vec_len self.old.trips + (length lines.now - from) ≤ vec_capacity self.old.trips
+            → AccordIs count (history_of (take from lines.now)) self.old
+            → Agreed setting (history_of (take from lines.now))
+            → MatchBool result (Agreed setting (history_of lines.now))
+            (Agreed setting (history_of lines.now) → ⊥) }
+        ensures accord { (count : ℕ) → result ≡ true
+            → vec_len self.old.trips + (length lines.now - from) ≤ vec_capacity self.old.trips
+            → AccordIs count (history_of (take from lines.now)) self.old
+            → AccordIs count (history_of lines.now) self.new }
     {
         for i in from..lines.len() {
             self.note(lines, i);

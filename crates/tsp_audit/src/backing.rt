@@ -16,7 +16,8 @@ use tsp_history::scans::is_held;
 
 /// Whom the step of a node's port has backed last after a line, where it was `keep` before.
 fn backed_after(line: &HistoryLine, node: u32, port: Port, keep: Option<PeerId>) -> Option<PeerId>
-    ensures { (before : List Line) → keep ≡ backed (view port (of node before)) → result ≡ backed (view port (of node (line_of line.now ∷ before))) }
+    ensures { (before : List Line) → keep ≡ backed (view port (of node before))
+        → result ≡ backed (view port (of node (line_of line.now ∷ before))) }
 {
     if line.node != node {
         return keep;
@@ -47,7 +48,8 @@ fn backed_at(lines: &[HistoryLine], node: u32, port: Port) -> Option<PeerId>
 
 /// Whether a node's port is an unbacked candidate after a line, where it was `keep` before.
 fn is_unbacked_after(line: &HistoryLine, node: u32, port: Port, keep: bool) -> bool
-    ensures { (before : List Line) → keep ≡ is_unbacked (view port (of node before)) → result ≡ is_unbacked (view port (of node (line_of line.now ∷ before))) }
+    ensures { (before : List Line) → keep ≡ is_unbacked (view port (of node before))
+        → result ≡ is_unbacked (view port (of node (line_of line.now ∷ before))) }
 {
     if line.node != node {
         return keep;
@@ -79,7 +81,8 @@ fn is_unbacked_at(lines: &[HistoryLine], node: u32, port: Port) -> bool
 
 /// Whether a line is no Back for another candidate than its port holds, where these stand before it.
 fn holds(lines: &[HistoryLine], line: &HistoryLine) -> bool
-    ensures { MatchBool result (HoldsAt (line_of line.now) (history_of lines.now)) (HoldsAt (line_of line.now) (history_of lines.now) → ⊥) }
+    ensures { MatchBool result (HoldsAt (line_of line.now) (history_of lines.now))
+        (HoldsAt (line_of line.now) (history_of lines.now) → ⊥) }
 {
     match &line.act {
         Some(Act::Back(p)) => is_held(lines, line.node, line.port, line.tick, *p),
@@ -99,10 +102,13 @@ fn stands(line: &HistoryLine, node: Option<u32>) -> bool
     matches!(&line.act, Some(Act::Become(Role::Candidate)))
 }
 
-/// Whether no port of the node, or with no node of any, is an unbacked candidate, where none was before `from`.
+/// Whether no port of the node, or with no node of any, is an unbacked candidate, where none was
+/// before `from`.
 fn settles(lines: &[HistoryLine], from: usize, node: Option<u32>) -> bool
     requires { from ≤ length lines.now }
-    ensures { Settled node (history_of (take from lines.now)) → MatchBool result (Settled node (history_of lines.now)) (Settled node (history_of lines.now) → ⊥) }
+    ensures { Settled node (history_of (take from lines.now))
+        → MatchBool result (Settled node (history_of lines.now))
+        (Settled node (history_of lines.now) → ⊥) }
 {
     for i in from..lines.len() {
         let line = &lines[i];
@@ -113,9 +119,11 @@ fn settles(lines: &[HistoryLine], from: usize, node: Option<u32>) -> bool
     true
 }
 
-/// Whether a post's addressee was backed, if it is accepted, and whether the port backed itself, if it asks for votes.
+/// Whether a post's addressee was backed, if it is accepted, and whether the port backed itself, if
+/// it asks for votes.
 fn may_post(lines: &[HistoryLine], line: &HistoryLine, to: Place, kind: Kind) -> bool
-    ensures { let seen = view line.now.port (of line.now.node (history_of lines.now)) in result ≡ post_backs kind to (backed seen) (is_unbacked seen) }
+    ensures { let seen = view line.now.port (of line.now.node (history_of lines.now)) in
+        result ≡ post_backs kind to (backed seen) (is_unbacked seen) }
 {
     match kind {
         Kind::Accept => match to {
@@ -132,7 +140,8 @@ fn may_post(lines: &[HistoryLine], line: &HistoryLine, to: Place, kind: Kind) ->
 
 /// Whether a line that is no mark keeps to whom its step has backed, where these stand before it.
 fn votes(lines: &[HistoryLine], line: &HistoryLine) -> bool
-    ensures { let seen = view line.now.port (of line.now.node (history_of lines.now)) in result ≡ deed_backs (deed_of line.now.act) (backed seen) (is_unbacked seen) }
+    ensures { let seen = view line.now.port (of line.now.node (history_of lines.now)) in
+        result ≡ deed_backs (deed_of line.now.act) (backed seen) (is_unbacked seen) }
 {
     match &line.act {
         Some(Act::Post(to, Datagram::Message(m))) => may_post(lines, line, *to, m.kind()),
@@ -140,10 +149,13 @@ fn votes(lines: &[HistoryLine], line: &HistoryLine) -> bool
     }
 }
 
-/// Whether a line keeps to whom its step has backed, where these stand before it, and before `from` no candidate was unbacked.
+/// Whether a line keeps to whom its step has backed, where these stand before it, and before `from`
+/// no candidate was unbacked.
 fn backs(lines: &[HistoryLine], from: usize, line: &HistoryLine) -> bool
     requires { from ≤ length lines.now }
-    ensures { Settled None (history_of (take from lines.now)) → MatchBool result (BacksAt (line_of line.now) (history_of lines.now)) (BacksAt (line_of line.now) (history_of lines.now) → ⊥) }
+    ensures { Settled None (history_of (take from lines.now))
+        → MatchBool result (BacksAt (line_of line.now) (history_of lines.now))
+        (BacksAt (line_of line.now) (history_of lines.now) → ⊥) }
 {
     match &line.act {
         None => settles(lines, from, Some(line.node)),
@@ -154,7 +166,9 @@ fn backs(lines: &[HistoryLine], from: usize, line: &HistoryLine) -> bool
 /// Whether a line keeps the promise about backing, where these stand before it.
 fn is_backing(lines: &[HistoryLine], from: usize, line: &HistoryLine) -> bool
     requires { from ≤ length lines.now }
-    ensures { Settled None (history_of (take from lines.now)) → MatchBool result (Backs (line_of line.now) (history_of lines.now)) (Backs (line_of line.now) (history_of lines.now) → ⊥) }
+    ensures { Settled None (history_of (take from lines.now))
+        → MatchBool result (Backs (line_of line.now) (history_of lines.now))
+        (Backs (line_of line.now) (history_of lines.now) → ⊥) }
 {
     holds(lines, line) && backs(lines, from, line)
 }
@@ -162,7 +176,8 @@ fn is_backing(lines: &[HistoryLine], from: usize, line: &HistoryLine) -> bool
 /// Whether nobody backs two candidates within the hold in all lines, where it is so in those before `from`.
 pub(crate) fn keeps_backing(lines: &[HistoryLine], from: usize) -> bool
     requires { from ≤ length lines.now }
-    ensures { OneBack (history_of (take from lines.now)) → MatchBool result (OneBack (history_of lines.now)) (OneBack (history_of lines.now) → ⊥) }
+    ensures { OneBack (history_of (take from lines.now))
+        → MatchBool result (OneBack (history_of lines.now)) (OneBack (history_of lines.now) → ⊥) }
 {
     for i in from..lines.len() {
         if !is_backing(&lines[..i], from, &lines[i]) {

@@ -13,7 +13,8 @@ use tsp_history::posts::post_at;
 
 /// The index of the line, among these before it, that posts the datagram which a line's step takes.
 pub(crate) fn came_at(lines: &[HistoryLine], line: &HistoryLine) -> Option<usize>
-    ensures { MatchOption result (IsUnposted (line_of line.now) (history_of lines.now)) (λ i. CameAt lines.now (line_of line.now) i) }
+    ensures { MatchOption result (IsUnposted (line_of line.now) (history_of lines.now))
+        (λ i. CameAt lines.now (line_of line.now) i) }
 {
     match line.why {
         Why::Came(number) => post_at(lines, number),
@@ -23,7 +24,8 @@ pub(crate) fn came_at(lines: &[HistoryLine], line: &HistoryLine) -> Option<usize
 
 /// Whether a line posts a message to a node.
 fn posts_to(line: &HistoryLine, node: u32) -> bool
-    ensures { MatchBool result (PostsTo (deed_of line.now.act) node) (PostsTo (deed_of line.now.act) node → ⊥) }
+    ensures { MatchBool result (PostsTo (deed_of line.now.act) node) (PostsTo (deed_of line.now.act)
+        node → ⊥) }
 {
     match &line.act {
         Some(Act::Post(Place::Peer(p), Datagram::Message(_))) => p.0 == node,
@@ -31,9 +33,12 @@ fn posts_to(line: &HistoryLine, node: u32) -> bool
     }
 }
 
-/// The index of the line, among these before it, that posts the message which a line's step brings to its node.
+/// The index of the line, among these before it, that posts the message which a line's step brings
+/// to its node.
 pub(crate) fn brought(lines: &[HistoryLine], line: &HistoryLine) -> Option<usize>
-    ensures { MatchOption result ((post : Line) (older : List Line) → Brings (line_of line.now) (history_of lines.now) post older → ⊥) (λ i. BringsAt lines.now (line_of line.now) i) }
+    ensures { MatchOption result ((post : Line) (older : List Line)
+        → Brings (line_of line.now) (history_of lines.now) post older
+        → ⊥) (λ i. BringsAt lines.now (line_of line.now) i) }
 {
     match came_at(lines, line) {
         None => None,

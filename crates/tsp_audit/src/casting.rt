@@ -26,8 +26,8 @@ fn trip_in(trips: &[i128], index: usize) -> i128
     if index < trips.len() { trips[index] } else { 0 }
 }
 
-/// The best sample of a peer since the last round of a node's port began, if there is one, where the round trips of these
-/// lines stand at their indices.
+/// The best sample of a peer since the last round of a node's port began, if there is one, where
+/// the round trips of these lines stand at their indices.
 pub(crate) fn best_in(
     lines: &[HistoryLine],
     trips: &[i128],
@@ -35,7 +35,8 @@ pub(crate) fn best_in(
     port: Port,
     p: PeerId,
 ) -> Option<Best>
-    ensures { TripsTell (history_of lines.now) trips.now → Bests lines.now node port (best p (view port (of node (history_of lines.now)))) result }
+    ensures { TripsTell (history_of lines.now) trips.now
+        → Bests lines.now node port (best p (view port (of node (history_of lines.now)))) result }
 {
     let mut best = None;
     for (index, line) in lines.iter().enumerate() {
@@ -44,9 +45,11 @@ pub(crate) fn best_in(
     best
 }
 
-/// The true time, in microseconds, at which something was posted, among these lines, that the step of a later line takes.
+/// The true time, in microseconds, at which something was posted, among these lines, that the step
+/// of a later line takes.
 fn reading_of(lines: &[HistoryLine], line: &HistoryLine) -> Option<u64>
-    ensures { MatchOption result (TakesNone (history_of lines.now) (line_of line.now)) (λ t. TakesThen (history_of lines.now) (line_of line.now) t) }
+    ensures { MatchOption result (TakesNone (history_of lines.now) (line_of line.now))
+        (λ t. TakesThen (history_of lines.now) (line_of line.now) t) }
 {
     let Why::Came(number) = line.why else {
         return None;
@@ -57,8 +60,8 @@ fn reading_of(lines: &[HistoryLine], line: &HistoryLine) -> Option<u64>
     }
 }
 
-/// What a Close at this index is kept as, where these lines stand before the first post of a send to a node: with its best
-/// sample of that node, if this has a reading.
+/// What a Close at this index is kept as, where these lines stand before the first post of a send
+/// to a node: with its best sample of that node, if this has a reading.
 fn sampled(
     lines: &[HistoryLine],
     trips: &[i128],
@@ -68,8 +71,11 @@ fn sampled(
 ) -> Option<RoundCorrection>
     requires few { length lines.now < 2 ^ 32 }
     requires below { close < length lines.now }
-    ensures { TripsTell (history_of lines.now) trips.now → SeenAt lines.now first.now.node first.now.port (closed (view first.now.port (of first.now.node (history_of lines.now)))) close
-        → MatchOption result (HasNoRound first.now.node first.now.port node (history_of lines.now)) (λ c. RoundAs first.now.node first.now.port node (history_of lines.now) c) }
+    ensures { TripsTell (history_of lines.now) trips.now
+        → SeenAt lines.now first.now.node first.now.port
+        (closed (view first.now.port (of first.now.node (history_of lines.now)))) close
+        → MatchOption result (HasNoRound first.now.node first.now.port node (history_of lines.now))
+        (λ c. RoundAs first.now.node first.now.port node (history_of lines.now) c) }
 {
     let past = &lines[..close];
     let Some(best) = best_in(past, trips, first.node, first.port, PeerId(node)) else {
@@ -94,8 +100,8 @@ fn sampled(
     }
 }
 
-/// What began a send to a node, if that is a Close of its step that had a sample of the node, where these lines stand before
-/// its first post.
+/// What began a send to a node, if that is a Close of its step that had a sample of the node, where
+/// these lines stand before its first post.
 fn round_of(
     lines: &[HistoryLine],
     trips: &[i128],
@@ -103,7 +109,9 @@ fn round_of(
     node: u32,
 ) -> Option<RoundCorrection>
     requires { length lines.now < 2 ^ 32 }
-    ensures { TripsTell (history_of lines.now) trips.now → MatchOption result (HasNoRound first.now.node first.now.port node (history_of lines.now)) (λ c. RoundAs first.now.node first.now.port node (history_of lines.now) c) }
+    ensures { TripsTell (history_of lines.now) trips.now
+        → MatchOption result (HasNoRound first.now.node first.now.port node (history_of lines.now))
+        (λ c. RoundAs first.now.node first.now.port node (history_of lines.now) c) }
 {
     match closed_at(lines, first.node, first.port) {
         None => None,
@@ -119,7 +127,8 @@ fn round_of(
 
 /// Whether a line posts an ADJTIME.
 fn is_adjusting(line: &HistoryLine) -> bool
-    ensures { MatchBool result (IsAdjusting (deed_of line.now.act)) (IsAdjusting (deed_of line.now.act) → ⊥) }
+    ensures { MatchBool result (IsAdjusting (deed_of line.now.act))
+        (IsAdjusting (deed_of line.now.act) → ⊥) }
 {
     match &line.act {
         Some(Act::Post(_, Datagram::Message(m))) => m.kind() == Kind::AdjTime,
@@ -130,7 +139,8 @@ fn is_adjusting(line: &HistoryLine) -> bool
 /// The index of the first post of the send of which a line's Correct takes a post, if that is an ADJTIME.
 fn begun(lines: &[HistoryLine], line: &HistoryLine) -> Option<usize>
     requires { length lines.now < 2 ^ 32 }
-    ensures { MatchOption result (IsNoCast (line_of line.now) (history_of lines.now)) (λ i. BegunAt lines.now (line_of line.now) i) }
+    ensures { MatchOption result (IsNoCast (line_of line.now) (history_of lines.now))
+        (λ i. BegunAt lines.now (line_of line.now) i) }
 {
     let Some(number) = takes_send(lines, line) else {
         return None;
@@ -147,14 +157,17 @@ fn begun(lines: &[HistoryLine], line: &HistoryLine) -> Option<usize>
     }
 }
 
-/// What a line's Correct came of, if that is a round, where these lines stand before it, with their round trips.
+/// What a line's Correct came of, if that is a round, where these lines stand before it, with their
+/// round trips.
 pub(crate) fn cast_at(
     lines: &[HistoryLine],
     trips: &[i128],
     line: &HistoryLine,
 ) -> Option<RoundCorrection>
     requires { length lines.now < 2 ^ 32 }
-    ensures { TripsTell (history_of lines.now) trips.now → MatchOption result (IsNoCast (line_of line.now) (history_of lines.now)) (λ c. CastAs (line_of line.now) (history_of lines.now) c) }
+    ensures { TripsTell (history_of lines.now) trips.now
+        → MatchOption result (IsNoCast (line_of line.now) (history_of lines.now))
+        (λ c. CastAs (line_of line.now) (history_of lines.now) c) }
 {
     match begun(lines, line) {
         None => None,

@@ -22,8 +22,10 @@ pub(crate) struct Counts {
 fn counts_after(line: &HistoryLine, node: u32, keep: Counts) -> Counts
     requires lives { keep.lives < 2 ^ 32 }
     requires corrects { keep.corrects < 2 ^ 32 }
-    ensures lives { (before : List Line) → keep.lives ≡ lives (dids (of node before)) → result.lives ≡ lives (dids (of node (line_of line.now ∷ before))) }
-    ensures corrects { (before : List Line) → keep.corrects ≡ all_corrects (dids (of node before)) → result.corrects ≡ all_corrects (dids (of node (line_of line.now ∷ before))) }
+    ensures lives { (before : List Line) → keep.lives ≡ lives (dids (of node before))
+        → result.lives ≡ lives (dids (of node (line_of line.now ∷ before))) }
+    ensures corrects { (before : List Line) → keep.corrects ≡ all_corrects (dids (of node before))
+        → result.corrects ≡ all_corrects (dids (of node (line_of line.now ∷ before))) }
     ensures few_lives { result.lives ≤ keep.lives + 1 }
     ensures few_corrects { result.corrects ≤ keep.corrects + 1 }
 {
@@ -61,7 +63,8 @@ pub(crate) fn counts_at(lines: &[HistoryLine], node: u32) -> Counts
 
 /// Whether a port's step has taken something or an alarm, after a line, where `keep` says so before it.
 fn is_acting_after(line: &HistoryLine, node: u32, port: Port, keep: bool) -> bool
-    ensures { (before : List Line) → keep ≡ acting (view port (of node before)) → result ≡ acting (view port (of node (line_of line.now ∷ before))) }
+    ensures { (before : List Line) → keep ≡ acting (view port (of node before))
+        → result ≡ acting (view port (of node (line_of line.now ∷ before))) }
 {
     if line.node != node {
         return keep;
@@ -73,7 +76,8 @@ fn is_acting_after(line: &HistoryLine, node: u32, port: Port, keep: bool) -> boo
     }
 }
 
-/// Whether the step that a port is in has taken something or an alarm: what it posts from here on is no repeat.
+/// Whether the step that a port is in has taken something or an alarm: what it posts from here on
+/// is no repeat.
 pub(crate) fn is_acting(lines: &[HistoryLine], node: u32, port: Port) -> bool
     ensures { result ≡ acting (view port (of node (history_of lines.now))) }
 {

@@ -13,7 +13,8 @@ use tsp_history::scans::role_at;
 
 /// Whether the newest act after a line is a Close, where `keep` says so of what stands before.
 fn closes_after(line: &HistoryLine, keep: bool) -> bool
-    ensures { (before : List Line) → keep ≡ closing before → result ≡ closing (line_of line.now ∷ before) }
+    ensures { (before : List Line) → keep ≡ closing before
+        → result ≡ closing (line_of line.now ∷ before) }
 {
     match &line.act {
         None => keep,
@@ -47,7 +48,8 @@ fn must_lead(lines: &[HistoryLine], line: &HistoryLine) -> bool
 
 /// Whether a line is a master's where it must be, where these stand before it.
 fn leads(lines: &[HistoryLine], line: &HistoryLine) -> bool
-    ensures { MatchBool result (LeadsAt (line_of line.now) (history_of lines.now)) (LeadsAt (line_of line.now) (history_of lines.now) → ⊥) }
+    ensures { MatchBool result (LeadsAt (line_of line.now) (history_of lines.now))
+        (LeadsAt (line_of line.now) (history_of lines.now) → ⊥) }
 {
     if must_lead(lines, line) {
         match role_at(lines, line.node, line.port) {
@@ -62,7 +64,9 @@ fn leads(lines: &[HistoryLine], line: &HistoryLine) -> bool
 /// Whether only masters correct in all lines, where it is so in those before `from`.
 pub(crate) fn keeps_leading(lines: &[HistoryLine], from: usize) -> bool
     requires { from ≤ length lines.now }
-    ensures { OnlyMaster (history_of (take from lines.now)) → MatchBool result (OnlyMaster (history_of lines.now)) (OnlyMaster (history_of lines.now) → ⊥) }
+    ensures { OnlyMaster (history_of (take from lines.now))
+        → MatchBool result (OnlyMaster (history_of lines.now)) (OnlyMaster (history_of lines.now)
+        → ⊥) }
 {
     for i in from..lines.len() {
         if !leads(&lines[..i], &lines[i]) {

@@ -25,7 +25,8 @@ use tsp_history::rounds::{asked_at, is_going};
 
 /// Whether a line is a peer's, and posts a reply to a node.
 fn replies_to(post: &HistoryLine, peer: PeerId, node: u32) -> bool
-    ensures { MatchBool result (RepliesTo (line_of post.now) peer node) (RepliesTo (line_of post.now) peer node → ⊥) }
+    ensures { MatchBool result (RepliesTo (line_of post.now) peer node)
+        (RepliesTo (line_of post.now) peer node → ⊥) }
 {
     match &post.act {
         Some(Act::Post(Place::Peer(to), Datagram::Stamp(Stamp::Reply(_)))) => {
@@ -37,7 +38,9 @@ fn replies_to(post: &HistoryLine, peer: PeerId, node: u32) -> bool
 
 /// The index of the line, among these before it, at which a peer posts the reply that a line's step takes.
 fn reply_at(lines: &[HistoryLine], line: &HistoryLine, peer: PeerId) -> Option<usize>
-    ensures { MatchOption result ((post : Line) (older : List Line) → Replies (line_of line.now) (history_of lines.now) peer post older → ⊥) (λ i. RepliesAt lines.now (line_of line.now) peer i) }
+    ensures { MatchOption result ((post : Line) (older : List Line)
+        → Replies (line_of line.now) (history_of lines.now) peer post older
+        → ⊥) (λ i. RepliesAt lines.now (line_of line.now) peer i) }
 {
     match came_at(lines, line) {
         None => None,
@@ -70,7 +73,8 @@ fn stands_ahead(diff: i64, err: i64, ahead: i128, own: i128) -> bool
     is_near(i128::from(diff), gap(ahead, own), i128::from(err))
 }
 
-/// Whether a Sample of a peer has a reading from which diff errs by at most err, where these lines stand before it.
+/// Whether a Sample of a peer has a reading from which diff errs by at most err, where these lines
+/// stand before it.
 fn has_reading(
     header: &Header,
     lines: &[HistoryLine],
@@ -81,7 +85,8 @@ fn has_reading(
 ) -> bool
     requires { length lines.now < 2 ^ 32 }
     ensures { (setting : Setting) → HasClocks header.now setting → Timely (history_of lines.now)
-        → MatchBool result (ReadBy setting (line_of line.now) (history_of lines.now) peer diff err) (ReadBy setting (line_of line.now) (history_of lines.now) peer diff err → ⊥) }
+        → MatchBool result (ReadBy setting (line_of line.now) (history_of lines.now) peer diff err)
+        (ReadBy setting (line_of line.now) (history_of lines.now) peer diff err → ⊥) }
 {
     match reply_at(lines, line, peer) {
         None => false,
@@ -99,7 +104,8 @@ fn has_reading(
 fn errs_little(header: &Header, lines: &[HistoryLine], line: &HistoryLine) -> bool
     requires { length lines.now < 2 ^ 32 }
     ensures { (setting : Setting) → HasClocks header.now setting → Timely (history_of lines.now)
-        → MatchBool result (MeasuredAt setting (line_of line.now) (history_of lines.now)) (MeasuredAt setting (line_of line.now) (history_of lines.now) → ⊥) }
+        → MatchBool result (MeasuredAt setting (line_of line.now) (history_of lines.now))
+        (MeasuredAt setting (line_of line.now) (history_of lines.now) → ⊥) }
 {
     match &line.act {
         Some(
@@ -145,7 +151,8 @@ fn is_half(err: i64, now: i128, start: i128) -> bool
     is_same(err, half_up(gap(now, start)))
 }
 
-/// Whether a Sample under this counter ends an exchange with a peer whose trip takes twice err, where these lines stand before it.
+/// Whether a Sample under this counter ends an exchange with a peer whose trip takes twice err,
+/// where these lines stand before it.
 fn ends_exchange(
     lines: &[HistoryLine],
     line: &HistoryLine,
@@ -154,7 +161,11 @@ fn ends_exchange(
     err: i64,
 ) -> bool
     requires { length lines.now < 2 ^ 32 }
-    ensures { MatchBool result (TripOf (line_of line.now) (view line.now.port (of line.now.node (history_of lines.now))) peer counter err) (TripOf (line_of line.now) (view line.now.port (of line.now.node (history_of lines.now))) peer counter err → ⊥) }
+    ensures { MatchBool result
+        (TripOf (line_of line.now) (view line.now.port (of line.now.node (history_of lines.now)))
+        peer counter err)
+        (TripOf (line_of line.now) (view line.now.port (of line.now.node (history_of lines.now)))
+        peer counter err → ⊥) }
 {
     if !is_going(lines, line.node, line.port) {
         return false;
@@ -168,7 +179,8 @@ fn ends_exchange(
 /// Whether the err of a Sample is half its round trip, where these lines stand before it.
 fn trips_well(lines: &[HistoryLine], line: &HistoryLine) -> bool
     requires { length lines.now < 2 ^ 32 }
-    ensures { MatchBool result (TripAt (line_of line.now) (history_of lines.now)) (TripAt (line_of line.now) (history_of lines.now) → ⊥) }
+    ensures { MatchBool result (TripAt (line_of line.now) (history_of lines.now))
+        (TripAt (line_of line.now) (history_of lines.now) → ⊥) }
 {
     match &line.act {
         Some(
@@ -183,11 +195,13 @@ fn trips_well(lines: &[HistoryLine], line: &HistoryLine) -> bool
     }
 }
 
-/// Whether a line keeps that each measurement errs by at most half its round trip, where these lines stand before it.
+/// Whether a line keeps that each measurement errs by at most half its round trip, where these
+/// lines stand before it.
 fn measures(header: &Header, lines: &[HistoryLine], line: &HistoryLine) -> bool
     requires { length lines.now < 2 ^ 32 }
     ensures { (setting : Setting) → HasClocks header.now setting → Timely (history_of lines.now)
-        → MatchBool result (MeasuresAt setting (line_of line.now) (history_of lines.now)) (MeasuresAt setting (line_of line.now) (history_of lines.now) → ⊥) }
+        → MatchBool result (MeasuresAt setting (line_of line.now) (history_of lines.now))
+        (MeasuresAt setting (line_of line.now) (history_of lines.now) → ⊥) }
 {
     if !trips_well(lines, line) {
         return false;
@@ -195,12 +209,15 @@ fn measures(header: &Header, lines: &[HistoryLine], line: &HistoryLine) -> bool
     errs_little(header, lines, line)
 }
 
-/// Whether each measurement errs by at most half its round trip in all lines, where it is so in those before `from`.
+/// Whether each measurement errs by at most half its round trip in all lines, where it is so in
+/// those before `from`.
 fn keeps_measuring(header: &Header, lines: &[HistoryLine], from: usize) -> bool
     requires from { from ≤ length lines.now }
     requires few { length lines.now < 2 ^ 32 }
-    ensures { (setting : Setting) → HasClocks header.now setting → Timely (history_of lines.now) → MeasuresWell setting (history_of (take from lines.now))
-        → MatchBool result (MeasuresWell setting (history_of lines.now)) (MeasuresWell setting (history_of lines.now) → ⊥) }
+    ensures { (setting : Setting) → HasClocks header.now setting → Timely (history_of lines.now)
+        → MeasuresWell setting (history_of (take from lines.now))
+        → MatchBool result (MeasuresWell setting (history_of lines.now))
+        (MeasuresWell setting (history_of lines.now) → ⊥) }
 {
     for i in from..lines.len() {
         if !measures(header, &lines[..i], &lines[i]) {
@@ -219,8 +236,10 @@ pub(crate) fn keeps_measuring_if(
 ) -> bool
     requires from { from ≤ length lines.now }
     requires few { length lines.now < 2 ^ 32 }
-    ensures { (setting : Setting) → HasClocks header.now setting → Timely (history_of lines.now) → Keeps premises setting Measuring (history_of (take from lines.now))
-        → MatchBool result (Keeps premises setting Measuring (history_of lines.now)) (Keeps premises setting Measuring (history_of lines.now) → ⊥) }
+    ensures { (setting : Setting) → HasClocks header.now setting → Timely (history_of lines.now)
+        → Keeps premises setting Measuring (history_of (take from lines.now))
+        → MatchBool result (Keeps premises setting Measuring (history_of lines.now))
+        (Keeps premises setting Measuring (history_of lines.now) → ⊥) }
 {
     if premises.honest && premises.words {
         keeps_measuring(header, lines, from)

@@ -1,6 +1,36 @@
 //! Whether clocks that one round corrected agree.
-ghost use Rattle.std.specs.Prelude.{◌≡◌, ◌≤◌, ◌<◌, ◌^◌, ◌+◌, ◌-◌, ◌*◌, ◌≤ℤ◌, ◌+ℤ◌, ◌-ℤ◌, pos, neg_ℤ, nat_abs, ℕ, length, get_or, Some, MatchBool};
-ghost use Rattle.tsp_audit.specs.Agreeing.{AllAgree, AllBounded, BossAgrees, IsAt, MasterNear, NodeAgrees, PairAgrees, PairNear, Stands, shown_by};
+ghost use Rattle.std.specs.Prelude.{
+  ◌≡◌,
+  ◌≤◌,
+  ◌<◌,
+  ◌^◌,
+  ◌+◌,
+  ◌-◌,
+  ◌*◌,
+  ◌≤ℤ◌,
+  ◌+ℤ◌,
+  ◌-ℤ◌,
+  pos,
+  neg_ℤ,
+  nat_abs,
+  ℕ,
+  length,
+  get_or,
+  Some,
+  MatchBool,
+};
+ghost use Rattle.tsp_audit.specs.Agreeing.{
+  AllAgree,
+  AllBounded,
+  BossAgrees,
+  IsAt,
+  MasterNear,
+  NodeAgrees,
+  PairAgrees,
+  PairNear,
+  Stands,
+  shown_by,
+};
 ghost use Rattle.tsp_audit.specs.declared.round_correction.NodeState.{NodeState as NodeValue};
 ghost use Rattle.tsp_base.specs.Ticks.{width};
 ghost use Rattle.tsp_history.specs.Clocks.{IsSumOf, IsTrip};
@@ -28,7 +58,8 @@ fn drifted(drift: u32, at: u64, reading: u64) -> u64
 pub(crate) fn is_near(a: i128, b: i128, most: i128) -> bool
     requires first { IsTrip a }
     requires second { IsTrip b }
-    ensures { MatchBool result (pos (nat_abs (a -ℤ b)) ≤ℤ most) (pos (nat_abs (a -ℤ b)) ≤ℤ most → ⊥) }
+    ensures { MatchBool result (pos (nat_abs (a -ℤ b)) ≤ℤ most) (pos (nat_abs (a -ℤ b)) ≤ℤ most
+        → ⊥) }
 {
     if a - b > most {
         return false;
@@ -76,8 +107,10 @@ fn pair_near(
     b: &NodeState,
     d: &RoundCorrection,
 ) -> bool
-    ensures { at ≤ 1000000000000000 → IsSumOf 4294967295 a.now.moved → IsSumOf 4294967295 b.now.moved
-        → MatchBool result (PairNear header.now at first a.now c.now second b.now d.now) (PairNear header.now at first a.now c.now second b.now d.now → ⊥) }
+    ensures { at ≤ 1000000000000000 → IsSumOf 4294967295 a.now.moved
+        → IsSumOf 4294967295 b.now.moved
+        → MatchBool result (PairNear header.now at first a.now c.now second b.now d.now)
+        (PairNear header.now at first a.now c.now second b.now d.now → ⊥) }
 {
     let drift = header.drift();
     let most = bound(
@@ -100,8 +133,10 @@ fn pair_agrees(
     second: u32,
     b: &NodeState,
 ) -> bool
-    ensures { at ≤ 1000000000000000 → IsSumOf 4294967295 a.now.moved → IsSumOf 4294967295 b.now.moved
-        → MatchBool result (PairAgrees header.now at first a.now second b.now) (PairAgrees header.now at first a.now second b.now → ⊥) }
+    ensures { at ≤ 1000000000000000 → IsSumOf 4294967295 a.now.moved
+        → IsSumOf 4294967295 b.now.moved
+        → MatchBool result (PairAgrees header.now at first a.now second b.now)
+        (PairAgrees header.now at first a.now second b.now → ⊥) }
 {
     match (&a.cast, &b.cast) {
         (Some(c), Some(d)) => {
@@ -119,7 +154,9 @@ fn pair_agrees(
 fn pairs_agree(header: &Header, at: u64, node: u32, a: &NodeState, states: &[NodeState]) -> bool
     requires { length states.now < 2 ^ 32 }
     ensures { at ≤ 1000000000000000 → IsSumOf 4294967295 a.now.moved → AllBounded states.now
-        → MatchBool result ((k : ℕ) (b : NodeValue) → IsAt states.now k b → PairAgrees header.now at node a.now k b) (((k : ℕ) (b : NodeValue) → IsAt states.now k b → PairAgrees header.now at node a.now k b) → ⊥) }
+        → MatchBool result ((k : ℕ) (b : NodeValue) → IsAt states.now k b
+        → PairAgrees header.now at node a.now k b) (((k : ℕ) (b : NodeValue) → IsAt states.now k b
+        → PairAgrees header.now at node a.now k b) → ⊥) }
 {
     for k in 0..states.len() {
         if !pair_agrees(header, at, node, a, k as u32, &states[k]) {
@@ -154,8 +191,10 @@ fn master_near(
     c: &RoundCorrection,
     b: &NodeState,
 ) -> bool
-    ensures { at ≤ 1000000000000000 → IsSumOf 4294967295 a.now.moved → IsSumOf 4294967295 b.now.moved
-        → MatchBool result (MasterNear header.now at node a.now c.now b.now) (MasterNear header.now at node a.now c.now b.now → ⊥) }
+    ensures { at ≤ 1000000000000000 → IsSumOf 4294967295 a.now.moved
+        → IsSumOf 4294967295 b.now.moved
+        → MatchBool result (MasterNear header.now at node a.now c.now b.now)
+        (MasterNear header.now at node a.now c.now b.now → ⊥) }
 {
     let most = bound(c.err, 0, drifted(header.drift(), at, c.at), 0);
     let clock = clock_of_moved(header, node, a.moved, at);
@@ -166,7 +205,8 @@ fn master_near(
 /// The same, as far as the master was left alone.
 fn master_agrees(header: &Header, at: u64, node: u32, a: &NodeState, states: &[NodeState]) -> bool
     ensures { at ≤ 1000000000000000 → IsSumOf 4294967295 a.now.moved → AllBounded states.now
-        → MatchBool result (BossAgrees header.now at node a.now states.now) (BossAgrees header.now at node a.now states.now → ⊥) }
+        → MatchBool result (BossAgrees header.now at node a.now states.now)
+        (BossAgrees header.now at node a.now states.now → ⊥) }
 {
     let Some(c) = &a.cast else {
         return true;
@@ -187,7 +227,8 @@ fn master_agrees(header: &Header, at: u64, node: u32, a: &NodeState, states: &[N
 fn node_agrees(header: &Header, at: u64, node: u32, a: &NodeState, states: &[NodeState]) -> bool
     requires { length states.now < 2 ^ 32 }
     ensures { at ≤ 1000000000000000 → IsSumOf 4294967295 a.now.moved → AllBounded states.now
-        → MatchBool result (NodeAgrees header.now at node a.now states.now) (NodeAgrees header.now at node a.now states.now → ⊥) }
+        → MatchBool result (NodeAgrees header.now at node a.now states.now)
+        (NodeAgrees header.now at node a.now states.now → ⊥) }
 {
     if a.cast.is_none() {
         return true;
@@ -198,7 +239,9 @@ fn node_agrees(header: &Header, at: u64, node: u32, a: &NodeState, states: &[Nod
 /// Whether each of these nodes does.
 pub(crate) fn all_agree(header: &Header, at: u64, states: &[NodeState]) -> bool
     requires { length states.now < 2 ^ 32 }
-    ensures { at ≤ 1000000000000000 → AllBounded states.now → MatchBool result (AllAgree header.now at states.now) (AllAgree header.now at states.now → ⊥) }
+    ensures { at ≤ 1000000000000000 → AllBounded states.now
+        → MatchBool result (AllAgree header.now at states.now) (AllAgree header.now at states.now
+        → ⊥) }
 {
     for n in 0..states.len() {
         if !node_agrees(header, at, n as u32, &states[n], states) {

@@ -21,7 +21,8 @@ impl Notes {
     /// Nothing is noted of so many nodes. Fails only if out of memory.
     pub(crate) fn new(alloc: Global, count: usize) -> Result<Notes, AllocError>
         requires { count ≤ 64 }
-        ensures { IfOk result (λ notes. (premises : Premises) → NotesStand premises count [] notes) }
+        ensures { IfOk result (λ notes. (premises : Premises)
+            → NotesStand premises count [] notes) }
     {
         match AgreementTracker::new(alloc, count) {
             Ok(accord) => Ok(Notes {
@@ -32,10 +33,12 @@ impl Notes {
         }
     }
 
-    /// Makes room for so many lines more. Fails only if out of memory; either way they stand for what they did.
+    /// Makes room for so many lines more. Fails only if out of memory; either way they stand for
+    /// what they did.
     pub(crate) fn make_room(&mut self, lines: usize) -> Result<(), AllocError>
         ensures room { OnOk result (HasRoom lines self.new) }
-        ensures stand { (premises : Premises) (count : ℕ) (h : List Line) → NotesStand premises count h self.old → NotesStand premises count h self.new }
+        ensures stand { (premises : Premises) (count : ℕ) (h : List Line)
+            → NotesStand premises count h self.old → NotesStand premises count h self.new }
     {
         match self.acted.reserve(lines) {
             Ok(()) => self.accord.make_room(lines),

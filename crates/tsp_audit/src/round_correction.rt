@@ -1,6 +1,7 @@
 //! What is kept of a node whose clock a round has corrected.
 
-/// A correction of a node's clock that a master's Close sent it, as long as nothing has moved the node's clock since.
+/// A correction of a node's clock that a master's Close sent it, as long as nothing has moved the
+/// node's clock since.
 #[derive(Clone, Copy)]
 pub(crate) struct RoundCorrection {
     /// The master.

@@ -29,14 +29,16 @@ pub(crate) fn blank() -> NodeState
 
 /// Whether a line is a Boot.
 fn is_boot(line: &HistoryLine) -> bool
-    ensures { MatchBool result (deed_of line.now.act ≡ Acts Boot) ((n : ℕ) → lives_after (deed_of line.now.act) n ≡ n) }
+    ensures { MatchBool result (deed_of line.now.act ≡ Acts Boot) ((n : ℕ)
+        → lives_after (deed_of line.now.act) n ≡ n) }
 {
     matches!(&line.act, Some(Act::Boot))
 }
 
 /// Whether a line is a Correct.
 fn is_correct(line: &HistoryLine) -> bool
-    ensures { MatchBool result (IsCorrect (deed_of line.now.act)) ((n : ℕ) → all_corrects_after (deed_of line.now.act) n ≡ n) }
+    ensures { MatchBool result (IsCorrect (deed_of line.now.act)) ((n : ℕ)
+        → all_corrects_after (deed_of line.now.act) n ≡ n) }
 {
     matches!(&line.act, Some(Act::Correct { .. }))
 }
@@ -52,8 +54,11 @@ fn corrected(
 ) -> NodeState
     requires few { length upto.now < 2 ^ 32 }
     requires past { length before.now < 2 ^ 32 }
-    ensures { history_of upto.now ≡ line_of line.now ∷ history_of before.now → TripsTell (history_of before.now) trips.now → FirstIs (from_act (history_of before.now)) last → IsCorrect (deed_of line.now.act)
-        → NodeIs line.now.node (history_of before.now) keep → NodeIs line.now.node (line_of line.now ∷ history_of before.now) result }
+    ensures { history_of upto.now ≡ line_of line.now ∷ history_of before.now
+        → TripsTell (history_of before.now) trips.now
+        → FirstIs (from_act (history_of before.now)) last → IsCorrect (deed_of line.now.act)
+        → NodeIs line.now.node (history_of before.now) keep
+        → NodeIs line.now.node (line_of line.now ∷ history_of before.now) result }
 {
     NodeState {
         moved: moved_at(upto, line.node),
@@ -67,8 +72,9 @@ fn corrected(
 /// What is kept of a node after a Boot of it.
 fn booted(upto: &[HistoryLine], line: &HistoryLine, keep: NodeState) -> NodeState
     requires { length upto.now < 2 ^ 32 }
-    ensures { (before : List Line) → history_of upto.now ≡ line_of line.now ∷ before → deed_of line.now.act ≡ Acts Boot
-        → NodeIs line.now.node before keep → NodeIs line.now.node (line_of line.now ∷ before) result }
+    ensures { (before : List Line) → history_of upto.now ≡ line_of line.now ∷ before
+        → deed_of line.now.act ≡ Acts Boot → NodeIs line.now.node before keep
+        → NodeIs line.now.node (line_of line.now ∷ before) result }
 {
     NodeState {
         moved: 0,
@@ -78,8 +84,8 @@ fn booted(upto: &[HistoryLine], line: &HistoryLine, keep: NodeState) -> NodeStat
     }
 }
 
-/// What is kept of a line's node after it, where these lines stand before it, with their round trips and the index of the
-/// newest act among them; `upto` are these lines and it.
+/// What is kept of a line's node after it, where these lines stand before it, with their round
+/// trips and the index of the newest act among them; `upto` are these lines and it.
 pub(crate) fn state_after(
     upto: &[HistoryLine],
     before: &[HistoryLine],
@@ -90,8 +96,11 @@ pub(crate) fn state_after(
 ) -> NodeState
     requires few { length upto.now < 2 ^ 32 }
     requires past { length before.now < 2 ^ 32 }
-    ensures { history_of upto.now ≡ line_of line.now ∷ history_of before.now → TripsTell (history_of before.now) trips.now → FirstIs (from_act (history_of before.now)) last
-        → NodeIs line.now.node (history_of before.now) keep → NodeIs line.now.node (line_of line.now ∷ history_of before.now) result }
+    ensures { history_of upto.now ≡ line_of line.now ∷ history_of before.now
+        → TripsTell (history_of before.now) trips.now
+        → FirstIs (from_act (history_of before.now)) last
+        → NodeIs line.now.node (history_of before.now) keep
+        → NodeIs line.now.node (line_of line.now ∷ history_of before.now) result }
 {
     if is_boot(line) {
         return booted(upto, line, keep);

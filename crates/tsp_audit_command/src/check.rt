@@ -2,7 +2,16 @@
 ghost use Rattle.std.specs.Prelude.{◌≡◌, ◌≢◌, ◌≤◌, ◌<◌, ℕ, List, length, take, MatchResult, Err};
 ghost use Rattle.tsp_audit_command.specs.Listings.{most_nodes};
 ghost use Rattle.tsp_audit_command.specs.Readings.{Lacks, Reading, Refuses, Scheduling, nodes_at, reading_of};
-ghost use Rattle.tsp_audit_command.specs.Stands.{Advances, Concludes, Halts, HaltsBehind, HaltsConcluding, HasNodes, HeldStands, ListingStands};
+ghost use Rattle.tsp_audit_command.specs.Stands.{
+  Advances,
+  Concludes,
+  Halts,
+  HaltsBehind,
+  HaltsConcluding,
+  HasNodes,
+  HeldStands,
+  ListingStands,
+};
 ghost use Rattle.tsp_schedule.specs.Schedules.{IsEnded, Progress};
 ghost use Rattle.tsp_schedule.specs.Stages.{RunStands, StageStands};
 ghost use Rattle.tsp_io.specs.Counts.{Rose};
@@ -47,7 +56,8 @@ fn node_count(stage: &Stage<Listing>) -> usize
 
 /// What is missing of a schedule.
 fn missing(stage: &Stage<Listing>) -> Cause
-    ensures { (p : Progress) → StageStands ListingStands p stage.now → ¬ IsEnded p → Lacks (Scheduling p) result }
+    ensures { (p : Progress) → StageStands ListingStands p stage.now → ¬ IsEnded p
+        → Lacks (Scheduling p) result }
 {
     match stage.lacks() {
         Some(cause) => cause,
@@ -61,7 +71,8 @@ fn conclude<K: Sink>(claiming: ClaimReader, output: &mut Output, sink: &mut K) -
         (λ _. Concludes claiming (K.written sink.old) output.old (K.written sink.new) output.new)
         (HaltsConcluding claiming (K.written sink.old) output.old (K.written sink.new) output.new) }
     ensures later { K.faults sink.old ≤ K.faults sink.new }
-    ensures cause { result ≡ Err Stop.WriteFault → Rose (K.faults sink.old) (K.faults sink.new) × (0 < length output.new) }
+    ensures cause { result ≡ Err Stop.WriteFault → Rose (K.faults sink.old) (K.faults sink.new)
+        × (0 < length output.new) }
     ensures still { result ≢ Err Stop.WriteFault → K.faults sink.new ≡ K.faults sink.old }
 {
     match claiming.pass_all() {
@@ -83,7 +94,8 @@ impl AuditInput {
 
     /// What is held after one line more, or why the line may not follow.
     fn next(self, alloc: Global, line: &[u8]) -> Result<AuditInput, Stop>
-        ensures next { (r : Reading) → HeldStands r self → MatchResult result (Advances r line.now) (Halts r line.now) }
+        ensures next { (r : Reading) → HeldStands r self
+            → MatchResult result (Advances r line.now) (Halts r line.now) }
         ensures kind { result ≢ Err Stop.WriteFault }
     {
         match self {
@@ -97,7 +109,9 @@ impl AuditInput {
 
     /// Reads a line of the schedule.
     fn schedule(alloc: Global, mut stage: Stage<Listing>, line: &[u8]) -> Result<AuditInput, Stop>
-        ensures next { (p : Progress) → StageStands ListingStands p stage → MatchResult result (Advances (Scheduling p) line.now) (Halts (Scheduling p) line.now) }
+        ensures next { (p : Progress) → StageStands ListingStands p stage
+            → MatchResult result (Advances (Scheduling p) line.now)
+            (Halts (Scheduling p) line.now) }
         ensures kind { result ≢ Err Stop.WriteFault }
     {
         match stage.advance(alloc, line) {
@@ -108,7 +122,9 @@ impl AuditInput {
 
     /// What is held behind a line that the schedule took; refused where it has a node too many.
     fn behind(alloc: Global, stage: Stage<Listing>) -> Result<AuditInput, Stop>
-        ensures next { (p : Progress) → StageStands ListingStands p stage → MatchResult result (λ next. (nodes_at p ≤ most_nodes) × HeldStands (reading_of p) next) (HaltsBehind p) }
+        ensures next { (p : Progress) → StageStands ListingStands p stage
+            → MatchResult result (λ next. (nodes_at p ≤ most_nodes)
+            × HeldStands (reading_of p) next) (HaltsBehind p) }
         ensures kind { result ≢ Err Stop.WriteFault }
     {
         if node_count(&stage) > MOST_NODES {
@@ -126,7 +142,8 @@ impl AuditInput {
     /// What is held behind a line behind the header: with the schedule's last one the claims begin.
     fn behind_header(alloc: Global, run: Run<Listing>) -> Result<AuditInput, Stop>
         requires { length run.course.header.nodes ≤ most_nodes }
-        ensures next { (p : Progress) → RunStands ListingStands p run → MatchResult result (HeldStands (reading_of p)) (λ stop. stop ≡ Stop.OutOfMemory) }
+        ensures next { (p : Progress) → RunStands ListingStands p run
+            → MatchResult result (HeldStands (reading_of p)) (λ stop. stop ≡ Stop.OutOfMemory) }
         ensures kind { result ≢ Err Stop.WriteFault }
     {
         if !run.over {
@@ -141,7 +158,8 @@ impl AuditInput {
 
     /// For what cause a line of more than 1,024 octets is refused, of which these are the first 8.
     fn refuse_long(&self, start: &[u8]) -> Cause
-        ensures { (r : Reading) → HeldStands r self.now → (line : List ℕ) → 1024 < length line → start.now ≡ take 8 line → Refuses r line result }
+        ensures { (r : Reading) → HeldStands r self.now → (line : List ℕ) → 1024 < length line
+            → start.now ≡ take 8 line → Refuses r line result }
     {
         match self {
             AuditInput::Schedule(stage) => stage.refuse_long(start),

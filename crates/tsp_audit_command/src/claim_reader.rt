@@ -1,5 +1,21 @@
 //! The lines that are claimed of a schedule's events.
-ghost use Rattle.std.specs.Prelude.{◌≡◌, ◌≤◌, ◌<◌, ◌+◌, ◌∷◌, ◌↔◌, List, [], Some, length, IsTrue, IfOk, OnOk, MatchResult, codes};
+ghost use Rattle.std.specs.Prelude.{
+  ◌≡◌,
+  ◌≤◌,
+  ◌<◌,
+  ◌+◌,
+  ◌∷◌,
+  ◌↔◌,
+  List,
+  [],
+  Some,
+  length,
+  IsTrue,
+  IfOk,
+  OnOk,
+  MatchResult,
+  codes,
+};
 ghost use Rattle.tsp_base.specs.Headers.{HeaderValue};
 ghost use Rattle.tsp_claims.specs.ClaimedHistory.{Claim};
 ghost use Rattle.tsp_claims.specs.Fitting.{Fit};
@@ -32,8 +48,10 @@ fn take_in(claims: &mut Claims, e: &Event, lines: &[Line2]) -> Result<(), AllocE
     requires node { NamesNode (length claims.old.header.nodes) e.now }
     requires events { claims.old.events < 20000 }
     requires lines { claims.old.told + length lines.now ≤ 20000 }
-    requires fit { (header : HeaderValue) × (before : List Claim) × ClaimsStand header before claims.old × Fit header before e.now lines.now }
-    ensures { (header : HeaderValue) (before : List Claim) → ClaimsStand header before claims.old → OnOk result (ClaimsStand header (claim_of e.now lines.now ∷ before) claims.new) }
+    requires fit { (header : HeaderValue) × (before : List Claim)
+        × ClaimsStand header before claims.old × Fit header before e.now lines.now }
+    ensures { (header : HeaderValue) (before : List Claim) → ClaimsStand header before claims.old
+        → OnOk result (ClaimsStand header (claim_of e.now lines.now ∷ before) claims.new) }
 {
     match claims.event(e, lines) {
         Ok(()) => Ok(()),
@@ -49,8 +67,8 @@ fn bad_history() -> Stop
     Stop::Bad(Cause::of(b"history"))
 }
 
-/// The events of a schedule, and the lines that are claimed of them so far: those of the events that were passed, and
-/// those of the event at hand.
+/// The events of a schedule, and the lines that are claimed of them so far: those of the events
+/// that were passed, and those of the event at hand.
 #[derive(Drop)]
 pub(crate) struct ClaimReader {
     pub(crate) alloc: Global,
@@ -77,16 +95,31 @@ impl Model for ClaimReader {
 
     ghost Value = { ClaimingValue };
 
-    ghost view = { λ c. record { header = c.header; passed = claims_on [] c.events.items c.told.items; told = c.pending; ahead = drop (length c.told.items) c.events.items } };
+    ghost view = { λ c. record {
+      header = c.header;
+      passed = claims_on [] c.events.items
+          c.told.items;
+      told = c.pending;
+      ahead = drop (length c.told.items) c.events.items;
+    } };
 
-    ghost invariant = { λ c. Sound c.header c.events.items c.claims c.told.items c.pending c.tally c.premises };
+    ghost invariant = { λ c. Sound c.header c.events.items c.claims c.told.items c.pending c.tally
+        c.premises };
 }
 
 impl ClaimReader {
     ghost use Rattle.tsp_audit_command.specs.ClaimReaders.{FitsHere, lines_told, pass_one, passes, passes_all};
     ghost use Rattle.tsp_audit_command.specs.Listings.{AreListed, IsAudited};
     ghost use Rattle.tsp_audit_command.specs.Readings.{Claimed};
-    ghost use Rattle.tsp_audit_command.specs.Stands.{Adds, ClaimAdvances, Halts, HaltsAdding, HaltsTelling, TellsMore, Unpassed};
+    ghost use Rattle.tsp_audit_command.specs.Stands.{
+      Adds,
+      ClaimAdvances,
+      Halts,
+      HaltsAdding,
+      HaltsTelling,
+      TellsMore,
+      Unpassed,
+    };
 
     /// Nothing is claimed yet of these events. Fails only if out of memory.
     pub(crate) fn begin(
@@ -96,7 +129,12 @@ impl ClaimReader {
     ) -> Result<ClaimReader, AllocError>
         requires header { IsAudited header }
         requires listed { AreListed (length header.nodes) events.items }
-        ensures { IfOk result (λ c. c ≡ record { header = header; passed = []; told = []; ahead = events.items }) }
+        ensures { IfOk result (λ c. c ≡ record {
+          header = header;
+          passed = [];
+          told = [];
+          ahead = events.items;
+        }) }
     {
         let claims = Claims::new(alloc, copy_header(alloc, &header)?)?;
         Ok(ClaimReader {
@@ -147,7 +185,8 @@ impl ClaimReader {
 
     /// Passes so many events.
     fn pass(self, count: u64) -> Result<ClaimReader, Stop>
-        ensures { MatchResult result (λ now. passes count self ≡ Some now) (Unpassed (passes count self)) }
+        ensures { MatchResult result (λ now. passes count self ≡ Some now)
+            (Unpassed (passes count self)) }
     {
         let mut now = self;
         for _ in 0..count {
@@ -161,7 +200,8 @@ impl ClaimReader {
 
     /// Passes all events that are left.
     pub(crate) fn pass_all(self) -> Result<ClaimReader, Stop>
-        ensures { MatchResult result (λ now. passes_all self ≡ Some now) (Unpassed (passes_all self)) }
+        ensures { MatchResult result (λ now. passes_all self ≡ Some now)
+            (Unpassed (passes_all self)) }
     {
         let left = self.events.len() - self.told.len();
         self.pass(left as u64)
@@ -225,7 +265,8 @@ impl ClaimReader {
 
     /// Reads a claimed line, or says why it may not follow.
     pub(crate) fn line(self, line: &[u8]) -> Result<ClaimReader, Stop>
-        ensures { MatchResult result (λ now. ClaimAdvances self line.now now) (Halts (Claimed self) line.now) }
+        ensures { MatchResult result (λ now. ClaimAdvances self line.now now)
+            (Halts (Claimed self) line.now) }
     {
         match act_of(line) {
             Ok(read) => self.tell(read),

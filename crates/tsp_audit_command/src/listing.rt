@@ -37,7 +37,8 @@ pub(crate) struct Listing {
 impl Listing {
     ghost use Rattle.tsp_audit_command.specs.Stands.{ListingStands};
 
-    /// No event has happened. Takes memory for the nodes; fails only if out of memory, and then drops the header.
+    /// No event has happened. Takes memory for the nodes; fails only if out of memory, and then
+    /// drops the header.
     fn new(alloc: Global, header: Header) -> Result<Listing, AllocError>
         requires some { 1 ≤ length header.nodes }
         requires whole { is_whole header ≡ true }

@@ -51,8 +51,8 @@ fn claim(audit: &mut Audit, alloc: Global, event: &str, text: &str) -> Answer {
     }
 }
 
-/// Claims row after row: an event, the lines that are claimed of it, and what should come of it. The index of the first
-/// row of which something else comes.
+/// Claims row after row: an event, the lines that are claimed of it, and what should come of it.
+/// The index of the first row of which something else comes.
 pub(crate) fn first_wrong(
     audit: &mut Audit,
     alloc: Global,

@@ -11,7 +11,8 @@ pub fn runs_fit_claims()
     ensures { RunsFitClaims }
 {}
 
-/// The verdict on what the run tells, where it is claimed, is that all parts hold, up to each event; no other verdict is right.
+/// The verdict on what the run tells, where it is claimed, is that all parts hold, up to each
+/// event; no other verdict is right.
 pub fn runs_hold()
     ensures { RunsHold }
 {}

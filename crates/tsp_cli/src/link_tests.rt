@@ -47,8 +47,9 @@ enum Wall {
     Late,
 }
 
-/// The words, the calls of the link and the writes that fail, the datagram that comes with its sender, and the wall
-/// clock. A run gives its status, its text, how many sends were tried, and how many readings are left.
+/// The words, the calls of the link and the writes that fail, the datagram that comes with its
+/// sender, and the wall clock. A run gives its status, its text, how many sends were tried, and how
+/// many readings are left.
 #[derive(Drop)]
 struct Row {
     words: &'static [&'static str],
@@ -161,8 +162,9 @@ fn question(
     }
 }
 
-/// A request is answered and nothing shown; a step that turns the trace on is shown. A send that fails is a lost
-/// datagram. A bind or a receive that fails ends the daemon, and so does a write, behind what was written.
+/// A request is answered and nothing shown; a step that turns the trace on is shown. A send that
+/// fails is a lost datagram. A bind or a receive that fails ends the daemon, and so does a write,
+/// behind what was written.
 #[test]
 fn daemons_run(rt: HostRuntime) {
     for row in [

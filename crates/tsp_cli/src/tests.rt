@@ -30,7 +30,8 @@ const TRACE: &str = "\
 3 0 0 20 post 0 - reply 5 1 2 1020
 ";
 
-/// A follower that is corrected, hears the correction again, and is corrected too soon, in time and by a step.
+/// A follower that is corrected, hears the correction again, and is corrected too soon, in time and
+/// by a step.
 const CORRECTS: &str = "\
 tsp-schedule 1
 drift 0
@@ -95,7 +96,8 @@ at 160000000 bytes 0 1 0801800000000000000000006200
 end
 ";
 
-/// The trace of that schedule: the second candidate is backed when the hold is over, and none in the quiet time.
+/// The trace of that schedule: the second candidate is backed when the hold is over, and none in
+/// the quiet time.
 const HELD: &str = "\
 1 0 0 0 boot
 1 0 0 0 become starting

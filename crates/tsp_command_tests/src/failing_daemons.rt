@@ -34,8 +34,9 @@ struct Ran {
     tried: usize,
 }
 
-/// Runs a daemon that is told to trace and then asked for a stamp, where these calls of the link and these writes fail.
-/// The link's calls are the bind, and of each turn the receive and the send. None where the words are no daemon's.
+/// Runs a daemon that is told to trace and then asked for a stamp, where these calls of the link
+/// and these writes fail. The link's calls are the bind, and of each turn the receive and the send.
+/// None where the words are no daemon's.
 fn run_daemon(alloc: Global, calls: &[u32], writes: &[u32]) -> Result<Option<Ran>, AllocError> {
     let mut words = Vec::new(alloc);
     for word in ["serve", "127.0.0.1:525", "a", "m", "2"] {
@@ -77,8 +78,8 @@ fn ends(
     Ok(ran.end == end && shown && ran.tried == tried)
 }
 
-/// A bind or a receive that fails ends the daemon, behind what the turns before it sent and showed. A send that fails
-/// is a lost datagram.
+/// A bind or a receive that fails ends the daemon, behind what the turns before it sent and showed.
+/// A send that fails is a lost datagram.
 #[test]
 fn each_call_of_the_link_fails(rt: HostRuntime) {
     for (failing, end, lines, tried) in [

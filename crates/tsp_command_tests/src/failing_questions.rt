@@ -39,8 +39,8 @@ const QUESTIONS: [Question; 2] = [
     },
 ];
 
-/// How a question ends where these calls of the link, and these writes, fail, with what it wrote and how many sends it
-/// tried. The link's calls are the bind, the send and one receive.
+/// How a question ends where these calls of the link, and these writes, fail, with what it wrote
+/// and how many sends it tried. The link's calls are the bind, the send and one receive.
 fn asked(
     alloc: Global,
     question: &Question,

@@ -1,4 +1,5 @@
-//! Tests of the commands over a source, a sink and a link in memory: worked inputs, and each call fails in turn.
+//! Tests of the commands over a source, a sink and a link in memory: worked inputs, and each call
+//! fails in turn.
 //!
 //! They stand apart from the commands' crates, so that each of those is proved once.
 #![tactic(auto)]

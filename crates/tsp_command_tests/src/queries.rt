@@ -125,7 +125,8 @@ fn asks_how_far_a_clock_is(rt: HostRuntime) -> Result<(), AllocError> {
     Ok(())
 }
 
-/// A date that is acknowledged was passed on, and one that a DATEACK answers was set. It goes out with its time.
+/// A date that is acknowledged was passed on, and one that a DATEACK answers was set. It goes out
+/// with its time.
 #[test]
 fn sets_a_date(rt: HostRuntime) -> Result<(), AllocError> {
     let alloc = rt.alloc();

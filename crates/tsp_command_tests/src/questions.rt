@@ -35,8 +35,9 @@ const REPLY: &[u8] = &[
     0x81, 1, 0, 5, 0, 0, 0, 0, 0, 0, 0, 9, 0, 0, 0, 0, 0, 0, 0, 0, 0, 0, 0, 0, 0, 0x0f, 0x44, 0x34,
 ];
 
-/// A question by the type of its datagram, with the ticker's word, the calls of the link and the writes that fail, and the
-/// datagram that comes. A run of it gives its end, how many sends were tried, and the text that was written.
+/// A question by the type of its datagram, with the ticker's word, the calls of the link and the
+/// writes that fail, and the datagram that comes. A run of it gives its end, how many sends were
+/// tried, and the text that was written.
 #[derive(Drop)]
 struct Row {
     kind: u8,
@@ -155,7 +156,8 @@ fn lines_say_what_came(rt: HostRuntime) {
     }
 }
 
-/// A stranger's datagram is no answer. A bind, a send, a receive or a write that fails ends the question without a line.
+/// A stranger's datagram is no answer. A bind, a send, a receive or a write that fails ends the
+/// question without a line.
 #[test]
 fn questions_fail(rt: HostRuntime) {
     let silent = QueryExit::NoAnswer;

@@ -19,7 +19,8 @@ use tsp_lines::output::{Unwritten, write_all};
 
 /// Says that the wall clock is out of its range.
 fn say_bad_wall<K: Sink>(sink: &mut K) -> DaemonExit
-    ensures says { Says bad_wall DaemonExit.BadWall DaemonExit.WriteFault DaemonExit.OutOfMemory (K.written sink.old) (K.written sink.new) result }
+    ensures says { Says bad_wall DaemonExit.BadWall DaemonExit.WriteFault DaemonExit.OutOfMemory
+        (K.written sink.old) (K.written sink.new) result }
     ensures later { K.faults sink.old ≤ K.faults sink.new }
     ensures write { result ≡ DaemonExit.WriteFault → Rose (K.faults sink.old) (K.faults sink.new) }
     ensures still { result ≢ DaemonExit.WriteFault → K.faults sink.new ≡ K.faults sink.old }
@@ -44,13 +45,38 @@ fn serve_bound<K: Sink, L: Link, T: Ticker>(
 ) -> DaemonExit
     requires serve { IsServe words.now }
     ensures serves { (o : Outside) (wall : ℤ) (word : ℕ) (written : List ℕ)
-        → Knows o wall word written (record { arrivals = L.arrivals link.old; tried = L.tried link.old; calls = L.calls link.old; readings = T.readings ticker.old; last = T.last ticker.old; wall = T.wall_is ticker.old; word = T.word_is ticker.old; written = K.written sink.old })
-        → BoundServes words.now o wall word written (record { arrivals = L.arrivals link.new; tried = L.tried link.new; calls = L.calls link.new; readings = T.readings ticker.new; last = T.last ticker.new; wall = T.wall_is ticker.new; word = T.word_is ticker.new; written = K.written sink.new }) result }
-    ensures later { (L.faults link.old ≤ L.faults link.new) × (L.send_faults link.old ≤ L.send_faults link.new) × (K.faults sink.old ≤ K.faults sink.new) × (T.last ticker.old ≤ T.last ticker.new) }
-    ensures wall { result ≡ DaemonExit.BadWall → IfSome (T.wall_is ticker.old) (λ wall. is_clock_value wall ≡ false) }
+        → Knows o wall word written
+        (record {
+          arrivals = L.arrivals link.old;
+          tried = L.tried link.old;
+          calls = L.calls link.old;
+          readings = T.readings ticker.old;
+          last = T.last ticker.old;
+          wall = T.wall_is ticker.old;
+          word = T.word_is ticker.old;
+          written = K.written sink.old;
+        })
+        → BoundServes words.now o wall word written
+        (record {
+          arrivals = L.arrivals link.new;
+          tried = L.tried link.new;
+          calls = L.calls link.new;
+          readings = T.readings ticker.new;
+          last = T.last ticker.new;
+          wall = T.wall_is ticker.new;
+          word = T.word_is ticker.new;
+          written = K.written sink.new;
+        })
+        result }
+    ensures later { (L.faults link.old ≤ L.faults link.new)
+        × (L.send_faults link.old ≤ L.send_faults link.new)
+        × (K.faults sink.old ≤ K.faults sink.new) × (T.last ticker.old ≤ T.last ticker.new) }
+    ensures wall { result ≡ DaemonExit.BadWall
+        → IfSome (T.wall_is ticker.old) (λ wall. is_clock_value wall ≡ false) }
     ensures link { result ≡ DaemonExit.LinkFault → Rose (L.faults link.old) (L.faults link.new) }
     ensures write { result ≡ DaemonExit.WriteFault → Rose (K.faults sink.old) (K.faults sink.new) }
-    ensures still { (result ≢ DaemonExit.LinkFault → L.faults link.new ≡ L.faults link.old) × (result ≢ DaemonExit.WriteFault → K.faults sink.new ≡ K.faults sink.old) }
+    ensures still { (result ≢ DaemonExit.LinkFault → L.faults link.new ≡ L.faults link.old)
+        × (result ≢ DaemonExit.WriteFault → K.faults sink.new ≡ K.faults sink.old) }
 {
     let tick = ticker.tick();
     let wall = ticker.wall();
@@ -64,12 +90,13 @@ fn serve_bound<K: Sink, L: Link, T: Ticker>(
 
 /// Runs the daemon that the words behind `serve` ask for.
 ///
-/// The link is bound with the daemon's own address as peer 0, and then its peers in their order. The ticker's tick, wall
-/// and word are read once each, and the node boots with them; where the wall doesn't lie strictly between -2^31 and 2^31
-/// seconds, `bad wall` is written. Then the session takes its turns, as `tsp_daemon` has them.
+/// The link is bound with the daemon's own address as peer 0, and then its peers in their order.
+/// The ticker's tick, wall and word are read once each, and the node boots with them; where the
+/// wall doesn't lie strictly between -2^31 and 2^31 seconds, `bad wall` is written. Then the
+/// session takes its turns, as `tsp_daemon` has them.
 ///
-/// `LinkFault` comes only where the bind or a receive failed, and their count rose; `WriteFault` only where a write
-/// failed, and the sink's count rose.
+/// `LinkFault` comes only where the bind or a receive failed, and their count rose; `WriteFault`
+/// only where a write failed, and the sink's count rose.
 pub fn serve_words<K: Sink, L: Link, T: Ticker>(
     alloc: Global,
     words: &ServeWords,
@@ -79,13 +106,38 @@ pub fn serve_words<K: Sink, L: Link, T: Ticker>(
 ) -> DaemonExit
     requires { IsServe words.now }
     ensures serves { (o : Outside) (wall : ℤ) (word : ℕ) (written : List ℕ)
-        → Knows o wall word written (record { arrivals = L.arrivals link.old; tried = L.tried link.old; calls = L.calls link.old; readings = T.readings ticker.old; last = T.last ticker.old; wall = T.wall_is ticker.old; word = T.word_is ticker.old; written = K.written sink.old })
-        → ServesAs words.now o wall word written (record { arrivals = L.arrivals link.new; tried = L.tried link.new; calls = L.calls link.new; readings = T.readings ticker.new; last = T.last ticker.new; wall = T.wall_is ticker.new; word = T.word_is ticker.new; written = K.written sink.new }) result }
-    ensures later { (L.faults link.old ≤ L.faults link.new) × (L.send_faults link.old ≤ L.send_faults link.new) × (K.faults sink.old ≤ K.faults sink.new) × (T.last ticker.old ≤ T.last ticker.new) }
-    ensures wall { result ≡ DaemonExit.BadWall → IfSome (T.wall_is ticker.old) (λ wall. is_clock_value wall ≡ false) }
+        → Knows o wall word written
+        (record {
+          arrivals = L.arrivals link.old;
+          tried = L.tried link.old;
+          calls = L.calls link.old;
+          readings = T.readings ticker.old;
+          last = T.last ticker.old;
+          wall = T.wall_is ticker.old;
+          word = T.word_is ticker.old;
+          written = K.written sink.old;
+        })
+        → ServesAs words.now o wall word written
+        (record {
+          arrivals = L.arrivals link.new;
+          tried = L.tried link.new;
+          calls = L.calls link.new;
+          readings = T.readings ticker.new;
+          last = T.last ticker.new;
+          wall = T.wall_is ticker.new;
+          word = T.word_is ticker.new;
+          written = K.written sink.new;
+        })
+        result }
+    ensures later { (L.faults link.old ≤ L.faults link.new)
+        × (L.send_faults link.old ≤ L.send_faults link.new)
+        × (K.faults sink.old ≤ K.faults sink.new) × (T.last ticker.old ≤ T.last ticker.new) }
+    ensures wall { result ≡ DaemonExit.BadWall
+        → IfSome (T.wall_is ticker.old) (λ wall. is_clock_value wall ≡ false) }
     ensures link { result ≡ DaemonExit.LinkFault → Rose (L.faults link.old) (L.faults link.new) }
     ensures write { result ≡ DaemonExit.WriteFault → Rose (K.faults sink.old) (K.faults sink.new) }
-    ensures still { (result ≢ DaemonExit.LinkFault → L.faults link.new ≡ L.faults link.old) × (result ≢ DaemonExit.WriteFault → K.faults sink.new ≡ K.faults sink.old) }
+    ensures still { (result ≢ DaemonExit.LinkFault → L.faults link.new ≡ L.faults link.old)
+        × (result ≢ DaemonExit.WriteFault → K.faults sink.new ≡ K.faults sink.old) }
 {
     let Ok(addrs) = addrs_of(alloc, words) else {
         return DaemonExit::OutOfMemory;

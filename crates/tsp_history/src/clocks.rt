@@ -1,5 +1,22 @@
 //! Facts of a node's clock, by one scan each.
-ghost use Rattle.std.specs.Prelude.{◌≡◌, ◌<◌, ◌≤◌, ◌+◌, ◌^◌, ℕ, [], pos, neg_ℤ, ◌-ℤ◌, ◌+ℤ◌, ◌≤ℤ◌, List, ◌∷◌, length, MatchBool};
+ghost use Rattle.std.specs.Prelude.{
+  ◌≡◌,
+  ◌<◌,
+  ◌≤◌,
+  ◌+◌,
+  ◌^◌,
+  ℕ,
+  [],
+  pos,
+  neg_ℤ,
+  ◌-ℤ◌,
+  ◌+ℤ◌,
+  ◌≤ℤ◌,
+  List,
+  ◌∷◌,
+  length,
+  MatchBool,
+};
 ghost use Rattle.tsp_base.specs.History.{Line, of, dids};
 ghost use Rattle.tsp_base.specs.NodeFacts.{moved, target};
 ghost use Rattle.tsp_history.specs.Clocks.{IsSmall, IsSumOf, Keeps};
@@ -46,7 +63,8 @@ impl Clock {
     /// Its target at a tick, in microseconds.
     pub(crate) fn target(&self, tick: u64) -> i128
         requires { IsSumOf 4294967295 self.now.moved }
-        ensures target { result ≡ ((self.now.wall -ℤ pos self.now.boot_tick) +ℤ self.now.moved) +ℤ pos tick }
+        ensures target { result ≡ ((self.now.wall -ℤ pos self.now.boot_tick) +ℤ self.now.moved) +ℤ
+            pos tick }
         ensures small { IsSmall result }
     {
         let moved = self.base() + self.moved;
@@ -54,11 +72,13 @@ impl Clock {
     }
 }
 
-/// Whether all corrections of a node's life stand GAP ticks before this one, after a line, where `keep` says so
-/// before it.
+/// Whether all corrections of a node's life stand GAP ticks before this one, after a line, where
+/// `keep` says so before it.
 fn is_spaced_after(line: &HistoryLine, node: u32, tick: u64, keep: bool) -> bool
-    ensures { (before : List Line) → MatchBool keep (Spaced node tick before) (Spaced node tick before → ⊥)
-        → MatchBool result (Spaced node tick (line_of line.now ∷ before)) (Spaced node tick (line_of line.now ∷ before) → ⊥) }
+    ensures { (before : List Line)
+        → MatchBool keep (Spaced node tick before) (Spaced node tick before → ⊥)
+        → MatchBool result (Spaced node tick (line_of line.now ∷ before))
+        (Spaced node tick (line_of line.now ∷ before) → ⊥) }
 {
     if line.node != node {
         return keep;
@@ -75,7 +95,8 @@ fn is_spaced_after(line: &HistoryLine, node: u32, tick: u64, keep: bool) -> bool
 
 /// Whether a correction of a node at this tick stands GAP ticks after each before it in the same life.
 pub fn is_spaced(lines: &[HistoryLine], node: u32, tick: u64) -> bool
-    ensures { MatchBool result (Spaced node tick (history_of lines.now)) (Spaced node tick (history_of lines.now) → ⊥) }
+    ensures { MatchBool result (Spaced node tick (history_of lines.now))
+        (Spaced node tick (history_of lines.now) → ⊥) }
 {
     let mut is_spaced = true;
     for line in lines {
@@ -87,7 +108,8 @@ pub fn is_spaced(lines: &[HistoryLine], node: u32, tick: u64) -> bool
 /// What is seen of a clock after a line.
 pub(crate) fn clock_after(line: &HistoryLine, node: u32, keep: Clock) -> Clock
     requires { IsSumOf 4294967295 keep.moved }
-    ensures keeps { (before : List Line) → Keeps node before keep → Keeps node (line_of line.now ∷ before) result }
+    ensures keeps { (before : List Line) → Keeps node before keep
+        → Keeps node (line_of line.now ∷ before) result }
     ensures bounded { (count : ℕ) → IsSumOf count keep.moved → IsSumOf (count + 1) result.moved }
 {
     if line.node != node {

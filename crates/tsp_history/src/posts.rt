@@ -10,14 +10,16 @@ use tsp_base::act::Act;
 
 /// Whether a line posts.
 fn is_post(line: &HistoryLine) -> bool
-    ensures { MatchBool result (IsPost line.now) ((before : List Line) → posted (dids (line_of line.now ∷ before)) ≡ posted (dids before)) }
+    ensures { MatchBool result (IsPost line.now) ((before : List Line)
+        → posted (dids (line_of line.now ∷ before)) ≡ posted (dids before)) }
 {
     matches!(&line.act, Some(Act::Post(_, _)))
 }
 
 /// The index of the line that posts the datagram with this number, if there is one.
 pub fn post_at(lines: &[HistoryLine], number: u64) -> Option<usize>
-    ensures { MatchOption result (posted (dids (history_of lines.now)) ≤ number) (λ i. PostsAt lines.now number i) }
+    ensures { MatchOption result (posted (dids (history_of lines.now)) ≤ number)
+        (λ i. PostsAt lines.now number i) }
 {
     let mut posted = 0;
     for (index, line) in lines.iter().enumerate() {
@@ -33,7 +35,8 @@ pub fn post_at(lines: &[HistoryLine], number: u64) -> Option<usize>
 
 /// Whether a node's step has taken something, after a line, where `keep` says so before it.
 fn has_taken_after(line: &HistoryLine, node: u32, keep: bool) -> bool
-    ensures { (before : List Line) → keep ≡ is_some (heard (dids (of node before))) → result ≡ is_some (heard (dids (of node (line_of line.now ∷ before)))) }
+    ensures { (before : List Line) → keep ≡ is_some (heard (dids (of node before)))
+        → result ≡ is_some (heard (dids (of node (line_of line.now ∷ before)))) }
 {
     if line.node != node {
         return keep;

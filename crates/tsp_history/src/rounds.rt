@@ -31,7 +31,8 @@ pub struct Best {
 
 /// Whether a port's round goes on after a line, where `keep` says so before it.
 fn is_going_after(line: &HistoryLine, node: u32, port: Port, keep: bool) -> bool
-    ensures { (before : List Line) → keep ≡ is_going (view port (of node before)) → result ≡ is_going (view port (of node (line_of line.now ∷ before))) }
+    ensures { (before : List Line) → keep ≡ is_going (view port (of node before))
+        → result ≡ is_going (view port (of node (line_of line.now ∷ before))) }
 {
     if line.node != node {
         return keep;
@@ -56,7 +57,8 @@ pub fn is_going(lines: &[HistoryLine], node: u32, port: Port) -> bool
     is_going
 }
 
-/// The index of the last Close of a port's step after the line with this index, where `keep` is that before it.
+/// The index of the last Close of a port's step after the line with this index, where `keep` is
+/// that before it.
 fn closed_after(
     line: &HistoryLine,
     index: usize,
@@ -64,7 +66,9 @@ fn closed_after(
     port: Port,
     keep: Option<usize>,
 ) -> Option<usize>
-    ensures { (ns : List HistoryLine) (before : List Line) → LineAt ns index line.now → before ≡ history_of (take index ns) → SeenBy ns node port (closed (view port (of node before))) keep
+    ensures { (ns : List HistoryLine) (before : List Line) → LineAt ns index line.now
+        → before ≡ history_of (take index ns)
+        → SeenBy ns node port (closed (view port (of node before))) keep
         → SeenBy ns node port (closed (view port (of node (line_of line.now ∷ before)))) result }
 {
     if line.node != node {
@@ -85,7 +89,8 @@ fn closed_after(
 
 /// The index of the last Close in the step that a node's port is in, if there is one.
 pub fn closed_at(lines: &[HistoryLine], node: u32, port: Port) -> Option<usize>
-    ensures { SeenBy lines.now node port (closed (view port (of node (history_of lines.now)))) result }
+    ensures { SeenBy lines.now node port (closed (view port (of node (history_of lines.now))))
+        result }
 {
     let mut closed = None;
     for (index, line) in lines.iter().enumerate() {
@@ -94,8 +99,8 @@ pub fn closed_at(lines: &[HistoryLine], node: u32, port: Port) -> Option<usize>
     closed
 }
 
-/// The clock's target at the open request to a peer under this counter after a line of the node, at which the target is
-/// `now`, where `keep` is that before it.
+/// The clock's target at the open request to a peer under this counter after a line of the node, at
+/// which the target is `now`, where `keep` is that before it.
 fn asked_then(
     line: &HistoryLine,
     port: Port,
@@ -104,8 +109,11 @@ fn asked_then(
     now: i128,
     keep: Option<i128>,
 ) -> Option<i128>
-    ensures asked { (before : List Line) → now ≡ target (dids (of line.now.node before)) line.now.tick → Asked (exchange p counter (view port (of line.now.node before))) keep
-        → Asked (exchange p counter (view port (of line.now.node (line_of line.now ∷ before)))) result }
+    ensures asked { (before : List Line)
+        → now ≡ target (dids (of line.now.node before)) line.now.tick
+        → Asked (exchange p counter (view port (of line.now.node before))) keep
+        → Asked (exchange p counter (view port (of line.now.node (line_of line.now ∷ before))))
+        result }
     ensures small { IsSmall now → IfSome keep IsSmall → IfSome result IsSmall }
 {
     if let Some(Act::Boot) = &line.act {
@@ -157,7 +165,8 @@ fn asked_after(
     keep: Option<i128>,
 ) -> Option<i128>
     requires { IsSumOf 4294967295 clock.moved }
-    ensures asked { (before : List Line) → Keeps node before clock → Asked (exchange p counter (view port (of node before))) keep
+    ensures asked { (before : List Line) → Keeps node before clock
+        → Asked (exchange p counter (view port (of node before))) keep
         → Asked (exchange p counter (view port (of node (line_of line.now ∷ before)))) result }
     ensures small { IfSome keep IsSmall → IfSome result IsSmall }
 {
@@ -167,8 +176,8 @@ fn asked_after(
     asked_then(line, port, p, counter, clock.target(line.tick), keep)
 }
 
-/// The clock's target, in microseconds, at the last request of a node's port to a peer under this counter, as long as
-/// that exchange is open.
+/// The clock's target, in microseconds, at the last request of a node's port to a peer under this
+/// counter, as long as that exchange is open.
 pub fn asked_at(
     lines: &[HistoryLine],
     node: u32,
@@ -227,8 +236,10 @@ pub fn best_after(
     p: PeerId,
     keep: Option<Best>,
 ) -> Option<Best>
-    ensures { (ns : List HistoryLine) (before : List Line) → LineAt ns index line.now → before ≡ history_of (take index ns) → trip ≡ trip_at (line_of line.now) before →
-        Bests ns node port (best p (view port (of node before))) keep → Bests ns node port (best p (view port (of node (line_of line.now ∷ before)))) result }
+    ensures { (ns : List HistoryLine) (before : List Line) → LineAt ns index line.now
+        → before ≡ history_of (take index ns) → trip ≡ trip_at (line_of line.now) before
+        → Bests ns node port (best p (view port (of node before))) keep
+        → Bests ns node port (best p (view port (of node (line_of line.now ∷ before)))) result }
 {
     if line.node != node {
         return keep;

@@ -15,7 +15,8 @@ use tsp_base::role::Role;
 
 /// The role of a node's port after a line, where it was `keep` before.
 fn role_after(line: &HistoryLine, node: u32, port: Port, keep: Role) -> Role
-    ensures { (before : List Line) → keep ≡ role (view port (of node before)) → result ≡ role (view port (of node (line_of line.now ∷ before))) }
+    ensures { (before : List Line) → keep ≡ role (view port (of node before))
+        → result ≡ role (view port (of node (line_of line.now ∷ before))) }
 {
     if line.node != node {
         return keep;
@@ -40,7 +41,8 @@ pub fn role_at(lines: &[HistoryLine], node: u32, port: Port) -> Role
 
 /// Whether a line is no Back for another candidate that is too near.
 fn is_apart(line: &HistoryLine, node: u32, port: Port, tick: u64, p: PeerId) -> bool
-    ensures { MatchBool result (Apart node port tick p (line_of line.now)) (Apart node port tick p (line_of line.now) → ⊥) }
+    ensures { MatchBool result (Apart node port tick p (line_of line.now))
+        (Apart node port tick p (line_of line.now) → ⊥) }
 {
     if line.node != node || line.port != port {
         return true;
@@ -53,7 +55,9 @@ fn is_apart(line: &HistoryLine, node: u32, port: Port, tick: u64, p: PeerId) -> 
 
 /// Whether a Back of p at this tick keeps the hold.
 pub fn is_held(lines: &[HistoryLine], node: u32, port: Port, tick: u64, p: PeerId) -> bool
-    ensures { MatchBool result (Everywhere (λ other older. Apart node port tick p other) (history_of lines.now)) (Everywhere (λ other older. Apart node port tick p other) (history_of lines.now) → ⊥) }
+    ensures { MatchBool result (Everywhere (λ other older. Apart node port tick p other)
+        (history_of lines.now)) (Everywhere (λ other older. Apart node port tick p other)
+        (history_of lines.now) → ⊥) }
 {
     for line in lines {
         if !is_apart(line, node, port, tick, p) {

@@ -27,7 +27,8 @@ struct Sight {
 /// What is seen after a line.
 fn sight_after(line: &HistoryLine, node: u32, port: Port, p: PeerId, keep: Sight) -> Sight
     requires { keep.posted + 1 < 2 ^ 64 }
-    ensures sees { (before : List Line) → Sees node port p before keep → Sees node port p (line_of line.now ∷ before) result }
+    ensures sees { (before : List Line) → Sees node port p before keep
+        → Sees node port p (line_of line.now ∷ before) result }
     ensures posted { result.posted ≤ keep.posted + 1 }
 {
     let posted = match &line.act {
@@ -96,7 +97,8 @@ fn sight_at(lines: &[HistoryLine], node: u32, port: Port, p: PeerId) -> Sight
 /// The number of the datagram with which the last send of a node's port to a peer began since the boot.
 pub fn begun_to(lines: &[HistoryLine], node: u32, port: Port, p: PeerId) -> Option<u64>
     requires { length lines.now < 2 ^ 32 }
-    ensures { IsPlaceOf node port (history_of lines.now) (begun_to p (view port (of node (history_of lines.now)))) result }
+    ensures { IsPlaceOf node port (history_of lines.now)
+        (begun_to p (view port (of node (history_of lines.now)))) result }
 {
     sight_at(lines, node, port, p).begun
 }
@@ -104,7 +106,8 @@ pub fn begun_to(lines: &[HistoryLine], node: u32, port: Port, p: PeerId) -> Opti
 /// The number of the datagram with which the open send of a node's port to a peer began, if one is open.
 pub fn open_to(lines: &[HistoryLine], node: u32, port: Port, p: PeerId) -> Option<u64>
     requires { length lines.now < 2 ^ 32 }
-    ensures { IsPlaceOf node port (history_of lines.now) (open_to p (view port (of node (history_of lines.now)))) result }
+    ensures { IsPlaceOf node port (history_of lines.now)
+        (open_to p (view port (of node (history_of lines.now)))) result }
 {
     sight_at(lines, node, port, p).open
 }

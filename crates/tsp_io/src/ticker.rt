@@ -21,17 +21,23 @@ pub trait Ticker {
         ensures low { last self.old ≤ result }
         ensures high { result ≤ 2 ^ 61 }
         ensures last { last self.new ≡ result }
-        ensures takes { TakesReading (readings self.old) (readings self.new) (last self.old) result }
-        ensures same { (wall_is self.new ≡ wall_is self.old) × (word_is self.new ≡ word_is self.old) };
+        ensures takes { TakesReading (readings self.old) (readings self.new) (last self.old)
+            result }
+        ensures same { (wall_is self.new ≡ wall_is self.old)
+            × (word_is self.new ≡ word_is self.old) };
 
     /// The wall clock, in microseconds since 1970, from -2^62 to 2^62.
     fn wall(&mut self) -> i64
         ensures answers { IfSome (wall_is self.old) (λ wall. result ≡ wall) }
         ensures range { IsWall result }
-        ensures same { (readings self.new ≡ readings self.old) × (wall_is self.new ≡ wall_is self.old) × (word_is self.new ≡ word_is self.old) × (last self.new ≡ last self.old) };
+        ensures same { (readings self.new ≡ readings self.old)
+            × (wall_is self.new ≡ wall_is self.old) × (word_is self.new ≡ word_is self.old)
+            × (last self.new ≡ last self.old) };
 
     /// A word that is to differ from boot to boot.
     fn word(&mut self) -> u64
         ensures answers { IfSome (word_is self.old) (λ word. result ≡ word) }
-        ensures same { (readings self.new ≡ readings self.old) × (wall_is self.new ≡ wall_is self.old) × (word_is self.new ≡ word_is self.old) × (last self.new ≡ last self.old) };
+        ensures same { (readings self.new ≡ readings self.old)
+            × (wall_is self.new ≡ wall_is self.old) × (word_is self.new ≡ word_is self.old)
+            × (last self.new ≡ last self.old) };
 }

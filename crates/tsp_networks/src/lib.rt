@@ -1,8 +1,9 @@
 //! Which networks the nodes of a schedule are on, and by which ports.
 //!
-//! A header names its networks, or has one of all its nodes: [`networks_of`] gives them, over [`all_nodes`] where it names none. Where a datagram
-//! goes that a port posts, [`address_of`] says, and how many acts a node's step may put [`room_of`]. [`refusals`] has the causes for which an event
-//! of the schedule is refused by its time, by what it names and by who is up.
+//! A header names its networks, or has one of all its nodes: [`networks_of`] gives them, over
+//! [`all_nodes`] where it names none. Where a datagram goes that a port posts, [`address_of`] says,
+//! and how many acts a node's step may put [`room_of`]. [`refusals`] has the causes for which an
+//! event of the schedule is refused by its time, by what it names and by who is up.
 #![tactic(auto)]
 
 ghost use Rattle.std.specs.Prelude.{◌≡◌, ◌≤◌, [], ◌∷◌, length, IfOk};

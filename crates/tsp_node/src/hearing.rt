@@ -53,10 +53,16 @@ impl Part {
         requires room { 2 * length self.old.station.peers + 10 ≤ D.spare desk.old }
         requires tick { IsTick tick }
         requires later { clock.old.at ≤ tick }
-        ensures row { Performs (TookStands (record { from = from; taken = Good (MessageOf m.now) })) TakeStands (either_by (is_left steer m.now.kind) nothing (handles_kind charge from m.now m.now.kind)) tick port ((self.old, clock.old), tracing.old) ((self.new, clock.new), tracing.new) (D.acts desk.old) (D.acts desk.new) }
+        ensures row { Performs (TookStands (record { from = from; taken = Good (MessageOf m.now) }))
+            TakeStands (either_by (is_left steer m.now.kind) nothing (handles_kind charge from m.now
+            m.now.kind)) tick port ((self.old, clock.old), tracing.old) (
+              (self.new, clock.new),
+              tracing.new,
+            ) (D.acts desk.old) (D.acts desk.new) }
         ensures peers { self.new.station.peers ≡ self.old.station.peers }
         ensures clock { clock.new.at ≤ tick }
-        ensures room { PutsAtMost (2 * length self.old.station.peers + 10) (D.spare desk.old) (D.spare desk.new) (D.acts desk.old) (D.acts desk.new) }
+        ensures room { PutsAtMost (2 * length self.old.station.peers + 10) (D.spare desk.old)
+            (D.spare desk.new) (D.acts desk.old) (D.acts desk.new) }
     {
         if leaves(self.station.role, steer, m.kind()) {
             return;
@@ -84,10 +90,13 @@ impl Part {
         requires tick { IsTick tick }
         requires later { clock.old.at ≤ tick }
         requires audience { audience_of m.now.kind ≡ OfDates }
-        ensures row { Performs (PartTook (record { from = from; taken = Good (MessageOf m.now) })) PartStands (handles_kind charge from m.now m.now.kind) tick port (self.old, clock.old) (self.new, clock.new) (D.acts desk.old) (D.acts desk.new) }
+        ensures row { Performs (PartTook (record { from = from; taken = Good (MessageOf m.now) }))
+            PartStands (handles_kind charge from m.now m.now.kind) tick port (self.old, clock.old)
+            (self.new, clock.new) (D.acts desk.old) (D.acts desk.new) }
         ensures peers { self.new.station.peers ≡ self.old.station.peers }
         ensures clock { clock.new.at ≤ tick }
-        ensures room { PutsAtMost (2 * length self.old.station.peers + 2) (D.spare desk.old) (D.spare desk.new) (D.acts desk.old) (D.acts desk.new) }
+        ensures room { PutsAtMost (2 * length self.old.station.peers + 2) (D.spare desk.old)
+            (D.spare desk.new) (D.acts desk.old) (D.acts desk.new) }
     {
         let corrected = date_take(
             &mut self.station,
@@ -122,10 +131,13 @@ impl Part {
         requires tick { IsTick tick }
         requires later { clock.old.at ≤ tick }
         requires audience { audience_of m.now.kind ≡ OfRoles }
-        ensures row { Performs (PartTook (record { from = from; taken = Good (MessageOf m.now) })) PartStands (from_peer from (peer_says m.now)) tick port (self.old, clock.old) (self.new, clock.new) (D.acts desk.old) (D.acts desk.new) }
+        ensures row { Performs (PartTook (record { from = from; taken = Good (MessageOf m.now) }))
+            PartStands (from_peer from (peer_says m.now)) tick port (self.old, clock.old)
+            (self.new, clock.new) (D.acts desk.old) (D.acts desk.new) }
         ensures peers { self.new.station.peers ≡ self.old.station.peers }
         ensures clock { clock.new.at ≤ tick }
-        ensures room { PutsAtMost (2 * length self.old.station.peers + 5) (D.spare desk.old) (D.spare desk.new) (D.acts desk.old) (D.acts desk.new) }
+        ensures room { PutsAtMost (2 * length self.old.station.peers + 5) (D.spare desk.old)
+            (D.spare desk.new) (D.acts desk.old) (D.acts desk.new) }
     {
         let Place::Peer(p) = from else {
             return;
@@ -158,10 +170,13 @@ impl Part {
         requires peer { Contains self.old.station.peers p }
         requires other { m.now.kind ≢ Ack }
         requires audience { audience_of m.now.kind ≡ OfRoles }
-        ensures row { Performs (PartTook (record { from = Peer p; taken = Good (MessageOf m.now) })) PartStands (says_in p m.now self.old.station.role) tick port (self.old, clock.old) (self.new, clock.new) (D.acts desk.old) (D.acts desk.new) }
+        ensures row { Performs (PartTook (record { from = Peer p; taken = Good (MessageOf m.now) }))
+            PartStands (says_in p m.now self.old.station.role) tick port (self.old, clock.old)
+            (self.new, clock.new) (D.acts desk.old) (D.acts desk.new) }
         ensures peers { self.new.station.peers ≡ self.old.station.peers }
         ensures clock { clock.new.at ≤ tick }
-        ensures room { PutsAtMost (2 * length self.old.station.peers + 5) (D.spare desk.old) (D.spare desk.new) (D.acts desk.old) (D.acts desk.new) }
+        ensures room { PutsAtMost (2 * length self.old.station.peers + 5) (D.spare desk.old)
+            (D.spare desk.new) (D.acts desk.old) (D.acts desk.new) }
     {
         match self.station.role {
             Role::Starting => {}
@@ -195,9 +210,12 @@ impl Part {
         requires role { self.old.station.role ≡ Master }
         requires other { m.now.kind ≢ Ack }
         requires audience { audience_of m.now.kind ≡ OfRoles }
-        ensures row { Performs (PartTook (record { from = Peer p; taken = Good (MessageOf m.now) })) PartStands (master_takes p m.now) tick port (self.old, clock.now) (self.new, clock.now) (D.acts desk.old) (D.acts desk.new) }
+        ensures row { Performs (PartTook (record { from = Peer p; taken = Good (MessageOf m.now) }))
+            PartStands (master_takes p m.now) tick port (self.old, clock.now) (self.new, clock.now)
+            (D.acts desk.old) (D.acts desk.new) }
         ensures peers { self.new.station.peers ≡ self.old.station.peers }
-        ensures room { PutsAtMost (2 * length self.old.station.peers + 5) (D.spare desk.old) (D.spare desk.new) (D.acts desk.old) (D.acts desk.new) }
+        ensures room { PutsAtMost (2 * length self.old.station.peers + 5) (D.spare desk.old)
+            (D.spare desk.new) (D.acts desk.old) (D.acts desk.new) }
     {
         match m.kind() {
             Kind::Quit => self.take_quit(clock, tick, p, m, port, desk),
@@ -229,9 +247,12 @@ impl Part {
         requires peer { Contains self.old.station.peers p }
         requires role { self.old.station.role ≡ Master }
         requires audience { audience_of m.now.kind ≡ OfRoles }
-        ensures row { Performs (PartTook (record { from = Peer p; taken = Good (MessageOf m.now) })) PartStands (quits p m.now.number) tick port (self.old, clock.now) (self.new, clock.now) (D.acts desk.old) (D.acts desk.new) }
+        ensures row { Performs (PartTook (record { from = Peer p; taken = Good (MessageOf m.now) }))
+            PartStands (quits p m.now.number) tick port (self.old, clock.now) (self.new, clock.now)
+            (D.acts desk.old) (D.acts desk.new) }
         ensures peers { self.new.station.peers ≡ self.old.station.peers }
-        ensures room { PutsAtMost 5 (D.spare desk.old) (D.spare desk.new) (D.acts desk.old) (D.acts desk.new) }
+        ensures room { PutsAtMost 5 (D.spare desk.old) (D.spare desk.new) (D.acts desk.old)
+            (D.acts desk.new) }
     {
         take_quit(
             &mut self.station,
@@ -260,9 +281,12 @@ impl Part {
         requires room { 1 ≤ D.spare desk.old }
         requires tick { IsTick tick }
         requires later { clock.now.at ≤ tick }
-        ensures row { (took : Received) (r : ReplyValue) → stamp.now ≡ Reply r → Performs (PartTook took) PartStands (from_peer from (peer_replies r)) tick port (self.old, clock.now) (self.new, clock.now) (D.acts desk.old) (D.acts desk.new) }
+        ensures row { (took : Received) (r : ReplyValue) → stamp.now ≡ Reply r
+            → Performs (PartTook took) PartStands (from_peer from (peer_replies r)) tick port
+            (self.old, clock.now) (self.new, clock.now) (D.acts desk.old) (D.acts desk.new) }
         ensures peers { self.new.station.peers ≡ self.old.station.peers }
-        ensures room { PutsAtMost 1 (D.spare desk.old) (D.spare desk.new) (D.acts desk.old) (D.acts desk.new) }
+        ensures room { PutsAtMost 1 (D.spare desk.old) (D.spare desk.new) (D.acts desk.old)
+            (D.acts desk.new) }
     {
         let Place::Peer(p) = from else {
             return;

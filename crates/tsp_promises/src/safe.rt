@@ -1,12 +1,20 @@
-//! The promises of the protocol, each proved of every history that fits: of any number of nodes, and of any
-//! number of ports of a node. Nothing here runs. Each function's contract is a theorem about the definitions of
-//! `tsp_base`; whoever keeps what each deed owes to its past keeps the promises.
+//! The promises of the protocol, each proved of every history that fits: of any number of nodes,
+//! and of any number of ports of a node. Nothing here runs. Each function's contract is a theorem
+//! about the definitions of `tsp_base`; whoever keeps what each deed owes to its past keeps the
+//! promises.
 ghost use Rattle.std.specs.Prelude.{◌≡◌, ◌≤◌, ◌+◌, nat_abs, true, ℕ, ℤ, List};
 ghost use Rattle.tsp_promises.specs.Agreed.{Agreed, StayAgreed};
 ghost use Rattle.tsp_promises.specs.Fits.{Fits, Finished};
 ghost use Rattle.tsp_base.specs.History.{Line};
 ghost use Rattle.tsp_promises.specs.Measured.{Measured, Trips};
-ghost use Rattle.tsp_promises.specs.Once.{OnceConfirmed, OnceCorrected, OnceObeyed, OnceSpaced, OnceSpacedOverLives, OnceTaken};
+ghost use Rattle.tsp_promises.specs.Once.{
+  OnceConfirmed,
+  OnceCorrected,
+  OnceObeyed,
+  OnceSpaced,
+  OnceSpacedOverLives,
+  OnceTaken,
+};
 ghost use Rattle.tsp_promises.specs.OneBack.{OneBack};
 ghost use Rattle.tsp_promises.specs.OnlyMaster.{OnlyMaster};
 ghost use Rattle.tsp_promises.specs.OneWinner.{OneWinner};
@@ -27,12 +35,14 @@ ghost use Rattle.tsp_promises.specs.StrictElections.{StrictElections};
 
 /// All promises of a history that ends with a step, each under the premises that it needs.
 pub fn safe()
-    ensures { (setting : Setting) (world : List Line) → Fits setting world → Finished world → Safe setting world }
+    ensures { (setting : Setting) (world : List Line) → Fits setting world → Finished world
+        → Safe setting world }
 {}
 
 /// No node backs two candidates within the hold, forged datagrams or not.
 pub fn one_back()
-    ensures { (setting : Setting) (world : List Line) → Fits setting world → Finished world → OneBack world }
+    ensures { (setting : Setting) (world : List Line) → Fits setting world → Finished world
+        → OneBack world }
 {}
 
 /// Only masters post corrections, close rounds and correct their clocks right after.
@@ -42,59 +52,71 @@ pub fn only_master()
 
 /// Two corrections of one clock stand apart, in one life of the node and over lives.
 pub fn once_spaced()
-    ensures one_life { (setting : Setting) (world : List Line) → Fits setting world → OnceSpaced world }
-    ensures over_lives { (setting : Setting) (world : List Line) → Fits setting world → OnceSpacedOverLives world }
+    ensures one_life { (setting : Setting) (world : List Line) → Fits setting world
+        → OnceSpaced world }
+    ensures over_lives { (setting : Setting) (world : List Line) → Fits setting world
+        → OnceSpacedOverLives world }
 {}
 
 /// A follower's clock is moved only as its master says, if no peer's datagram is forged.
 pub fn once_obeyed()
-    ensures { (setting : Setting) (world : List Line) → Fits setting world → Honest world → OnceObeyed setting world }
+    ensures { (setting : Setting) (world : List Line) → Fits setting world → Honest world
+        → OnceObeyed setting world }
 {}
 
-/// No two corrections of clocks take posts of one ADJTIME or SETTIME, if no datagram outlives `LIFE`; forged datagrams
-/// don't matter.
+/// No two corrections of clocks take posts of one ADJTIME or SETTIME, if no datagram outlives
+/// `LIFE`; forged datagrams don't matter.
 pub fn once_corrected()
-    ensures { (setting : Setting) (world : List Line) → Fits setting world → Life world → OnceCorrected world }
+    ensures { (setting : Setting) (world : List Line) → Fits setting world → Life world
+        → OnceCorrected world }
 {}
 
-/// No two corrections of clocks take posts of one send, whether that corrects a clock or passes a date on, if no
-/// datagram outlives `LIFE` and no peer's datagram is forged.
+/// No two corrections of clocks take posts of one send, whether that corrects a clock or passes a
+/// date on, if no datagram outlives `LIFE` and no peer's datagram is forged.
 pub fn once_taken()
-    ensures { (setting : Setting) (world : List Line) → Fits setting world → Honest world → Life world → OnceTaken world }
+    ensures { (setting : Setting) (world : List Line) → Fits setting world → Honest world
+        → Life world → OnceTaken world }
 {}
 
 /// A correction that was acknowledged was taken.
 pub fn once_confirmed()
-    ensures { (setting : Setting) (world : List Line) → Fits setting world → Honest world → Life world → Words world → OnceConfirmed world }
+    ensures { (setting : Setting) (world : List Line) → Fits setting world → Honest world
+        → Life world → Words world → OnceConfirmed world }
 {}
 
-/// A measurement ends an open exchange of the going round, and the error that it states is half that round trip,
-/// rounded up.
+/// A measurement ends an open exchange of the going round, and the error that it states is half
+/// that round trip, rounded up.
 pub fn measured_trips()
     ensures { (setting : Setting) (world : List Line) → Fits setting world → Trips world }
 {}
 
-/// A measurement rests on a reply that its peer posted, and errs by at most the error that it states, if no peer's
-/// datagram is forged and no two boots have one word.
+/// A measurement rests on a reply that its peer posted, and errs by at most the error that it
+/// states, if no peer's datagram is forged and no two boots have one word.
 pub fn measured()
-    ensures { (setting : Setting) (world : List Line) → Fits setting world → Honest world → Words world → Measured setting world }
+    ensures { (setting : Setting) (world : List Line) → Fits setting world → Honest world
+        → Words world → Measured setting world }
 {}
 
-/// An ADJTIME that a Close begins rests on a sample, and clocks that one Close corrected agree with one another and with
-/// the master's: at each act, and from there on as long as nothing more happens.
+/// An ADJTIME that a Close begins rests on a sample, and clocks that one Close corrected agree with
+/// one another and with the master's: at each act, and from there on as long as nothing more
+/// happens.
 pub fn agreed()
-    ensures at { (setting : Setting) (world : List Line) → Fits setting world → Honest world → Life world → Words world → Agreed setting world }
-    ensures stay { (setting : Setting) (world : List Line) → Fits setting world → Honest world → Life world → Words world → StayAgreed setting world }
+    ensures at { (setting : Setting) (world : List Line) → Fits setting world → Honest world
+        → Life world → Words world → Agreed setting world }
+    ensures stay { (setting : Setting) (world : List Line) → Fits setting world → Honest world
+        → Life world → Words world → StayAgreed setting world }
 {}
 
 /// A clock that a corrected master corrected agrees with the first master's, at each line and from there on.
 pub fn relayed()
-    ensures { (setting : Setting) (world : List Line) → Fits setting world → Honest world → Life world → Words world → Relayed setting world }
+    ensures { (setting : Setting) (world : List Line) → Fits setting world → Honest world
+        → Life world → Words world → Relayed setting world }
 {}
 
 /// A master that takes a QUIT follows its sender at the end of that step.
 pub fn resolved_yields()
-    ensures { (setting : Setting) (world : List Line) → Fits setting world → Finished world → Yields world }
+    ensures { (setting : Setting) (world : List Line) → Fits setting world → Finished world
+        → Yields world }
 {}
 
 /// It comes to follow by a change of its role in that step, after the QUIT.
@@ -107,43 +129,48 @@ pub fn resolved_stays_quiet()
     ensures { (setting : Setting) (world : List Line) → Fits setting world → StaysQuiet world }
 {}
 
-/// At the end of the step in which the last rival takes its QUIT no rival is a master, if no datagram outlives `LIFE`.
+/// At the end of the step in which the last rival takes its QUIT no rival is a master, if no
+/// datagram outlives `LIFE`.
 pub fn resolved_stops()
-    ensures { (setting : Setting) (world : List Line) → Fits setting world → Finished world → Life world → StopsLeading world }
+    ensures { (setting : Setting) (world : List Line) → Fits setting world → Finished world
+        → Life world → StopsLeading world }
 {}
 
-/// No promise is empty: a history that fits and keeps every premise sees three nodes boot, one of them win an election,
-/// the others take a SETTIME each and acknowledge it, and a whole round that corrects both.
+/// No promise is empty: a history that fits and keeps every premise sees three nodes boot, one of
+/// them win an election, the others take a SETTIME each and acknowledge it, and a whole round that
+/// corrects both.
 pub fn ordinary_use()
     ensures { OrdinaryUse }
 {}
 
-/// Nor are those of gateways: a history that fits sees a node of two ports that is corrected by one of them and corrects
-/// a third node by the other.
+/// Nor are those of gateways: a history that fits sees a node of two ports that is corrected by one
+/// of them and corrects a third node by the other.
 pub fn relayed_use()
     ensures { Relays }
 {}
 
-/// A history that fits sees dates passed on and set, in two lives of a master. Where forged octets come between, one
-/// date is set twice, so `once_taken` needs its premise.
+/// A history that fits sees dates passed on and set, in two lives of a master. Where forged octets
+/// come between, one date is set twice, so `once_taken` needs its premise.
 pub fn dates_pass()
     ensures used { DateUse }
     ensures forged { ForgedDate }
 {}
 
-/// A history that fits may bring a reply to a request of an earlier life; it ends no exchange, and so a Sample of it
-/// would break a promise.
+/// A history that fits may bring a reply to a request of an earlier life; it ends no exchange, and
+/// so a Sample of it would break a promise.
 pub fn late_reply()
     ensures { LateReply }
 {}
 
-/// Nor are the promises of backings and of resolutions empty: a history that fits sees a node back two candidates, and
-/// a rival take the QUIT of a resolution and lead again after the least election delay.
+/// Nor are the promises of backings and of resolutions empty: a history that fits sees a node back
+/// two candidates, and a rival take the QUIT of a resolution and lead again after the least
+/// election delay.
 pub fn rivals_meet()
     ensures { RivalsMeet }
 {}
 
-/// Nor is the promise of strict elections empty: a history that fits sees two nodes win, one long after the other.
+/// Nor is the promise of strict elections empty: a history that fits sees two nodes win, one long
+/// after the other.
 pub fn strict_elections()
     ensures { StrictElections }
 {}
@@ -153,14 +180,17 @@ pub fn promises_can_be_broken()
     ensures { AllBreak }
 {}
 
-/// In strict elections two wins of different nodes on one network stand more than 50 s apart, if no peer's datagram is
-/// forged, no datagram outlives `LIFE`, and no port begins 32,768 sends with own numbers in one life of its node.
+/// In strict elections two wins of different nodes on one network stand more than 50 s apart, if no
+/// peer's datagram is forged, no datagram outlives `LIFE`, and no port begins 32,768 sends with own
+/// numbers in one life of its node.
 pub fn one_winner()
-    ensures { (setting : Setting) (world : List Line) → setting.strict ≡ true → Fits setting world → Honest world → Life world → Few world → OneWinner setting world }
+    ensures { (setting : Setting) (world : List Line) → setting.strict ≡ true → Fits setting world
+        → Honest world → Life world → Few world → OneWinner setting world }
 {}
 
 /// Over some span of true time a tick counter advances by that span, give or take the width.
 pub fn ticks_keep_width()
-    ensures { (rate : ℤ) (drift start span : ℕ) → nat_abs rate ≤ drift → drift ≤ 1000 →
-        (tick_at rate (start + span) ≤ tick_at rate start + span + width drift span) × (tick_at rate start + span ≤ tick_at rate (start + span) + width drift span) }
+    ensures { (rate : ℤ) (drift start span : ℕ) → nat_abs rate ≤ drift → drift ≤ 1000
+        → (tick_at rate (start + span) ≤ tick_at rate start + span + width drift span)
+        × (tick_at rate start + span ≤ tick_at rate (start + span) + width drift span) }
 {}

@@ -44,10 +44,15 @@ pub(crate) enum Heard {
 
 /// Waits for a datagram, and reads the tick right after the wait.
 fn hear<L: Link, T: Ticker>(link: &mut L, ticker: &mut T, question: Question) -> Heard
-    ensures hears { (o : Outside) → Tells o (L.arrivals link.old) (L.tried link.old) (L.calls link.old) (T.readings ticker.old) (T.last ticker.old)
-        → Hears question o (L.arrivals link.new) (L.tried link.new) (L.calls link.new) (T.readings ticker.new) (T.last ticker.new) result }
+    ensures hears { (o : Outside)
+        → Tells o (L.arrivals link.old) (L.tried link.old) (L.calls link.old)
+        (T.readings ticker.old) (T.last ticker.old)
+        → Hears question o (L.arrivals link.new) (L.tried link.new) (L.calls link.new)
+        (T.readings ticker.new) (T.last ticker.new) result }
     ensures well { HearsWell question (T.last ticker.old) result }
-    ensures later { (L.faults link.old ≤ L.faults link.new) × (L.send_faults link.new ≡ L.send_faults link.old) × (T.last ticker.old ≤ T.last ticker.new) }
+    ensures later { (L.faults link.old ≤ L.faults link.new)
+        × (L.send_faults link.new ≡ L.send_faults link.old)
+        × (T.last ticker.old ≤ T.last ticker.new) }
     ensures cause { result ≡ Heard.Failed → Rose (L.faults link.old) (L.faults link.new) }
     ensures still { result ≢ Heard.Failed → L.faults link.new ≡ L.faults link.old }
 {
@@ -70,7 +75,8 @@ fn hear<L: Link, T: Ticker>(link: &mut L, ticker: &mut T, question: Question) ->
 
 /// The datagram that octets from there spell, where it is an answer of the daemon's.
 fn answer_from(question: Question, from: Place, octets: &[u8]) -> Option<Datagram>
-    ensures answer { result ≡ (if is_daemon from then answer_of question (taken_of octets.now) else None) }
+    ensures answer { result ≡ (if is_daemon from then answer_of question (taken_of octets.now) else
+        None) }
     ensures well { IfSome result (λ d. answers question d ≡ true) }
 {
     match from {
@@ -81,10 +87,14 @@ fn answer_from(question: Question, from: Place, octets: &[u8]) -> Option<Datagra
 
 /// Receives up to eight times, until an answer comes or a receive fails.
 fn listen<L: Link, T: Ticker>(link: &mut L, ticker: &mut T, question: Question) -> AskEnd
-    ensures listens { (o : Outside) → Tells o (L.arrivals link.old) (L.tried link.old) (L.calls link.old) (T.readings ticker.old) (T.last ticker.old)
+    ensures listens { (o : Outside)
+        → Tells o (L.arrivals link.old) (L.tried link.old) (L.calls link.old)
+        (T.readings ticker.old) (T.last ticker.old)
         → Listens question o (L.tried link.new) (L.calls link.new) result }
     ensures well { AsksWell question (T.last ticker.old) result }
-    ensures later { (L.faults link.old ≤ L.faults link.new) × (L.send_faults link.new ≡ L.send_faults link.old) × (T.last ticker.old ≤ T.last ticker.new) }
+    ensures later { (L.faults link.old ≤ L.faults link.new)
+        × (L.send_faults link.new ≡ L.send_faults link.old)
+        × (T.last ticker.old ≤ T.last ticker.new) }
     ensures cause { result ≡ AskEnd.LinkFault → Rose (L.faults link.old) (L.faults link.new) }
     ensures still { result ≢ AskEnd.LinkFault → L.faults link.new ≡ L.faults link.old }
     ensures memory { result ≢ AskEnd.OutOfMemory }
@@ -106,12 +116,18 @@ pub(crate) fn ask<L: Link, T: Ticker>(
     request: &Datagram,
     question: Question,
 ) -> AskEnd
-    ensures asks { (o : Outside) → Tells o (L.arrivals link.old) (L.tried link.old) (L.calls link.old) (T.readings ticker.old) (T.last ticker.old)
+    ensures asks { (o : Outside)
+        → Tells o (L.arrivals link.old) (L.tried link.old) (L.calls link.old)
+        (T.readings ticker.old) (T.last ticker.old)
         → Asks request.now question o (L.tried link.new) (L.calls link.new) result }
     ensures well { AsksWell question (T.last ticker.old) result }
-    ensures later { (L.faults link.old ≤ L.faults link.new) × (L.send_faults link.old ≤ L.send_faults link.new) × (T.last ticker.old ≤ T.last ticker.new) }
-    ensures cause { result ≡ AskEnd.LinkFault → Rose (L.faults link.old) (L.faults link.new) ⊎ Rose (L.send_faults link.old) (L.send_faults link.new) }
-    ensures still { result ≢ AskEnd.LinkFault → (L.faults link.new ≡ L.faults link.old) × (L.send_faults link.new ≡ L.send_faults link.old) }
+    ensures later { (L.faults link.old ≤ L.faults link.new)
+        × (L.send_faults link.old ≤ L.send_faults link.new)
+        × (T.last ticker.old ≤ T.last ticker.new) }
+    ensures cause { result ≡ AskEnd.LinkFault → Rose (L.faults link.old) (L.faults link.new)
+        ⊎ Rose (L.send_faults link.old) (L.send_faults link.new) }
+    ensures still { result ≢ AskEnd.LinkFault → (L.faults link.new ≡ L.faults link.old)
+        × (L.send_faults link.new ≡ L.send_faults link.old) }
 {
     match link.send(Place::Peer(PeerId(0)), encode(request).as_slice()) {
         Sent::Sent => listen(link, ticker, question),

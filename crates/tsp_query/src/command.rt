@@ -24,11 +24,18 @@ const ANYWHERE: Addr = Addr {
 
 /// Asks over a link that is bound.
 fn ask_bound<L: Link, T: Ticker>(query: &Query, link: &mut L, ticker: &mut T) -> QueryEnd
-    ensures comes { (o : Outside) (wall : ℤ) (word : ℕ) → Tells o (L.arrivals link.old) (L.tried link.old) (L.calls link.old) (T.readings ticker.old) (T.last ticker.old) → T.wall_is ticker.old ≡ Some wall → T.word_is ticker.old ≡ Some word
+    ensures comes { (o : Outside) (wall : ℤ) (word : ℕ)
+        → Tells o (L.arrivals link.old) (L.tried link.old) (L.calls link.old)
+        (T.readings ticker.old) (T.last ticker.old) → T.wall_is ticker.old ≡ Some wall
+        → T.word_is ticker.old ≡ Some word
         → QueryComes query.now wall word o (L.tried link.new) (L.calls link.new) result }
-    ensures later { (L.faults link.old ≤ L.faults link.new) × (L.send_faults link.old ≤ L.send_faults link.new) × (T.last ticker.old ≤ T.last ticker.new) }
-    ensures cause { result ≡ QueryEnd.LinkFault → Rose (L.faults link.old) (L.faults link.new) ⊎ Rose (L.send_faults link.old) (L.send_faults link.new) }
-    ensures still { result ≢ QueryEnd.LinkFault → (L.faults link.new ≡ L.faults link.old) × (L.send_faults link.new ≡ L.send_faults link.old) }
+    ensures later { (L.faults link.old ≤ L.faults link.new)
+        × (L.send_faults link.old ≤ L.send_faults link.new)
+        × (T.last ticker.old ≤ T.last ticker.new) }
+    ensures cause { result ≡ QueryEnd.LinkFault → Rose (L.faults link.old) (L.faults link.new)
+        ⊎ Rose (L.send_faults link.old) (L.send_faults link.new) }
+    ensures still { result ≢ QueryEnd.LinkFault → (L.faults link.new ≡ L.faults link.old)
+        × (L.send_faults link.new ≡ L.send_faults link.old) }
 {
     match query {
         Query::Msite => msite(link, ticker),
@@ -41,7 +48,8 @@ fn ask_bound<L: Link, T: Ticker>(query: &Query, link: &mut L, ticker: &mut T) ->
 
 /// Writes the line of what came of a question.
 fn tell<K: Sink>(query: &Query, end: &QueryEnd, sink: &mut K) -> QueryExit
-    ensures says { Says (end_line query.now end.now) (asking_of end.now) QueryExit.WriteFault QueryExit.OutOfMemory (K.written sink.old) (K.written sink.new) result }
+    ensures says { Says (end_line query.now end.now) (asking_of end.now) QueryExit.WriteFault
+        QueryExit.OutOfMemory (K.written sink.old) (K.written sink.new) result }
     ensures later { K.faults sink.old ≤ K.faults sink.new }
     ensures write { result ≡ QueryExit.WriteFault → Rose (K.faults sink.old) (K.faults sink.new) }
     ensures still { result ≢ QueryExit.WriteFault → K.faults sink.new ≡ K.faults sink.old }
@@ -59,11 +67,11 @@ fn tell<K: Sink>(query: &Query, end: &QueryEnd, sink: &mut K) -> QueryExit
 
 /// Asks the daemon at an address, and writes what came of it as one line.
 ///
-/// The link is bound at any address, with the daemon as peer 0. The lines are `master NAME`, or `no master` for the
-/// empty name; `clockdiff DIFF ERR` in microseconds; `trace on` or `trace off`; `election heard`; `date set` or
-/// `date forwarded`; and `no answer`.
-/// `LinkFault` comes only where one of the link's counts of faults rose, and `WriteFault` only where the sink's did;
-/// where the link failed, nothing is written.
+/// The link is bound at any address, with the daemon as peer 0. The lines are `master NAME`, or `no
+/// master` for the empty name; `clockdiff DIFF ERR` in microseconds; `trace on` or `trace off`;
+/// `election heard`; `date set` or `date forwarded`; and `no answer`. `LinkFault` comes only where
+/// one of the link's counts of faults rose, and `WriteFault` only where the sink's did; where the
+/// link failed, nothing is written.
 pub fn ask<K: Sink, L: Link, T: Ticker>(
     daemon: Addr,
     query: &Query,
@@ -72,13 +80,38 @@ pub fn ask<K: Sink, L: Link, T: Ticker>(
     ticker: &mut T,
 ) -> QueryExit
     ensures asks { (o : Outside) (wall : ℤ) (word : ℕ) (written : List ℕ)
-        → Knows o wall word written (record { arrivals = L.arrivals link.old; tried = L.tried link.old; calls = L.calls link.old; readings = T.readings ticker.old; last = T.last ticker.old; wall = T.wall_is ticker.old; word = T.word_is ticker.old; written = K.written sink.old })
-        → AsksAs query.now o wall word written (record { arrivals = L.arrivals link.new; tried = L.tried link.new; calls = L.calls link.new; readings = T.readings ticker.new; last = T.last ticker.new; wall = T.wall_is ticker.new; word = T.word_is ticker.new; written = K.written sink.new }) result }
-    ensures later { (L.faults link.old ≤ L.faults link.new) × (L.send_faults link.old ≤ L.send_faults link.new) × (K.faults sink.old ≤ K.faults sink.new) × (T.last ticker.old ≤ T.last ticker.new) }
-    ensures link { result ≡ QueryExit.LinkFault → Rose (L.faults link.old) (L.faults link.new) ⊎ Rose (L.send_faults link.old) (L.send_faults link.new) }
+        → Knows o wall word written
+        (record {
+          arrivals = L.arrivals link.old;
+          tried = L.tried link.old;
+          calls = L.calls link.old;
+          readings = T.readings ticker.old;
+          last = T.last ticker.old;
+          wall = T.wall_is ticker.old;
+          word = T.word_is ticker.old;
+          written = K.written sink.old;
+        })
+        → AsksAs query.now o wall word written
+        (record {
+          arrivals = L.arrivals link.new;
+          tried = L.tried link.new;
+          calls = L.calls link.new;
+          readings = T.readings ticker.new;
+          last = T.last ticker.new;
+          wall = T.wall_is ticker.new;
+          word = T.word_is ticker.new;
+          written = K.written sink.new;
+        })
+        result }
+    ensures later { (L.faults link.old ≤ L.faults link.new)
+        × (L.send_faults link.old ≤ L.send_faults link.new)
+        × (K.faults sink.old ≤ K.faults sink.new) × (T.last ticker.old ≤ T.last ticker.new) }
+    ensures link { result ≡ QueryExit.LinkFault → Rose (L.faults link.old) (L.faults link.new)
+        ⊎ Rose (L.send_faults link.old) (L.send_faults link.new) }
     ensures write { result ≡ QueryExit.WriteFault → Rose (K.faults sink.old) (K.faults sink.new) }
     ensures still { result ≢ QueryExit.WriteFault → K.faults sink.new ≡ K.faults sink.old }
-    ensures linked { result ≢ QueryExit.LinkFault → (L.faults link.new ≡ L.faults link.old) × (L.send_faults link.new ≡ L.send_faults link.old) }
+    ensures linked { result ≢ QueryExit.LinkFault → (L.faults link.new ≡ L.faults link.old)
+        × (L.send_faults link.new ≡ L.send_faults link.old) }
 {
     match link.bind(ANYWHERE, &[daemon]) {
         Bound::Bound => {

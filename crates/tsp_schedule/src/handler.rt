@@ -27,6 +27,10 @@ pub trait EventHandler: Drop {
     /// Lets an event happen, or says for what cause it can't.
     fn event(&mut self, e: &Event) -> Result<(), EventFault>
         requires { IsEvent e.now }
-        ensures happens { (header : HeaderValue) (events : List Event) → stands header events self.old → OnOk result (stands header (e.now ∷ events) self.new) }
-        ensures fault { (header : HeaderValue) (events : List Event) → stands header events self.old → MatchResult result (λ _. refused header events e.now ≡ None) (λ f. IsRefusal (refused header events e.now) f) };
+        ensures happens { (header : HeaderValue) (events : List Event)
+            → stands header events self.old
+            → OnOk result (stands header (e.now ∷ events) self.new) }
+        ensures fault { (header : HeaderValue) (events : List Event) → stands header events self.old
+            → MatchResult result (λ _. refused header events e.now ≡ None)
+            (λ f. IsRefusal (refused header events e.now) f) };
 }

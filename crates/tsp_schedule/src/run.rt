@@ -1,5 +1,22 @@
 //! What the events of a schedule met.
-ghost use Rattle.std.specs.Prelude.{◌≡◌, ◌≢◌, ◌≤◌, ◌<◌, ℕ, List, [], ◌∷◌, length, true, false, IfOk, MatchOption, MatchResult, None, Err};
+ghost use Rattle.std.specs.Prelude.{
+  ◌≡◌,
+  ◌≢◌,
+  ◌≤◌,
+  ◌<◌,
+  ℕ,
+  List,
+  [],
+  ◌∷◌,
+  length,
+  true,
+  false,
+  IfOk,
+  MatchOption,
+  MatchResult,
+  None,
+  Err,
+};
 ghost use Rattle.tsp_base.specs.Headers.{HeaderValue, is_whole};
 ghost use Rattle.tsp_base.specs.declared.event.Event.{Event};
 ghost use Rattle.tsp_schedule.specs.Schedules.{IsEnded, Lacks, Progress, Refuses, Running};
@@ -42,7 +59,9 @@ impl<C: EventHandler> Run<C> {
 
     /// Reads a line behind the header: an event, or the last line.
     pub(crate) fn advance(&mut self, line: &[u8]) -> Result<(), Stop>
-        ensures next { (p : Progress) → RunStands C.stands p self.old → MatchResult result (λ _. RunAdvances C.refused C.stands p line.now self.new) (Halts C.refused p line.now) }
+        ensures next { (p : Progress) → RunStands C.stands p self.old
+            → MatchResult result (λ _. RunAdvances C.refused C.stands p line.now self.new)
+            (Halts C.refused p line.now) }
         ensures kind { result ≢ Err Stop.WriteFault }
     {
         if self.over {
@@ -53,7 +72,8 @@ impl<C: EventHandler> Run<C> {
 
     /// For what cause a line of more than 1,024 octets is refused.
     pub(crate) fn refuse_long(&self) -> Cause
-        ensures { (p : Progress) → RunStands C.stands p self.now → (line : List ℕ) → 1024 < length line → Refuses C.refused p line result }
+        ensures { (p : Progress) → RunStands C.stands p self.now → (line : List ℕ)
+            → 1024 < length line → Refuses C.refused p line result }
     {
         if self.over {
             return Cause::of(b"after-end");
@@ -63,7 +83,8 @@ impl<C: EventHandler> Run<C> {
 
     /// Whether the input may end, and else for what cause it may not.
     pub(crate) fn lacks(&self) -> Option<Cause>
-        ensures { (p : Progress) → RunStands C.stands p self.now → MatchOption result (IsEnded p) (Lacks p) }
+        ensures { (p : Progress) → RunStands C.stands p self.now
+            → MatchOption result (IsEnded p) (Lacks p) }
     {
         if self.over {
             return None;
@@ -74,7 +95,10 @@ impl<C: EventHandler> Run<C> {
     /// Reads a line before the last one was read.
     fn go_on(&mut self, line: &[u8]) -> Result<(), Stop>
         requires { self.old.over ≡ false }
-        ensures next { (header : HeaderValue) (events : List Event) → C.stands header events self.old.course → MatchResult result (λ _. RunAdvances C.refused C.stands (Running header events) line.now self.new) (Halts C.refused (Running header events) line.now) }
+        ensures next { (header : HeaderValue) (events : List Event)
+            → C.stands header events self.old.course
+            → MatchResult result (λ _. RunAdvances C.refused C.stands (Running header events)
+            line.now self.new) (Halts C.refused (Running header events) line.now) }
         ensures kind { result ≢ Err Stop.WriteFault }
     {
         match event_line(line) {
@@ -90,8 +114,11 @@ impl<C: EventHandler> Run<C> {
     /// Lets an event happen.
     fn happen(&mut self, e: &Event) -> Result<(), Stop>
         requires { IsEvent e.now }
-        ensures next { (header : HeaderValue) (events : List Event) → C.stands header events self.old.course → MatchResult result
-            (λ _. (C.refused header events e.now ≡ None) × C.stands header (e.now ∷ events) self.new.course) (HaltsEvent C.refused header events e.now) }
+        ensures next { (header : HeaderValue) (events : List Event)
+            → C.stands header events self.old.course
+            → MatchResult result (λ _. (C.refused header events e.now ≡ None)
+            × C.stands header (e.now ∷ events) self.new.course) (HaltsEvent C.refused header events
+            e.now) }
         ensures over { self.new.over ≡ self.old.over }
         ensures kind { result ≢ Err Stop.WriteFault }
     {

@@ -34,7 +34,12 @@ fn config_of(
     number: u32,
     nets: &[Members],
 ) -> Result<GateConfig, AllocError>
-    ensures { IfOk result (λ c. c ≡ record { name = line.now.name; may = line.now.may; strict = strict; ports = ports_on number nets.now }) }
+    ensures { IfOk result (λ c. c ≡ record {
+      name = line.now.name;
+      may = line.now.may;
+      strict = strict;
+      ports = ports_on number nets.now;
+    }) }
 {
     let mut config = GateConfig::new(alloc, line.name.copy(), line.may, strict)?;
     for net in nets {
@@ -43,15 +48,18 @@ fn config_of(
     Ok(config)
 }
 
-/// Gives a node a port on a network, where it is on it. Fails only if out of memory: a node is on 4 networks at
-/// the most.
+/// Gives a node a port on a network, where it is on it. Fails only if out of memory: a node is on 4
+/// networks at the most.
 fn join(
     alloc: Global,
     config: &mut GateConfig,
     number: u32,
     net: &Members,
 ) -> Result<(), AllocError>
-    ensures { OnOk result (config.new ≡ record config.old { ports = config.old.ports ++ ports_on number (net.now ∷ []) }) }
+    ensures { OnOk result (config.new ≡ record config.old {
+      ports = config.old.ports ++ ports_on
+          number (net.now ∷ []);
+    }) }
 {
     if !net.numbers().contains(&number) {
         return Ok(());

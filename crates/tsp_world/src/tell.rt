@@ -39,7 +39,8 @@ fn tell_one(
 ) -> u64
     requires room { vec_len lines.old < vec_capacity lines.old }
     requires number { next + 1 < 2 ^ 64 }
-    ensures line { lines.new.items ≡ lines.old.items ++ told_line event node tick next placed.now ∷ [] }
+    ensures line { lines.new.items ≡ lines.old.items ++ told_line event node tick next
+        placed.now ∷ [] }
     ensures len { vec_len lines.new ≡ vec_len lines.old + 1 }
     ensures capacity { vec_capacity lines.old ≤ vec_capacity lines.new }
     ensures next { result ≡ next + posts_by placed.now.act }
