@@ -10,7 +10,7 @@ use tsp_io::memory::MemorySink;
 use tsp_io::memory_link::MemoryLink;
 use tsp_io::memory_ticker::MemoryTicker;
 use tsp_query::ask::ask;
-use tsp_query::end::QueryExit;
+use tsp_query::exit::QueryExit;
 
 /// The daemon that is asked.
 const DAEMON: Place = Place::Peer(PeerId(0));
