@@ -7,7 +7,7 @@ ghost use Rattle.tsp_rules.specs.Guards.{is_clock_value};
 ghost use Rattle.tsp_args.specs.Serves.{IsServe};
 ghost use Rattle.tsp_daemon.specs.Serving.{bad_wall, BoundServes, ServesAs};
 
-use crate::end::DaemonExit;
+use crate::exit::DaemonExit;
 use crate::node::{Unbooted, addrs_of, boot};
 use crate::serve::serve;
 use std::alloc::Global;

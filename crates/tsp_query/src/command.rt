@@ -6,7 +6,7 @@ ghost use Rattle.tsp_query.specs.Outside.{Knows, Says};
 ghost use Rattle.tsp_query.specs.Asks.{asking_of, QueryComes, AsksAs};
 ghost use Rattle.tsp_query.specs.Lines.{end_line};
 
-use crate::end::QueryExit;
+use crate::exit::QueryExit;
 use crate::line::line_of;
 use crate::query::{QueryEnd, clockdiff, election, msite, setdate, trace};
 use tsp_args::query::Query;
