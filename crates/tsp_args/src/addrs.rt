@@ -1,22 +1,6 @@
 //! Addresses as words.
-ghost use Rattle.std.specs.Prelude.{
-  ◌≡◌,
-  ◌+◌,
-  ◌^◌,
-  ◌<◌,
-  ◌≤◌,
-  ℕ,
-  ◌∷◌,
-  ◌++◌,
-  length,
-  take,
-  Contains,
-  decimal,
-  IfSome,
-  MatchOption,
-  Some,
-  slice_index_or,
-};
+ghost use Rattle.std.specs.Prelude.{◌≡◌, ◌+◌, ◌^◌, ◌<◌, ◌≤◌, ℕ, ◌∷◌, ◌++◌, length, take, Contains};
+ghost use Rattle.std.specs.Prelude.{decimal, IfSome, MatchOption, Some, slice_index_or};
 ghost use Rattle.tsp_io.specs.declared.addr.Addr.{Addr};
 ghost use Rattle.tsp_args.specs.Addrs.{addr_text, IsAddr};
 

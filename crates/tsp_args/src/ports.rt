@@ -1,27 +1,7 @@
 //! The peers of a daemon's ports as words.
-ghost use Rattle.std.specs.Prelude.{
-  ◌≡◌,
-  ◌<◌,
-  ◌≤◌,
-  ℕ,
-  List,
-  [],
-  ◌∷◌,
-  ◌++◌,
-  length,
-  map,
-  All,
-  Contains,
-  IfOk,
-  IfSome,
-  Ok,
-  Some,
-  MatchResult,
-  MatchBool,
-  slice_get,
-  string_bytes,
-  codes,
-};
+ghost use Rattle.std.specs.Prelude.{◌≡◌, ◌<◌, ◌≤◌, ℕ, List, [], ◌∷◌, ◌++◌, length, map, All};
+ghost use Rattle.std.specs.Prelude.{Contains, IfOk, IfSome, Ok, Some, MatchResult, MatchBool};
+ghost use Rattle.std.specs.Prelude.{slice_get, string_bytes, codes};
 ghost use Rattle.tsp_io.specs.declared.addr.Addr.{Addr};
 ghost use Rattle.tsp_args.specs.Addrs.{addr_text, IsAddr};
 ghost use Rattle.tsp_args.specs.Ports.{peer_words, all_peers, IsPeerWord, AllDiffer, ArePeers, ServeOne, ArePorts};

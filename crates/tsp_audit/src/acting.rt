@@ -1,21 +1,6 @@
 //! Whether each correction acts at most once.
-ghost use Rattle.std.specs.Prelude.{
-  ◌≡◌,
-  ◌≤◌,
-  ◌<◌,
-  ◌+◌,
-  ◌-◌,
-  ◌^◌,
-  ℕ,
-  true,
-  List,
-  length,
-  take,
-  vec_len,
-  vec_capacity,
-  MatchBool,
-  MatchOption,
-};
+ghost use Rattle.std.specs.Prelude.{◌≡◌, ◌≤◌, ◌<◌, ◌+◌, ◌-◌, ◌^◌, ℕ, true, List, length, take};
+ghost use Rattle.std.specs.Prelude.{vec_len, vec_capacity, MatchBool, MatchOption};
 ghost use Rattle.tsp_promises.specs.CorrectFits.{amount_of};
 ghost use Rattle.tsp_base.specs.History.{Line};
 ghost use Rattle.tsp_promises.specs.Once.{ConfirmedAt, Obeys, ObeysAt, OnceAt, SpacedAt};
@@ -24,20 +9,9 @@ ghost use Rattle.tsp_promises.specs.Setting.{Setting};
 ghost use Rattle.tsp_base.specs.Takings.{time_in};
 ghost use Rattle.tsp_audit.specs.Parts.{ActsOnce, AllKept};
 ghost use Rattle.tsp_audit.specs.Settings.{HasClocks, Timely};
-ghost use Rattle.tsp_audit.specs.Acting.{
-  ActedIs,
-  ActsAt,
-  ActsNow,
-  Corrects,
-  IsNumbered,
-  Moves,
-  TakesAs,
-  TakesSend,
-  TakesWell,
-  deed_corrects,
-  is_unknown,
-  with_send,
-};
+ghost use Rattle.tsp_audit.specs.Acting.{ActedIs, ActsAt, ActsNow, Corrects, IsNumbered, Moves};
+ghost use Rattle.tsp_audit.specs.Acting.{TakesAs, TakesSend, TakesWell, deed_corrects, is_unknown};
+ghost use Rattle.tsp_audit.specs.Acting.{with_send};
 ghost use Rattle.tsp_history.specs.Clocks.{IsSmall};
 ghost use Rattle.tsp_history.specs.Histories.{deed_of, line_of, history_of};
 

@@ -1,26 +1,7 @@
 //! Whether clocks that one round corrected agree, line by line.
-ghost use Rattle.std.specs.Prelude.{
-  ◌≡◌,
-  ◌≤◌,
-  ◌<◌,
-  ◌+◌,
-  ◌-◌,
-  ◌^◌,
-  ℕ,
-  [],
-  ◌∷◌,
-  ◌++◌,
-  List,
-  length,
-  get_or,
-  take,
-  vec_len,
-  vec_capacity,
-  true,
-  MatchBool,
-  IfOk,
-  OnOk,
-};
+ghost use Rattle.std.specs.Prelude.{◌≡◌, ◌≤◌, ◌<◌, ◌+◌, ◌-◌, ◌^◌, ℕ, [], ◌∷◌, ◌++◌, List, length};
+ghost use Rattle.std.specs.Prelude.{get_or, take, vec_len, vec_capacity, true, MatchBool, IfOk};
+ghost use Rattle.std.specs.Prelude.{OnOk};
 ghost use Rattle.tsp_audit.specs.Agreeing.{AccordIs, AllAre, AreBlank, FirstIs, Numbered, TripsTell};
 ghost use Rattle.tsp_audit.specs.Settings.{HasClocks, Timely};
 ghost use Rattle.tsp_promises.specs.Agreed.{Agreed, AgreedAt};

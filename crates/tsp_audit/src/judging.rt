@@ -1,20 +1,6 @@
 //! Whether the lines of an event keep all parts.
-ghost use Rattle.std.specs.Prelude.{
-  ◌≡◌,
-  ◌≤◌,
-  ◌<◌,
-  ◌+◌,
-  ◌-◌,
-  ◌^◌,
-  ℕ,
-  true,
-  length,
-  take,
-  vec_len,
-  vec_capacity,
-  None,
-  MatchBool,
-};
+ghost use Rattle.std.specs.Prelude.{◌≡◌, ◌≤◌, ◌<◌, ◌+◌, ◌-◌, ◌^◌, ℕ, true, length, take, vec_len};
+ghost use Rattle.std.specs.Prelude.{vec_capacity, None, MatchBool};
 ghost use Rattle.tsp_audit.specs.Agreeing.{AccordIs, Numbered};
 ghost use Rattle.tsp_audit.specs.Judged.{Judges};
 ghost use Rattle.tsp_audit.specs.Notes.{HasRoom, NotesStand};

@@ -1,36 +1,8 @@
 //! Whether clocks that one round corrected agree.
-ghost use Rattle.std.specs.Prelude.{
-  ◌≡◌,
-  ◌≤◌,
-  ◌<◌,
-  ◌^◌,
-  ◌+◌,
-  ◌-◌,
-  ◌*◌,
-  ◌≤ℤ◌,
-  ◌+ℤ◌,
-  ◌-ℤ◌,
-  pos,
-  neg_ℤ,
-  nat_abs,
-  ℕ,
-  length,
-  get_or,
-  Some,
-  MatchBool,
-};
-ghost use Rattle.tsp_audit.specs.Agreeing.{
-  AllAgree,
-  AllBounded,
-  BossAgrees,
-  IsAt,
-  MasterNear,
-  NodeAgrees,
-  PairAgrees,
-  PairNear,
-  Stands,
-  shown_by,
-};
+ghost use Rattle.std.specs.Prelude.{◌≡◌, ◌≤◌, ◌<◌, ◌^◌, ◌+◌, ◌-◌, ◌*◌, ◌≤ℤ◌, ◌+ℤ◌, ◌-ℤ◌, pos};
+ghost use Rattle.std.specs.Prelude.{neg_ℤ, nat_abs, ℕ, length, get_or, Some, MatchBool};
+ghost use Rattle.tsp_audit.specs.Agreeing.{AllAgree, AllBounded, BossAgrees, IsAt, MasterNear};
+ghost use Rattle.tsp_audit.specs.Agreeing.{NodeAgrees, PairAgrees, PairNear, Stands, shown_by};
 ghost use Rattle.tsp_audit.specs.declared.round_correction.NodeState.{NodeState as NodeValue};
 ghost use Rattle.tsp_base.specs.Ticks.{width};
 ghost use Rattle.tsp_history.specs.Clocks.{IsSumOf, IsTrip};

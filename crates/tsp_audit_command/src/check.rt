@@ -2,16 +2,9 @@
 ghost use Rattle.std.specs.Prelude.{◌≡◌, ◌≢◌, ◌≤◌, ◌<◌, ℕ, List, length, take, MatchResult, Err};
 ghost use Rattle.tsp_audit_command.specs.Listings.{most_nodes};
 ghost use Rattle.tsp_audit_command.specs.Readings.{Lacks, Reading, Refuses, Scheduling, nodes_at, reading_of};
-ghost use Rattle.tsp_audit_command.specs.Stands.{
-  Advances,
-  Concludes,
-  Halts,
-  HaltsBehind,
-  HaltsConcluding,
-  HasNodes,
-  HeldStands,
-  ListingStands,
-};
+ghost use Rattle.tsp_audit_command.specs.Stands.{Advances, Concludes, Halts, HaltsBehind};
+ghost use Rattle.tsp_audit_command.specs.Stands.{HaltsConcluding, HasNodes, HeldStands};
+ghost use Rattle.tsp_audit_command.specs.Stands.{ListingStands};
 ghost use Rattle.tsp_schedule.specs.Schedules.{IsEnded, Progress};
 ghost use Rattle.tsp_schedule.specs.Stages.{RunStands, StageStands};
 ghost use Rattle.tsp_io.specs.Counts.{Rose};

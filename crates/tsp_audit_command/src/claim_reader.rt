@@ -1,21 +1,6 @@
 //! The lines that are claimed of a schedule's events.
-ghost use Rattle.std.specs.Prelude.{
-  ◌≡◌,
-  ◌≤◌,
-  ◌<◌,
-  ◌+◌,
-  ◌∷◌,
-  ◌↔◌,
-  List,
-  [],
-  Some,
-  length,
-  IsTrue,
-  IfOk,
-  OnOk,
-  MatchResult,
-  codes,
-};
+ghost use Rattle.std.specs.Prelude.{◌≡◌, ◌≤◌, ◌<◌, ◌+◌, ◌∷◌, ◌↔◌, List, [], Some, length, IsTrue};
+ghost use Rattle.std.specs.Prelude.{IfOk, OnOk, MatchResult, codes};
 ghost use Rattle.tsp_base.specs.Headers.{HeaderValue};
 ghost use Rattle.tsp_claims.specs.ClaimedHistory.{Claim};
 ghost use Rattle.tsp_claims.specs.Fitting.{Fit};
@@ -111,15 +96,8 @@ impl ClaimReader {
     ghost use Rattle.tsp_audit_command.specs.ClaimReaders.{FitsHere, lines_told, pass_one, passes, passes_all};
     ghost use Rattle.tsp_audit_command.specs.Listings.{AreListed, IsAudited};
     ghost use Rattle.tsp_audit_command.specs.Readings.{Claimed};
-    ghost use Rattle.tsp_audit_command.specs.Stands.{
-      Adds,
-      ClaimAdvances,
-      Halts,
-      HaltsAdding,
-      HaltsTelling,
-      TellsMore,
-      Unpassed,
-    };
+    ghost use Rattle.tsp_audit_command.specs.Stands.{Adds, ClaimAdvances, Halts, HaltsAdding};
+    ghost use Rattle.tsp_audit_command.specs.Stands.{HaltsTelling, TellsMore, Unpassed};
 
     /// Nothing is claimed yet of these events. Fails only if out of memory.
     pub(crate) fn begin(

@@ -1,20 +1,6 @@
 //! The lines that are claimed of a schedule's events, as far as they fit.
-ghost use Rattle.std.specs.Prelude.{
-  ◌≡◌,
-  ◌≤◌,
-  ◌<◌,
-  ◌+◌,
-  ◌↔◌,
-  ◌∷◌,
-  [],
-  true,
-  IsTrue,
-  length,
-  vec_len,
-  slice_get,
-  option_copied,
-  IfOk,
-};
+ghost use Rattle.std.specs.Prelude.{◌≡◌, ◌≤◌, ◌<◌, ◌+◌, ◌↔◌, ◌∷◌, [], true, IsTrue, length};
+ghost use Rattle.std.specs.Prelude.{vec_len, slice_get, option_copied, IfOk};
 ghost use Rattle.tsp_base.specs.Headers.{is_whole};
 ghost use Rattle.tsp_run.specs.Networks.{numbers_below};
 

@@ -1,17 +1,8 @@
 //! Whether claimed lines fit.
 ghost use Rattle.std.specs.Prelude.{◌≡◌, ◌≤◌, ◌<◌, ◌+◌, ◌↔◌, ◌^◌, IsTrue, length, slice_get, MatchOption};
 ghost use Rattle.tsp_claims.specs.ClaimedHistory.{step_at, taker};
-ghost use Rattle.tsp_claims.specs.Fitting.{
-  ActFits,
-  AllFit,
-  FitsAfter,
-  LineFits,
-  Misfits,
-  TakesPost,
-  TookFits,
-  begins_with_boot,
-  untold,
-};
+ghost use Rattle.tsp_claims.specs.Fitting.{ActFits, AllFit, FitsAfter, LineFits, Misfits};
+ghost use Rattle.tsp_claims.specs.Fitting.{TakesPost, TookFits, begins_with_boot, untold};
 ghost use Rattle.tsp_claims.specs.Listed.{up_in};
 ghost use Rattle.tsp_claims.specs.Steps.{ActsIn, step_by};
 ghost use Rattle.tsp_run.specs.Run.{step_tick};

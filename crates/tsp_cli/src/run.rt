@@ -5,16 +5,8 @@ ghost use Rattle.tsp_args.specs.Commands.{IsCommand, IsNoCommand, words_of};
 ghost use Rattle.tsp_args.specs.Serves.{IsServe};
 ghost use Rattle.tsp_args.specs.Storms.{IsStorm};
 ghost use Rattle.tsp_args.specs.declared.command.Command.{Command};
-ghost use Rattle.tsp_cli.specs.Commands.{
-  Does,
-  DoesOrNot,
-  RunsDaemon,
-  RunsQuery,
-  RunsStorm,
-  Untouched,
-  IsAsk,
-  IsQuestion,
-};
+ghost use Rattle.tsp_cli.specs.Commands.{Does, DoesOrNot, RunsDaemon, RunsQuery, RunsStorm};
+ghost use Rattle.tsp_cli.specs.Commands.{Untouched, IsAsk, IsQuestion};
 ghost use Rattle.tsp_cli.specs.Headline.{PrintsHistory};
 ghost use Rattle.tsp_cli.specs.Lines.{Says};
 ghost use Rattle.tsp_cli.specs.Usage.{usage_line};

@@ -1,27 +1,7 @@
 //! The corrected clock of a node.
-ghost use Rattle.std.specs.Prelude.{
-  ◌≡◌,
-  ◌+◌,
-  ◌%◌,
-  ◌≤◌,
-  ◌<◌,
-  ◌^◌,
-  ℤ,
-  pos,
-  negsuc,
-  nat_abs,
-  ◌+ℤ◌,
-  ◌-ℤ◌,
-  ◌<ℤ◌,
-  ◌≤ℤ◌,
-  true,
-  false,
-  if◌then◌else◌,
-  IfOk,
-  IfErr,
-  [],
-  ◌∷◌,
-};
+ghost use Rattle.std.specs.Prelude.{◌≡◌, ◌+◌, ◌%◌, ◌≤◌, ◌<◌, ◌^◌, ℤ, pos, negsuc, nat_abs, ◌+ℤ◌};
+ghost use Rattle.std.specs.Prelude.{◌-ℤ◌, ◌<ℤ◌, ◌≤ℤ◌, true, false, if◌then◌else◌, IfOk, IfErr, []};
+ghost use Rattle.std.specs.Prelude.{◌∷◌};
 ghost use Rattle.tsp_base.specs.declared.act.Act.TheVariants.{Boot};
 ghost use Rattle.tsp_base.specs.Frames.{IsTick};
 ghost use Rattle.tsp_base.specs.History.{Past, Booted};

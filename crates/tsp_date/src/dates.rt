@@ -1,20 +1,6 @@
 //! What a port remembers of dates.
-ghost use Rattle.std.specs.Prelude.{
-  ◌≡◌,
-  ℕ,
-  ◌==◌,
-  true,
-  None,
-  Some,
-  [],
-  ◌∷◌,
-  if◌then◌else◌,
-  length,
-  map,
-  position,
-  slice_set,
-  IfOk,
-};
+ghost use Rattle.std.specs.Prelude.{◌≡◌, ℕ, ◌==◌, true, None, Some, [], ◌∷◌, if◌then◌else◌, length};
+ghost use Rattle.std.specs.Prelude.{map, position, slice_set, IfOk};
 ghost use Rattle.tsp_base.specs.declared.act.Act.TheVariants.{Boot};
 ghost use Rattle.tsp_base.specs.declared.constants.TheConstants.{REUSE};
 ghost use Rattle.tsp_base.specs.declared.place.PeerId.{PeerId};

@@ -1,20 +1,6 @@
 //! How a node of several ports is set up.
-ghost use Rattle.std.specs.Prelude.{
-  ◌≡◌,
-  ◌<◌,
-  ◌≤◌,
-  ◌↔◌,
-  true,
-  length,
-  [],
-  ◌∷◌,
-  ◌++◌,
-  slice_index_or,
-  IfOk,
-  OnOk,
-  OnErr,
-  IfErr,
-};
+ghost use Rattle.std.specs.Prelude.{◌≡◌, ◌<◌, ◌≤◌, ◌↔◌, true, length, [], ◌∷◌, ◌++◌};
+ghost use Rattle.std.specs.Prelude.{slice_index_or, IfOk, OnOk, OnErr, IfErr};
 ghost use Rattle.tsp_rules.specs.NodeRows.{PortSetup};
 ghost use Rattle.tsp_node.specs.Configs.{IsPortSetup};
 ghost use Rattle.tsp_gateway.specs.GateConfigs.{ArePorts};

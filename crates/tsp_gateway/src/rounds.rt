@@ -1,21 +1,6 @@
 //! The alarms of a port's round, which other ports of its node feel.
-ghost use Rattle.std.specs.Prelude.{
-  ◌≡◌,
-  ℕ,
-  ◌≤◌,
-  ◌<◌,
-  ◌+◌,
-  ◌*◌,
-  ◌&&◌,
-  nat_le,
-  not,
-  true,
-  false,
-  length,
-  Some,
-  is_some,
-  slice_get,
-};
+ghost use Rattle.std.specs.Prelude.{◌≡◌, ℕ, ◌≤◌, ◌<◌, ◌+◌, ◌*◌, ◌&&◌, nat_le, not, true, false};
+ghost use Rattle.std.specs.Prelude.{length, Some, is_some, slice_get};
 ghost use Rattle.tsp_base.specs.declared.alarm.Alarm.TheVariants.{Close, Probe, Round};
 ghost use Rattle.tsp_base.specs.Alarms.{deadline};
 ghost use Rattle.tsp_base.specs.Frames.{IsTick, PutsAtMost};

@@ -1,21 +1,6 @@
 //! The largest group of values, by a sort and one sweep.
-ghost use Rattle.std.specs.Prelude.{
-  ◌≡◌,
-  pos,
-  ◌+ℤ◌,
-  ◌-ℤ◌,
-  ◌≤ℤ◌,
-  ◌<ℤ◌,
-  ◌+◌,
-  ◌-◌,
-  ◌*◌,
-  ◌^◌,
-  ◌≤◌,
-  ◌<◌,
-  length,
-  min,
-  slice_index_or,
-};
+ghost use Rattle.std.specs.Prelude.{◌≡◌, pos, ◌+ℤ◌, ◌-ℤ◌, ◌≤ℤ◌, ◌<ℤ◌, ◌+◌, ◌-◌, ◌*◌, ◌^◌, ◌≤◌, ◌<◌};
+ghost use Rattle.std.specs.Prelude.{length, min, slice_index_or};
 ghost use Rattle.std.specs.List.{All};
 ghost use Rattle.std.specs.List.Sorted.{IsPermutation};
 ghost use Rattle.tsp_group.specs.Groups.{group_of, mean_of, HasMean, IsLargest, FollowsMajority};

@@ -1,22 +1,6 @@
 //! Facts of a node's clock, by one scan each.
-ghost use Rattle.std.specs.Prelude.{
-  ◌≡◌,
-  ◌<◌,
-  ◌≤◌,
-  ◌+◌,
-  ◌^◌,
-  ℕ,
-  [],
-  pos,
-  neg_ℤ,
-  ◌-ℤ◌,
-  ◌+ℤ◌,
-  ◌≤ℤ◌,
-  List,
-  ◌∷◌,
-  length,
-  MatchBool,
-};
+ghost use Rattle.std.specs.Prelude.{◌≡◌, ◌<◌, ◌≤◌, ◌+◌, ◌^◌, ℕ, [], pos, neg_ℤ, ◌-ℤ◌, ◌+ℤ◌, ◌≤ℤ◌};
+ghost use Rattle.std.specs.Prelude.{List, ◌∷◌, length, MatchBool};
 ghost use Rattle.tsp_base.specs.History.{Line, of, dids};
 ghost use Rattle.tsp_base.specs.NodeFacts.{moved, target};
 ghost use Rattle.tsp_history.specs.Clocks.{IsSmall, IsSumOf, Keeps};

@@ -1,20 +1,6 @@
 //! What is to come over a link in memory.
-ghost use Rattle.std.specs.Prelude.{
-  ◌≡◌,
-  ◌≤◌,
-  List,
-  [],
-  ◌∷◌,
-  ◌++◌,
-  length,
-  drop,
-  map,
-  take,
-  vec_len,
-  Some,
-  MatchOption,
-  MatchResult,
-};
+ghost use Rattle.std.specs.Prelude.{◌≡◌, ◌≤◌, List, [], ◌∷◌, ◌++◌, length, drop, map, take};
+ghost use Rattle.std.specs.Prelude.{vec_len, Some, MatchOption, MatchResult};
 ghost use Rattle.tsp_io.specs.Links.{Arrival, TakesDatagram, TakesNothing};
 ghost use Rattle.tsp_io.specs.MemoryLinks.{arrival_of};
 

@@ -1,30 +1,7 @@
 //! A source and a sink in memory, whose calls fail where that is asked for.
-ghost use Rattle.std.specs.Prelude.{
-  ◌≡◌,
-  ◌≢◌,
-  ◌↔◌,
-  ◌⊎◌,
-  ℕ,
-  ◌≤◌,
-  ◌<◌,
-  ◌+◌,
-  ◌-◌,
-  ◌^◌,
-  [],
-  ◌++◌,
-  length,
-  drop,
-  None,
-  Some,
-  false,
-  IfOk,
-  IsTrue,
-  Contains,
-  true,
-  vec_len,
-  min,
-  take,
-};
+ghost use Rattle.std.specs.Prelude.{◌≡◌, ◌≢◌, ◌↔◌, ◌⊎◌, ℕ, ◌≤◌, ◌<◌, ◌+◌, ◌-◌, ◌^◌, [], ◌++◌};
+ghost use Rattle.std.specs.Prelude.{length, drop, None, Some, false, IfOk, IsTrue, Contains, true};
+ghost use Rattle.std.specs.Prelude.{vec_len, min, take};
 ghost use Rattle.tsp_io.specs.Counts.{Rose};
 ghost use Rattle.tsp_io.specs.FailingCalls.{FailsNext, CountsCall};
 ghost use Rattle.tsp_io.specs.Streams.{Reads, Writes};

@@ -1,22 +1,6 @@
 //! A link in memory, whose calls fail where that is asked for.
-ghost use Rattle.std.specs.Prelude.{
-  ◌≡◌,
-  ◌≢◌,
-  ◌↔◌,
-  ◌≤◌,
-  ◌<◌,
-  [],
-  ◌++◌,
-  ◌∷◌,
-  length,
-  Some,
-  None,
-  IfOk,
-  MatchResult,
-  false,
-  true,
-  slice_get,
-};
+ghost use Rattle.std.specs.Prelude.{◌≡◌, ◌≢◌, ◌↔◌, ◌≤◌, ◌<◌, [], ◌++◌, ◌∷◌, length, Some, None};
+ghost use Rattle.std.specs.Prelude.{IfOk, MatchResult, false, true, slice_get};
 ghost use Rattle.std.specs.Option.{option_map};
 ghost use Rattle.tsp_io.specs.Counts.{Rose, one_more};
 ghost use Rattle.tsp_io.specs.FailingCalls.{FailsNext, CountsCall};

@@ -1,21 +1,6 @@
 //! Output that is gathered before it is written.
-ghost use Rattle.std.specs.Prelude.{
-  ◌≡◌,
-  ◌≢◌,
-  ℕ,
-  ◌≤◌,
-  ◌<◌,
-  [],
-  length,
-  take,
-  drop,
-  vec_len,
-  IfOk,
-  IfErr,
-  OnOk,
-  OnErr,
-  MatchResult,
-};
+ghost use Rattle.std.specs.Prelude.{◌≡◌, ◌≢◌, ℕ, ◌≤◌, ◌<◌, [], length, take, drop, vec_len, IfOk};
+ghost use Rattle.std.specs.Prelude.{IfErr, OnOk, OnErr, MatchResult};
 ghost use Rattle.tsp_io.specs.Counts.{Rose};
 ghost use Rattle.tsp_io.specs.Streams.{Grows};
 ghost use Rattle.tsp_lines.specs.Outputs.{Hands};

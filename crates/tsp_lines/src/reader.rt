@@ -1,27 +1,7 @@
 //! A reader of lines.
-ghost use Rattle.std.specs.Prelude.{
-  ◌≡◌,
-  ◌≢◌,
-  ℕ,
-  List,
-  ◌≤◌,
-  ◌<◌,
-  ◌+◌,
-  ◌-◌,
-  ◌^◌,
-  [],
-  ◌++◌,
-  length,
-  take,
-  drop,
-  slice_range,
-  true,
-  false,
-  if◌then◌else◌,
-  IfOk,
-  IfSome,
-  MatchOption,
-};
+ghost use Rattle.std.specs.Prelude.{◌≡◌, ◌≢◌, ℕ, List, ◌≤◌, ◌<◌, ◌+◌, ◌-◌, ◌^◌, [], ◌++◌, length};
+ghost use Rattle.std.specs.Prelude.{take, drop, slice_range, true, false, if◌then◌else◌, IfOk};
+ghost use Rattle.std.specs.Prelude.{IfSome, MatchOption};
 ghost use Rattle.tsp_io.specs.Counts.{Rose};
 ghost use Rattle.tsp_io.specs.Streams.{Gives};
 ghost use Rattle.tsp_lines.specs.Lines.{NoFeed, close, IsOver};

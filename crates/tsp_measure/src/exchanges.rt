@@ -2,16 +2,8 @@
 ghost use Rattle.std.specs.Prelude.{◌≡◌, ◌≢◌, ℕ, ◌+◌, ◌<◌, [], ◌∷◌, ◌++◌, map, length, slice_index, IfOk, MatchOption};
 ghost use Rattle.std.specs.List.{Contains};
 ghost use Rattle.std.specs.Option.{option_map};
-ghost use Rattle.tsp_measure.specs.Measures.{
-  IsReading,
-  IsStamp,
-  IsNewCounter,
-  IsBestOf,
-  Replies,
-  nothing_measured,
-  begun,
-  best_of,
-};
+ghost use Rattle.tsp_measure.specs.Measures.{IsReading, IsStamp, IsNewCounter, IsBestOf, Replies};
+ghost use Rattle.tsp_measure.specs.Measures.{nothing_measured, begun, best_of};
 ghost use Rattle.tsp_measure.specs.Peers.{IsAscending, with_peer};
 
 use crate::exchange::Exchange;

@@ -1,16 +1,8 @@
 //! The causes for which an event is refused by what is there: the last event's time, the nodes,
 //! their networks, and who is up.
 ghost use Rattle.std.specs.Prelude.{◌≡◌, ◌≤◌, length};
-ghost use Rattle.tsp_run.specs.Refusals.{
-  Scene,
-  down_at,
-  first_of,
-  lacks_port,
-  no_node,
-  time_back,
-  unknown,
-  unknown_place,
-};
+ghost use Rattle.tsp_run.specs.Refusals.{Scene, down_at, first_of, lacks_port, no_node, time_back};
+ghost use Rattle.tsp_run.specs.Refusals.{unknown, unknown_place};
 ghost use Rattle.tsp_run.specs.Run.{event_at};
 
 use crate::port_count;

@@ -7,14 +7,8 @@ ghost use Rattle.tsp_promises.specs.Agreed.{Agreed, StayAgreed};
 ghost use Rattle.tsp_promises.specs.Fits.{Fits, Finished};
 ghost use Rattle.tsp_base.specs.History.{Line};
 ghost use Rattle.tsp_promises.specs.Measured.{Measured, Trips};
-ghost use Rattle.tsp_promises.specs.Once.{
-  OnceConfirmed,
-  OnceCorrected,
-  OnceObeyed,
-  OnceSpaced,
-  OnceSpacedOverLives,
-  OnceTaken,
-};
+ghost use Rattle.tsp_promises.specs.Once.{OnceConfirmed, OnceCorrected, OnceObeyed, OnceSpaced};
+ghost use Rattle.tsp_promises.specs.Once.{OnceSpacedOverLives, OnceTaken};
 ghost use Rattle.tsp_promises.specs.OneBack.{OneBack};
 ghost use Rattle.tsp_promises.specs.OnlyMaster.{OnlyMaster};
 ghost use Rattle.tsp_promises.specs.OneWinner.{OneWinner};

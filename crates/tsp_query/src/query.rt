@@ -1,22 +1,6 @@
 //! The queries of a running daemon.
-ghost use Rattle.std.specs.Prelude.{
-  ◌≡◌,
-  ◌≢◌,
-  ◌⊎◌,
-  ◌≤◌,
-  ◌^◌,
-  ◌%◌,
-  ℕ,
-  ℤ,
-  List,
-  Some,
-  IfSome,
-  codes,
-  true,
-  pos,
-  negsuc,
-  ◌<ℤ◌,
-};
+ghost use Rattle.std.specs.Prelude.{◌≡◌, ◌≢◌, ◌⊎◌, ◌≤◌, ◌^◌, ◌%◌, ℕ, ℤ, List, Some, IfSome, codes};
+ghost use Rattle.std.specs.Prelude.{true, pos, negsuc, ◌<ℤ◌};
 ghost use Rattle.tsp_base.specs.Messages.{body_fits};
 ghost use Rattle.tsp_base.specs.declared.kind.Kind.{Kind};
 ghost use Rattle.tsp_base.specs.declared.message.Body.{Body};
@@ -25,25 +9,10 @@ ghost use Rattle.tsp_io.specs.Counts.{Rose};
 ghost use Rattle.tsp_query.specs.Arrivals.{rest_of};
 ghost use Rattle.tsp_query.specs.Clocks.{reading};
 ghost use Rattle.tsp_query.specs.Ends.{Outside, Tells, Asks};
-ghost use Rattle.tsp_query.specs.Queries.{
-  read_twice,
-  message,
-  message_with,
-  date_message,
-  question_of,
-  stamp,
-  QueryEnds,
-  end_of,
-  trace_kind,
-  name_in,
-  master_in,
-  heard_in,
-  says_set,
-  date_in,
-  reading_in,
-  IsReplied,
-  diff_in,
-};
+ghost use Rattle.tsp_query.specs.Queries.{read_twice, message, message_with, date_message};
+ghost use Rattle.tsp_query.specs.Queries.{question_of, stamp, QueryEnds, end_of, trace_kind};
+ghost use Rattle.tsp_query.specs.Queries.{name_in, master_in, heard_in, says_set, date_in};
+ghost use Rattle.tsp_query.specs.Queries.{reading_in, IsReplied, diff_in};
 
 use crate::ask::{AskEnd, ask};
 use crate::question::Question;

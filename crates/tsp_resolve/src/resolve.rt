@@ -1,21 +1,6 @@
 //! The rivals of a master: which of its peers say that they are masters too.
-ghost use Rattle.std.specs.Prelude.{
-  ◌≡◌,
-  ℕ,
-  ◌+◌,
-  ◌≤◌,
-  ◌<◌,
-  ◌==◌,
-  ◌||◌,
-  not,
-  List,
-  [],
-  ◌∷◌,
-  length,
-  slice_index_or,
-  IfOk,
-  IsSomeAnd,
-};
+ghost use Rattle.std.specs.Prelude.{◌≡◌, ℕ, ◌+◌, ◌≤◌, ◌<◌, ◌==◌, ◌||◌, not, List, [], ◌∷◌, length};
+ghost use Rattle.std.specs.Prelude.{slice_index_or, IfOk, IsSomeAnd};
 ghost use Rattle.std.specs.List.{Contains};
 ghost use Rattle.tsp_base.specs.declared.act.Act.TheVariants.{Boot, Become};
 ghost use Rattle.tsp_base.specs.declared.place.PeerId.{PeerId};

@@ -1,22 +1,6 @@
 //! What the events of a schedule met.
-ghost use Rattle.std.specs.Prelude.{
-  ◌≡◌,
-  ◌≢◌,
-  ◌≤◌,
-  ◌<◌,
-  ℕ,
-  List,
-  [],
-  ◌∷◌,
-  length,
-  true,
-  false,
-  IfOk,
-  MatchOption,
-  MatchResult,
-  None,
-  Err,
-};
+ghost use Rattle.std.specs.Prelude.{◌≡◌, ◌≢◌, ◌≤◌, ◌<◌, ℕ, List, [], ◌∷◌, length, true, false};
+ghost use Rattle.std.specs.Prelude.{IfOk, MatchOption, MatchResult, None, Err};
 ghost use Rattle.tsp_base.specs.Headers.{HeaderValue, is_whole};
 ghost use Rattle.tsp_base.specs.declared.event.Event.{Event};
 ghost use Rattle.tsp_schedule.specs.Schedules.{IsEnded, Lacks, Progress, Refuses, Running};

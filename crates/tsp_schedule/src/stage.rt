@@ -1,40 +1,9 @@
 //! How far the reading of a schedule has come.
-ghost use Rattle.std.specs.Prelude.{
-  ◌≡◌,
-  ◌≢◌,
-  ◌<◌,
-  ◌≤◌,
-  ℕ,
-  true,
-  List,
-  [],
-  ◌∷◌,
-  ◌++◌,
-  length,
-  take,
-  MatchBool,
-  MatchResult,
-  MatchOption,
-  Err,
-  codes,
-};
-ghost use Rattle.tsp_schedule.specs.Schedules.{
-  Progress,
-  Untitled,
-  Titled,
-  Drifted,
-  Heading,
-  Running,
-  Takes,
-  TakesNet,
-  IsComplete,
-  next_place,
-  drifted,
-  new_header,
-  Lacks,
-  IsEnded,
-  Refuses,
-};
+ghost use Rattle.std.specs.Prelude.{◌≡◌, ◌≢◌, ◌<◌, ◌≤◌, ℕ, true, List, [], ◌∷◌, ◌++◌, length, take};
+ghost use Rattle.std.specs.Prelude.{MatchBool, MatchResult, MatchOption, Err, codes};
+ghost use Rattle.tsp_schedule.specs.Schedules.{Progress, Untitled, Titled, Drifted, Heading};
+ghost use Rattle.tsp_schedule.specs.Schedules.{Running, Takes, TakesNet, IsComplete, next_place};
+ghost use Rattle.tsp_schedule.specs.Schedules.{drifted, new_header, Lacks, IsEnded, Refuses};
 ghost use Rattle.tsp_schedule.specs.Stages.{StageStands, RunStands, Advances, Halts, HaltsNode, HaltsNet, HaltsFirst};
 
 use crate::handler::EventHandler;

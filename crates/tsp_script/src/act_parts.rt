@@ -2,23 +2,8 @@
 //!
 //! Each function here reads at least every text that is written; a text may be read too that no act is
 //! written as. `act_of` writes what was read again and compares, so that it reads no other spelling.
-ghost use Rattle.std.specs.Prelude.{
-  ◌≡◌,
-  ◌≢◌,
-  ℕ,
-  ◌^◌,
-  ◌<◌,
-  ◌++◌,
-  ◌∷◌,
-  ℤ,
-  Bool,
-  true,
-  false,
-  decimal,
-  Some,
-  IfSome,
-  IsSomeAnd,
-};
+ghost use Rattle.std.specs.Prelude.{◌≡◌, ◌≢◌, ℕ, ◌^◌, ◌<◌, ◌++◌, ◌∷◌, ℤ, Bool, true, false};
+ghost use Rattle.std.specs.Prelude.{decimal, Some, IfSome, IsSomeAnd};
 ghost use Rattle.std.specs.Fmt.{signed_decimal};
 ghost use Rattle.std.specs.Int.{w64};
 ghost use Rattle.std.specs.Int.RustNames.{FitsSigned};

@@ -3,16 +3,8 @@ ghost use Rattle.std.specs.Prelude.{◌≡◌, ℕ, ◌+◌, ◌≤◌, ◌++◌
 ghost use Rattle.std.specs.Fmt.{signed_decimal};
 ghost use Rattle.arrayvec.specs.ArrayVec.{array_vec_len};
 ghost use Rattle.tsp_script.specs.Texts.{space, message_text};
-ghost use Rattle.tsp_script.specs.Traces.{
-  alarm_word,
-  fault_word,
-  role_text,
-  place_text,
-  taken_text,
-  way_word,
-  act_text,
-  is_measured,
-};
+ghost use Rattle.tsp_script.specs.Traces.{alarm_word, fault_word, role_text, place_text};
+ghost use Rattle.tsp_script.specs.Traces.{taken_text, way_word, act_text, is_measured};
 
 use crate::messages::append_datagram;
 use crate::numbers::{

@@ -1,39 +1,14 @@
 //! The lines of a schedule behind its header.
-ghost use Rattle.std.specs.Prelude.{
-  ◌≡◌,
-  ◌≢◌,
-  ℕ,
-  ◌^◌,
-  ◌<◌,
-  ◌≤◌,
-  ◌+◌,
-  ◌++◌,
-  ◌∷◌,
-  List,
-  [],
-  length,
-  decimal,
-  codes,
-  IfSome,
-  IsSomeAnd,
-};
+ghost use Rattle.std.specs.Prelude.{◌≡◌, ◌≢◌, ℕ, ◌^◌, ◌<◌, ◌≤◌, ◌+◌, ◌++◌, ◌∷◌, List, [], length};
+ghost use Rattle.std.specs.Prelude.{decimal, codes, IfSome, IsSomeAnd};
 ghost use Rattle.arrayvec.specs.ArrayVec.{array_vec_len};
 ghost use Rattle.hex.specs.Hex.{decode_of};
 ghost use Rattle.tsp_base.specs.declared.event.Event.{Event};
 ghost use Rattle.tsp_base.specs.declared.place.Place.{Place};
 ghost use Rattle.tsp_base.specs.declared.place.Port.{Port};
 ghost use Rattle.tsp_script.specs.declared.event_line.EventItem.{EventItem};
-ghost use Rattle.tsp_script.specs.Schedules.{
-  event_text,
-  port_text,
-  NamesPort,
-  IsHexOf,
-  IsPlace,
-  IsEvent,
-  SpellsEvent,
-  SpellsRest,
-  ReadsEvent,
-};
+ghost use Rattle.tsp_script.specs.Schedules.{event_text, port_text, NamesPort, IsHexOf, IsPlace};
+ghost use Rattle.tsp_script.specs.Schedules.{IsEvent, SpellsEvent, SpellsRest, ReadsEvent};
 ghost use Rattle.tsp_script.specs.Traces.{place_text};
 
 use crate::acts::append_place;

@@ -1,25 +1,6 @@
 //! The lines of a schedule's header.
-ghost use Rattle.std.specs.Prelude.{
-  Bool,
-  ◌≡◌,
-  ℕ,
-  ℤ,
-  ◌^◌,
-  ◌<◌,
-  ◌≤◌,
-  ◌+◌,
-  ◌++◌,
-  ◌∷◌,
-  List,
-  length,
-  decimal,
-  codes,
-  nat_abs,
-  IfSome,
-  MatchOption,
-  IsTrue,
-  ◌↔◌,
-};
+ghost use Rattle.std.specs.Prelude.{Bool, ◌≡◌, ℕ, ℤ, ◌^◌, ◌<◌, ◌≤◌, ◌+◌, ◌++◌, ◌∷◌, List, length};
+ghost use Rattle.std.specs.Prelude.{decimal, codes, nat_abs, IfSome, MatchOption, IsTrue, ◌↔◌};
 ghost use Rattle.std.specs.Fmt.{signed_decimal};
 ghost use Rattle.std.specs.List.{AllPass};
 ghost use Rattle.arrayvec.specs.ArrayVec.{array_vec_len};

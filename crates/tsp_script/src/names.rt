@@ -1,24 +1,6 @@
 //! Name texts.
-ghost use Rattle.std.specs.Prelude.{
-  ◌≡◌,
-  ◌≢◌,
-  ℕ,
-  ◌+◌,
-  ◌*◌,
-  ◌^◌,
-  ◌≤◌,
-  ◌<◌,
-  ◌++◌,
-  [],
-  ◌∷◌,
-  List,
-  length,
-  flat_map,
-  IfSome,
-  IsSomeAnd,
-  codes,
-  MatchBool,
-};
+ghost use Rattle.std.specs.Prelude.{◌≡◌, ◌≢◌, ℕ, ◌+◌, ◌*◌, ◌^◌, ◌≤◌, ◌<◌, ◌++◌, [], ◌∷◌, List};
+ghost use Rattle.std.specs.Prelude.{length, flat_map, IfSome, IsSomeAnd, codes, MatchBool};
 ghost use Rattle.std.specs.List.{AllPass};
 ghost use Rattle.arrayvec.specs.ArrayVec.{array_vec_len};
 ghost use Rattle.hex.specs.Hex.{encode_lower, IsBytes};

@@ -1,26 +1,6 @@
 //! Numbers and octets as text.
-ghost use Rattle.std.specs.Prelude.{
-  ◌≡◌,
-  ℕ,
-  ◌+◌,
-  ◌*◌,
-  ◌^◌,
-  ◌≤◌,
-  ◌<◌,
-  ◌++◌,
-  length,
-  take,
-  decimal,
-  IfSome,
-  IfNone,
-  Ok,
-  MatchBool,
-  IsErr,
-  ℤ,
-  List,
-  IsSomeAnd,
-  ◌∷◌,
-};
+ghost use Rattle.std.specs.Prelude.{◌≡◌, ℕ, ◌+◌, ◌*◌, ◌^◌, ◌≤◌, ◌<◌, ◌++◌, length, take, decimal};
+ghost use Rattle.std.specs.Prelude.{IfSome, IfNone, Ok, MatchBool, IsErr, ℤ, List, IsSomeAnd, ◌∷◌};
 ghost use Rattle.std.specs.Int.{w64};
 ghost use Rattle.std.specs.Int.RustNames.{FitsSigned};
 ghost use Rattle.std.specs.Fmt.{signed_decimal};

@@ -65,22 +65,9 @@ impl Model for Storm {
 
 impl Storm {
     ghost use Rattle.std.specs.Prelude.{None, pos, ◌-ℤ◌};
-    ghost use Rattle.tsp_script.specs.Storms.{
-      storm_begins,
-      moved,
-      drawn,
-      storm_line,
-      storm_named,
-      gave,
-      boots_next,
-      turns_one,
-      asks_one,
-      asks_or_turns,
-      storm_draw,
-      storm_take,
-      storm_next,
-      IsDraw,
-    };
+    ghost use Rattle.tsp_script.specs.Storms.{storm_begins, moved, drawn, storm_line, storm_named};
+    ghost use Rattle.tsp_script.specs.Storms.{gave, boots_next, turns_one, asks_one, asks_or_turns};
+    ghost use Rattle.tsp_script.specs.Storms.{storm_draw, storm_take, storm_next, IsDraw};
 
     /// The generator that begins with this number, for 1 to 64 nodes.
     pub fn new(seed: u64, nodes: u32) -> Storm

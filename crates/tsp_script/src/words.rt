@@ -1,17 +1,6 @@
 //! Words of a line.
-ghost use Rattle.std.specs.Prelude.{
-  ◌≡◌,
-  ℕ,
-  ◌<◌,
-  ◌++◌,
-  ◌∷◌,
-  length,
-  take,
-  Contains,
-  MatchBool,
-  MatchOption,
-  slice_index_or,
-};
+ghost use Rattle.std.specs.Prelude.{◌≡◌, ℕ, ◌<◌, ◌++◌, ◌∷◌, length, take, Contains, MatchBool};
+ghost use Rattle.std.specs.Prelude.{MatchOption, slice_index_or};
 ghost use Rattle.tsp_script.specs.Words.{before_mark, after_mark, first_word, after_word};
 
 /// The place of the first octet of this value.

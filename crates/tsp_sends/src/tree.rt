@@ -1,20 +1,6 @@
 //! A tree of least deadlines over numbered places.
-ghost use Rattle.std.specs.Prelude.{
-  ◌≡◌,
-  ℕ,
-  ◌+◌,
-  ◌*◌,
-  ◌^◌,
-  ◌≤◌,
-  ◌<◌,
-  length,
-  drop,
-  replicate,
-  slice_set,
-  IfOk,
-  IfSome,
-  true,
-};
+ghost use Rattle.std.specs.Prelude.{◌≡◌, ℕ, ◌+◌, ◌*◌, ◌^◌, ◌≤◌, ◌<◌, length, drop, replicate};
+ghost use Rattle.std.specs.Prelude.{slice_set, IfOk, IfSome, true};
 ghost use Rattle.tsp_sends.specs.Deadlines.{is_due, deadline_at, IsFirstDueAt, IsFirstDue, IsLeast};
 ghost use Rattle.tsp_sends.specs.Trees.{HoldsEarlier};
 

@@ -1,20 +1,6 @@
 //! All nodes of a schedule and all datagrams that they posted.
-ghost use Rattle.std.specs.Prelude.{
-  ◌≡◌,
-  ◌≤◌,
-  [],
-  ◌∷◌,
-  List,
-  true,
-  length,
-  vec_len,
-  IfOk,
-  OnOk,
-  OnErr,
-  MatchResult,
-  slice_get,
-  None,
-};
+ghost use Rattle.std.specs.Prelude.{◌≡◌, ◌≤◌, [], ◌∷◌, List, true, length, vec_len, IfOk, OnOk};
+ghost use Rattle.std.specs.Prelude.{OnErr, MatchResult, slice_get, None};
 ghost use Rattle.tsp_base.specs.Headers.{is_whole};
 ghost use Rattle.tsp_world.specs.NodesReady.{NodesReady};
 
