@@ -74,6 +74,8 @@ impl<R: Clock> Ticker for MachineTicker<R> {
 
     ghost word_is = { λ _. None };
 
+    ghost left_at_wall = { λ _. None };
+
     ghost last = { λ s. s.last };
 
     fn tick(&mut self) -> u64 {

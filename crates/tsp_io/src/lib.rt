@@ -25,6 +25,7 @@ pub mod machine;
 pub mod memory;
 pub mod memory_link;
 pub mod memory_ticker;
+mod noted_calls;
 pub mod sink;
 mod socket;
 pub mod source;

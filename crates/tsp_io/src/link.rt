@@ -2,7 +2,7 @@
 ghost use Rattle.std.specs.Prelude.{◌≡◌, ◌≢◌, ℕ, ◌≤◌, true, length, List, Bool, Option};
 ghost use Rattle.std.specs.Option.{option_map};
 ghost use Rattle.tsp_io.specs.Counts.{Rose, one_more};
-ghost use Rattle.tsp_io.specs.Links.{Arrival, Tried, Receives, Sends};
+ghost use Rattle.tsp_io.specs.Links.{Arrival, Binding, Tried, Notes, Receives, Sends};
 
 use crate::addr::Addr;
 use tsp_base::place::Place;
@@ -51,6 +51,12 @@ pub trait Link {
     /// The sends that were tried, where the implementation tells them.
     ghost tried: { Self → Option (List Tried) };
 
+    /// What it was to be bound to, bind by bind, where the implementation tells it.
+    ghost binds: { Self → Option (List Binding) };
+
+    /// How many microseconds each receive was to wait, where the implementation tells it.
+    ghost waits: { Self → Option (List ℕ) };
+
     /// How many binds and receives were made, where the implementation tells it; it stands still at 2^64 - 1.
     ghost calls: { Self → Option ℕ };
 
@@ -68,8 +74,10 @@ pub trait Link {
     /// `Failed` comes only where the count of faults rose in this call; where it doesn't come, the
     /// count stays as it was.
     fn bind(&mut self, local: Addr, peers: &[Addr]) -> Bound
+        ensures binds { Notes (binds self.old) (binds self.new)
+            (record { local = local; peers = peers.now }) }
         ensures same { (arrivals self.new ≡ arrivals self.old) × (tried self.new ≡ tried self.old)
-            × (stranger self.new ≡ stranger self.old) }
+            × (waits self.new ≡ waits self.old) × (stranger self.new ≡ stranger self.old) }
         ensures counted { calls self.new ≡ option_map one_more (calls self.old) }
         ensures later { (faults self.old ≤ faults self.new)
             × (send_faults self.new ≡ send_faults self.old) }
@@ -85,7 +93,8 @@ pub trait Link {
         requires { length buf.old ≡ 512 }
         ensures receives { Receives (arrivals self.old) (arrivals self.new) (stranger self.old)
             (stranger self.new) result buf.new }
-        ensures same { tried self.new ≡ tried self.old }
+        ensures waits { Notes (waits self.old) (waits self.new) wait }
+        ensures same { (tried self.new ≡ tried self.old) × (binds self.new ≡ binds self.old) }
         ensures counted { calls self.new ≡ option_map one_more (calls self.old) }
         ensures later { (faults self.old ≤ faults self.new)
             × (send_faults self.new ≡ send_faults self.old) }
@@ -100,6 +109,7 @@ pub trait Link {
         requires { to ≡ Place.Stranger → stranger self.old ≡ true }
         ensures sends { Sends (tried self.old) (tried self.new) result (to, octets.now) }
         ensures same { (arrivals self.new ≡ arrivals self.old) × (calls self.new ≡ calls self.old)
+            × (binds self.new ≡ binds self.old) × (waits self.new ≡ waits self.old)
             × (stranger self.new ≡ stranger self.old) }
         ensures later { (faults self.new ≡ faults self.old)
             × (send_faults self.old ≤ send_faults self.new) }

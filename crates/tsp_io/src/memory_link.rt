@@ -4,12 +4,13 @@ ghost use Rattle.std.specs.Prelude.{IfOk, MatchResult, false, true, slice_get};
 ghost use Rattle.std.specs.Option.{option_map};
 ghost use Rattle.tsp_io.specs.Counts.{Rose, one_more};
 ghost use Rattle.tsp_io.specs.FailingCalls.{FailsNext, CountsCall};
-ghost use Rattle.tsp_io.specs.Links.{is_stranger, Receives, Sends};
+ghost use Rattle.tsp_io.specs.Links.{is_stranger, Notes, Receives, Sends};
 
 use crate::addr::Addr;
 use crate::arrivals::{Arrivals, Coming};
 use crate::failing::Failing;
 use crate::link::{Bound, Link, Recv, Sent};
+use crate::noted_calls::{NotedBinds, NotedWaits};
 use crate::tried_sends::TriedSends;
 use std::alloc::{AllocError, Global};
 use tsp_base::place::Place;
@@ -20,6 +21,8 @@ pub struct MemoryLink {
     alloc: Global,
     arrivals: Arrivals,
     tried: TriedSends,
+    binds: NotedBinds,
+    waits: NotedWaits,
     failing: Failing,
     calls: u64,
     stranger: bool,
@@ -32,6 +35,7 @@ impl MemoryLink {
     /// numbers are listed fail; they are counted from 0, over binds, receives and sends.
     pub fn new(alloc: Global, failing: &[u32]) -> Result<MemoryLink, AllocError>
         ensures lists { IfOk result (λ s. (s.arrivals ≡ []) × (s.tried ≡ [])) }
+        ensures notes { IfOk result (λ s. (s.binds ≡ Some []) × (s.waits ≡ Some [])) }
         ensures calls { IfOk result (λ s. (s.failing.calls.items ≡ failing.now)
             × (s.failing.next ≡ 0)) }
         ensures rest { IfOk result (λ s. (s.calls ≡ 0) × (s.stranger ≡ false) × (s.faults ≡ 0)
@@ -41,6 +45,8 @@ impl MemoryLink {
             alloc,
             arrivals: Arrivals::new(alloc),
             tried: TriedSends::new(alloc),
+            binds: NotedBinds::new(alloc),
+            waits: NotedWaits::new(alloc),
             failing: Failing::new(alloc, failing)?,
             calls: 0,
             stranger: false,
@@ -67,6 +73,13 @@ impl MemoryLink {
     {
         self.arrivals.push(Coming::Nothing)?;
         Ok(())
+    }
+
+    /// How many microseconds each receive was to wait; None once memory to note one was refused.
+    pub fn waits(&self) -> Option<&[u64]>
+        ensures { option_map (λ waits. waits.now) result ≡ self.now.waits }
+    {
+        self.waits.all()
     }
 
     /// How many sends were tried.
@@ -98,6 +111,10 @@ impl Link for MemoryLink {
 
     ghost tried = { λ s. Some s.tried };
 
+    ghost binds = { λ s. s.binds };
+
+    ghost waits = { λ s. s.waits };
+
     ghost calls = { λ s. Some s.calls };
 
     ghost stranger = { λ s. s.stranger };
@@ -106,9 +123,11 @@ impl Link for MemoryLink {
 
     ghost send_faults = { λ s. s.send_faults };
 
-    fn bind(&mut self, _local: Addr, _peers: &[Addr]) -> Bound
+    fn bind(&mut self, local: Addr, peers: &[Addr]) -> Bound
+        ensures binds { Notes self.old.binds self.new.binds
+            (record { local = local; peers = peers.now }) }
         ensures same { (self.new.arrivals ≡ self.old.arrivals) × (self.new.tried ≡ self.old.tried)
-            × (self.new.stranger ≡ self.old.stranger) }
+            × (self.new.waits ≡ self.old.waits) × (self.new.stranger ≡ self.old.stranger) }
         ensures counted { (self.new.calls ≡ one_more self.old.calls)
             × CountsCall self.old.failing self.new.failing }
         ensures later { (self.old.faults ≤ self.new.faults)
@@ -116,8 +135,9 @@ impl Link for MemoryLink {
         ensures cause { result ≡ Bound.Failed → Rose self.old.faults self.new.faults }
         ensures still { result ≢ Bound.Failed → self.new.faults ≡ self.old.faults }
         ensures fails { FailsNext self.old.failing → result ≡ Bound.Failed }
-        ensures binds { ¬ FailsNext self.old.failing → result ≡ Bound.Bound }
+        ensures goes { ¬ FailsNext self.old.failing → result ≡ Bound.Bound }
     {
+        self.binds.note(local, peers);
         self.calls = self.calls.saturating_add(1);
         if self.failing.fails() {
             self.faults = self.faults.saturating_add(1);
@@ -126,11 +146,12 @@ impl Link for MemoryLink {
         Bound::Bound
     }
 
-    fn recv(&mut self, buf: &mut [u8], _wait: u64) -> Recv
+    fn recv(&mut self, buf: &mut [u8], wait: u64) -> Recv
         requires { length buf.old ≡ 512 }
         ensures receives { Receives (Some self.old.arrivals) (Some self.new.arrivals)
             self.old.stranger self.new.stranger result buf.new }
-        ensures same { self.new.tried ≡ self.old.tried }
+        ensures waits { Notes self.old.waits self.new.waits wait }
+        ensures same { (self.new.tried ≡ self.old.tried) × (self.new.binds ≡ self.old.binds) }
         ensures counted { (self.new.calls ≡ one_more self.old.calls)
             × CountsCall self.old.failing self.new.failing }
         ensures later { (self.old.faults ≤ self.new.faults)
@@ -139,6 +160,7 @@ impl Link for MemoryLink {
         ensures still { result ≢ Recv.Failed → self.new.faults ≡ self.old.faults }
         ensures fails { (result ≡ Recv.Failed) ↔ FailsNext self.old.failing }
     {
+        self.waits.note(wait);
         self.calls = self.calls.saturating_add(1);
         if self.failing.fails() {
             self.faults = self.faults.saturating_add(1);
@@ -157,6 +179,7 @@ impl Link for MemoryLink {
         requires { to ≡ Place.Stranger → self.old.stranger ≡ true }
         ensures sends { Sends (Some self.old.tried) (Some self.new.tried) result (to, octets.now) }
         ensures same { (self.new.arrivals ≡ self.old.arrivals) × (self.new.calls ≡ self.old.calls)
+            × (self.new.binds ≡ self.old.binds) × (self.new.waits ≡ self.old.waits)
             × (self.new.stranger ≡ self.old.stranger) }
         ensures counted { CountsCall self.old.failing self.new.failing }
         ensures later { (self.new.faults ≡ self.old.faults)

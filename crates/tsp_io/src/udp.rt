@@ -71,6 +71,10 @@ impl<R: Net> Link for UdpLink<R> {
 
     ghost tried = { λ _. None };
 
+    ghost binds = { λ _. None };
+
+    ghost waits = { λ _. None };
+
     ghost calls = { λ _. None };
 
     ghost stranger = { λ s. s.stranger };
