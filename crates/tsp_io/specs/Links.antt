@@ -4,6 +4,8 @@ use Rattle.std.specs.Option.{option_map}
 use Rattle.tsp_base.specs.declared.place.Place.{Place}
 use Rattle.tsp_base.specs.declared.place.Place.TheVariants.{Peer, Stranger}
 use Rattle.tsp_io.specs.declared.addr.Addr.{Addr}
+use Rattle.tsp_io.specs.declared.link.Bound.{Bound}
+use Rattle.tsp_io.specs.declared.link.Bound.TheVariants.{Bound as Made}
 use Rattle.tsp_io.specs.declared.link.Recv.{Recv}
 use Rattle.tsp_io.specs.declared.link.Recv.TheVariants.{Datagram, Nothing, Failed}
 use Rattle.tsp_io.specs.declared.link.Sent.{Sent}
@@ -17,7 +19,7 @@ Arrival = Option (Place × List ℕ)
 abbrev pub Tried : Type 0
 Tried = Place × List ℕ
 
--- what a link was to be bound to: an address of this machine, and the peers' addresses in their order
+-- what a link was bound to: an address of this machine, and the peers' addresses in their order
 pub record Binding : Type 0 where
   pub local : Addr
   pub peers : List Addr
@@ -59,3 +61,8 @@ abbrev pub Notes : {A : Type 0} → Option (List A) → Option (List A) → A �
 Notes noted None x = Unit {0}
 Notes None (Some now) x = ⊥
 Notes (Some before) (Some now) x = now ≡ before ++ x ∷ []
+
+-- a bind that is made is noted; one that isn't leaves what was noted
+abbrev pub NotesBind : Option (List Binding) → Option (List Binding) → Bound → Binding → Type 0
+NotesBind noted now Made b = Notes noted now b
+NotesBind noted now _ b = now ≡ noted

@@ -2,7 +2,7 @@
 ghost use Rattle.std.specs.Prelude.{◌≡◌, ◌≢◌, ℕ, ◌≤◌, true, length, List, Bool, Option};
 ghost use Rattle.std.specs.Option.{option_map};
 ghost use Rattle.tsp_io.specs.Counts.{Rose, one_more};
-ghost use Rattle.tsp_io.specs.Links.{Arrival, Binding, Tried, Notes, Receives, Sends};
+ghost use Rattle.tsp_io.specs.Links.{Arrival, Binding, Tried, Notes, NotesBind, Receives, Sends};
 
 use crate::addr::Addr;
 use tsp_base::place::Place;
@@ -51,7 +51,7 @@ pub trait Link {
     /// The sends that were tried, where the implementation tells them.
     ghost tried: { Self → Option (List Tried) };
 
-    /// What it was to be bound to, bind by bind, where the implementation tells it.
+    /// What it was bound to, bind by bind, where the implementation tells it.
     ghost binds: { Self → Option (List Binding) };
 
     /// How many microseconds each receive was to wait, where the implementation tells it.
@@ -74,7 +74,7 @@ pub trait Link {
     /// `Failed` comes only where the count of faults rose in this call; where it doesn't come, the
     /// count stays as it was.
     fn bind(&mut self, local: Addr, peers: &[Addr]) -> Bound
-        ensures binds { Notes (binds self.old) (binds self.new)
+        ensures binds { NotesBind (binds self.old) (binds self.new) result
             (record { local = local; peers = peers.now }) }
         ensures same { (arrivals self.new ≡ arrivals self.old) × (tried self.new ≡ tried self.old)
             × (waits self.new ≡ waits self.old) × (stranger self.new ≡ stranger self.old) }

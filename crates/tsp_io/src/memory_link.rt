@@ -4,7 +4,7 @@ ghost use Rattle.std.specs.Prelude.{IfOk, MatchResult, false, true, slice_get};
 ghost use Rattle.std.specs.Option.{option_map};
 ghost use Rattle.tsp_io.specs.Counts.{Rose, one_more};
 ghost use Rattle.tsp_io.specs.FailingCalls.{FailsNext, CountsCall};
-ghost use Rattle.tsp_io.specs.Links.{is_stranger, Notes, Receives, Sends};
+ghost use Rattle.tsp_io.specs.Links.{is_stranger, Notes, NotesBind, Receives, Sends};
 
 use crate::addr::Addr;
 use crate::arrivals::{Arrivals, Coming};
@@ -124,7 +124,7 @@ impl Link for MemoryLink {
     ghost send_faults = { λ s. s.send_faults };
 
     fn bind(&mut self, local: Addr, peers: &[Addr]) -> Bound
-        ensures binds { Notes self.old.binds self.new.binds
+        ensures binds { NotesBind self.old.binds self.new.binds result
             (record { local = local; peers = peers.now }) }
         ensures same { (self.new.arrivals ≡ self.old.arrivals) × (self.new.tried ≡ self.old.tried)
             × (self.new.waits ≡ self.old.waits) × (self.new.stranger ≡ self.old.stranger) }
@@ -137,12 +137,12 @@ impl Link for MemoryLink {
         ensures fails { FailsNext self.old.failing → result ≡ Bound.Failed }
         ensures goes { ¬ FailsNext self.old.failing → result ≡ Bound.Bound }
     {
-        self.binds.note(local, peers);
         self.calls = self.calls.saturating_add(1);
         if self.failing.fails() {
             self.faults = self.faults.saturating_add(1);
             return Bound::Failed;
         }
+        self.binds.note(local, peers);
         Bound::Bound
     }
 
