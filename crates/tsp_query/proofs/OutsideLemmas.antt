@@ -4,7 +4,9 @@ use Rattle.std.specs.Option.{option_map}
 use Rattle.std.proofs.Common.{sym, inr, arith, take-append-drop, ◌∙◌, ap, subst}
 use Rattle.std.proofs.lemmas.List.{length-drop}
 use Rattle.tsp_io.specs.Counts.{one_more}
-use Rattle.tsp_io.specs.Links.{Arrival, Tried}
+use Rattle.tsp_io.specs.Links.{Arrival, Binding, Notes, NotesBind, Tried}
+use Rattle.tsp_io.specs.declared.link.Bound.{Bound}
+use Rattle.tsp_io.specs.declared.link.Bound.TheVariants.{Bound as Made, Failed, OutOfMemory}
 use Rattle.tsp_io.specs.Streams.{Grows}
 use Rattle.tsp_query.specs.Ends.{Outside, Tells}
 use Rattle.tsp_query.specs.Outside.{bound, Says}
@@ -29,3 +31,17 @@ Tells_bound o arrivals now_arrivals tried now_tried calls now_calls readings las
 -- a text that is written where this was before
 pub Says_from : {E : Type 0} (text : List ℕ) (meant fault memory end : E) (written now : Option (List ℕ)) (before : List ℕ) → written ≡ Some before → Says text meant fault memory written now end → Says text meant fault memory (Some before) now end
 Says_from text meant fault memory end written now before e s = subst (λ w. Says text meant fault memory w now end) e s
+
+-- what was noted stays
+pub Notes_same : {A : Type 0} (before between now : Option (List A)) (x : A) → now ≡ between → Notes before between x → Notes before now x
+Notes_same before between now x e n = subst (λ later. Notes before later x) (sym e) n
+
+-- what a bind notes, by its answer
+pub NotesBind_made : (before now : Option (List Binding)) (r : Bound) (b : Binding) → r ≡ Made → NotesBind before now r b → Notes before now b
+NotesBind_made before now r b e n = subst (λ answer. NotesBind before now answer b) e n
+
+pub NotesBind_failed : (before now : Option (List Binding)) (r : Bound) (b : Binding) → r ≡ Failed → NotesBind before now r b → now ≡ before
+NotesBind_failed before now r b e n = subst (λ answer. NotesBind before now answer b) e n
+
+pub NotesBind_refused : (before now : Option (List Binding)) (r : Bound) (b : Binding) → r ≡ OutOfMemory → NotesBind before now r b → now ≡ before
+NotesBind_refused before now r b e n = subst (λ answer. NotesBind before now answer b) e n

@@ -1,7 +1,7 @@
 -- What is told of the outside of a command: of a link, a ticker and a sink.
 use Rattle.std.specs.Prelude.{◌≡◌, ◌⊎◌, ◌<◌, ℕ, ℤ, List, ◌++◌, length, Option, Some}
 use Rattle.tsp_io.specs.Counts.{one_more}
-use Rattle.tsp_io.specs.Links.{Arrival, Tried}
+use Rattle.tsp_io.specs.Links.{Arrival, Binding, Tried}
 use Rattle.tsp_io.specs.Streams.{Grows}
 use Rattle.tsp_query.specs.Ends.{Outside, Tells}
 
@@ -15,6 +15,9 @@ pub record Observed : Type 0 where
   pub wall : Option ℤ
   pub word : Option ℕ
   pub written : Option (List ℕ)
+  pub binds : Option (List Binding)
+  pub waits : Option (List ℕ)
+  pub left_at_wall : Option (Option (List ℕ))
 
 -- all of them tell: this of the link and of the tick counter, this wall clock, this word, and these octets written
 pub record Knows (o : Outside) (wall : ℤ) (word : ℕ) (written : List ℕ) (t : Observed) : Type 0 where

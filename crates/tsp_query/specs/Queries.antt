@@ -8,7 +8,7 @@ use Rattle.tsp_base.specs.declared.kind.Kind.TheVariants.{TraceOn, TraceOff, Set
 use Rattle.tsp_base.specs.declared.message.Body.{Body}
 use Rattle.tsp_base.specs.declared.message.Body.TheVariants.{Nothing, Time}
 use Rattle.tsp_base.specs.declared.stamp.Stamp.TheVariants.{Request, Reply}
-use Rattle.tsp_io.specs.Links.{Tried}
+use Rattle.tsp_io.specs.Links.{Arrival, Tried}
 use Rattle.tsp_query.specs.Arrivals.{rest_of}
 use Rattle.tsp_query.specs.Clocks.{reading, own_clock}
 use Rattle.tsp_query.specs.Ends.{Outside, Asks}
@@ -57,11 +57,11 @@ end_of answer Faulty = LinkFault
 end_of answer Refused = OutOfMemory
 
 -- what a query comes to that asks so, and reads its answer so
-abbrev pub QueryEnds : Datagram → Question → (Datagram → ℕ → QueryEnd) → Outside → Option (List Tried) → Option ℕ → QueryEnd → Type 0
-QueryEnds request q answer o tried calls NoAnswer = Asks request q (read_twice o) tried calls Unanswered
-QueryEnds request q answer o tried calls LinkFault = Asks request q (read_twice o) tried calls Faulty
-QueryEnds request q answer o tried calls OutOfMemory = Asks request q (read_twice o) tried calls Refused
-QueryEnds request q answer o tried calls end = (d : Datagram) × (tick : ℕ) × Asks request q (read_twice o) tried calls (Answer d tick) × (end ≡ answer d tick)
+abbrev pub QueryEnds : Datagram → Question → (Datagram → ℕ → QueryEnd) → Outside → Option (List Arrival) → Option (List Tried) → Option ℕ → Option (List ℕ) → ℕ → ℕ → ℕ → QueryEnd → Type 0
+QueryEnds request q answer o arrivals tried calls readings last sends sends_now NoAnswer = Asks request q (read_twice o) arrivals tried calls readings last sends sends_now Unanswered
+QueryEnds request q answer o arrivals tried calls readings last sends sends_now LinkFault = Asks request q (read_twice o) arrivals tried calls readings last sends sends_now Faulty
+QueryEnds request q answer o arrivals tried calls readings last sends sends_now OutOfMemory = Asks request q (read_twice o) arrivals tried calls readings last sends sends_now Refused
+QueryEnds request q answer o arrivals tried calls readings last sends sends_now end = (d : Datagram) × (tick : ℕ) × Asks request q (read_twice o) arrivals tried calls readings last sends sends_now (Answer d tick) × (end ≡ answer d tick)
 
 -- the name of whoever acknowledges
 abbrev pub name_in : Datagram → List ℕ

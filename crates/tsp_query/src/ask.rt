@@ -2,8 +2,10 @@
 ghost use Rattle.std.specs.Prelude.{◌≡◌, ◌≢◌, ◌⊎◌, ◌≤◌, None, true, IfSome, if◌then◌else◌};
 ghost use Rattle.tsp_codec.specs.Taken.{taken_of};
 ghost use Rattle.tsp_io.specs.Counts.{Rose};
+ghost use Rattle.tsp_io.specs.Links.{Notes};
 ghost use Rattle.tsp_query.specs.Arrivals.{answers, answer_of, is_daemon};
-ghost use Rattle.tsp_query.specs.Ends.{Outside, Tells, Hears, HearsWell, Listens, Asks, AsksWell};
+ghost use Rattle.tsp_query.specs.Ends.{Outside, Tells, Hears, HearsWell, Listens, WaitsSeconds};
+ghost use Rattle.tsp_query.specs.Ends.{Asks, AsksWell};
 
 use crate::question::{Question, answer_of};
 use tsp_base::datagram::Datagram;
@@ -49,6 +51,9 @@ fn hear<L: Link, T: Ticker>(link: &mut L, ticker: &mut T, question: Question) ->
         (T.readings ticker.old) (T.last ticker.old)
         → Hears question o (L.arrivals link.new) (L.tried link.new) (L.calls link.new)
         (T.readings ticker.new) (T.last ticker.new) result }
+    ensures waits { Notes (L.waits link.old) (L.waits link.new) 1000000 }
+    ensures same { (L.binds link.new ≡ L.binds link.old)
+        × (T.left_at_wall ticker.new ≡ T.left_at_wall ticker.old) }
     ensures well { HearsWell question (T.last ticker.old) result }
     ensures later { (L.faults link.old ≤ L.faults link.new)
         × (L.send_faults link.new ≡ L.send_faults link.old)
@@ -90,7 +95,11 @@ fn listen<L: Link, T: Ticker>(link: &mut L, ticker: &mut T, question: Question) 
     ensures listens { (o : Outside)
         → Tells o (L.arrivals link.old) (L.tried link.old) (L.calls link.old)
         (T.readings ticker.old) (T.last ticker.old)
-        → Listens question o (L.tried link.new) (L.calls link.new) result }
+        → Listens question o (L.arrivals link.new) (L.tried link.new) (L.calls link.new)
+        (T.readings ticker.new) (T.last ticker.new) result }
+    ensures waits { WaitsSeconds (L.waits link.old) (L.waits link.new) }
+    ensures same { (L.binds link.new ≡ L.binds link.old)
+        × (T.left_at_wall ticker.new ≡ T.left_at_wall ticker.old) }
     ensures well { AsksWell question (T.last ticker.old) result }
     ensures later { (L.faults link.old ≤ L.faults link.new)
         × (L.send_faults link.new ≡ L.send_faults link.old)
@@ -119,7 +128,12 @@ pub(crate) fn ask<L: Link, T: Ticker>(
     ensures asks { (o : Outside)
         → Tells o (L.arrivals link.old) (L.tried link.old) (L.calls link.old)
         (T.readings ticker.old) (T.last ticker.old)
-        → Asks request.now question o (L.tried link.new) (L.calls link.new) result }
+        → Asks request.now question o (L.arrivals link.new) (L.tried link.new) (L.calls link.new)
+        (T.readings ticker.new) (T.last ticker.new) (L.send_faults link.old) (L.send_faults link.new)
+        result }
+    ensures waits { WaitsSeconds (L.waits link.old) (L.waits link.new) }
+    ensures same { (L.binds link.new ≡ L.binds link.old)
+        × (T.left_at_wall ticker.new ≡ T.left_at_wall ticker.old) }
     ensures well { AsksWell question (T.last ticker.old) result }
     ensures later { (L.faults link.old ≤ L.faults link.new)
         × (L.send_faults link.old ≤ L.send_faults link.new)

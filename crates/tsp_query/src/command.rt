@@ -1,7 +1,8 @@
 //! A question as a command.
 ghost use Rattle.std.specs.Prelude.{◌≡◌, ◌≢◌, ◌⊎◌, ◌≤◌, ℕ, ℤ, List, Some};
 ghost use Rattle.tsp_io.specs.Counts.{Rose};
-ghost use Rattle.tsp_query.specs.Ends.{Outside, Tells};
+ghost use Rattle.tsp_query.specs.Arrivals.{rest_of};
+ghost use Rattle.tsp_query.specs.Ends.{Outside, Tells, WaitsSeconds};
 ghost use Rattle.tsp_query.specs.Outside.{Knows, Says};
 ghost use Rattle.tsp_query.specs.Asks.{asking_of, QueryComes, AsksAs};
 ghost use Rattle.tsp_query.specs.Lines.{end_line};
@@ -28,7 +29,13 @@ fn ask_bound<L: Link, T: Ticker>(query: &Query, link: &mut L, ticker: &mut T) ->
         → Tells o (L.arrivals link.old) (L.tried link.old) (L.calls link.old)
         (T.readings ticker.old) (T.last ticker.old) → T.wall_is ticker.old ≡ Some wall
         → T.word_is ticker.old ≡ Some word
-        → QueryComes query.now wall word o (L.tried link.new) (L.calls link.new) result }
+        → QueryComes query.now wall word o (L.arrivals link.new) (L.tried link.new)
+        (L.calls link.new) (T.readings ticker.new) (T.last ticker.new) (L.send_faults link.old)
+        (L.send_faults link.new) result }
+    ensures waits { WaitsSeconds (L.waits link.old) (L.waits link.new) }
+    ensures same { L.binds link.new ≡ L.binds link.old }
+    ensures walled { (readings : List ℕ) → T.readings ticker.old ≡ Some readings
+        → T.left_at_wall ticker.new ≡ Some (Some (rest_of readings)) }
     ensures later { (L.faults link.old ≤ L.faults link.new)
         × (L.send_faults link.old ≤ L.send_faults link.new)
         × (T.last ticker.old ≤ T.last ticker.new) }
@@ -90,8 +97,24 @@ pub fn ask<K: Sink, L: Link, T: Ticker>(
           wall = T.wall_is ticker.old;
           word = T.word_is ticker.old;
           written = K.written sink.old;
+          binds = L.binds link.old;
+          waits = L.waits link.old;
+          left_at_wall = T.left_at_wall ticker.old;
         })
-        → AsksAs query.now o wall word written
+        → AsksAs daemon query.now o wall word written
+        (record {
+          arrivals = L.arrivals link.old;
+          tried = L.tried link.old;
+          calls = L.calls link.old;
+          readings = T.readings ticker.old;
+          last = T.last ticker.old;
+          wall = T.wall_is ticker.old;
+          word = T.word_is ticker.old;
+          written = K.written sink.old;
+          binds = L.binds link.old;
+          waits = L.waits link.old;
+          left_at_wall = T.left_at_wall ticker.old;
+        })
         (record {
           arrivals = L.arrivals link.new;
           tried = L.tried link.new;
@@ -101,8 +124,11 @@ pub fn ask<K: Sink, L: Link, T: Ticker>(
           wall = T.wall_is ticker.new;
           word = T.word_is ticker.new;
           written = K.written sink.new;
+          binds = L.binds link.new;
+          waits = L.waits link.new;
+          left_at_wall = T.left_at_wall ticker.new;
         })
-        result }
+        (L.send_faults link.old) (L.send_faults link.new) result }
     ensures later { (L.faults link.old ≤ L.faults link.new)
         × (L.send_faults link.old ≤ L.send_faults link.new)
         × (K.faults sink.old ≤ K.faults sink.new) × (T.last ticker.old ≤ T.last ticker.new) }

@@ -8,7 +8,7 @@ ghost use Rattle.tsp_io.specs.Clocks.{IsWall};
 ghost use Rattle.tsp_io.specs.Counts.{Rose};
 ghost use Rattle.tsp_query.specs.Arrivals.{rest_of};
 ghost use Rattle.tsp_query.specs.Clocks.{reading};
-ghost use Rattle.tsp_query.specs.Ends.{Outside, Tells, Asks};
+ghost use Rattle.tsp_query.specs.Ends.{Outside, Tells, Asks, WaitsSeconds};
 ghost use Rattle.tsp_query.specs.Queries.{read_twice, message, message_with, date_message};
 ghost use Rattle.tsp_query.specs.Queries.{question_of, stamp, QueryEnds, end_of, trace_kind};
 ghost use Rattle.tsp_query.specs.Queries.{name_in, master_in, heard_in, says_set, date_in};
@@ -69,6 +69,8 @@ fn begin<T: Ticker>(ticker: &mut T) -> Start
     ensures climbs { (T.last ticker.old ≤ result.first) × (result.first ≤ result.sent)
         × (result.sent ≤ 2 ^ 61) }
     ensures last { T.last ticker.new ≡ result.sent }
+    ensures walled { (readings : List ℕ) → T.readings ticker.old ≡ Some readings
+        → T.left_at_wall ticker.new ≡ Some (Some (rest_of readings)) }
 {
     let first = ticker.tick();
     let wall = ticker.wall();
@@ -116,7 +118,13 @@ fn ask_by_message<L: Link, T: Ticker>(
         → Tells o (L.arrivals link.old) (L.tried link.old) (L.calls link.old)
         (T.readings ticker.old) (T.last ticker.old) → T.word_is ticker.old ≡ Some word
         → Asks (message_with kind body word) (question_of dates (word % 65536)) (read_twice o)
-        (L.tried link.new) (L.calls link.new) result }
+        (L.arrivals link.new) (L.tried link.new) (L.calls link.new)
+        (T.readings ticker.new) (T.last ticker.new) (L.send_faults link.old) (L.send_faults link.new)
+        result }
+    ensures waits { WaitsSeconds (L.waits link.old) (L.waits link.new) }
+    ensures same { L.binds link.new ≡ L.binds link.old }
+    ensures walled { (readings : List ℕ) → T.readings ticker.old ≡ Some readings
+        → T.left_at_wall ticker.new ≡ Some (Some (rest_of readings)) }
     ensures later { (L.faults link.old ≤ L.faults link.new)
         × (L.send_faults link.old ≤ L.send_faults link.new)
         × (T.last ticker.old ≤ T.last ticker.new) }
@@ -165,7 +173,13 @@ pub fn msite<L: Link, T: Ticker>(link: &mut L, ticker: &mut T) -> QueryEnd
         → Tells o (L.arrivals link.old) (L.tried link.old) (L.calls link.old)
         (T.readings ticker.old) (T.last ticker.old) → T.word_is ticker.old ≡ Some word
         → QueryEnds (message Kind.Msite word) (Question.OfNumber (word % 65536)) master_in o
-        (L.tried link.new) (L.calls link.new) result }
+        (L.arrivals link.new) (L.tried link.new) (L.calls link.new)
+        (T.readings ticker.new) (T.last ticker.new) (L.send_faults link.old) (L.send_faults link.new)
+        result }
+    ensures waits { WaitsSeconds (L.waits link.old) (L.waits link.new) }
+    ensures same { L.binds link.new ≡ L.binds link.old }
+    ensures walled { (readings : List ℕ) → T.readings ticker.old ≡ Some readings
+        → T.left_at_wall ticker.new ≡ Some (Some (rest_of readings)) }
     ensures later { (L.faults link.old ≤ L.faults link.new)
         × (L.send_faults link.old ≤ L.send_faults link.new)
         × (T.last ticker.old ≤ T.last ticker.new) }
@@ -183,7 +197,13 @@ pub fn election<L: Link, T: Ticker>(link: &mut L, ticker: &mut T) -> QueryEnd
         → Tells o (L.arrivals link.old) (L.tried link.old) (L.calls link.old)
         (T.readings ticker.old) (T.last ticker.old) → T.word_is ticker.old ≡ Some word
         → QueryEnds (message Kind.Test word) (Question.OfNumber (word % 65536)) heard_in o
-        (L.tried link.new) (L.calls link.new) result }
+        (L.arrivals link.new) (L.tried link.new) (L.calls link.new)
+        (T.readings ticker.new) (T.last ticker.new) (L.send_faults link.old) (L.send_faults link.new)
+        result }
+    ensures waits { WaitsSeconds (L.waits link.old) (L.waits link.new) }
+    ensures same { L.binds link.new ≡ L.binds link.old }
+    ensures walled { (readings : List ℕ) → T.readings ticker.old ≡ Some readings
+        → T.left_at_wall ticker.new ≡ Some (Some (rest_of readings)) }
     ensures later { (L.faults link.old ≤ L.faults link.new)
         × (L.send_faults link.old ≤ L.send_faults link.new)
         × (T.last ticker.old ≤ T.last ticker.new) }
@@ -208,7 +228,13 @@ pub fn trace<L: Link, T: Ticker>(on: bool, link: &mut L, ticker: &mut T) -> Quer
         → Tells o (L.arrivals link.old) (L.tried link.old) (L.calls link.old)
         (T.readings ticker.old) (T.last ticker.old) → T.word_is ticker.old ≡ Some word
         → QueryEnds (message (trace_kind on) word) (Question.OfNumber (word % 65536)) heard_in o
-        (L.tried link.new) (L.calls link.new) result }
+        (L.arrivals link.new) (L.tried link.new) (L.calls link.new)
+        (T.readings ticker.new) (T.last ticker.new) (L.send_faults link.old) (L.send_faults link.new)
+        result }
+    ensures waits { WaitsSeconds (L.waits link.old) (L.waits link.new) }
+    ensures same { L.binds link.new ≡ L.binds link.old }
+    ensures walled { (readings : List ℕ) → T.readings ticker.old ≡ Some readings
+        → T.left_at_wall ticker.new ≡ Some (Some (rest_of readings)) }
     ensures later { (L.faults link.old ≤ L.faults link.new)
         × (L.send_faults link.old ≤ L.send_faults link.new)
         × (T.last ticker.old ≤ T.last ticker.new) }
@@ -243,7 +269,13 @@ pub fn setdate<L: Link, T: Ticker>(time: Micros, link: &mut L, ticker: &mut T) -
         → Tells o (L.arrivals link.old) (L.tried link.old) (L.calls link.old)
         (T.readings ticker.old) (T.last ticker.old) → T.word_is ticker.old ≡ Some word
         → QueryEnds (date_message time word) (Question.OfDate (word % 65536)) date_in o
-        (L.tried link.new) (L.calls link.new) result }
+        (L.arrivals link.new) (L.tried link.new) (L.calls link.new)
+        (T.readings ticker.new) (T.last ticker.new) (L.send_faults link.old) (L.send_faults link.new)
+        result }
+    ensures waits { WaitsSeconds (L.waits link.old) (L.waits link.new) }
+    ensures same { L.binds link.new ≡ L.binds link.old }
+    ensures walled { (readings : List ℕ) → T.readings ticker.old ≡ Some readings
+        → T.left_at_wall ticker.new ≡ Some (Some (rest_of readings)) }
     ensures later { (L.faults link.old ≤ L.faults link.new)
         × (L.send_faults link.old ≤ L.send_faults link.new)
         × (T.last ticker.old ≤ T.last ticker.new) }
@@ -293,7 +325,13 @@ pub fn clockdiff<L: Link, T: Ticker>(link: &mut L, ticker: &mut T) -> QueryEnd
         (T.readings ticker.old) (T.last ticker.old) → T.word_is ticker.old ≡ Some word
         → T.wall_is ticker.old ≡ Some wall
         → QueryEnds (stamp word) (Question.OfWord word) (diff_in wall (reading o.last o.readings 0)
-        (reading o.last o.readings 1)) o (L.tried link.new) (L.calls link.new) result }
+        (reading o.last o.readings 1)) o (L.arrivals link.new) (L.tried link.new) (L.calls link.new)
+        (T.readings ticker.new) (T.last ticker.new) (L.send_faults link.old) (L.send_faults link.new)
+        result }
+    ensures waits { WaitsSeconds (L.waits link.old) (L.waits link.new) }
+    ensures same { L.binds link.new ≡ L.binds link.old }
+    ensures walled { (readings : List ℕ) → T.readings ticker.old ≡ Some readings
+        → T.left_at_wall ticker.new ≡ Some (Some (rest_of readings)) }
     ensures later { (L.faults link.old ≤ L.faults link.new)
         × (L.send_faults link.old ≤ L.send_faults link.new)
         × (T.last ticker.old ≤ T.last ticker.new) }
