@@ -5,6 +5,7 @@ use Rattle.std.proofs.Common.{sym, ◌∙◌, inl, inr, subst, refl, ap, arith}
 use Rattle.tsp_query.specs.declared.exit.QueryExit.{QueryExit}
 use Rattle.tsp_query.specs.declared.exit.QueryExit.TheVariants.{Answered, NoAnswer as Unanswered, LinkFault as NotAsked, WriteFault as Untold, OutOfMemory as Unasked}
 use Rattle.tsp_query.specs.Asks.{AsksAs}
+use Rattle.tsp_io.specs.declared.addr.Addr.{Addr}
 use Rattle.tsp_io.specs.Counts.{Rose}
 use Rattle.tsp_lines.proofs.Outputs.{Grows-nil}
 use Rattle.tsp_query.proofs.AskLemmas.{of_some}
@@ -92,7 +93,7 @@ served_complete Unserved links links_now writes writes_now told wall bad heard s
 
 -- from how a daemon ends, to how the program does
 pub RunsDaemon-served : (s : ServeWords) (old new : Observed) (links links_now writes writes_now : ℕ) (served : DaemonExit) (status : Status) → status ≡ status_of_served served
-    → ((o : Outside) (wall : ℤ) (word : ℕ) (written : List ℕ) → Knows o wall word written old → ServesAs s o wall word written new served)
+    → ((o : Outside) (wall : ℤ) (word : ℕ) (written : List ℕ) → Knows o wall word written old → ServesAs s o wall word written old new served)
     → (served ≡ BadWall → IfSome old.wall (λ w. is_clock_value w ≡ false)) → (served ≡ NotHeard → Rose links links_now) → (served ≡ NotShown → Rose writes writes_now)
     → RunsDaemon s old new links links_now writes writes_now status
 RunsDaemon-served s old new links links_now writes writes_now served status e serves bad heard shown = record {
@@ -143,11 +144,11 @@ asking_complete Untold links links_now sends sends_now writes writes_now asked t
 asking_complete Unasked links links_now sends sends_now writes writes_now asked told l s w = inr (inr refl)
 
 -- from how a question ends, to how the program does
-pub RunsQuery-asked : (q : Query) (old new : Observed) (links links_now sends sends_now writes writes_now : ℕ) (asking : QueryExit) (status : Status) → status ≡ status_of_asking asking
-    → ((o : Outside) (wall : ℤ) (word : ℕ) (written : List ℕ) → Knows o wall word written old → AsksAs q o wall word written new asking)
+pub RunsQuery-asked : (daemon : Addr) (q : Query) (old new : Observed) (links links_now sends sends_now writes writes_now : ℕ) (asking : QueryExit) (status : Status) → status ≡ status_of_asking asking
+    → ((o : Outside) (wall : ℤ) (word : ℕ) (written : List ℕ) → Knows o wall word written old → AsksAs daemon q o wall word written old new sends sends_now asking)
     → (asking ≡ NotAsked → Rose links links_now ⊎ Rose sends sends_now) → (asking ≡ Untold → Rose writes writes_now)
-    → RunsQuery q old new links links_now sends sends_now writes writes_now status
-RunsQuery-asked q old new links links_now sends sends_now writes writes_now asking status e asks asked told = record {
+    → RunsQuery daemon q old new links links_now sends sends_now writes writes_now status
+RunsQuery-asked daemon q old new links links_now sends sends_now writes writes_now asking status e asks asked told = record {
   asking = asking;
   status_is = e;
   asks = asks;

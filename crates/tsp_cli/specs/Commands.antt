@@ -4,6 +4,7 @@ use Rattle.tsp_query.specs.declared.exit.QueryExit.{QueryExit}
 use Rattle.tsp_query.specs.Asks.{AsksAs}
 use Rattle.tsp_audit_command.specs.Meaning.{IsAuditText, auditing}
 use Rattle.tsp_io.specs.Counts.{Rose}
+use Rattle.tsp_io.specs.declared.addr.Addr.{Addr}
 use Rattle.tsp_lines.specs.declared.limits.TheConstants.{MOST_INPUT}
 use Rattle.tsp_lines.specs.declared.treat.Outcome.{Outcome}
 use Rattle.tsp_lines.specs.Answers.{Answers, IsAnswer as IsAnswerTo}
@@ -46,17 +47,17 @@ pub record RunsDaemon (s : ServeWords) (old new : Observed) (links links_now wri
   pub served : DaemonExit
   pub status_is : status ≡ status_of_served served
   -- where the outside is told: what was sent and written, and what came of the wall clock
-  pub serves : (o : Outside) (wall : ℤ) (word : ℕ) (written : List ℕ) → Knows o wall word written old → ServesAs s o wall word written new served
+  pub serves : (o : Outside) (wall : ℤ) (word : ℕ) (written : List ℕ) → Knows o wall word written old → ServesAs s o wall word written old new served
   -- at a told wall clock in its range, where no count rose but that of failed sends: the status is Ok, or there was no memory
   pub complete : (wall : ℤ) → old.wall ≡ Some wall → is_clock_value wall ≡ true → ¬ Rose links links_now → ¬ Rose writes writes_now → (status ≡ Ok) ⊎ (status ≡ OutOfMemory)
 
 -- a question to a daemon runs
-pub record RunsQuery (q : Query) (old new : Observed) (links links_now sends sends_now writes writes_now : ℕ) (status : Status) : Type 0 where
+pub record RunsQuery (daemon : Addr) (q : Query) (old new : Observed) (links links_now sends sends_now writes writes_now : ℕ) (status : Status) : Type 0 where
   -- how it ended
   pub asking : QueryExit
   pub status_is : status ≡ status_of_asking asking
   -- where the outside is told: the one datagram that was sent, the answer among what came, and the line of it
-  pub asks : (o : Outside) (wall : ℤ) (word : ℕ) (written : List ℕ) → Knows o wall word written old → AsksAs q o wall word written new asking
+  pub asks : (o : Outside) (wall : ℤ) (word : ℕ) (written : List ℕ) → Knows o wall word written old → AsksAs daemon q o wall word written old new sends sends_now asking
   -- where no count rose: the status is Ok or NoAnswer, or there was no memory
   pub complete : ¬ Rose links links_now → ¬ Rose sends sends_now → ¬ Rose writes writes_now → (status ≡ Ok) ⊎ (status ≡ NoAnswer) ⊎ (status ≡ OutOfMemory)
 
@@ -97,7 +98,7 @@ Does Show old new status = RunsLines Shows old new status
 Does Pack old new status = RunsLines Packs old new status
 Does Icmp old new status = RunsLines Averages old new status
 Does (Serve s) old new status = RunsDaemon s old.told new.told old.links new.links old.writes new.writes status
-Does (Ask a q) old new status = RunsQuery q old.told new.told old.links new.links old.sends new.sends old.writes new.writes status
+Does (Ask a q) old new status = RunsQuery a q old.told new.told old.links new.links old.sends new.sends old.writes new.writes status
 Does (Storm s) old new status = RunsStorm s old.told.written new.told.written old.writes new.writes status
 Does Audit old new status = RunsAudit old.left new.left old.told.written new.told.written new.ended old.reads new.reads old.writes new.writes status
 

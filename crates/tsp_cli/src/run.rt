@@ -84,6 +84,9 @@ pub fn run<S: Source, K: Sink, L: Link, T: Ticker>(
             wall = T.wall_is ticker.old;
             word = T.word_is ticker.old;
             written = K.written sink.old;
+            binds = L.binds link.old;
+            waits = L.waits link.old;
+            left_at_wall = T.left_at_wall ticker.old;
           };
           reads = S.faults source.old;
           writes = K.faults sink.old;
@@ -102,6 +105,9 @@ pub fn run<S: Source, K: Sink, L: Link, T: Ticker>(
             wall = T.wall_is ticker.new;
             word = T.word_is ticker.new;
             written = K.written sink.new;
+            binds = L.binds link.new;
+            waits = L.waits link.new;
+            left_at_wall = T.left_at_wall ticker.new;
           };
           reads = S.faults source.new;
           writes = K.faults sink.new;
@@ -162,6 +168,9 @@ fn run_command<S: Source, K: Sink, L: Link, T: Ticker>(
         wall = T.wall_is ticker.old;
         word = T.word_is ticker.old;
         written = K.written sink.old;
+        binds = L.binds link.old;
+        waits = L.waits link.old;
+        left_at_wall = T.left_at_wall ticker.old;
       };
       reads = S.faults source.old;
       writes = K.faults sink.old;
@@ -180,6 +189,9 @@ fn run_command<S: Source, K: Sink, L: Link, T: Ticker>(
             wall = T.wall_is ticker.new;
             word = T.word_is ticker.new;
             written = K.written sink.new;
+            binds = L.binds link.new;
+            waits = L.waits link.new;
+            left_at_wall = T.left_at_wall ticker.new;
           };
           reads = S.faults source.new;
           writes = K.faults sink.new;
@@ -232,6 +244,9 @@ fn run_daemon<K: Sink, L: Link, T: Ticker>(
       wall = T.wall_is ticker.old;
       word = T.word_is ticker.old;
       written = K.written sink.old;
+      binds = L.binds link.old;
+      waits = L.waits link.old;
+      left_at_wall = T.left_at_wall ticker.old;
     })
         (record {
           arrivals = L.arrivals link.new;
@@ -242,6 +257,9 @@ fn run_daemon<K: Sink, L: Link, T: Ticker>(
           wall = T.wall_is ticker.new;
           word = T.word_is ticker.new;
           written = K.written sink.new;
+          binds = L.binds link.new;
+          waits = L.waits link.new;
+          left_at_wall = T.left_at_wall ticker.new;
         })
         (L.faults link.old) (L.faults link.new) (K.faults sink.old) (K.faults sink.new) result }
     ensures used { result ≢ Status.Usage }
@@ -266,7 +284,7 @@ fn run_query<K: Sink, L: Link, T: Ticker>(
     link: &mut L,
     ticker: &mut T,
 ) -> Status
-    ensures runs { RunsQuery query.now (record {
+    ensures runs { RunsQuery daemon query.now (record {
       arrivals = L.arrivals link.old;
       tried = L.tried link.old;
       calls = L.calls link.old;
@@ -275,6 +293,9 @@ fn run_query<K: Sink, L: Link, T: Ticker>(
       wall = T.wall_is ticker.old;
       word = T.word_is ticker.old;
       written = K.written sink.old;
+      binds = L.binds link.old;
+      waits = L.waits link.old;
+      left_at_wall = T.left_at_wall ticker.old;
     })
         (record {
           arrivals = L.arrivals link.new;
@@ -285,6 +306,9 @@ fn run_query<K: Sink, L: Link, T: Ticker>(
           wall = T.wall_is ticker.new;
           word = T.word_is ticker.new;
           written = K.written sink.new;
+          binds = L.binds link.new;
+          waits = L.waits link.new;
+          left_at_wall = T.left_at_wall ticker.new;
         })
         (L.faults link.old) (L.faults link.new) (L.send_faults link.old) (L.send_faults link.new)
         (K.faults sink.old) (K.faults sink.new) result }

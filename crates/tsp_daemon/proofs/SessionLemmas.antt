@@ -1,7 +1,7 @@
 -- How a turn lengthens a session.
 use Rattle.std.specs.Prelude.{◌≡◌, ◌<◌, ◌+◌, ◌||◌, ℕ, suc, Bool, List, [], ◌∷◌, ◌++◌, length, take, Option, Some, refl}
 use Rattle.std.specs.Option.{option_map}
-use Rattle.std.proofs.Common.{ap, sym, subst, ◌∙◌, append-nil, arith, inl}
+use Rattle.std.proofs.Common.{ap, sym, subst, ◌∙◌, arith, inl, inr}
 use Rattle.tsp_base.specs.declared.act.Placed.{Placed}
 use Rattle.tsp_base.specs.declared.place.Place.TheVariants.{Peer, Stranger}
 use Rattle.tsp_base.specs.History.{Turned, dids}
@@ -155,11 +155,15 @@ ends_is s next course r buf tick acts arrivals now_arrivals tried now_tried call
       by_end Done h = h.1
       by_end LinkFault h = absurd h.1
       by_end WriteFault h = (record { arrivals_are = same ∙ w.tells.arrivals_are; tried_are = h.0; calls_are = counted ∙ w.tells.calls_are; readings_are = w.tells.readings_are; last_is = w.tells.last_is }, h.1)
-      by_end OutOfMemory h = h
+      by_end OutOfMemory h = elim h [
+        | inl some ↦ inr (inl (some.0.0, some.0.1, some.0.2, record { arrivals_are = same ∙ w.tells.arrivals_are; tried_are = some.0.3; calls_are = counted ∙ w.tells.calls_are; readings_are = w.tells.readings_are; last_is = w.tells.last_is }, some.1))
+        | inr all ↦ inr (inr (record { arrivals_are = same ∙ w.tells.arrivals_are; tried_are = all.0; calls_are = counted ∙ w.tells.calls_are; readings_are = w.tells.readings_are; last_is = w.tells.last_is }, all.1))
+      ]
 
--- nothing was sent or written yet
-pub ends_none : (s : Session) (tried : Option (List Tried)) (arrivals : Option (List Arrival)) (calls : Option ℕ) (readings : Option (List ℕ)) (last : ℕ) (written : Option (List ℕ)) → tried ≡ Some s.outside.tried → written ≡ Some s.written → EndsTurn s arrivals tried calls readings last written OutOfMemory
-ends_none s tried arrivals calls readings last written t w = inl (([], sends_of (acts_in s), refl, t ∙ ap (λ (ts : List Tried). Some ts) (sym (append-nil s.outside.tried))), w)
+-- nothing has happened yet
+pub ends_none : (s : Session) (tried : Option (List Tried)) (arrivals : Option (List Arrival)) (calls : Option ℕ) (readings : Option (List ℕ)) (last : ℕ) (written : Option (List ℕ)) →
+    Tells s.outside arrivals tried calls readings last → written ≡ Some s.written → EndsTurn s arrivals tried calls readings last written OutOfMemory
+ends_none s tried arrivals calls readings last written t w = inl (t, w)
 
 -- a node that lives through a step lives
 pub lives_on : (node next : Gateway) (g : NodeGiven) (tick : ℕ) (acts : List Placed) → Lives node → PerformsAll GatewayBegun GatewayStands (answers_all g) tick node next [] acts → Lives next

@@ -1,6 +1,7 @@
 //! The daemon as a command.
 ghost use Rattle.std.specs.Prelude.{◌≡◌, ◌≢◌, ◌≤◌, ℕ, ℤ, List, length, codes, Some, false, IfSome};
 ghost use Rattle.tsp_io.specs.Counts.{Rose};
+ghost use Rattle.tsp_query.specs.Arrivals.{rest_of};
 ghost use Rattle.tsp_query.specs.Ends.{Outside};
 ghost use Rattle.tsp_query.specs.Outside.{Knows, Says};
 ghost use Rattle.tsp_rules.specs.Guards.{is_clock_value};
@@ -55,8 +56,11 @@ fn serve_bound<K: Sink, L: Link, T: Ticker>(
           wall = T.wall_is ticker.old;
           word = T.word_is ticker.old;
           written = K.written sink.old;
+          binds = L.binds link.old;
+          waits = L.waits link.old;
+          left_at_wall = T.left_at_wall ticker.old;
         })
-        → BoundServes words.now o wall word written
+        → BoundServes words.now o wall word written (L.waits link.old)
         (record {
           arrivals = L.arrivals link.new;
           tried = L.tried link.new;
@@ -66,8 +70,14 @@ fn serve_bound<K: Sink, L: Link, T: Ticker>(
           wall = T.wall_is ticker.new;
           word = T.word_is ticker.new;
           written = K.written sink.new;
+          binds = L.binds link.new;
+          waits = L.waits link.new;
+          left_at_wall = T.left_at_wall ticker.new;
         })
         result }
+    ensures same { L.binds link.new ≡ L.binds link.old }
+    ensures walled { (readings : List ℕ) → T.readings ticker.old ≡ Some readings
+        → T.left_at_wall ticker.new ≡ Some (Some (rest_of readings)) }
     ensures later { (L.faults link.old ≤ L.faults link.new)
         × (L.send_faults link.old ≤ L.send_faults link.new)
         × (K.faults sink.old ≤ K.faults sink.new) × (T.last ticker.old ≤ T.last ticker.new) }
@@ -116,8 +126,24 @@ pub fn serve_words<K: Sink, L: Link, T: Ticker>(
           wall = T.wall_is ticker.old;
           word = T.word_is ticker.old;
           written = K.written sink.old;
+          binds = L.binds link.old;
+          waits = L.waits link.old;
+          left_at_wall = T.left_at_wall ticker.old;
         })
         → ServesAs words.now o wall word written
+        (record {
+          arrivals = L.arrivals link.old;
+          tried = L.tried link.old;
+          calls = L.calls link.old;
+          readings = T.readings ticker.old;
+          last = T.last ticker.old;
+          wall = T.wall_is ticker.old;
+          word = T.word_is ticker.old;
+          written = K.written sink.old;
+          binds = L.binds link.old;
+          waits = L.waits link.old;
+          left_at_wall = T.left_at_wall ticker.old;
+        })
         (record {
           arrivals = L.arrivals link.new;
           tried = L.tried link.new;
@@ -127,6 +153,9 @@ pub fn serve_words<K: Sink, L: Link, T: Ticker>(
           wall = T.wall_is ticker.new;
           word = T.word_is ticker.new;
           written = K.written sink.new;
+          binds = L.binds link.new;
+          waits = L.waits link.new;
+          left_at_wall = T.left_at_wall ticker.new;
         })
         result }
     ensures later { (L.faults link.old ≤ L.faults link.new)

@@ -16,7 +16,8 @@ fn send_one<L: Link>(link: &mut L, act: &Act) -> Result<(), AllocError>
     ensures ok { OnOk result (TriesAll (send_of act.now) (L.tried link.old) (L.tried link.new)) }
     ensures err { OnErr result (L.tried link.new ≡ L.tried link.old) }
     ensures same { (L.arrivals link.new ≡ L.arrivals link.old)
-        × (L.calls link.new ≡ L.calls link.old) × (L.stranger link.new ≡ L.stranger link.old) }
+        × (L.calls link.new ≡ L.calls link.old) × (L.stranger link.new ≡ L.stranger link.old)
+        × (L.binds link.new ≡ L.binds link.old) × (L.waits link.new ≡ L.waits link.old) }
     ensures later { (L.faults link.new ≡ L.faults link.old)
         × (L.send_faults link.old ≤ L.send_faults link.new) }
 {
@@ -38,7 +39,8 @@ pub(crate) fn send_all<L: Link>(link: &mut L, acts: &[Placed]) -> Result<(), All
     ensures err { OnErr result (TriesSome (sends_of acts.now) (L.tried link.old)
         (L.tried link.new)) }
     ensures same { (L.arrivals link.new ≡ L.arrivals link.old)
-        × (L.calls link.new ≡ L.calls link.old) × (L.stranger link.new ≡ L.stranger link.old) }
+        × (L.calls link.new ≡ L.calls link.old) × (L.stranger link.new ≡ L.stranger link.old)
+        × (L.binds link.new ≡ L.binds link.old) × (L.waits link.new ≡ L.waits link.old) }
     ensures later { (L.faults link.new ≡ L.faults link.old)
         × (L.send_faults link.old ≤ L.send_faults link.new) }
 {

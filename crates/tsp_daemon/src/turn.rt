@@ -7,6 +7,7 @@ ghost use Rattle.tsp_gateway.specs.Rooms.{ports_in, room_of_ports};
 ghost use Rattle.tsp_daemon.specs.Ends.{IsAt, Lives, EndsTurn, FinishesUntil, TriesAll};
 ghost use Rattle.tsp_daemon.specs.Posts.{AreKnown, sends_of, shown_lines};
 ghost use Rattle.tsp_daemon.specs.Sessions.{Session, turned};
+ghost use Rattle.tsp_daemon.specs.Waits.{NotesTurn};
 
 use crate::counters::Counters;
 use crate::end::ServeEnd;
@@ -40,7 +41,8 @@ fn finish<K: Sink, L: Link>(
         (shown_lines shown (course.now.turns + 1) tick course.now.posts acts.now) (L.tried link.old)
         (L.tried link.new) (K.written sink.old) (K.written sink.new)) }
     ensures same { (L.arrivals link.new ≡ L.arrivals link.old)
-        × (L.calls link.new ≡ L.calls link.old) }
+        × (L.calls link.new ≡ L.calls link.old) × (L.binds link.new ≡ L.binds link.old)
+        × (L.waits link.new ≡ L.waits link.old) }
     ensures later { (L.faults link.new ≡ L.faults link.old)
         × (L.send_faults link.old ≤ L.send_faults link.new)
         × (K.faults sink.old ≤ K.faults sink.new) }
@@ -78,6 +80,12 @@ pub(crate) fn turn<K: Sink, L: Link, T: Ticker>(
         (L.tried link.new) (L.calls link.new) (T.readings ticker.new) (T.last ticker.new)
         (K.written sink.new)) (EndsTurn s (L.arrivals link.new) (L.tried link.new)
         (L.calls link.new) (T.readings ticker.new) (T.last ticker.new) (K.written sink.new)) }
+    ensures waits { (s : Session)
+        → IsAt s node.old course.old (L.arrivals link.old) (L.tried link.old) (L.calls link.old)
+        (T.readings ticker.old) (T.last ticker.old) (K.written sink.old)
+        → NotesTurn s (L.waits link.old) (L.waits link.new) result }
+    ensures same { (L.binds link.new ≡ L.binds link.old)
+        × (T.left_at_wall ticker.new ≡ T.left_at_wall ticker.old) }
     ensures lives { OnOk result (Lives node.new) }
     ensures clock { OnOk result (clock_at node.new ≤ T.last ticker.new) }
     ensures counts { OnOk result ((course.new.turns ≡ course.old.turns + 1)

@@ -5,7 +5,7 @@ use Rattle.tsp_cli.proofs.CommandLemmas.{RunsQuery-asked, asking_unread, asking_
 use Rattle.tsp_cli.proofs.run.run_query.Goals as goal
 
 pub returns-clause-runs : goal.returns-clause-runs
-returns-clause-runs g c = RunsQuery-asked _ _ _ _ _ _ _ _ _ c.ask.result c.of_asking.result c.of_asking.ensures c.ask.ensures.asks c.ask.ensures.link c.ask.ensures.write
+returns-clause-runs g c = RunsQuery-asked _ _ _ _ _ _ _ _ _ _ c.ask.result c.of_asking.result c.of_asking.ensures c.ask.ensures.asks c.ask.ensures.link c.ask.ensures.write
 
 pub returns-clause-link : goal.returns-clause-link
 returns-clause-link g c = λ e. c.ask.ensures.link (asking_linked c.ask.result (sym c.of_asking.ensures ∙ e))
