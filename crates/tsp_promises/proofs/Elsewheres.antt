@@ -4,12 +4,12 @@ use Rattle.std.proofs.Common.{sym, subst, arith, true≢false}
 use Rattle.tsp_base.specs.declared.act.Act.{Act}
 use Rattle.tsp_base.specs.declared.act.Act.TheVariants.{Boot, Took, Post, Correct, Abandon}
 use Rattle.tsp_base.specs.declared.place.Place.TheVariants.{Stranger}
-use Rattle.tsp_base.specs.History.{Elsewhere, Past}
+use Rattle.tsp_base.specs.History.{Past}
 use Rattle.tsp_base.specs.PortFacts.{Received, armed}
 use Rattle.tsp_base.specs.Rows.{grown}
-use Rattle.tsp_rules.proofs.NodeRowLemmas.{passed, Bootless}
+use Rattle.tsp_rules.proofs.NodeRowLemmas.{Bootless}
 use Rattle.tsp_rules.specs.RoundRows.{is_correct, corrects}
-use Rattle.tsp_rules.proofs.Asides.{all_aside, aside, now}
+use Rattle.tsp_rules.proofs.Asides.{all_aside, aside}
 use Rattle.tsp_promises.proofs.Known.{KnowsOf, FreshIn, OpenIn, RestsIn}
 use Rattle.tsp_promises.proofs.Leaves.{stir, abandon}
 use Rattle.tsp_rules.proofs.FewActs.{is_calm_act, is_calm}

@@ -1,13 +1,13 @@
 -- How rows over ports lead from what is known of each port to what is known then.
 use Rattle.std.specs.Prelude.{◌≡◌, ◌<◌, ℕ, ◌==◌, Bool, true, false, List, length, refl}
-use Rattle.std.proofs.Common.{sym, subst, ap, true≢false, eq-eqb, ◌∙◌}
+use Rattle.std.proofs.Common.{sym, subst, true≢false, eq-eqb, ◌∙◌}
 use Rattle.tsp_base.specs.declared.act.Act.{Act}
 use Rattle.tsp_base.specs.declared.place.Port.{Port}
 use Rattle.tsp_base.specs.History.{Past}
 use Rattle.tsp_base.specs.Rows.{grown, placed}
 use Rattle.tsp_base.proofs.ViewPlaces.{port-same}
 use Rattle.tsp_rules.specs.NodeRows.{NodePast, NodeRow, on_port, spread, ◌and_then◌, reading_all}
-use Rattle.tsp_rules.proofs.NodeRowLemmas.{Bootless, view_other, on_own, spread_append}
+use Rattle.tsp_rules.proofs.NodeRowLemmas.{Bootless, on_own, spread_append}
 use Rattle.tsp_rules.proofs.Asides.{all_aside, on_other}
 
 -- of each port of a node

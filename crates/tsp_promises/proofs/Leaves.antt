@@ -13,7 +13,7 @@ use Rattle.tsp_promises.specs.CorrectFits.{CorrectFits}
 use Rattle.tsp_promises.specs.DeedFits.{ActFits}
 use Rattle.tsp_promises.specs.HoldFits.{BackerFits}
 use Rattle.tsp_promises.specs.MeasureFits.{SampleFits}
-use Rattle.tsp_base.specs.History.{Did, Acts, Seen, Here, Past, plain}
+use Rattle.tsp_base.specs.History.{Seen, Here, Past, plain}
 use Rattle.tsp_base.specs.NodeFacts.{boot_tick}
 use Rattle.tsp_base.specs.Peers.{is_among}
 use Rattle.tsp_base.specs.PortFacts.{Received, role, armed, acting, taken, backers, held, stood}

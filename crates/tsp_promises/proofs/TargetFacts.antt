@@ -1,5 +1,5 @@
 -- What a SETTIME carries that a master sends a slave.
-use Rattle.std.specs.Prelude.{◌≡◌, ℕ, ℤ, neg_ℤ, ◌<ℤ◌, true}
+use Rattle.std.specs.Prelude.{◌≡◌, ℕ, neg_ℤ, ◌<ℤ◌, true}
 use Rattle.std.proofs.Common.{sym, subst, ap, ◌∙◌}
 use Rattle.tsp_base.specs.declared.constants.TheConstants.{LIMIT}
 use Rattle.tsp_base.specs.History.{Did, Past, plain}

@@ -1,5 +1,5 @@
 -- The promise of the network's date: a master alone sets it, to the time that was taken, and what is acknowledged was set.
-use Rattle.std.specs.Prelude.{◌≡◌, ℕ, ℤ, ◌-ℤ◌, Bool, true, List, ◌∷◌, Some}
+use Rattle.std.specs.Prelude.{◌≡◌, ℤ, ◌-ℤ◌, Bool, true, List, ◌∷◌, Some}
 use Rattle.tsp_base.specs.declared.act.Act.TheVariants.{Acked, Correct, Post}
 use Rattle.tsp_base.specs.declared.datagram.Datagram.TheVariants.{Message}
 use Rattle.tsp_base.specs.declared.datagram.Taken.TheVariants.{Good}

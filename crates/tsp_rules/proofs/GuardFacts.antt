@@ -7,12 +7,9 @@ use Rattle.tsp_base.specs.declared.constants.TheConstants.{HOLD, ELECT_MIN, LIMI
 use Rattle.tsp_base.specs.declared.place.PeerId.{PeerId}
 use Rattle.tsp_base.specs.declared.role.Role.{Role}
 use Rattle.tsp_base.specs.declared.role.Role.TheVariants.{Starting, Master}
-use Rattle.tsp_base.specs.History.{Did, Past, plain}
 use Rattle.tsp_base.specs.Hold.{Held, is_past, may_back, may_back_after, may_stand}
-use Rattle.tsp_base.specs.Messages.{MessageValue}
-use Rattle.tsp_base.specs.NodeFacts.{target}
-use Rattle.tsp_base.specs.Takings.{peer_of, time_in}
-use Rattle.tsp_rules.specs.Guards.{is_clock_value, is_in_range, target_at, is_over, is_met, is_starting_role, is_master}
+use Rattle.tsp_base.specs.Takings.{peer_of}
+use Rattle.tsp_rules.specs.Guards.{is_clock_value, is_over, is_met, is_starting_role, is_master}
 
 pub and-cases : (a b : Bool) → (a && b) ≡ true → (a ≡ true) × (b ≡ true)
 and-cases true b e = (refl, e)
@@ -71,9 +68,8 @@ master_is Master e = refl
 master_is _ e = absurd (true≢false (sym e))
 
 -- the ends of a clock's range
-clock_low : (z : ℤ) → is_clock_value z ≡ true → neg_ℤ LIMIT <ℤ z
+pub clock_low : (z : ℤ) → is_clock_value z ≡ true → neg_ℤ LIMIT <ℤ z
 clock_low z e = grind (arith, ints)
 
-clock_high : (z : ℤ) → is_clock_value z ≡ true → z <ℤ LIMIT
+pub clock_high : (z : ℤ) → is_clock_value z ≡ true → z <ℤ LIMIT
 clock_high z e = grind (arith, ints)
-
