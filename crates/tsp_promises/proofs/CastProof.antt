@@ -20,7 +20,7 @@ use Rattle.tsp_base.specs.RoundFacts.{Sampled, best, started}
 use Rattle.tsp_base.specs.SendFacts.{is_correction}
 use Rattle.tsp_promises.specs.StepFacts.{closed}
 use Rattle.tsp_promises.specs.Setting.{Setting}
-use Rattle.tsp_base.specs.Takings.{peer_of, time_in}
+use Rattle.tsp_base.specs.Takings.{Undisturbed, peer_of, time_in}
 use Rattle.tsp_base.specs.Ticks.{tick_at}
 use Rattle.tsp_base.proofs.PlaceLemmas.{Within-through, Within-tail}
 use Rattle.tsp_promises.proofs.Clocks.{near}
@@ -118,6 +118,7 @@ pub record Met (setting : Setting) (m k : ℕ) (cpast : List Line) (mean : ℤ) 
   pub error : pos (nat_abs (diff -ℤ (clock setting k (r ∷ rolder) -ℤ clock setting m (r ∷ rolder)))) ≤ℤ err
   pub moved_m : moved (dids (of m (r ∷ rolder))) ≡ moved (dids (of m cpast))
   pub moved_k : moved (dids (of k (r ∷ rolder))) ≡ moved (dids (of k past))
+  pub kept_k : Undisturbed (dids (of k (r ∷ rolder))) (dids (of k past))
   pub reads : Within (r ∷ rolder) past
 
 -- the amount of a Correct that takes an ADJTIME is its time
@@ -147,6 +148,7 @@ met-with setting m close cpast c past r rolder err g x t d =
       error = subst (λ e. pos (nat_abs (x.sample.diff -ℤ (clock setting k (r ∷ rolder) -ℤ clock setting m (r ∷ rolder)))) ≤ℤ e) x.err_is d.error;
       moved_m = d.moved_m;
       moved_k = one.moved;
+      kept_k = one.undisturbed;
       reads = reads;
     }
 
@@ -174,7 +176,7 @@ whole setting m close cpast c past r rolder err g x =
     record {
       mean = t.used.mean;
       met = met-with setting m close cpast c past r rolder err g x t
-          (read_at setting m (node_of c) x.post.port rd.line r rd.before cpast rolder x.sample u.start u.idle rd.to rd.datagram gs.fits gs.honest gs.words fc.1 rd.node rd.port u.best_is rd.is rd.reads rd.takes rd.deed u.start_is u.undisturbed);
+          (read_at setting m (node_of c) x.post.port rd.line r rd.before cpast rolder x.sample u.start u.idle rd.to rd.datagram gs.fits gs.honest gs.life fc.1 rd.node rd.port u.best_is rd.is rd.reads rd.takes rd.deed u.start_is u.undisturbed);
       count = u.count;
       lo = u.lo;
       size = u.size;

@@ -79,6 +79,7 @@ pub mod RelayedProof
 pub mod ResolvedProof
 pub mod Rings
 pub mod RoleLeads
+pub mod Requests
 pub mod RoundLeads
 pub mod RoundPlaces
 pub mod RunLeads

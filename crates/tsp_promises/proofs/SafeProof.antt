@@ -26,12 +26,12 @@ safe setting world f end = record {
   once_spaced_over_lives = once_spaced_over_lives setting world f;
   once_obeyed = once_obeyed setting world f;
   once_corrected = once_corrected setting world f;
-  once_taken = λ honest life words. once_taken setting world f honest life;
-  once_confirmed = λ honest life words. once_confirmed setting world (record { fits = f; honest = honest; life = life; words = words });
+  once_taken = once_taken setting world f;
+  once_confirmed = λ honest life. once_confirmed setting world (record { fits = f; honest = honest; life = life });
   trips = trips setting world f;
   measured = measured setting world f;
-  agreed = λ honest life words. agreed setting world (record { fits = f; honest = honest; life = life; words = words });
-  stay_agreed = λ honest life words. stay_agreed setting world (record { fits = f; honest = honest; life = life; words = words });
-  relayed = λ honest life words. relayed setting world (record { fits = f; honest = honest; life = life; words = words });
+  agreed = λ honest life. agreed setting world (record { fits = f; honest = honest; life = life });
+  stay_agreed = λ honest life. stay_agreed setting world (record { fits = f; honest = honest; life = life });
+  relayed = λ honest life. relayed setting world (record { fits = f; honest = honest; life = life });
   resolved = record { yields = yields setting world f end; quiet = stays_quiet setting world f; stops = stops_leading setting world f end };
 }

@@ -97,7 +97,7 @@ from-close setting m k q f fw mf g f_node a =
     let s_in : Within (line_on q b.did ∷ s.older) fw = Within-through (line_on q b.did ∷ s.older) c.older fw s.place (Within-tail (line_on q a.close) c.older fw c.place) in
     let gs = given_at setting (line_on q b.did ∷ s.older) fw gf s_in in
     let sf = sample_fits setting (line_on q b.did) s.older (peer_of k) a.sample.counter a.sample.ticket a.sample.diff a.sample.err gs.fits.0 b.deed in
-    let x = reading_at setting (line_on q b.did) s.older (peer_of k) a.sample.counter a.sample.ticket a.sample.diff a.sample.err gs.fits gs.honest gs.words b.deed sf in
+    let x = reading_at setting (line_on q b.did) s.older (peer_of k) a.sample.counter a.sample.ticket a.sample.diff a.sample.err gs.fits gs.honest (inl gs.life) b.deed sf in
     let mine : started (view q (of m s.older)) ≡ Here sf.start ∷ sf.idle = subst (λ n. started (view q (of n s.older)) ≡ Here sf.start ∷ sf.idle) s.node sf.start_is in
     let same = same-start sf.start u.start sf.idle u.idle (view q (of m s.older)) b.rest a.past mine (sym s.before) b.round u.start_is in
     from-reading setting m k q f a.close b.did u.start sf.start fw c.older s.older u.idle sf.idle a.sample mf.number sf.reply gf.fits c.place c.node (ap started c.before ∙ u.start_is) u.soon u.at same u.number sf.number_is s.place x

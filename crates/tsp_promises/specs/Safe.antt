@@ -1,17 +1,17 @@
 -- All promises of a history, each under the premises that it needs.
-use Rattle.std.specs.Prelude.{List}
+use Rattle.std.specs.Prelude.{◌⊎◌, List}
 use Rattle.tsp_promises.specs.Agreed.{Agreed, StayAgreed}
 use Rattle.tsp_base.specs.History.{Line}
 use Rattle.tsp_promises.specs.Measured.{Measured, Trips}
 use Rattle.tsp_promises.specs.Once.{OnceConfirmed, OnceCorrected, OnceObeyed, OnceSpaced, OnceSpacedOverLives, OnceTaken}
 use Rattle.tsp_promises.specs.OneBack.{OneBack}
 use Rattle.tsp_promises.specs.OnlyMaster.{OnlyMaster}
-use Rattle.tsp_promises.specs.Premises.{Honest, Life, Words}
+use Rattle.tsp_promises.specs.Premises.{Honest, Life, OwnWords}
 use Rattle.tsp_promises.specs.Relayed.{Relayed}
 use Rattle.tsp_promises.specs.Resolved.{Resolved}
 use Rattle.tsp_promises.specs.Setting.{Setting}
 
--- who is backed and who corrects is safe whatever is delivered; the rest rests on who sends, on how long datagrams live, and on words that differ
+-- who is backed and who corrects is safe whatever is delivered; the rest rests on who sends and on how long datagrams live; a measurement, where they may live longer, on words of a node's boots that differ
 pub record Safe (setting : Setting) (world : List Line) : Type 0 where
   pub one_back : OneBack world
   pub only_master : OnlyMaster world
@@ -19,11 +19,11 @@ pub record Safe (setting : Setting) (world : List Line) : Type 0 where
   pub once_spaced_over_lives : OnceSpacedOverLives world
   pub once_obeyed : Honest world → OnceObeyed setting world
   pub once_corrected : Life world → OnceCorrected world
-  pub once_taken : Honest world → Life world → Words world → OnceTaken world
-  pub once_confirmed : Honest world → Life world → Words world → OnceConfirmed world
+  pub once_taken : Honest world → Life world → OnceTaken world
+  pub once_confirmed : Honest world → Life world → OnceConfirmed world
   pub trips : Trips world
-  pub measured : Honest world → Words world → Measured setting world
-  pub agreed : Honest world → Life world → Words world → Agreed setting world
-  pub stay_agreed : Honest world → Life world → Words world → StayAgreed setting world
-  pub relayed : Honest world → Life world → Words world → Relayed setting world
+  pub measured : Honest world → Life world ⊎ OwnWords world → Measured setting world
+  pub agreed : Honest world → Life world → Agreed setting world
+  pub stay_agreed : Honest world → Life world → StayAgreed setting world
+  pub relayed : Honest world → Life world → Relayed setting world
   pub resolved : Resolved world

@@ -1,7 +1,7 @@
 //! The promises of the protocol, each proved of every history that fits: of any number of nodes, and of any
 //! number of ports of a node. Nothing here runs. Each function's contract is a theorem about the definitions of
 //! `tsp_base`; whoever keeps what each deed owes to its past keeps the promises.
-ghost use Rattle.std.specs.Prelude.{◌≡◌, ◌≤◌, ◌+◌, nat_abs, true, ℕ, ℤ, List};
+ghost use Rattle.std.specs.Prelude.{◌≡◌, ◌≤◌, ◌⊎◌, ◌+◌, nat_abs, true, ℕ, ℤ, List};
 ghost use Rattle.tsp_promises.specs.Agreed.{Agreed, StayAgreed};
 ghost use Rattle.tsp_promises.specs.Fits.{Fits, Finished};
 ghost use Rattle.tsp_base.specs.History.{Line};
@@ -10,7 +10,7 @@ ghost use Rattle.tsp_promises.specs.Once.{OnceConfirmed, OnceCorrected, OnceObey
 ghost use Rattle.tsp_promises.specs.OneBack.{OneBack};
 ghost use Rattle.tsp_promises.specs.OnlyMaster.{OnlyMaster};
 ghost use Rattle.tsp_promises.specs.OneWinner.{OneWinner};
-ghost use Rattle.tsp_promises.specs.Premises.{Few, Honest, Life, Words};
+ghost use Rattle.tsp_promises.specs.Premises.{Few, Honest, Life, OwnWords};
 ghost use Rattle.tsp_promises.specs.Relayed.{Relayed};
 ghost use Rattle.tsp_promises.specs.Resolved.{StaysQuiet, StopsLeading, Yields};
 ghost use Rattle.tsp_promises.specs.Safe.{Safe};
@@ -63,9 +63,10 @@ pub fn once_taken()
     ensures { (setting : Setting) (world : List Line) → Fits setting world → Honest world → Life world → OnceTaken world }
 {}
 
-/// A correction that was acknowledged was taken.
+/// A correction that was acknowledged was taken, if no peer's datagram is forged and none outlives `LIFE`. Boots may have
+/// equal words, here and wherever clocks are compared.
 pub fn once_confirmed()
-    ensures { (setting : Setting) (world : List Line) → Fits setting world → Honest world → Life world → Words world → OnceConfirmed world }
+    ensures { (setting : Setting) (world : List Line) → Fits setting world → Honest world → Life world → OnceConfirmed world }
 {}
 
 /// A measurement ends an open exchange of the going round, and the error that it states is half that round trip,
@@ -75,21 +76,21 @@ pub fn measured_trips()
 {}
 
 /// A measurement rests on a reply that its peer posted, and errs by at most the error that it states, if no peer's
-/// datagram is forged and no two boots have one word.
+/// datagram is forged, and none outlives `LIFE` or no two boots of one node have one word.
 pub fn measured()
-    ensures { (setting : Setting) (world : List Line) → Fits setting world → Honest world → Words world → Measured setting world }
+    ensures { (setting : Setting) (world : List Line) → Fits setting world → Honest world → Life world ⊎ OwnWords world → Measured setting world }
 {}
 
 /// An ADJTIME that a Close begins rests on a sample, and clocks that one Close corrected agree with one another and with
 /// the master's: at each act, and from there on as long as nothing more happens.
 pub fn agreed()
-    ensures at { (setting : Setting) (world : List Line) → Fits setting world → Honest world → Life world → Words world → Agreed setting world }
-    ensures stay { (setting : Setting) (world : List Line) → Fits setting world → Honest world → Life world → Words world → StayAgreed setting world }
+    ensures at { (setting : Setting) (world : List Line) → Fits setting world → Honest world → Life world → Agreed setting world }
+    ensures stay { (setting : Setting) (world : List Line) → Fits setting world → Honest world → Life world → StayAgreed setting world }
 {}
 
 /// A clock that a corrected master corrected agrees with the first master's, at each line and from there on.
 pub fn relayed()
-    ensures { (setting : Setting) (world : List Line) → Fits setting world → Honest world → Life world → Words world → Relayed setting world }
+    ensures { (setting : Setting) (world : List Line) → Fits setting world → Honest world → Life world → Relayed setting world }
 {}
 
 /// A master that takes a QUIT follows its sender at the end of that step.
