@@ -102,6 +102,7 @@ pub mod SoundSteps
 pub mod SourceProof
 pub mod SpacedProof
 pub mod SteadyLemmas
+pub mod SteadyProof
 pub mod StepChecks
 pub mod StepProof
 pub mod Stirring

@@ -35,7 +35,9 @@ pub mod RivalsMeet
 pub mod Runs
 pub mod Safe
 pub mod Setting
+pub mod ShownAt
 pub mod Since
 pub mod Sound
+pub mod Steady
 pub mod StepFacts
 pub mod StrictElections

@@ -23,6 +23,7 @@ ghost use Rattle.tsp_promises.specs.LateReply.{LateReply};
 ghost use Rattle.tsp_promises.specs.OrdinaryUse.{OrdinaryUse};
 ghost use Rattle.tsp_promises.specs.Relays.{Relays};
 ghost use Rattle.tsp_promises.specs.RivalsMeet.{RivalsMeet};
+ghost use Rattle.tsp_promises.specs.Steady.{Meets, Steady};
 ghost use Rattle.tsp_promises.specs.StrictElections.{StrictElections};
 
 /// All promises of a history that ends with a step, each under the premises that it needs.
@@ -158,6 +159,18 @@ pub fn promises_can_be_broken()
 /// forged, no datagram outlives `LIFE`, and no port begins 32,768 sends with own numbers in one life of its node.
 pub fn one_winner()
     ensures { (setting : Setting) (world : List Line) → setting.strict ≡ true → Fits setting world → Honest world → Life world → Few world → OneWinner setting world }
+{}
+
+/// The clock that users read never falls between steps and boots, and is off in rate by at most one in two hundred, beside
+/// its node's drift; forged datagrams or not.
+pub fn runs_steadily()
+    ensures { (setting : Setting) (world : List Line) → Fits setting world → Steady setting world }
+{}
+
+/// It meets its target: what is left to slew is less by a microsecond each 200 ticks. No deed can break this; it is how
+/// the shown value is defined.
+pub fn meets_target()
+    ensures { (world : List Line) → Meets world }
 {}
 
 /// Over some span of true time a tick counter advances by that span, give or take the width.
