@@ -13,6 +13,7 @@ pub mod BrokenRoles
 pub mod BrokenSends
 pub mod CastBy
 pub mod CastProof
+pub mod ChainedProof
 pub mod ChainProof
 pub mod Changes
 pub mod ClockProof

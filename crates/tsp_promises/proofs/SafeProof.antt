@@ -5,6 +5,7 @@ use Rattle.tsp_base.specs.History.{Line}
 use Rattle.tsp_promises.specs.Safe.{Safe}
 use Rattle.tsp_promises.specs.Setting.{Setting}
 use Rattle.tsp_promises.proofs.AgreedProof.{agreed, stay_agreed}
+use Rattle.tsp_promises.proofs.ChainedProof.{chained}
 use Rattle.tsp_promises.proofs.ConfirmedProof.{once_confirmed}
 use Rattle.tsp_promises.proofs.MeasuredProof.{measured}
 use Rattle.tsp_promises.proofs.OnceObeyedProof.{once_obeyed}
@@ -15,6 +16,7 @@ use Rattle.tsp_promises.proofs.OneBackProof.{one_back}
 use Rattle.tsp_promises.proofs.OnlyMasterProof.{only_master}
 use Rattle.tsp_promises.proofs.RelayedProof.{relayed}
 use Rattle.tsp_promises.proofs.ResolvedProof.{yields, stays_quiet}
+use Rattle.tsp_promises.proofs.SteadyProof.{meets, steady}
 use Rattle.tsp_promises.proofs.StopsProof.{stops_leading}
 use Rattle.tsp_promises.proofs.TripProof.{trips}
 
@@ -32,6 +34,9 @@ safe setting world f end = record {
   measured = measured setting world f;
   agreed = λ honest life. agreed setting world (record { fits = f; honest = honest; life = life });
   stay_agreed = λ honest life. stay_agreed setting world (record { fits = f; honest = honest; life = life });
+  chained = λ honest life. chained setting world (record { fits = f; honest = honest; life = life });
   relayed = λ honest life. relayed setting world (record { fits = f; honest = honest; life = life });
   resolved = record { yields = yields setting world f end; quiet = stays_quiet setting world f; stops = stops_leading setting world f end };
+  steady = steady setting world f;
+  meets = meets world;
 }

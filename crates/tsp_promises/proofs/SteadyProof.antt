@@ -1,6 +1,6 @@
 -- The shown clock runs on between steps, and meets its target.
-use Rattle.std.specs.Prelude.{◌≡◌, ◌==◌, ◌≤◌, ◌⊎◌, ℕ, ◌+◌, ◌-◌, ◌*◌, ◌/◌, ℤ, pos, negsuc, neg_ℤ, ◌+ℤ◌, ◌-ℤ◌, nat_abs, Bool, true, false, List, [], ◌∷◌, refl}
-use Rattle.std.proofs.Common.{arith, subst, subst₂, sym, ap, inl, inr, eqb-true, true≢false, ◌∙◌}
+use Rattle.std.specs.Prelude.{◌≡◌, ◌==◌, ◌≤◌, ◌⊎◌, ℕ, ◌+◌, ◌-◌, ◌*◌, ◌/◌, ℤ, pos, negsuc, ◌+ℤ◌, ◌-ℤ◌, nat_abs, Bool, true, false, List, [], ◌∷◌, refl}
+use Rattle.std.proofs.Common.{arith, subst, sym, inl, inr, eqb-true, true≢false, ◌∙◌}
 use Rattle.std.proofs.lemmas.Int.{ints}
 use Rattle.tsp_base.specs.declared.act.Act.TheVariants.{Boot, Correct}
 use Rattle.tsp_base.specs.declared.constants.TheConstants.{SLEW}
@@ -10,7 +10,7 @@ use Rattle.tsp_base.specs.NodeFacts.{boot_after, boot_tick, eased, last_correct,
 use Rattle.tsp_base.specs.Places.{Within}
 use Rattle.tsp_promises.specs.Setting.{Setting}
 use Rattle.tsp_promises.specs.ShownAt.{shown_at}
-use Rattle.tsp_promises.specs.Steady.{Advances, Meets, MeetsBy, NoneStepped, Read, ReadAt, RunsOn, RunsOverTime, Steady, SteadyAt, Unstepped, shown_width}
+use Rattle.tsp_promises.specs.Steady.{Advances, Meets, MeetsBy, NoneStepped, RunsOn, RunsOverTime, Steady, SteadyAt}
 use Rattle.tsp_base.specs.Ticks.{tick_at, width}
 use Rattle.tsp_promises.specs.OwnFits.{OwnFits}
 use Rattle.tsp_base.proofs.TickLemmas.{tick_at-width}

@@ -3,6 +3,7 @@ pub mod Agreed
 pub mod Alone
 pub mod Became
 pub mod Broken
+pub mod Chained
 pub mod ClockAt
 pub mod CorrectFits
 pub mod CorrectionFits

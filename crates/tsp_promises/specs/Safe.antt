@@ -1,6 +1,7 @@
 -- All promises of a history, each under the premises that it needs.
 use Rattle.std.specs.Prelude.{◌⊎◌, List}
 use Rattle.tsp_promises.specs.Agreed.{Agreed, StayAgreed}
+use Rattle.tsp_promises.specs.Chained.{Chained}
 use Rattle.tsp_base.specs.History.{Line}
 use Rattle.tsp_promises.specs.Measured.{Measured, Trips}
 use Rattle.tsp_promises.specs.Once.{OnceConfirmed, OnceCorrected, OnceObeyed, OnceSpaced, OnceSpacedOverLives, OnceTaken}
@@ -10,6 +11,7 @@ use Rattle.tsp_promises.specs.Premises.{Honest, Life, OwnWords}
 use Rattle.tsp_promises.specs.Relayed.{Relayed}
 use Rattle.tsp_promises.specs.Resolved.{Resolved}
 use Rattle.tsp_promises.specs.Setting.{Setting}
+use Rattle.tsp_promises.specs.Steady.{Meets, Steady}
 
 -- who is backed and who corrects is safe whatever is delivered; the rest rests on who sends and on how long datagrams live; a measurement, where they may live longer, on words of a node's boots that differ
 pub record Safe (setting : Setting) (world : List Line) : Type 0 where
@@ -25,5 +27,8 @@ pub record Safe (setting : Setting) (world : List Line) : Type 0 where
   pub measured : Honest world → Life world ⊎ OwnWords world → Measured setting world
   pub agreed : Honest world → Life world → Agreed setting world
   pub stay_agreed : Honest world → Life world → StayAgreed setting world
+  pub chained : Honest world → Life world → Chained setting world
   pub relayed : Honest world → Life world → Relayed setting world
   pub resolved : Resolved world
+  pub steady : Steady setting world
+  pub meets : Meets world

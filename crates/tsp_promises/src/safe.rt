@@ -3,6 +3,7 @@
 //! `tsp_base`; whoever keeps what each deed owes to its past keeps the promises.
 ghost use Rattle.std.specs.Prelude.{◌≡◌, ◌≤◌, ◌⊎◌, ◌+◌, nat_abs, true, ℕ, ℤ, List};
 ghost use Rattle.tsp_promises.specs.Agreed.{Agreed, StayAgreed};
+ghost use Rattle.tsp_promises.specs.Chained.{Chained};
 ghost use Rattle.tsp_promises.specs.Fits.{Fits, Finished};
 ghost use Rattle.tsp_base.specs.History.{Line};
 ghost use Rattle.tsp_promises.specs.Measured.{Measured, Trips};
@@ -87,6 +88,12 @@ pub fn measured()
 pub fn agreed()
     ensures at { (setting : Setting) (world : List Line) → Fits setting world → Honest world → Life world → Agreed setting world }
     ensures stay { (setting : Setting) (world : List Line) → Fits setting world → Honest world → Life world → StayAgreed setting world }
+{}
+
+/// Clocks along chains of corrections agree: with the first master's, with those along another chain of the same Close, and,
+/// in a tree of gateways, any two of them. They differ by at most the errors of the readings on the path and drift.
+pub fn chained()
+    ensures { (setting : Setting) (world : List Line) → Fits setting world → Honest world → Life world → Chained setting world }
 {}
 
 /// A clock that a corrected master corrected agrees with the first master's, at each line and from there on.
