@@ -66,6 +66,7 @@ pub mod OnceObeyedProof
 pub mod OnceSpacedProof
 pub mod OnceTakenProof
 pub mod OneBackProof
+pub mod OneErrorProof
 pub mod OneWinnerProof
 pub mod OnlyMasterProof
 pub mod OwnFitsProof
@@ -109,6 +110,7 @@ pub mod StepProof
 pub mod Stirring
 pub mod StopsProof
 pub mod TakenLeads
+pub mod TakingProof
 pub mod TargetFacts
 pub mod TripProof
 pub mod Upsets

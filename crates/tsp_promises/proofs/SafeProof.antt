@@ -13,6 +13,7 @@ use Rattle.tsp_promises.proofs.OnceSpacedProof.{once_spaced, once_spaced_over_li
 use Rattle.tsp_promises.proofs.OnceDatedProof.{once_taken}
 use Rattle.tsp_promises.proofs.OnceTakenProof.{once_corrected}
 use Rattle.tsp_promises.proofs.OneBackProof.{one_back}
+use Rattle.tsp_promises.proofs.OneErrorProof.{one_error}
 use Rattle.tsp_promises.proofs.OnlyMasterProof.{only_master}
 use Rattle.tsp_promises.proofs.RelayedProof.{relayed}
 use Rattle.tsp_promises.proofs.ResolvedProof.{yields, stays_quiet}
@@ -34,6 +35,7 @@ safe setting world f end = record {
   measured = measured setting world f;
   agreed = λ honest life. agreed setting world (record { fits = f; honest = honest; life = life });
   stay_agreed = λ honest life. stay_agreed setting world (record { fits = f; honest = honest; life = life });
+  one_error = λ honest life. one_error setting world (record { fits = f; honest = honest; life = life });
   chained = λ honest life. chained setting world (record { fits = f; honest = honest; life = life });
   relayed = λ honest life. relayed setting world (record { fits = f; honest = honest; life = life });
   resolved = record { yields = yields setting world f end; quiet = stays_quiet setting world f; stops = stops_leading setting world f end };

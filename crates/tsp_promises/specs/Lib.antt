@@ -23,6 +23,7 @@ pub mod Measured
 pub mod NodeRuns
 pub mod Once
 pub mod OneBack
+pub mod OneError
 pub mod OneWinner
 pub mod OnlyMaster
 pub mod OrdinaryUse

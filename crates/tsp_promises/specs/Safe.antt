@@ -6,6 +6,7 @@ use Rattle.tsp_base.specs.History.{Line}
 use Rattle.tsp_promises.specs.Measured.{Measured, Trips}
 use Rattle.tsp_promises.specs.Once.{OnceConfirmed, OnceCorrected, OnceObeyed, OnceSpaced, OnceSpacedOverLives, OnceTaken}
 use Rattle.tsp_promises.specs.OneBack.{OneBack}
+use Rattle.tsp_promises.specs.OneError.{OneError}
 use Rattle.tsp_promises.specs.OnlyMaster.{OnlyMaster}
 use Rattle.tsp_promises.specs.Premises.{Honest, Life, OwnWords}
 use Rattle.tsp_promises.specs.Relayed.{Relayed}
@@ -27,6 +28,7 @@ pub record Safe (setting : Setting) (world : List Line) : Type 0 where
   pub measured : Honest world → Life world ⊎ OwnWords world → Measured setting world
   pub agreed : Honest world → Life world → Agreed setting world
   pub stay_agreed : Honest world → Life world → StayAgreed setting world
+  pub one_error : Honest world → Life world → OneError world
   pub chained : Honest world → Life world → Chained setting world
   pub relayed : Honest world → Life world → Relayed setting world
   pub resolved : Resolved world

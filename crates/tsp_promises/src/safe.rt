@@ -9,6 +9,7 @@ ghost use Rattle.tsp_base.specs.History.{Line};
 ghost use Rattle.tsp_promises.specs.Measured.{Measured, Trips};
 ghost use Rattle.tsp_promises.specs.Once.{OnceConfirmed, OnceCorrected, OnceObeyed, OnceSpaced, OnceSpacedOverLives, OnceTaken};
 ghost use Rattle.tsp_promises.specs.OneBack.{OneBack};
+ghost use Rattle.tsp_promises.specs.OneError.{OneError};
 ghost use Rattle.tsp_promises.specs.OnlyMaster.{OnlyMaster};
 ghost use Rattle.tsp_promises.specs.OneWinner.{OneWinner};
 ghost use Rattle.tsp_promises.specs.Premises.{Few, Honest, Life, OwnWords};
@@ -88,6 +89,13 @@ pub fn measured()
 pub fn agreed()
     ensures at { (setting : Setting) (world : List Line) → Fits setting world → Honest world → Life world → Agreed setting world }
     ensures stay { (setting : Setting) (world : List Line) → Fits setting world → Honest world → Life world → StayAgreed setting world }
+{}
+
+/// No error is corrected twice: from the reading, or the SLAVEUP, on which a correction rests to the Correct that takes it the
+/// node neither boots nor corrects its clock, whichever masters there are, if no peer's datagram is forged and none
+/// outlives `LIFE`.
+pub fn one_error()
+    ensures { (setting : Setting) (world : List Line) → Fits setting world → Honest world → Life world → OneError world }
 {}
 
 /// Clocks along chains of corrections agree: with the first master's, with those along another chain of the same Close, and,
