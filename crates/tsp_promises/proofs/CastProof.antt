@@ -95,7 +95,7 @@ met-with setting m close cpast c past r rolder err x kind t d =
       amount = x.acts.amount;
       stepped = x.acts.stepped;
       shown = x.acts.shown;
-      amount_is = amount-adj c past x.post x.acts.amount x.acts.brings.message t.acting kind ∙ d.used.from.value kind;
+      amount_is = amount-adj c past x.post x.acts.amount x.acts.brings.message t.begun.acting kind ∙ d.used.from.value kind;
       deed = x.acts.correct;
       error = subst (λ e. pos (nat_abs (x.sample.diff -ℤ (clock setting k (r ∷ rolder) -ℤ clock setting m (r ∷ rolder)))) ≤ℤ e) x.err_is d.read.error;
       moved_m = d.read.moved_m;
@@ -124,7 +124,7 @@ whole setting m close cpast c past r rolder err g x =
     let t = taken_facts setting m c past g taking in
     let d = read_facts setting m c past g taking t close cpast r rolder (reading_of m close cpast c past r rolder err x kind) in
     let u = d.used.from in
-    let s = t.aged.begins in
+    let s = t.begun.begins in
     record {
       mean = d.used.mean;
       met = met-with setting m close cpast c past r rolder err x kind t d;
@@ -135,5 +135,5 @@ whole setting m close cpast c past r rolder err g x =
       port = x.post.port;
       fw = s.fw;
       fw_in = Within-tail (line_on x.post.port s.first) s.fw past (Within-through (line_on x.post.port s.first ∷ s.fw) (x.post ∷ x.before) past s.place x.acts.brings.place);
-      followed = subst (λ w. (d.used.mean ≡ pos 0) ⊎ FollowedBy close.did (view x.post.port (of m cpast)) w d.used.mean) (sym t.begun_is) u.followed;
+      followed = subst (λ w. (d.used.mean ≡ pos 0) ⊎ FollowedBy close.did (view x.post.port (of m cpast)) w d.used.mean) (sym t.begun.begun_is) u.followed;
     }

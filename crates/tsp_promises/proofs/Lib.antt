@@ -1,5 +1,6 @@
 pub mod AcknowledgedProof
 pub mod AgreedProof
+pub mod AgreedShownProof
 pub mod AgreedSums
 pub mod AlarmLeads
 pub mod AloneLemmas
@@ -31,6 +32,7 @@ pub mod ElectionFacts
 mod Elections
 pub mod Elsewheres
 pub mod EverywhereLemmas
+pub mod FirstSetProof
 pub mod FreshProof
 pub mod FreshSteps
 pub mod GateFacts
@@ -94,6 +96,7 @@ pub mod SendFits
 pub mod SendPlaces
 pub mod SendProof
 pub mod SetProof
+pub mod ShownProof
 pub mod SinceProof
 pub mod SlaveLeads
 pub mod SoundAlarms

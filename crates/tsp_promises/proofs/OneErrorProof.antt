@@ -28,23 +28,23 @@ since-slaveup : (setting : Setting) (m : ℕ) (c : Line) (past : List Line) → 
 since-slaveup setting m c past g t r older x =
     let k = node_of c in
     let d = taken_facts setting m c past g t in
-    let s = d.aged.begins in
+    let s = d.begun.begins in
     let line = line_on t.post.port s.first in
     let line_in : Within (line ∷ s.fw) past = Within-through (line ∷ s.fw) (t.post ∷ t.before) past s.place t.acts.brings.place in
     let gl = given_at setting (line ∷ s.fw) (c ∷ past) g (inr line_in) in
-    let took : Receives (view t.post.port (of m s.fw)) (peer_of k) (Message x.message) = subst (λ v. Receives v (peer_of k) (Message x.message)) (sym d.begun_is) x.took in
+    let took : Receives (view t.post.port (of m s.fw)) (peer_of k) (Message x.message) = subst (λ v. Receives v (peer_of k) (Message x.message)) (sym d.begun.begun_is) x.took in
     let here : Receives (view t.post.port (of s.first.step.node s.fw)) (peer_of k) (Message x.message) = subst (λ n. Receives (view t.post.port (of n s.fw)) (peer_of k) (Message x.message)) (sym (s.node ∙ t.node)) took in
     let up = known setting line s.fw (Post (Peer (peer_of k)) (Message t.acts.brings.message)) (peer_of k) (Message x.message) gl.fits gl.honest s.sends.deed here in
     let node : node_of up.post ≡ k = number-same (node_of up.post) k up.node in
     let up_in : Within (up.post ∷ up.older) past = Within-through (up.post ∷ up.older) s.fw past up.place (Within-tail line s.fw past line_in) in
-    let number : posted (dids up.older) ≡ posted (dids older) = same-number (posted (dids up.older)) (posted (dids older)) (sym up.takes ∙ (ap (λ (z : Did). z.step.cause) d.first_is ∙ x.takes)) in
+    let number : posted (dids up.older) ≡ posted (dids older) = same-number (posted (dids up.older)) (posted (dids older)) (sym up.takes ∙ (ap (λ (z : Did). z.step.cause) d.begun.first_is ∙ x.takes)) in
     let same : up.post ∷ up.older ≡ r ∷ older = post_unique past up.post r up.older older (Peer (peer_of s.first.step.node)) x.to (Message x.message) x.datagram up_in x.place up.deed x.deed number in
     let gu = given_at setting (up.post ∷ up.older) (c ∷ past) g (inr up_in) in
     let is = slaveup_ticket setting k s.first.step.node up.post up.older x.message gu.fits.0 node up.deed x.kind in
     let soon : s.first.step.at ≤ up.post.did.step.at + 30000000 = gl.life.0 up.post up.older (Peer (peer_of s.first.step.node)) (Message x.message) up.place up.deed up.takes in
-    let time : c.did.step.at ≤ up.post.did.step.at + 65000000 = (let p = s.soon in let l = d.aged.life in omega arith) in
-    let ticket_is : ticket (dids (of k up.older)) ≡ ticket (dids (of k past)) = sym is ∙ (x.number ∙ d.acting.number) in
-    let kept = first_after setting k c up.post past up.older (Peer (peer_of s.first.step.node)) (Message x.message) g.fits refl node up.deed up_in d.acting.rested ticket_is time in
+    let time : c.did.step.at ≤ up.post.did.step.at + 65000000 = (let p = s.soon in let l = d.life in omega arith) in
+    let ticket_is : ticket (dids (of k up.older)) ≡ ticket (dids (of k past)) = sym is ∙ (x.number ∙ d.begun.acting.number) in
+    let kept = first_after setting k c up.post past up.older (Peer (peer_of s.first.step.node)) (Message x.message) g.fits refl node up.deed up_in d.begun.acting.rested ticket_is time in
     subst (λ w. Undisturbed (dids (of k w)) (dids (of k past))) same kept.undisturbed
 
 one_error_at : (setting : Setting) (l : Line) (world : List Line) → Given setting (l ∷ world) → OneErrorAt l world

@@ -5,8 +5,10 @@ use Rattle.tsp_base.specs.History.{Line}
 use Rattle.tsp_promises.specs.Safe.{Safe}
 use Rattle.tsp_promises.specs.Setting.{Setting}
 use Rattle.tsp_promises.proofs.AgreedProof.{agreed, stay_agreed}
+use Rattle.tsp_promises.proofs.AgreedShownProof.{agreed_shown, shown_near, waited}
 use Rattle.tsp_promises.proofs.ChainedProof.{chained}
 use Rattle.tsp_promises.proofs.ConfirmedProof.{once_confirmed}
+use Rattle.tsp_promises.proofs.FirstSetProof.{first_set, first_set_soon}
 use Rattle.tsp_promises.proofs.MeasuredProof.{measured}
 use Rattle.tsp_promises.proofs.OnceObeyedProof.{once_obeyed}
 use Rattle.tsp_promises.proofs.OnceSpacedProof.{once_spaced, once_spaced_over_lives}
@@ -36,9 +38,14 @@ safe setting world f end = record {
   agreed = λ honest life. agreed setting world (record { fits = f; honest = honest; life = life });
   stay_agreed = λ honest life. stay_agreed setting world (record { fits = f; honest = honest; life = life });
   one_error = λ honest life. one_error setting world (record { fits = f; honest = honest; life = life });
+  first_set = first_set setting world f;
+  first_set_soon = first_set_soon setting world f;
   chained = λ honest life. chained setting world (record { fits = f; honest = honest; life = life });
   relayed = λ honest life. relayed setting world (record { fits = f; honest = honest; life = life });
   resolved = record { yields = yields setting world f end; quiet = stays_quiet setting world f; stops = stops_leading setting world f end };
   steady = steady setting world f;
   meets = meets world;
+  agreed_shown = λ honest life. agreed_shown setting world (record { fits = f; honest = honest; life = life });
+  shown_near = shown_near setting world f;
+  waited = waited setting world f;
 }

@@ -13,8 +13,7 @@ use Rattle.tsp_promises.specs.ShownAt.{shown_at}
 use Rattle.tsp_promises.specs.Steady.{Advances, Meets, MeetsBy, NoneStepped, RunsOn, RunsOverTime, Steady, SteadyAt}
 use Rattle.tsp_base.specs.Ticks.{tick_at, width}
 use Rattle.tsp_promises.specs.OwnFits.{OwnFits}
-use Rattle.tsp_base.proofs.TickLemmas.{tick_at-width}
-use Rattle.tsp_promises.proofs.Clocks.{tick-mono}
+use Rattle.tsp_promises.proofs.Clocks.{tick-mono, ticks_over}
 use Rattle.tsp_promises.proofs.EverywhereLemmas.{Everywhere-from}
 use Rattle.tsp_promises.proofs.HistoryPlaces.{of-other, of-own, Within-of}
 use Rattle.tsp_promises.proofs.Locating.{tick_in}
@@ -143,13 +142,6 @@ runs_on setting h f n s x y u r = advances (shown (dids (of n s)) x) (shown (did
 over : (early late : ℤ) (x y t w : ℕ) → Near early late x y → x ≤ y → y ≤ x + t + w → x + t ≤ y + w → nat_abs ((late -ℤ early) -ℤ pos t) ≤ w + (t + w + 199) / 200
 over early late x y t w n o p q = omega (arith, ints, n)
 
--- the ticks between two true times
-ticks-over : (setting : Setting) (n a b : ℕ) → a ≤ b → (tick_at (setting.rate n) b ≤ tick_at (setting.rate n) a + (b - a) + width setting.drift (b - a)) × (tick_at (setting.rate n) a + (b - a) ≤ tick_at (setting.rate n) b + width setting.drift (b - a))
-ticks-over setting n a b o =
-    let e : a + (b - a) ≡ b = omega arith in
-    subst (λ w. (tick_at (setting.rate n) w ≤ tick_at (setting.rate n) a + (b - a) + width setting.drift (b - a)) × (tick_at (setting.rate n) a + (b - a) ≤ tick_at (setting.rate n) w + width setting.drift (b - a))) e
-        (tick_at-width (setting.rate n) setting.drift a (b - a) (setting.rates n) setting.small)
-
 -- a node's last tick is that of its last time
 own-at : (setting : Setting) (n : ℕ) (s : List Line) → Fits setting s → tick_of (dids (of n s)) ≤ tick_at (setting.rate n) (time_of (dids (of n s)))
 own-at setting n [] f = omega arith
@@ -158,7 +150,7 @@ own-at setting n (l ∷ s) f = by-node (own-at setting n s f.1) (node_of l == n)
   by-node h true e = rw e (let t = tick_is setting n l s (eqb-true (node_of l) n e) f.0 in omega (arith, t))
   by-node h false e = rw e h
 
-runs_over_time : (setting : Setting) (h : List Line) → Fits setting h → RunsOverTime setting h
+pub runs_over_time : (setting : Setting) (h : List Line) → Fits setting h → RunsOverTime setting h
 runs_over_time setting h f n s a b u r =
     let rate = setting.rate n in
     let from = own-at setting n s (fits_at setting s h f u.within) in
@@ -171,7 +163,7 @@ runs_over_time setting h f n s a b u r =
         let m = tick-mono setting n a l.did.step.at (r.next l before w v node) in
         omega (arith, t, m) in
     let near = steadily setting n h s (tick_at rate a) (tick_at rate b) f u.within u.lives u.none (omega (arith, from, from_a)) next (omega (arith, to, to_b)) order in
-    let t = ticks-over setting n a b r.order in
+    let t = ticks_over setting n a b r.order in
     over (shown_at setting n s a) (shown_at setting n h b) (tick_at rate a) (tick_at rate b) (b - a) (width setting.drift (b - a)) near order t.0 t.1
 
 pub steady : (setting : Setting) (world : List Line) → Fits setting world → Steady setting world

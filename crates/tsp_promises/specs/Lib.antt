@@ -1,5 +1,6 @@
 pub mod AckFits
 pub mod Agreed
+pub mod AgreedShown
 pub mod Alone
 pub mod Became
 pub mod Broken
@@ -12,6 +13,7 @@ pub mod DateUse
 pub mod Dated
 pub mod DeedFits
 pub mod Everywhere
+pub mod FirstSet
 pub mod Fits
 pub mod HoldFits
 pub mod Kept

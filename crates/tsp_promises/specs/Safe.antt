@@ -1,7 +1,9 @@
 -- All promises of a history, each under the premises that it needs.
 use Rattle.std.specs.Prelude.{◌⊎◌, List}
 use Rattle.tsp_promises.specs.Agreed.{Agreed, StayAgreed}
+use Rattle.tsp_promises.specs.AgreedShown.{AgreedShown, ShownNear, Waited}
 use Rattle.tsp_promises.specs.Chained.{Chained}
+use Rattle.tsp_promises.specs.FirstSet.{FirstSet, FirstSetSoon}
 use Rattle.tsp_base.specs.History.{Line}
 use Rattle.tsp_promises.specs.Measured.{Measured, Trips}
 use Rattle.tsp_promises.specs.Once.{OnceConfirmed, OnceCorrected, OnceObeyed, OnceSpaced, OnceSpacedOverLives, OnceTaken}
@@ -29,8 +31,13 @@ pub record Safe (setting : Setting) (world : List Line) : Type 0 where
   pub agreed : Honest world → Life world → Agreed setting world
   pub stay_agreed : Honest world → Life world → StayAgreed setting world
   pub one_error : Honest world → Life world → OneError world
+  pub first_set : FirstSet setting world
+  pub first_set_soon : Life world → FirstSetSoon setting world
   pub chained : Honest world → Life world → Chained setting world
   pub relayed : Honest world → Life world → Relayed setting world
   pub resolved : Resolved world
   pub steady : Steady setting world
   pub meets : Meets world
+  pub agreed_shown : Honest world → Life world → AgreedShown setting world
+  pub shown_near : ShownNear setting world
+  pub waited : Waited setting world

@@ -4,6 +4,7 @@
 ghost use Rattle.std.specs.Prelude.{◌≡◌, ◌≤◌, ◌⊎◌, ◌+◌, nat_abs, true, ℕ, ℤ, List};
 ghost use Rattle.tsp_promises.specs.Agreed.{Agreed, StayAgreed};
 ghost use Rattle.tsp_promises.specs.Chained.{Chained};
+ghost use Rattle.tsp_promises.specs.FirstSet.{FirstSet, FirstSetSoon};
 ghost use Rattle.tsp_promises.specs.Fits.{Fits, Finished};
 ghost use Rattle.tsp_base.specs.History.{Line};
 ghost use Rattle.tsp_promises.specs.Measured.{Measured, Trips};
@@ -27,6 +28,7 @@ ghost use Rattle.tsp_promises.specs.Relays.{Relays};
 ghost use Rattle.tsp_promises.specs.RivalsMeet.{RivalsMeet};
 ghost use Rattle.tsp_promises.specs.Steady.{Meets, Steady};
 ghost use Rattle.tsp_promises.specs.StrictElections.{StrictElections};
+ghost use Rattle.tsp_promises.specs.AgreedShown.{AgreedShown, ShownNear, Waited};
 
 /// All promises of a history that ends with a step, each under the premises that it needs.
 pub fn safe()
@@ -96,6 +98,13 @@ pub fn agreed()
 /// outlives `LIFE`.
 pub fn one_error()
     ensures { (setting : Setting) (world : List Line) → Fits setting world → Honest world → Life world → OneError world }
+{}
+
+/// After a SETTIME a clock is behind its master's by the time that the datagram took since it was first posted, and drift;
+/// forged datagrams or not. If no datagram outlives `LIFE` that is at most 34 s and drift.
+pub fn first_set()
+    ensures at { (setting : Setting) (world : List Line) → Fits setting world → FirstSet setting world }
+    ensures soon { (setting : Setting) (world : List Line) → Fits setting world → Life world → FirstSetSoon setting world }
 {}
 
 /// Clocks along chains of corrections agree: with the first master's, with those along another chain of the same Close, and,
@@ -180,6 +189,20 @@ pub fn one_winner()
 /// its node's drift; forged datagrams or not.
 pub fn runs_steadily()
     ensures { (setting : Setting) (world : List Line) → Fits setting world → Steady setting world }
+{}
+
+/// What users read of clocks agrees as the clocks do, wherever a Close or a chain bounds them: within the same errors and
+/// drift, and what is still to be slewed on each. Where anything else bounds the clocks of two nodes that have booted,
+/// so it does what they show, forged datagrams or not.
+pub fn agreed_shown()
+    ensures clocks { (setting : Setting) (world : List Line) → Fits setting world → Honest world → Life world → AgreedShown setting world }
+    ensures near { (setting : Setting) (world : List Line) → Fits setting world → ShownNear setting world }
+{}
+
+/// Who waits until his clock and another's can't be apart any more knows that what the other shows then is later than what
+/// his own showed before.
+pub fn stamps_in_order()
+    ensures { (setting : Setting) (world : List Line) → Fits setting world → Waited setting world }
 {}
 
 /// It meets its target: what is left to slew is less by a microsecond each 200 ticks. No deed can break this; it is how
