@@ -1,10 +1,10 @@
 -- What users read of clocks agrees where the clocks do.
-use Rattle.std.specs.Prelude.{◌≡◌, ◌≤◌, ◌≤ℤ◌, ℕ, ◌+◌, ◌-◌, ◌*◌, ℤ, pos, ◌+ℤ◌, ◌-ℤ◌, nat_abs, true, List, [], ◌∷◌, refl}
-use Rattle.std.proofs.Common.{sym, ap, arith, subst, inr, ◌∙◌}
+use Rattle.std.specs.Prelude.{◌≡◌, ◌≤◌, ◌≤ℤ◌, ℕ, ◌+◌, ◌-◌, ℤ, pos, ◌+ℤ◌, ◌-ℤ◌, nat_abs, true, List, [], ◌∷◌}
+use Rattle.std.proofs.Common.{arith, subst}
 use Rattle.std.proofs.lemmas.Int.{ints}
 use Rattle.tsp_promises.specs.Agreed.{Cast, Unchanged}
-use Rattle.tsp_promises.specs.AgreedShown.{AgreedShown, AcrossShown, DownShown, MasterShown, PeersShown, ShownAgree, ShownAsClocks, ShownNear, ShownWithin, TreeShown, Waited, WaitedFor}
-use Rattle.tsp_promises.specs.Chained.{Hop, Hops, IsChain, bound, hop_bound, last_hop, node_at}
+use Rattle.tsp_promises.specs.AgreedShown.{AgreedShown, AcrossShown, DownShown, MasterShown, PeersShown, ShownAgree, ShownAsClocks, ShownNear, TreeShown, Waited, WaitedFor}
+use Rattle.tsp_promises.specs.Chained.{Hop, Hops, IsChain, last_hop, node_at}
 use Rattle.tsp_promises.specs.ClockAt.{clock_at}
 use Rattle.tsp_promises.specs.Fits.{Alive, Fits, node_of}
 use Rattle.tsp_base.specs.History.{Line, of, dids}
@@ -12,8 +12,7 @@ use Rattle.tsp_base.specs.NodeFacts.{time_of, up}
 use Rattle.tsp_base.specs.Places.{Within}
 use Rattle.tsp_promises.specs.Setting.{Setting}
 use Rattle.tsp_promises.specs.ShownAt.{left_at, shown_at}
-use Rattle.tsp_promises.specs.Steady.{Steady, shown_width}
-use Rattle.tsp_base.specs.Ticks.{width}
+use Rattle.tsp_promises.specs.Steady.{shown_width}
 use Rattle.tsp_base.proofs.PlaceLemmas.{Within-through, Within-tail}
 use Rattle.tsp_promises.proofs.AgreedProof.{agreed_master, agreed_peers}
 use Rattle.tsp_promises.proofs.ChainedProof.{chained_at}
@@ -61,27 +60,27 @@ last-up setting m first (x ∷ rest) h f a c = hop-up setting (node_at (last_hop
 peers : (setting : Setting) (h : List Line) (t : ℕ) → Given setting h → time_of (dids h) ≤ t → PeersShown setting h t
 peers setting h t g by m close cpast c d past qast r q rolder qolder e f x y u v =
     shown-as-clocks setting h t g.fits (node_of c) (node_of d) _ (corrected-up setting m close cpast c past r rolder e h g.fits x u) (corrected-up setting m close cpast d qast q qolder f h g.fits y v)
-        (agreed_peers setting h t g by m close cpast c d past qast r q rolder qolder e f x y u v)
+    (agreed_peers setting h t g by m close cpast c d past qast r q rolder qolder e f x y u v)
 
 master : (setting : Setting) (h : List Line) (t : ℕ) → Given setting h → time_of (dids h) ≤ t → MasterShown setting h t
 master setting h t g by m close cpast c past r rolder e x u v =
     shown-as-clocks setting h t g.fits (node_of c) m _ (corrected-up setting m close cpast c past r rolder e h g.fits x u) (master-up setting m close cpast c past r rolder e h g.fits x u)
-        (agreed_master setting h t g by m close cpast c past r rolder e x u v)
+    (agreed_master setting h t g by m close cpast c past r rolder e x u v)
 
 down : (setting : Setting) (h : List Line) (t : ℕ) → Given setting h → time_of (dids h) ≤ t → DownShown setting h t
 down setting h t g by m first rest a c but =
     shown-as-clocks setting h t g.fits (node_at (last_hop first rest)) m _ (last-up setting m first rest h g.fits a c) (hop-master setting m first h g.fits a)
-        ((chained_at setting h t g by).down m first rest a c but)
+    ((chained_at setting h t g by).down m first rest a c but)
 
 across : (setting : Setting) (h : List Line) (t : ℕ) → Given setting h → time_of (dids h) ≤ t → AcrossShown setting h t
 across setting h t g by m a b xs ys x y close cpast c d =
     shown-as-clocks setting h t g.fits (node_at (last_hop a xs)) (node_at (last_hop b ys)) _ (last-up setting m a xs h g.fits x c) (last-up setting m b ys h g.fits y d)
-        ((chained_at setting h t g by).across m a b xs ys x y close cpast c d)
+    ((chained_at setting h t g by).across m a b xs ys x y close cpast c d)
 
 tree : (setting : Setting) (h : List Line) (t : ℕ) → Given setting h → time_of (dids h) ≤ t → TreeShown setting h t
 tree setting h t g by n a b xs ys x y u v c d =
     shown-as-clocks setting h t g.fits (node_at (last_hop a xs)) (node_at (last_hop b ys)) _ (last-up setting n a xs h g.fits x c) (last-up setting n b ys h g.fits y d)
-        ((chained_at setting h t g by).tree n a b xs ys x y u v c d)
+    ((chained_at setting h t g by).tree n a b xs ys x y u v c d)
 
 pub agreed_shown : (setting : Setting) (world : List Line) → Given setting world → AgreedShown setting world
 agreed_shown setting world g = Everywhere-from (λ (l : Line) (s : List Line). (t : ℕ) → l.did.step.at ≤ t → ShownAgree setting (l ∷ s) t) world (λ l s w t by.
@@ -100,7 +99,7 @@ waited-for setting h f k l s t d b u r near =
     let e : t + d - t ≡ d = omega arith in
     let run = runs_over_time setting h f l s t (t + d) u r in
     let there : nat_abs ((shown_at setting l h (t + d) -ℤ shown_at setting l s t) -ℤ pos d) ≤ shown_width setting.drift d =
-        subst (λ z. nat_abs ((shown_at setting l h (t + d) -ℤ shown_at setting l s t) -ℤ pos z) ≤ shown_width setting.drift z) e run in
+    subst (λ z. nat_abs ((shown_at setting l h (t + d) -ℤ shown_at setting l s t) -ℤ pos z) ≤ shown_width setting.drift z) e run in
     waits (shown_at setting k s t) (shown_at setting l s t) (shown_at setting l h (t + d)) b d (shown_width setting.drift d) there near
 
 pub waited : (setting : Setting) (world : List Line) → Fits setting world → Waited setting world

@@ -58,7 +58,7 @@ down setting h t given by m first rest a c but =
     let one = lower setting h t given by m first rest a c in
     let two = agreed_master setting h t given by m first.close first.cpast first.correct first.past first.reading first.older first.err a.cast a.unchanged but in
     let z : pos (nat_abs (clock_at setting (node_at (last_hop first rest)) h t -ℤ clock_at setting m h t)) ≤ℤ (hop_bound setting t first +ℤ bound setting t rest) =
-        two-off (clock_at setting (node_at (last_hop first rest)) h t) (clock_at setting (node_at first) h t) (clock_at setting m h t) (hop_bound setting t first) (bound setting t rest) one two in
+    two-off (clock_at setting (node_at (last_hop first rest)) h t) (clock_at setting (node_at first) h t) (clock_at setting m h t) (hop_bound setting t first) (bound setting t rest) one two in
     omega (arith, ints, z)
 
 across-sum : (a b c d x y e f : ℤ) (w v : ℕ) → pos (nat_abs (a -ℤ b)) ≤ℤ x → pos (nat_abs (b -ℤ c)) ≤ℤ ((e +ℤ f) +ℤ pos (w + v)) → pos (nat_abs (d -ℤ c)) ≤ℤ y → pos (nat_abs (a -ℤ d)) ≤ℤ ((x +ℤ (e +ℤ pos w)) +ℤ (y +ℤ (f +ℤ pos v)))
@@ -69,10 +69,10 @@ across setting h t given by m a b xs ys x y close cpast c d =
     let one = lower setting h t given by m a xs x c in
     let two = lower setting h t given by m b ys y d in
     let cast_b : Cast m a.close a.cpast b.correct b.past b.reading b.older b.err =
-        subst (λ z. Cast m z a.cpast b.correct b.past b.reading b.older b.err) (sym close) (subst (λ z. Cast m b.close z b.correct b.past b.reading b.older b.err) (sym cpast) y.cast) in
+    subst (λ z. Cast m z a.cpast b.correct b.past b.reading b.older b.err) (sym close) (subst (λ z. Cast m b.close z b.correct b.past b.reading b.older b.err) (sym cpast) y.cast) in
     let tops = agreed_peers setting h t given by m a.close a.cpast a.correct b.correct a.past b.past a.reading b.reading a.older b.older a.err b.err x.cast cast_b x.unchanged y.unchanged in
     across-sum (clock_at setting (node_at (last_hop a xs)) h t) (clock_at setting (node_at a) h t) (clock_at setting (node_at b) h t) (clock_at setting (node_at (last_hop b ys)) h t)
-        (bound setting t xs) (bound setting t ys) a.err b.err (2 * width setting.drift (t - a.reading.did.step.at)) (2 * width setting.drift (t - b.reading.did.step.at)) one tops two
+    (bound setting t xs) (bound setting t ys) a.err b.err (2 * width setting.drift (t - a.reading.did.step.at)) (2 * width setting.drift (t - b.reading.did.step.at)) one tops two
 
 -- two clocks near a third
 both-off : (a b c x y : ℤ) → pos (nat_abs (a -ℤ c)) ≤ℤ x → pos (nat_abs (b -ℤ c)) ≤ℤ y → pos (nat_abs (a -ℤ b)) ≤ℤ (x +ℤ y)
@@ -81,7 +81,7 @@ both-off a b c x y h k = omega (arith, ints)
 tree : (setting : Setting) (h : List Line) (t : ℕ) → Given setting h → time_of (dids h) ≤ t → TreeAgrees setting h t
 tree setting h t given by g a b xs ys x y u v c d =
     both-off (clock_at setting (node_at (last_hop a xs)) h t) (clock_at setting (node_at (last_hop b ys)) h t) (clock_at setting g h t) (bound setting t xs +ℤ hop_bound setting t a) (bound setting t ys +ℤ hop_bound setting t b)
-        (down setting h t given by g a xs x c u) (down setting h t given by g b ys y d v)
+    (down setting h t given by g a xs x c u) (down setting h t given by g b ys y d v)
 
 -- at a place
 pub chained_at : (setting : Setting) (h : List Line) (t : ℕ) → Given setting h → time_of (dids h) ≤ t → ChainedAt setting h t

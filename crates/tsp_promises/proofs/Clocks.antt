@@ -17,7 +17,7 @@ pub ticks_over : (setting : Setting) (n a b : ℕ) → a ≤ b → (tick_at (set
 ticks_over setting n a b o =
     let e : a + (b - a) ≡ b = omega arith in
     subst (λ w. (tick_at (setting.rate n) w ≤ tick_at (setting.rate n) a + (b - a) + width setting.drift (b - a)) × (tick_at (setting.rate n) a + (b - a) ≤ tick_at (setting.rate n) w + width setting.drift (b - a))) e
-        (tick_at-width (setting.rate n) setting.drift a (b - a) (setting.rates n) setting.small)
+    (tick_at-width (setting.rate n) setting.drift a (b - a) (setting.rates n) setting.small)
 
 -- what one clock gains on another
 pub drift_apart : (setting : Setting) (n m s t : ℕ) → s ≤ t →

@@ -2,16 +2,14 @@
 use Rattle.std.specs.Prelude.{◌≡◌, ◌≤◌, ◌≤ℤ◌, ℕ, ◌+◌, ◌-◌, ◌*◌, ℤ, pos, ◌+ℤ◌, ◌-ℤ◌, true, List, ◌∷◌, refl}
 use Rattle.std.proofs.Common.{sym, ap, arith, subst, subst₂, mul-le-mul_left, ◌∙◌}
 use Rattle.std.proofs.lemmas.Int.{ints}
-use Rattle.tsp_base.specs.declared.act.Act.TheVariants.{Correct, Post}
 use Rattle.tsp_base.specs.declared.constants.TheConstants.{LAST, LIFE}
 use Rattle.tsp_base.specs.declared.datagram.Datagram.TheVariants.{Message}
 use Rattle.tsp_base.specs.declared.place.Place.TheVariants.{Peer}
-use Rattle.tsp_promises.specs.ClockAt.{clock_at}
 use Rattle.tsp_promises.specs.CorrectFits.{amount_of}
 use Rattle.tsp_promises.specs.FirstSet.{BehindAtOnce, BehindBy, FirstSet, FirstSetAt, FirstSetSoon, SetBy, behind}
 use Rattle.tsp_promises.specs.Fits.{Alive, Fits, node_of}
-use Rattle.tsp_base.specs.History.{Acts, Did, Line, of, dids, plain, view}
-use Rattle.tsp_base.specs.NodeFacts.{base, moved, target, up}
+use Rattle.tsp_base.specs.History.{Did, Line, of, dids, plain, view}
+use Rattle.tsp_base.specs.NodeFacts.{moved, target, up}
 use Rattle.tsp_base.specs.Places.{Within}
 use Rattle.tsp_promises.specs.Premises.{Life, TakenWithinAt}
 use Rattle.tsp_promises.specs.Setting.{Setting}
@@ -65,17 +63,17 @@ set setting m c past h f s =
     let f_at : d.begins.first.step.at ≡ t.first.step.at = ap (λ (z : Did). z.step.at) d.first_is in
     let f_tick : t.first.tick ≡ tick_at (setting.rate m) t.first.step.at = subst (λ (z : Did). z.tick ≡ tick_at (setting.rate m) z.step.at) d.first_is (tick_in setting m line fw h f node line_h) in
     let time : time_in t.acts.brings.message.body ≡ (setting.wall m +ℤ moved (dids (of m h))) +ℤ pos (tick_at (setting.rate m) t.first.step.at) =
-        ((d.fits.sets s.sets).time ∙ subst₂ (λ b x. target (plain t.begun) t.first.tick ≡ target b x) begun f_tick refl)
-        ∙ (sym (clock_target setting m fw t.first.step.at (fits_at setting fw h f fw_h) m_up) ∙ ap (λ z. (setting.wall m +ℤ z) +ℤ pos (tick_at (setting.rate m) t.first.step.at)) m_moved) in
+    ((d.fits.sets s.sets).time ∙ subst₂ (λ b x. target (plain t.begun) t.first.tick ≡ target b x) begun f_tick refl)
+    ∙ (sym (clock_target setting m fw t.first.step.at (fits_at setting fw h f fw_h) m_up) ∙ ap (λ z. (setting.wall m +ℤ z) +ℤ pos (tick_at (setting.rate m) t.first.step.at)) m_moved) in
     -- the node that is set
     let k_up : up (dids (of k past)) ≡ true = subst (λ z. Alive setting z c.did (up (dids (of k past)))) t.acts.correct fc.0.alive in
     let seen : plain (view c.port (of k past)) ≡ dids (of k past) = plain_view c.port (of k past) in
     let amount : t.acts.amount ≡ time_in t.acts.brings.message.body -ℤ ((setting.wall k +ℤ moved (dids (of k past))) +ℤ pos (tick_at (setting.rate k) c.did.step.at)) =
-        d.acting.takes.amount_is ∙ (ap (λ z. amount_of z (time_in t.acts.brings.message.body) (target (plain (view c.port (of k past))) c.did.tick)) s.sets
-        ∙ ap (λ z. time_in t.acts.brings.message.body -ℤ z) (subst₂ (λ b x. target (plain (view c.port (of k past))) c.did.tick ≡ target b x) seen fc.0.tick refl ∙ sym (clock_target setting k past c.did.step.at fc.1 k_up))) in
+    d.acting.takes.amount_is ∙ (ap (λ z. amount_of z (time_in t.acts.brings.message.body) (target (plain (view c.port (of k past))) c.did.tick)) s.sets
+    ∙ ap (λ z. time_in t.acts.brings.message.body -ℤ z) (subst₂ (λ b x. target (plain (view c.port (of k past))) c.did.tick ≡ target b x) seen fc.0.tick refl ∙ sym (clock_target setting k past c.did.step.at fc.1 k_up))) in
     let moves = correct-moves c.did (dids (of k past)) t.acts.amount t.acts.stepped t.acts.shown t.acts.correct in
     let k_moved : moved (dids (of k h)) ≡ moved (dids (of k past)) +ℤ t.acts.amount =
-        sym (unmoved setting k (c ∷ past) h f s.unchanged.within s.unchanged.since) ∙ (ap (λ w. moved (dids w)) (of-own k c past refl) ∙ moves.moved_is) in
+    sym (unmoved setting k (c ∷ past) h f s.unchanged.within s.unchanged.since) ∙ (ap (λ w. moved (dids w)) (of-own k c past refl) ∙ moves.moved_is) in
     let post_tick : t.post.did.tick ≡ tick_at (setting.rate m) t.post.did.step.at = tick_in setting m t.post t.before past fc.1 t.node post_in in
     let after = place-time setting (t.post ∷ t.before) past fc.1 post_in in
     record {

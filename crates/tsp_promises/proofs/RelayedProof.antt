@@ -27,7 +27,7 @@ relay_agrees setting h t down g m close shut cpast spast c d past qast r q rolde
     let one : Hops m first h = record { cast = y; unchanged = v } in
     let two : Hops (node_of d) second h = record { cast = subst (λ k. Cast k close cpast c past r rolder e) (sym d_node) x; unchanged = u } in
     two-links (nat_abs (clock_at setting (node_of c) h t -ℤ clock_at setting m h t)) e f (2 * width setting.drift (t - q.did.step.at)) (2 * width setting.drift (t - r.did.step.at))
-        (down m first (second ∷ []) one (two, d_in, tt) n)
+    (down m first (second ∷ []) one (two, d_in, tt) n)
 
 pub relayed : (setting : Setting) (h : List Line) → Given setting h → Relayed setting h
 relayed setting h g = Everywhere-from (λ (l : Line) (s : List Line). (t : ℕ) → l.did.step.at ≤ t → RelayAgrees setting (l ∷ s) t) h (λ l s w t by. relay_agrees setting (l ∷ s) t (chained_at setting (l ∷ s) t (given_at setting (l ∷ s) h g w) by).down)

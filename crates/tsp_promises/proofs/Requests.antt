@@ -102,9 +102,9 @@ request-life setting n q t a b p r w c v d f x y i why =
     elim s.life [
       | inl o ↦ o.lives
       | inr o ↦ absurd (elim why [
-          | inl soon ↦ (let k = m.most in omega (arith, o.boot))
-          | inr words ↦ words-one setting n q t a b p r w c v d f words.0 x y i o.lives words.1
-        ])
+        | inl soon ↦ (let k = m.most in omega (arith, o.boot))
+        | inr words ↦ words-one setting n q t a b p r w c v d f words.0 x y i o.lives words.1
+      ])
     ]
 
 -- a request of this life of its node is named by its port and counter, among the requests of that life and those that can't be of another one

@@ -1,13 +1,11 @@
 -- What a booted node's clock shows.
-use Rattle.std.specs.Prelude.{◌≡◌, true, ℕ, ◌+◌, ℤ, pos, ◌+ℤ◌, ◌-ℤ◌, ◌≤ℤ◌, nat_abs, List, [], ◌∷◌, refl}
-use Rattle.std.proofs.Common.{sym, ap, arith, subst, inl, inr, ◌∙◌}
-use Rattle.std.proofs.lemmas.Int.{ints}
-use Rattle.tsp_base.specs.declared.act.Act.{Act}
+use Rattle.std.specs.Prelude.{◌≡◌, true, ℕ, ◌-ℤ◌, List, [], ◌∷◌, refl}
+use Rattle.std.proofs.Common.{sym, ap, subst, inl, inr}
 use Rattle.tsp_base.specs.declared.act.Act.TheVariants.{Boot}
 use Rattle.tsp_promises.specs.ClockAt.{clock_at}
-use Rattle.tsp_promises.specs.Fits.{Fits, node_of}
-use Rattle.tsp_base.specs.History.{Deed, Begins, Acts, Line, of, dids}
-use Rattle.tsp_base.specs.NodeFacts.{moved, rest_at, target, up, up_after}
+use Rattle.tsp_promises.specs.Fits.{Fits}
+use Rattle.tsp_base.specs.History.{Deed, Acts, Line, of, dids}
+use Rattle.tsp_base.specs.NodeFacts.{rest_at, target, up, up_after}
 use Rattle.tsp_base.specs.Places.{Within}
 use Rattle.tsp_promises.specs.Setting.{Setting}
 use Rattle.tsp_promises.specs.ShownAt.{left_at, shown_at}

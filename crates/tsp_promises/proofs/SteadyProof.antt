@@ -120,17 +120,17 @@ steadily setting n (l ∷ b) s x y f (inl e) j none a next z k =
 steadily setting n (l ∷ b) s x y f (inr i) j none a next z k =
     by-node (λ v same by o. steadily setting n b s x v f.1 i same (none-stepped n l b s none) a (next-less n x l b s next) by o) (node_of l == n) refl
   where
-  by-node : ((v : ℕ) → lives (dids (of n s)) ≡ lives (dids (of n b)) → tick_of (dids (of n b)) ≤ v → x ≤ v → Near (shown (dids (of n s)) x) (shown (dids (of n b)) v) x v) →
-      (c : Bool) → (node_of l == n) ≡ c → Near (shown (dids (of n s)) x) (shown (dids (of n (l ∷ b))) y) x y
-  by-node earlier true e =
-      let node : node_of l ≡ n = eqb-true (node_of l) n e in
-      let own : of n (l ∷ b) ≡ l ∷ of n b = of-own n l b node in
-      subst (λ u. Near (shown (dids (of n s)) x) (shown (dids u) y) x y) (sym own)
-          (own-line setting n l b s x y node (subst (λ u. OwnFits setting u) own (own_fits setting n (l ∷ b) f)) i (subst (λ u. lives (dids (of n s)) ≡ lives (dids u)) own j) none next (subst (λ u. tick_of (dids u) ≤ y) own z) k earlier)
-  by-node earlier false e =
-      let other : of n (l ∷ b) ≡ of n b = of-other n l b e in
-      subst (λ u. Near (shown (dids (of n s)) x) (shown (dids u) y) x y) (sym other)
-          (earlier y (subst (λ u. lives (dids (of n s)) ≡ lives (dids u)) other j) (subst (λ u. tick_of (dids u) ≤ y) other z) k)
+    by-node : ((v : ℕ) → lives (dids (of n s)) ≡ lives (dids (of n b)) → tick_of (dids (of n b)) ≤ v → x ≤ v → Near (shown (dids (of n s)) x) (shown (dids (of n b)) v) x v) →
+        (c : Bool) → (node_of l == n) ≡ c → Near (shown (dids (of n s)) x) (shown (dids (of n (l ∷ b))) y) x y
+    by-node earlier true e =
+        let node : node_of l ≡ n = eqb-true (node_of l) n e in
+        let own : of n (l ∷ b) ≡ l ∷ of n b = of-own n l b node in
+        subst (λ u. Near (shown (dids (of n s)) x) (shown (dids u) y) x y) (sym own)
+        (own-line setting n l b s x y node (subst (λ u. OwnFits setting u) own (own_fits setting n (l ∷ b) f)) i (subst (λ u. lives (dids (of n s)) ≡ lives (dids u)) own j) none next (subst (λ u. tick_of (dids u) ≤ y) own z) k earlier)
+    by-node earlier false e =
+        let other : of n (l ∷ b) ≡ of n b = of-other n l b e in
+        subst (λ u. Near (shown (dids (of n s)) x) (shown (dids u) y) x y) (sym other)
+        (earlier y (subst (λ u. lives (dids (of n s)) ≡ lives (dids u)) other j) (subst (λ u. tick_of (dids u) ≤ y) other z) k)
 
 advances : (early late : ℤ) (x y : ℕ) → Near early late x y → Advances early late (y - x)
 advances early late x y n = record { rate = omega (arith, n); never_back = omega (arith, ints, n); rises = λ two. omega (arith, ints, n) }
@@ -159,9 +159,9 @@ runs_over_time setting h f n s a b u r =
     let to_b = tick-mono setting n (time_of (dids (of n h))) b r.to in
     let order = tick-mono setting n a b r.order in
     let next : NextFrom n (tick_at rate a) s h = λ l before w v node.
-        let t = tick_in setting n l before h f node w in
-        let m = tick-mono setting n a l.did.step.at (r.next l before w v node) in
-        omega (arith, t, m) in
+    let t = tick_in setting n l before h f node w in
+    let m = tick-mono setting n a l.did.step.at (r.next l before w v node) in
+    omega (arith, t, m) in
     let near = steadily setting n h s (tick_at rate a) (tick_at rate b) f u.within u.lives u.none (omega (arith, from, from_a)) next (omega (arith, to, to_b)) order in
     let t = ticks_over setting n a b r.order in
     over (shown_at setting n s a) (shown_at setting n h b) (tick_at rate a) (tick_at rate b) (b - a) (width setting.drift (b - a)) near order t.0 t.1
@@ -184,7 +184,7 @@ none-left a b e = omega (arith, ints)
 meets-by : (ds : List Did) (y : ℕ) → MeetsBy ds y
 meets-by ds y =
     let left : nat_abs (shown ds y -ℤ target ds y) ≡ nat_abs (rest ds) - (y - last_correct ds) / 200 =
-        off-target (target ds y) (eased (rest ds) ((y - last_correct ds) / 200)) ∙ eased-abs (rest ds) ((y - last_correct ds) / 200) in
+    off-target (target ds y) (eased (rest ds) ((y - last_correct ds) / 200)) ∙ eased-abs (rest ds) ((y - last_correct ds) / 200) in
     record { left = left; met = λ late. none-left (shown ds y) (target ds y) (let z : nat_abs (rest ds) - (y - last_correct ds) / 200 ≡ 0 = omega (arith, late) in left ∙ z) }
 
 pub meets : (world : List Line) → Meets world

@@ -7,7 +7,6 @@ use Rattle.tsp_promises.specs.Everywhere.{Everywhere}
 use Rattle.tsp_promises.specs.Fits.{node_of}
 use Rattle.tsp_base.specs.History.{Line, of, dids}
 use Rattle.tsp_base.specs.NodeFacts.{up}
-use Rattle.tsp_base.specs.Places.{Within}
 use Rattle.tsp_promises.specs.Setting.{Setting}
 use Rattle.tsp_promises.specs.ShownAt.{left_at, shown_at}
 use Rattle.tsp_promises.specs.Steady.{ReadAt, Unstepped, shown_width}
