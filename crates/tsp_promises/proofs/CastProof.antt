@@ -42,7 +42,7 @@ cast_kind setting m close cpast c past r rolder err g x =
     one-kind x.message b.message (posts-same k k b.message x.message (sym s.sends.deed ∙ (ap (λ (z : Did). z.deed) first_is ∙ x.begins))).1 x.kind
 
 -- a Cast takes a correction
-abbrev taking_of : (m : ℕ) (close : Line) (cpast : List Line) (c : Line) (past : List Line) (r : Line) (rolder : List Line) (err : ℤ) (x : Cast m close cpast c past r rolder err) → x.acts.brings.message.kind ≡ AdjTime → Taking m c past
+abbrev pub taking_of : (m : ℕ) (close : Line) (cpast : List Line) (c : Line) (past : List Line) (r : Line) (rolder : List Line) (err : ℤ) (x : Cast m close cpast c past r rolder err) → x.acts.brings.message.kind ≡ AdjTime → Taking m c past
 taking_of m close cpast c past r rolder err x kind = record {
   post = x.post;
   before = x.before;
@@ -55,7 +55,7 @@ taking_of m close cpast c past r rolder err x kind = record {
 }
 
 -- and rests on its reading
-abbrev reading_of : (m : ℕ) (close : Line) (cpast : List Line) (c : Line) (past : List Line) (r : Line) (rolder : List Line) (err : ℤ) (x : Cast m close cpast c past r rolder err) (kind : x.acts.brings.message.kind ≡ AdjTime) →
+abbrev pub reading_of : (m : ℕ) (close : Line) (cpast : List Line) (c : Line) (past : List Line) (r : Line) (rolder : List Line) (err : ℤ) (x : Cast m close cpast c past r rolder err) (kind : x.acts.brings.message.kind ≡ AdjTime) →
     FromReading m c past (taking_of m close cpast c past r rolder err x kind) close cpast r rolder
 reading_of m close cpast c past r rolder err x kind = record {
   none = inl kind;

@@ -9,7 +9,9 @@ pub mod AskedProof
 mod BackedProof
 pub mod BecameProof
 pub mod BestProof
+pub mod BrokenChains
 pub mod BrokenClocks
+pub mod BrokenReadings
 pub mod BrokenRoles
 pub mod BrokenSends
 pub mod CastBy
@@ -78,6 +80,7 @@ pub mod PortFits
 pub mod PortLists
 pub mod PostLeaves
 pub mod PremiseChecks
+pub mod ReadingChecks
 pub mod ReadingProof
 pub mod RelayedProof
 pub mod ResolvedProof
@@ -127,6 +130,7 @@ pub mod WitnessLead
 pub mod WitnessLife
 pub mod WitnessRelay
 pub mod WitnessRivals
+pub mod WitnessSets
 pub mod WitnessStrict
 pub mod WitnessUse
 pub mod WordsProof
