@@ -124,12 +124,14 @@ pub mod VoteLeads
 mod VoteProof
 pub mod WindowLeads
 pub mod WitnessCasts
+pub mod WitnessChain
 pub mod WitnessDates
 pub mod WitnessDebts
 pub mod WitnessLead
 pub mod WitnessLife
 pub mod WitnessRelay
 pub mod WitnessRivals
+pub mod WitnessRow
 pub mod WitnessSets
 pub mod WitnessStrict
 pub mod WitnessUse

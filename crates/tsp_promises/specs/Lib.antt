@@ -4,6 +4,7 @@ pub mod AgreedShown
 pub mod Alone
 pub mod Became
 pub mod Broken
+pub mod ChainUse
 pub mod Chained
 pub mod ClockAt
 pub mod CorrectFits

@@ -29,6 +29,7 @@ ghost use Rattle.tsp_promises.specs.RivalsMeet.{RivalsMeet};
 ghost use Rattle.tsp_promises.specs.Steady.{Meets, Steady};
 ghost use Rattle.tsp_promises.specs.StrictElections.{StrictElections};
 ghost use Rattle.tsp_promises.specs.AgreedShown.{AgreedShown, ShownNear, Waited};
+ghost use Rattle.tsp_promises.specs.ChainUse.{ChainUse};
 
 /// All promises of a history that ends with a step, each under the premises that it needs.
 pub fn safe()
@@ -148,6 +149,12 @@ pub fn ordinary_use()
 /// a third node by the other.
 pub fn relayed_use()
     ensures { Relays }
+{}
+
+/// Nor are those of chains: a history that fits sees a master correct a gateway, that one a second one, and that one a last
+/// node.
+pub fn chain_use()
+    ensures { ChainUse }
 {}
 
 /// A history that fits sees dates passed on and set, in two lives of a master. Where forged octets come between, one
