@@ -5,8 +5,8 @@ use Rattle.std.proofs.lemmas.Int.{ints}
 use Rattle.tsp_base.specs.declared.act.Act.TheVariants.{Correct, Post, Sample, Took}
 use Rattle.tsp_base.specs.declared.datagram.Datagram.TheVariants.{Message, Stamp}
 use Rattle.tsp_base.specs.declared.datagram.Taken.TheVariants.{Good}
-use Rattle.tsp_base.specs.declared.kind.Kind.TheVariants.{AdjTime, SetTime, SlaveUp}
-use Rattle.tsp_base.specs.declared.message.Body.TheVariants.{Nothing, Time}
+use Rattle.tsp_base.specs.declared.kind.Kind.TheVariants.{AdjTime, SetTime}
+use Rattle.tsp_base.specs.declared.message.Body.TheVariants.{Time}
 use Rattle.tsp_base.specs.declared.place.Place.TheVariants.{Peer}
 use Rattle.tsp_base.specs.declared.stamp.Stamp.TheVariants.{Reply}
 use Rattle.tsp_promises.specs.Agreed.{Cast}
@@ -14,7 +14,7 @@ use Rattle.tsp_promises.specs.Broken.{AllBreak, Breaks, ChainsBreak}
 use Rattle.tsp_promises.specs.Chained.{Chained, Hop, Hops}
 use Rattle.tsp_promises.specs.FirstSet.{FirstSet, FirstSetSoon, SetBy}
 use Rattle.tsp_base.specs.History.{Came, Turned, Line, of, view}
-use Rattle.tsp_promises.specs.OneError.{FromSlaveUp, OneError, Taking}
+use Rattle.tsp_promises.specs.OneError.{OneError}
 use Rattle.tsp_base.specs.Takings.{peer_of}
 use Rattle.tsp_promises.proofs.BrokenClocks.{clocks_break, left_alone, relays_wrong, stray, strays, wrong}
 use Rattle.tsp_promises.proofs.BrokenReadings.{readings_break}
@@ -42,7 +42,7 @@ down = record {
       let near : Hops 0 near-hop wrong = record { cast = near-cast; unchanged = record { within = skipped 21 wrong; since = record { corrects = refl; lives = refl } } } in
       let far : Hops 1 wrong-hop wrong = record { cast = far-cast (pos 5000000) false (pos 0); unchanged = record { within = inl refl; since = record { corrects = refl; lives = refl } } } in
       let k : pos 5000048 ≤ℤ pos 806 = (h.0 508000400 (omega arith)).down 0 near-hop (wrong-hop ∷ []) near (far, skipped 16 (skip 2 g25), tt)
-          (record { lives = refl; corrects = inr (record { next = does 408000000 0 Turned (Correct (negsuc 49) false (pos 408000000)); before = skip 2 g19; is = refl; amount = negsuc 49; stepped = false; shown = pos 408000000; place = skipped 25 wrong; node = refl; deed = refl; corrects = refl }) }) in
+      (record { lives = refl; corrects = inr (record { next = does 408000000 0 Turned (Correct (negsuc 49) false (pos 408000000)); before = skip 2 g19; is = refl; amount = negsuc 49; stepped = false; shown = pos 408000000; place = skipped 25 wrong; node = refl; deed = refl; corrects = refl }) }) in
       omega (arith, ints);
 }
 

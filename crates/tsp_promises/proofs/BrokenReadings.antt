@@ -1,5 +1,5 @@
 -- Small histories that break the promises of what users read.
-use Rattle.std.specs.Prelude.{◌≤◌, ◌≤ℤ◌, false, true, ℕ, ℤ, pos, negsuc, List, [], ◌∷◌, refl}
+use Rattle.std.specs.Prelude.{◌≤◌, ◌≤ℤ◌, false, true, ℤ, pos, negsuc, List, [], ◌∷◌, refl}
 use Rattle.std.proofs.Common.{arith, inl}
 use Rattle.std.proofs.lemmas.Int.{ints}
 use Rattle.tsp_base.specs.declared.act.Act.TheVariants.{Boot, Correct}
@@ -36,7 +36,7 @@ agreed_shown = record {
   world = stray true;
   broken = λ h.
       let k : pos 5000001 ≤ℤ pos 534 = (h.0 408000500 (omega arith)).master 0 closing (skip 4 w19) (strays true) (skip 2 w21) answers (skip 1 w16) (pos 450) (second-cast (pos 5000000) true (pos 0))
-          (record { within = inl refl; since = record { corrects = refl; lives = refl } }) (left_alone true) in
+      (record { within = inl refl; since = record { corrects = refl; lives = refl } }) (left_alone true) in
       omega (arith, ints);
 }
 

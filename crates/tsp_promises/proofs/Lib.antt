@@ -129,6 +129,7 @@ pub mod WitnessDates
 pub mod WitnessDebts
 pub mod WitnessLead
 pub mod WitnessLife
+pub mod WitnessReadings
 pub mod WitnessRelay
 pub mod WitnessRivals
 pub mod WitnessRow

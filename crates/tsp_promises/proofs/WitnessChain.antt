@@ -1,5 +1,5 @@
 -- What is promised of chains isn't empty.
-use Rattle.std.specs.Prelude.{false, pos, negsuc, List, [], ◌∷◌, refl}
+use Rattle.std.specs.Prelude.{false, pos, negsuc, [], ◌∷◌, refl}
 use Rattle.std.proofs.Common.{arith, inr}
 use Rattle.tsp_base.specs.declared.act.Act.TheVariants.{Post, Sample, Close, Correct}
 use Rattle.tsp_base.specs.declared.datagram.Datagram.TheVariants.{Message, Stamp}

@@ -1,5 +1,5 @@
 -- A row of four nodes: the gateway's slave leads a network too, and corrects a last node.
-use Rattle.std.specs.Prelude.{◌≡◌, true, false, pos, negsuc, List, [], ◌∷◌, refl}
+use Rattle.std.specs.Prelude.{true, false, pos, negsuc, List, [], ◌∷◌, refl}
 use Rattle.std.proofs.Common.{sym, arith, inl, true≢false}
 use Rattle.std.proofs.lemmas.Int.{ints}
 use Rattle.tsp_base.specs.declared.act.Act.TheVariants.{Boot, Took, Post, Become, Back, Arm, Ring, Sample, Close, Correct, Acked}

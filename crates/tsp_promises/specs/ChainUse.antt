@@ -1,5 +1,5 @@
 -- A chain of three links: the promises of chains aren't empty.
-use Rattle.std.specs.Prelude.{◌≡◌, ◌≢◌, ◌≤◌, ℕ, List, length}
+use Rattle.std.specs.Prelude.{◌≢◌, ◌≤◌, ℕ, List, length}
 use Rattle.tsp_promises.specs.Agreed.{UnchangedBut}
 use Rattle.tsp_promises.specs.Chained.{Hop, Hops, IsChain, last_hop, node_at}
 use Rattle.tsp_base.specs.History.{Line}

@@ -39,8 +39,10 @@ pub mod Resolved
 pub mod RivalsMeet
 pub mod Runs
 pub mod Safe
+pub mod SetUse
 pub mod Setting
 pub mod ShownAt
+pub mod ShownUse
 pub mod Since
 pub mod Sound
 pub mod Steady

@@ -30,6 +30,8 @@ ghost use Rattle.tsp_promises.specs.Steady.{Meets, Steady};
 ghost use Rattle.tsp_promises.specs.StrictElections.{StrictElections};
 ghost use Rattle.tsp_promises.specs.AgreedShown.{AgreedShown, ShownNear, Waited};
 ghost use Rattle.tsp_promises.specs.ChainUse.{ChainUse};
+ghost use Rattle.tsp_promises.specs.ShownUse.{ShownUse};
+ghost use Rattle.tsp_promises.specs.SetUse.{SetUse};
 
 /// All promises of a history that ends with a step, each under the premises that it needs.
 pub fn safe()
@@ -155,6 +157,18 @@ pub fn relayed_use()
 /// node.
 pub fn chain_use()
     ensures { ChainUse }
+{}
+
+/// Nor are those of what users read: a history that fits sees a clock slewed until it meets its target, and a wait that is
+/// long enough.
+pub fn shown_use()
+    ensures { ShownUse }
+{}
+
+/// Nor are those of first settings and of single corrections: a history that fits sees a clock set by the answer to a SLAVEUP,
+/// and corrected by an ADJTIME that rests on a reading.
+pub fn set_use()
+    ensures { SetUse }
 {}
 
 /// A history that fits sees dates passed on and set, in two lives of a master. Where forged octets come between, one
