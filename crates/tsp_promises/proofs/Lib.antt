@@ -123,6 +123,7 @@ pub mod Upsets
 pub mod VoteLeads
 mod VoteProof
 pub mod WindowLeads
+pub mod WitnessAgain
 pub mod WitnessCasts
 pub mod WitnessChain
 pub mod WitnessDates
@@ -136,4 +137,5 @@ pub mod WitnessRow
 pub mod WitnessSets
 pub mod WitnessStrict
 pub mod WitnessUse
+pub mod WitnessWords
 pub mod WordsProof

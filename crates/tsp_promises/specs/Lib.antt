@@ -39,6 +39,7 @@ pub mod Resolved
 pub mod RivalsMeet
 pub mod Runs
 pub mod Safe
+pub mod SameWords
 pub mod SetUse
 pub mod Setting
 pub mod ShownAt

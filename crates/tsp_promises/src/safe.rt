@@ -32,6 +32,7 @@ ghost use Rattle.tsp_promises.specs.AgreedShown.{AgreedShown, ShownNear, Waited}
 ghost use Rattle.tsp_promises.specs.ChainUse.{ChainUse};
 ghost use Rattle.tsp_promises.specs.ShownUse.{ShownUse};
 ghost use Rattle.tsp_promises.specs.SetUse.{SetUse};
+ghost use Rattle.tsp_promises.specs.SameWords.{MeasuresWrongly, SameWords};
 
 /// All promises of a history that ends with a step, each under the premises that it needs.
 pub fn safe()
@@ -176,6 +177,14 @@ pub fn set_use()
 pub fn dates_pass()
     ensures used { DateUse }
     ensures forged { ForgedDate }
+{}
+
+/// Boots may have one word: a history that fits sees a master boot again with its old word and close a round in each of its
+/// lives, each of which corrects a node. Where a datagram outlives `LIFE` besides, a measurement goes wrong, so `measured`
+/// needs one of both.
+pub fn words_repeat()
+    ensures used { SameWords }
+    ensures late { MeasuresWrongly }
 {}
 
 /// A history that fits may bring a reply to a request of an earlier life; it ends no exchange, and so a Sample of it
