@@ -118,6 +118,7 @@ pub mod StopsProof
 pub mod TakenLeads
 pub mod TakingProof
 pub mod TargetFacts
+pub mod ThroughoutProof
 pub mod TripProof
 pub mod Upsets
 pub mod VoteLeads

@@ -21,6 +21,7 @@ use Rattle.tsp_promises.proofs.RelayedProof.{relayed}
 use Rattle.tsp_promises.proofs.ResolvedProof.{yields, stays_quiet}
 use Rattle.tsp_promises.proofs.SteadyProof.{meets, steady}
 use Rattle.tsp_promises.proofs.StopsProof.{stops_leading}
+use Rattle.tsp_promises.proofs.ThroughoutProof.{throughout}
 use Rattle.tsp_promises.proofs.TripProof.{trips}
 
 pub safe : (setting : Setting) (world : List Line) → Fits setting world → Finished world → Safe setting world
@@ -41,6 +42,7 @@ safe setting world f end = record {
   first_set = first_set setting world f;
   first_set_soon = first_set_soon setting world f;
   chained = λ honest life. chained setting world (record { fits = f; honest = honest; life = life });
+  throughout = λ honest life. throughout setting world (record { fits = f; honest = honest; life = life });
   relayed = λ honest life. relayed setting world (record { fits = f; honest = honest; life = life });
   resolved = record { yields = yields setting world f end; quiet = stays_quiet setting world f; stops = stops_leading setting world f end };
   steady = steady setting world f;

@@ -49,3 +49,4 @@ pub mod Sound
 pub mod Steady
 pub mod StepFacts
 pub mod StrictElections
+pub mod Throughout

@@ -15,6 +15,7 @@ use Rattle.tsp_promises.specs.Relayed.{Relayed}
 use Rattle.tsp_promises.specs.Resolved.{Resolved}
 use Rattle.tsp_promises.specs.Setting.{Setting}
 use Rattle.tsp_promises.specs.Steady.{Meets, Steady}
+use Rattle.tsp_promises.specs.Throughout.{Throughout}
 
 -- who is backed and who corrects is safe whatever is delivered; the rest rests on who sends and on how long datagrams live; a measurement, where they may live longer, on words of a node's boots that differ
 pub record Safe (setting : Setting) (world : List Line) : Type 0 where
@@ -34,6 +35,7 @@ pub record Safe (setting : Setting) (world : List Line) : Type 0 where
   pub first_set : FirstSet setting world
   pub first_set_soon : Life world → FirstSetSoon setting world
   pub chained : Honest world → Life world → Chained setting world
+  pub throughout : Honest world → Life world → Throughout setting world
   pub relayed : Honest world → Life world → Relayed setting world
   pub resolved : Resolved world
   pub steady : Steady setting world

@@ -33,6 +33,7 @@ ghost use Rattle.tsp_promises.specs.ChainUse.{ChainUse};
 ghost use Rattle.tsp_promises.specs.ShownUse.{ShownUse};
 ghost use Rattle.tsp_promises.specs.SetUse.{SetUse};
 ghost use Rattle.tsp_promises.specs.SameWords.{MeasuresWrongly, SameWords};
+ghost use Rattle.tsp_promises.specs.Throughout.{Throughout};
 
 /// All promises of a history that ends with a step, each under the premises that it needs.
 pub fn safe()
@@ -213,6 +214,12 @@ pub fn promises_can_be_broken()
 /// forged, no datagram outlives `LIFE`, and no port begins 32,768 sends with own numbers in one life of its node.
 pub fn one_winner()
     ensures { (setting : Setting) (world : List Line) → setting.strict ≡ true → Fits setting world → Honest world → Life world → Few world → OneWinner setting world }
+{}
+
+/// A round's bound never lapses: with what the two nodes were moved by since taken back, the clock of a node that a Close
+/// corrected and that of the master agree as they did, until either boots; so the clocks differ by at most that besides.
+pub fn throughout()
+    ensures { (setting : Setting) (world : List Line) → Fits setting world → Honest world → Life world → Throughout setting world }
 {}
 
 /// The clock that users read never falls between steps and boots, and is off in rate by at most one in two hundred, beside
