@@ -14,6 +14,7 @@ use Rattle.tsp_promises.specs.Broken.{AllBreak, Breaks, ChainsBreak}
 use Rattle.tsp_promises.specs.Chained.{Chained, Hop, Hops}
 use Rattle.tsp_promises.specs.FirstSet.{FirstSet, FirstSetSoon, SetBy}
 use Rattle.tsp_base.specs.History.{Came, Turned, Line, of, view}
+use Rattle.tsp_promises.specs.Throughout.{Throughout}
 use Rattle.tsp_promises.specs.OneError.{OneError}
 use Rattle.tsp_base.specs.Takings.{peer_of}
 use Rattle.tsp_promises.proofs.BrokenClocks.{clocks_break, left_alone, relays_wrong, stray, strays, wrong}
@@ -68,6 +69,15 @@ tree : Breaks (Chained (still false))
 tree = record {
   world = stray false;
   broken = λ h. (let k : pos 4999983 ≤ℤ pos 855 = (h.0 408000500 (omega arith)).tree 0 stray-hop first-hop [] [] stray-hops first-hops (left_alone false) (left_alone false) tt tt in omega (arith, ints));
+}
+
+throughout : Breaks (Throughout (still false))
+throughout = record {
+  world = stray false;
+  broken = λ h.
+      let k : pos 5000083 ≤ℤ pos 452 = (h.0 408000500 (omega arith) 0 closing (skip 4 w19) (negsuc 83) (strays false) (skip 2 w21) answers (skip 1 w16) (pos 450)
+          (record { cast = second-cast (pos 5000000) false (pos 0); within = inl refl; count = 3; lo = negsuc 150; size = pos 151; deed = refl; one_life = refl; one_life_master = refl })).taken_back in
+      omega (arith, ints);
 }
 
 -- another Correct before the one that takes the ADJTIME
@@ -127,7 +137,7 @@ first_set_soon = record {
 }
 
 chains_break : ChainsBreak (still false)
-chains_break = record { down = down; across = across; tree = tree; one_error = one_error; answered_late = answered_late; first_set = first_set; first_set_soon = first_set_soon }
+chains_break = record { down = down; across = across; tree = tree; throughout = throughout; one_error = one_error; answered_late = answered_late; first_set = first_set; first_set_soon = first_set_soon }
 
 -- each promise is broken by some history
 pub all_break : AllBreak

@@ -134,6 +134,7 @@ pub mod WitnessLife
 pub mod WitnessReadings
 pub mod WitnessRelay
 pub mod WitnessRivals
+pub mod WitnessRounds
 pub mod WitnessRow
 pub mod WitnessSets
 pub mod WitnessStrict

@@ -2,13 +2,12 @@
 use Rattle.std.specs.Prelude.{◌≡◌, ◌≤◌, ◌≤ℤ◌, ℕ, ◌-◌, ◌*◌, ℤ, pos, ◌+ℤ◌, ◌-ℤ◌, nat_abs, List, ◌∷◌, refl}
 use Rattle.std.proofs.Common.{arith, sym, subst, inl, ◌∙◌}
 use Rattle.std.proofs.lemmas.Int.{ints}
-use Rattle.tsp_base.specs.declared.act.Act.TheVariants.{Close}
 use Rattle.tsp_promises.specs.ClockAt.{clock_at}
 use Rattle.tsp_promises.specs.Fits.{node_of}
 use Rattle.tsp_base.specs.History.{Line, of, dids}
 use Rattle.tsp_base.specs.NodeFacts.{moved, time_of}
 use Rattle.tsp_promises.specs.Setting.{Setting}
-use Rattle.tsp_promises.specs.Throughout.{BoundAt, SinceClose, StillBound, Throughout}
+use Rattle.tsp_promises.specs.Throughout.{BoundAt, Throughout}
 use Rattle.tsp_base.specs.Ticks.{tick_at, width}
 use Rattle.tsp_promises.proofs.AgreedProof.{core}
 use Rattle.tsp_promises.proofs.CastProof.{Met, whole}

@@ -1,5 +1,5 @@
 -- After ordinary use the master boots again with its old word, leads again and closes another round.
-use Rattle.std.specs.Prelude.{◌≡◌, true, false, pos, negsuc, List, [], ◌∷◌, refl}
+use Rattle.std.specs.Prelude.{true, false, pos, negsuc, List, [], ◌∷◌, refl}
 use Rattle.std.proofs.Common.{sym, arith, inl, inr, true≢false}
 use Rattle.std.proofs.lemmas.Int.{ints}
 use Rattle.tsp_base.specs.declared.act.Act.TheVariants.{Boot, Took, Post, Become, Back, Arm, Ring, Sample, Close, Correct, Acked}

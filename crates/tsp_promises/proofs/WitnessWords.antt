@@ -1,26 +1,23 @@
 -- Boots with one word: promises that hold all the same, and a measurement that goes wrong where datagrams live long.
-use Rattle.std.specs.Prelude.{◌≡◌, ◌≤ℤ◌, ◌-ℤ◌, nat_abs, true, false, pos, negsuc, List, [], ◌∷◌, refl}
-use Rattle.std.proofs.Common.{sym, ap, arith, subst, inl, inr, true≢false, ◌∙◌}
+use Rattle.std.specs.Prelude.{◌≡◌, ◌≤ℤ◌, ◌-ℤ◌, nat_abs, false, pos, negsuc, List, [], ◌∷◌, refl}
+use Rattle.std.proofs.Common.{sym, arith, subst, inl, true≢false}
 use Rattle.std.proofs.lemmas.Int.{ints}
-use Rattle.tsp_base.specs.declared.act.Act.TheVariants.{Boot, Took, Post, Become, Back, Arm, Ring, Sample, Close, Correct, Acked}
+use Rattle.tsp_base.specs.declared.act.Act.TheVariants.{Boot, Took, Post, Become, Back, Arm, Ring, Sample, Close, Correct}
 use Rattle.tsp_base.specs.declared.act.Placed.{Placed}
 use Rattle.tsp_base.specs.declared.alarm.Alarm.TheVariants.{Close as AlarmClose, Elect, Round, Window}
 use Rattle.tsp_base.specs.declared.datagram.Datagram.TheVariants.{Message, Stamp}
 use Rattle.tsp_base.specs.declared.datagram.Taken.TheVariants.{Good}
-use Rattle.tsp_base.specs.declared.kind.Kind.TheVariants.{AdjTime, Ack, SetTime, SlaveUp}
-use Rattle.tsp_base.specs.declared.message.Body.TheVariants.{Nothing, Time}
+use Rattle.tsp_base.specs.declared.kind.Kind.TheVariants.{AdjTime}
+use Rattle.tsp_base.specs.declared.message.Body.TheVariants.{Time}
 use Rattle.tsp_base.specs.declared.place.Place.TheVariants.{Peer}
-use Rattle.tsp_base.specs.declared.role.Role.TheVariants.{Candidate, Follow, Master}
+use Rattle.tsp_base.specs.declared.role.Role.TheVariants.{Candidate, Master}
 use Rattle.tsp_base.specs.declared.stamp.Stamp.TheVariants.{Request, Reply}
-use Rattle.tsp_promises.specs.CorrectFits.{ByRound}
 use Rattle.tsp_promises.specs.Fits.{Fits}
 use Rattle.tsp_promises.specs.Agreed.{Cast}
 use Rattle.tsp_promises.specs.ClockAt.{clock}
 use Rattle.tsp_promises.specs.Measured.{Measured}
-use Rattle.tsp_promises.specs.SameWords.{MeasuresWrongly, Repeats, SameWords}
-use Rattle.tsp_base.specs.Places.{Within}
+use Rattle.tsp_promises.specs.SameWords.{MeasuresWrongly, SameWords}
 use Rattle.tsp_base.specs.History.{Booted, Came, Turned, Line, dids, of, view}
-use Rattle.tsp_base.specs.Stamps.{ReplyValue}
 use Rattle.tsp_base.specs.Takings.{peer_of, posted}
 use Rattle.tsp_promises.proofs.Histories.{line, msg, on, skip, skipped, step_at, still, then_step}
 use Rattle.tsp_promises.proofs.HistoriesFit.{all-finished, came, step-fits}

@@ -15,6 +15,7 @@ use Rattle.tsp_promises.specs.Relayed.{Relayed}
 use Rattle.tsp_promises.specs.Resolved.{StaysQuiet, StopsLeading, Yields}
 use Rattle.tsp_promises.specs.Setting.{Setting}
 use Rattle.tsp_promises.specs.Steady.{Steady}
+use Rattle.tsp_promises.specs.Throughout.{Throughout}
 
 -- some history breaks the promise
 pub record Breaks (Promise : List Line → Type 0) : Type 0 where
@@ -115,6 +116,8 @@ pub record ChainsBreak (setting : Setting) : Type 0 where
   pub across : Breaks (Chained setting)
   -- the same, over the master
   pub tree : Breaks (Chained setting)
+  -- a clock that moves by another amount than its ADJTIME says, whatever is taken back
+  pub throughout : Breaks (Throughout setting)
   -- an ADJTIME that acts on a clock which was corrected since the reading
   pub one_error : Breaks OneError
   -- a SETTIME that acts on a clock which was corrected since the SLAVEUP

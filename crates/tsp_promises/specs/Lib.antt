@@ -37,6 +37,7 @@ pub mod Relayed
 pub mod Relays
 pub mod Resolved
 pub mod RivalsMeet
+pub mod RoundsUse
 pub mod Runs
 pub mod Safe
 pub mod SameWords

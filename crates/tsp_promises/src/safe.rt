@@ -34,6 +34,7 @@ ghost use Rattle.tsp_promises.specs.ShownUse.{ShownUse};
 ghost use Rattle.tsp_promises.specs.SetUse.{SetUse};
 ghost use Rattle.tsp_promises.specs.SameWords.{MeasuresWrongly, SameWords};
 ghost use Rattle.tsp_promises.specs.Throughout.{Throughout};
+ghost use Rattle.tsp_promises.specs.RoundsUse.{RoundsUse};
 
 /// All promises of a history that ends with a step, each under the premises that it needs.
 pub fn safe()
@@ -171,6 +172,11 @@ pub fn shown_use()
 /// and corrected by an ADJTIME that rests on a reading.
 pub fn set_use()
     ensures { SetUse }
+{}
+
+/// Nor is the promise that a round's bound never lapses: a history that fits sees a second round move both clocks of the first.
+pub fn rounds_use()
+    ensures { RoundsUse }
 {}
 
 /// A history that fits sees dates passed on and set, in two lives of a master. Where forged octets come between, one
