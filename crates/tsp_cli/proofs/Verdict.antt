@@ -14,6 +14,7 @@ use Rattle.tsp_base.specs.History.{Line}
 use Rattle.tsp_promises.specs.Premises.{Honest, Life, Words}
 use Rattle.tsp_promises.specs.Safe.{Safe}
 use Rattle.tsp_promises.specs.Setting.{Setting}
+use Rattle.tsp_promises.proofs.WordsProof.{own_words}
 use Rattle.tsp_claims.specs.ClaimedHistory.{Claim, claimed, posts_of}
 use Rattle.tsp_cli.specs.AuditedRuns.{RunsHold, claims_of}
 use Rattle.tsp_run.specs.Ranges.{Accepted}
@@ -39,11 +40,11 @@ keeps premises setting history g s Leading = s.only_master
 keeps premises setting history g s Acting = record {
   spaced = s.once_spaced;
   obeyed = λ h. s.once_obeyed (g.honest h);
-  taken = λ all. s.once_taken (g.honest all.honest) (g.life all.life) (g.words all.words);
-  confirmed = λ all. s.once_confirmed (g.honest all.honest) (g.life all.life) (g.words all.words);
+  taken = λ all. s.once_taken (g.honest all.honest) (g.life all.life);
+  confirmed = λ all. s.once_confirmed (g.honest all.honest) (g.life all.life);
 }
-keeps premises setting history g s Measuring = λ honest words. record { measured = s.measured (g.honest honest) (g.words words); trips = s.trips }
-keeps premises setting history g s Agreeing = λ all. s.agreed (g.honest all.honest) (g.life all.life) (g.words all.words)
+keeps premises setting history g s Measuring = λ honest words. record { measured = s.measured (g.honest honest) (inr (own_words history (g.words words))); trips = s.trips }
+keeps premises setting history g s Agreeing = λ all. s.agreed (g.honest all.honest) (g.life all.life)
 
 -- of the premises that a verdict goes by, a schedule keeps each that they grant
 record Covered (premises : Premises) (header : HeaderValue) (events : List Event) : Type 0 where

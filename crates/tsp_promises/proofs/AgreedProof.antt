@@ -27,7 +27,7 @@ use Rattle.tsp_promises.proofs.CastProof.{Met, corrects-adj, whole}
 use Rattle.tsp_promises.proofs.Given.{Given, given_at}
 
 -- the clock of k against m's clock as its Close left it
-core : (setting : Setting) (m : ℕ) (cpast : List Line) (mean : ℤ) (c : Line) (past : List Line) (r : Line) (rolder h : List Line) (err : ℤ) (t : ℕ) → Fits setting h → time_of (dids h) ≤ t →
+pub core : (setting : Setting) (m : ℕ) (cpast : List Line) (mean : ℤ) (c : Line) (past : List Line) (r : Line) (rolder h : List Line) (err : ℤ) (t : ℕ) → Fits setting h → time_of (dids h) ≤ t →
     Unchanged (node_of c) (c ∷ past) h → Met setting m (node_of c) cpast mean c past r rolder err →
     pos (nat_abs (clock_at setting (node_of c) h t -ℤ (((setting.wall m +ℤ moved (dids (of m cpast))) +ℤ mean) +ℤ pos (tick_at (setting.rate m) t)))) ≤ℤ (err +ℤ pos (2 * width setting.drift (t - r.did.step.at)))
 core setting m cpast mean c past r rolder h err t f by u x =

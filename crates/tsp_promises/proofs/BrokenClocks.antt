@@ -1,5 +1,5 @@
 -- Small histories that break the promises of clocks.
-use Rattle.std.specs.Prelude.{◌≡◌, ◌≤ℤ◌, false, ℕ, pos, negsuc, ◌-ℤ◌, nat_abs, List, [], ◌∷◌, refl}
+use Rattle.std.specs.Prelude.{◌≡◌, ◌≤ℤ◌, Bool, false, ℕ, pos, negsuc, ◌-ℤ◌, nat_abs, List, [], ◌∷◌, refl}
 use Rattle.std.proofs.Common.{sym, ap, arith, subst, inl, inr, true≢false, ◌∙◌}
 use Rattle.std.proofs.lemmas.Int.{ints}
 use Rattle.tsp_base.specs.declared.act.Act.TheVariants.{Arm, Boot, Took, Post, Ring, Sample, Close, Correct}
@@ -11,7 +11,7 @@ use Rattle.tsp_base.specs.declared.message.Body.TheVariants.{Time}
 use Rattle.tsp_base.specs.declared.place.PeerId.{PeerId}
 use Rattle.tsp_base.specs.declared.place.Place.TheVariants.{Peer}
 use Rattle.tsp_base.specs.declared.stamp.Stamp.TheVariants.{Request, Reply}
-use Rattle.tsp_promises.specs.Agreed.{Agreed, Cast, MasterAgrees, StayAgreed}
+use Rattle.tsp_promises.specs.Agreed.{Agreed, Cast, MasterAgrees, StayAgreed, UnchangedBut}
 use Rattle.tsp_promises.specs.ClockAt.{clock}
 use Rattle.tsp_promises.specs.Fits.{node_of}
 use Rattle.tsp_base.specs.History.{Booted, Came, Turned, Did, Line, Seen, Here, of, view}
@@ -20,9 +20,7 @@ use Rattle.tsp_base.specs.Messages.{MessageValue}
 use Rattle.tsp_base.specs.Places.{Within}
 use Rattle.tsp_promises.specs.Relayed.{Relayed}
 use Rattle.tsp_base.specs.Takings.{peer_of}
-use Rattle.tsp_promises.specs.Broken.{AllBreak, Breaks, ClocksBreak}
-use Rattle.tsp_promises.proofs.BrokenRoles.{roles_break}
-use Rattle.tsp_promises.proofs.BrokenSends.{sends_break}
+use Rattle.tsp_promises.specs.Broken.{Breaks, ClocksBreak}
 use Rattle.tsp_promises.proofs.CastBy.{cast-by}
 use Rattle.tsp_promises.proofs.Histories.{begins, does, line, msg, skip, skipped, step_at, still}
 use Rattle.tsp_promises.proofs.StepChecks.{port0}
@@ -111,39 +109,44 @@ misled = record {
 }
 
 -- a follower whose clock moves by five seconds where its ADJTIME says 67
-abbrev strays : Line
-strays = line (step_at 408000500 2 (Came 11)) port0 (Correct (pos 5000000) false (pos 0))
+abbrev pub strays : Bool → Line
+strays stepped = line (step_at 408000500 2 (Came 11)) port0 (Correct (pos 5000000) stepped (pos 0))
 
-abbrev stray : List Line
-stray = strays ∷ skip 2 w21
+abbrev pub stray : Bool → List Line
+stray stepped = strays stepped ∷ skip 2 w21
 
-far-apart : MasterAgrees (still false) stray 408000500 → ⊥
+-- the master made no Correct but the one right after its Close
+pub left_alone : (stepped : Bool) → UnchangedBut 0 closing (skip 4 w19) (stray stepped)
+left_alone stepped = record {
+  lives = refl;
+  corrects = inr (record { next = does 408000000 0 Turned (Correct (negsuc 83) false (pos 408000000)); before = skip 3 w19; is = refl; amount = negsuc 83; stepped = false; shown = pos 408000000; place = skipped 9 (stray stepped); node = refl; deed = refl; corrects = refl });
+}
+
+far-apart : MasterAgrees (still false) (stray false) 408000500 → ⊥
 far-apart m =
-    let k : pos 5000083 ≤ℤ pos 452 = m 0 closing (skip 4 w19) strays (skip 2 w21) answers (skip 1 w16) (pos 450) (second-cast (pos 5000000) false (pos 0))
-    (record { within = inl refl; since = record { corrects = refl; lives = refl } })
-    (record { lives = refl; corrects = inr (record { next = does 408000000 0 Turned (Correct (negsuc 83) false (pos 408000000)); before = skip 3 w19; is = refl; amount = negsuc 83; stepped = false; shown = pos 408000000; place = skipped 9 stray; node = refl; deed = refl; corrects = refl }) }) in
+    let k : pos 5000083 ≤ℤ pos 452 = m 0 closing (skip 4 w19) (strays false) (skip 2 w21) answers (skip 1 w16) (pos 450) (second-cast (pos 5000000) false (pos 0)) (record { within = inl refl; since = record { corrects = refl; lives = refl } }) (left_alone false) in
     omega (arith, ints)
 
 agreed : Breaks (Agreed (still false))
-agreed = record { world = stray; broken = λ h. far-apart (h.0.clocks (Correct (pos 5000000) false (pos 0)) refl).master }
+agreed = record { world = stray false; broken = λ h. far-apart (h.0.clocks (Correct (pos 5000000) false (pos 0)) refl).master }
 
 peers : Breaks (Agreed (still false))
 peers = record {
-  world = stray;
+  world = stray false;
   broken = λ h.
-      let k : pos 4999983 ≤ℤ pos 855 = (h.0.clocks (Correct (pos 5000000) false (pos 0)) refl).peers 0 closing (skip 4 w19) strays first (skip 2 w21) (skip 2 w20) answers sounds (skip 1 w16) (skip 1 w15) (pos 450) (pos 401)
-      (second-cast (pos 5000000) false (pos 0)) first-cast (record { within = inl refl; since = record { corrects = refl; lives = refl } }) (record { within = skipped 4 stray; since = record { corrects = refl; lives = refl } }) in
+      let k : pos 4999983 ≤ℤ pos 855 = (h.0.clocks (Correct (pos 5000000) false (pos 0)) refl).peers 0 closing (skip 4 w19) (strays false) first (skip 2 w21) (skip 2 w20) answers sounds (skip 1 w16) (skip 1 w15) (pos 450) (pos 401)
+      (second-cast (pos 5000000) false (pos 0)) first-cast (record { within = inl refl; since = record { corrects = refl; lives = refl } }) (record { within = skipped 4 (stray false); since = record { corrects = refl; lives = refl } }) in
       omega (arith, ints);
 }
 
 agreed_before : Breaks (Agreed (still false))
 agreed_before = record {
-  world = does 500000000 2 (Booted 13 (pos 500000000)) Boot ∷ (begins 500000000 2 (Booted 13 (pos 500000000)) ∷ stray);
+  world = does 500000000 2 (Booted 13 (pos 500000000)) Boot ∷ (begins 500000000 2 (Booted 13 (pos 500000000)) ∷ stray false);
   broken = λ h. far-apart (h.1.1.0.clocks (Correct (pos 5000000) false (pos 0)) refl).master;
 }
 
 stay_agreed : Breaks (StayAgreed (still false))
-stay_agreed = record { world = stray; broken = λ h. far-apart (h.0 408000500 (omega arith)).master }
+stay_agreed = record { world = stray false; broken = λ h. far-apart (h.0 408000500 (omega arith)).master }
 
 abbrev shuts : List Line
 shuts = does 10 0 Turned (Close 1 (pos 0) (pos 0) (pos 0)) ∷ (does 10 0 Turned (Ring AlarmClose) ∷ [])
@@ -154,10 +157,10 @@ unsampled = record {
   broken = λ h. true≢false (sym (h.0.rests (peer_of 1) (msg AdjTime 5 (Time (pos 1))) (does 10 0 Turned (Close 1 (pos 0) (pos 0) (pos 0))).did (view port0 (of 0 (skip 1 shuts))) refl refl refl refl));
 }
 
-abbrev relays_wrong : Line
+abbrev pub relays_wrong : Line
 relays_wrong = line (step_at 508000400 3 (Came 12)) port0 (Correct (pos 5000000) false (pos 0))
 
-abbrev wrong : List Line
+abbrev pub wrong : List Line
 wrong = relays_wrong ∷ skip 2 g26
 
 relayed : Breaks (Relayed (still false))
@@ -170,7 +173,7 @@ relayed = record {
       omega (arith, ints);
 }
 
-clocks_break : ClocksBreak (still false)
+pub clocks_break : ClocksBreak (still false)
 clocks_break = record {
   errs = errs;
   unread = unread;
@@ -185,7 +188,3 @@ clocks_break = record {
   stay_agreed = stay_agreed;
   relayed = relayed;
 }
-
--- each promise is broken by some history
-pub all_break : AllBreak
-all_break = record { setting = still false; roles = roles_break; sends = sends_break; clocks = clocks_break }

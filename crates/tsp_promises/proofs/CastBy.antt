@@ -34,7 +34,7 @@ pub record Closed (m : ℕ) (close : Line) (cpast past : List Line) (post : Line
   pub is : closed (view post.port (of m before)) ≡ Here close.did ∷ view post.port (of m cpast)
   pub best_is : best (peer_of k) (view post.port (of m cpast)) ≡ Some sample
 
-pub cast-by : (m : ℕ) (close : Line) (cpast : List Line) (c : Line) (past : List Line) (r : Line) (older : List Line) (post : Line) (before : List Line) (message : MessageValue) (amount : ℤ) (stepped : Bool) (shown : ℤ) (sample : Sampled) →
+abbrev pub cast-by : (m : ℕ) (close : Line) (cpast : List Line) (c : Line) (past : List Line) (r : Line) (older : List Line) (post : Line) (before : List Line) (message : MessageValue) (amount : ℤ) (stepped : Bool) (shown : ℤ) (sample : Sampled) →
     FirstTaken m c past post before message amount stepped shown → Closed m close cpast past post before (node_of c) sample → ReadingOf m post.port sample.place past r older → Cast m close cpast c past r older sample.err
 cast-by m close cpast c past r older post before message amount stepped shown sample f d reading = record {
   post = post;

@@ -4,7 +4,7 @@ use Rattle.tsp_base.specs.declared.constants.TheConstants.{LIFE}
 use Rattle.tsp_promises.specs.Fits.{Fits}
 use Rattle.tsp_base.specs.History.{Line}
 use Rattle.tsp_base.specs.Places.{Within}
-use Rattle.tsp_promises.specs.Premises.{Honest, HonestAt, Life, TakenWithinAt, Words, WordsAt}
+use Rattle.tsp_promises.specs.Premises.{Honest, HonestAt, Life, TakenWithinAt}
 use Rattle.tsp_promises.specs.Setting.{Setting}
 use Rattle.tsp_promises.proofs.EverywhereLemmas.{Everywhere-within}
 use Rattle.tsp_promises.proofs.OwnFitsProof.{fits_at}
@@ -14,12 +14,10 @@ pub record Given (setting : Setting) (world : List Line) : Type 0 where
   pub fits : Fits setting world
   pub honest : Honest world
   pub life : Life world
-  pub words : Words world
 
 pub given_at : (setting : Setting) (s h : List Line) → Given setting h → Within s h → Given setting s
 given_at setting s h g w = record {
   fits = fits_at setting s h g.fits w;
   honest = Everywhere-within HonestAt s h g.honest w;
   life = Everywhere-within (TakenWithinAt LIFE) s h g.life w;
-  words = Everywhere-within WordsAt s h g.words w;
 }

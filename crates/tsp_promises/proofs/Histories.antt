@@ -23,22 +23,27 @@ use Rattle.tsp_base.specs.Takings.{heard, peer_of, posted}
 use Rattle.tsp_base.proofs.PlaceLemmas.{Within-all}
 use Rattle.tsp_base.proofs.ViewPlaces.{port-same, or-false}
 
--- nodes 0, 1 and 2 are on one network by port 0; nodes 1 and 3 on another, by the ports 1 and 0
+-- nodes 0, 1 and 2 are on one network by port 0; nodes 1 and 3 on another, by the ports 1 and 0; nodes 3 and 2 on a third, by their ports 1
 abbrev pub net_of : ℕ → ℕ → Network
 net_of zero zero = Named 0
 net_of (suc zero) zero = Named 0
 net_of (suc zero) (suc zero) = Named 1
 net_of (suc (suc zero)) zero = Named 0
+net_of (suc (suc zero)) (suc zero) = Named 2
 net_of (suc (suc (suc zero))) zero = Named 1
+net_of (suc (suc (suc zero))) (suc zero) = Named 2
 net_of n q = Alone n q
 
 abbrev pub members_of : Network → List PeerId
 members_of (Named zero) = peer_of 0 ∷ (peer_of 1 ∷ (peer_of 2 ∷ []))
-members_of (Named k) = peer_of 1 ∷ (peer_of 3 ∷ [])
+members_of (Named (suc zero)) = peer_of 1 ∷ (peer_of 3 ∷ [])
+members_of (Named k) = peer_of 2 ∷ (peer_of 3 ∷ [])
 members_of (Alone n q) = peer_of n ∷ []
 
 abbrev port_back : ℕ → Network → ℕ
 port_back (suc zero) (Named (suc zero)) = 1
+port_back (suc (suc zero)) (Named (suc (suc zero))) = 1
+port_back (suc (suc (suc zero))) (Named (suc (suc zero))) = 1
 port_back n (Named k) = 0
 port_back n (Alone m q) = q
 
@@ -50,9 +55,11 @@ back (suc zero) zero = refl
 back (suc zero) (suc zero) = refl
 back (suc zero) (suc (suc q)) = refl
 back (suc (suc zero)) zero = refl
-back (suc (suc zero)) (suc q) = refl
+back (suc (suc zero)) (suc zero) = refl
+back (suc (suc zero)) (suc (suc q)) = refl
 back (suc (suc (suc zero))) zero = refl
-back (suc (suc (suc zero))) (suc q) = refl
+back (suc (suc (suc zero))) (suc zero) = refl
+back (suc (suc (suc zero))) (suc (suc q)) = refl
 back (suc (suc (suc (suc n)))) q = refl
 
 pub nets-apart : (n : ℕ) (p q : Port) → net_of n p.0 ≡ net_of n q.0 → p ≡ q
@@ -68,9 +75,11 @@ in-own (suc zero) zero = refl
 in-own (suc zero) (suc zero) = refl
 in-own (suc zero) (suc (suc q)) = refl
 in-own (suc (suc zero)) zero = refl
-in-own (suc (suc zero)) (suc q) = refl
+in-own (suc (suc zero)) (suc zero) = refl
+in-own (suc (suc zero)) (suc (suc q)) = refl
 in-own (suc (suc (suc zero))) zero = refl
-in-own (suc (suc (suc zero))) (suc q) = refl
+in-own (suc (suc (suc zero))) (suc zero) = refl
+in-own (suc (suc (suc zero))) (suc (suc q)) = refl
 in-own (suc (suc (suc (suc n)))) q = alone (suc (suc (suc (suc n))))
 
 -- clocks that run alike, and whether elections are strict

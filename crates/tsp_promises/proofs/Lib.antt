@@ -1,5 +1,6 @@
 pub mod AcknowledgedProof
 pub mod AgreedProof
+pub mod AgreedShownProof
 pub mod AgreedSums
 pub mod AlarmLeads
 pub mod AloneLemmas
@@ -8,11 +9,14 @@ pub mod AskedProof
 mod BackedProof
 pub mod BecameProof
 pub mod BestProof
+pub mod BrokenChains
 pub mod BrokenClocks
+pub mod BrokenReadings
 pub mod BrokenRoles
 pub mod BrokenSends
 pub mod CastBy
 pub mod CastProof
+pub mod ChainedProof
 pub mod ChainProof
 pub mod Changes
 pub mod ClockProof
@@ -30,6 +34,7 @@ pub mod ElectionFacts
 mod Elections
 pub mod Elsewheres
 pub mod EverywhereLemmas
+pub mod FirstSetProof
 pub mod FreshProof
 pub mod FreshSteps
 pub mod GateFacts
@@ -65,6 +70,7 @@ pub mod OnceObeyedProof
 pub mod OnceSpacedProof
 pub mod OnceTakenProof
 pub mod OneBackProof
+pub mod OneErrorProof
 pub mod OneWinnerProof
 pub mod OnlyMasterProof
 pub mod OwnFitsProof
@@ -74,11 +80,13 @@ pub mod PortFits
 pub mod PortLists
 pub mod PostLeaves
 pub mod PremiseChecks
+pub mod ReadingChecks
 pub mod ReadingProof
 pub mod RelayedProof
 pub mod ResolvedProof
 pub mod Rings
 pub mod RoleLeads
+pub mod Requests
 pub mod RoundLeads
 pub mod RoundPlaces
 pub mod RunLeads
@@ -91,6 +99,7 @@ pub mod SendFits
 pub mod SendPlaces
 pub mod SendProof
 pub mod SetProof
+pub mod ShownProof
 pub mod SinceProof
 pub mod SlaveLeads
 pub mod SoundAlarms
@@ -101,24 +110,34 @@ pub mod SoundSteps
 pub mod SourceProof
 pub mod SpacedProof
 pub mod SteadyLemmas
+pub mod SteadyProof
 pub mod StepChecks
 pub mod StepProof
 pub mod Stirring
 pub mod StopsProof
 pub mod TakenLeads
+pub mod TakingProof
 pub mod TargetFacts
+pub mod ThroughoutProof
 pub mod TripProof
 pub mod Upsets
 pub mod VoteLeads
 mod VoteProof
 pub mod WindowLeads
+pub mod WitnessAgain
 pub mod WitnessCasts
+pub mod WitnessChain
 pub mod WitnessDates
 pub mod WitnessDebts
 pub mod WitnessLead
 pub mod WitnessLife
+pub mod WitnessReadings
 pub mod WitnessRelay
 pub mod WitnessRivals
+pub mod WitnessRounds
+pub mod WitnessRow
+pub mod WitnessSets
 pub mod WitnessStrict
 pub mod WitnessUse
+pub mod WitnessWords
 pub mod WordsProof

@@ -48,7 +48,7 @@ kept_from first s t a b u = kept_by s t b (record { corrects = omega (arith, a.a
 
 -- the Correct c of k comes soon after k's post r, and has the ticket that stood there
 pub first_after : (setting : Setting) (k : ℕ) (c r : Line) (past rolder : List Line) (to : Place) (datagram : Datagram) → Fits setting (c ∷ past) → node_of c ≡ k → node_of r ≡ k → r.did.deed ≡ Acts (Post to datagram) → Within (r ∷ rolder) past →
-    boot_tick (dids (of k past)) + QUIET ≤ c.did.tick → ticket (dids (of k rolder)) ≡ ticket (dids (of k past)) → c.did.step.at ≤ r.did.step.at + 45000000 → Kept (dids (of k (r ∷ rolder))) (dids (of k past))
+    boot_tick (dids (of k past)) + QUIET ≤ c.did.tick → ticket (dids (of k rolder)) ≡ ticket (dids (of k past)) → c.did.step.at ≤ r.did.step.at + 65000000 → Kept (dids (of k (r ∷ rolder))) (dids (of k past))
 first_after setting k c r past rolder to datagram f c_node r_node deed place rested same soon =
     let order : r.did.step.at ≤ c.did.step.at = (let p = place-time setting (r ∷ rolder) past f.1 place in omega (arith, f.0.order)) in
     let n = near setting k r.did.step.at c.did.step.at order in

@@ -1,8 +1,9 @@
 -- A measurement errs by at most half its round trip.
-use Rattle.std.specs.Prelude.{◌≡◌, true, ℤ, pos, ◌+ℤ◌, ◌-ℤ◌, ◌≤ℤ◌, nat_abs, ℕ, zero, suc, ◌+◌, ◌-◌, ◌/◌, ◌%◌, ◌^◌, ◌<◌, ◌≤◌, List, ◌∷◌, refl}
+use Rattle.std.specs.Prelude.{◌≡◌, true, ℤ, pos, ◌+ℤ◌, ◌-ℤ◌, ◌≤ℤ◌, nat_abs, ℕ, zero, suc, ◌+◌, ◌-◌, ◌/◌, ◌≤◌, ◌⊎◌, List, ◌∷◌, refl}
 use Rattle.std.proofs.Common.{sym, ap, arith, subst, subst₂, inl, inr, ◌∙◌}
 use Rattle.std.proofs.lemmas.Int.{ints}
 use Rattle.tsp_base.specs.declared.act.Act.TheVariants.{Post, Sample}
+use Rattle.tsp_base.specs.declared.constants.TheConstants.{LIFE}
 use Rattle.tsp_base.specs.declared.datagram.Datagram.{Datagram}
 use Rattle.tsp_base.specs.declared.datagram.Datagram.TheVariants.{Stamp}
 use Rattle.tsp_base.specs.declared.place.PeerId.{PeerId}
@@ -14,87 +15,31 @@ use Rattle.tsp_promises.specs.ClockAt.{clock}
 use Rattle.tsp_promises.specs.Fits.{Fits, LineFits, Alive, node_of}
 use Rattle.tsp_base.specs.History.{Came, Acts, Did, Line, Seen, Here, of, dids, view, plain}
 use Rattle.tsp_promises.specs.Measured.{MeasuredAt, Measured}
-use Rattle.tsp_promises.specs.MeasureFits.{RequestFits, ReplyFits, SampleFits}
+use Rattle.tsp_promises.specs.MeasureFits.{ReplyFits, SampleFits}
 use Rattle.tsp_base.specs.NodeFacts.{all_corrects, base, boot_tick, lives, moved, target, up, word, wall, ticket}
 use Rattle.tsp_base.specs.Places.{Within}
-use Rattle.tsp_promises.specs.Premises.{Honest, HonestAt, Words, WordsAt}
-use Rattle.tsp_base.specs.RoundFacts.{asked}
+use Rattle.tsp_promises.specs.Premises.{Honest, HonestAt, Life, OwnWords, OwnWordsAt, TakenWithinAt}
 use Rattle.tsp_base.specs.Samples.{half_down, half_up, sample_diff, sample_err}
 use Rattle.tsp_promises.specs.Setting.{Setting}
 use Rattle.tsp_base.specs.Stamps.{ReplyValue}
 use Rattle.tsp_base.specs.Takings.{Undisturbed, peer_of, posted}
 use Rattle.tsp_base.specs.Ticks.{tick_at}
 use Rattle.tsp_promises.proofs.EverywhereLemmas.{Everywhere-from, Everywhere-within}
-use Rattle.tsp_base.proofs.PlaceLemmas.{Within-through, Within-tail, Within-comparable}
+use Rattle.tsp_base.proofs.PlaceLemmas.{Within-through, Within-tail}
 use Rattle.tsp_base.proofs.Views.{plain_view}
 use Rattle.tsp_promises.specs.Since.{Since, OneLife}
-use Rattle.tsp_promises.proofs.AskedProof.{asked-mono, asked-few}
-use Rattle.tsp_promises.proofs.ClockProof.{base_is, clock_post, post_up}
+use Rattle.tsp_promises.proofs.ClockProof.{base_is, clock_post}
 use Rattle.tsp_promises.proofs.Clocks.{tick-mono}
 use Rattle.tsp_promises.proofs.HistoryPlaces.{of-own, Within-of}
 use Rattle.tsp_promises.proofs.KnownProof.{known}
-use Rattle.tsp_promises.proofs.Locating.{Located, line_on, locate, fits_in, tick_in, view-line}
+use Rattle.tsp_promises.proofs.Locating.{Located, line_on, locate, fits_in, tick_in}
 use Rattle.tsp_promises.proofs.OwnFitsProof.{own_fits, fits_at, place-time}
 use Rattle.tsp_promises.proofs.PortFits.{deed_fits}
+use Rattle.tsp_promises.proofs.Requests.{Asks, SameLife, asks-up, request-fits, request_unique}
 use Rattle.tsp_promises.proofs.RoundPlaces.{started_at, exchange_at}
 use Rattle.tsp_promises.proofs.SendPlaces.{post_unique, same-number}
 use Rattle.tsp_promises.proofs.SinceProof.{since}
-use Rattle.tsp_promises.proofs.WordsProof.{word_moves}
 use Rattle.tsp_promises.proofs.SendProof.{number-same}
-
--- a request of node n to p on a port, with this word and counter
-pub record Asks (n : ℕ) (line : Line) (p : PeerId) (w c : ℕ) : Type 0 where
-  pub node : node_of line ≡ n
-  pub deed : line.did.deed ≡ Acts (Post (Peer p) (Stamp (Request w c)))
-
-request-fits : (setting : Setting) (n : ℕ) (q : Line) (a : List Line) (p : PeerId) (w c : ℕ) → Asks n q p w c → LineFits setting q a → RequestFits (view q.port (of n a)) w c
-request-fits setting n q a p w c s f = subst (λ k. RequestFits (view q.port (of k a)) w c) s.node (deed_fits setting q a (Acts (Post (Peer p) (Stamp (Request w c)))) s.deed f).fits
-
-asks-up : (setting : Setting) (n : ℕ) (q : Line) (a : List Line) (p : PeerId) (w c : ℕ) → Asks n q p w c → LineFits setting q a → up (dids (of n a)) ≡ true
-asks-up setting n q a p w c s f = subst (λ k. up (dids (of k a)) ≡ true) s.node (post_up setting q a (Peer p) (Stamp (Request w c)) f s.deed)
-
--- one more was asked after the request
-asked-next : (n : ℕ) (q : Line) (a : List Line) (p : PeerId) (w c : ℕ) → Asks n q p w c → asked (view q.port (of n (q ∷ a))) ≡ asked (view q.port (of n a)) + 1
-asked-next n q a p w c s = ap asked (view-line n q a s.node) ∙ rw s.deed refl
-
--- an earlier request has another word or another counter
-request-before : (setting : Setting) (n : ℕ) (q t : Line) (a b : List Line) (p r : PeerId) (w c v d : ℕ) → Fits setting (t ∷ b) → Words (t ∷ b) → Asks n q p w c → Asks n t r v d → q.port ≡ t.port → Within (q ∷ a) b → w ≡ v → c ≡ d → ⊥
-request-before setting n q t a b p r w c v d f words x y port i same count =
-    let fq = fits_at setting (q ∷ a) b f.1 i in
-    let g = request-fits setting n q a p w c x fq.0 in
-    let h = request-fits setting n t b r v d y f.0 in
-    let own = own_fits setting n b f.1 in
-    let place : Within (of n (q ∷ a)) (of n b) = Within-of n (q ∷ a) b i in
-    let s = since setting (of n (q ∷ a)) (of n b) own place in
-    let qu = asks-up setting n q a p w c x fq.0 in
-    let tu = asks-up setting n t b r v d y f.0 in
-    let still : dids (of n (q ∷ a)) ≡ q.did ∷ dids (of n a) = ap dids (of-own n q a x.node) in
-    let word_q : w ≡ word (dids (of n (q ∷ a))) = (g.word_is ∙ ap word (plain_view q.port (of n a))) ∙ sym (ap word still ∙ rw x.deed refl) in
-    let word_t : v ≡ word (dids (of n b)) = h.word_is ∙ ap word (plain_view t.port (of n b)) in
-    let up_q : up (dids (of n (q ∷ a))) ≡ true = ap up still ∙ rw x.deed qu in
-    elim s.life [
-      | inl o ↦
-          let more = asked-mono setting q.port (of n (q ∷ a)) (of n b) own place o.lives in
-          let next = asked-next n q a p w c x in
-          let few = asked-few n q.port b in
-          let limit = f.0.few in
-          let cq : c ≡ asked (view q.port (of n a)) % 2 ^ 64 = g.counter_is in
-          let ct : d ≡ asked (view q.port (of n b)) % 2 ^ 64 = subst (λ k. d ≡ asked (view k (of n b)) % 2 ^ 64) (sym port) h.counter_is in
-          counters c d (asked (view q.port (of n a))) (asked (view q.port (of n b))) cq ct (omega arith) (omega arith) count
-      | inr o ↦ word_moves setting n (q ∷ a) b f.1 words.1 i fq up_q tu o.lives (sym word_q ∙ (same ∙ word_t))
-    ]
-  where
-    counters : (c d x y : ℕ) → c ≡ x % 2 ^ 64 → d ≡ y % 2 ^ 64 → x < y → y < 2 ^ 64 → c ≡ d → ⊥
-    counters c d x y e g h k s = omega arith
-
--- a request is named by its port, word and counter
-pub request_unique : (setting : Setting) (n : ℕ) (q t : Line) (a b h : List Line) (p r : PeerId) (w c v d : ℕ) → Fits setting h → Words h → Within (q ∷ a) h → Within (t ∷ b) h → Asks n q p w c → Asks n t r v d → q.port ≡ t.port → w ≡ v → c ≡ d → q ∷ a ≡ t ∷ b
-request_unique setting n q t a b h p r w c v d f words i j x y port e g = elim (Within-comparable (q ∷ a) (t ∷ b) h i j) [
-  | inl (inl s) ↦ s
-  | inl (inr s) ↦ absurd (request-before setting n q t a b p r w c v d (fits_at setting (t ∷ b) h f j) (Everywhere-within WordsAt (t ∷ b) h words j) x y port s e g)
-  | inr (inl s) ↦ sym s
-  | inr (inr s) ↦ absurd (request-before setting n t q b a r p v d w c (fits_at setting (q ∷ a) h f i) (Everywhere-within WordsAt (q ∷ a) h words i) y x (sym port) s (sym e) (sym g))
-]
 
 -- the arithmetic of an exchange
 half-up-pos : (z : ℕ) → half_up (pos z) ≡ pos ((z + 1) / 2)
@@ -225,13 +170,21 @@ word-now setting n t start tw sw world p w c f t_in s_in asks u =
     let life : OneLife (dids (of n tw)) (dids (of n world)) = elim a.life [ inl o ↦ o | inr o ↦ absurd (omega (arith, b.lives, o.lives, u.lives)) ] in
     (g.word_is ∙ ap word (plain_view t.port (of n tw))) ∙ life.word
 
+-- no datagram outlives LIFE, or the words of boots of one node differ
+abbrev pub LifeOrWords : List Line → Type 0
+LifeOrWords h = Life h ⊎ OwnWords h
+
+pub life-or-words_at : (s h : List Line) → LifeOrWords h → Within s h → LifeOrWords s
+life-or-words_at s h (inl life) w = inl (Everywhere-within (TakenWithinAt LIFE) s h life w)
+life-or-words_at s h (inr words) w = inr (Everywhere-within OwnWordsAt s h words w)
+
 -- with the request q that the reply r answers
-reading-q : (setting : Setting) (l r q : Line) (world older a : List Line) (p : PeerId) (counter number : ℕ) (diff err : ℤ) → Fits setting (l ∷ world) → Words (l ∷ world) →
+reading-q : (setting : Setting) (l r q : Line) (world older a : List Line) (p : PeerId) (counter number : ℕ) (diff err : ℤ) → Fits setting (l ∷ world) →
     (f : SampleFits l.did (view l.port (of (node_of l) world)) p counter diff err number) → up (dids (of (node_of l) world)) ≡ true → Within (r ∷ older) world →
     r.did.deed ≡ Acts (Post (Peer (peer_of (node_of l))) (Stamp (Reply f.reply))) → l.did.step.cause ≡ Came (posted (dids older)) → ReplyFits r.did (view r.port (of (node_of r) older)) (Peer (peer_of (node_of l))) f.reply →
     Within (q ∷ a) older → q.did.deed ≡ Acts (Post (Peer (peer_of (node_of r))) (Stamp (Request f.reply.word f.reply.counter))) → node_of q ≡ node_of l → q.port ≡ l.port →
-    Reading setting l world (node_of r) diff err f.start f.idle f.reply
-reading-q setting l r q world older a p counter number diff err w words s l_up r_in r_deed takes g q_in q_deed q_node q_port =
+    (l.did.step.at ≤ q.did.step.at + 60000000) ⊎ OwnWords world → Reading setting l world (node_of r) diff err f.start f.idle f.reply
+reading-q setting l r q world older a p counter number diff err w s l_up r_in r_deed takes g q_in q_deed q_node q_port why =
     let n = node_of l in
     let seen = view l.port (of n world) in
     let e = exchange_at p counter seen s.post s.older s.exchange_is in
@@ -242,29 +195,45 @@ reading-q setting l r q world older a p counter number diff err w words s l_up r
     let q_world : Within (q ∷ a) world = Within-through (q ∷ a) (r ∷ older) world (inr q_in) r_in in
     let start_in : Within (Here s.start ∷ s.idle) (view l.port (of n t.older)) = subst (λ x. Within (Here s.start ∷ s.idle) x) (sym t.before) (e.after s.start s.idle s.start_is) in
     let sl = locate n l.port t.older s.start s.idle (rw (started_at seen s.start s.idle s.start_is).deed refl) start_in in
+    let first : Undisturbed (dids (of n sl.older)) (dids (of n world)) = first-now l.port (of n world) (of n sl.older) s.idle sl.before s.undisturbed in
     let word_is : s.reply.word ≡ e.word =
-    (s.word_is ∙ ap word (plain_view l.port (of n world))) ∙ sym (word-now setting n tl (line_on l.port s.start) t.older sl.older world p e.word counter w.1 t.place sl.place asks_t (first-now l.port (of n world) (of n sl.older) s.idle sl.before s.undisturbed)) in
-    let same = request_unique setting n q tl a t.older world (peer_of (node_of r)) p s.reply.word s.reply.counter e.word counter w.1 words.1 q_world t.place asks_q asks_t q_port word_is s.counter_is in
+    (s.word_is ∙ ap word (plain_view l.port (of n world))) ∙ sym (word-now setting n tl (line_on l.port s.start) t.older sl.older world p e.word counter w.1 t.place sl.place asks_t first) in
+    let now_in : Within t.older world = Within-tail tl t.older world t.place in
+    let s_t = since setting (of n sl.older) (of n t.older) (own_fits setting n t.older (fits_at setting t.older world w.1 now_in)) (Within-of n sl.older t.older (Within-tail (line_on l.port s.start) sl.older t.older sl.place)) in
+    let t_w = since setting (of n t.older) (of n world) (own_fits setting n world w.1) (Within-of n t.older world now_in) in
+    let kept : lives (dids (of n t.older)) ≡ lives (dids (of n world)) = omega (arith, s_t.lives, t_w.lives, first.lives) in
+    let one : SameLife q tl world s.reply.word e.word = elim why [
+      | inl soon ↦ inl (let o = place-time setting (tl ∷ t.older) world w.1 t.place in omega (arith, w.0.order, soon))
+      | inr words ↦ inr (words, word_is)
+    ] in
+    let same = request_unique setting n q tl a t.older world (peer_of (node_of r)) p s.reply.word s.reply.counter e.word counter w.1 q_world t.place asks_q asks_t q_port one kept s.counter_is in
     reading-t setting l r tl world older t.older p (node_of r) counter number diff err e.word w s l_up r_in r_deed refl takes g (subst (λ x. Within x older) same q_in) asks_t refl t.before sl
 
 pub sample_fits : (setting : Setting) (l : Line) (world : List Line) (p : PeerId) (counter number : ℕ) (diff err : ℤ) → LineFits setting l world → l.did.deed ≡ Acts (Sample p counter diff err number) →
     SampleFits l.did (view l.port (of (node_of l) world)) p counter diff err number
 sample_fits setting l world p counter number diff err f is = deed_fits setting l world (Acts (Sample p counter diff err number)) is f
 
-pub reading_at : (setting : Setting) (l : Line) (world : List Line) (p : PeerId) (counter number : ℕ) (diff err : ℤ) → Fits setting (l ∷ world) → Honest (l ∷ world) → Words (l ∷ world) → l.did.deed ≡ Acts (Sample p counter diff err number) →
+pub reading_at : (setting : Setting) (l : Line) (world : List Line) (p : PeerId) (counter number : ℕ) (diff err : ℤ) → Fits setting (l ∷ world) → Honest (l ∷ world) → LifeOrWords (l ∷ world) → l.did.deed ≡ Acts (Sample p counter diff err number) →
     (s : SampleFits l.did (view l.port (of (node_of l) world)) p counter diff err number) → Reading setting l world p.0 diff err s.start s.idle s.reply
-reading_at setting l world p counter number diff err f h words is s =
+reading_at setting l world p counter number diff err f h why is s =
     let n = node_of l in
     let r = known setting l world (Sample p counter diff err number) p (Stamp (Reply s.reply)) f h is s.took in
     let fr = fits_at setting (r.post ∷ r.older) world f.1 r.place in
     let hr = Everywhere-within HonestAt (r.post ∷ r.older) world h.1 r.place in
     let g : ReplyFits r.post.did (view r.post.port (of (node_of r.post) r.older)) (Peer (peer_of n)) s.reply = (deed_fits setting r.post r.older (Acts (Post (Peer (peer_of n)) (Stamp (Reply s.reply)))) r.deed fr.0).fits in
     let q = known setting r.post r.older (Post (Peer (peer_of n)) (Stamp (Reply s.reply))) (peer_of n) (Stamp (Request s.reply.word s.reply.counter)) fr hr r.deed g.took in
+    let near : (l.did.step.at ≤ q.post.did.step.at + 60000000) ⊎ OwnWords world = elim why [
+      | inl life ↦
+          let to_r = life.0 r.post r.older (Peer (peer_of n)) (Stamp (Reply s.reply)) r.place r.deed r.takes in
+          let to_q = (Everywhere-within (TakenWithinAt LIFE) (r.post ∷ r.older) world life.1 r.place).0 q.post q.older (Peer (peer_of (node_of r.post))) (Stamp (Request s.reply.word s.reply.counter)) q.place q.deed q.takes in
+          inl (omega (arith, to_r, to_q))
+      | inr words ↦ inr words.1
+    ] in
     let q_node : node_of q.post ≡ n = number-same (node_of q.post) n q.node in
     let net : setting.net n q.post.port ≡ setting.net n l.port = subst (λ k. setting.net k q.post.port ≡ setting.net n l.port) {x = node_of q.post} q_node (◌∙◌ {a = setting.net (node_of q.post) q.post.port} q.net r.net) in
     let l_up : up (dids (of n world)) ≡ true = subst (λ k. Alive setting k l.did (up (dids (of n world)))) is f.0.alive in
     subst (λ k. Reading setting l world k diff err s.start s.idle s.reply) {x = node_of r.post} (ap (λ (z : PeerId). z.0) r.node)
-    (reading-q setting l r.post q.post world r.older q.older p counter number diff err f words s l_up r.place r.deed r.takes g q.place q.deed q_node (setting.apart n q.post.port l.port net))
+    (reading-q setting l r.post q.post world r.older q.older p counter number diff err f s l_up r.place r.deed r.takes g q.place q.deed q_node (setting.apart n q.post.port l.port net) near)
 
 -- the reading is the post that the step takes
 pub reading_is : (setting : Setting) (l : Line) (world : List Line) (k : ℕ) (diff err : ℤ) (start : Did) (idle : List Seen) (reply : ReplyValue) (post : Line) (older : List Line) (to : Place) (datagram : Datagram) →
@@ -272,12 +241,12 @@ pub reading_is : (setting : Setting) (l : Line) (world : List Line) (k : ℕ) (d
 reading_is setting l world k diff err start idle reply post older to datagram r w deed takes =
     post_unique world r.post post r.older older (Peer (peer_of (node_of l))) to (Stamp (Reply reply)) datagram r.place w r.deed deed (same-number (posted (dids r.older)) (posted (dids older)) (sym r.takes ∙ takes))
 
-measured_at : (setting : Setting) (l : Line) (world : List Line) → Fits setting (l ∷ world) → Honest (l ∷ world) → Words (l ∷ world) → MeasuredAt setting l world
-measured_at setting l world f h words p counter diff err number is =
+measured_at : (setting : Setting) (l : Line) (world : List Line) → Fits setting (l ∷ world) → Honest (l ∷ world) → LifeOrWords (l ∷ world) → MeasuredAt setting l world
+measured_at setting l world f h why p counter diff err number is =
     let s = sample_fits setting l world p counter number diff err f.0 is in
-    let r = reading_at setting l world p counter number diff err f h words is s in
+    let r = reading_at setting l world p counter number diff err f h why is s in
     record { post = r.post; older = r.older; place = r.place; takes = r.takes; from = ap peer_of r.node; reply = s.reply; deed = r.deed; near = r.error }
 
-pub measured : (setting : Setting) (world : List Line) → Fits setting world → Honest world → Words world → Measured setting world
-measured setting world f h words = Everywhere-from (MeasuredAt setting) world (λ l s w.
-    measured_at setting l s (fits_at setting (l ∷ s) world f w) (Everywhere-within HonestAt (l ∷ s) world h w) (Everywhere-within WordsAt (l ∷ s) world words w))
+pub measured : (setting : Setting) (world : List Line) → Fits setting world → Honest world → LifeOrWords world → Measured setting world
+measured setting world f h why = Everywhere-from (MeasuredAt setting) world (λ l s w.
+    measured_at setting l s (fits_at setting (l ∷ s) world f w) (Everywhere-within HonestAt (l ∷ s) world h w) (life-or-words_at (l ∷ s) world why w))

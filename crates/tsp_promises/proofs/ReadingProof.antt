@@ -1,6 +1,6 @@
 -- The reading of the sample that a Close used.
 use Rattle.std.specs.Prelude.{◌≡◌, ◌≤◌, ◌≤ℤ◌, ℕ, pos, ◌-ℤ◌, nat_abs, List, ◌∷◌, Some, refl}
-use Rattle.std.proofs.Common.{sym, ap, subst, subst₂, ◌∙◌}
+use Rattle.std.proofs.Common.{sym, ap, subst, subst₂, inl, ◌∙◌}
 use Rattle.tsp_base.specs.declared.act.Act.TheVariants.{Post, Sample}
 use Rattle.tsp_base.specs.declared.datagram.Datagram.{Datagram}
 use Rattle.tsp_base.specs.declared.place.PeerId.{PeerId}
@@ -11,7 +11,7 @@ use Rattle.tsp_promises.specs.Fits.{Fits, node_of}
 use Rattle.tsp_base.specs.History.{Came, Acts, Did, Line, Seen, Here, of, dids, view, plain}
 use Rattle.tsp_base.specs.NodeFacts.{moved, ticket}
 use Rattle.tsp_base.specs.Places.{Within}
-use Rattle.tsp_promises.specs.Premises.{Honest, Words}
+use Rattle.tsp_promises.specs.Premises.{Honest, Life}
 use Rattle.tsp_base.specs.RoundFacts.{Sampled, best, started}
 use Rattle.tsp_promises.specs.Setting.{Setting}
 use Rattle.tsp_base.specs.Stamps.{ReplyValue}
@@ -66,7 +66,7 @@ read-with setting m k l r before cpast older sample start s i reply l_node kept 
       after = subst₂ (λ z y. z.step.at ≤ y.did.step.at) start_is post_is x.after;
     }
 
-pub read_at : (setting : Setting) (m k : ℕ) (q : Port) (l r : Line) (before cpast older : List Line) (sample : Sampled) (start : Did) (idle : List Seen) (to : Place) (datagram : Datagram) → Fits setting (l ∷ before) → Honest (l ∷ before) → Words (l ∷ before) → Fits setting cpast →
+pub read_at : (setting : Setting) (m k : ℕ) (q : Port) (l r : Line) (before cpast older : List Line) (sample : Sampled) (start : Did) (idle : List Seen) (to : Place) (datagram : Datagram) → Fits setting (l ∷ before) → Honest (l ∷ before) → Life (l ∷ before) → Fits setting cpast →
     node_of l ≡ m → l.port ≡ q → best (peer_of k) (view q (of m cpast)) ≡ Some sample → sample.place ≡ Here l.did ∷ view q (of m before) → Within (r ∷ older) before → l.did.step.cause ≡ Came (posted (dids older)) → r.did.deed ≡ Acts (Post to datagram) →
     started (view q (of m cpast)) ≡ Here start ∷ idle → Undisturbed (plain idle) (plain (view q (of m cpast))) → ReadAt setting m k cpast sample start r older
 read_at setting m k q l r before cpast older sample start idle to datagram f h w fc l_node l_port best_is place r_in takes r_deed start_is u =
@@ -76,7 +76,7 @@ read_at setting m k q l r before cpast older sample start idle to datagram f h w
     let rest_is : b.rest ≡ view q (of m before) = cc in
     let deed : l.did.deed ≡ Acts (Sample (peer_of k) sample.counter sample.diff sample.err sample.ticket) = subst (λ (d : Did). d.deed ≡ Acts (Sample (peer_of k) sample.counter sample.diff sample.err sample.ticket)) did_is b.deed in
     let s = sample_fits setting l before (peer_of k) sample.counter sample.ticket sample.diff sample.err f.0 deed in
-    let x = reading_at setting l before (peer_of k) sample.counter sample.ticket sample.diff sample.err f h w deed s in
+    let x = reading_at setting l before (peer_of k) sample.counter sample.ticket sample.diff sample.err f h (inl w) deed s in
     let same = reading_is setting l before k sample.diff sample.err s.start s.idle s.reply r older to datagram x r_in r_deed takes in
     let mine : started (view q (of m before)) ≡ Here s.start ∷ s.idle = subst₂ (λ n p. started (view p (of n before)) ≡ Here s.start ∷ s.idle) l_node l_port s.start_is in
     let start_same = same-start s.start start s.idle idle (view q (of m before)) b.rest (view q (of m cpast)) mine rest_is b.round start_is in

@@ -5,17 +5,23 @@ use Rattle.tsp_base.specs.History.{Line}
 use Rattle.tsp_promises.specs.Safe.{Safe}
 use Rattle.tsp_promises.specs.Setting.{Setting}
 use Rattle.tsp_promises.proofs.AgreedProof.{agreed, stay_agreed}
+use Rattle.tsp_promises.proofs.AgreedShownProof.{agreed_shown, shown_near, waited}
+use Rattle.tsp_promises.proofs.ChainedProof.{chained}
 use Rattle.tsp_promises.proofs.ConfirmedProof.{once_confirmed}
+use Rattle.tsp_promises.proofs.FirstSetProof.{first_set, first_set_soon}
 use Rattle.tsp_promises.proofs.MeasuredProof.{measured}
 use Rattle.tsp_promises.proofs.OnceObeyedProof.{once_obeyed}
 use Rattle.tsp_promises.proofs.OnceSpacedProof.{once_spaced, once_spaced_over_lives}
 use Rattle.tsp_promises.proofs.OnceDatedProof.{once_taken}
 use Rattle.tsp_promises.proofs.OnceTakenProof.{once_corrected}
 use Rattle.tsp_promises.proofs.OneBackProof.{one_back}
+use Rattle.tsp_promises.proofs.OneErrorProof.{one_error}
 use Rattle.tsp_promises.proofs.OnlyMasterProof.{only_master}
 use Rattle.tsp_promises.proofs.RelayedProof.{relayed}
 use Rattle.tsp_promises.proofs.ResolvedProof.{yields, stays_quiet}
+use Rattle.tsp_promises.proofs.SteadyProof.{meets, steady}
 use Rattle.tsp_promises.proofs.StopsProof.{stops_leading}
+use Rattle.tsp_promises.proofs.ThroughoutProof.{throughout}
 use Rattle.tsp_promises.proofs.TripProof.{trips}
 
 pub safe : (setting : Setting) (world : List Line) → Fits setting world → Finished world → Safe setting world
@@ -26,12 +32,22 @@ safe setting world f end = record {
   once_spaced_over_lives = once_spaced_over_lives setting world f;
   once_obeyed = once_obeyed setting world f;
   once_corrected = once_corrected setting world f;
-  once_taken = λ honest life words. once_taken setting world f honest life;
-  once_confirmed = λ honest life words. once_confirmed setting world (record { fits = f; honest = honest; life = life; words = words });
+  once_taken = once_taken setting world f;
+  once_confirmed = λ honest life. once_confirmed setting world (record { fits = f; honest = honest; life = life });
   trips = trips setting world f;
   measured = measured setting world f;
-  agreed = λ honest life words. agreed setting world (record { fits = f; honest = honest; life = life; words = words });
-  stay_agreed = λ honest life words. stay_agreed setting world (record { fits = f; honest = honest; life = life; words = words });
-  relayed = λ honest life words. relayed setting world (record { fits = f; honest = honest; life = life; words = words });
+  agreed = λ honest life. agreed setting world (record { fits = f; honest = honest; life = life });
+  stay_agreed = λ honest life. stay_agreed setting world (record { fits = f; honest = honest; life = life });
+  one_error = λ honest life. one_error setting world (record { fits = f; honest = honest; life = life });
+  first_set = first_set setting world f;
+  first_set_soon = first_set_soon setting world f;
+  chained = λ honest life. chained setting world (record { fits = f; honest = honest; life = life });
+  throughout = λ honest life. throughout setting world (record { fits = f; honest = honest; life = life });
+  relayed = λ honest life. relayed setting world (record { fits = f; honest = honest; life = life });
   resolved = record { yields = yields setting world f end; quiet = stays_quiet setting world f; stops = stops_leading setting world f end };
+  steady = steady setting world f;
+  meets = meets world;
+  agreed_shown = λ honest life. agreed_shown setting world (record { fits = f; honest = honest; life = life });
+  shown_near = shown_near setting world f;
+  waited = waited setting world f;
 }

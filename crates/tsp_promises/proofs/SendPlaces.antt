@@ -2,6 +2,7 @@
 use Rattle.std.specs.Prelude.{◌≡◌, ◌+◌, ◌*◌, ◌≤◌, true, false, ℕ, List, [], ◌∷◌, refl}
 use Rattle.std.proofs.Common.{sym, ap, arith, subst, subst₂, inl, inr, true≢false, ◌∙◌}
 use Rattle.tsp_base.specs.declared.act.Act.TheVariants.{Post}
+use Rattle.tsp_base.specs.declared.constants.TheConstants.{LAST}
 use Rattle.tsp_base.specs.declared.datagram.Datagram.{Datagram}
 use Rattle.tsp_base.specs.declared.datagram.Datagram.TheVariants.{Message}
 use Rattle.tsp_base.specs.declared.kind.Kind.{Kind}
@@ -37,6 +38,7 @@ pub record SendPlace (m k : ℕ) (p : Line) (o : List Line) (msg : MessageValue)
   pub is : begun_to (peer_of k) (Here p.did ∷ view p.port (of m o)) ≡ Here first ∷ view p.port (of m fw)
   pub after : first.step.at ≤ p.did.step.at
   pub soon : p.did.step.at ≤ first.step.at + 4004007
+  pub ticks : p.did.tick ≤ first.tick + LAST
 
 -- what the post of a correction owes
 pub post_fits : (setting : Setting) (m : ℕ) (p : Line) (o : List Line) (k : PeerId) (msg : MessageValue) → LineFits setting p o → node_of p ≡ m → p.did.deed ≡ Acts (Post (Peer k) (Message msg)) → is_correction msg.kind ≡ true →
@@ -84,6 +86,7 @@ send_place setting m k p o msg f node deed kind =
       is = d.is ∙ ap (λ s. Here d.first ∷ s) (sym l.before);
       after = after;
       soon = omega (arith, d.soon);
+      ticks = d.soon;
     }
 
 -- the number of a post names its place

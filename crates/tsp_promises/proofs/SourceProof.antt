@@ -4,13 +4,14 @@ use Rattle.std.proofs.Common.{sym, ap, arith, subst, inl, inr, ◌∙◌}
 use Rattle.tsp_base.specs.declared.act.Act.TheVariants.{Post}
 use Rattle.tsp_base.specs.declared.datagram.Datagram.{Datagram}
 use Rattle.tsp_base.specs.declared.datagram.Datagram.TheVariants.{Message, Stamp}
+use Rattle.tsp_base.specs.declared.kind.Kind.TheVariants.{SlaveUp}
 use Rattle.tsp_base.specs.declared.place.Place.{Place}
 use Rattle.tsp_base.specs.declared.place.Place.TheVariants.{Peer}
 use Rattle.tsp_base.specs.declared.place.Port.{Port}
 use Rattle.tsp_base.specs.declared.stamp.Stamp.TheVariants.{Reply}
 use Rattle.tsp_promises.specs.CorrectionFits.{AnswersSlaveUp, AtClose}
 use Rattle.tsp_promises.specs.DeedFits.{MessageFits}
-use Rattle.tsp_promises.specs.Fits.{Fits, node_of}
+use Rattle.tsp_promises.specs.Fits.{Fits, LineFits, node_of}
 use Rattle.tsp_base.specs.History.{Acts, Did, Line, Seen, Here, of, dids, view, plain}
 use Rattle.tsp_base.specs.Messages.{MessageValue}
 use Rattle.tsp_base.specs.NodeFacts.{ticket}
@@ -21,7 +22,6 @@ use Rattle.tsp_base.specs.Stamps.{ReplyValue}
 use Rattle.tsp_base.specs.Takings.{Receives, peer_of}
 use Rattle.tsp_base.proofs.PlaceLemmas.{Within-all, Within-through, Within-tail}
 use Rattle.tsp_base.proofs.Views.{plain_view}
-use Rattle.tsp_promises.proofs.CastProof.{round-soon}
 use Rattle.tsp_promises.proofs.Given.{Given, given_at}
 use Rattle.tsp_promises.proofs.ClosedProof.{closed_at}
 use Rattle.tsp_promises.proofs.BestProof.{best_at}
@@ -32,6 +32,7 @@ use Rattle.tsp_promises.proofs.PortFits.{deed_fits}
 use Rattle.tsp_promises.proofs.RoundPlaces.{same-start}
 use Rattle.tsp_promises.proofs.SendPlaces.{post_fits}
 use Rattle.tsp_promises.proofs.SendProof.{CorrectsTo, number-same}
+use Rattle.tsp_promises.proofs.TakingProof.{round-soon}
 
 -- k posted its ticket at most 30 s before the correction f began with it
 pub record Source (k : ℕ) (f : Did) (fw : List Line) (number : ℕ) : Type 0 where
@@ -45,6 +46,14 @@ pub record Source (k : ℕ) (f : Did) (fw : List Line) (number : ℕ) : Type 0 w
   pub is : number ≡ ticket (dids (of k ro))
   pub soon : f.step.at ≤ r.did.step.at + 30000000
 
+-- the number of a SLAVEUP is the ticket of the node that posts it
+pub slaveup_ticket : (setting : Setting) (k to : ℕ) (r : Line) (ro : List Line) (m : MessageValue) → LineFits setting r ro → node_of r ≡ k → r.did.deed ≡ Acts (Post (Peer (peer_of to)) (Message m)) → m.kind ≡ SlaveUp → m.number ≡ ticket (dids (of k ro))
+slaveup_ticket setting k to r ro m f node deed kind =
+    let fits = deed_fits setting r ro (Acts (Post (Peer (peer_of to)) (Message m))) deed f in
+    let seen = view r.port (of (node_of r) ro) in
+    let up : m.number ≡ ticket (plain seen) = subst (λ kd. MessageFits (setup_of setting (node_of r) r.port) kd r.did seen (peer_of to) m) kind fits.fits in
+    subst (λ n. m.number ≡ ticket (dids (of n ro))) node (up ∙ ap ticket (plain_view r.port (of (node_of r) ro)))
+
 from-slaveup : (setting : Setting) (m k : ℕ) (q : Port) (f : Did) (fw : List Line) (mf : MessageValue) → Given setting (line_on q f ∷ fw) → f.step.node ≡ m → f.deed ≡ Acts (Post (Peer (peer_of k)) (Message mf)) →
     AnswersSlaveUp (view q (of m fw)) (peer_of k) mf → Source k f fw mf.number
 from-slaveup setting m k q f fw mf g f_node deed s =
@@ -52,9 +61,7 @@ from-slaveup setting m k q f fw mf g f_node deed s =
     let r = known setting (line_on q f) fw (Post (Peer (peer_of k)) (Message mf)) (peer_of k) (Message s.message) g.fits g.honest deed took in
     let node : node_of r.post ≡ k = number-same (node_of r.post) k r.node in
     let gr = given_at setting (r.post ∷ r.older) fw (given_at setting fw (line_on q f ∷ fw) g (inr (Within-all fw))) r.place in
-    let fits = deed_fits setting r.post r.older (Acts (Post (Peer (peer_of f.step.node)) (Message s.message))) r.deed gr.fits.0 in
-    let up : s.message.number ≡ ticket (plain (view r.post.port (of (node_of r.post) r.older))) = subst (λ kd. MessageFits (setup_of setting (node_of r.post) r.post.port) kd r.post.did (view r.post.port (of (node_of r.post) r.older)) (peer_of f.step.node) s.message) s.kind fits.fits in
-    let is : s.message.number ≡ ticket (dids (of k r.older)) = subst (λ n. s.message.number ≡ ticket (dids (of n r.older))) node (up ∙ ap ticket (plain_view r.post.port (of (node_of r.post) r.older))) in
+    let is = slaveup_ticket setting k f.step.node r.post r.older s.message gr.fits.0 node r.deed s.kind in
     record {
       r = r.post;
       ro = r.older;
@@ -97,7 +104,7 @@ from-close setting m k q f fw mf g f_node a =
     let s_in : Within (line_on q b.did ∷ s.older) fw = Within-through (line_on q b.did ∷ s.older) c.older fw s.place (Within-tail (line_on q a.close) c.older fw c.place) in
     let gs = given_at setting (line_on q b.did ∷ s.older) fw gf s_in in
     let sf = sample_fits setting (line_on q b.did) s.older (peer_of k) a.sample.counter a.sample.ticket a.sample.diff a.sample.err gs.fits.0 b.deed in
-    let x = reading_at setting (line_on q b.did) s.older (peer_of k) a.sample.counter a.sample.ticket a.sample.diff a.sample.err gs.fits gs.honest gs.words b.deed sf in
+    let x = reading_at setting (line_on q b.did) s.older (peer_of k) a.sample.counter a.sample.ticket a.sample.diff a.sample.err gs.fits gs.honest (inl gs.life) b.deed sf in
     let mine : started (view q (of m s.older)) ≡ Here sf.start ∷ sf.idle = subst (λ n. started (view q (of n s.older)) ≡ Here sf.start ∷ sf.idle) s.node sf.start_is in
     let same = same-start sf.start u.start sf.idle u.idle (view q (of m s.older)) b.rest a.past mine (sym s.before) b.round u.start_is in
     from-reading setting m k q f a.close b.did u.start sf.start fw c.older s.older u.idle sf.idle a.sample mf.number sf.reply gf.fits c.place c.node (ap started c.before ∙ u.start_is) u.soon u.at same u.number sf.number_is s.place x

@@ -36,7 +36,7 @@ sounds = line (step_at 400000300 1 (Came 6)) port0 (Post (Peer (peer_of 0)) (Sta
 abbrev pub answers : Line
 answers = line (step_at 400000300 2 (Came 7)) port0 (Post (Peer (peer_of 0)) (Stamp (Reply reply2)))
 
-pub first-cast : Cast 0 closing (skip 4 w19) (first) (skip 2 w20) (sounds) (skip 1 w15) (pos 401)
+abbrev pub first-cast : Cast 0 closing (skip 4 w19) (first) (skip 2 w20) (sounds) (skip 1 w15) (pos 401)
 first-cast =
     cast-by 0 closing (skip 4 w19) (first) (skip 2 w20) sounds (skip 1 w15) (line (step_at 408000000 0 Turned) port0 (Post (Peer (peer_of 1)) (Message (msg AdjTime 10 (Time (pos 17)))))) (skip 2 w19) (msg AdjTime 10 (Time (pos 17))) (pos 17) false (pos 408000399)
     (record { counter = 0; diff = negsuc 100; err = pos 401; ticket = 10; trip = pos 801; place = view port0 (of 0 w17) })

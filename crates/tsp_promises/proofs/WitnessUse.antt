@@ -191,5 +191,9 @@ w23 = then_step (step_at 408000800 0 (Came 13)) aw23 w22
 f23 : Fits (still false) w23
 f23 = step-fits false (step_at 408000800 0 (Came 13)) aw23 w22 f22 refl ((refl, (refl, came refl refl refl refl refl)), ((refl, acked-fits _ (msg AdjTime 12 (Time (pos 67))) (msg Ack 12 Nothing) (peer_of 2) _ _ refl refl refl refl refl refl), tt))
 
+-- up to the first reply
+pub asked : Fits (still false) w15
+asked = f15
+
 pub fits : Fits (still false) w23
 fits = f23

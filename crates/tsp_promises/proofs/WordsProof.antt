@@ -6,9 +6,9 @@ use Rattle.tsp_promises.specs.Fits.{Fits, LineFits, Alive, node_of}
 use Rattle.tsp_base.specs.History.{Booted, Deed, Begins, Acts, Line, of, dids}
 use Rattle.tsp_base.specs.NodeFacts.{lives, lives_after, up, up_after, word, word_after}
 use Rattle.tsp_base.specs.Places.{Within}
-use Rattle.tsp_promises.specs.Premises.{Words, WordsAt}
+use Rattle.tsp_promises.specs.Premises.{OwnWords, OwnWordsAt, Words, WordsAt}
 use Rattle.tsp_promises.specs.Setting.{Setting}
-use Rattle.tsp_promises.proofs.EverywhereLemmas.{Everywhere-at}
+use Rattle.tsp_promises.proofs.EverywhereLemmas.{Everywhere-at, Everywhere-from}
 use Rattle.tsp_base.proofs.PlaceLemmas.{Within-all, Within-through, Within-comparable}
 use Rattle.tsp_promises.specs.OwnFits.{OwnFits}
 use Rattle.tsp_promises.proofs.HistoryPlaces.{own_in}
@@ -60,8 +60,12 @@ pub boot_of : (setting : Setting) (n : ℕ) (world : List Line) → Fits setting
 boot_of setting n [] f u = absurd (true≢false (sym u))
 boot_of setting n (l ∷ world) f u = boot-more setting n l world (node_of l == n) refl f.0 (boot_of setting n world f.1) u
 
+-- where no two boots have one word, no two of one node have
+pub own_words : (world : List Line) → Words world → OwnWords world
+own_words world words = Everywhere-from OwnWordsAt world (λ l s w other older v u x y same. Everywhere-at WordsAt l s world words w other older v u x y)
+
 -- after a boot the word is another
-pub word_moves : (setting : Setting) (n : ℕ) (s t : List Line) → Fits setting t → Words t → Within s t → Fits setting s → up (dids (of n s)) ≡ true → up (dids (of n t)) ≡ true → lives (dids (of n s)) < lives (dids (of n t)) →
+pub word_moves : (setting : Setting) (n : ℕ) (s t : List Line) → Fits setting t → OwnWords t → Within s t → Fits setting s → up (dids (of n s)) ≡ true → up (dids (of n t)) ≡ true → lives (dids (of n s)) < lives (dids (of n t)) →
     word (dids (of n s)) ≢ word (dids (of n t))
 word_moves setting n s t f words w fs us ut less same =
     let a = boot_of setting n s fs us in
@@ -69,7 +73,7 @@ word_moves setting n s t f words w fs us ut less same =
     let a_in : Within (a.line ∷ a.older) t = Within-through (a.line ∷ a.older) s t a.place w in
     elim (Within-comparable (a.line ∷ a.older) (b.line ∷ b.older) t a_in b.place) [
       | inl (inl e) ↦ absurd (equal a.line b.line a.older b.older e a.lives b.lives)
-      | inl (inr i) ↦ Everywhere-at WordsAt b.line b.older t words b.place a.line a.older (word (dids (of n s))) (word (dids (of n t))) b.wall a.wall i b.deed a.deed b.cause a.cause same
+      | inl (inr i) ↦ Everywhere-at OwnWordsAt b.line b.older t words b.place a.line a.older (word (dids (of n s))) (word (dids (of n t))) b.wall a.wall (a.node ∙ sym b.node) i b.deed a.deed b.cause a.cause same
       | inr (inl e) ↦ absurd (equal a.line b.line a.older b.older (sym e) a.lives b.lives)
       | inr (inr i) ↦
           let own = own_fits setting n t f in

@@ -1,15 +1,21 @@
 -- That the promises say something: for each part a small history that breaks it.
 use Rattle.std.specs.Prelude.{List}
 use Rattle.tsp_promises.specs.Agreed.{Agreed, StayAgreed}
+use Rattle.tsp_promises.specs.AgreedShown.{AgreedShown, ShownNear, Waited}
+use Rattle.tsp_promises.specs.Chained.{Chained}
+use Rattle.tsp_promises.specs.FirstSet.{FirstSet, FirstSetSoon}
 use Rattle.tsp_base.specs.History.{Line}
 use Rattle.tsp_promises.specs.Measured.{Measured, Trips}
 use Rattle.tsp_promises.specs.Once.{OnceConfirmed, OnceCorrected, OnceObeyed, OnceSpaced, OnceSpacedOverLives, OnceTaken}
 use Rattle.tsp_promises.specs.OneBack.{OneBack}
+use Rattle.tsp_promises.specs.OneError.{OneError}
 use Rattle.tsp_promises.specs.OneWinner.{OneWinner}
 use Rattle.tsp_promises.specs.OnlyMaster.{OnlyMaster}
 use Rattle.tsp_promises.specs.Relayed.{Relayed}
 use Rattle.tsp_promises.specs.Resolved.{StaysQuiet, StopsLeading, Yields}
 use Rattle.tsp_promises.specs.Setting.{Setting}
+use Rattle.tsp_promises.specs.Steady.{Steady}
+use Rattle.tsp_promises.specs.Throughout.{Throughout}
 
 -- some history breaks the promise
 pub record Breaks (Promise : List Line → Type 0) : Type 0 where
@@ -91,9 +97,41 @@ pub record ClocksBreak (setting : Setting) : Type 0 where
   -- a relayed clock that moves by another amount than the ADJTIME says
   pub relayed : Breaks (Relayed setting)
 
+-- what breaks the promises of what users read; that a clock meets its target is how its value is defined, and nothing breaks it
+pub record ReadingsBreak (setting : Setting) : Type 0 where
+  -- a node whose ticks go back, so that it slews twice in one time
+  pub steady : Breaks (Steady setting)
+  -- likewise, the other way: it shows too little after a wait
+  pub waited : Breaks (Waited setting)
+  -- a follower that is stepped by another amount than its ADJTIME says
+  pub agreed_shown : Breaks (AgreedShown setting)
+  -- a boot that shows another wall clock than the node's
+  pub shown_near : Breaks (ShownNear setting)
+
+-- what breaks the promises of chains and of single corrections
+pub record ChainsBreak (setting : Setting) : Type 0 where
+  -- a relayed clock that moves by another amount than the ADJTIME says
+  pub down : Breaks (Chained setting)
+  -- of two clocks of one Close one that does so
+  pub across : Breaks (Chained setting)
+  -- the same, over the master
+  pub tree : Breaks (Chained setting)
+  -- a clock that moves by another amount than its ADJTIME says, whatever is taken back
+  pub throughout : Breaks (Throughout setting)
+  -- an ADJTIME that acts on a clock which was corrected since the reading
+  pub one_error : Breaks OneError
+  -- a SETTIME that acts on a clock which was corrected since the SLAVEUP
+  pub answered_late : Breaks OneError
+  -- a clock that a SETTIME moves by another amount than it says
+  pub first_set : Breaks (FirstSet setting)
+  -- likewise, by more than a datagram's life
+  pub first_set_soon : Breaks (FirstSetSoon setting)
+
 -- each promise is broken by some history, in one setting
 pub record AllBreak : Type 0 where
   pub setting : Setting
   pub roles : RolesBreak setting
   pub sends : SendsBreak setting
   pub clocks : ClocksBreak setting
+  pub readings : ReadingsBreak setting
+  pub chains : ChainsBreak setting

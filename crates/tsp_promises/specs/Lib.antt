@@ -1,8 +1,11 @@
 pub mod AckFits
 pub mod Agreed
+pub mod AgreedShown
 pub mod Alone
 pub mod Became
 pub mod Broken
+pub mod ChainUse
+pub mod Chained
 pub mod ClockAt
 pub mod CorrectFits
 pub mod CorrectionFits
@@ -11,6 +14,7 @@ pub mod DateUse
 pub mod Dated
 pub mod DeedFits
 pub mod Everywhere
+pub mod FirstSet
 pub mod Fits
 pub mod HoldFits
 pub mod Kept
@@ -22,6 +26,7 @@ pub mod Measured
 pub mod NodeRuns
 pub mod Once
 pub mod OneBack
+pub mod OneError
 pub mod OneWinner
 pub mod OnlyMaster
 pub mod OrdinaryUse
@@ -32,10 +37,17 @@ pub mod Relayed
 pub mod Relays
 pub mod Resolved
 pub mod RivalsMeet
+pub mod RoundsUse
 pub mod Runs
 pub mod Safe
+pub mod SameWords
+pub mod SetUse
 pub mod Setting
+pub mod ShownAt
+pub mod ShownUse
 pub mod Since
 pub mod Sound
+pub mod Steady
 pub mod StepFacts
 pub mod StrictElections
+pub mod Throughout

@@ -41,6 +41,15 @@ abbrev pub WordsAt : Line → List Line → Type 0
 WordsAt l world = (other : Line) (older : List Line) (v w : ℕ) (x y : ℤ) → Within (other ∷ older) world → l.did.deed ≡ Acts Boot → other.did.deed ≡ Acts Boot →
     l.did.step.cause ≡ Booted w x → other.did.step.cause ≡ Booted v y → v ≢ w
 
+-- the same, of boots of one node alone
+abbrev pub OwnWordsAt : Line → List Line → Type 0
+OwnWordsAt l world = (other : Line) (older : List Line) (v w : ℕ) (x y : ℤ) → node_of other ≡ node_of l → Within (other ∷ older) world → l.did.deed ≡ Acts Boot → other.did.deed ≡ Acts Boot →
+    l.did.step.cause ≡ Booted w x → other.did.step.cause ≡ Booted v y → v ≢ w
+
+-- the words of any two boots of one node differ
+abbrev pub OwnWords : List Line → Type 0
+OwnWords = Everywhere OwnWordsAt
+
 -- the words of any two boots differ
 abbrev pub Words : List Line → Type 0
 Words = Everywhere WordsAt

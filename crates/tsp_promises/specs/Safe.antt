@@ -1,17 +1,23 @@
 -- All promises of a history, each under the premises that it needs.
-use Rattle.std.specs.Prelude.{List}
+use Rattle.std.specs.Prelude.{◌⊎◌, List}
 use Rattle.tsp_promises.specs.Agreed.{Agreed, StayAgreed}
+use Rattle.tsp_promises.specs.AgreedShown.{AgreedShown, ShownNear, Waited}
+use Rattle.tsp_promises.specs.Chained.{Chained}
+use Rattle.tsp_promises.specs.FirstSet.{FirstSet, FirstSetSoon}
 use Rattle.tsp_base.specs.History.{Line}
 use Rattle.tsp_promises.specs.Measured.{Measured, Trips}
 use Rattle.tsp_promises.specs.Once.{OnceConfirmed, OnceCorrected, OnceObeyed, OnceSpaced, OnceSpacedOverLives, OnceTaken}
 use Rattle.tsp_promises.specs.OneBack.{OneBack}
+use Rattle.tsp_promises.specs.OneError.{OneError}
 use Rattle.tsp_promises.specs.OnlyMaster.{OnlyMaster}
-use Rattle.tsp_promises.specs.Premises.{Honest, Life, Words}
+use Rattle.tsp_promises.specs.Premises.{Honest, Life, OwnWords}
 use Rattle.tsp_promises.specs.Relayed.{Relayed}
 use Rattle.tsp_promises.specs.Resolved.{Resolved}
 use Rattle.tsp_promises.specs.Setting.{Setting}
+use Rattle.tsp_promises.specs.Steady.{Meets, Steady}
+use Rattle.tsp_promises.specs.Throughout.{Throughout}
 
--- who is backed and who corrects is safe whatever is delivered; the rest rests on who sends, on how long datagrams live, and on words that differ
+-- who is backed and who corrects is safe whatever is delivered; the rest rests on who sends and on how long datagrams live; a measurement, where they may live longer, on words of a node's boots that differ
 pub record Safe (setting : Setting) (world : List Line) : Type 0 where
   pub one_back : OneBack world
   pub only_master : OnlyMaster world
@@ -19,11 +25,21 @@ pub record Safe (setting : Setting) (world : List Line) : Type 0 where
   pub once_spaced_over_lives : OnceSpacedOverLives world
   pub once_obeyed : Honest world → OnceObeyed setting world
   pub once_corrected : Life world → OnceCorrected world
-  pub once_taken : Honest world → Life world → Words world → OnceTaken world
-  pub once_confirmed : Honest world → Life world → Words world → OnceConfirmed world
+  pub once_taken : Honest world → Life world → OnceTaken world
+  pub once_confirmed : Honest world → Life world → OnceConfirmed world
   pub trips : Trips world
-  pub measured : Honest world → Words world → Measured setting world
-  pub agreed : Honest world → Life world → Words world → Agreed setting world
-  pub stay_agreed : Honest world → Life world → Words world → StayAgreed setting world
-  pub relayed : Honest world → Life world → Words world → Relayed setting world
+  pub measured : Honest world → Life world ⊎ OwnWords world → Measured setting world
+  pub agreed : Honest world → Life world → Agreed setting world
+  pub stay_agreed : Honest world → Life world → StayAgreed setting world
+  pub one_error : Honest world → Life world → OneError world
+  pub first_set : FirstSet setting world
+  pub first_set_soon : Life world → FirstSetSoon setting world
+  pub chained : Honest world → Life world → Chained setting world
+  pub throughout : Honest world → Life world → Throughout setting world
+  pub relayed : Honest world → Life world → Relayed setting world
   pub resolved : Resolved world
+  pub steady : Steady setting world
+  pub meets : Meets world
+  pub agreed_shown : Honest world → Life world → AgreedShown setting world
+  pub shown_near : ShownNear setting world
+  pub waited : Waited setting world

@@ -1,18 +1,20 @@
 //! The promises of the protocol, each proved of every history that fits: of any number of nodes,
 //! and of any number of ports of a node. Nothing here runs. Each function's contract is a theorem
-//! about the definitions of `tsp_base`; whoever keeps what each deed owes to its past keeps the
+//! about the definitions of `specs/`; whoever keeps what each deed owes to its past keeps the
 //! promises.
-ghost use Rattle.std.specs.Prelude.{◌≡◌, ◌≤◌, ◌+◌, nat_abs, true, ℕ, ℤ, List};
+ghost use Rattle.std.specs.Prelude.{◌≡◌, ◌≤◌, ◌⊎◌, ◌+◌, nat_abs, true, ℕ, ℤ, List};
 ghost use Rattle.tsp_promises.specs.Agreed.{Agreed, StayAgreed};
+ghost use Rattle.tsp_promises.specs.Chained.{Chained};
+ghost use Rattle.tsp_promises.specs.FirstSet.{FirstSet, FirstSetSoon};
 ghost use Rattle.tsp_promises.specs.Fits.{Fits, Finished};
 ghost use Rattle.tsp_base.specs.History.{Line};
 ghost use Rattle.tsp_promises.specs.Measured.{Measured, Trips};
-ghost use Rattle.tsp_promises.specs.Once.{OnceConfirmed, OnceCorrected, OnceObeyed, OnceSpaced};
-ghost use Rattle.tsp_promises.specs.Once.{OnceSpacedOverLives, OnceTaken};
+ghost use Rattle.tsp_promises.specs.Once.{OnceConfirmed, OnceCorrected, OnceObeyed, OnceSpaced, OnceSpacedOverLives, OnceTaken};
 ghost use Rattle.tsp_promises.specs.OneBack.{OneBack};
+ghost use Rattle.tsp_promises.specs.OneError.{OneError};
 ghost use Rattle.tsp_promises.specs.OnlyMaster.{OnlyMaster};
 ghost use Rattle.tsp_promises.specs.OneWinner.{OneWinner};
-ghost use Rattle.tsp_promises.specs.Premises.{Few, Honest, Life, Words};
+ghost use Rattle.tsp_promises.specs.Premises.{Few, Honest, Life, OwnWords};
 ghost use Rattle.tsp_promises.specs.Relayed.{Relayed};
 ghost use Rattle.tsp_promises.specs.Resolved.{StaysQuiet, StopsLeading, Yields};
 ghost use Rattle.tsp_promises.specs.Safe.{Safe};
@@ -25,7 +27,15 @@ ghost use Rattle.tsp_promises.specs.LateReply.{LateReply};
 ghost use Rattle.tsp_promises.specs.OrdinaryUse.{OrdinaryUse};
 ghost use Rattle.tsp_promises.specs.Relays.{Relays};
 ghost use Rattle.tsp_promises.specs.RivalsMeet.{RivalsMeet};
+ghost use Rattle.tsp_promises.specs.Steady.{Meets, Steady};
 ghost use Rattle.tsp_promises.specs.StrictElections.{StrictElections};
+ghost use Rattle.tsp_promises.specs.AgreedShown.{AgreedShown, ShownNear, Waited};
+ghost use Rattle.tsp_promises.specs.ChainUse.{ChainUse};
+ghost use Rattle.tsp_promises.specs.ShownUse.{ShownUse};
+ghost use Rattle.tsp_promises.specs.SetUse.{SetUse};
+ghost use Rattle.tsp_promises.specs.SameWords.{MeasuresWrongly, SameWords};
+ghost use Rattle.tsp_promises.specs.Throughout.{Throughout};
+ghost use Rattle.tsp_promises.specs.RoundsUse.{RoundsUse};
 
 /// All promises of a history that ends with a step, each under the premises that it needs.
 pub fn safe()
@@ -72,10 +82,11 @@ pub fn once_taken()
         → Life world → OnceTaken world }
 {}
 
-/// A correction that was acknowledged was taken.
+/// A correction that was acknowledged was taken, if no peer's datagram is forged and none outlives
+/// `LIFE`. Boots may have equal words, here and wherever clocks are compared.
 pub fn once_confirmed()
     ensures { (setting : Setting) (world : List Line) → Fits setting world → Honest world
-        → Life world → Words world → OnceConfirmed world }
+        → Life world → OnceConfirmed world }
 {}
 
 /// A measurement ends an open exchange of the going round, and the error that it states is half
@@ -85,10 +96,11 @@ pub fn measured_trips()
 {}
 
 /// A measurement rests on a reply that its peer posted, and errs by at most the error that it
-/// states, if no peer's datagram is forged and no two boots have one word.
+/// states, if no peer's datagram is forged, and none outlives `LIFE` or no two boots of one node
+/// have one word.
 pub fn measured()
     ensures { (setting : Setting) (world : List Line) → Fits setting world → Honest world
-        → Words world → Measured setting world }
+        → Life world ⊎ OwnWords world → Measured setting world }
 {}
 
 /// An ADJTIME that a Close begins rests on a sample, and clocks that one Close corrected agree with
@@ -96,15 +108,41 @@ pub fn measured()
 /// happens.
 pub fn agreed()
     ensures at { (setting : Setting) (world : List Line) → Fits setting world → Honest world
-        → Life world → Words world → Agreed setting world }
+        → Life world → Agreed setting world }
     ensures stay { (setting : Setting) (world : List Line) → Fits setting world → Honest world
-        → Life world → Words world → StayAgreed setting world }
+        → Life world → StayAgreed setting world }
+{}
+
+/// No error is corrected twice: from the reading, or the SLAVEUP, on which a correction rests to
+/// the Correct that takes it the node neither boots nor corrects its clock, whichever masters there
+/// are, if no peer's datagram is forged and none outlives `LIFE`.
+pub fn one_error()
+    ensures { (setting : Setting) (world : List Line) → Fits setting world → Honest world
+        → Life world → OneError world }
+{}
+
+/// After a SETTIME a clock is behind its master's by the time that the datagram took since it was
+/// first posted, and drift; forged datagrams or not. If no datagram outlives `LIFE` that is at most
+/// 34 s and drift.
+pub fn first_set()
+    ensures at { (setting : Setting) (world : List Line) → Fits setting world
+        → FirstSet setting world }
+    ensures soon { (setting : Setting) (world : List Line) → Fits setting world → Life world
+        → FirstSetSoon setting world }
+{}
+
+/// Clocks along chains of corrections agree: with the first master's, with those along another
+/// chain of the same Close, and, in a tree of gateways, any two of them. They differ by at most the
+/// errors of the readings on the path and drift.
+pub fn chained()
+    ensures { (setting : Setting) (world : List Line) → Fits setting world → Honest world
+        → Life world → Chained setting world }
 {}
 
 /// A clock that a corrected master corrected agrees with the first master's, at each line and from there on.
 pub fn relayed()
     ensures { (setting : Setting) (world : List Line) → Fits setting world → Honest world
-        → Life world → Words world → Relayed setting world }
+        → Life world → Relayed setting world }
 {}
 
 /// A master that takes a QUIT follows its sender at the end of that step.
@@ -143,11 +181,43 @@ pub fn relayed_use()
     ensures { Relays }
 {}
 
+/// Nor are those of chains: a history that fits sees a master correct a gateway, that one a second
+/// one, and that one a last node.
+pub fn chain_use()
+    ensures { ChainUse }
+{}
+
+/// Nor are those of what users read: a history that fits sees a clock slewed until it meets its
+/// target, and a wait that is long enough.
+pub fn shown_use()
+    ensures { ShownUse }
+{}
+
+/// Nor are those of first settings and of single corrections: a history that fits sees a clock set
+/// by the answer to a SLAVEUP, and corrected by an ADJTIME that rests on a reading.
+pub fn set_use()
+    ensures { SetUse }
+{}
+
+/// Nor is the promise that a round's bound never lapses: a history that fits sees a second round
+/// move both clocks of the first.
+pub fn rounds_use()
+    ensures { RoundsUse }
+{}
+
 /// A history that fits sees dates passed on and set, in two lives of a master. Where forged octets
 /// come between, one date is set twice, so `once_taken` needs its premise.
 pub fn dates_pass()
     ensures used { DateUse }
     ensures forged { ForgedDate }
+{}
+
+/// Boots may have one word: a history that fits sees a master boot again with its old word and
+/// close a round in each of its lives, each of which corrects a node. Where a datagram outlives
+/// `LIFE` besides, a measurement goes wrong, so `measured` needs one of both.
+pub fn words_repeat()
+    ensures used { SameWords }
+    ensures late { MeasuresWrongly }
 {}
 
 /// A history that fits may bring a reply to a request of an earlier life; it ends no exchange, and
@@ -180,6 +250,43 @@ pub fn promises_can_be_broken()
 pub fn one_winner()
     ensures { (setting : Setting) (world : List Line) → setting.strict ≡ true → Fits setting world
         → Honest world → Life world → Few world → OneWinner setting world }
+{}
+
+/// A round's bound never lapses: with what the two nodes were moved by since taken back, the clock
+/// of a node that a Close corrected and that of the master agree as they did, until either boots;
+/// so the clocks differ by at most that besides.
+pub fn throughout()
+    ensures { (setting : Setting) (world : List Line) → Fits setting world → Honest world
+        → Life world → Throughout setting world }
+{}
+
+/// The clock that users read never falls between steps and boots, and is off in rate by at most one
+/// in two hundred, beside its node's drift; forged datagrams or not.
+pub fn runs_steadily()
+    ensures { (setting : Setting) (world : List Line) → Fits setting world → Steady setting world }
+{}
+
+/// What users read of clocks agrees as the clocks do, wherever a Close or a chain bounds them:
+/// within the same errors and drift, and what is still to be slewed on each. Where anything else
+/// bounds the clocks of two nodes that have booted, so it does what they show, forged datagrams or
+/// not.
+pub fn agreed_shown()
+    ensures clocks { (setting : Setting) (world : List Line) → Fits setting world → Honest world
+        → Life world → AgreedShown setting world }
+    ensures near { (setting : Setting) (world : List Line) → Fits setting world
+        → ShownNear setting world }
+{}
+
+/// Who waits until his clock and another's can't be apart any more knows that what the other shows
+/// then is later than what his own showed before.
+pub fn stamps_in_order()
+    ensures { (setting : Setting) (world : List Line) → Fits setting world → Waited setting world }
+{}
+
+/// It meets its target: what is left to slew is less by a microsecond each 200 ticks. No deed can
+/// break this; it is how the shown value is defined.
+pub fn meets_target()
+    ensures { (world : List Line) → Meets world }
 {}
 
 /// Over some span of true time a tick counter advances by that span, give or take the width.

@@ -3,6 +3,6 @@ use Rattle.tsp_promises.proofs.AgreedProof.{agreed, stay_agreed}
 
 pub returns : goal.returns
 returns c = record {
-  at = λ setting world f h life words. agreed setting world (record { fits = f; honest = h; life = life; words = words });
-  stay = λ setting world f h life words. stay_agreed setting world (record { fits = f; honest = h; life = life; words = words });
+  at = λ setting world f h life. agreed setting world (record { fits = f; honest = h; life = life });
+  stay = λ setting world f h life. stay_agreed setting world (record { fits = f; honest = h; life = life });
 }

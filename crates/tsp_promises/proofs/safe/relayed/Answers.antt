@@ -2,4 +2,4 @@ use Rattle.tsp_promises.proofs.safe.relayed.Goals as goal
 use Rattle.tsp_promises.proofs.RelayedProof.{relayed}
 
 pub returns : goal.returns
-returns c = λ setting world f honest life words. relayed setting world (record { fits = f; honest = honest; life = life; words = words })
+returns c = λ setting world f honest life. relayed setting world (record { fits = f; honest = honest; life = life })

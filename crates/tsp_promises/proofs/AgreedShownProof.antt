@@ -1,0 +1,106 @@
+-- What users read of clocks agrees where the clocks do.
+use Rattle.std.specs.Prelude.{◌≡◌, ◌≤◌, ◌≤ℤ◌, ℕ, ◌+◌, ◌-◌, ℤ, pos, ◌+ℤ◌, ◌-ℤ◌, nat_abs, true, List, [], ◌∷◌}
+use Rattle.std.proofs.Common.{arith, subst}
+use Rattle.std.proofs.lemmas.Int.{ints}
+use Rattle.tsp_promises.specs.Agreed.{Cast, Unchanged}
+use Rattle.tsp_promises.specs.AgreedShown.{AgreedShown, AcrossShown, DownShown, MasterShown, PeersShown, ShownAgree, ShownAsClocks, ShownNear, TreeShown, Waited, WaitedFor}
+use Rattle.tsp_promises.specs.Chained.{Hop, Hops, IsChain, last_hop, node_at}
+use Rattle.tsp_promises.specs.ClockAt.{clock_at}
+use Rattle.tsp_promises.specs.Fits.{Alive, Fits, node_of}
+use Rattle.tsp_base.specs.History.{Line, of, dids}
+use Rattle.tsp_base.specs.NodeFacts.{time_of, up}
+use Rattle.tsp_base.specs.Places.{Within}
+use Rattle.tsp_promises.specs.Setting.{Setting}
+use Rattle.tsp_promises.specs.ShownAt.{left_at, shown_at}
+use Rattle.tsp_promises.specs.Steady.{shown_width}
+use Rattle.tsp_base.proofs.PlaceLemmas.{Within-through, Within-tail}
+use Rattle.tsp_promises.proofs.AgreedProof.{agreed_master, agreed_peers}
+use Rattle.tsp_promises.proofs.ChainedProof.{chained_at}
+use Rattle.tsp_promises.proofs.ClockProof.{post_up}
+use Rattle.tsp_promises.proofs.EverywhereLemmas.{Everywhere-from}
+use Rattle.tsp_promises.proofs.Given.{Given, given_at}
+use Rattle.tsp_promises.proofs.Locating.{fits_in}
+use Rattle.tsp_promises.proofs.OwnFitsProof.{fits_at}
+use Rattle.tsp_promises.proofs.ShownProof.{shown_is, stays_up}
+use Rattle.tsp_promises.proofs.SteadyProof.{runs_over_time}
+
+-- clocks less what is left
+less : (c d x y b : ℤ) → pos (nat_abs (c -ℤ d)) ≤ℤ b → pos (nat_abs ((c -ℤ x) -ℤ (d -ℤ y))) ≤ℤ ((b +ℤ pos (nat_abs x)) +ℤ pos (nat_abs y))
+less c d x y b h = omega (arith, ints)
+
+shown-as-clocks : (setting : Setting) (h : List Line) (t : ℕ) → Fits setting h → ShownAsClocks setting h t
+shown-as-clocks setting h t f k l b ku lu near =
+    rw (shown_is setting k h t f ku, shown_is setting l h t f lu) (less (clock_at setting k h t) (clock_at setting l h t) (left_at setting k h t) (left_at setting l h t) b near)
+
+-- whoever was corrected has booted
+corrected-up : (setting : Setting) (m : ℕ) (close : Line) (cpast : List Line) (c : Line) (past : List Line) (r : Line) (older : List Line) (e : ℤ) (h : List Line) → Fits setting h → Cast m close cpast c past r older e → Unchanged (node_of c) (c ∷ past) h → up (dids (of (node_of c) h)) ≡ true
+corrected-up setting m close cpast c past r older e h f x u =
+    let k = node_of c in
+    let fc = fits_at setting (c ∷ past) h f u.within in
+    stays_up k past h (Within-tail c past h u.within) (subst (λ z. Alive setting z c.did (up (dids (of k past)))) x.acts.correct fc.0.alive)
+
+-- and so has whoever corrected it
+master-up : (setting : Setting) (m : ℕ) (close : Line) (cpast : List Line) (c : Line) (past : List Line) (r : Line) (older : List Line) (e : ℤ) (h : List Line) → Fits setting h → Cast m close cpast c past r older e → Unchanged (node_of c) (c ∷ past) h → up (dids (of m h)) ≡ true
+master-up setting m close cpast c past r older e h f x u =
+    let b = x.acts.brings in
+    let post_h : Within (x.post ∷ x.before) h = Within-through (x.post ∷ x.before) past h b.place (Within-tail c past h u.within) in
+    let posted = post_up setting x.post x.before _ _ (fits_in setting x.post x.before h f post_h) b.deed in
+    stays_up m x.before h (Within-tail x.post x.before h post_h) (subst (λ n. up (dids (of n x.before)) ≡ true) x.node posted)
+
+hop-up : (setting : Setting) (m : ℕ) (x : Hop) (h : List Line) → Fits setting h → Hops m x h → up (dids (of (node_at x) h)) ≡ true
+hop-up setting m x h f a = corrected-up setting m x.close x.cpast x.correct x.past x.reading x.older x.err h f a.cast a.unchanged
+
+hop-master : (setting : Setting) (m : ℕ) (x : Hop) (h : List Line) → Fits setting h → Hops m x h → up (dids (of m h)) ≡ true
+hop-master setting m x h f a = master-up setting m x.close x.cpast x.correct x.past x.reading x.older x.err h f a.cast a.unchanged
+
+last-up : (setting : Setting) (m : ℕ) (first : Hop) (rest : List Hop) (h : List Line) → Fits setting h → Hops m first h → IsChain first rest h → up (dids (of (node_at (last_hop first rest)) h)) ≡ true
+last-up setting m first [] h f a c = hop-up setting m first h f a
+last-up setting m first (x ∷ rest) h f a c = hop-up setting (node_at (last_hop first rest)) x h f c.0
+
+peers : (setting : Setting) (h : List Line) (t : ℕ) → Given setting h → time_of (dids h) ≤ t → PeersShown setting h t
+peers setting h t g by m close cpast c d past qast r q rolder qolder e f x y u v =
+    shown-as-clocks setting h t g.fits (node_of c) (node_of d) _ (corrected-up setting m close cpast c past r rolder e h g.fits x u) (corrected-up setting m close cpast d qast q qolder f h g.fits y v)
+    (agreed_peers setting h t g by m close cpast c d past qast r q rolder qolder e f x y u v)
+
+master : (setting : Setting) (h : List Line) (t : ℕ) → Given setting h → time_of (dids h) ≤ t → MasterShown setting h t
+master setting h t g by m close cpast c past r rolder e x u v =
+    shown-as-clocks setting h t g.fits (node_of c) m _ (corrected-up setting m close cpast c past r rolder e h g.fits x u) (master-up setting m close cpast c past r rolder e h g.fits x u)
+    (agreed_master setting h t g by m close cpast c past r rolder e x u v)
+
+down : (setting : Setting) (h : List Line) (t : ℕ) → Given setting h → time_of (dids h) ≤ t → DownShown setting h t
+down setting h t g by m first rest a c but =
+    shown-as-clocks setting h t g.fits (node_at (last_hop first rest)) m _ (last-up setting m first rest h g.fits a c) (hop-master setting m first h g.fits a)
+    ((chained_at setting h t g by).down m first rest a c but)
+
+across : (setting : Setting) (h : List Line) (t : ℕ) → Given setting h → time_of (dids h) ≤ t → AcrossShown setting h t
+across setting h t g by m a b xs ys x y close cpast c d =
+    shown-as-clocks setting h t g.fits (node_at (last_hop a xs)) (node_at (last_hop b ys)) _ (last-up setting m a xs h g.fits x c) (last-up setting m b ys h g.fits y d)
+    ((chained_at setting h t g by).across m a b xs ys x y close cpast c d)
+
+tree : (setting : Setting) (h : List Line) (t : ℕ) → Given setting h → time_of (dids h) ≤ t → TreeShown setting h t
+tree setting h t g by n a b xs ys x y u v c d =
+    shown-as-clocks setting h t g.fits (node_at (last_hop a xs)) (node_at (last_hop b ys)) _ (last-up setting n a xs h g.fits x c) (last-up setting n b ys h g.fits y d)
+    ((chained_at setting h t g by).tree n a b xs ys x y u v c d)
+
+pub agreed_shown : (setting : Setting) (world : List Line) → Given setting world → AgreedShown setting world
+agreed_shown setting world g = Everywhere-from (λ (l : Line) (s : List Line). (t : ℕ) → l.did.step.at ≤ t → ShownAgree setting (l ∷ s) t) world (λ l s w t by.
+    let gs = given_at setting (l ∷ s) world g w in
+    record { peers = peers setting (l ∷ s) t gs by; master = master setting (l ∷ s) t gs by; down = down setting (l ∷ s) t gs by; across = across setting (l ∷ s) t gs by; tree = tree setting (l ∷ s) t gs by })
+
+pub shown_near : (setting : Setting) (world : List Line) → Fits setting world → ShownNear setting world
+shown_near setting world f = Everywhere-from (λ (l : Line) (s : List Line). (t : ℕ) → ShownAsClocks setting (l ∷ s) t) world (λ l s w t. shown-as-clocks setting (l ∷ s) t (fits_at setting (l ∷ s) world f w))
+
+-- a later value of l against an earlier one of k
+waits : (k l late b : ℤ) (d w : ℕ) → nat_abs ((late -ℤ l) -ℤ pos d) ≤ w → pos (nat_abs (k -ℤ l)) ≤ℤ b → ((pos d -ℤ pos w) -ℤ b) ≤ℤ (late -ℤ k)
+waits k l late b d w h n = omega (arith, ints)
+
+waited-for : (setting : Setting) (h : List Line) → Fits setting h → WaitedFor setting h
+waited-for setting h f k l s t d b u r near =
+    let e : t + d - t ≡ d = omega arith in
+    let run = runs_over_time setting h f l s t (t + d) u r in
+    let there : nat_abs ((shown_at setting l h (t + d) -ℤ shown_at setting l s t) -ℤ pos d) ≤ shown_width setting.drift d =
+    subst (λ z. nat_abs ((shown_at setting l h (t + d) -ℤ shown_at setting l s t) -ℤ pos z) ≤ shown_width setting.drift z) e run in
+    waits (shown_at setting k s t) (shown_at setting l s t) (shown_at setting l h (t + d)) b d (shown_width setting.drift d) there near
+
+pub waited : (setting : Setting) (world : List Line) → Fits setting world → Waited setting world
+waited setting world f = Everywhere-from (λ (l : Line) (s : List Line). WaitedFor setting (l ∷ s)) world (λ l s w. waited-for setting (l ∷ s) (fits_at setting (l ∷ s) world f w))

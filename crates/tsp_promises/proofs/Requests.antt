@@ -1,0 +1,127 @@
+-- A request is named by its port and counter, in the life of its node.
+use Rattle.std.specs.Prelude.{◌≡◌, true, ℕ, ◌+◌, ◌%◌, ◌^◌, ◌<◌, ◌≤◌, ◌⊎◌, List, ◌∷◌, refl}
+use Rattle.std.proofs.Common.{sym, ap, arith, subst, inl, inr, ◌∙◌}
+use Rattle.tsp_base.specs.declared.act.Act.TheVariants.{Post}
+use Rattle.tsp_base.specs.declared.constants.TheConstants.{QUIET}
+use Rattle.tsp_base.specs.declared.datagram.Datagram.TheVariants.{Stamp}
+use Rattle.tsp_base.specs.declared.place.PeerId.{PeerId}
+use Rattle.tsp_base.specs.declared.place.Place.TheVariants.{Peer}
+use Rattle.tsp_base.specs.declared.stamp.Stamp.TheVariants.{Request}
+use Rattle.tsp_promises.specs.Fits.{Fits, LineFits, node_of}
+use Rattle.tsp_base.specs.History.{Acts, Line, of, dids, view, plain}
+use Rattle.tsp_promises.specs.MeasureFits.{RequestFits}
+use Rattle.tsp_base.specs.NodeFacts.{boot_tick, lives, tick_of, up, word}
+use Rattle.tsp_base.specs.Places.{Within}
+use Rattle.tsp_promises.specs.Premises.{OwnWords, OwnWordsAt}
+use Rattle.tsp_base.specs.RoundFacts.{asked}
+use Rattle.tsp_promises.specs.Setting.{Setting}
+use Rattle.tsp_base.specs.Ticks.{tick_at}
+use Rattle.tsp_promises.proofs.EverywhereLemmas.{Everywhere-within}
+use Rattle.tsp_base.proofs.PlaceLemmas.{Within-all, Within-tail, Within-comparable}
+use Rattle.tsp_base.proofs.Views.{plain_view}
+use Rattle.tsp_promises.proofs.AskedProof.{asked-mono, asked-few}
+use Rattle.tsp_promises.proofs.ClockProof.{post_up}
+use Rattle.tsp_promises.proofs.Clocks.{near}
+use Rattle.tsp_promises.proofs.HistoryPlaces.{of-own, Within-of}
+use Rattle.tsp_promises.proofs.Locating.{tick_in, view-line}
+use Rattle.tsp_promises.proofs.OwnFitsProof.{own_fits, fits_at, place-time}
+use Rattle.tsp_promises.proofs.PortFits.{deed_fits}
+use Rattle.tsp_promises.proofs.SinceProof.{since}
+use Rattle.tsp_promises.proofs.WordsProof.{word_moves}
+
+-- a request of node n to p on a port, with this word and counter
+pub record Asks (n : ℕ) (line : Line) (p : PeerId) (w c : ℕ) : Type 0 where
+  pub node : node_of line ≡ n
+  pub deed : line.did.deed ≡ Acts (Post (Peer p) (Stamp (Request w c)))
+
+pub request-fits : (setting : Setting) (n : ℕ) (q : Line) (a : List Line) (p : PeerId) (w c : ℕ) → Asks n q p w c → LineFits setting q a → RequestFits (view q.port (of n a)) w c
+request-fits setting n q a p w c s f = subst (λ k. RequestFits (view q.port (of k a)) w c) s.node (deed_fits setting q a (Acts (Post (Peer p) (Stamp (Request w c)))) s.deed f).fits
+
+pub asks-up : (setting : Setting) (n : ℕ) (q : Line) (a : List Line) (p : PeerId) (w c : ℕ) → Asks n q p w c → LineFits setting q a → up (dids (of n a)) ≡ true
+asks-up setting n q a p w c s f = subst (λ k. up (dids (of k a)) ≡ true) s.node (post_up setting q a (Peer p) (Stamp (Request w c)) f s.deed)
+
+-- one more was asked after the request
+asked-next : (n : ℕ) (q : Line) (a : List Line) (p : PeerId) (w c : ℕ) → Asks n q p w c → asked (view q.port (of n (q ∷ a))) ≡ asked (view q.port (of n a)) + 1
+asked-next n q a p w c s = ap asked (view-line n q a s.node) ∙ rw s.deed refl
+
+-- an earlier request of the same life has another counter
+request-one : (setting : Setting) (n : ℕ) (q t : Line) (a b : List Line) (p r : PeerId) (w c v d : ℕ) → Fits setting (t ∷ b) → Asks n q p w c → Asks n t r v d → q.port ≡ t.port → Within (q ∷ a) b →
+    lives (dids (of n (q ∷ a))) ≡ lives (dids (of n b)) → c ≡ d → ⊥
+request-one setting n q t a b p r w c v d f x y port i one count =
+    let fq = fits_at setting (q ∷ a) b f.1 i in
+    let g = request-fits setting n q a p w c x fq.0 in
+    let h = request-fits setting n t b r v d y f.0 in
+    let own = own_fits setting n b f.1 in
+    let place : Within (of n (q ∷ a)) (of n b) = Within-of n (q ∷ a) b i in
+    let more = asked-mono setting q.port (of n (q ∷ a)) (of n b) own place one in
+    let next = asked-next n q a p w c x in
+    let few = asked-few n q.port b in
+    let limit = f.0.few in
+    let cq : c ≡ asked (view q.port (of n a)) % 2 ^ 64 = g.counter_is in
+    let ct : d ≡ asked (view q.port (of n b)) % 2 ^ 64 = subst (λ k. d ≡ asked (view k (of n b)) % 2 ^ 64) (sym port) h.counter_is in
+    counters c d (asked (view q.port (of n a))) (asked (view q.port (of n b))) cq ct (omega arith) (omega arith) count
+  where
+    counters : (c d x y : ℕ) → c ≡ x % 2 ^ 64 → d ≡ y % 2 ^ 64 → x < y → y < 2 ^ 64 → c ≡ d → ⊥
+    counters c d x y e g h k s = omega arith
+
+-- no request is posted in the quiet time
+asks-rested : (setting : Setting) (n : ℕ) (t : Line) (b : List Line) (r : PeerId) (v d : ℕ) → Asks n t r v d → LineFits setting t b → boot_tick (dids (of n b)) + QUIET ≤ t.did.tick
+asks-rested setting n t b r v d y f =
+    let e = (deed_fits setting t b (Acts (Post (Peer r) (Stamp (Request v d)))) y.deed f).rested in
+    let z : boot_tick (plain (view t.port (of (node_of t) b))) + QUIET ≤ t.did.tick = elim e [ inl k ↦ k | inr k ↦ absurd k ] in
+    subst (λ k. boot_tick (dids (of k b)) + QUIET ≤ t.did.tick) y.node (subst (λ k. boot_tick k + QUIET ≤ t.did.tick) (plain_view t.port (of (node_of t) b)) z)
+
+-- what keeps a request t from being of another life than an earlier one q: it stands at most a minute after that, or has its word where the words of a node's boots differ
+abbrev pub SameLife : Line → Line → List Line → ℕ → ℕ → Type 0
+SameLife q t h w v = (t.did.step.at ≤ q.did.step.at + 60000000) ⊎ (OwnWords h × (w ≡ v))
+
+-- two requests of one word, where the words of boots differ, are of one life
+words-one : (setting : Setting) (n : ℕ) (q t : Line) (a b : List Line) (p r : PeerId) (w c v d : ℕ) → Fits setting (t ∷ b) → OwnWords (t ∷ b) → Asks n q p w c → Asks n t r v d → Within (q ∷ a) b →
+    lives (dids (of n (q ∷ a))) < lives (dids (of n b)) → w ≡ v → ⊥
+words-one setting n q t a b p r w c v d f words x y i less same =
+    let fq = fits_at setting (q ∷ a) b f.1 i in
+    let g = request-fits setting n q a p w c x fq.0 in
+    let h = request-fits setting n t b r v d y f.0 in
+    let still : dids (of n (q ∷ a)) ≡ q.did ∷ dids (of n a) = ap dids (of-own n q a x.node) in
+    let word_q : w ≡ word (dids (of n (q ∷ a))) = (g.word_is ∙ ap word (plain_view q.port (of n a))) ∙ sym (ap word still ∙ rw x.deed refl) in
+    let word_t : v ≡ word (dids (of n b)) = h.word_is ∙ ap word (plain_view t.port (of n b)) in
+    let up_q : up (dids (of n (q ∷ a))) ≡ true = ap up still ∙ rw x.deed (asks-up setting n q a p w c x fq.0) in
+    word_moves setting n (q ∷ a) b f.1 words.1 i fq up_q (asks-up setting n t b r v d y f.0) less (sym word_q ∙ (same ∙ word_t))
+
+-- so they are, where one stands at most a minute after the other
+request-life : (setting : Setting) (n : ℕ) (q t : Line) (a b : List Line) (p r : PeerId) (w c v d : ℕ) → Fits setting (t ∷ b) → Asks n q p w c → Asks n t r v d → Within (q ∷ a) b → SameLife q t (t ∷ b) w v →
+    lives (dids (of n (q ∷ a))) ≡ lives (dids (of n b))
+request-life setting n q t a b p r w c v d f x y i why =
+    let s = since setting (of n (q ∷ a)) (of n b) (own_fits setting n b f.1) (Within-of n (q ∷ a) b i) in
+    let order : q.did.step.at ≤ t.did.step.at = (let o = place-time setting (q ∷ a) b f.1 i in omega (arith, f.0.order)) in
+    let tick_q : q.did.tick ≡ tick_at (setting.rate n) q.did.step.at = tick_in setting n q a b f.1 x.node i in
+    let tick_t : t.did.tick ≡ tick_at (setting.rate n) t.did.step.at = subst (λ k. t.did.tick ≡ tick_at (setting.rate k) t.did.step.at) y.node f.0.tick in
+    let at : tick_of (dids (of n (q ∷ a))) ≡ q.did.tick = ap tick_of (ap dids (of-own n q a x.node)) in
+    let rested = asks-rested setting n t b r v d y f.0 in
+    let m = near setting n q.did.step.at t.did.step.at order in
+    elim s.life [
+      | inl o ↦ o.lives
+      | inr o ↦ absurd (elim why [
+        | inl soon ↦ (let k = m.most in omega (arith, o.boot))
+        | inr words ↦ words-one setting n q t a b p r w c v d f words.0 x y i o.lives words.1
+      ])
+    ]
+
+-- a request of this life of its node is named by its port and counter, among the requests of that life and those that can't be of another one
+pub request_unique : (setting : Setting) (n : ℕ) (q t : Line) (a b h : List Line) (p r : PeerId) (w c v d : ℕ) → Fits setting h → Within (q ∷ a) h → Within (t ∷ b) h → Asks n q p w c → Asks n t r v d → q.port ≡ t.port →
+    SameLife q t h w v → lives (dids (of n b)) ≡ lives (dids (of n h)) → c ≡ d → q ∷ a ≡ t ∷ b
+request_unique setting n q t a b h p r w c v d f i j x y port why kept g = elim (Within-comparable (q ∷ a) (t ∷ b) h i j) [
+  | inl (inl s) ↦ s
+  | inl (inr s) ↦
+      let ft = fits_at setting (t ∷ b) h f j in
+      let here : SameLife q t (t ∷ b) w v = elim why [ inl soon ↦ inl soon | inr words ↦ inr (Everywhere-within OwnWordsAt (t ∷ b) h words.0 j, words.1) ] in
+      absurd (request-one setting n q t a b p r w c v d ft x y port s (request-life setting n q t a b p r w c v d ft x y s here) g)
+  | inr (inl s) ↦ sym s
+  | inr (inr s) ↦
+      let fq = fits_at setting (q ∷ a) h f i in
+      let a_h : Within a h = Within-tail q a h i in
+      let b_t = since setting (of n b) (of n (t ∷ b)) (own_fits setting n (t ∷ b) (fits_at setting (t ∷ b) h f j)) (Within-of n b (t ∷ b) (inr (Within-all b))) in
+      let t_a = since setting (of n (t ∷ b)) (of n a) (own_fits setting n a fq.1) (Within-of n (t ∷ b) a s) in
+      let a_now = since setting (of n a) (of n h) (own_fits setting n h f) (Within-of n a h a_h) in
+      absurd (request-one setting n t q b a r p v d w c fq y x (sym port) s (omega (arith, b_t.lives, t_a.lives, a_now.lives, kept)) (sym g))
+]

@@ -1,0 +1,40 @@
+-- A round's bound never lapses.
+use Rattle.std.specs.Prelude.{◌≡◌, ◌≤◌, ◌≤ℤ◌, ℕ, ◌-◌, ◌*◌, ℤ, pos, ◌+ℤ◌, ◌-ℤ◌, nat_abs, List, ◌∷◌, refl}
+use Rattle.std.proofs.Common.{arith, sym, subst, inl, ◌∙◌}
+use Rattle.std.proofs.lemmas.Int.{ints}
+use Rattle.tsp_promises.specs.ClockAt.{clock_at}
+use Rattle.tsp_promises.specs.Fits.{node_of}
+use Rattle.tsp_base.specs.History.{Line, of, dids}
+use Rattle.tsp_base.specs.NodeFacts.{moved, time_of}
+use Rattle.tsp_promises.specs.Setting.{Setting}
+use Rattle.tsp_promises.specs.Throughout.{BoundAt, Throughout}
+use Rattle.tsp_base.specs.Ticks.{tick_at, width}
+use Rattle.tsp_promises.proofs.AgreedProof.{core}
+use Rattle.tsp_promises.proofs.CastProof.{Met, whole}
+use Rattle.tsp_promises.proofs.EverywhereLemmas.{Everywhere-from}
+use Rattle.tsp_promises.proofs.Given.{Given, given_at}
+use Rattle.tsp_promises.proofs.MasterMoved.{same-mean}
+use Rattle.tsp_promises.proofs.OwnFitsProof.{place-time}
+
+-- the clocks as they were left, and what moved them since
+back : (wk wm ck cm hk hm mean e : ℤ) (tk tm w : ℕ) → pos (nat_abs (((wk +ℤ ck) +ℤ pos tk) -ℤ (((wm +ℤ cm) +ℤ mean) +ℤ pos tm))) ≤ℤ (e +ℤ pos w) →
+    pos (nat_abs ((((wk +ℤ hk) +ℤ pos tk) -ℤ (hk -ℤ ck)) -ℤ (((wm +ℤ hm) +ℤ pos tm) -ℤ ((hm -ℤ cm) -ℤ mean)))) ≤ℤ (e +ℤ pos w)
+back wk wm ck cm hk hm mean e tk tm w h = omega (arith, ints)
+
+besides : (c d x y b : ℤ) → pos (nat_abs ((c -ℤ x) -ℤ (d -ℤ y))) ≤ℤ b → pos (nat_abs (c -ℤ d)) ≤ℤ ((b +ℤ pos (nat_abs x)) +ℤ pos (nat_abs y))
+besides c d x y b h = omega (arith, ints)
+
+bound_at : (setting : Setting) (h : List Line) (t : ℕ) → Given setting h → time_of (dids h) ≤ t → BoundAt setting h t
+bound_at setting h t g by m close cpast mean c past r older err s =
+    let k = node_of c in
+    let gc = given_at setting (c ∷ past) h g s.within in
+    let w = whole setting m close cpast c past r older err gc s.cast in
+    let is : w.mean ≡ mean = same-mean s.count w.count s.lo w.lo s.size w.size mean w.mean (sym s.deed ∙ w.deed) in
+    let met = subst (λ z. Met setting m k cpast z c past r older err) is w.met in
+    let o = place-time setting (c ∷ past) h g.fits s.within in
+    let left = core setting m cpast mean c past r older (c ∷ past) err t gc.fits (omega arith) (record { within = inl refl; since = record { corrects = refl; lives = refl } }) met in
+    let taken = back (setting.wall k) (setting.wall m) (moved (dids (of k (c ∷ past)))) (moved (dids (of m cpast))) (moved (dids (of k h))) (moved (dids (of m h))) mean err (tick_at (setting.rate k) t) (tick_at (setting.rate m) t) (2 * width setting.drift (t - r.did.step.at)) left in
+    record { taken_back = taken; now = besides (clock_at setting k h t) (clock_at setting m h t) (moved (dids (of k h)) -ℤ moved (dids (of k (c ∷ past)))) ((moved (dids (of m h)) -ℤ moved (dids (of m cpast))) -ℤ mean) (err +ℤ pos (2 * width setting.drift (t - r.did.step.at))) taken }
+
+pub throughout : (setting : Setting) (world : List Line) → Given setting world → Throughout setting world
+throughout setting world g = Everywhere-from (λ (l : Line) (s : List Line). (t : ℕ) → l.did.step.at ≤ t → BoundAt setting (l ∷ s) t) world (λ l s w t by. bound_at setting (l ∷ s) t (given_at setting (l ∷ s) world g w) by)

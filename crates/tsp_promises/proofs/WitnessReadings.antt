@@ -1,0 +1,81 @@
+-- What is promised of what users read, of first settings and of single corrections isn't empty.
+use Rattle.std.specs.Prelude.{◌≢◌, false, true, pos, negsuc, refl}
+use Rattle.std.proofs.Common.{arith}
+use Rattle.std.proofs.lemmas.Int.{ints}
+use Rattle.tsp_promises.specs.SetUse.{SetUse}
+use Rattle.tsp_promises.specs.ShownUse.{ShownUse}
+use Rattle.tsp_promises.proofs.CastProof.{reading_of, taking_of}
+use Rattle.tsp_promises.proofs.Histories.{skip, skipped, still}
+use Rattle.tsp_promises.proofs.PremiseChecks.{kept-by}
+use Rattle.tsp_promises.proofs.ReadingChecks.{read-by, read_at-by, unstepped-by}
+use Rattle.tsp_promises.proofs.WitnessCasts.{closing, first, first-cast, sounds}
+use Rattle.tsp_promises.proofs.WitnessDebts.{not-same}
+use Rattle.tsp_promises.proofs.WitnessSets.{set-by, set-source, set-taking, slaveup}
+use Rattle.tsp_promises.proofs.WitnessUse.{w6, w9, w15, w19, w20, w23, fits}
+
+some-left : pos 17 ≢ pos 0
+some-left e = omega (arith, ints)
+
+-- node 1 is read before its round's Correct, which slews it by 17, and 50 ms after it
+pub shown_use : ShownUse
+shown_use = record {
+  setting = still false;
+  world = w23;
+  kept = kept-by false w23 fits refl refl refl refl;
+  node = 1;
+  place = w19;
+  early = 408000000;
+  late = 408050400;
+  unstepped = unstepped-by 1 14 w23 refl refl;
+  read = read-by 1 14 w23 408000000 408050400 (omega arith) refl (omega arith) (omega arith);
+  correct = first;
+  before = skip 2 w20;
+  correct_in = skipped 11 w23;
+  after = skipped 2 (skip 2 w20);
+  node_is = refl;
+  amount = pos 17;
+  value = pos 408000399;
+  slews = refl;
+  left = some-left;
+  met = omega arith;
+  other = 0;
+  apart = not-same 0 1 (omega arith);
+  at = 408000300;
+  wait = 100000;
+  bound = pos 0;
+  reads = read_at-by 1 14 w23 408000300 408100300 (omega arith) refl (omega arith) (omega arith);
+  near = omega (arith, ints);
+  enough = omega (arith, ints);
+}
+
+-- node 1 is set by the SETTIME that answers its SLAVEUP, and corrected by the round's ADJTIME
+pub set_use : SetUse
+set_use = record {
+  setting = still false;
+  world = w23;
+  kept = kept-by false w23 fits refl refl refl refl;
+  master = 0;
+  correct = set-by (negsuc 0) true (pos 305000001);
+  past = skip 2 w9;
+  here = skip 37 w23;
+  here_in = skipped 37 w23;
+  set = record {
+    taking = set-taking (negsuc 0) true (pos 305000001) (skip 2 w9) (skipped 2 (skip 2 w9)) refl;
+    sets = refl;
+    unchanged = record { within = skipped 14 (skip 37 w23); since = record { corrects = refl; lives = refl } };
+    unchanged_master = record { corrects = refl; lives = refl };
+  };
+  slaveup = slaveup;
+  older = skip 1 w6;
+  answers = set-source (negsuc 0) true (pos 305000001) (skip 2 w9) (skipped 2 (skip 2 w9)) refl (skipped 8 (skip 2 w9));
+  later = first;
+  before = skip 2 w20;
+  later_in = skipped 11 w23;
+  taking = taking_of 0 closing (skip 4 w19) first (skip 2 w20) sounds (skip 1 w15) (pos 401) first-cast refl;
+  adjusts = refl;
+  close = closing;
+  cpast = skip 4 w19;
+  reading = sounds;
+  rolder = skip 1 w15;
+  rests = reading_of 0 closing (skip 4 w19) first (skip 2 w20) sounds (skip 1 w15) (pos 401) first-cast refl;
+}

@@ -1,0 +1,64 @@
+-- The promise that a clock is corrected only as it was measured.
+use Rattle.std.specs.Prelude.{◌≡◌, ◌⊎◌, ℕ, true, List, ◌∷◌, None, Some}
+use Rattle.tsp_base.specs.declared.act.Act.TheVariants.{Post}
+use Rattle.tsp_base.specs.declared.datagram.Datagram.{Datagram}
+use Rattle.tsp_base.specs.declared.datagram.Datagram.TheVariants.{Message}
+use Rattle.tsp_base.specs.declared.kind.Kind.TheVariants.{AdjTime, SlaveUp}
+use Rattle.tsp_base.specs.declared.place.Place.{Place}
+use Rattle.tsp_promises.specs.Agreed.{ReadingOf}
+use Rattle.tsp_promises.specs.Everywhere.{Everywhere}
+use Rattle.tsp_promises.specs.Fits.{node_of}
+use Rattle.tsp_base.specs.History.{Came, Acts, Did, Line, Seen, Here, of, dids, view}
+use Rattle.tsp_base.specs.Messages.{MessageValue}
+use Rattle.tsp_promises.specs.Once.{ActsOn, OfSend}
+use Rattle.tsp_base.specs.Places.{Within}
+use Rattle.tsp_base.specs.PortFacts.{taken}
+use Rattle.tsp_base.specs.RoundFacts.{Sampled, best}
+use Rattle.tsp_base.specs.SendFacts.{is_correction}
+use Rattle.tsp_promises.specs.StepFacts.{closed}
+use Rattle.tsp_base.specs.Takings.{Receives, Undisturbed, peer_of, posted}
+
+-- the Correct c takes a post of a correction of m, an ADJTIME or a SETTIME, whose send begins at this place
+pub record Taking (m : ℕ) (c : Line) (past : List Line) : Type 0 where
+  pub post : Line
+  pub before : List Line
+  pub acts : ActsOn c past post before
+  pub kind : is_correction acts.brings.message.kind ≡ true
+  pub node : node_of post ≡ m
+  pub first : Did
+  pub begun : List Seen
+  pub of_send : OfSend (node_of c) post before first begun
+
+-- the send begins at a Close of m: it is an ADJTIME, or its step has taken nothing before it; the source of its number is the reading r of the best sample that the Close had of c's node
+pub record FromReading (m : ℕ) (c : Line) (past : List Line) (t : Taking m c past) (close : Line) (cpast : List Line) (r : Line) (older : List Line) : Type 0 where
+  pub none : (t.acts.brings.message.kind ≡ AdjTime) ⊎ (taken t.begun ≡ None)
+  pub closes : Within (close ∷ cpast) past
+  pub close_node : node_of close ≡ m
+  pub close_port : close.port ≡ t.post.port
+  pub close_is : closed t.begun ≡ Here close.did ∷ view t.post.port (of m cpast)
+  pub sample : Sampled
+  pub best_is : best (peer_of (node_of c)) (view t.post.port (of m cpast)) ≡ Some sample
+  pub reading : ReadingOf m t.post.port sample.place past r older
+
+-- the send begins in a step that took a SLAVEUP of c's node with its number: the source of its number is the post r of that
+pub record FromSlaveUp (m : ℕ) (c : Line) (past : List Line) (t : Taking m c past) (r : Line) (older : List Line) : Type 0 where
+  pub message : MessageValue
+  pub kind : message.kind ≡ SlaveUp
+  pub took : Receives t.begun (peer_of (node_of c)) (Message message)
+  pub number : message.number ≡ t.acts.brings.message.number
+  pub place : Within (r ∷ older) past
+  pub takes : t.first.step.cause ≡ Came (posted (dids older))
+  pub to : Place
+  pub datagram : Datagram
+  pub deed : r.did.deed ≡ Acts (Post to datagram)
+
+-- from the source of the number that a Correct takes to the Correct its node neither booted nor corrected its clock
+pub record OneErrorAt (l : Line) (world : List Line) : Type 0 where
+  pub by_reading : (m : ℕ) (t : Taking m l world) (close : Line) (cpast : List Line) (r : Line) (older : List Line) → FromReading m l world t close cpast r older →
+      Undisturbed (dids (of (node_of l) (r ∷ older))) (dids (of (node_of l) world))
+  pub by_slaveup : (m : ℕ) (t : Taking m l world) (r : Line) (older : List Line) → FromSlaveUp m l world t r older →
+      Undisturbed (dids (of (node_of l) (r ∷ older))) (dids (of (node_of l) world))
+
+-- no error is corrected twice
+abbrev pub OneError : List Line → Type 0
+OneError = Everywhere OneErrorAt

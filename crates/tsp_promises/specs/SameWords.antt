@@ -1,0 +1,62 @@
+-- Boots with one word: words that differ are asked for by no promise of corrections and of clocks, but measurements need them where datagrams may live long.
+use Rattle.std.specs.Prelude.{◌≡◌, ℕ, ℤ, List, ◌∷◌}
+use Rattle.tsp_base.specs.declared.act.Act.TheVariants.{Boot}
+use Rattle.tsp_promises.specs.Agreed.{Cast}
+use Rattle.tsp_promises.specs.Fits.{Fits, Finished, node_of}
+use Rattle.tsp_base.specs.History.{Booted, Acts, Line}
+use Rattle.tsp_promises.specs.Measured.{Measured}
+use Rattle.tsp_base.specs.Places.{Within}
+use Rattle.tsp_promises.specs.Premises.{Honest, Life}
+use Rattle.tsp_promises.specs.Setting.{Setting}
+
+-- two boots of one node have one word, the later of them at this place
+pub record Repeats (world : List Line) : Type 0 where
+  pub again : Line
+  pub past : List Line
+  pub again_in : Within (again ∷ past) world
+  pub once : Line
+  pub older : List Line
+  pub once_in : Within (once ∷ older) past
+  pub node : node_of once ≡ node_of again
+  pub boots : again.did.deed ≡ Acts Boot
+  pub booted : once.did.deed ≡ Acts Boot
+  pub word : ℕ
+  pub wall : ℤ
+  pub wall_once : ℤ
+  pub word_is : again.did.step.cause ≡ Booted word wall
+  pub word_once : once.did.step.cause ≡ Booted word wall_once
+
+-- a Close of m corrects a node
+pub record Round (m : ℕ) (world : List Line) : Type 0 where
+  pub close : Line
+  pub cpast : List Line
+  pub correct : Line
+  pub past : List Line
+  pub correct_in : Within (correct ∷ past) world
+  pub reading : Line
+  pub older : List Line
+  pub err : ℤ
+  pub cast : Cast m close cpast correct past reading older err
+
+-- a history that fits, in which no peer's datagram is forged and none outlives LIFE: a master boots again with its old word, and in each of both lives a round of it corrects a node
+pub record SameWords : Type 0 where
+  pub setting : Setting
+  pub world : List Line
+  pub fits : Fits setting world
+  pub finished : Finished world
+  pub honest : Honest world
+  pub life : Life world
+  pub repeats : Repeats world
+  pub before : Round (node_of repeats.again) repeats.past
+  pub after : Round (node_of repeats.again) world
+  pub begins : Within (repeats.again ∷ repeats.past) after.cpast
+
+-- a history that fits, in which no peer's datagram is forged, a master boots again with its old word, and then takes a reply of its first life: it measures wrongly
+pub record MeasuresWrongly : Type 0 where
+  pub setting : Setting
+  pub world : List Line
+  pub fits : Fits setting world
+  pub finished : Finished world
+  pub honest : Honest world
+  pub repeats : Repeats world
+  pub wrong : ¬ Measured setting world

@@ -1,0 +1,41 @@
+-- The promise that a round's bound never lapses: it holds of clocks with their later Corrects taken back.
+use Rattle.std.specs.Prelude.{◌≡◌, ◌≤◌, ◌≤ℤ◌, ℕ, ◌-◌, ◌*◌, ℤ, pos, ◌+ℤ◌, ◌-ℤ◌, nat_abs, List, ◌∷◌}
+use Rattle.tsp_base.specs.declared.act.Act.TheVariants.{Close}
+use Rattle.tsp_promises.specs.Agreed.{Cast}
+use Rattle.tsp_promises.specs.ClockAt.{clock_at}
+use Rattle.tsp_promises.specs.Everywhere.{Everywhere}
+use Rattle.tsp_promises.specs.Fits.{node_of}
+use Rattle.tsp_base.specs.History.{Acts, Line, of, dids}
+use Rattle.tsp_base.specs.NodeFacts.{lives, moved}
+use Rattle.tsp_base.specs.Places.{Within}
+use Rattle.tsp_promises.specs.Setting.{Setting}
+use Rattle.tsp_base.specs.Ticks.{width}
+
+-- by how much the Corrects of node n have moved its clock since the place s, in one life
+abbrev pub moved_since : ℕ → List Line → List Line → ℤ
+moved_since n s h = moved (dids (of n h)) -ℤ moved (dids (of n s))
+
+-- the Correct c takes an ADJTIME of a Close of m with this mean; neither its node nor m booted since
+pub record SinceClose (m : ℕ) (close : Line) (cpast : List Line) (mean : ℤ) (c : Line) (past : List Line) (r : Line) (older : List Line) (err : ℤ) (h : List Line) : Type 0 where
+  pub cast : Cast m close cpast c past r older err
+  pub within : Within (c ∷ past) h
+  pub count : ℕ
+  pub lo : ℤ
+  pub size : ℤ
+  pub deed : close.did.deed ≡ Acts (Close count lo size mean)
+  pub one_life : lives (dids (of (node_of c) (c ∷ past))) ≡ lives (dids (of (node_of c) h))
+  pub one_life_master : lives (dids (of m (close ∷ cpast))) ≡ lives (dids (of m h))
+
+-- after the history h, at true time t: without what c's node was moved by since c, and what m was moved by since its Close but the mean, their clocks differ by at most the error and drift; and so the clocks themselves by what that is besides
+pub record StillBound (setting : Setting) (m : ℕ) (cpast : List Line) (mean : ℤ) (c : Line) (past : List Line) (r : Line) (err : ℤ) (h : List Line) (t : ℕ) : Type 0 where
+  pub taken_back : pos (nat_abs ((clock_at setting (node_of c) h t -ℤ moved_since (node_of c) (c ∷ past) h) -ℤ (clock_at setting m h t -ℤ (moved_since m cpast h -ℤ mean)))) ≤ℤ (err +ℤ pos (2 * width setting.drift (t - r.did.step.at)))
+  pub now : pos (nat_abs (clock_at setting (node_of c) h t -ℤ clock_at setting m h t)) ≤ℤ
+      (((err +ℤ pos (2 * width setting.drift (t - r.did.step.at))) +ℤ pos (nat_abs (moved_since (node_of c) (c ∷ past) h))) +ℤ pos (nat_abs (moved_since m cpast h -ℤ mean)))
+
+abbrev pub BoundAt : Setting → List Line → ℕ → Type 0
+BoundAt setting h t = (m : ℕ) (close : Line) (cpast : List Line) (mean : ℤ) (c : Line) (past : List Line) (r : Line) (older : List Line) (err : ℤ) →
+    SinceClose m close cpast mean c past r older err h → StillBound setting m cpast mean c past r err h t
+
+-- at each place, and after it at any later time
+abbrev pub Throughout : Setting → List Line → Type 0
+Throughout setting = Everywhere (λ l world. (t : ℕ) → l.did.step.at ≤ t → BoundAt setting (l ∷ world) t)
