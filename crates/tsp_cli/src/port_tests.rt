@@ -147,14 +147,3 @@ fn is_right(
 fn two_networks_are_served(rt: HostRuntime) {
     assert!(rt; is_right(rt.alloc(), WORDS, Status::Ok, SHOWN, SENT, 0) == Ok(true));
 }
-
-/// A fifth network is a wrong use, and so is a peer that stands in two networks: nothing is touched.
-#[test]
-fn more_networks_are_refused(rt: HostRuntime) {
-    let local = "127.0.0.1:525";
-    let peer = "127.0.0.1:526";
-    let five = &["serve", local, "g", "m", "1", "+", "+", "+", "+"];
-    assert!(rt; is_right(rt.alloc(), five, Status::Usage, "usage\n", &[], 13) == Ok(true));
-    let twice = &["serve", local, "g", "m", "1", peer, "+", peer];
-    assert!(rt; is_right(rt.alloc(), twice, Status::Usage, "usage\n", &[], 13) == Ok(true));
-}

@@ -7,8 +7,6 @@
 #[cfg(test)]
 mod failing_daemons;
 #[cfg(test)]
-mod failing_questions;
-#[cfg(test)]
 mod failing_replays;
 #[cfg(test)]
 mod handlers;

@@ -217,18 +217,3 @@ fn agrees_with_the_program_that_tries_all(rt: HostRuntime) -> Result<(), Fail> {
     }
     Ok(())
 }
-
-#[test]
-fn keeps_its_room_and_looks(rt: HostRuntime) -> Result<(), Fail> {
-    let mut values = Values::new(rt.alloc(), 2)?;
-    values.add(9);
-    values.add(-4);
-    values.sort();
-    assert_eq!(rt; values.len(), 2);
-    assert_eq!(rt; (values.look(0), values.look(1)), (-4, 9));
-    assert_eq!(rt; (values.len(), values.looks()), (2, 2));
-    values.clear();
-    values.add(1);
-    assert_eq!(rt; (values.len(), values.looks()), (1, 2));
-    Ok(())
-}

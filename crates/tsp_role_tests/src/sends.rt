@@ -11,18 +11,6 @@ use tsp_sends::due::Due;
 use tsp_sends::sends::Sends;
 use tsp_sends::tree::Tree;
 
-/// The peers below a number.
-fn peers_below(alloc: Global, count: u32) -> Result<Vec<PeerId>, AllocError>
-    ensures count { IfOk result (λ v. length v.items ≡ count) }
-    ensures ascending { IfOk result (λ v. IsAscending v.items) }
-{
-    let mut peers = Vec::new(alloc);
-    for number in 0..count {
-        peers.push(PeerId(number))?;
-    }
-    Ok(peers)
-}
-
 /// Begins a CONFLICT with this number to the peer at a place.
 fn begin(sends: &mut Sends, peers: &[PeerId], place: usize, number: u16, tick: u64)
     requires peers { peers_of sends.old ≡ peers.now }
@@ -92,17 +80,4 @@ fn sends_are_repeated_and_given_up(rt: HostRuntime) {
     }
     assert_eq!(rt; sends.least(), None);
     sends.clear();
-}
-
-#[test]
-fn many_peers_cost_little(rt: HostRuntime) {
-    let peers = peers_below(rt.alloc(), 200_000).expect(&rt, "memory");
-    let mut sends = Sends::new(rt.alloc(), &peers).expect(&rt, "memory");
-    for place in 0..199_999 {
-        begin(&mut sends, &peers, place, 1, 500_000);
-    }
-    for _round in 0..4_000_000 {
-        begin(&mut sends, &peers, 199_999, 2, 0);
-        assert_eq!(rt; repeat_of(sends.due(None, 1_000_000)), Some((199_999, 2)));
-    }
 }

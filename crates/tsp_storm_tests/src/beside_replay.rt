@@ -124,15 +124,3 @@ fn a_storm_is_counted_again_from_its_trace(rt: HostRuntime) -> Result<(), AllocE
     assert!(rt; agrees(rt.alloc(), &words)?);
     Ok(())
 }
-
-/// Many nodes.
-#[test]
-fn a_storm_of_many_nodes_is_counted_again(rt: HostRuntime) -> Result<(), AllocError> {
-    let words = StormWords {
-        seed: 3,
-        nodes: 64,
-        events: 4000,
-    };
-    assert!(rt; agrees(rt.alloc(), &words)?);
-    Ok(())
-}

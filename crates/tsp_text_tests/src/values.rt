@@ -111,21 +111,6 @@ fn holds_and_stands(rt: HostRuntime) -> Result<(), Fail> {
 }
 
 #[test]
-fn keeps_deadlines(rt: HostRuntime) -> Result<(), Fail> {
-    let mut alarms = Alarms::new();
-    assert!(rt; alarms.least().is_none());
-    alarms.arm(Alarm::Round, 30);
-    alarms.arm(Alarm::Quiet, 20);
-    alarms.arm(Alarm::Probe, 25);
-    assert!(rt; alarms.at(Alarm::Probe) == Some(25) && alarms.least() == Some(20));
-    alarms.off(Alarm::Quiet);
-    assert!(rt; alarms.at(Alarm::Quiet).is_none() && alarms.least() == Some(25));
-    alarms.clear();
-    assert!(rt; alarms.least().is_none());
-    Ok(())
-}
-
-#[test]
 fn refuses_nodes(rt: HostRuntime) -> Result<(), Fail> {
     let mut header = Header::new(rt.alloc(), 100, false);
     let lines = [
@@ -225,23 +210,5 @@ fn counts_ticks(rt: HostRuntime) -> Result<(), Fail> {
         assert_eq!(rt; tick_at(*rate, *at), *tick);
     }
     assert!(rt; width(100, 10_000_000) == 1001 && width(0, 10_000_000) == 1);
-    Ok(())
-}
-
-#[test]
-fn puts_acts(rt: HostRuntime) -> Result<(), Fail> {
-    let mut pad = Pad::new(rt.alloc());
-    pad.reserve(2)?;
-    pad.put(Port(0), Act::Boot);
-    pad.put(Port(1), Act::Abandon);
-    match pad.acts() {
-        [first, last] => {
-            assert!(rt; first.port == Port(0) && matches!(first.act, Act::Boot));
-            assert!(rt; last.copy().port == Port(1) && matches!(last.act.copy(), Act::Abandon));
-        }
-        _ => panic!(rt; "two acts were put"),
-    }
-    pad.clear();
-    assert!(rt; pad.acts().is_empty());
     Ok(())
 }
