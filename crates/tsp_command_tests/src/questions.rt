@@ -9,7 +9,7 @@ use tsp_io::addr::Addr;
 use tsp_io::memory::MemorySink;
 use tsp_io::memory_link::MemoryLink;
 use tsp_io::memory_ticker::MemoryTicker;
-use tsp_query::ask::ask;
+use tsp_query::command::ask;
 use tsp_query::exit::QueryExit;
 
 /// The daemon that is asked.

@@ -3,9 +3,7 @@ ghost use Rattle.std.specs.Prelude.{◌^◌, ◌<◌, length};
 
 use std::alloc::{AllocError, Global};
 use std::test::Fail;
-use tsp_group::group::{Group, correction, mean};
-use tsp_group::sweep::largest;
-use tsp_group::values::Values;
+use tsp_group::{Group, Values, correction, largest, mean};
 
 /// A difference that is averaged is less than this, in microseconds.
 const FAR: i64 = 1_073_741_824_000_000;
@@ -53,7 +51,12 @@ fn tried(items: &[i64], lo: i64, span: i64) -> Group {
 
 /// The definition's own program: it tries every value as `lo`.
 fn tried_all(items: &[i64], span: i64) -> Group {
-    let mut best = Group::NONE;
+    let mut best = Group {
+        lo: 0,
+        width: 0,
+        count: 0,
+        sum: 0,
+    };
     for lo in items {
         let group = tried(items, *lo, span);
         let rank = (

@@ -4,7 +4,7 @@ use tsp_base::kind::Kind;
 use tsp_base::message::{Body, Message};
 use tsp_base::name::Name;
 use tsp_base::place::Port;
-use tsp_loop::step::{LoopStep, judge};
+use tsp_loop::{LoopStep, judge};
 
 /// What a node `g` does with a LOOP on a port, in a letter and the hops with which it goes on.
 fn judged(ports: u8, port: u8, number: u16, hops: u8, name: &[u8]) -> (char, u8) {

@@ -1,8 +1,7 @@
 //! Exchanges that were worked by hand.
 use std::test::Fail;
 use tsp_base::place::PeerId;
-use tsp_measure::exchanges::Exchanges;
-use tsp_measure::sample::{Reply, Sample, TimedSample};
+use tsp_measure::{Exchanges, Reply, Sample, TimedSample};
 
 #[test]
 fn errs_by_half_the_round_trip(rt: HostRuntime) -> Result<(), Fail> {

@@ -7,9 +7,7 @@ use tsp_base::kind::Kind;
 use tsp_base::message::{Body, Message};
 use tsp_base::name::Name;
 use tsp_base::place::PeerId;
-use tsp_sends::due::Due;
-use tsp_sends::sends::Sends;
-use tsp_sends::tree::Tree;
+use tsp_sends::{Due, Sends, Tree};
 
 /// Begins a CONFLICT with this number to the peer at a place.
 fn begin(sends: &mut Sends, peers: &[PeerId], place: usize, number: u16, tick: u64)

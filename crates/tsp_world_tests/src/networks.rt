@@ -1,10 +1,11 @@
 //! A node between two networks.
 
+use std::alloc::Global;
 use std::test::Fail;
-use tsp_base::header::NodeLine;
+use tsp_base::header::{Header, NodeLine};
 use tsp_base::name::Name;
-use tsp_base::place::PeerId;
-use tsp_networks::*;
+use tsp_base::place::{PeerId, Place, Port};
+use tsp_networks::{address_of, all_nodes, networks_of, port_count};
 
 /// Three nodes: the middle one is on a network with each of the others.
 fn header_of(alloc: Global) -> Option<Header> {
