@@ -1,5 +1,6 @@
 //! The jobs of `replay` and `storm` by hand, over Rust's standard library alone: what the program is measured beside.
-//! Built by `rustc -O --edition 2024 bench/plain.rs`, and run with the words of the command.
+//! Built by `rustc -O --edition 2024 bench/plain.rs`, and run with the words of the command. With `schedule` in the place of
+//! `storm` it writes the schedule that a storm runs.
 
 mod node;
 mod replay;
@@ -20,8 +21,8 @@ fn main() {
     let words: Vec<&str> = words.iter().map(String::as_str).collect();
     let status = match &words[..] {
         ["replay"] => replay::replay(),
-        ["storm", rest @ ..] => match numbers(rest) {
-            Some([seed, nodes, events]) => storm::storm(seed, nodes, events),
+        [word @ ("storm" | "schedule"), rest @ ..] => match numbers(rest) {
+            Some([seed, nodes, events]) => storm::storm(seed, nodes, events, *word == "schedule"),
             None => Ok(1),
         },
         _ => Ok(1),

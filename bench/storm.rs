@@ -2,7 +2,7 @@
 
 use crate::node::{Datagram, Desk, NOBODY, Node, Of, REQUEST, Role, Sample};
 use crate::replay::{MOST_EVENTS, MOST_POSTS};
-use std::io::{self, Write};
+use std::io::{self, BufWriter, Write};
 
 const RECENT: u64 = 20_000_000;
 
@@ -76,10 +76,11 @@ impl Draws {
     }
 }
 
-/// An event but a boot: of the node that would act, or of none, and what comes in there.
+/// An event but a boot: of the node that would act, or of none, and what comes in there, which may be a post.
 struct Event {
     node: u8,
     from: u8,
+    post: Option<u64>,
     input: Option<Result<Datagram, &'static str>>,
 }
 
@@ -91,12 +92,21 @@ fn draw(draws: &mut Draws, desk: &mut Counts, count: u64) -> Event {
         let k = desk.posted - 1 - draws.below(desk.posted.min(4 * count));
         let post = &desk.posts[k as usize % 256];
         if desk.at - post.at <= RECENT {
-            return Event { node: post.to, from: post.from, input: Some(Ok(post.datagram)) };
+            return Event { node: post.to, from: post.from, post: Some(k), input: Some(Ok(post.datagram)) };
         }
     }
     let node = draws.below(count) as u8;
     let request = Datagram { kind: REQUEST, name: 0, number: 0, a: draws.state, b: 0, c: 0 };
-    Event { node, from: NOBODY, input: (choice == 7).then_some(Ok(request)) }
+    Event { node, from: NOBODY, post: None, input: (choice == 7).then_some(Ok(request)) }
+}
+
+/// The line of an event in a schedule.
+fn write_event(schedule: &mut impl Write, at: u64, event: &Event) -> io::Result<()> {
+    match (event.post, event.input) {
+        (Some(k), _) => writeln!(schedule, "at {at} take {k}"),
+        (None, Some(Ok(request))) => writeln!(schedule, "at {at} bytes {} - 80010000{:016x}{:032x}", event.node, request.a, 0),
+        _ => writeln!(schedule, "at {at} turn {}", event.node),
+    }
 }
 
 fn happen(node: &mut Node, event: &Event, desk: &mut Counts) {
@@ -107,20 +117,31 @@ fn happen(node: &mut Node, event: &Event, desk: &mut Counts) {
     }
 }
 
-/// Runs a storm, writes its summary, and gives the status.
-pub fn storm(seed: u64, count: u64, events: u64) -> io::Result<i32> {
+/// Runs a storm, writes its summary or its schedule, and gives the status.
+pub fn storm(seed: u64, count: u64, events: u64, writes_schedule: bool) -> io::Result<i32> {
     let mut draws = Draws { state: seed };
     let mut nodes = Vec::new();
+    let mut schedule = writes_schedule.then(|| BufWriter::new(io::stdout().lock()));
+    if let Some(schedule) = &mut schedule {
+        schedule.write_all(b"tsp-schedule 1\ndrift 100\n")?;
+    }
     for own in 0..count {
         let rate = draws.below(201) as i64 - 100;
         let wall = draws.below(2_000_001) as i64 - 1_000_000;
         nodes.push(Node::new(own as u8, rate, wall, true));
+        if let Some(schedule) = &mut schedule {
+            writeln!(schedule, "node n{own} {rate} {wall} m")?;
+        }
         nodes[own as usize].join(count as usize, false, 0);
     }
     let unposted = Post { datagram: Datagram { kind: 0, name: 0, number: 0, a: 0, b: 0, c: 0 }, at: 0, from: 0, to: 0 };
     let mut desk = Counts { posts: vec![unposted; 256], posted: 0, took: 0, corrects: 0, masters: 0, at: 0, node: 0 };
-    for node in nodes.iter_mut().take(events as usize) {
-        node.boot(0, draws.next(), &mut desk);
+    for (own, node) in nodes.iter_mut().take(events as usize).enumerate() {
+        let word = draws.next();
+        node.boot(0, word, &mut desk);
+        if let Some(schedule) = &mut schedule {
+            writeln!(schedule, "at 0 boot {own} {word}")?;
+        }
     }
     let room = 24 * count + 256;
     for event in count.min(events)..events {
@@ -129,9 +150,17 @@ pub fn storm(seed: u64, count: u64, events: u64) -> io::Result<i32> {
             writeln!(io::stdout(), "limit {}", event + 1)?;
             return Ok(7);
         }
+        if let Some(schedule) = &mut schedule {
+            write_event(schedule, desk.at, &drawn)?;
+        }
         if drawn.node != NOBODY {
             happen(&mut nodes[usize::from(drawn.node)], &drawn, &mut desk);
         }
+    }
+    if let Some(mut schedule) = schedule {
+        schedule.write_all(b"end\n")?;
+        schedule.flush()?;
+        return Ok(0);
     }
     let Counts { posted, took, corrects, masters, .. } = desk;
     writeln!(io::stdout(), "events {events} posted {posted} took {took} corrects {corrects} masters {masters}")?;
