@@ -4,6 +4,7 @@
 
 mod node;
 mod replay;
+mod schedule;
 mod storm;
 mod text;
 

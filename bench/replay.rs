@@ -1,10 +1,10 @@
 //! The replay of a schedule on one network: a schedule with networks ends with status 9.
 
 use crate::node::{ALARMS, Datagram, Desk, NOBODY, Node, Of, REPLY, Role, Sample};
-use crate::text::{Cursor, Lines, Name, Output, decode, first_line, octets_of, put_datagram};
+use crate::schedule::{Event, Header, Stage, Stop, bad, event_of, lacking};
+use crate::text::{Cursor, Lines, Name, Output, decode, first_line, put_datagram};
 use std::io::{self, Write};
 
-pub const LATEST: u64 = 1_000_000_000_000_000;
 pub const MOST_EVENTS: u64 = 200_000;
 pub const MOST_POSTS: usize = 1_000_000;
 
@@ -211,50 +211,12 @@ impl<W: Write> Desk for Trace<W> {
     }
 }
 
-/// How a line ends the replay.
-pub enum Stop {
-    Bad(String),
-    Limit,
-}
-
-fn bad<T>(cause: &str) -> Result<T, Stop> {
-    Err(Stop::Bad(cause.to_string()))
-}
-
-/// Which lines belong to the place that was reached.
-#[derive(Clone, Copy, PartialEq)]
-enum Stage {
-    Title,
-    Drift,
-    Nodes,
-    Events,
-    Over,
-}
-
 struct Replay<W> {
-    stage: Stage,
-    strict: bool,
-    version: u64,
-    drift: u64,
+    header: Header,
     nodes: Vec<Node>,
     desk: Trace<W>,
     last: u64,
     octets: [u8; 300],
-}
-
-/// A node's line: its name, and the node.
-fn node_of(line: &[u8], own: usize, drift: u64) -> Option<(&[u8], Node)> {
-    let mut words = Cursor { rest: line };
-    words.skip(b"node ")?;
-    let name = words.word();
-    let plain = |octet: &u8| octet.is_ascii_alphanumeric() || b".-_".contains(octet);
-    let named = (1..=255).contains(&name.len()) && name.iter().all(plain);
-    words.skip(b" ")?;
-    let rate = words.signed().filter(|rate| rate.unsigned_abs() <= drift)?;
-    words.skip(b" ")?;
-    let wall = words.signed().filter(|wall| wall.unsigned_abs() <= LATEST)?;
-    let may = words.rest == b" m";
-    (named && own < 64 && (may || words.rest == b" s")).then(|| (name, Node::new(own as u8, rate, wall, may)))
 }
 
 impl<W: Write> Replay<W> {
@@ -263,134 +225,77 @@ impl<W: Write> Replay<W> {
             out: Output::new(out), names: Vec::new(), posts: Vec::new(), event: 0, node: 0, tick: 0, head: [0; 32],
             count: 0, word: (0, 0),
         };
-        Replay { stage: Stage::Title, strict: false, version: 0, drift: 0, nodes: Vec::new(), desk, last: 0, octets: [0; 300] }
+        Replay { header: Header::new(), nodes: Vec::new(), desk, last: 0, octets: [0; 300] }
     }
 
     /// Treats the first of several lines, and gives its octets.
     #[inline]
     fn next(&mut self, number: u64, lines: &[u8]) -> Result<usize, Stop> {
-        if self.stage == Stage::Events
-            && let Some((rest, result)) = self.event(Cursor { rest: lines })
-        {
-            return result.map(|()| lines.len() - rest);
+        if self.header.stage == Stage::Events {
+            let mut words = Cursor { rest: lines };
+            if let Some(event) = event_of(&mut words, &mut self.octets) {
+                return self.event(event).map(|()| lines.len() - words.rest.len());
+            }
         }
-        let line = first_line(lines);
-        self.line(number, line, lines)?;
-        Ok(line.len() + 1)
+        self.line(number, first_line(lines), lines)
     }
 
     /// Treats a line that is no event of those behind the first.
     #[cold]
     #[inline(never)]
-    fn line(&mut self, number: u64, line: &[u8], lines: &[u8]) -> Result<(), Stop> {
-        let mut words = Cursor { rest: line };
-        match self.stage {
-            Stage::Title => {
-                let version = words.skip(b"tsp-schedule ").and_then(|()| words.number()).filter(|version| (1..=2).contains(version));
-                self.version = version.filter(|_| words.rest.is_empty()).map_or_else(|| bad("header"), Ok)?;
-                self.stage = Stage::Drift;
-            }
-            Stage::Drift => {
-                let drift = words.skip(b"drift ").and_then(|()| words.number()).filter(|drift| *drift <= 1000);
-                self.drift = drift.filter(|_| words.rest.is_empty()).map_or_else(|| bad("header"), Ok)?;
-                self.stage = Stage::Nodes;
-            }
-            Stage::Nodes if line == b"strict" && number == 3 && self.version == 2 => self.strict = true,
-            Stage::Nodes if number == 3 && self.version == 2 => return bad("header"),
-            Stage::Nodes if line.starts_with(b"node ") => {
-                let Some((name, node)) = node_of(line, self.nodes.len(), self.drift) else {
-                    return bad("header");
-                };
-                self.desk.names.push(Name::of(name));
-                self.nodes.push(node);
-            }
-            Stage::Nodes if self.nodes.is_empty() => return bad("header"),
-            Stage::Nodes if line.starts_with(b"net ") => std::process::exit(9),
-            Stage::Nodes => {
-                self.stage = Stage::Events;
-                let (count, empty) = (self.nodes.len(), self.desk.names.len() as u16);
-                self.desk.names.push(Name::of(b""));
-                for node in &mut self.nodes {
-                    node.join(count, self.strict, empty);
-                }
-                if let Some((_, result)) = self.event(Cursor { rest: lines }) {
-                    return result;
-                }
-                return self.end(line);
-            }
-            Stage::Events => return self.end(line),
+    fn line(&mut self, number: u64, line: &[u8], lines: &[u8]) -> Result<usize, Stop> {
+        match self.header.stage {
             Stage::Over => return bad("after-end"),
+            Stage::Events if line == b"end" => self.header.stage = Stage::Over,
+            Stage::Events => return bad("line"),
+            _ => {
+                if self.header.ends_before(number, line)? {
+                    self.begin();
+                    return self.next(number, lines);
+                }
+            }
         }
-        Ok(())
+        Ok(line.len() + 1)
     }
 
-    /// The last line, or one that is no event.
-    fn end(&mut self, line: &[u8]) -> Result<(), Stop> {
-        if line != b"end" {
-            return bad("line");
+    /// The header is whole.
+    fn begin(&mut self) {
+        self.nodes = std::mem::take(&mut self.header.nodes);
+        let (count, empty) = (self.nodes.len(), self.header.names.len() as u16);
+        self.header.names.push(Vec::new());
+        self.desk.names = self.header.names.iter().map(|name| Name::of(name)).collect();
+        for node in &mut self.nodes {
+            node.join(count, self.header.strict, empty);
         }
-        self.stage = Stage::Over;
-        Ok(())
     }
 
-    /// What comes of an event's line at the front, and how many octets are behind it; None where no such line stands there.
     #[inline]
-    fn event(&mut self, mut words: Cursor) -> Option<(usize, Result<(), Stop>)> {
-        words.skip(b"at ")?;
-        let at = words.number().filter(|at| *at <= LATEST)?;
-        if words.skip(b" turn ").is_some() {
-            let node = words.short()?;
-            words.ends()?;
-            return Some((words.rest.len(), self.turn(at, node)));
+    fn event(&mut self, event: Event) -> Result<(), Stop> {
+        match event {
+            Event::Turn { at, node } => self.turn(at, node),
+            Event::Take { at, datagram } => self.take(at, datagram),
+            Event::Boot { at, node, word } => self.boot(at, node, word),
+            Event::Bytes { at, node, port, from, count } => self.hand(at, node, port, from, count),
         }
-        if words.skip(b" take ").is_some() {
-            let datagram = words.number()?;
-            words.ends()?;
-            return Some((words.rest.len(), self.take(at, datagram)));
-        }
-        if words.skip(b" bytes ").is_some() {
-            let node = words.short()?;
-            let port = if words.skip(b"/").is_some() { words.number().filter(|port| (1..=255).contains(port))? } else { 0 };
-            words.skip(b" ")?;
-            let from = if words.skip(b"-").is_some() { None } else { Some(words.short()?) };
-            words.skip(b" ")?;
-            let count = octets_of(words.rest, &mut self.octets);
-            words.rest = &words.rest[2 * count..];
-            words.ends().filter(|()| count > 0)?;
-            let result = if port == 0 { self.hand(at, node, from, count) } else { self.no_node(at, node) };
-            return Some((words.rest.len(), result));
-        }
-        words.skip(b" boot ")?;
-        let node = words.short()?;
-        words.skip(b" ")?;
-        let word = words.number()?;
-        words.ends()?;
-        Some((words.rest.len(), self.boot(at, node, word)))
     }
 
     /// Refuses a time before the last one's.
-    fn time(&mut self, at: u64) -> Result<(), Stop> {
+    fn time(&self, at: u64) -> Result<(), Stop> {
         if at < self.last {
             return Err(Stop::Bad(format!("time-back {at} {}", self.last)));
         }
         Ok(())
     }
 
-    fn no_node(&mut self, at: u64, node: u32) -> Result<(), Stop> {
-        self.time(at)?;
-        Err(Stop::Bad(format!("no-node {node} {}", self.nodes.len())))
-    }
-
     /// Refuses an event of a node that there isn't, or for which there is no room.
     #[inline]
-    fn check(&mut self, at: u64, node: u32, sender: Option<u32>, up: bool) -> Result<usize, Stop> {
+    fn check(&mut self, at: u64, node: u32, up: bool) -> Result<usize, Stop> {
         self.time(at)?;
-        let nodes = self.nodes.len();
-        if let Some(lacking) = [Some(node), sender].into_iter().flatten().find(|it| *it as usize >= nodes) {
-            return Err(Stop::Bad(format!("no-node {lacking} {nodes}")));
+        let (nodes, place) = (self.nodes.len(), node as usize);
+        if place >= nodes {
+            return lacking(nodes, node, 0, None);
         }
-        let node = node as usize;
-        if up && !self.nodes[node].up {
+        if up && !self.nodes[place].up {
             return Err(Stop::Bad(format!("not-up {node}")));
         }
         if self.desk.event >= MOST_EVENTS || self.desk.posts.len() + 24 * nodes + 256 > MOST_POSTS {
@@ -398,11 +303,11 @@ impl<W: Write> Replay<W> {
         }
         self.last = at;
         self.desk.event += 1;
-        Ok(node)
+        Ok(place)
     }
 
     fn boot(&mut self, at: u64, node: u32, word: u64) -> Result<(), Stop> {
-        let place = self.check(at, node, None, false)?;
+        let place = self.check(at, node, false)?;
         let node = &mut self.nodes[place];
         let tick = node.tick(at);
         self.desk.begin(place as u8, tick);
@@ -411,7 +316,7 @@ impl<W: Write> Replay<W> {
     }
 
     fn turn(&mut self, at: u64, node: u32) -> Result<(), Stop> {
-        let place = self.check(at, node, None, true)?;
+        let place = self.check(at, node, true)?;
         let node = &mut self.nodes[place];
         let tick = node.tick(at);
         if !node.is_idle(tick) {
@@ -437,13 +342,15 @@ impl<W: Write> Replay<W> {
             self.desk.event += 1;
             return Ok(());
         }
-        let place = self.check(at, u32::from(to), None, true)?;
+        let place = self.check(at, u32::from(to), true)?;
         self.input(at, place, from, Ok(datagram));
         Ok(())
     }
 
-    fn hand(&mut self, at: u64, node: u32, from: Option<u32>, count: usize) -> Result<(), Stop> {
-        let place = self.check(at, node, from, true)?;
+    fn hand(&mut self, at: u64, node: u32, port: u8, from: Option<u32>, count: usize) -> Result<(), Stop> {
+        self.time(at)?;
+        lacking(self.nodes.len(), node, port, from)?;
+        let place = self.check(at, node, true)?;
         let names = &mut self.desk.names;
         let taken = decode(&self.octets[..count], |octets| {
             let name = Name::of(octets);
@@ -491,10 +398,9 @@ pub fn replay() -> io::Result<i32> {
         }
         replay.desk.out.flush()?;
     }
-    match replay.stage {
-        Stage::Over => Ok(0),
-        Stage::Events => replay.refuse(number + 1, Stop::Bad("no-end".to_string())),
-        Stage::Nodes if !replay.nodes.is_empty() => replay.refuse(number + 1, Stop::Bad("no-end".to_string())),
-        _ => replay.refuse(number + 1, Stop::Bad("header".to_string())),
+    match (replay.header.lacks(), replay.nodes.is_empty()) {
+        (None, _) => Ok(0),
+        (Some(_), false) => replay.refuse(number + 1, Stop::Bad("no-end".to_string())),
+        (Some(cause), true) => replay.refuse(number + 1, Stop::Bad(cause.to_string())),
     }
 }
