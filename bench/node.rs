@@ -8,6 +8,7 @@ pub const LIMIT: i64 = 2_147_483_648_000_000;
 pub const HOLD: u64 = 60_000_000;
 pub const GAP: u64 = 1_000_000;
 pub const MAXADJ: u64 = 20_000_000;
+pub const LIFE: u64 = 30_000_000;
 
 const QUIET_TIME: u64 = 80_000_000;
 const WINDOW_TIME: u64 = 5_000_000;
@@ -41,7 +42,7 @@ pub const SETTIME: u8 = 5;
 const MASTERUP: u8 = 6;
 const SLAVEUP: u8 = 7;
 pub const ELECTION: u8 = 8;
-const ACCEPT: u8 = 9;
+pub const ACCEPT: u8 = 9;
 const REFUSE: u8 = 10;
 pub const CONFLICT: u8 = 11;
 const RESOLVE: u8 = 12;
@@ -81,7 +82,7 @@ pub enum Role {
 }
 
 /// A message or a stamp. A message has its time or its hops in `a`, and the number of its name in a table of names.
-#[derive(Clone, Copy)]
+#[derive(Clone, Copy, PartialEq)]
 pub struct Datagram {
     pub kind: u8,
     pub name: u16,

@@ -1,7 +1,9 @@
-//! The jobs of `replay` and `storm` by hand, over Rust's standard library alone: what the program is measured beside.
+//! The jobs of `replay`, `storm` and `audit` by hand, over Rust's standard library alone: what the program is measured beside.
 //! Built by `rustc -O --edition 2024 bench/plain.rs`, and run with the words of the command. With `schedule` in the place of
 //! `storm` it writes the schedule that a storm runs.
 
+mod audit;
+mod claims;
 mod node;
 mod replay;
 mod schedule;
@@ -22,6 +24,7 @@ fn main() {
     let words: Vec<&str> = words.iter().map(String::as_str).collect();
     let status = match &words[..] {
         ["replay"] => replay::replay(),
+        ["audit"] => audit::audit(),
         [word @ ("storm" | "schedule"), rest @ ..] => match numbers(rest) {
             Some([seed, nodes, events]) => storm::storm(seed, nodes, events, *word == "schedule"),
             None => Ok(1),

@@ -77,8 +77,12 @@ impl<'a> Cursor<'a> {
         if negative {
             self.rest = &self.rest[1..];
         }
-        let value = i64::try_from(self.number()?).ok()?;
-        if negative && value == 0 { None } else { Some(if negative { -value } else { value }) }
+        match (negative, self.number()?) {
+            (true, 0) => None,
+            (true, value) if value <= 1 << 63 => Some((value as i64).wrapping_neg()),
+            (true, _) => None,
+            (false, value) => i64::try_from(value).ok(),
+        }
     }
 
     /// A number below 2^32.
@@ -86,9 +90,9 @@ impl<'a> Cursor<'a> {
         u32::try_from(self.number()?).ok()
     }
 
-    /// The word up to the next space or the end.
+    /// The word up to the next space or line feed, or the end.
     pub fn word(&mut self) -> &'a [u8] {
-        let end = self.rest.iter().position(|octet| *octet == b' ').unwrap_or(self.rest.len());
+        let end = self.rest.iter().position(|octet| matches!(octet, b' ' | b'\n')).unwrap_or(self.rest.len());
         let (word, rest) = self.rest.split_at(end);
         self.rest = rest;
         word
