@@ -229,13 +229,6 @@ took=$(($(date +%s) - began))
 [ ! -e "$BUSY-again" ] || fail 'clocks are asked for at the same time'
 
 # An interrupt ends it by the signal, without a word.
-cat >"$out/interrupt" <<'END'
-import signal, subprocess, sys, time
-run = subprocess.Popen(sys.argv[1:], stdout=subprocess.PIPE, stderr=subprocess.PIPE)
-time.sleep(1)
-run.send_signal(signal.SIGINT)
-print(run.communicate(timeout=20), run.returncode)
-END
-ended=$(python3 "$out/interrupt" tools/tsp-status --program "$out/fake" --file "$out/hosts" --timeout 4)
+ended=$(interrupted tools/tsp-status --program "$out/fake" --file "$out/hosts" --timeout 4)
 [ "$ended" = "(b'', b'') -2" ] || fail "an interrupt ends with $ended"
 echo "$check: tables, values, faults, a plugin's statuses, and forty hosts, half of them dead, in $took s"
