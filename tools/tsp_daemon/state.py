@@ -156,13 +156,15 @@ class Daemon:
     def on_arm(self, act, alarm, tick):
         if alarm in ROLE_OF_ALARM:
             yield from self.must_be(act, ROLE_OF_ALARM[alarm])
-        self.port(act).alarms[alarm] = int(tick)
-        if alarm in ('round', 'elect'):
+        alarms = self.port(act).alarms
+        is_new = alarms.get(alarm) != int(tick)
+        alarms[alarm] = int(tick)
+        if is_new and alarm in ('round', 'elect'):
             yield 'next', {'alarm': alarm, 'in_us': int(tick) - act.tick}
 
     def on_ring(self, act, alarm):
-        if alarm in ROLE_OF_ALARM:
-            yield from self.must_be(act, ROLE_OF_ALARM[alarm])
+        if ROLE_OF_ALARM.get(alarm) == 'master':
+            yield from self.must_be(act, 'master')
         self.port(act).alarms.pop(alarm, None)
         if alarm == 'round':
             for peer in self.peers.values():
