@@ -108,7 +108,7 @@ ends 3 alpha
 ends 3 --program "$out/none" alpha
 ends 78 delta
 ends 78 --program "$out/none" --file "$out/none" alpha
-TSP_SELF=delta
+TSP_SELF='delta'
 ends 78
 [ "$told" = "tsp-now: $out/hosts: no line for this host, delta" ] || fail "of a host that isn't there it tells '$told'"
 for words in '--set x alpha' '--set 2026-02-30T00:00:00Z' '--set 2026-11-28T09:41:02' '--set @9999999999' '--set' 'a b' '+%s +%T' '--offset +%s' '--all' '--set @5 --offset'; do
