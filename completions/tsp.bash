@@ -57,17 +57,38 @@ _tsp_launch() {
     --program | -p) mapfile -t COMPREPLY < <(compgen -c -- "$2") ;;
     --file | -f) mapfile -t COMPREPLY < <(compgen -f -- "$2") ;;
     --self | -s) mapfile -t COMPREPLY < <(compgen -W "$(_tsp_hosts 2)" -- "$2") ;;
-    --turns | -t | --wait | -w) ;;
-    *) mapfile -t COMPREPLY < <(compgen -W '--print --list --file --self --turns --wait --trace --program --help' -- "$2") ;;
+    --turns | -t | --wait | -w | --spread) ;;
+    *) mapfile -t COMPREPLY < <(compgen -W '--print --list --file --self --turns --wait --spread --trace --supervise --program --help' -- "$2") ;;
     esac
 }
 
 _tsp_status() {
     case $3 in
     --program | -p) mapfile -t COMPREPLY < <(compgen -c -- "$2") ;;
-    --file | -f) mapfile -t COMPREPLY < <(compgen -f -- "$2") ;;
-    --tries | -t) ;;
-    *) mapfile -t COMPREPLY < <(compgen -W '--csv --file --tries --program --help' -- "$2") ;;
+    --file | -f | --output | -o) mapfile -t COMPREPLY < <(compgen -f -- "$2") ;;
+    --tries | -t | --timeout | --within) ;;
+    *)
+        mapfile -t COMPREPLY < <(compgen -W '--file --need-master --within --check --csv --json --prometheus --output --timeout --tries --program --help' -- "$2")
+        ;;
+    esac
+}
+
+_tsp_watch() {
+    case $3:$2 in
+    --prometheus:*) mapfile -t COMPREPLY < <(compgen -f -- "$2") ;;
+    *:-*) mapfile -t COMPREPLY < <(compgen -W '--json --prometheus --help' -- "$2") ;;
+    *) mapfile -t COMPREPLY < <(compgen -f -- "$2") ;;
+    esac
+}
+
+_tsp_now() {
+    case $3:$2 in
+    --program:* | -p:*) mapfile -t COMPREPLY < <(compgen -c -- "$2") ;;
+    --file:* | -f:*) mapfile -t COMPREPLY < <(compgen -f -- "$2") ;;
+    --tries:* | -t:* | --timeout:*) ;;
+    --set:*) mapfile -t COMPREPLY < <(compgen -W 'now' -- "$2") ;;
+    *:-*) mapfile -t COMPREPLY < <(compgen -W '--utc --offset --set --file --timeout --tries --program --help' -- "$2") ;;
+    *) mapfile -t COMPREPLY < <(compgen -W "$(_tsp_hosts 2)" -- "$2") ;;
     esac
 }
 
@@ -78,3 +99,5 @@ complete -o filenames -F _tsp_plot tsp-plot
 complete -F _tsp_sim tsp-sim
 complete -o filenames -F _tsp_launch tsp-launch
 complete -o filenames -F _tsp_status tsp-status
+complete -o filenames -F _tsp_watch tsp-watch
+complete -o filenames -F _tsp_now tsp-now

@@ -44,6 +44,20 @@ print(*[each.getsockname()[1] for each in sockets])
 END
 }
 
+# Interrupts a command after a second, and prints what it wrote and how it ended.
+interrupted() {
+    python3 - "$@" <<'END'
+import signal
+import subprocess
+import sys
+import time
+run = subprocess.Popen(sys.argv[1:], stdin=subprocess.PIPE, stdout=subprocess.PIPE, stderr=subprocess.PIPE)
+time.sleep(1)
+run.send_signal(signal.SIGINT)
+print(run.communicate(timeout=20), run.returncode)
+END
+}
+
 out=$(mktemp -d)
 trap 'rm -rf "$out"' EXIT
 

@@ -42,6 +42,11 @@ wants ' ' tsp serve 192.0.2.11:525 alpha m ''
 wants ' ' tsp trace 192.0.2.11:525 on ''
 wants 'alpha ' tsp-launch -s al
 wants 'daemon/hosts ' tsp-status --file daemon/h
+wants '--need-master ' tsp-status --ne
+wants 'daemon/hosts ' tsp-watch daemon/h
+wants 'daemon/hosts ' tsp-watch --prometheus daemon/h
+wants 'beta ' tsp-now b
+wants 'now ' tsp-now --set ''
 TSP_HOSTS=$out/none
 wants ' ' tsp-launch -s ''
 
@@ -50,8 +55,8 @@ wants ' ' tsp-launch -s ''
 complete_words tsp '' | cmp -s - "$out/commands" || fail 'the commands are others than those of tsp --help'
 
 # The options are those of each tool's help.
-for tool in tsp-lint tsp-plot tsp-sim tsp-launch tsp-status; do
-    "tools/$tool" --help | grep -o -e '--[a-z]*' | sort -u >"$out/options"
+for tool in tsp-lint tsp-plot tsp-sim tsp-launch tsp-status tsp-watch tsp-now; do
+    "tools/$tool" --help | grep -o -e '--[a-z][a-z-]*' | sort -u >"$out/options"
     [ "$tool" != tsp-lint ] || echo --help >>"$out/options"
     complete_words "$tool" -- >"$out/completed"
     sort "$out/options" | cmp -s - "$out/completed" || fail "the options are others than those of $tool --help"
