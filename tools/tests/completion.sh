@@ -42,6 +42,8 @@ wants ' ' tsp serve 192.0.2.11:525 alpha m ''
 wants ' ' tsp trace 192.0.2.11:525 on ''
 wants 'alpha ' tsp-launch -s al
 wants 'daemon/hosts ' tsp-status --file daemon/h
+wants 'alpha= ' tsp-witness --check al
+wants 'daemon/hosts ' tsp-witness alpha = daemon/h
 TSP_HOSTS=$out/none
 wants ' ' tsp-launch -s ''
 
@@ -50,7 +52,7 @@ wants ' ' tsp-launch -s ''
 complete_words tsp '' | cmp -s - "$out/commands" || fail 'the commands are others than those of tsp --help'
 
 # The options are those of each tool's help.
-for tool in tsp-lint tsp-plot tsp-sim tsp-launch tsp-status; do
+for tool in tsp-lint tsp-plot tsp-sim tsp-launch tsp-status tsp-witness; do
     "tools/$tool" --help | grep -o -e '--[a-z]*' | sort -u >"$out/options"
     [ "$tool" != tsp-lint ] || echo --help >>"$out/options"
     complete_words "$tool" -- >"$out/completed"
