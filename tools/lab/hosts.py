@@ -187,6 +187,8 @@ class Namespaces(Lab):
         if not cls.is_mounted:
             run('mount', '-t', 'tmpfs', 'none', '/run')
             os.mkdir('/run/netns')
+            # (processes have numbers of their own here)
+            run('mount', '-t', 'proc', 'none', '/proc')
             cls.is_mounted = True
 
     def wire(self, number, place, name):

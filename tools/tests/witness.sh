@@ -1,11 +1,12 @@
 #!/bin/sh
-# tsp-witness puts traces of daemons together, which are then alike and hold; and it finds what was changed in them, or is missing.
+# tsp-witness puts traces of daemons together, which are then alike and hold, and finds what was changed in them, or is missing. The traces
+# are of daemons on networks of tools/network, but for those of `hand`, which were worked out by hand.
 . "$(dirname "$0")/common.sh"
 ./tsp show </dev/null || fail "the program isn't there"
 export TSP_PROGRAM=crates/tsp_cli/out/tsp_cli
 given=tools/tests/witness
 
-# Witnesses the traces of a folder with a network's hosts file, as they were started one after the other.
+# Witnesses the traces of a folder by a hosts file; a daemon's name stands before the dash, and the starts are in the order of their numbers.
 witness() {
     hosts=$1 folder=$2
     shift 2
@@ -26,12 +27,19 @@ wants() {
     [ "$status" -eq "$wanted" ] && [ "$(head -n 1 "$out/said")" = "$line" ] || fail "$*: status $status, $(cat "$out/said" "$out/besides")"
 }
 
-# Wants a text in what was said or told besides.
+# Wants these texts in what was said, or told besides.
 tells() {
-    grep -q -F -- "$1" "$out/said" "$out/besides" || fail "'$1' isn't told, but: $(cat "$out/said" "$out/besides")"
+    for text; do
+        cat "$out/said" "$out/besides" | grep -q -F -- "$text" || fail "'$text' isn't told, but: $(cat "$out/said" "$out/besides")"
+    done
 }
 
-# A copy of the traces in which a line of one file is changed by a command of sed; just one line is another then.
+# How many lines the daemons wrote into the files of a folder.
+written() {
+    cat "$1"/*.trace | grep -c '^[0-9]'
+}
+
+# Copies the traces of a folder to `changed`, with one file changed by a script of sed.
 change() {
     rm -rf "$out/changed"
     cp -r "$given/$1" "$out/changed"
@@ -39,9 +47,76 @@ change() {
     ! cmp -s "$given/$1/$2.trace" "$out/changed/$2.trace" || fail "$3 changes nothing in $2"
 }
 
-# The daemons' own lines, counted in their files, are all alike.
-for network in three strict loops; do
-    lines=$(cat "$given/$network"/*.trace | wc -l)
-    wants 0 "$lines acts alike, holds" "$network" "$given/$network"
+# The daemons' own lines are all alike: in a run that was worked out by hand, with a killed and returned master and a date, in strict elections, and
+# with two gateways between the same two networks, whose LOOPs come back.
+for network in hand three strict loops; do
+    wants 0 "$(written "$given/$network") acts alike, holds" "$network" "$given/$network"
+    [ ! -s "$out/besides" ] || fail "$network: $(cat "$out/besides")"
 done
-echo "$check: all are alike"
+grep -q ' took [0-9]* loop ' "$given/loops/b-2.trace" || fail 'no LOOP comes back'
+
+# Clocks that drift fit no times without rates, and do with them.
+wants 3 '' drifting "$given/drifting"
+tells 'the clocks fit no times within a drift of 0'
+wants 0 "$(written "$given/drifting") acts alike, holds" drifting "$given/drifting" --drift 200
+witness drifting "$given/drifting" --drift 200 --schedule "$out/schedule"
+[ "$(sed -n 's/^node b \(-[0-9]*\) .*/\1/p' "$out/schedule")" -le -95 ] || fail "a clock that is slow by a ten-thousandth has another rate: $(head -n 4 "$out/schedule")"
+
+# A host whose wall clock was set between two starts: what came before is judged, and it is said what isn't.
+# (its second start takes the MASTERUP that the other one posts when its window is over, so it was before that)
+before=$(sed '/ ring window$/,$d' "$given/stepped/a-1.trace" | cat - "$given/stepped/b-2.trace" | wc -l)
+wants 1 "$before acts alike, holds" stepped "$given/stepped"
+tells 'b (start 2): its wall clock had been stepped by 500'
+
+# A daemon changed an octet of a datagram on its way out: it is named, with what it posted. By what came all is as it should be.
+wants 1 "$(written "$given/spoiled") acts alike, holds" spoiled "$given/spoiled"
+tells 'took "adjtime 24980 5431 b" of b' 'it posted "adjtime 24980 5430 b"'
+wants 0 "$(written "$given/spoiled") acts alike, holds" spoiled "$given/spoiled" --altered
+
+# Acts that the rules don't give: a correction by another amount, a role that the hosts file doesn't allow.
+change three c-2 's/ correct \(-\{0,1\}[0-9]*\)\([0-9]\) slew/ correct \12\2 slew/'
+status=0
+witness three "$out/changed" --check >"$out/said" 2>"$out/besides" || status=$?
+[ "$status" -eq 1 ] || fail "a changed correction gives the status $status"
+tells 'acts alike, and then one that differs' 'c, turn ' 'by the rules it is "2 0 ' 'the datagram before it: "adjtime '
+status=0
+witness hand "$given/strict" --check >"$out/said" 2>"$out/besides" || status=$?
+[ "$status" -eq 3 ] || fail "traces of another network give the status $status"
+
+# Lines that are lost: of a post in the midst, and of the end of a turn in which a daemon was killed, which the rules give.
+change three b-3 '/ post 9 /d'
+status=0
+witness three "$out/changed" --check >"$out/said" 2>"$out/besides" || status=$?
+[ "$status" -eq 1 ] || fail "a lost line gives the status $status"
+tells 'b: lines are lost before turn '
+change hand a-1 '$d'
+wants 0 "$(written "$out/changed") acts alike, holds" hand "$out/changed"
+
+# A host without a trace, and a trace that begins late.
+rm -rf "$out/changed"
+cp -r "$given/three" "$out/changed"
+rm "$out/changed/c-2.trace"
+wants 1 "$(written "$out/changed") acts alike, holds" three "$out/changed"
+tells ' of c in turn ' 'which has no trace here'
+change hand b-2 '/ 0 0 1000000 /d'
+status=0
+witness hand "$out/changed" --check >"$out/said" 2>"$out/besides" || status=$?
+tells 'b: the trace begins 80 s after the start'
+
+# What can't be used ends with one line and status 3.
+refuses() {
+    status=0
+    tools/tsp-witness --check "$@" >"$out/said" 2>"$out/besides" || status=$?
+    [ "$status" -eq 3 ] && [ ! -s "$out/said" ] && [ "$(wc -l <"$out/besides")" -eq 1 ] || fail "$*: status $status, $(cat "$out/said" "$out/besides")"
+}
+refuses --file "$out/none" "a=$given/hand/a-1.trace"
+refuses --file "$given/hand.hosts" "a=$out/none"
+refuses --file "$given/hand.hosts" "x=$given/hand/a-1.trace"
+refuses --file "$given/hand.hosts" "a=$given/hand.hosts"
+refuses --file "$given/hand.hosts" "a=$given/three/a-1.trace"
+for text in 'a 192.0.2.1' 'a 192.0.2.1 leader' 'a 192.0.2.1 master\na 192.0.2.2 master' 'a 192.0.2.1 master\nb 192.0.2.2 strict' \
+    'a 192.0.2.1 master\nb 192.0.2.2 slave\n+\nb 192.0.2.2 slave\na 192.0.2.1 master' '+'; do
+    printf '%b\n' "$text" >"$out/hosts"
+    refuses --file "$out/hosts" "a=$given/hand/a-1.trace"
+done
+echo "$check: $(cat "$given"/*/*.trace | wc -l) lines of daemons, and what is changed or missing in them"

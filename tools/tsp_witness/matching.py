@@ -96,6 +96,15 @@ class Matching:
         self.note_posts(turn)
         return self.candidates(taker)
 
+    def nearest(self, turn):
+        """The message line of a post that a strange datagram may have been before it was changed: one of its type and number that nobody
+        took; or None."""
+        sender, port = self.sender(turn)
+        way, words = self.key(sender, port, turn.life.node, [])[:3], turn.took().words[2:4]
+        taken = {id(other.post.act) for life in self.lives() for other in life.turns if other.post}
+        return next((key[3] for key, posts in self.index.items() if key[:3] == way and key[3].split(' ')[:2] == words
+                     and not any(id(post.act) in taken for post in posts)), None)
+
     def choose(self, at, freedom):
         """Settles what is still open, by the times so far: the last post that isn't later than its take. Times may be wrong by
         so much as two hosts leave free."""

@@ -103,7 +103,10 @@ class Story:
         """What a daemon took of a peer that never posted it."""
         sender, _ = self.matching.sender(turn)
         what = f'{self.name(turn.life)} took "{" ".join(turn.took().words[2:])}" of {self.network.names[sender]} in turn {turn.number}'
-        return f'{what}, which has no trace here' if sender not in self.journals else f'{what}, which by its trace never posted that to it'
+        if sender not in self.journals:
+            return f'{what}, which has no trace here'
+        nearest = self.matching.nearest(turn)
+        return f'{what}, which by its trace never posted that to it' + (f'; it posted "{nearest}"' if nearest else '')
 
     def note_missing(self, life):
         """Says which lines of a life aren't there."""
