@@ -18,7 +18,7 @@ the jitter, in milliseconds of the network's time. On top come the ways through 
 what they take on the machine, which is busy. The least error of a measurement shows that.
 
 Times come from the clock that all daemons count by, whose rates and walls are known here. Each run was also replayed and audited by `tsp-witness`, which
-knows neither: all acts were alike, and each history holds.
+knows neither: {judged}.
 
 - **apart**: the greatest distance of two clocks that one round of their master corrected, the master's among them, while nothing else moved them.
 - **promised**: what is promised of these two at that moment: their samples' errors, and the drift since these were taken, twice.
@@ -58,12 +58,17 @@ def row(case):
 
 def sums(cases):
     """What is to be said of all cases together."""
-    compared = sum(case['alike'] for case in cases)
     corrections = {kind: sum(case[kind]['corrections'] for case in cases) for kind in ('daemons', 'simulated')}
     worst = {kind: max(case[kind]['part'] for case in cases) for kind in ('daemons', 'simulated')}
-    return (f'In all {len(cases)} cases rounds moved followers {corrections["daemons"]} times among daemons and {corrections["simulated"]} times in simulations; '
-            f'{compared} acts of the daemons\nwere replayed, and were alike. No two clocks were further apart than was promised: at the most {worst["daemons"]:.0%} of '
-            f'it among daemons, {worst["simulated"]:.0%} in simulations.')
+    return (f'In all {len(cases)} cases rounds moved followers {corrections["daemons"]} times among daemons, and {corrections["simulated"]} times in simulations.\n'
+            f'Two clocks came to {worst["daemons"]:.0%} of what was promised at the most among daemons, and to {worst["simulated"]:.0%} in simulations.')
+
+
+def judged(cases):
+    """What the witness said of all runs."""
+    alike = sum(case['alike'] for case in cases)
+    faulty = [name_of(case) for case in cases if case['faults']]
+    return f'{alike} acts are alike, and each history holds' if not faulty else f'{alike} acts are alike, but not all of {"; ".join(faulty)}'
 
 
 def place(millis):
@@ -97,6 +102,6 @@ def write(folder, cases, given):
     """Writes the page and its picture."""
     rows = '\n'.join(map(row, cases))
     with open(os.path.join(folder, 'ACCURACY.md'), 'w', encoding='utf-8') as file:
-        file.write(TEXT.format(minutes=given.minutes, rate=given.rate, seed=given.seed, rows=rows, sums=sums(cases)))
+        file.write(TEXT.format(minutes=given.minutes, rate=given.rate, seed=given.seed, rows=rows, sums=sums(cases), judged=judged(cases)))
     with open(os.path.join(folder, 'accuracy.svg'), 'w', encoding='utf-8') as file:
         file.write(picture(cases))

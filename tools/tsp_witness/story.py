@@ -47,7 +47,8 @@ class Story:
         met |= {post.turn.life for turn in turns for post in [turn.post, *self.matching.choices.get(turn, [])] if post}
         for journal in self.journals.values():
             kept = [life for life in journal.lives if life.base is not None or life in met]
-            journal.notes += [f'{self.name(life)} is left out: no line tells its clock, and nothing that it posted was taken' for life in journal.lives if life not in kept]
+            journal.notes += [f'{self.name(life)} is left out: no line tells its clock, and nothing that it posted was taken'
+                              for life in journal.lives if life not in kept]
             journal.lives = kept
 
     def clocks(self):

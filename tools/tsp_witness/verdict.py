@@ -18,12 +18,23 @@ class Difference(NamedTuple):
 
 
 class Verdict(NamedTuple):
-    """How many of the daemons' lines are as the rules say, the first event at which they aren't, the answer of the audit, and
-    how many events it was asked of where these aren't all."""
+    """How many of the daemons' lines are as the rules say, the first event at which they aren't, the answer of the audit, which is None
+    where it wasn't asked, and of how many events it was asked where these aren't all."""
     alike: int
     difference: Optional[Difference]
-    audit: str
-    audited: Optional[int]
+    audit: Optional[str]
+    audited: Optional[int] = None
+
+    def is_well(self):
+        return self.difference is None and self.audit in (None, 'holds')
+
+    def text(self):
+        """The verdict in a line."""
+        if self.audit is None:
+            judged = f'not audited, as there are more than {AUDITED_NODES} hosts'
+        else:
+            judged = self.audit + ('' if self.audited is None else f', so far as its first {self.audited} events go')
+        return f'{self.alike} acts alike, and then one that differs; the audit: {judged}' if self.difference else f'{self.alike} acts alike, {judged}'
 
 
 def run(program, command, text):
@@ -72,7 +83,7 @@ def judge(program, story):
     """The verdict on a story."""
     alike, difference = compare(program, story)
     if len(story.network.names) > AUDITED_NODES:
-        return Verdict(alike, difference, f'is not asked: there are more than {AUDITED_NODES} hosts', 0)
+        return Verdict(alike, difference, None)
     count = audited_events(story)
     said = run(program, 'audit', story.schedule(count) + story.claimed(count))
     return Verdict(alike, difference, said[-1] if said else 'says nothing', count)
