@@ -1,5 +1,5 @@
 #!/bin/sh
-# tsp-witness puts traces of daemons together, which are then alike and hold, and finds what was changed in them, or is missing. The traces
+# tsp-witness puts traces of daemons together, which are then alike and hold, and finds what was changed in them, or is missing. These traces
 # are of daemons on networks of tools/network, but for those of `hand`, which were worked out by hand.
 . "$(dirname "$0")/common.sh"
 ./tsp show </dev/null || fail "the program isn't there"
@@ -47,6 +47,8 @@ change() {
     ! cmp -s "$given/$1/$2.trace" "$out/changed/$2.trace" || fail "$3 changes nothing in $2"
 }
 
+PYTHONPATH=tools python3 -B tools/tests/witness_times.py 2>"$out/told" || fail "$(cat "$out/told")"
+
 # The daemons' own lines are all alike: in a run that was worked out by hand, with a killed and returned master and a date, in strict elections, and
 # with two gateways between the same two networks, whose LOOPs come back.
 for network in hand three strict loops; do
@@ -54,6 +56,23 @@ for network in hand three strict loops; do
     [ ! -s "$out/besides" ] || fail "$network: $(cat "$out/besides")"
 done
 grep -q ' took [0-9]* loop ' "$given/loops/b-2.trace" || fail 'no LOOP comes back'
+
+# The starts of one host in one journal, with lines of others between.
+{
+    echo 'Started tsp.service - Clock synchronisation by the Time Synchronization Protocol.'
+    for start in a-1 a-4; do
+        echo 'tsp-launch: in the trace peer 0 is a, 1 b, 2 c'
+        cat "$given/three/$start.trace"
+    done
+} | sed 's/^/Nov 28 06:00:00 alpha tsp[99]: /' >"$out/journal"
+rm -rf "$out/changed"
+cp -r "$given/three" "$out/changed"
+rm "$out/changed"/a-*
+cp "$out/journal" "$out/changed/a-1.trace"
+wants 0 "$(written "$given/three") acts alike, holds" three "$out/changed"
+sed -i 's/1 b, 2 c$/1 c, 2 b/' "$out/changed/a-1.trace"
+wants 3 '' three "$out/changed"
+tells 'the daemon was started with the peers 0 a, 1 c, 2 b; by the hosts file they are 0 a, 1 b, 2 c'
 
 # Clocks that drift fit no times without rates, and do with them.
 wants 3 '' drifting "$given/drifting"

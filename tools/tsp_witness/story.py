@@ -40,6 +40,10 @@ class Story:
         name = self.network.names[life.node]
         return name if len(self.journals[life.node].lives) == 1 else f'{name} (start {life.number + 1})'
 
+    def turn_name(self, turn):
+        """How a turn is named to a reader."""
+        return f'{self.name(turn.life)} in turn {turn.number}' if turn.number else f'{self.name(turn.life)} at its start'
+
     def leave_out_silent(self):
         """A life that tells nothing of its clock and exchanged nothing with others has no place in time."""
         turns = [turn for life in self.matching.lives() for turn in life.turns]
@@ -65,12 +69,11 @@ class Story:
                 raise Unusable(self.unfit_text(clocks))
 
     def unfit_text(self, clocks):
-        """Between which hosts datagrams would go back in time."""
-        names = {number: self.network.names[node] for (node, _), number in clocks.number.items()}
-        offsets, bounds = clocks.fit.offsets, clocks.bounds
-        left, reached = min(bounds.hulls, key=lambda pair: bounds.bound(pair, clocks.fit.rates) + offsets[pair[1]] - offsets[pair[0]])
-        return f'the clocks fit no times within a drift of {self.most}: one of {names[left]}\'s datagrams would reach {names[reached]} ' \
-            f'{-clocks.fit.least:.0f} us before it was posted'
+        """Which datagram would go back in time the most, and that there is at least one the other way."""
+        turns = [turn for life in self.matching.lives() for turn in life.turns if turn.post]
+        turn = min(turns, key=lambda turn: clocks.at(turn) - clocks.at(turn.post.turn))
+        return f'the clocks fit no times within a drift of {self.most}: "{" ".join(turn.took().words[2:])}" would reach {self.turn_name(turn)}, ' \
+            f'{clocks.at(turn.post.turn) - clocks.at(turn):.0f} us before it left {self.turn_name(turn.post.turn)}, or another one likewise'
 
     def ends_at_step(self):
         """Ends the story before a start at which a host's wall clock had been stepped, where that is why no times fit; says whether it
@@ -148,14 +151,14 @@ class Story:
                     heapq.heappush(ready, (later.at, next(count), later))
         if waits:
             first = min(waits, key=lambda turn: turn.at)
-            raise Unusable(f'{self.name(first.life)}: turn {first.number} and others would each follow from the other')
+            raise Unusable(f'what is told of {self.turn_name(first)} and of others would each follow from the other')
 
     def write(self):
         """Writes each turn as an event, and its acts as claims."""
         last = 0
         for turn in self.ordered():
             if turn.at < last:
-                raise Unusable(f'{self.name(turn.life)}: turn {turn.number} would be {last - turn.at} us before what it follows from')
+                raise Unusable(f'what is told of {self.turn_name(turn)} would be {last - turn.at} us before what it follows from')
             last = turn.at
             self.events.append(f'at {turn.at} {self.event(turn)}')
             for act in turn.acts:
