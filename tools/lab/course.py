@@ -84,15 +84,15 @@ class Course:
 
     def judge(self, lab, piece, name):
         """Has a piece witnessed, and counts what was in it."""
-        status, said, besides = witness(lab, '--altered', '--drift', str(DRIFT))
+        status, said, besides = witness(lab, '--drift', str(DRIFT), *(['--altered'] if piece.spoil else []))
         acts = [act for daemon in lab.daemons for act in lab.acts(daemon)]
-        self.add(seconds=lab.lived, lines=len(acts), datagrams=getattr(lab, 'carried', 0), lost=getattr(lab, 'lost', 0),
+        self.add(seconds=lab.lived, lines=len(acts), posted=sum(act[0] == 'post' for act in acts), taken=sum(act[0] == 'took' for act in acts), frames=getattr(lab, 'carried', 0), lost=getattr(lab, 'lost', 0),
                  doubled=getattr(lab, 'doubled', 0), spoiled=getattr(lab, 'spoiled', 0),
                  elections=sum(act == ['become', 'master'] for act in acts), corrections=sum(act[0] == 'correct' for act in acts),
                  late=sum(act[0] == 'late' for act in acts), starts=lab.starts, **piece.faults)
         self.lives += piece.lives
         say(f'{name}, {lab.lived / HOUR:.2f} hours, {len(acts)} lines: {said[0] if said else "no verdict"}')
-        for line in said[1:] + [line for line in besides if 'never posted that' not in line]:
+        for line in said[1:] + [line for line in besides if not piece.spoil or 'never posted that' not in line]:
             say(f'{name}: {line}')
         if status:
             say(f'{name} isn\'t as the rules say: its traces are in {lab.folder}')
@@ -168,7 +168,7 @@ class Piece:
         loss = self.chance.uniform(0, LOSS) if sort in (1, 2) else 0.01
         most = round(self.chance.uniform(0, LATE) / self.lab.rate) if sort in (2, 3) else 200
         twice, spoil = (0.2, self.spoil) if sort == 4 else (0.02, 0)
-        self.faults['storms'] += sort in (1, 2, 3, 4)
+        self.faults['storms'] += self.lab.has_bridge and sort in (1, 2, 3, 4)
         self.lab.tell(f'loss {loss}', f'late 20 {max(most, 200)}', f'twice {twice}', f'spoil {spoil}')
 
     def event(self):
@@ -183,7 +183,7 @@ class Piece:
             self.end(self.chance.choice(up), signal.SIGKILL)
         elif sort == 5:
             self.hold(self.chance.choice(up))
-        elif sort == 6:
+        elif sort == 6 and self.lab.has_bridge:
             self.faults['cuts'] += 1
             self.lab.tell('cut ' + ' '.join(cable for daemon in self.chance.sample(up, len(up) // 2) for cable in self.lab.cables(daemon)))
         elif sort == 7:

@@ -50,6 +50,8 @@ class Lab:
     """What both sorts of lab have in common. `nets` are the daemons of each network, `rate` says how fast time runs, `folder` is where
     the traces go."""
 
+    has_bridge = False
+
     def __init__(self, nets, program, library, rate, folder):
         self.nets, self.program, self.library, self.rate, self.folder = nets, program, library, rate, folder
         self.begun = time.monotonic_ns()
@@ -162,7 +164,7 @@ class Loopback(Lab):
 
 class Namespaces(Lab):
     """Hosts in network namespaces, joined by a bridge. `capture` says whether what it carries is kept."""
-    is_mounted = False
+    is_mounted, has_bridge = False, True
 
     def __init__(self, nets, *rest, seed=525, capture=True):
         super().__init__(nets, *rest)
