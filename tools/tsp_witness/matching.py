@@ -4,6 +4,8 @@ from typing import NamedTuple
 from tsp_witness.journal import TICKETS, Act, Turn
 
 REPLY_WORDS = 5
+# How long a datagram lives, in microseconds: an older post isn't looked for where there is another.
+LIFE = 30_000_000
 
 
 class Post(NamedTuple):
@@ -106,10 +108,12 @@ class Matching:
                      and not any(id(post.act) in taken for post in posts)), None)
 
     def choose(self, at, freedom):
-        """Settles what is still open, by the times so far: the last post that isn't later than its take. Times may be wrong by
-        so much as two hosts leave free."""
+        """Settles what is still open, by the times so far."""
         for turn, posts in self.choices.items():
-            known = [post for post in posts if at(post.turn) is not None]
-            spare = freedom(posts[0].turn.life, turn.life)
-            before = [post for post in known if at(turn) is not None and at(post.turn) <= at(turn) + spare]
-            turn.post = max(before, key=lambda post: at(post.turn)) if before else (known or posts)[0]
+            here, spare = at(turn), freedom(posts[0].turn.life, turn.life)
+            before = [post for post in posts if at(post.turn) <= here]
+            # (times may be wrong by so much as two hosts leave free: the post that seems to come right behind may be the one)
+            behind = [post for post in posts if here < at(post.turn) <= here + spare]
+            last = max(before, key=lambda post: at(post.turn), default=None)
+            is_old = last is None or here - at(last.turn) > LIFE
+            turn.post = min(behind, key=lambda post: at(post.turn)) if is_old and behind else last or posts[0]
