@@ -1,6 +1,6 @@
 #!/bin/sh
 # tsp-witness puts traces of daemons together, which are then alike and hold, and finds what was changed in them, or is missing. These traces
-# are of daemons on networks of tools/network, but for those of `hand`, which were worked out by hand.
+# are of daemons on networks of tools/network, but for `hand` and `repeated`, which were worked out by hand.
 . "$(dirname "$0")/common.sh"
 ./tsp show </dev/null || fail "the program isn't there"
 export TSP_PROGRAM=crates/tsp_cli/out/tsp_cli
@@ -49,9 +49,9 @@ change() {
 
 PYTHONPATH=tools python3 -B tools/tests/witness_times.py 2>"$out/told" || fail "$(cat "$out/told")"
 
-# The daemons' own lines are all alike: in a run that was worked out by hand, with a killed and returned master and a date, in strict elections, and
+# The daemons' own lines are all alike: in a run that was worked out by hand, and with a SETTIME that is repeated right behind its take; with a killed and returned master and a date, in strict elections, and
 # with two gateways between the same two networks, whose LOOPs come back.
-for network in hand three strict loops; do
+for network in hand repeated three strict loops; do
     wants 0 "$(written "$given/$network") acts alike, holds" "$network" "$given/$network"
     [ ! -s "$out/besides" ] || fail "$network: $(cat "$out/besides")"
 done

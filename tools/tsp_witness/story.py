@@ -65,8 +65,9 @@ class Story:
             clocks = Clocks(self.matching, self.most)
             if clocks.fit.least >= 0:
                 return clocks
+            text = self.unfit_text(clocks)
             if not self.ends_at_step():
-                raise Unusable(self.unfit_text(clocks))
+                raise Unusable(text)
 
     def unfit_text(self, clocks):
         """Which datagram would go back in time the most, and that there is at least one the other way."""
