@@ -92,6 +92,20 @@ _tsp_now() {
     esac
 }
 
+# (bash makes words of NAME, = and TRACE)
+_tsp_witness() {
+    case $3 in
+    --program | -p) mapfile -t COMPREPLY < <(compgen -c -- "$2"); return ;;
+    --file | -f | --schedule | -s | --claims | -l | =) mapfile -t COMPREPLY < <(compgen -f -- "$2"); return ;;
+    --drift | -d) return ;;
+    esac
+    case $2 in
+    =) mapfile -t COMPREPLY < <(compgen -f) ;;
+    -*) mapfile -t COMPREPLY < <(compgen -W '--check --file --drift --altered --schedule --claims --program --help' -- "$2") ;;
+    *) mapfile -t COMPREPLY < <(compgen -S = -W "$(_tsp_hosts 2)" -- "$2") ;;
+    esac
+}
+
 shopt -s extglob
 complete -F _tsp tsp
 complete -o filenames -F _tsp_lint tsp-lint
@@ -101,3 +115,4 @@ complete -o filenames -F _tsp_launch tsp-launch
 complete -o filenames -F _tsp_status tsp-status
 complete -o filenames -F _tsp_watch tsp-watch
 complete -o filenames -F _tsp_now tsp-now
+complete -o filenames -F _tsp_witness tsp-witness

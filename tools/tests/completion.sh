@@ -47,6 +47,8 @@ wants 'daemon/hosts ' tsp-watch daemon/h
 wants 'daemon/hosts ' tsp-watch --prometheus daemon/h
 wants 'beta ' tsp-now b
 wants 'now ' tsp-now --set ''
+wants 'alpha= ' tsp-witness --check al
+wants 'daemon/hosts ' tsp-witness alpha = daemon/h
 TSP_HOSTS=$out/none
 wants ' ' tsp-launch -s ''
 
@@ -55,7 +57,7 @@ wants ' ' tsp-launch -s ''
 complete_words tsp '' | cmp -s - "$out/commands" || fail 'the commands are others than those of tsp --help'
 
 # The options are those of each tool's help.
-for tool in tsp-lint tsp-plot tsp-sim tsp-launch tsp-status tsp-watch tsp-now; do
+for tool in tsp-lint tsp-plot tsp-sim tsp-launch tsp-status tsp-watch tsp-now tsp-witness; do
     "tools/$tool" --help | grep -o -e '--[a-z][a-z-]*' | sort -u >"$out/options"
     [ "$tool" != tsp-lint ] || echo --help >>"$out/options"
     complete_words "$tool" -- >"$out/completed"

@@ -80,6 +80,7 @@ cd "$out"
 python3 root/usr/bin/tsp-lint "$examples/election.tsp" || fail 'the packed tsp-lint refuses an example'
 python3 root/usr/bin/tsp-plot "$examples/election.tsp" | cmp -s - "$examples/election.svg" || fail 'the packed tsp-plot draws another picture'
 python3 root/usr/bin/tsp-sim --until 500 | tsp replay | grep -q 'become candidate' || fail 'the packed tsp-sim gives no schedule'
+python3 root/usr/bin/tsp-witness --help | grep -q '^usage: tsp-witness' || fail 'the packed tsp-witness has no help'
 cd "$OLDPWD"
 
 # The daemon: what the unit starts is there and gives words, its variables are a file that upgrades leave, and nothing starts by itself.
