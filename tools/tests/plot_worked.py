@@ -1,14 +1,20 @@
 """What tsp-plot reads off a run, beside values that were worked out by hand from the protocol's rules."""
 import unittest
 
-from tsp_texts import history, schedule, trace
+from tsp_texts import claims, history, schedule, trace, verdict
 
 FOLDER = 'tools/tests/plot/'
 
 
+def run_of(name):
+    """The schedule of this name, and the acts of its trace."""
+    with open(f'{FOLDER}{name}.tsp', 'rb') as file:
+        read = verdict.read(file.read())
+    return read, claims.read(f'{FOLDER}{name}.trace', read)
+
+
 def history_of(name):
-    read = schedule.read(f'{FOLDER}{name}.tsp')
-    return history.History(read, trace.read(f'{FOLDER}{name}.trace', read))
+    return history.History(*run_of(name))
 
 
 class Round(unittest.TestCase):
@@ -51,8 +57,7 @@ class Bounds(unittest.TestCase):
     """When a bound ends: the same round, with an event behind it."""
 
     def bound_with(self, event, *lines):
-        read = schedule.read(f'{FOLDER}round.tsp')
-        acts = trace.read(f'{FOLDER}round.trace', read)
+        read, acts = run_of('round')
         read.events.append(schedule.event_of(event))
         for line in lines:
             words = line.split()
@@ -69,8 +74,7 @@ class Bounds(unittest.TestCase):
         self.assertEqual((bound.end, bound.lasts), (640000000, False))
 
     def test_a_correction_of_the_master_before_the_follower_has_its_own(self):
-        read = schedule.read(f'{FOLDER}round.tsp')
-        acts = trace.read(f'{FOLDER}round.trace', read)
+        read, acts = run_of('round')
         at = next(place for place, act in enumerate(acts) if act.words[:2] == ['correct', '-250']) + 1
         acts.insert(at, acts[at - 1]._replace(words=['correct', '5', 'slew', '638000000']))
         acts = [act._replace(place=place) for place, act in enumerate(acts)]

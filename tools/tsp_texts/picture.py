@@ -67,7 +67,7 @@ class Picture:
     def there(self, post):
         """The height of the lane of the port that a post goes to."""
         schedule = self.history.schedule
-        net = schedule.net_of_port(post.act.node, post.act.port)
+        net = schedule.ports(post.act.node)[post.act.port]
         return self.lane(post.to, schedule.port_on(post.to, net) or 0)
 
     def has_lane(self, node):
