@@ -28,6 +28,10 @@ class Words(argparse.ArgumentParser):
         """What the words ask for; options may stand between files."""
         return self.parse_intermixed_args()
 
+    def print_help(self, file=None):
+        # (argparse's own passes over a write that fails)
+        (file or sys.stdout).write(self.format_help())
+
     def error(self, message):
         raise Fault(f'{message} ({self.prog} --help says which words there are)', self.wrong)
 
