@@ -46,6 +46,7 @@ class Claims:
     def __init__(self, schedule):
         self.schedule, self.count = schedule, len(schedule.nodes)
         self.line, self.event, self.up, self.posts = 0, 0, set(), []
+        self.ports = [len(schedule.ports(node)) for node in range(self.count)]
         self.has_took = False
 
     def refuse(self, why):
@@ -103,7 +104,7 @@ class Claims:
             self.refuse(f'event {self.event} of this schedule is not of node {node}')
         if tick != trace.tick_at(self.schedule.nodes[node], event.at):
             self.refuse(f'event {self.event} of this schedule is not at tick {tick} of node {node}')
-        if port >= len(self.schedule.ports(node)):
+        if port >= self.ports[node]:
             self.refuse(f'node {node} has no port {port}')
         if (said == 'boot') != (event.kind == 'boot' and self.is_first):
             self.refuse(f'event {self.event} of this schedule is a boot, and its first line isn\'t' if self.is_first and event.kind == 'boot' else
