@@ -56,7 +56,7 @@ _tsp_lint() {
     --program | -p) mapfile -t COMPREPLY < <(compgen -c -- "$2"); return ;;
     esac
     case $2 in
-    -*) mapfile -t COMPREPLY < <(compgen -W '--program --help' -- "$2") ;;
+    -*) mapfile -t COMPREPLY < <(compgen -W '--program --premises --help' -- "$2") ;;
     *) _tsp_files tsp "$2" ;;
     esac
 }
