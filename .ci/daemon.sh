@@ -1,7 +1,7 @@
 #!/bin/sh
 # The daemon, and the questions to it, over the loopback: what stands between two processes, which no proof speaks of.
 # It takes half a minute at the most, and leaves nothing behind. Usage: .ci/daemon.sh [PROGRAM]
-[ $# -eq 0 ] || TSP_PROGRAM=$1
+[ $# -eq 0 ] || export TSP_PROGRAM="$1"
 # shellcheck source=tools/tests/common.sh
 . "$(dirname "$0")/../tools/tests/common.sh"
 check=.ci/daemon.sh
@@ -128,6 +128,7 @@ wait "$a" 2>/dev/null || status=$?
 wait "$silent"
 [ "$(tr '\n' ' ' <"$out/nobody")" = 'no answer 6 ' ] || fail 'a question to nobody gives another answer'
 # (all have ended)
+# shellcheck disable=SC2034  # common.sh reads it
 running=''
 
 spent=$(($(date +%s) - began))
