@@ -33,6 +33,7 @@ pub mod DateLeads
 pub mod ElectionFacts
 mod Elections
 pub mod Elsewheres
+pub mod ErrsProof
 pub mod EverywhereLemmas
 pub mod FirstSetProof
 pub mod FreshProof

@@ -3,6 +3,7 @@ use Rattle.std.specs.Prelude.{List}
 use Rattle.tsp_promises.specs.Agreed.{Agreed, StayAgreed}
 use Rattle.tsp_promises.specs.AgreedShown.{AgreedShown, ShownNear, Waited}
 use Rattle.tsp_promises.specs.Chained.{Chained}
+use Rattle.tsp_promises.specs.ErrsBounded.{ErrsBounded}
 use Rattle.tsp_promises.specs.FirstSet.{FirstSet, FirstSetSoon}
 use Rattle.tsp_base.specs.History.{Line}
 use Rattle.tsp_promises.specs.Measured.{Measured, Trips}
@@ -118,6 +119,8 @@ pub record ChainsBreak (setting : Setting) : Type 0 where
   pub tree : Breaks (Chained setting)
   -- a clock that moves by another amount than its ADJTIME says, whatever is taken back
   pub throughout : Breaks (Throughout setting)
+  -- a round that uses a sample with an error of 5 s
+  pub errs_bounded : Breaks ErrsBounded
   -- an ADJTIME that acts on a clock which was corrected since the reading
   pub one_error : Breaks OneError
   -- a SETTIME that acts on a clock which was corrected since the SLAVEUP

@@ -13,6 +13,7 @@ pub mod DateFits
 pub mod DateUse
 pub mod Dated
 pub mod DeedFits
+pub mod ErrsBounded
 pub mod Everywhere
 pub mod FirstSet
 pub mod Fits

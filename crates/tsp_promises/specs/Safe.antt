@@ -3,6 +3,7 @@ use Rattle.std.specs.Prelude.{◌⊎◌, List}
 use Rattle.tsp_promises.specs.Agreed.{Agreed, StayAgreed}
 use Rattle.tsp_promises.specs.AgreedShown.{AgreedShown, ShownNear, Waited}
 use Rattle.tsp_promises.specs.Chained.{Chained}
+use Rattle.tsp_promises.specs.ErrsBounded.{ErrsBounded}
 use Rattle.tsp_promises.specs.FirstSet.{FirstSet, FirstSetSoon}
 use Rattle.tsp_base.specs.History.{Line}
 use Rattle.tsp_promises.specs.Measured.{Measured, Trips}
@@ -35,6 +36,7 @@ pub record Safe (setting : Setting) (world : List Line) : Type 0 where
   pub first_set : FirstSet setting world
   pub first_set_soon : Life world → FirstSetSoon setting world
   pub chained : Honest world → Life world → Chained setting world
+  pub errs_bounded : ErrsBounded world
   pub throughout : Honest world → Life world → Throughout setting world
   pub relayed : Honest world → Life world → Relayed setting world
   pub resolved : Resolved world

@@ -35,6 +35,7 @@ ghost use Rattle.tsp_promises.specs.SetUse.{SetUse};
 ghost use Rattle.tsp_promises.specs.SameWords.{MeasuresWrongly, SameWords};
 ghost use Rattle.tsp_promises.specs.Throughout.{Throughout};
 ghost use Rattle.tsp_promises.specs.RoundsUse.{RoundsUse};
+ghost use Rattle.tsp_promises.specs.ErrsBounded.{ErrsBounded};
 
 /// All promises of a history that ends with a step, each under the premises that it needs.
 pub fn safe()
@@ -220,6 +221,11 @@ pub fn promises_can_be_broken()
 /// forged, no datagram outlives `LIFE`, and no port begins 32,768 sends with own numbers in one life of its node.
 pub fn one_winner()
     ensures { (setting : Setting) (world : List Line) → setting.strict ≡ true → Fits setting world → Honest world → Life world → Few world → OneWinner setting world }
+{}
+
+/// The error on which an ADJTIME rests is at most 4.5 s, half of the longest round, whatever is delivered.
+pub fn errs_bounded()
+    ensures { (setting : Setting) (world : List Line) → Fits setting world → ErrsBounded world }
 {}
 
 /// A round's bound never lapses: with what the two nodes were moved by since taken back, the clock of a node that a Close
