@@ -101,6 +101,7 @@ pub mod SendPlaces
 pub mod SendProof
 pub mod SetProof
 pub mod ShownProof
+pub mod SilentProof
 pub mod SinceProof
 pub mod SlaveLeads
 pub mod SoundAlarms
@@ -132,6 +133,7 @@ pub mod WitnessDates
 pub mod WitnessDebts
 pub mod WitnessLead
 pub mod WitnessLife
+pub mod WitnessQuiet
 pub mod WitnessReadings
 pub mod WitnessRelay
 pub mod WitnessRivals

@@ -20,6 +20,7 @@ use Rattle.tsp_promises.proofs.OneErrorProof.{one_error}
 use Rattle.tsp_promises.proofs.OnlyMasterProof.{only_master}
 use Rattle.tsp_promises.proofs.RelayedProof.{relayed}
 use Rattle.tsp_promises.proofs.ResolvedProof.{yields, stays_quiet}
+use Rattle.tsp_promises.proofs.SilentProof.{silent}
 use Rattle.tsp_promises.proofs.SteadyProof.{meets, steady}
 use Rattle.tsp_promises.proofs.StopsProof.{stops_leading}
 use Rattle.tsp_promises.proofs.ThroughoutProof.{throughout}
@@ -28,6 +29,7 @@ use Rattle.tsp_promises.proofs.TripProof.{trips}
 pub safe : (setting : Setting) (world : List Line) → Fits setting world → Finished world → Safe setting world
 safe setting world f end = record {
   one_back = one_back setting world f end;
+  silent = silent setting world f;
   only_master = only_master setting world f;
   once_spaced = once_spaced setting world f;
   once_spaced_over_lives = once_spaced_over_lives setting world f;

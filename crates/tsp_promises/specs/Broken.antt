@@ -15,6 +15,7 @@ use Rattle.tsp_promises.specs.OnlyMaster.{OnlyMaster}
 use Rattle.tsp_promises.specs.Relayed.{Relayed}
 use Rattle.tsp_promises.specs.Resolved.{StaysQuiet, StopsLeading, Yields}
 use Rattle.tsp_promises.specs.Setting.{Setting}
+use Rattle.tsp_promises.specs.Silent.{Silent}
 use Rattle.tsp_promises.specs.Steady.{Steady}
 use Rattle.tsp_promises.specs.Throughout.{Throughout}
 
@@ -39,6 +40,10 @@ pub record RolesBreak (setting : Setting) : Type 0 where
   pub corrects : Breaks OnlyMaster
   -- a Close at a follower
   pub closes : Breaks OnlyMaster
+  -- a request for a master right after a boot
+  pub speaks : Breaks Silent
+  -- a Correct right after a boot
+  pub corrects_early : Breaks Silent
   -- a Correct of another port after a Close, with a mark between
   pub follows_close : Breaks OnlyMaster
   -- two nodes on one network that win shortly after one another

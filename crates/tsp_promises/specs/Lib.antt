@@ -34,6 +34,7 @@ pub mod OrdinaryUse
 pub mod OwnFits
 pub mod PortFits
 pub mod Premises
+pub mod QuietUse
 pub mod Relayed
 pub mod Relays
 pub mod Resolved
@@ -46,6 +47,7 @@ pub mod SetUse
 pub mod Setting
 pub mod ShownAt
 pub mod ShownUse
+pub mod Silent
 pub mod Since
 pub mod Sound
 pub mod Steady

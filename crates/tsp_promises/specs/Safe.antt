@@ -15,12 +15,14 @@ use Rattle.tsp_promises.specs.Premises.{Honest, Life, OwnWords}
 use Rattle.tsp_promises.specs.Relayed.{Relayed}
 use Rattle.tsp_promises.specs.Resolved.{Resolved}
 use Rattle.tsp_promises.specs.Setting.{Setting}
+use Rattle.tsp_promises.specs.Silent.{Silent}
 use Rattle.tsp_promises.specs.Steady.{Meets, Steady}
 use Rattle.tsp_promises.specs.Throughout.{Throughout}
 
--- who is backed and who corrects is safe whatever is delivered; the rest rests on who sends and on how long datagrams live; a measurement, where they may live longer, on words of a node's boots that differ
+-- who is backed and who corrects, how the shown clock runs, and how far off a setting is, is safe whatever is delivered; the rest rests on who sends and on how long datagrams live; a measurement, where they may live longer, on words of a node's boots that differ
 pub record Safe (setting : Setting) (world : List Line) : Type 0 where
   pub one_back : OneBack world
+  pub silent : Silent world
   pub only_master : OnlyMaster world
   pub once_spaced : OnceSpaced world
   pub once_spaced_over_lives : OnceSpacedOverLives world

@@ -36,6 +36,8 @@ ghost use Rattle.tsp_promises.specs.SameWords.{MeasuresWrongly, SameWords};
 ghost use Rattle.tsp_promises.specs.Throughout.{Throughout};
 ghost use Rattle.tsp_promises.specs.RoundsUse.{RoundsUse};
 ghost use Rattle.tsp_promises.specs.ErrsBounded.{ErrsBounded};
+ghost use Rattle.tsp_promises.specs.Silent.{Silent};
+ghost use Rattle.tsp_promises.specs.QuietUse.{QuietUse};
 
 /// All promises of a history that ends with a step, each under the premises that it needs.
 pub fn safe()
@@ -45,6 +47,12 @@ pub fn safe()
 /// No node backs two candidates within the hold, forged datagrams or not.
 pub fn one_back()
     ensures { (setting : Setting) (world : List Line) → Fits setting world → Finished world → OneBack world }
+{}
+
+/// For `QUIET` ticks after a boot a node posts replies to stamp requests and acknowledgments of MSITE, TRACEON and TRACEOFF
+/// alone, and doesn't correct its clock.
+pub fn silent_after_boot()
+    ensures { (setting : Setting) (world : List Line) → Fits setting world → Silent world }
 {}
 
 /// Only masters post corrections, close rounds and correct their clocks right after.
@@ -178,6 +186,11 @@ pub fn set_use()
 /// Nor is the promise that a round's bound never lapses: a history that fits sees a second round move both clocks of the first.
 pub fn rounds_use()
     ensures { RoundsUse }
+{}
+
+/// Nor is the promise of silence after a boot: a history that fits sees a node answer a stranger in its quiet time.
+pub fn quiet_use()
+    ensures { QuietUse }
 {}
 
 /// A history that fits sees dates passed on and set, in two lives of a master. Where forged octets come between, one
