@@ -9,7 +9,7 @@ use Rattle.tsp_base.specs.History.{Line, of, dids}
 use Rattle.tsp_base.specs.NodeFacts.{last_correct, rest, up}
 use Rattle.tsp_promises.specs.Setting.{Setting}
 use Rattle.tsp_promises.specs.ShownAt.{left_at, shown_at}
-use Rattle.tsp_promises.specs.Steady.{ReadAt, Unstepped, shown_width}
+use Rattle.tsp_promises.specs.Steady.{ReadTimes, Unstepped, shown_width}
 use Rattle.tsp_base.specs.Ticks.{tick_at, width}
 
 -- the shown values of two nodes differ by at most this and what is still to be slewed on each: by at most this, once both show their targets
@@ -74,7 +74,7 @@ ShownNear setting = Everywhere (λ l world. (t : ℕ) → ShownAsClocks setting 
 
 -- where the shown values of k and l differ by at most b at the place s and true time t: what l shows a time d later, if it neither boots nor steps its clock until then, is more than what k showed by d, less drift, one in two hundred, and b
 abbrev pub WaitedFor : Setting → List Line → Type 0
-WaitedFor setting h = (k l : ℕ) (s : List Line) (t d : ℕ) (b : ℤ) → Unstepped l s h → ReadAt l s h t (t + d) → pos (nat_abs (shown_at setting k s t -ℤ shown_at setting l s t)) ≤ℤ b →
+WaitedFor setting h = (k l : ℕ) (s : List Line) (t d : ℕ) (b : ℤ) → Unstepped l s h → ReadTimes l s h t (t + d) → pos (nat_abs (shown_at setting k s t -ℤ shown_at setting l s t)) ≤ℤ b →
     ((pos d -ℤ pos (shown_width setting.drift d)) -ℤ b) ≤ℤ (shown_at setting l h (t + d) -ℤ shown_at setting k s t)
 
 -- so stamps are in order after a wait that makes this more than 0
