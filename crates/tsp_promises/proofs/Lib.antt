@@ -34,6 +34,7 @@ pub mod ElectionFacts
 mod Elections
 pub mod Elsewheres
 pub mod ErrsProof
+pub mod EstimatesProof
 pub mod EverywhereLemmas
 pub mod FirstSetProof
 pub mod FreshProof

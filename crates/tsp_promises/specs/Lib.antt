@@ -14,6 +14,7 @@ pub mod DateUse
 pub mod Dated
 pub mod DeedFits
 pub mod ErrsBounded
+pub mod Estimates
 pub mod Everywhere
 pub mod FirstSet
 pub mod Fits

@@ -38,6 +38,7 @@ ghost use Rattle.tsp_promises.specs.Silent.{Silent};
 ghost use Rattle.tsp_promises.specs.Steady.{Meets, Steady};
 ghost use Rattle.tsp_promises.specs.StrictElections.{StrictElections};
 ghost use Rattle.tsp_promises.specs.Throughout.{Throughout};
+ghost use Rattle.tsp_promises.specs.Estimates.{EstimatesHold};
 
 /// All promises of a history that ends with a step, each under the premises that it needs.
 pub fn safe()
@@ -106,6 +107,13 @@ pub fn measured()
 pub fn agreed()
     ensures at { (setting : Setting) (world : List Line) → Fits setting world → Honest world → Life world → Agreed setting world }
     ensures stay { (setting : Setting) (world : List Line) → Fits setting world → Honest world → Life world → StayAgreed setting world }
+{}
+
+/// A round's estimates tell of the clocks: any two differ by no more than the clocks do at its Close, their errors and drift;
+/// and the master's clock, once it moved by the mean, stands apart from a clock that nobody has corrected since by what the
+/// estimate of that stands apart from the mean, its error and drift.
+pub fn estimates_hold()
+    ensures { (setting : Setting) (world : List Line) → Fits setting world → Honest world → Life world → EstimatesHold setting world }
 {}
 
 /// The error on which an ADJTIME rests is at most 4.5 s, half of the longest round, whatever is delivered.
