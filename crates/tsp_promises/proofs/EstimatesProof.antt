@@ -1,14 +1,13 @@
 -- What the estimates of a round tell of the clocks.
-use Rattle.std.specs.Prelude.{◌≡◌, ◌≤◌, ◌≤ℤ◌, ◌⊎◌, ℕ, ◌+◌, ◌-◌, ◌*◌, ℤ, pos, ◌+ℤ◌, ◌-ℤ◌, nat_abs, List, ◌∷◌, Some, refl}
-use Rattle.std.proofs.Common.{sym, ap, arith, subst, subst₂, inl, inr, ◌∙◌}
+use Rattle.std.specs.Prelude.{◌≡◌, ◌≤◌, ◌≤ℤ◌, ◌⊎◌, ℕ, ◌+◌, ◌-◌, ◌*◌, ℤ, pos, ◌+ℤ◌, ◌-ℤ◌, nat_abs, List, ◌∷◌}
+use Rattle.std.proofs.Common.{sym, arith, subst, subst₂, inl, inr, ◌∙◌}
 use Rattle.std.proofs.lemmas.Int.{ints}
 use Rattle.tsp_base.specs.declared.kind.Kind.TheVariants.{AdjTime}
 use Rattle.tsp_base.specs.declared.place.PeerId.{PeerId}
-use Rattle.tsp_promises.specs.Agreed.{UnchangedBut}
-use Rattle.tsp_promises.specs.ClockAt.{clock, clock_at}
+use Rattle.tsp_promises.specs.ClockAt.{clock_at}
 use Rattle.tsp_promises.specs.CorrectionFits.{AnswersSlaveUp, AtClose, FollowedBy, FromClose}
-use Rattle.tsp_promises.specs.Estimates.{Begins, Estimate, EstimatesHold, EstimatesNear, MasterNear}
-use Rattle.tsp_promises.specs.Fits.{Fits, node_of}
+use Rattle.tsp_promises.specs.Estimates.{CloseBegins, Estimate, EstimatesHold, EstimatesNear, MasterNear}
+use Rattle.tsp_promises.specs.Fits.{Fits}
 use Rattle.tsp_base.specs.History.{Did, Here, Line, Seen, dids, of, plain, view}
 use Rattle.tsp_base.specs.Messages.{MessageValue}
 use Rattle.tsp_base.specs.NodeFacts.{moved, time_of}
@@ -16,7 +15,7 @@ use Rattle.tsp_base.specs.Places.{Within}
 use Rattle.tsp_base.specs.RoundFacts.{Sampled, started}
 use Rattle.tsp_promises.specs.Setting.{Setting}
 use Rattle.tsp_promises.specs.StepFacts.{closed}
-use Rattle.tsp_base.specs.Takings.{Undisturbed, peer_of}
+use Rattle.tsp_base.specs.Takings.{Undisturbed}
 use Rattle.tsp_base.specs.Ticks.{tick_at, width}
 use Rattle.tsp_base.proofs.PlaceLemmas.{Within-through, Within-tail}
 use Rattle.tsp_promises.proofs.CastProof.{corrects-adj}
@@ -46,14 +45,14 @@ record Closing (here : Did) (seen : List Seen) (close : Did) (past : List Seen) 
   pub sample : Sampled
   pub is : FromClose here seen peer message close past mean sample
 
-closing : (setting : Setting) (m : ℕ) (close : Line) (cpast : List Line) (mean : ℤ) (f : Line) (fw : List Line) → Fits setting (f ∷ fw) → Begins m close cpast mean f fw → Closing f.did (view f.port (of m fw)) close.did (view f.port (of m cpast))
+closing : (setting : Setting) (m : ℕ) (close : Line) (cpast : List Line) (mean : ℤ) (f : Line) (fw : List Line) → Fits setting (f ∷ fw) → CloseBegins m close cpast mean f fw → Closing f.did (view f.port (of m fw)) close.did (view f.port (of m cpast))
 closing setting m close cpast mean f fw fits b =
     let c = post_fits setting m f fw b.peer b.message fits.0 b.first_node b.posts (corrects-adj b.message.kind b.kind) in
     let u = at-close f.did (view f.port (of m fw)) b.peer b.message close.did (view f.port (of m cpast)) b.kind b.close_is (c.begins b.begins).from in
     record { peer = b.peer; message = b.message; mean = u.0; sample = u.1.0; is = u.1.1 }
 
 -- the reading of an estimate
-reading : (setting : Setting) (m k : ℕ) (close : Line) (cpast : List Line) (mean : ℤ) (f : Line) (fw : List Line) (x : Sampled) (r : Line) (older h : List Line) → Given setting (f ∷ fw) → (b : Begins m close cpast mean f fw) →
+reading : (setting : Setting) (m k : ℕ) (close : Line) (cpast : List Line) (mean : ℤ) (f : Line) (fw : List Line) (x : Sampled) (r : Line) (older h : List Line) → Given setting (f ∷ fw) → (b : CloseBegins m close cpast mean f fw) →
     (c : Closing f.did (view f.port (of m fw)) close.did (view f.port (of m cpast))) → Estimate m k close cpast x r older h → ReadAt setting m k cpast x c.is.start r older
 reading setting m k close cpast mean f fw x r older h g b c e =
     let rd = e.reading in
@@ -99,8 +98,8 @@ estimates-near setting f fw g m k l close cpast mean x y r q rolder qolder b d e
     let q_in : Within (q ∷ qolder) cpast = Within-through (q ∷ qolder) e.reading.before cpast e.reading.reads (Within-tail e.reading.line e.reading.before cpast e.reading.at) in
     let t = close.did.step.at in
     two-near x.diff y.diff (clock_at setting k cpast t) (clock_at setting l cpast t) ((setting.wall m +ℤ moved (dids (of m cpast))) +ℤ pos (tick_at (setting.rate m) t)) x.err y.err (2 * width setting.drift (t - r.did.step.at)) (2 * width setting.drift (t - q.did.step.at))
-        (holds setting m k cpast x c.is.start r rolder cpast t fc.1 r_in fc.0.order (reading setting m k close cpast mean f fw x r rolder cpast g b c d) d.unchanged)
-        (holds setting m l cpast y c.is.start q qolder cpast t fc.1 q_in fc.0.order (reading setting m l close cpast mean f fw y q qolder cpast g b c e) e.unchanged)
+    (holds setting m k cpast x c.is.start r rolder cpast t fc.1 r_in fc.0.order (reading setting m k close cpast mean f fw x r rolder cpast g b c d) d.unchanged)
+    (holds setting m l cpast y c.is.start q qolder cpast t fc.1 q_in fc.0.order (reading setting m l close cpast mean f fw y q qolder cpast g b c e) e.unchanged)
 
 master-near : (setting : Setting) (h : List Line) (t : ℕ) → Given setting h → time_of (dids h) ≤ t → MasterNear setting h t
 master-near setting h t g by m k close cpast mean f fw x r older f_in b e v =
@@ -115,7 +114,7 @@ master-near setting h t g by m k close cpast mean f fw x r older f_in b e v =
     let fw_in : Within fw h = Within-tail f fw h f_in in
     let moved_is = master_moved setting m f.port close cpast fw h b.count b.lo b.size mean g.fits b.deed b.node close_h v fw_in followed in
     one-near x.diff mean (clock_at setting k h t) ((setting.wall m +ℤ moved (dids (of m cpast))) +ℤ pos (tick_at (setting.rate m) t)) (clock_at setting m h t) x.err (2 * width setting.drift (t - r.did.step.at)) near
-        (by-mean (setting.wall m) (moved (dids (of m h))) (moved (dids (of m cpast))) mean (tick_at (setting.rate m) t) moved_is)
+    (by-mean (setting.wall m) (moved (dids (of m h))) (moved (dids (of m cpast))) mean (tick_at (setting.rate m) t) moved_is)
 
 pub estimates_hold : (setting : Setting) (world : List Line) → Given setting world → EstimatesHold setting world
 estimates_hold setting world g = record {

@@ -11,6 +11,7 @@ pub mod BecameProof
 pub mod BestProof
 pub mod BrokenChains
 pub mod BrokenClocks
+pub mod BrokenEstimates
 pub mod BrokenReadings
 pub mod BrokenRoles
 pub mod BrokenSends
@@ -132,6 +133,7 @@ pub mod WitnessCasts
 pub mod WitnessChain
 pub mod WitnessDates
 pub mod WitnessDebts
+pub mod WitnessEstimates
 pub mod WitnessLead
 pub mod WitnessLife
 pub mod WitnessQuiet

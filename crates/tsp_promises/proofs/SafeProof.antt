@@ -9,6 +9,7 @@ use Rattle.tsp_promises.proofs.AgreedShownProof.{agreed_shown, shown_near, waite
 use Rattle.tsp_promises.proofs.ChainedProof.{chained}
 use Rattle.tsp_promises.proofs.ConfirmedProof.{once_confirmed}
 use Rattle.tsp_promises.proofs.ErrsProof.{errs_bounded}
+use Rattle.tsp_promises.proofs.EstimatesProof.{estimates_hold}
 use Rattle.tsp_promises.proofs.FirstSetProof.{first_set, first_set_soon}
 use Rattle.tsp_promises.proofs.MeasuredProof.{measured}
 use Rattle.tsp_promises.proofs.OnceObeyedProof.{once_obeyed}
@@ -45,6 +46,7 @@ safe setting world f end = record {
   first_set = first_set setting world f;
   first_set_soon = first_set_soon setting world f;
   chained = λ honest life. chained setting world (record { fits = f; honest = honest; life = life });
+  estimates_hold = λ honest life. estimates_hold setting world (record { fits = f; honest = honest; life = life });
   errs_bounded = errs_bounded setting world f;
   throughout = λ honest life. throughout setting world (record { fits = f; honest = honest; life = life });
   relayed = λ honest life. relayed setting world (record { fits = f; honest = honest; life = life });

@@ -4,6 +4,7 @@ use Rattle.tsp_promises.specs.Agreed.{Agreed, StayAgreed}
 use Rattle.tsp_promises.specs.AgreedShown.{AgreedShown, ShownNear, Waited}
 use Rattle.tsp_promises.specs.Chained.{Chained}
 use Rattle.tsp_promises.specs.ErrsBounded.{ErrsBounded}
+use Rattle.tsp_promises.specs.Estimates.{EstimatesHold}
 use Rattle.tsp_promises.specs.FirstSet.{FirstSet, FirstSetSoon}
 use Rattle.tsp_base.specs.History.{Line}
 use Rattle.tsp_promises.specs.Measured.{Measured, Trips}
@@ -124,6 +125,10 @@ pub record ChainsBreak (setting : Setting) : Type 0 where
   pub tree : Breaks (Chained setting)
   -- a clock that moves by another amount than its ADJTIME says, whatever is taken back
   pub throughout : Breaks (Throughout setting)
+  -- a round with an estimate that is 9 s off
+  pub estimates_apart : Breaks (EstimatesHold setting)
+  -- a master that moves by another amount than the mean
+  pub master_near : Breaks (EstimatesHold setting)
   -- a round that uses a sample with an error of 5 s
   pub errs_bounded : Breaks ErrsBounded
   -- an ADJTIME that acts on a clock which was corrected since the reading

@@ -20,7 +20,7 @@ use Rattle.tsp_base.specs.Takings.{Undisturbed, peer_of}
 use Rattle.tsp_base.specs.Ticks.{width}
 
 -- this Close of m, with this mean, begins the ADJTIME that is posted at f
-pub record Begins (m : ℕ) (close : Line) (cpast : List Line) (mean : ℤ) (f : Line) (fw : List Line) : Type 0 where
+pub record CloseBegins (m : ℕ) (close : Line) (cpast : List Line) (mean : ℤ) (f : Line) (fw : List Line) : Type 0 where
   pub count : ℕ
   pub lo : ℤ
   pub size : ℤ
@@ -44,14 +44,14 @@ pub record Estimate (m k : ℕ) (close : Line) (cpast : List Line) (x : Sampled)
 
 -- the estimates of two nodes differ by no more than their clocks do at the Close, their errors and drift
 abbrev pub EstimatesNear : Setting → Line → List Line → Type 0
-EstimatesNear setting f fw = (m k l : ℕ) (close : Line) (cpast : List Line) (mean : ℤ) (x y : Sampled) (r q : Line) (rolder qolder : List Line) → Begins m close cpast mean f fw →
+EstimatesNear setting f fw = (m k l : ℕ) (close : Line) (cpast : List Line) (mean : ℤ) (x y : Sampled) (r q : Line) (rolder qolder : List Line) → CloseBegins m close cpast mean f fw →
     Estimate m k close cpast x r rolder cpast → Estimate m l close cpast y q qolder cpast →
     pos (nat_abs (x.diff -ℤ y.diff)) ≤ℤ ((pos (nat_abs (clock_at setting k cpast close.did.step.at -ℤ clock_at setting l cpast close.did.step.at)) +ℤ (x.err +ℤ y.err))
     +ℤ pos (2 * width setting.drift (close.did.step.at - r.did.step.at) + 2 * width setting.drift (close.did.step.at - q.did.step.at)))
 
 -- after the history h, at true time t: where a node is left alone since its reading and the master but for the Correct right after the Close, their clocks differ by at most what the estimate differs from the mean, its error and drift
 abbrev pub MasterNear : Setting → List Line → ℕ → Type 0
-MasterNear setting h t = (m k : ℕ) (close : Line) (cpast : List Line) (mean : ℤ) (f : Line) (fw : List Line) (x : Sampled) (r : Line) (older : List Line) → Within (f ∷ fw) h → Begins m close cpast mean f fw →
+MasterNear setting h t = (m k : ℕ) (close : Line) (cpast : List Line) (mean : ℤ) (f : Line) (fw : List Line) (x : Sampled) (r : Line) (older : List Line) → Within (f ∷ fw) h → CloseBegins m close cpast mean f fw →
     Estimate m k close cpast x r older h → UnchangedBut m close cpast h →
     pos (nat_abs (clock_at setting m h t -ℤ clock_at setting k h t)) ≤ℤ ((pos (nat_abs (mean -ℤ x.diff)) +ℤ x.err) +ℤ pos (2 * width setting.drift (t - r.did.step.at)))
 

@@ -15,6 +15,7 @@ pub mod Dated
 pub mod DeedFits
 pub mod ErrsBounded
 pub mod Estimates
+pub mod EstimatesUse
 pub mod Everywhere
 pub mod FirstSet
 pub mod Fits

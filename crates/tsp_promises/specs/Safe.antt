@@ -4,6 +4,7 @@ use Rattle.tsp_promises.specs.Agreed.{Agreed, StayAgreed}
 use Rattle.tsp_promises.specs.AgreedShown.{AgreedShown, ShownNear, Waited}
 use Rattle.tsp_promises.specs.Chained.{Chained}
 use Rattle.tsp_promises.specs.ErrsBounded.{ErrsBounded}
+use Rattle.tsp_promises.specs.Estimates.{EstimatesHold}
 use Rattle.tsp_promises.specs.FirstSet.{FirstSet, FirstSetSoon}
 use Rattle.tsp_base.specs.History.{Line}
 use Rattle.tsp_promises.specs.Measured.{Measured, Trips}
@@ -38,6 +39,7 @@ pub record Safe (setting : Setting) (world : List Line) : Type 0 where
   pub first_set : FirstSet setting world
   pub first_set_soon : Life world → FirstSetSoon setting world
   pub chained : Honest world → Life world → Chained setting world
+  pub estimates_hold : Honest world → Life world → EstimatesHold setting world
   pub errs_bounded : ErrsBounded world
   pub throughout : Honest world → Life world → Throughout setting world
   pub relayed : Honest world → Life world → Relayed setting world

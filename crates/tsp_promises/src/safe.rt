@@ -39,6 +39,7 @@ ghost use Rattle.tsp_promises.specs.Steady.{Meets, Steady};
 ghost use Rattle.tsp_promises.specs.StrictElections.{StrictElections};
 ghost use Rattle.tsp_promises.specs.Throughout.{Throughout};
 ghost use Rattle.tsp_promises.specs.Estimates.{EstimatesHold};
+ghost use Rattle.tsp_promises.specs.EstimatesUse.{EstimatesUse};
 
 /// All promises of a history that ends with a step, each under the premises that it needs.
 pub fn safe()
@@ -231,6 +232,12 @@ pub fn chain_use()
 /// Nor is the promise that a round's bound never lapses: a history that fits sees a second round move both clocks of the first.
 pub fn rounds_use()
     ensures { RoundsUse }
+{}
+
+/// Nor is what estimates tell: a history that fits sees a round that estimates two nodes, which nobody corrects until after its
+/// Close.
+pub fn estimates_use()
+    ensures { EstimatesUse }
 {}
 
 /// Nor are those of first settings and of single corrections: a history that fits sees a clock set by the answer to a SLAVEUP,
