@@ -1,35 +1,16 @@
 #!/bin/sh
 # The daemon, and the questions to it, over the loopback: what stands between two processes, which no proof speaks of.
 # It takes half a minute at the most, and leaves nothing behind. Usage: .ci/daemon.sh [PROGRAM]
-set -eu
-cd "$(dirname "$0")/.."
-program=${1:-crates/tsp_cli/out/tsp_cli}
+[ $# -eq 0 ] || export TSP_PROGRAM="$1"
+# shellcheck source=tools/tests/common.sh
+. "$(dirname "$0")/../tools/tests/common.sh"
+check=.ci/daemon.sh
 began=$(date +%s)
+serving_program
 
-fail() {
-    echo ".ci/daemon.sh: $1" >&2
-    exit 1
-}
-
-out=$(mktemp -d)
-running=
-stop() {
-    for process in $running; do kill "$process" 2>/dev/null || :; done
-    wait
-    rm -rf "$out"
-}
-trap stop EXIT
-trap 'exit 130' INT
-trap 'exit 143' TERM HUP
-
-# Eight ports of which nobody makes use, as the system gives them.
-ports=$(python3 -c '
-import socket
-held = [socket.socket(socket.AF_INET, socket.SOCK_DGRAM) for _ in range(8)]
-for s in held: s.bind(("127.0.0.1", 0))
-print(*(s.getsockname()[1] for s in held))')
-# shellcheck disable=SC2086  # eight words
-set -- $ports
+# Eight ports of which nobody makes use.
+# shellcheck disable=SC2046  # eight words
+set -- $(free_ports 8)
 alpha=127.0.0.1:$1 beta=127.0.0.1:$2 alone=127.0.0.1:$3 dead=127.0.0.1:$4 nobody=127.0.0.1:$5
 west=127.0.0.1:$6 gate=127.0.0.1:$7 east=127.0.0.1:$8
 
@@ -71,14 +52,15 @@ wants() {
 # Two daemons that know each other: one takes three turns, and the other is ended from outside.
 "$program" serve "$alpha" alpha m 1000 "$beta" >"$out/alpha" 2>"$out/alpha.warning" &
 a=$!
-running="$running $a"
+note_process
 "$program" serve "$beta" beta s 3 "$alpha" >"$out/beta" 2>"$out/beta.warning" &
 b=$!
-running="$running $b"
+note_process
 
 # Questions that nobody answers wait eight seconds, beside all else.
 (status=0; "$program" msite "$nobody" >"$out/nobody" 2>/dev/null || status=$?; echo "$status" >>"$out/nobody") &
 silent=$!
+note_process
 sleep 0.5
 
 # A second daemon doesn't get the port.
@@ -108,7 +90,7 @@ wants 0 'trace off' trace "$alpha" off
 # It stands for election by a majority alone, and answers like any other.
 "$program" serve "$alone" alone x 6 "$dead" >"$out/alone" 2>"$out/alone.warning" &
 l=$!
-running="$running $l"
+note_process
 sleep 0.2
 exchange "$nobody" "$alone" 80010000000000000000000100000000000000020000000000000000 answer >"$out/reply" || fail 'a daemon of strict elections has no reply'
 "$program" show <"$out/reply" | grep -q '^reply [0-9]* 1 2 -*[0-9]*$' || fail 'a daemon of strict elections has another reply'
@@ -120,7 +102,7 @@ wait "$l" || fail "a daemon whose peer is dead ends with status $?"
 # A daemon between two networks takes a peer's question on the port whose peer it is, a stranger's on port 0, and answers each.
 "$program" serve "$gate" gate m 1000 "$west" + "$east" >"$out/gate" 2>"$out/gate.warning" &
 g=$!
-running="$running $g"
+note_process
 sleep 0.2
 wants 0 'trace on' trace "$gate" on
 for from in "$west" "$east" "$nobody"; do
@@ -145,8 +127,10 @@ wait "$a" 2>/dev/null || status=$?
 [ "$status" -eq 143 ] || fail "a daemon that is told to end ends with status $status"
 wait "$silent"
 [ "$(tr '\n' ' ' <"$out/nobody")" = 'no answer 6 ' ] || fail 'a question to nobody gives another answer'
-running=
+# (all have ended)
+# shellcheck disable=SC2034  # common.sh reads it
+running=''
 
 spent=$(($(date +%s) - began))
 [ "$spent" -le 30 ] || fail "it took $spent s"
-echo ".ci/daemon.sh: daemons, one of them on two networks, and the questions to them, in $spent s"
+echo "$check: daemons, one of them on two networks, and the questions to them, in $spent s"

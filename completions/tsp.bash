@@ -5,16 +5,44 @@ _tsp_hosts() {
     PATH=$PATH:/usr/sbin tsp-launch --list 2>/dev/null | cut -d ' ' -f "$1"
 }
 
-# (bash makes three words of an address, as it ends words at a colon)
+# Any files.
+_tsp_any_file() {
+    compopt -o filenames 2>/dev/null
+    mapfile -t COMPREPLY < <(compgen -f -- "$1")
+}
+
+# The word before the one at the cursor. Behind `--option=` it is that option, and behind a redirection `<`. (bash also ends
+# words at equals signs, colons and redirections)
+_tsp_before() {
+    local word=${COMP_LINE:0:COMP_POINT}
+    word=${word##*[[:space:]]}
+    case $word in
+    *[\<\>]*) echo '<' ;;
+    --*=*) echo "${word%%=*}" ;;
+    *) case $1 in *[\<\>]*) echo '<' ;; *) echo "$1" ;; esac ;;
+    esac
+}
+
+# Words of a list that begin as the word at the cursor does. Of an address bash only puts what stands behind its colon.
+_tsp_offer() {
+    local word=${COMP_LINE:0:COMP_POINT}
+    word=${word##*[[:space:]]}
+    mapfile -t COMPREPLY < <(compgen -W "$1" -- "$word")
+    COMPREPLY=("${COMPREPLY[@]#"${word%"$2"}"}")
+}
+
 _tsp() {
-    local before=${COMP_WORDS[*]:1:COMP_CWORD-1}
-    case ${before// : /:} in
-    '') mapfile -t COMPREPLY < <(compgen -W 'replay show pack icmp audit serve msite clockdiff trace election date storm --help --version' -- "$2") ;;
-    serve | msite | clockdiff | trace | election | date) mapfile -t COMPREPLY < <(compgen -W "$(_tsp_hosts 3)" -- "$2") ;;
-    'trace '*:*' '*) ;;
-    'trace '*:*[0-9]) mapfile -t COMPREPLY < <(compgen -W 'on off' -- "$2") ;;
-    'serve '*:*[0-9]' '*' '*) ;;
-    'serve '*:*[0-9]' '*) mapfile -t COMPREPLY < <(compgen -W 'm s x' -- "$2") ;;
+    local line=${COMP_LINE:0:COMP_POINT} before
+    line=${line%"${line##*[[:space:]]}"}
+    read -ra before <<<"$line"
+    [ "$(_tsp_before "$3")" != '<' ] || { _tsp_any_file "$2"; return; }
+    case ${before[*]:1} in
+    '') _tsp_offer 'replay show pack icmp audit serve msite clockdiff trace election date storm --help --version' "$2" ;;
+    serve | msite | clockdiff | trace | election | date) _tsp_offer "$(_tsp_hosts 3)" "$2" ;;
+    'trace '*' '*) ;;
+    'trace '*) _tsp_offer 'on off' "$2" ;;
+    'serve '*' '*' '*) ;;
+    'serve '*' '*) _tsp_offer 'm s x' "$2" ;;
     esac
 }
 
@@ -24,19 +52,20 @@ _tsp_files() {
 }
 
 _tsp_lint() {
-    case $3 in
+    case $(_tsp_before "$3") in
     --program | -p) mapfile -t COMPREPLY < <(compgen -c -- "$2"); return ;;
     esac
     case $2 in
-    -*) mapfile -t COMPREPLY < <(compgen -W '--program --help' -- "$2") ;;
+    -*) mapfile -t COMPREPLY < <(compgen -W '--program --premises --help' -- "$2") ;;
     *) _tsp_files tsp "$2" ;;
     esac
 }
 
 _tsp_plot() {
-    case $3 in
+    case $(_tsp_before "$3") in
     --program | -p) mapfile -t COMPREPLY < <(compgen -c -- "$2"); return ;;
-    --output | -o) _tsp_files svg "$2"; return ;;
+    --output | -o) _tsp_files 'svg|html' "$2"; return ;;
+    '<') _tsp_any_file "$2"; return ;;
     --title | -t) return ;;
     esac
     case $2 in
@@ -46,28 +75,64 @@ _tsp_plot() {
 }
 
 _tsp_sim() {
-    case $3 in
+    case $(_tsp_before "$3") in
     --program | -p) mapfile -t COMPREPLY < <(compgen -c -- "$2") ;;
+    '<') _tsp_any_file "$2" ;;
     *) mapfile -t COMPREPLY < <(compgen -W '--nodes --slaves --drift --wall --latency --loss --twice --cut --reboot --net --until --seed --program --help' -- "$2") ;;
     esac
 }
 
 _tsp_launch() {
-    case $3 in
+    case $(_tsp_before "$3") in
     --program | -p) mapfile -t COMPREPLY < <(compgen -c -- "$2") ;;
     --file | -f) mapfile -t COMPREPLY < <(compgen -f -- "$2") ;;
     --self | -s) mapfile -t COMPREPLY < <(compgen -W "$(_tsp_hosts 2)" -- "$2") ;;
-    --turns | -t | --wait | -w) ;;
-    *) mapfile -t COMPREPLY < <(compgen -W '--print --list --file --self --turns --wait --trace --program --help' -- "$2") ;;
+    --turns | -t | --wait | -w | --spread) ;;
+    *) mapfile -t COMPREPLY < <(compgen -W '--print --list --file --self --turns --wait --spread --trace --supervise --program --help' -- "$2") ;;
     esac
 }
 
 _tsp_status() {
-    case $3 in
+    case $(_tsp_before "$3") in
     --program | -p) mapfile -t COMPREPLY < <(compgen -c -- "$2") ;;
-    --file | -f) mapfile -t COMPREPLY < <(compgen -f -- "$2") ;;
-    --tries | -t) ;;
-    *) mapfile -t COMPREPLY < <(compgen -W '--csv --file --tries --program --help' -- "$2") ;;
+    --file | -f | --output | -o) mapfile -t COMPREPLY < <(compgen -f -- "$2") ;;
+    --tries | -t | --timeout | --within) ;;
+    *)
+        mapfile -t COMPREPLY < <(compgen -W '--file --need-master --within --check --csv --json --prometheus --output --timeout --tries --program --help' -- "$2")
+        ;;
+    esac
+}
+
+_tsp_watch() {
+    case $3:$2 in
+    --prometheus:*) mapfile -t COMPREPLY < <(compgen -f -- "$2") ;;
+    *:-*) mapfile -t COMPREPLY < <(compgen -W '--json --prometheus --help' -- "$2") ;;
+    *) mapfile -t COMPREPLY < <(compgen -f -- "$2") ;;
+    esac
+}
+
+_tsp_now() {
+    case $3:$2 in
+    --program:* | -p:*) mapfile -t COMPREPLY < <(compgen -c -- "$2") ;;
+    --file:* | -f:*) mapfile -t COMPREPLY < <(compgen -f -- "$2") ;;
+    --tries:* | -t:* | --timeout:*) ;;
+    --set:*) mapfile -t COMPREPLY < <(compgen -W 'now' -- "$2") ;;
+    *:-*) mapfile -t COMPREPLY < <(compgen -W '--utc --offset --set --file --timeout --tries --program --help' -- "$2") ;;
+    *) mapfile -t COMPREPLY < <(compgen -W "$(_tsp_hosts 2)" -- "$2") ;;
+    esac
+}
+
+# (bash makes words of NAME, = and TRACE)
+_tsp_witness() {
+    case $3 in
+    --program | -p) mapfile -t COMPREPLY < <(compgen -c -- "$2"); return ;;
+    --file | -f | --schedule | -s | --claims | -l | =) mapfile -t COMPREPLY < <(compgen -f -- "$2"); return ;;
+    --drift | -d) return ;;
+    esac
+    case $2 in
+    =) mapfile -t COMPREPLY < <(compgen -f) ;;
+    -*) mapfile -t COMPREPLY < <(compgen -W '--check --file --drift --altered --schedule --claims --program --help' -- "$2") ;;
+    *) mapfile -t COMPREPLY < <(compgen -S = -W "$(_tsp_hosts 2)" -- "$2") ;;
     esac
 }
 
@@ -78,3 +143,6 @@ complete -o filenames -F _tsp_plot tsp-plot
 complete -F _tsp_sim tsp-sim
 complete -o filenames -F _tsp_launch tsp-launch
 complete -o filenames -F _tsp_status tsp-status
+complete -o filenames -F _tsp_watch tsp-watch
+complete -o filenames -F _tsp_now tsp-now
+complete -o filenames -F _tsp_witness tsp-witness

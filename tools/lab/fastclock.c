@@ -1,18 +1,30 @@
 /* Lets a program's time run faster, for tools/network. It is loaded before the C library by LD_PRELOAD.
  *
- *   FAST_FROM  the value of CLOCK_MONOTONIC at which fast time begins, in nanoseconds
- *   FAST_RATE  how many nanoseconds of fast time pass in one
- *   FAST_WALL  what the wall clock shows when fast time begins, in nanoseconds since 1970
+ *   FAST_FROM   the value of CLOCK_MONOTONIC at which fast time begins, in nanoseconds
+ *   FAST_RATE   how many nanoseconds of fast time pass in one
+ *   FAST_WALL   what the wall clock shows when fast time begins, in nanoseconds since 1970
+ *   FAST_DRIFT  by how many parts in a million the program's clocks are faster than that; 0 if left out
+ *   FAST_HOLD   where it is set, time stands still from the first look at a clock until the program first waits
+ *   FAST_SPOIL  a type: the first datagram of this type that is sent has the last bit of its octet 11 changed
  *
- * All programs with the same FAST_FROM and FAST_RATE have the same fast time, whenever they start. Receives that wait
- * so long in fast time wait less here. */
+ * All programs with the same FAST_FROM, FAST_RATE and FAST_DRIFT have the same fast time, whenever they start. Receives
+ * that wait so long in fast time wait less here. */
 #define _GNU_SOURCE
 #include <stdlib.h>
+#include <string.h>
 #include <sys/socket.h>
 #include <sys/syscall.h>
 #include <sys/time.h>
 #include <time.h>
 #include <unistd.h>
+
+#define MILLION 1000000LL
+#define BILLION 1000000000LL
+#define LONGEST 512
+#define SPOILED 11
+
+static long long held;
+static int waited, spoiled;
 
 static long long setting(const char *name, long long otherwise)
 {
@@ -20,17 +32,34 @@ static long long setting(const char *name, long long otherwise)
     return text ? atoll(text) : otherwise;
 }
 
+/* The nanoseconds of the machine's monotonic clock, or those at which time stands still. */
+static int look(long long *now)
+{
+    struct timespec time;
+    if (syscall(SYS_clock_gettime, CLOCK_MONOTONIC, &time))
+        return -1;
+    *now = time.tv_sec * BILLION + time.tv_nsec;
+    if (!waited && getenv("FAST_HOLD")) {
+        if (!held)
+            held = *now;
+        *now = held;
+    }
+    return 0;
+}
+
 int clock_gettime(clockid_t id, struct timespec *time)
 {
+    long long now;
     if (id != CLOCK_MONOTONIC && id != CLOCK_REALTIME)
         return syscall(SYS_clock_gettime, id, time);
-    if (syscall(SYS_clock_gettime, CLOCK_MONOTONIC, time))
+    if (look(&now))
         return -1;
     long long from = setting("FAST_FROM", 0);
-    long long passed = (time->tv_sec * 1000000000LL + time->tv_nsec - from) * setting("FAST_RATE", 1);
-    long long now = passed + (id == CLOCK_REALTIME ? setting("FAST_WALL", 0) : from);
-    time->tv_sec = now / 1000000000;
-    time->tv_nsec = now % 1000000000;
+    long long passed = (now - from) * setting("FAST_RATE", 1);
+    passed += (long long)((__int128)passed * setting("FAST_DRIFT", 0) / MILLION);
+    long long shown = passed + (id == CLOCK_REALTIME ? setting("FAST_WALL", 0) : from);
+    time->tv_sec = shown / BILLION;
+    time->tv_nsec = shown % BILLION;
     return 0;
 }
 
@@ -38,11 +67,25 @@ int setsockopt(int socket, int level, int name, const void *value, socklen_t siz
 {
     if (level != SOL_SOCKET || name != SO_RCVTIMEO || size != sizeof(struct timeval))
         return syscall(SYS_setsockopt, socket, level, name, value, size);
+    waited = 1;
     struct timeval wait = *(const struct timeval *)value;
-    long long micros = (wait.tv_sec * 1000000LL + wait.tv_usec) / setting("FAST_RATE", 1);
+    long long micros = (wait.tv_sec * MILLION + wait.tv_usec) / setting("FAST_RATE", 1);
     if (micros < 1)
         micros = 1;
-    wait.tv_sec = micros / 1000000;
-    wait.tv_usec = micros % 1000000;
+    wait.tv_sec = micros / MILLION;
+    wait.tv_usec = micros % MILLION;
     return syscall(SYS_setsockopt, socket, level, name, &wait, sizeof wait);
+}
+
+ssize_t sendto(int socket, const void *octets, size_t count, int flags, const struct sockaddr *to, socklen_t size)
+{
+    unsigned char copy[LONGEST];
+    const unsigned char *first = octets;
+    if (!spoiled && count > SPOILED && count <= LONGEST && setting("FAST_SPOIL", -1) == first[0]) {
+        memcpy(copy, octets, count);
+        copy[SPOILED] ^= 1;
+        octets = copy;
+        spoiled = 1;
+    }
+    return syscall(SYS_sendto, socket, octets, count, flags, to, size);
 }

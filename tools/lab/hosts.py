@@ -1,4 +1,4 @@
-"""Hosts on a network of this machine's own, with daemons whose time runs fast.
+"""Hosts on networks of this machine's own, with daemons whose time runs fast.
 
 A lab's hosts stand in network namespaces, and a bridge carries what they send; or, where namespaces aren't to be had,
 they are ports of the loopback, and nothing is late, lost or captured.
@@ -15,6 +15,8 @@ HERE = os.path.dirname(os.path.realpath(__file__))
 # A wall clock's microseconds at which the words of daemons that start soon after make them wait little more than 300 s.
 START = 1_800_000_001_000_000
 PORT = 525
+ROLES = {'m': 'master', 'x': 'strict', 's': 'slave'}
+ASKER = 'asker'
 
 
 class Failed(Exception):
@@ -22,20 +24,39 @@ class Failed(Exception):
 
 
 class Daemon:
-    """A host: its name, its address, how many microseconds its wall clock is ahead, and whether it may be master."""
+    """A host: its name, whether it may be master, how many microseconds its wall clock is ahead, and by how many parts in a million
+    its clock is fast; `addresses` are those that it has, by network."""
 
-    def __init__(self, name, address, ahead, role):
-        self.name, self.address, self.ahead, self.role = name, address, ahead, role
+    def __init__(self, name, role, ahead=0, drift=0, spoils=None):
+        self.name, self.role, self.ahead, self.drift, self.spoils = name, role, ahead, drift, spoils
+        self.addresses, self.local = {}, None
         self.process, self.trace = None, []
+
+    @property
+    def address(self):
+        """The address at which it is asked."""
+        return next(iter(self.addresses.values()))
+
+    def status(self, *names):
+        """The memory of its process by these names, in KiB, and the seconds of a processor that it has taken."""
+        with open(f'/proc/{self.process.pid}/status', encoding='ascii') as status:
+            lines = dict(line.split(':', 1) for line in status)
+        with open(f'/proc/{self.process.pid}/stat', encoding='ascii') as stat:
+            words = stat.read().rpartition(')')[2].split()
+        return {name: int(lines[name].split()[0]) for name in names}, (int(words[11]) + int(words[12])) / os.sysconf('SC_CLK_TCK')
 
 
 class Lab:
-    """What both sorts of lab have in common. `rate` says how fast time runs, `folder` is where the traces go."""
+    """What both sorts of lab have in common. `nets` are the daemons of each network, `rate` says how fast time runs, `folder` is where
+    the traces go."""
 
-    def __init__(self, program, library, rate, folder):
-        self.program, self.library, self.rate, self.folder = program, library, rate, folder
+    has_bridge = False
+
+    def __init__(self, nets, program, library, rate, folder):
+        self.nets, self.program, self.library, self.rate, self.folder = nets, program, library, rate, folder
         self.begun = time.monotonic_ns()
-        self.daemons, self.starts = [], 0
+        self.daemons = list(dict.fromkeys(daemon for net in nets for daemon in net))
+        self.starts, self.asked = 0, 0
 
     def seconds(self):
         """The seconds of fast time since the lab began."""
@@ -45,39 +66,52 @@ class Lab:
         """Waits for so many seconds of fast time."""
         time.sleep(seconds / self.rate)
 
-    def environment(self, ahead):
+    def environment(self, ahead, **more):
         """The environment of a program in fast time, whose wall clock is so many microseconds ahead."""
-        return fast.environment(self.library, self.begun, self.rate, START + ahead)
+        return fast.environment(self.library, self.begun, self.rate, START + ahead, **more)
+
+    def peers(self, daemon):
+        """The words of `serve` for a daemon's peers."""
+        words = []
+        for port, number in enumerate(daemon.addresses):
+            words += ['+'] if port else []
+            words += [other.addresses[number] for other in self.nets[number] if other is not daemon]
+        return words
 
     def start(self, daemon):
-        """Starts a host's daemon, and lets it trace."""
-        peers = [other.address for other in self.daemons if other is not daemon]
-        words = self.at(daemon.name) + [self.program, 'serve', daemon.address, daemon.name, daemon.role, '1000000000', *peers]
+        """Starts a host's daemon, lets it trace, and reads its clock, so that the trace tells it."""
+        words = self.at(daemon.name) + [self.program, 'serve', daemon.local, daemon.name, daemon.role, '1000000000', *self.peers(daemon)]
         self.starts += 1
         path = os.path.join(self.folder, f'{daemon.name}-{self.starts}.trace')
+        environment = self.environment(daemon.ahead, drift=daemon.drift, hold=1, spoil=daemon.spoils)
         with open(path, 'wb') as trace:
-            daemon.process = subprocess.Popen(words, stdout=trace, env=self.environment(daemon.ahead))
+            daemon.process = subprocess.Popen(words, stdout=trace, stderr=subprocess.DEVNULL, env=environment)
         daemon.trace.append(path)
         self.ask('trace', daemon.address, 'on')
+        self.ask('clockdiff', daemon.address)
 
     @staticmethod
-    def stop(daemon):
+    def stop(daemon, by=signal.SIGTERM):
         """Tells a host's daemon to end, and wants it to end by that."""
-        daemon.process.send_signal(signal.SIGTERM)
+        daemon.process.send_signal(by)
         status = daemon.process.wait(5)
-        if status != -signal.SIGTERM:
-            raise Failed(f'{daemon.name}: SIGTERM ends it with {status}')
         daemon.process = None
+        if status != -by:
+            raise Failed(f'{daemon.name}: signal {by} ends it with {status}')
 
-    def ask(self, *words):
-        """Asks a daemon, again where the question or its answer was lost, and gives the words of the answer."""
-        for _ in range(8):
+    def ask(self, *words, tries=8, wanted=True):
+        """Asks a daemon, again where the question or its answer was lost, and gives the words of the answer; None where there is none
+        and none is wanted."""
+        for _ in range(tries):
+            self.asked += 1
             ran = subprocess.run(
-                self.at('asker') + [self.program, *words], stdout=subprocess.PIPE, stderr=subprocess.DEVNULL, env=self.environment(0), check=False
+                self.at(ASKER) + [self.program, *words], stdout=subprocess.PIPE, stderr=subprocess.DEVNULL, env=self.environment(0), check=False
             )
             if ran.returncode == 0:
                 return ran.stdout.decode('ascii').split()
-        raise Failed(f'{" ".join(words)}: status {ran.returncode}')
+        if wanted:
+            raise Failed(f'{" ".join(words)}: status {ran.returncode}')
+        return None
 
     def acts(self, daemon):
         """The acts of a host's daemon, over all its starts: each as its words."""
@@ -87,24 +121,40 @@ class Lab:
                 found += [line.split()[4:] for line in lines if line.endswith('\n')]
         return found
 
+    def write_hosts(self):
+        """Writes the hosts file of the lab, and gives its path."""
+        path = os.path.join(self.folder, 'hosts')
+        with open(path, 'w', encoding='ascii') as file:
+            for number, net in enumerate(self.nets):
+                file.write('+\n' if number else '')
+                file.writelines(f'{daemon.name} {daemon.addresses[number]} {ROLES[daemon.role]}\n' for daemon in net)
+        return path
+
+    def tell(self, *lines):
+        """Tells the bridge what to do from now on, where there is one."""
+
+    @staticmethod
+    def cables(_):
+        """The bridge's interfaces to a host."""
+        return []
+
     def close(self):
         """Ends what was started."""
         for daemon in self.daemons:
             if daemon.process:
                 daemon.process.kill()
                 daemon.process.wait()
+                daemon.process = None
 
 
 class Loopback(Lab):
     """Hosts that are ports of the loopback."""
 
-    def __init__(self, names, *rest):
-        super().__init__(*rest)
-        self.ports = iter(fast.free_ports(len(names)))
-
-    def host(self):
-        """The address of one host more."""
-        return f'127.0.0.1:{next(self.ports)}'
+    def __init__(self, nets, *rest):
+        super().__init__(nets, *rest)
+        for daemon, port in zip(self.daemons, fast.free_ports(len(self.daemons))):
+            daemon.local = f'127.0.0.1:{port}'
+            daemon.addresses = {number: daemon.local for number, net in enumerate(nets) if daemon in net}
 
     @staticmethod
     def at(_):
@@ -113,47 +163,75 @@ class Loopback(Lab):
 
 
 class Namespaces(Lab):
-    """Hosts in network namespaces, joined by a bridge."""
+    """Hosts in network namespaces, joined by a bridge. `capture` says whether what it carries is kept."""
+    is_mounted, has_bridge = False, True
 
-    def __init__(self, names, loss, late, *rest):
-        super().__init__(*rest)
+    def __init__(self, nets, *rest, seed=525, capture=True):
+        super().__init__(nets, *rest)
         self.capture = os.path.join(self.folder, 'network.pcap')
-        run('mount', '-t', 'tmpfs', 'none', '/run')
-        os.mkdir('/run/netns')
-        for number, name in enumerate(names, 1):
-            self.wire(name, number)
-        words = [sys.executable, os.path.join(HERE, 'bridge.py'), self.capture, str(loss), *map(str, late), *(f'to-{name}' for name in names)]
-        self.bridge = subprocess.Popen(words, stdout=subprocess.PIPE)
+        self.ends, self.known = [], set()
+        self.mount()
+        for number, net in enumerate(nets):
+            for place, name in enumerate([*(daemon.name for daemon in net), ASKER], 1):
+                self.wire(number, place, name)
+            for place, daemon in enumerate(net, 1):
+                daemon.addresses[number] = f'10.9.{number}.{place}:{PORT}'
+        for daemon in self.daemons:
+            daemon.local = daemon.address if len(daemon.addresses) == 1 else f'0.0.0.0:{PORT}'
+        words = [sys.executable, os.path.join(HERE, 'bridge.py'), self.capture if capture else '-', str(seed), *self.ends]
+        self.bridge = subprocess.Popen(words, stdin=subprocess.PIPE, stdout=subprocess.PIPE)
         self.bridge.stdout.readline()
-        self.carried = self.lost = 0
-        self.numbers = iter(range(1, len(names)))
+        self.carried = self.lost = self.doubled = self.spoiled = 0
 
-    @staticmethod
-    def wire(name, number):
+    @classmethod
+    def mount(cls):
+        """A place for the names of namespaces."""
+        if not cls.is_mounted:
+            run('mount', '-t', 'tmpfs', 'none', '/run')
+            os.mkdir('/run/netns')
+            # (processes have numbers of their own here)
+            run('mount', '-t', 'proc', 'none', '/proc')
+            cls.is_mounted = True
+
+    def wire(self, number, place, name):
         """A host with its cable to the bridge."""
-        run('ip', 'netns', 'add', name)
-        run('ip', 'link', 'add', f'to-{name}', 'type', 'veth', 'peer', 'name', 'eth0', 'netns', name)
-        run('ip', 'link', 'set', f'to-{name}', 'up')
-        run('ip', '-n', name, 'addr', 'add', f'10.9.0.{number}/24', 'dev', 'eth0')
-        for device in 'eth0', 'lo':
-            run('ip', '-n', name, 'link', 'set', device, 'up')
-
-    def host(self):
-        """The address of one host more."""
-        return f'10.9.0.{next(self.numbers)}:{PORT}'
+        if name not in self.known:
+            run('ip', 'netns', 'add', name)
+            run('ip', '-n', name, 'link', 'set', 'lo', 'up')
+            self.known.add(name)
+        end, here = f'to{number}-{name}', f'eth{number}'
+        run('ip', 'link', 'add', end, 'type', 'veth', 'peer', 'name', here, 'netns', name)
+        run('ip', 'link', 'set', end, 'up')
+        run('ip', '-n', name, 'addr', 'add', f'10.9.{number}.{place}/24', 'dev', here)
+        run('ip', '-n', name, 'link', 'set', here, 'up')
+        self.ends.append(f'{number}/{end}')
 
     @staticmethod
     def at(name):
         """What stands before a program that runs at a host."""
         return ['ip', 'netns', 'exec', name]
 
+    def tell(self, *lines):
+        """Tells the bridge what to do from now on."""
+        self.bridge.stdin.write(''.join(f'{line}\n' for line in lines).encode('ascii'))
+        self.bridge.stdin.flush()
+
+    def cables(self, daemon):
+        """The bridge's interfaces to a host."""
+        return [f'to{number}-{daemon.name}' for number in daemon.addresses]
+
     def close(self):
         """Ends what was started; the bridge says what it carried and lost."""
         super().close()
         if self.bridge:
             self.bridge.terminate()
-            self.carried, self.lost = map(int, self.bridge.communicate(timeout=5)[0].split())
+            told = self.bridge.communicate(timeout=5)[0].split()
+            self.carried, self.lost, self.doubled, self.spoiled = map(int, told)
             self.bridge = None
+            for end in self.ends:
+                run('ip', 'link', 'del', end.partition('/')[2])
+            for name in self.known:
+                run('ip', 'netns', 'del', name)
 
 
 def run(*words):

@@ -1,8 +1,9 @@
-# What the checks of the tools have in common. A check is read from the repository's top, and ends with status 1 at the
-# first thing that isn't as it should be.
+# What the checks have in common, those of the tools and .ci/daemon.sh. A check runs at the repository's top, and ends with
+# status 1 at the first thing that isn't as it should be.
 # shellcheck shell=sh
 set -eu
-cd "$(dirname "$0")/../.."
+cd "$(dirname "$0")"
+until [ -e crates.txt ]; do cd ..; done
 
 # The name of this check.
 check=$(basename "$0" .sh)
@@ -21,15 +22,29 @@ has() {
     command -v "$1" >/dev/null
 }
 
-# Sets `program` to the program, or to that of TSP_PROGRAM; one that has no serve yet ends the check.
+# Sets `program` to the program, or to that of TSP_PROGRAM, which has to serve.
 serving_program() {
     program=${TSP_PROGRAM:-crates/tsp_cli/out/tsp_cli}
     [ -n "${TSP_PROGRAM:-}" ] || ./tsp show </dev/null || fail "the program isn't there"
-    # (an address that isn't this machine's can't be bound, and other words are refused before)
+    # (an address that isn't this machine's can't be bound)
     status=0
     "$program" serve 192.0.2.1:525 a s 1 >"$out/said" 2>"$out/told" || status=$?
-    [ "$status" -ne 1 ] || { skip 'the program has no serve yet' 'a running daemon'; exit; }
     [ "$status" -eq 5 ] || fail "an address that isn't this machine's ends with status $status"
+}
+
+# Notes the last process that was begun, so that it ends with the check.
+running=''
+note_process() {
+    running="$running $!"
+}
+
+# Ends the processes that were noted, and waits for them.
+end_all() {
+    for process in $running; do
+        kill "$process" 2>/dev/null || :
+        wait "$process" 2>/dev/null || :
+    done
+    running=''
 }
 
 # So many ports of this machine that nobody has.
@@ -44,8 +59,24 @@ print(*[each.getsockname()[1] for each in sockets])
 END
 }
 
+# Interrupts a command after a second, and prints what it wrote and how it ended.
+interrupted() {
+    python3 - "$@" <<'END'
+import signal
+import subprocess
+import sys
+import time
+run = subprocess.Popen(sys.argv[1:], stdin=subprocess.PIPE, stdout=subprocess.PIPE, stderr=subprocess.PIPE)
+time.sleep(1)
+run.send_signal(signal.SIGINT)
+print(run.communicate(timeout=20), run.returncode)
+END
+}
+
 out=$(mktemp -d)
-trap 'rm -rf "$out"' EXIT
+trap 'end_all; rm -rf "$out"' EXIT
+trap 'exit 130' INT
+trap 'exit 143' TERM HUP
 
 # (python3 may be a script that looks for one anew at each start)
 mkdir "$out/bin"

@@ -9,18 +9,10 @@ free_ports 4 >"$out/ports"
 read -r one two three four <"$out/ports"
 printf '%s\n' "a 127.0.0.1:$one master" "b 127.0.0.1:$two slave" "c 127.0.0.1:$three master" >"$out/hosts"
 
-running=''
-end_all() {
-    # shellcheck disable=SC2086  # numbers
-    [ -z "$running" ] || kill $running 2>/dev/null || :
-    running=''
-}
-trap 'end_all; rm -rf "$out"' EXIT
-
 # Starts a host's daemon.
 start() {
     tools/tsp-launch -f "$out/hosts" -s "$1" --trace >"$out/$1.trace" 2>"$out/$1.log" &
-    running="$running $!"
+    note_process
 }
 start a
 first=$!

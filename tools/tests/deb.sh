@@ -5,12 +5,64 @@ for needed in dpkg-deb git gzip strip; do
     has "$needed" || { skip "there is no $needed" 'the package'; exit; }
 done
 
+# Words: help, a version, and those that are none.
+tools/make-deb --help >"$out/help" && grep -q '^usage: tools/make-deb ' "$out/help" || fail 'there is no help'
+for words in --all "''" "$out/none" 'a b'; do
+    status=0
+    eval "tools/make-deb $words" >"$out/said" 2>"$out/told" || status=$?
+    [ "$status" -eq 2 ] && [ ! -s "$out/said" ] && [ "$(wc -l <"$out/told")" -eq 1 ] || fail "'$words' ends with status $status: $(cat "$out/told")"
+done
+
+# The version begins with the program's, and rises with each change that ships: with its commit, and with a heading of the changes.
+version=$(tools/make-deb --version)
+case $version in "$(./tsp --version | cut -d ' ' -f 2)"*) ;; *) fail "the version of the package is $version" ;; esac
+git clone -q . "$out/clone"
+in_clone() {
+    git -C "$out/clone" -c user.name=nobody -c user.email=nobody@example.org "$@"
+}
+cp tools/make-deb "$out/clone/tools" && cp CHANGELOG.md "$out/clone"
+in_clone commit -q -a --allow-empty -m 'As it is here'
+last=$("$out/clone/tools/make-deb" --version)
+# Wants another version, or the same where nothing ships.
+wants_version() {
+    now=$("$out/clone/tools/make-deb" --version) || fail "$2: there is no version"
+    dpkg --compare-versions "$now" "$1" "$last" || fail "$2: the version goes from $last to $now"
+    last=$now
+}
+echo '#' >>"$out/clone/tools/tests/deb.sh"
+in_clone commit -q -a -m 'A change of a test'
+wants_version eq 'a change of a test'
+echo '#' >>"$out/clone/daemon/hosts"
+wants_version gt 'a change that is not committed'
+in_clone commit -q -a -m 'A change that ships'
+echo '#' >>"$out/clone/man/tsp.8"
+in_clone commit -q -a -m 'A change that ships'
+wants_version gt 'two changes'
+for heading in 0.1-98 0.1-99; do
+    sed -i "0,/^## /s//## $heading\n\n- Changes.\n\n## /" "$out/clone/CHANGELOG.md"
+    in_clone commit -q -a -m 'A heading'
+    wants_version gt 'a heading'
+    [ "$last" = "$heading" ] || fail "under the heading $heading the version is $last"
+done
+sed -i '0,/^## .*/s//## Later/' "$out/clone/CHANGELOG.md"
+! "$out/clone/tools/make-deb" --version >"$out/said" 2>"$out/told" || fail 'a heading without a version is taken'
+
 package=$(tools/make-deb "$out") || fail 'no package is made'
 dpkg-deb --info "$package" >"$out/info" || fail 'the package is not read'
-[ "$(dpkg-deb --field "$package" Version)" = "$(./tsp --version | cut -d ' ' -f 2)" ] || fail 'the package has another version than the program'
+[ "$(dpkg-deb --field "$package" Version)" = "$version" ] || fail 'the package has another version than make-deb says'
 dpkg-deb --extract "$package" "$out/root"
 ! find "$out/root" -type l ! -exec test -e {} \; -print | grep . || fail 'a link of the package leads nowhere'
 (cd "$out/root" && dpkg-deb --control "$package" "$out/control" && md5sum --quiet -c "$out/control/md5sums") || fail 'a checksum of the package is wrong'
+
+# No link of its documents is dead.
+find "$out/root/usr/share/doc" -name '*.md' >"$out/documents"
+while IFS= read -r document; do
+    grep -o ']([^)#:]*)' "$document" | sed 's/^](//; s/)$//' | while IFS= read -r link; do
+        [ -e "$(dirname "$document")/$link" ] || fail "$(basename "$document") points to $link, which isn't packed"
+    done
+    grep -o ']([^)#:]*)' "$document" >>"$out/links" || :
+done <"$out/documents"
+[ "$(wc -l <"$out/links")" -ge 10 ] || fail 'the documents have too few links'
 
 # The packed program replays each example, and the packed tools run it.
 tools/tsp-status --help >"$out/help"
@@ -28,16 +80,21 @@ cd "$out"
 python3 root/usr/bin/tsp-lint "$examples/election.tsp" || fail 'the packed tsp-lint refuses an example'
 python3 root/usr/bin/tsp-plot "$examples/election.tsp" | cmp -s - "$examples/election.svg" || fail 'the packed tsp-plot draws another picture'
 python3 root/usr/bin/tsp-sim --until 500 | tsp replay | grep -q 'become candidate' || fail 'the packed tsp-sim gives no schedule'
+python3 root/usr/bin/tsp-witness --help | grep -q '^usage: tsp-witness' || fail 'the packed tsp-witness has no help'
 cd "$OLDPWD"
 
 # The daemon: what the unit starts is there and gives words, its variables are a file that upgrades leave, and nothing starts by itself.
 unit=$out/root/usr/lib/systemd/system/tsp.service
 cmp -s "$unit" daemon/tsp.service || fail 'another unit is packed'
-launch=$(sed -n 's/^ExecStart=//p' "$unit")
+launch=$(sed -n 's/^ExecStart=\([^ ]*\).*/\1/p' "$unit")
 [ -x "$out/root$launch" ] || fail "the unit starts $launch, which isn't there"
 "$out/root$launch" -n -f "$examples/hosts" -s beta >"$out/words" || fail 'the packed tsp-launch gives no words'
 [ "$(cut -d ' ' -f 1-4 "$out/words")" = 'serve 192.0.2.12:525 beta m' ] || fail "the packed tsp-launch gives '$(cat "$out/words")'"
 python3 "$out/root/usr/bin/tsp-status" --help | cmp -s - "$out/help" || fail 'the packed tsp-status has another help'
+python3 "$out/root/usr/bin/tsp-watch" tools/tests/watch.trace | grep -q ' leads$' || fail 'the packed tsp-watch reads no trace'
+python3 "$out/root/usr/bin/tsp-now" --help | grep -q '^usage: tsp-now ' || fail 'the packed tsp-now has no help'
+echo "a 127.0.0.1:$(free_ports 1) master" >"$out/hosts"
+"$out/root$launch" --supervise --spread 0 -t 1 -f "$out/hosts" -s a || fail "the packed tsp-launch ends with status $?"
 cmp -s "$out/root/etc/default/tsp" daemon/tsp.default && [ "$(cat "$out/control/conffiles")" = /etc/default/tsp ] || fail 'the variables of the daemon are not kept'
 [ -d "$out/root/etc/tsp" ] && [ ! -e "$out/root/etc/tsp/hosts" ] || fail 'there is a hosts file that nobody wrote'
 for script in postinst prerm postrm; do
@@ -47,6 +104,28 @@ done
 for page in man/*.[1-8]; do
     gzip -dc "$out/root/usr/share/man/man${page##*.}/${page#man/}.gz" | cmp -s - "$page" || fail "$page isn't packed"
 done
+
+# Installed in a root of its own and purged, it leaves nothing but folders that are the system's.
+install -d "$out/system/var/lib/dpkg/info" "$out/system/var/lib/dpkg/updates" "$out/system/var/lib/dpkg/triggers" "$out/system/etc/systemd/system/multi-user.target.wants"
+: >"$out/system/var/lib/dpkg/status"
+in_system() {
+    dpkg --root="$out/system" --force-script-chrootless --force-depends --force-not-root --log=/dev/null "$@" >"$out/told" 2>&1
+}
+left() {
+    find "$out/system" -path "$out/system/var/lib/dpkg" -prune -o -print | sort
+}
+if in_system --install "$package"; then
+    [ -x "$out/system$launch" ] || fail 'the package is not installed'
+    echo 'a 192.0.2.1 master' >"$out/system/etc/tsp/hosts"
+    ln -s /usr/lib/systemd/system/tsp.service "$out/system/etc/systemd/system/multi-user.target.wants"
+    install -d "$out/system/usr/share/tsp/tsp_daemon/__pycache__"
+    in_system --purge tsp || fail "$(tail -n 1 "$out/told")"
+    left >"$out/rest"
+    grep -v -x -e "$out/system" -e "$out/system/etc\(/systemd.*\)*" -e "$out/system/var\(/lib\)*" "$out/rest" >"$out/beyond" || :
+    [ ! -s "$out/beyond" ] && ! grep -q 'tsp.service' "$out/rest" || fail "a purge leaves $(cat "$out/beyond")"
+else
+    skip "this dpkg installs into no other root: $(tail -n 1 "$out/told")" 'what a purge leaves'
+fi
 
 # The same commit gives the same octets.
 mkdir "$out/again"

@@ -26,6 +26,45 @@ done
 tools/definitions --check || fail 'docs/DEFINITIONS.md is out of date: tools/definitions writes it'
 python3 tools/tests/proofs.py || fail 'docs/PROOFS.md names what is not there'
 [ "$count" -ge 4 ] || fail "only $count examples were tried"
+# The README is short, and no line of these pages is wide but in tables.
+[ "$(wc -l <README.md)" -le 100 ] || fail 'README.md has more than 100 lines'
+awk 'length > 160 { exit 1 }' README.md || fail 'a line of README.md has more than 160 columns'
+for document in docs/FORMATS.md docs/DECISIONS.md docs/PROOFS.md docs/PROMISES.md docs/LINES.md docs/WIRESHARK.md examples/README.md; do
+    awk 'length > 160 && !/^\|/ { exit 1 }' "$document" || fail "a line of $document has more than 160 columns"
+done
+
+# The kit is named by its logic alone, in the same words, and is the one that is here.
+logic=$(grep -o 'logic [0-9a-f]*' README.md | sort -u)
+[ "$(grep -o 'logic [0-9a-f]*' docs/PROOFS.md | sort -u)" = "$logic" ] || fail 'README.md and docs/PROOFS.md name two kits'
+! grep -n 'rattle-kit-' README.md docs/*.md || fail 'a kit is named that only some machines have'
+if has rt; then
+    case $(rt version) in *" $logic") ;; *) fail "rt version says '$(rt version)', and README.md '$logic'" ;; esac
+else
+    skip 'there is no rt' 'whether README.md names its logic'
+fi
+
+# The words of the grammar are those of --help, in the table of FORMATS and in the page.
+./tsp --help | sed -n 's/^    tsp \([a-z-]*\) .*/\1/p' | sort >"$out/commands"
+sed -n '/^## The program/,/^A status tells/p; /^`--help` and/q' docs/FORMATS.md | sed -n 's/^| `\([a-z-]*\).*/\1/p' | sort -u >"$out/named"
+cmp -s "$out/commands" "$out/named" || fail "docs/FORMATS.md has other commands than tsp --help: $(comm -3 "$out/commands" "$out/named")"
+sed -n '/^\.SH SYNOPSIS/,/^\.SH DESCRIPTION/s/^\.B tsp \([a-z-]*\)$/\1/p' man/tsp.1 | sort >"$out/named"
+cmp -s "$out/commands" "$out/named" || fail "man/tsp.1 has other commands than tsp --help: $(comm -3 "$out/commands" "$out/named")"
+
+# The statuses, and the causes of a replay's refusals, are the same in FORMATS and in the page.
+sed -n '/^| Status | Meaning/,/^$/s/^| \([0-9]\) .*/\1/p' docs/FORMATS.md >"$out/statuses"
+sed -n '/^\.SH EXIT STATUS/,/^\.SH LIMITS/s/^\.B \([0-9]\)$/\1/p' man/tsp.1 | cmp -s - "$out/statuses" || fail 'man/tsp.1 has other statuses than docs/FORMATS.md'
+[ "$(wc -l <"$out/statuses")" -eq 9 ] || fail 'docs/FORMATS.md lacks a status'
+sed -n '/^| Cause of `replay`/,/^$/s/^| `\([a-z-]*\).*/\1/p' docs/FORMATS.md | sort >"$out/causes"
+sed -n '/^\.SH REFUSALS/,/^\.SH EXIT/p' man/tsp.1 | sed -n 's/^\.BI* \([a-z-]*\)\(\\~.*\)*$/\1/p' | sort >"$out/named"
+[ -s "$out/causes" ] && [ -z "$(comm -23 "$out/causes" "$out/named")" ] || fail "man/tsp.1 lacks a cause of docs/FORMATS.md: $(comm -23 "$out/causes" "$out/named")"
+
+# As many examples as README says: one, and so many others.
+others=$(($(find examples -name '*.tsp' | wc -l) - 1))
+number=$(echo 'zero one two three four five six seven eight nine ten eleven twelve thirteen fourteen fifteen sixteen seventeen eighteen nineteen twenty' | cut -d ' ' -f $((others + 1)))
+grep -q "in $number other schedules" README.md || fail "README.md doesn't say that there are $number other schedules"
+for schedule in examples/*.tsp examples/schedules/*.tsp; do
+    grep -q "\*\*\`${schedule#examples/}\`\*\*" examples/README.md || fail "examples/README.md doesn't tell of $schedule"
+done
 for tool in tools/tsp-*; do
     [ -e "man/${tool#tools/}.1" ] || [ -e "man/${tool#tools/}.8" ] || fail "$tool has no page"
 done

@@ -2,6 +2,7 @@
 # tsp-launch reads hosts files: from a good one it gives each host its words, and of a faulty one it names the line.
 . "$(dirname "$0")/common.sh"
 unset TSP_HOSTS TSP_SELF TSP_TURNS TSP_WAIT TSP_TRACE TSP_PROGRAM
+export TSP_SPREAD=0
 hosts=tools/tests/launch.hosts
 
 # A name service: one address as getent gives it, two, one that no other host can reach, none, and one that comes late.
@@ -117,12 +118,30 @@ for turns in 0 01 1000000001 -1 x ''; do
     refuses "turns '$turns': a number from 1 to 1000000000" -n -f "$hosts" -s alpha --turns="$turns"
 done
 refuses "wait 'x': a number of seconds from 0 to 86400" -n -f "$hosts" -s alpha -w x
+for spread in 01 3601 x 0.5; do
+    refuses "spread '$spread': a number of seconds from 0 to 3600" -n -f "$hosts" -s alpha --spread="$spread"
+done
+printf 'alpha 192.0.2.11 master\nbeta\0 192.0.2.12 slave\n' >"$out/hosts"
+refuses "$out/hosts:2: the line has a NUL" -l -f "$out/hosts"
+printf 'alpha 192.0.2.11 master # \0\n' >"$out/hosts"
+refuses "$out/hosts:1: the line has a NUL" -n -f "$out/hosts" -s alpha
+head -c 67108864 /dev/zero | tr '\0' '#' >"$out/hosts"
+refuses "$out/hosts: it has more than 2097152 octets" -l -f "$out/hosts"
 refuses '-q: tsp-launch --help says which words there are' -q
 refuses '-f: a word is missing behind it' -n -f
 given=TSP_TRACE=yes
 refuses "trace 'yes': on or off" -n -f "$hosts" -s alpha
 given=''
 refuses "there is no program $out/none" -f "$hosts" -s alpha -p "$out/none"
+
+# Output that nobody takes, or that is closed.
+for words in --help --list --print; do
+    for into in '>/dev/full' '>&-'; do
+        status=0
+        eval "tools/tsp-launch $words -f $hosts -s alpha $into" 2>"$out/told" || status=$?
+        [ "$status" -eq 4 ] && [ "$(cat "$out/told")" = 'tsp-launch: standard output takes nothing' ] || fail "$words $into: status $status, '$(cat "$out/told")'"
+    done
+done
 
 # A name is looked up again, as long as that was asked for.
 printf 'late late.example master\n' >"$out/hosts"
@@ -163,6 +182,65 @@ given=''
 calls=$(wc -l <"$CALLS")
 sleep 2.2
 [ "$(wc -l <"$CALLS")" -le $((calls + 1)) ] || fail 'a daemon that has ended is still asked to trace'
+
+# A daemon starts after a random part of the spread: some parts are below its half, and some above.
+cat >"$out/bin/sleep" <<'END'
+#!/bin/sh
+echo "$1" >>"$SLEPT"
+END
+chmod +x "$out/bin/sleep"
+: >"$out/slept"
+count=0
+while [ "$count" -lt 40 ]; do
+    given="SLEPT=$out/slept STATUS=0 WANTED=1 TSP_SPREAD=5"
+    ends 0 -f "$hosts" -s gamma -p "$out/fake"
+    count=$((count + 1))
+done
+given=''
+[ "$(cat "$out/told")" = "tsp-launch: the daemon starts in $(tail -n 1 "$out/slept") s, a random part of 5 s" ] || fail "$(cat "$out/told")"
+awk '!/^[0-9]\.[0-9][0-9][0-9]$/ || $1 > 5 { exit 1 } $1 < 2.5 { below++ } $1 > 2.5 { above++ } END { exit !(NR == 40 && below >= 5 && above >= 5) }' "$out/slept" ||
+    fail "the parts of the spread are $(paste -sd ' ' "$out/slept")"
+rm "$out/bin/sleep"
+
+# Supervised, it ends as its daemon does, says why an address can't be bound, and ends with 0 where it is told to end.
+for STATUS in 0 2 4 8 78; do
+    ends "$STATUS" -f "$hosts" -s gamma -p "$out/fake" --supervise
+    [ ! -s "$out/told" ] || fail "a daemon with status $STATUS is told of: $(cat "$out/told")"
+done
+STATUS=5
+ends 5 -f "$hosts" -s alpha -p "$out/fake" --supervise
+[ "$(cat "$out/told")" = "tsp-launch: 192.0.2.11:525 can't be bound: Cannot assign requested address" ] || fail "$(cat "$out/told")"
+STATUS=1
+ends 1 -f "$hosts" -s gamma -p "$out/fake" --supervise
+[ "$(cat "$out/told")" = "tsp-launch: $out/fake doesn't know the words 'serve 198.51.100.7:525 gamma s 1000000000 192.0.2.1:525': it is of another version" ] || fail "$(cat "$out/told")"
+cat >"$out/daemon" <<'END'
+#!/bin/sh
+[ "$1" = serve ] || { sleep 0.2; echo no master; exit; }
+echo '1 0 0 1 trace on'
+echo '2 0 0 2 become follow 1'
+exec sleep 30
+END
+chmod +x "$out/daemon"
+cat >"$out/notify" <<'END'
+import os, signal, socket, struct, subprocess, sys
+path = sys.argv[1]
+with socket.socket(socket.AF_UNIX, socket.SOCK_DGRAM) as link:
+    link.bind(path)
+    link.setsockopt(socket.SOL_SOCKET, socket.SO_PASSCRED, 1)
+    link.settimeout(20)
+    with subprocess.Popen(sys.argv[2:], env={**os.environ, 'NOTIFY_SOCKET': path}) as run:
+        for number in range(2):
+            octets, ancillary, _, _ = link.recvmsg(4096, socket.CMSG_SPACE(12))
+            sender, _, _ = struct.unpack('3i', ancillary[0][2])
+            print('main' if sender == run.pid else 'other', octets.decode().replace('\n', ' '), flush=True)
+            if number == 0:
+                run.send_signal(signal.SIGTERM)
+    print(run.returncode)
+END
+python3 "$out/notify" "$out/link" tools/tsp-launch -f "$hosts" -s gamma -p "$out/daemon" --supervise >"$out/said" 2>"$out/told" || fail "$(cat "$out/told")"
+grep -v '^[12] 0 0 ' "$out/said" | paste -sd ';' >"$out/notified"
+[ "$(cat "$out/notified")" = 'main READY=1 STATUS=follows peer 1;main STOPPING=1;0' ] || fail "systemd is told '$(cat "$out/notified")'"
+[ "$(grep -c '^[12] 0 0 [12] ' "$out/said")" -eq 2 ] && [ ! -s "$out/told" ] || fail 'the trace is not handed on'
 
 # The example of a hosts file is a good one.
 ends 0 -n -f daemon/hosts -s printer

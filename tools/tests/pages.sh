@@ -15,11 +15,10 @@ text_of() {
     LC_ALL=C.UTF-8 MANWIDTH=240 man -P cat -l "$1" | sed 's/.\x08//g'
 }
 
-for tool in tsp-lint tsp-plot tsp-sim tsp-launch tsp-status; do
+for tool in tsp-lint tsp-plot tsp-sim tsp-launch tsp-status tsp-watch tsp-now tsp-witness; do
     page=$(echo "man/$tool".[1-8])
-    "tools/$tool" --help | grep -o -e '--[a-z]*' | sort -u >"$out/options"
-    text_of "$page" | sed -n '/^OPTIONS/,/^EXIT STATUS/p' | grep -o -e '--[a-z]*' | sort -u >"$out/told"
-    [ "$tool" != tsp-lint ] || echo --help >>"$out/options"
+    "tools/$tool" --help | grep -o -e '--[a-z][a-z-]*' | sort -u >"$out/options"
+    text_of "$page" | sed -n '/^OPTIONS/,/^EXIT STATUS/p' | grep -o -e '--[a-z][a-z-]*' | sort -u >"$out/told"
     sort -u "$out/options" | cmp -s - "$out/told" || fail "$page tells of other options than $tool --help"
 done
 
@@ -27,7 +26,7 @@ done
 mkdir "$out/try"
 for tool in tools/tsp-*; do ln -s "$PWD/$tool" "$out/bin/${tool#tools/}"; done
 ln -s "$PWD/tsp" "$out/bin/tsp"
-cp examples/election.tsp daemon/hosts "$out/try"
+cp examples/election.tsp daemon/hosts tools/tests/watch.trace "$out/try"
 sed '6s/turn 0/turn a/' tools/tests/lint.tsp >"$out/try/broken.tsp"
 count=0
 for page in man/*.[18]; do

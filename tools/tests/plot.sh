@@ -18,7 +18,7 @@ for schedule in examples/*.tsp examples/schedules/*.tsp tools/tests/plot/*.tsp; 
     ! has xmllint || xmllint --noout "$out/picture.svg" || fail "the picture of $schedule isn't XML"
 
     # A circle for each correction, a box for each group, and a cross for each datagram to a peer that is never taken.
-    [ "$(drawn '<circle ')" -eq "$(grep -c '^[0-9]* [0-9]* [0-9]* [0-9]* correct ' "$trace")" ] || fail "$schedule: not each correction is drawn"
+    [ "$(drawn '<circle .*<title>')" -eq "$(grep -c '^[0-9]* [0-9]* [0-9]* [0-9]* correct ' "$trace")" ] || fail "$schedule: not each correction is drawn"
     [ "$(drawn '<title>the group of ')" -eq "$(grep -c '^[0-9]* [0-9]* [0-9]* [0-9]* close ' "$trace")" ] || fail "$schedule: not each group is drawn"
     never=$(awk '
         FNR == NR { if ($3 == "take") taken[$4] = 1; next }
@@ -26,10 +26,34 @@ for schedule in examples/*.tsp examples/schedules/*.tsp tools/tests/plot/*.tsp; 
         END { print never + 0 }
     ' "$schedule" "$trace")
     [ "$(drawn 'never taken</title>')" -eq "$never" ] || fail "$schedule: $never datagrams are never taken, and $(drawn 'never taken</title>') are drawn so"
+    # Whatever fonts a machine has, they have these letters.
+    ! sed 's/µ//g' "$out/picture.svg" | LC_ALL=C grep -q '[^ -~]' || fail "$schedule: the picture has a letter that a font may lack"
+    grep -q 'so time isn.t even' "$out/picture.svg" && grep -q 'clock less true time' "$out/picture.svg" || fail "$schedule: an axis has no name"
     count=$((count + 1))
 done
 
+# A measurement is seen, however far the clocks are from true time: each of the gateway's is drawn 5 high or more.
+sed -n 's/^<line .*y1="\([0-9.]*\)" .*y2="\([0-9.]*\)" .*<title>.*measured by.*/\1 \2/p' examples/gateway.svg |
+    awk '$1 - $2 < 5 { exit 1 } END { exit NR != 8 }' || fail 'the measurements of a gateway are not seen'
+
+# With more than eight lanes each has its own clock beside its role, and all are there.
+awk 'BEGIN {
+    print "tsp-schedule 1\ndrift 0"
+    for (i = 0; i < 24; i++) print "node n" i " 0 " i * 1000 " " (i ? "s" : "m")
+    for (i = 0; i < 24; i++) print "at 0 boot " i " 0"
+    for (i = 0; i < 24; i++) print "at 80000000 turn " i
+    print "at 85000000 turn 0\nat 385000000 turn 0\nat 387000000 turn 0\nat 389000000 turn 0\nat 390000000 turn 0"
+    for (i = 1; i < 24; i++) print "at 390000100 take " 24 * 23 + 3 * 23 + i - 1
+    print "at 400000000 turn 0\nend"
+}' >"$out/many.tsp"
+./tsp replay <"$out/many.tsp" >"$out/many.trace" || fail 'twenty-four nodes are not run'
+tools/tsp-plot "$out/many.tsp" "$out/many.trace" >"$out/picture.svg" || fail 'twenty-four nodes are not drawn'
+[ "$(grep -c '^<rect .*<title>.* follow 0 n0, ' "$out/picture.svg")" -eq "$(grep -c ' become follow 0$' "$out/many.trace")" ] || fail 'not each follower of many is drawn'
+[ "$(grep -c ' become follow 0$' "$out/many.trace")" -eq 23 ] || fail 'not all follow'
+[ "$(drawn "in each lane: its clock less its master.s, from -")" -eq 1 ] || fail 'it is not said what is in a lane'
+
 # Without a trace the program is run.
+./tsp show </dev/null || fail "the program isn't there"
 tools/tsp-plot examples/first.tsp -o "$out/picture.svg" || fail 'a schedule without a trace is not drawn'
 cmp -s "$out/picture.svg" examples/first.svg || fail 'a schedule without a trace gives another picture'
 
@@ -37,4 +61,18 @@ cmp -s "$out/picture.svg" examples/first.svg || fail 'a schedule without a trace
 sed 3d examples/first.tsp >"$out/broken.tsp"
 ! tools/tsp-plot "$out/broken.tsp" examples/first.trace >"$out/picture.svg" 2>"$out/told" || fail 'a schedule without a node is drawn'
 grep -q 'line 3' "$out/told" || fail 'it is not said where a schedule is broken'
-echo "$check: $count pictures"
+
+# What isn't a trace of this schedule is refused, with the line.
+others=0
+while IFS='|' read -r script line why; do
+    sed "$script" examples/round.trace >"$out/other.trace"
+    status=0
+    tools/tsp-plot examples/round.tsp "$out/other.trace" >"$out/picture.svg" 2>"$out/told" || status=$?
+    [ "$status" -eq 1 ] && [ ! -s "$out/picture.svg" ] || fail "a trace with '$script' is drawn"
+    [ "$(cat "$out/told")" = "tsp-plot: $out/other.trace: line $line: $why" ] || fail "a trace with '$script': $(cat "$out/told")"
+    others=$((others + 1))
+done <tools/tests/plot.cases
+for trace in examples/*.trace examples/schedules/*.trace; do
+    [ "$trace" = examples/round.trace ] || ! tools/tsp-plot examples/round.tsp "$trace" >"$out/picture.svg" 2>"$out/told" || fail "round.tsp is drawn with $trace"
+done
+echo "$check: $count pictures, and $others traces that are none"

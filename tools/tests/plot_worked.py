@@ -1,14 +1,20 @@
 """What tsp-plot reads off a run, beside values that were worked out by hand from the protocol's rules."""
 import unittest
 
-from tsp_texts import history, schedule, trace
+from tsp_texts import claims, history, schedule, trace, verdict
 
 FOLDER = 'tools/tests/plot/'
 
 
+def run_of(name):
+    """The schedule of this name, and the acts of its trace."""
+    with open(f'{FOLDER}{name}.tsp', 'rb') as file:
+        read = verdict.read(file.read())
+    return read, claims.read(f'{FOLDER}{name}.trace', read)
+
+
 def history_of(name):
-    read = schedule.read(f'{FOLDER}{name}.tsp')
-    return history.History(read, trace.read(f'{FOLDER}{name}.trace', read))
+    return history.History(*run_of(name))
 
 
 class Round(unittest.TestCase):
@@ -25,7 +31,7 @@ class Round(unittest.TestCase):
         self.assertEqual(self.run.clock(1, 630000300).offset(630000300), -400)
 
     def test_group(self):
-        self.assertEqual(self.run.groups, [history.Group(0, 638000000, -500, 0, -250)])
+        self.assertEqual(self.run.groups, [history.Group(0, 0, 638000000, -500, 0, -250, 0)])
 
     def test_bound(self):
         # From b's correction on: its error of 401, and twice what 8.0004 s of a drift of 100 can do, 802.
@@ -37,10 +43,16 @@ class Round(unittest.TestCase):
         self.assertEqual(bound.clock.offset(638000700), master)
 
     def test_roles(self):
-        self.assertEqual([(span.value, span.begin) for span in self.run.roles[0, 0]],
+        self.assertEqual([(span.value.name, span.begin) for span in self.run.roles[0, 0]],
                          [('starting', 0), ('loose', 80000000), ('candidate', 385000000), ('master', 390000000)])
-        self.assertEqual([(span.value, span.begin) for span in self.run.roles[1, 0]],
+        self.assertEqual([(span.value.name, span.begin) for span in self.run.roles[1, 0]],
                          [('starting', 0), ('loose', 80000000), ('follow', 390000500)])
+
+    def test_beside_the_master(self):
+        # b follows from 390,000,500 on. It is set by -10,400 at 390,001,400, and then 400 behind; a moves by -250, so b is 150 behind, and then by 250.
+        found = [(span.begin, span.end, span.value.offset(span.begin)) for span in self.run.beside((1, 0))]
+        self.assertEqual(found, [(390000500, 390001400, 10000), (390001400, 638000000, -400), (638000000, 638000400, -150), (638000400, 638000700, 100)])
+        self.assertEqual(self.run.beside((0, 0)), [])
 
     def test_datagrams(self):
         # Posts 0, 1, 8, 11, 12 and 13 are never taken.
@@ -51,8 +63,7 @@ class Bounds(unittest.TestCase):
     """When a bound ends: the same round, with an event behind it."""
 
     def bound_with(self, event, *lines):
-        read = schedule.read(f'{FOLDER}round.tsp')
-        acts = trace.read(f'{FOLDER}round.trace', read)
+        read, acts = run_of('round')
         read.events.append(schedule.event_of(event))
         for line in lines:
             words = line.split()
@@ -69,8 +80,7 @@ class Bounds(unittest.TestCase):
         self.assertEqual((bound.end, bound.lasts), (640000000, False))
 
     def test_a_correction_of_the_master_before_the_follower_has_its_own(self):
-        read = schedule.read(f'{FOLDER}round.tsp')
-        acts = trace.read(f'{FOLDER}round.trace', read)
+        read, acts = run_of('round')
         at = next(place for place, act in enumerate(acts) if act.words[:2] == ['correct', '-250']) + 1
         acts.insert(at, acts[at - 1]._replace(words=['correct', '5', 'slew', '638000000']))
         acts = [act._replace(place=place) for place, act in enumerate(acts)]

@@ -1,27 +1,36 @@
 #!/bin/sh
-# tsp-status asks each host of the hosts file, all side by side, and says which master each names and how its clock stands.
+# tsp-status asks each host of the hosts file, and says which master each names, how its clock stands, and what isn't well.
 . "$(dirname "$0")/common.sh"
 unset TSP_HOSTS TSP_SELF TSP_TURNS TSP_WAIT TSP_TRACE TSP_PROGRAM
 cp tools/tests/launch.hosts "$out/hosts"
 
-# A program that answers a query with what stands in a file of its address, and is silent where there is none. It takes as long as that says.
+# A program that answers a query with what stands in a file of its address, and is silent where there is none. A clock is asked for alone.
 cat >"$out/fake" <<'END'
 #!/bin/sh
 echo "$1 $2" >>"$CALLS"
-sleep "$LONG"
-[ -e "$ANSWERS/$1-$2" ] || { echo no answer; echo "[WARN  tsp_cli] ended with status 6" >&2; exit 6; }
+[ -e "$ANSWERS/$1-$2" ] || exec sleep 30
 read -r status answer <"$ANSWERS/$1-$2"
+if [ "$1" = clockdiff ]; then
+    mkdir "$BUSY" 2>/dev/null || echo "$2" >>"$BUSY-again"
+    sleep 0.02
+    rmdir "$BUSY"
+fi
 echo "$answer"
 exit "$status"
 END
 chmod +x "$out/fake"
 mkdir "$out/answers"
-export CALLS="$out/calls" ANSWERS="$out/answers" LONG=0
+export CALLS="$out/calls" ANSWERS="$out/answers" BUSY="$out/busy"
 
 # What a host answers to both queries: the master, and the difference with its error.
 answers() {
     printf '0 %s\n' "$2" >"$ANSWERS/msite-$1"
     printf '0 clockdiff %s\n' "$3" >"$ANSWERS/clockdiff-$1"
+}
+
+# Lets a host be silent.
+silence() {
+    rm -f "$ANSWERS/msite-$1" "$ANSWERS/clockdiff-$1"
 }
 
 # Wants this status of tsp-status with these words.
@@ -31,7 +40,7 @@ ends() {
     : >"$CALLS"
     status=0
     tools/tsp-status --program "$out/fake" --file "$out/hosts" "$@" >"$out/said" 2>"$out/told" || status=$?
-    [ "$status" -eq "$wanted" ] || fail "'$*' ends with status $status: $(cat "$out/told")"
+    [ "$status" -eq "$wanted" ] || fail "'$*' ends with status $status: $(cat "$out/said" "$out/told")"
 }
 
 # Wants these lines of output.
@@ -51,41 +60,83 @@ answers 192.0.2.12:526 'master alpha' '-1250999 7'
 answers 192.0.2.1:525 'no master' '0 1'
 answers 198.51.100.7:525 'master gate' '-4503599627370497001 1000'
 ends 0
-says 'NAME   ADDRESS           MASTER              OFFSET ms  ERROR ms' \
-    'alpha  192.0.2.11:525    alpha                   0.100     0.401  reached' \
-    'beta   192.0.2.12:526    alpha               -1250.999     0.007  reached' \
-    'gate   192.0.2.1:525     -                       0.000     0.001  reached' \
-    'gamma  198.51.100.7:525  gate    -4503599627370497.001     1.000  reached'
+says 'NET  NAME   ADDRESS           ROLE     MASTER              OFFSET ms  ERROR ms' \
+    '1    alpha  192.0.2.11:525    master   alpha                   0.100     0.401  reached' \
+    '1    beta   192.0.2.12:526    slave    alpha               -1250.999     0.007  reached' \
+    '1    gate   192.0.2.1:525     waiting  -                       0.000     0.001  reached' \
+    '2    gamma  198.51.100.7:525  slave    gate    -4503599627370497.001     1.000  reached'
 tells ''
 [ "$(wc -l <"$CALLS")" -eq 8 ] || fail 'a host that answers is asked again'
 ends 0 -c
-says name,address,master,offset_ms,error_ms,reached alpha,192.0.2.11:525,alpha,0.100,0.401,yes beta,192.0.2.12:526,alpha,-1250.999,0.007,yes \
-    gate,192.0.2.1:525,,0.000,0.001,yes gamma,198.51.100.7:525,gate,-4503599627370497.001,1.000,yes
+says name,address,master,offset_ms,error_ms,reached,network,role alpha,192.0.2.11:525,alpha,0.100,0.401,yes,1,master \
+    beta,192.0.2.12:526,alpha,-1250.999,0.007,yes,1,slave gate,192.0.2.1:525,,0.000,0.001,yes,1,waiting \
+    gamma,198.51.100.7:525,gate,-4503599627370497.001,1.000,yes,2,slave
 
-# A silent host is asked again, as often as that was asked for; what the program logs isn't shown.
-rm "$ANSWERS/msite-192.0.2.12:526" "$ANSWERS/clockdiff-192.0.2.12:526"
+# What is asked for besides: a master that every host knows, and clocks that are near. The farthest pair counts, with both errors.
+ends 1 --need-master
+tells 'tsp-status: no master is known to gate'
+answers 192.0.2.1:525 'master alpha' '0 1'
+ends 0 --need-master
+answers 198.51.100.7:525 'master gate' '-900 100'
+answers 192.0.2.12:526 'master alpha' '50 452'
+ends 0 --within 1.502
+ends 1 --within 1.501
+tells 'tsp-status: gamma and beta may be 1.502 ms apart, and 1.501 are allowed'
+answers 192.0.2.11:525 'master alpha' '100 5000'
+ends 1 --within 6.099
+tells 'tsp-status: gamma and alpha may be 6.100 ms apart, and 6.099 are allowed'
+answers 192.0.2.11:525 'master alpha' '100 401'
+
+# As a monitoring plugin.
+ends 0 --check
+says 'TSP OK: 4 of 4 hosts answer, alpha leads, clocks within 1.502 ms | reached=4;;;0;4 masters=1 spread=1.502ms;;'
+ends 2 --check --within 1 --need-master
+says 'TSP CRITICAL: gamma and beta may be 1.502 ms apart, and 1.000 are allowed | reached=4;;;0;4 masters=1 spread=1.502ms;;1.000'
+tells ''
+
+# As JSON and as metrics, and into a file.
+ends 0 --json
+python3 - "$out/said" <<'END' || fail 'the JSON says otherwise'
+import json, sys
+told = json.load(open(sys.argv[1], encoding='ascii'))
+assert told['spread_us'] == 1502 and told['faults'] == [], told
+assert told['hosts'][1] == {'network': 1, 'name': 'beta', 'address': '192.0.2.12:526', 'reached': True, 'role': 'slave', 'master': 'alpha', 'offset_us': 50, 'error_us': 452}, told
+END
+ends 0 --prometheus --output "$out/metrics"
+[ ! -s "$out/said" ] || fail 'what is written to a file is printed too'
+for line in 'tsp_host_reached{network="1",host="beta"} 1' 'tsp_host_leads{network="1",host="alpha"} 1' 'tsp_host_leads{network="2",host="gamma"} 0' \
+    'tsp_host_has_master{network="2",host="gamma"} 1' 'tsp_host_offset_seconds{network="2",host="gamma"} -0.000900' \
+    'tsp_host_error_seconds{network="1",host="beta"} 0.000452' 'tsp_spread_seconds 0.001502' '# TYPE tsp_spread_seconds gauge'; do
+    grep -qxF "$line" "$out/metrics" || fail "the metrics lack $line"
+done
+[ "$(find "$out" -name '.tsp-*' | wc -l)" -eq 0 ] || fail 'something is left beside the file'
+
+# A silent host is asked as often as that was asked for, and costs no more than the time that an answer is waited for.
+silence 192.0.2.12:526
+began=$(date +%s)
 ends 1 --csv
-sed -n 3p "$out/said" >"$out/beta"
-[ "$(cat "$out/beta")" = beta,192.0.2.12:526,,,,no ] || fail "a silent host is '$(cat "$out/beta")'"
+took=$(($(date +%s) - began))
+[ "$took" -le 4 ] || fail "a silent host costs $took s"
+[ "$(sed -n 3p "$out/said")" = beta,192.0.2.12:526,,,,no,1, ] || fail "a silent host is '$(sed -n 3p "$out/said")'"
 tells 'tsp-status: silent: beta'
-[ "$(grep -c 'msite 192.0.2.12:526' "$CALLS")" -eq 2 ] || fail 'a silent host is not asked twice'
-ends 1 -t 1
-says 'NAME   ADDRESS           MASTER              OFFSET ms  ERROR ms' \
-    'alpha  192.0.2.11:525    alpha                   0.100     0.401  reached' \
-    'beta   192.0.2.12:526    -                           -         -  silent' \
-    'gate   192.0.2.1:525     -                       0.000     0.001  reached' \
-    'gamma  198.51.100.7:525  gate    -4503599627370497.001     1.000  reached'
+[ "$(grep -c 'msite 192.0.2.12:526' "$CALLS")" -eq 2 ] && ! grep 'clockdiff 192.0.2.12:526' "$CALLS" || fail 'a silent host is not asked twice for its master alone'
+ends 1 -t 1 --timeout 0.5
+[ "$(sed -n 3p "$out/said" | tr -s ' ')" = '1 beta 192.0.2.12:526 - - - - silent' ] || fail "a silent host is '$(sed -n 3p "$out/said")'"
 [ "$(grep -c 'msite 192.0.2.12:526' "$CALLS")" -eq 1 ] || fail 'a silent host is asked more than once'
+ends 1 --timeout 0.5 --check
+says 'TSP WARNING: silent: beta | reached=3;;;0;4 masters=1 spread=1.501ms;;'
 
-# A host to which nothing can be sent is silent too; one answer of the two is enough to be reached.
-printf '5 \n' >"$ANSWERS/clockdiff-192.0.2.12:526"
-ends 1
-tells 'tsp-status: silent: beta'
-answers 192.0.2.12:526 'master alpha' '5 5'
-rm "$ANSWERS/clockdiff-192.0.2.12:526"
-ends 0 -c
-sed -n 3p "$out/said" >"$out/beta"
-[ "$(cat "$out/beta")" = beta,192.0.2.12:526,alpha,,,yes ] || fail "a host without a clock is '$(cat "$out/beta")'"
+# A host to which nothing can be sent, or that nobody answers for, is silent too; one whose clock can't be read is reached.
+for status in 5 6; do
+    printf '%s no answer\n' "$status" >"$ANSWERS/msite-192.0.2.12:526"
+    ends 1
+    tells 'tsp-status: silent: beta'
+done
+printf '0 master alpha\n' >"$ANSWERS/msite-192.0.2.12:526"
+ends 0 -c --timeout 0.5
+[ "$(sed -n 3p "$out/said")" = beta,192.0.2.12:526,alpha,,,yes,1,slave ] || fail "a host without a clock is '$(sed -n 3p "$out/said")'"
+ends 1 --within 5 --timeout 0.5
+tells 'tsp-status: no clock was read: beta'
 
 # Two masters of one network are told of. (each network has its own)
 answers 192.0.2.12:526 'master beta' '5 5'
@@ -94,17 +145,32 @@ tells 'tsp-status: 2 masters are named in network 1: alpha, beta'
 sed 5q "$out/hosts" >"$out/one" && mv "$out/one" "$out/hosts"
 ends 1
 tells 'tsp-status: 2 masters are named: alpha, beta'
+ends 1 --check
+says 'TSP WARNING: 2 masters are named: alpha, beta | reached=3;;;0;3 masters=2 spread=0.502ms;;'
 answers 192.0.2.12:526 'master a,"b%20' '5 5'
 ends 1 -c
-sed -n 3p "$out/said" >"$out/beta"
-[ "$(cat "$out/beta")" = 'beta,192.0.2.12:526,"a,""b%20",0.005,0.005,yes' ] || fail "a name with a comma is '$(cat "$out/beta")'"
+[ "$(sed -n 3p "$out/said")" = 'beta,192.0.2.12:526,"a,""b%20",0.005,0.005,yes,1,slave' ] || fail "a name with a comma is '$(sed -n 3p "$out/said")'"
 
-# Nobody leads, as in the first minutes.
+# Nobody leads, as in the first minutes; or the one that is named doesn't, or is silent.
 for host in 192.0.2.11:525 192.0.2.12:526 192.0.2.1:525; do answers "$host" 'no master' '5 5'; done
 ends 0
 tells ''
+ends 1 --need-master
+tells 'tsp-status: nobody leads'
+ends 2 --need-master --check
+answers 192.0.2.12:526 'master alpha' '5 5'
+answers 192.0.2.1:525 'master alpha' '5 5'
+ends 2 --need-master --check
+says "TSP CRITICAL: alpha is named as master and doesn't lead; no master is known to alpha | reached=3;;;0;3 masters=0 spread=0.010ms;;"
+silence 192.0.2.11:525
+ends 2 --need-master --check --timeout 0.5
+says "TSP CRITICAL: alpha is named as master and doesn't lead; silent: alpha | reached=2;;;0;3 masters=0 spread=0.010ms;;"
+for host in 192.0.2.12:526 192.0.2.1:525; do silence "$host"; done
+ends 2 --check --timeout 0.5
+says 'TSP CRITICAL: silent: alpha, beta, gate | reached=0;;;0;3 masters=0'
 
 # A program that answers otherwise, or that doesn't know the queries, and none at all.
+for host in 192.0.2.11:525 192.0.2.12:526 192.0.2.1:525; do answers "$host" 'master alpha' '5 5'; done
 printf '0 usage\n' >"$ANSWERS/msite-192.0.2.11:525"
 ends 3
 tells "tsp-status: $out/fake msite 192.0.2.11:525 answers 'usage'"
@@ -114,25 +180,55 @@ tells "tsp-status: $out/fake msite 192.0.2.11:525 ends with status 1"
 answers 192.0.2.11:525 'master alpha' '1 2 3'
 ends 3
 tells "tsp-status: $out/fake clockdiff 192.0.2.11:525 answers 'clockdiff 1 2 3'"
+answers 192.0.2.11:525 'master alpha' '1 x'
+ends 3 --check
+says "TSP UNKNOWN: $out/fake clockdiff 192.0.2.11:525 answers 'clockdiff 1 x'"
 ends 3 --program "$out/none"
 tells "tsp-status: $out/none: No such file or directory"
+answers 192.0.2.11:525 'master alpha' '5 5'
 
-# A faulty hosts file, and faulty words.
+# A faulty hosts file, which is looked at before the program; and faulty words.
+: >"$out/empty"
+for file in none '' empty .; do
+    ends 78 --program "$out/none" --file "$out/$file"
+    [ "$(wc -l <"$out/told")" -eq 1 ] && [ ! -s "$out/said" ] || fail "of the file '$file' it says '$(cat "$out/said" "$out/told")'"
+done
+ends 78 --file ''
 ends 78 --file "$out/none"
-tells "tsp-launch: $out/none: there is no such file"
-[ ! -s "$out/said" ] || fail 'something is said of no file'
-for words in '--tries 0' '--tries x' '--all' 'alpha'; do
+tells "tsp-status: $out/none: there is no such file"
+ends 3 --check --file "$out/none"
+says "TSP UNKNOWN: $out/none: there is no such file"
+for words in '--tries 0' '--tries x' '--timeout 0' '--timeout nan' '--within -1' '--within inf' '--within' '--all' 'alpha' '--json --csv' '--need'; do
     # shellcheck disable=SC2086  # words
     ends 2 $words
+    [ "$(wc -l <"$out/told")" -eq 1 ] && [ ! -s "$out/said" ] || fail "'$words': it says '$(cat "$out/said" "$out/told")'"
 done
+ends 3 --check --within x
+grep -q '^TSP UNKNOWN: ' "$out/said" || fail 'a plugin with faulty words says nothing'
 
-# Twenty hosts that take a second for each answer are asked in less than the forty seconds that they take one by one.
-awk -v to="$out/answers" 'BEGIN { for (i = 1; i <= 20; i++) printf "n%d 10.0.0.%d master\n", i, i }' >"$out/hosts"
+# Output that nobody takes.
+status=0
+tools/tsp-status --program "$out/fake" --file "$out/hosts" >/dev/full 2>"$out/told" || status=$?
+[ "$status" -eq 4 ] || fail "a full output ends with status $status"
+tells 'tsp-status: standard output takes nothing: No space left on device'
+status=0
+tools/tsp-status --program "$out/fake" --file "$out/hosts" >&- 2>"$out/told" || status=$?
+[ "$status" -eq 4 ] || fail "a closed output ends with status $status"
+tells 'tsp-status: standard output is closed'
+ends 4 --output "$out/none/file"
+tells "tsp-status: $out/none/file: No such file or directory"
+
+# Forty hosts of which half are dead: these cost two seconds together, and the others' clocks are asked for one after the other.
+awk 'BEGIN { for (i = 1; i <= 40; i++) printf "n%d 10.0.0.%d master\n", i, i }' >"$out/hosts"
 for i in $(seq 20); do answers "10.0.0.$i:525" 'master n1' "$i 1"; done
 began=$(date +%s)
-LONG=1
-ends 0 -c
+ends 1 -c
 took=$(($(date +%s) - began))
-[ "$took" -le 20 ] || fail "twenty hosts take $took s"
+[ "$took" -le 12 ] || fail "forty hosts take $took s"
 [ "$(grep -c ',n1,' "$out/said")" -eq 20 ] || fail 'not each of twenty hosts is reached'
-echo "$check: tables, values, silent hosts, two masters, and twenty hosts in $took s"
+[ ! -e "$BUSY-again" ] || fail 'clocks are asked for at the same time'
+
+# An interrupt ends it by the signal, without a word.
+ended=$(interrupted tools/tsp-status --program "$out/fake" --file "$out/hosts" --timeout 4)
+[ "$ended" = "(b'', b'') -2" ] || fail "an interrupt ends with $ended"
+echo "$check: tables, values, faults, a plugin's statuses, and forty hosts, half of them dead, in $took s"

@@ -14,6 +14,12 @@ for key in AmbientCapabilities CapabilityBoundingSet; do
     [ "$(says "$key")" = CAP_NET_BIND_SERVICE ] || fail "$key is '$(says "$key")'"
 done
 
+# systemd hears of the start from the main process alone, and gives it more time than names are looked up.
+[ "$(says Type)" = notify ] && [ "$(says NotifyAccess)" = main ] || fail 'systemd is told otherwise that it has started'
+says ExecStart | grep -q ' --supervise$' || fail 'nobody tells systemd'
+wait=$(says Environment | tr ' ' '\n' | sed -n 's/^TSP_WAIT=//p') limit=$(says TimeoutStartSec)
+[ "${limit%min}" -gt $((wait / 60)) ] || fail "a start is given up after $limit, and names are looked up for $wait s"
+
 # The variables of the unit and of its defaults are those that tsp-launch reads.
 {
     says Environment | tr ' ' '\n'
@@ -22,7 +28,7 @@ done
 grep -o '\${TSP_[A-Z]*' tools/tsp-launch | sed 's/^..//' | sort -u >"$out/read"
 comm -23 "$out/set" "$out/read" >"$out/unread"
 [ ! -s "$out/unread" ] || fail "tsp-launch does not read $(cat "$out/unread")"
-[ "$(wc -l <"$out/set")" -ge 5 ] || fail 'too few variables are set'
+[ "$(wc -l <"$out/set")" -ge 6 ] || fail 'too few variables are set'
 
 has systemd-analyze || { skip 'there is no systemd-analyze' "what systemd says of $unit"; exit; }
 analyze() {

@@ -1,5 +1,6 @@
 """What a schedule and its trace tell together: clocks, roles, datagrams, measurements, rounds, and what a round promises."""
-from typing import NamedTuple
+import bisect
+from typing import NamedTuple, Optional
 
 from tsp_texts import trace
 
@@ -12,6 +13,22 @@ class Span(NamedTuple):
     end: int
     value: object
     lasts: bool = False
+
+
+class Role(NamedTuple):
+    """A port's role; a follower's has the master that it follows."""
+    name: str
+    master: Optional[int] = None
+
+
+class Beside(NamedTuple):
+    """A follower's clock and its master's, as long as both are the same ones."""
+    clock: object
+    other: object
+
+    def offset(self, at):
+        """The follower's target less its master's."""
+        return self.clock.offset(at) - self.other.offset(at)
 
 
 class Sample(NamedTuple):
@@ -27,12 +44,14 @@ class Sample(NamedTuple):
 
 
 class Group(NamedTuple):
-    """The group of a Close: what clocks it has and their mean, less true time."""
+    """The group of a Close: what clocks it has, their mean and the master's own, less true time."""
     master: int
+    port: int
     at: int
     low: int
     high: int
     mean: int
+    own: int
 
 
 class Bound(NamedTuple):
@@ -77,9 +96,23 @@ class History:
 
     def clock(self, node, at):
         """The last clock that a node had at a true time, or None."""
-        found = None
-        for span in self.clocks[node]:
-            found = span.value if span.begin <= at else found
+        spans = self.clocks[node]
+        place = bisect.bisect_right([span.begin for span in spans], at)
+        return spans[place - 1].value if place else None
+
+    def beside(self, port):
+        """Spans of a port's clock beside its master's, as long as it follows one that has booted."""
+        node = port[0]
+        found = []
+        for role in self.roles.get(port, []):
+            if role.value.master is None:
+                continue
+            clocks = self.clocks[node], self.clocks[role.value.master]
+            times = sorted({role.begin, role.end} | {span.begin for spans in clocks for span in spans if role.begin < span.begin < role.end})
+            for begin, end in zip(times, times[1:]):
+                own, other = (self.clock(each, begin) for each in (node, role.value.master))
+                if own and other:
+                    found.append(Span(begin, end, Beside(own, other), role.lasts and end == role.end))
         return found
 
 
@@ -134,7 +167,7 @@ class Walk:
         port = self.port(act)
         if port in self.role:
             self.of.roles.setdefault(port, []).append(Span(self.role[port][1], act.at, self.role[port][0]))
-        self.role[port] = act.words[1], act.at
+        self.role[port] = Role(act.words[1], int(act.words[2]) if act.words[1] == 'follow' else None), act.at
         self.forget(port)
 
     def on_correct(self, act):
@@ -198,7 +231,7 @@ class Walk:
         self.closed[self.port(act)] = act.place
         _, low, width, mean = (int(word) for word in act.words[1:])
         own = self.clock[act.node].offset(act.at)
-        self.of.groups.append(Group(act.node, act.at, own + low, own + low + width, own + mean))
+        self.of.groups.append(Group(act.node, act.port, act.at, own + low, own + low + width, own + mean, own))
 
     def end(self):
         """The run has ended: what lasts lasts to its last event."""

@@ -2,22 +2,13 @@
 import os
 import shutil
 import subprocess
-import sys
 import threading
+
+from tsp_texts.tool import Fault, reason, run_tool  # noqa: F401  (tools take run_tool from here as well)
 
 
 # The program warns of a status other than 0; its tools say themselves what came of a run.
 QUIET = {'stderr': subprocess.DEVNULL}
-
-
-def run_tool(main):
-    """Runs a tool. Where nobody reads its output any more, it ends as one that the system ends for that."""
-    try:
-        main()
-        sys.stdout.flush()
-    except BrokenPipeError:
-        os.dup2(os.open(os.devnull, os.O_WRONLY), sys.stdout.fileno())
-        sys.exit(141)
 
 
 def home():
@@ -51,21 +42,56 @@ def needed(named=None):
     """The program to run; a tool that can't do without it ends here where there is none."""
     found = find(named)
     if found is None:
-        sys.exit(f'{os.path.basename(sys.argv[0])}: there is no program `tsp` in PATH; name one with --program')
+        raise Fault('there is no program `tsp` in PATH; name one with --program')
     return found
 
 
-def verdict(program, text):
-    """How `replay` ends on this text: its status, and its last line where it wrote one."""
-    last = b''
-    with subprocess.Popen([program, 'replay'], stdin=subprocess.PIPE, stdout=subprocess.PIPE, **QUIET) as run:
+class Run:
+    """A run of `replay`, which is over when it is left."""
+
+    def __init__(self, program, failed=1):
+        try:
+            self.process = subprocess.Popen([program, 'replay'], stdin=subprocess.PIPE, stdout=subprocess.PIPE, **QUIET)
+        except OSError as fault:
+            raise Fault(reason(program, fault), failed) from fault
+        self.input, self.output = self.process.stdin, self.process.stdout
+
+    def __enter__(self):
+        return self
+
+    def __exit__(self, *fault):
+        if fault[0] is not None:
+            self.process.kill()
+        for stream in (self.input, self.output):
+            try:
+                stream.close()
+            except BrokenPipeError:
+                pass
+        self.process.wait()
+
+    def status(self):
+        """Its status, once it has ended."""
+        return self.process.wait()
+
+
+class Replay(Run):
+    """A run of `replay` on a text."""
+
+    def __enter__(self):
         # (what it writes is read while it reads, so neither waits for the other)
-        feeder = threading.Thread(target=feed, args=(run.stdin, text))
-        feeder.start()
-        for last in run.stdout:
-            pass
-        feeder.join()
-    return run.returncode, last.decode('ascii', 'replace').rstrip('\n')
+        self.feeder = threading.Thread(target=feed, args=(self.input, self.text), daemon=True)
+        self.feeder.start()
+        return self
+
+    def __init__(self, program, text, failed=1):
+        super().__init__(program, failed)
+        self.text = text
+
+    def __exit__(self, *fault):
+        if fault[0] is not None:
+            self.process.kill()
+        self.feeder.join()
+        super().__exit__(*fault)
 
 
 def feed(stream, text):

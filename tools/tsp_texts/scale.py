@@ -12,6 +12,13 @@ def log_of(value):
     return math.copysign(math.log10(1 + abs(value)), value)
 
 
+def micros(value):
+    """A power of ten of microseconds with its sign and its unit, or 0."""
+    size = abs(value)
+    number, unit = (size // 10**6, 's') if size >= 10**6 else (size // 1000, 'ms') if size >= 1000 else (size, 'µs')
+    return f'{"-" if value < 0 else "+"}{number:,} {unit}' if value else '0'
+
+
 class Times:
     """Places of true times between left and right."""
 
@@ -23,26 +30,28 @@ class Times:
 
     def __call__(self, at):
         """The place of a true time; between two events it is even."""
-        place = bisect.bisect_right(self.times, at) - 1
-        if place < 0:
-            return self.left
-        if place == len(self.times) - 1:
-            return self.put(self.places[-1])
-        before, after = self.times[place], self.times[place + 1]
-        part = (at - before) / (after - before)
-        return self.put(self.places[place] + part * (self.places[place + 1] - self.places[place]))
+        return self.left + (self.right - self.left) * (self.place(at) / self.places[-1] if self.places[-1] else 0)
 
-    def put(self, place):
-        return self.left + (self.right - self.left) * (place / self.places[-1] if self.places[-1] else 0)
+    def place(self, at):
+        """The sum of the logarithms of the gaps before a true time."""
+        index = bisect.bisect_right(self.times, at) - 1
+        if index < 0:
+            return 0.0
+        if index == len(self.times) - 1:
+            return self.places[-1]
+        before, after = self.times[index], self.times[index + 1]
+        return self.places[index] + (at - before) / (after - before) * (self.places[index + 1] - self.places[index])
 
     def between(self, begin, end, apart=2.0):
         """Times from begin to end, both with them, of which no two events stand nearer than so much."""
-        found, last = [begin], self(begin)
-        low, high = bisect.bisect_right(self.times, begin), bisect.bisect_left(self.times, end)
-        for at in self.times[low:high]:
-            if self(at) - last >= apart:
-                found.append(at)
-                last = self(at)
+        found, last = [begin], self.place(begin)
+        step = apart / (self.right - self.left) * self.places[-1]
+        index, high = bisect.bisect_right(self.times, begin), bisect.bisect_left(self.times, end)
+        while index < high:
+            index = bisect.bisect_left(self.places, last + step, index, high)
+            if index < high:
+                found.append(self.times[index])
+                last, index = self.places[index], index + 1
         return found + [end] if end > begin else found
 
 
@@ -54,6 +63,12 @@ class Values:
         low, high = min(found), max(found)
         self.low, self.high = (low, high) if high - low > 0.5 else (low - 1, high + 1)
         self.top, self.bottom = top, bottom
+
+    def moved(self, top, bottom):
+        """The same values between another top and bottom."""
+        other = Values((), top, bottom)
+        other.low, other.high = self.low, self.high
+        return other
 
     def __call__(self, value):
         return self.bottom - (log_of(value) - self.low) / (self.high - self.low) * (self.bottom - self.top)

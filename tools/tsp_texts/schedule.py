@@ -2,6 +2,7 @@
 
 Times and walls are microseconds. Lines are octets without their line feed.
 """
+import itertools
 import re
 from typing import NamedTuple, Optional
 
@@ -57,21 +58,13 @@ class Schedule(NamedTuple):
     events: list
     nets: list = []
 
-    def net_of_port(self, node, port):
-        """The network that a port of a node is on."""
-        return ports_of(self.nets, node)[port]
+    def ports(self, node):
+        """The networks that a node's ports are on."""
+        return ports_of(self.nets, node)
 
     def port_on(self, node, net):
         """The port on which a node is on a network, or None."""
-        return next((port for port, other in enumerate(ports_of(self.nets, node)) if other is net), None)
-
-
-class NotASchedule(Exception):
-    """The line, counted from 1, that isn't in the grammar of its place."""
-
-    def __init__(self, line):
-        super().__init__(f'line {line} is not the one that belongs there')
-        self.line = line
+        return next((port for port, other in enumerate(self.ports(node)) if other is net), None)
 
 
 def is_short(line):
@@ -144,34 +137,15 @@ def fits(event):
 
 
 def lines_of(text):
-    """The lines of a text: each ends with a line feed, which the last may lack."""
-    lines = text.split(b'\n')
-    return lines[:-1] if lines[-1] == b'' else lines
+    """The lines of a text, one after the other: each ends with a line feed, which the last may lack."""
+    begin = 0
+    while begin < len(text):
+        end = text.find(b'\n', begin)
+        end = len(text) if end < 0 else end
+        yield text[begin:end]
+        begin = end + 1
 
 
-def read(path):
-    """Reads a file that is a schedule by its grammar; the faults of events aren't looked for."""
-    with open(path, 'rb') as file:
-        lines = lines_of(file.read())
-    drift = drift_of(lines[1]) if len(lines) > 1 else None
-    if not lines or lines[0] not in TITLES or drift is None:
-        raise NotASchedule(1 if not lines or lines[0] not in TITLES else 2)
-    strict = TITLES[lines[0]]
-    if strict and lines[2:3] != [b'strict']:
-        raise NotASchedule(3)
-    nodes, nets, events = [], [], []
-    first = 4 if strict else 3
-    for number, line in enumerate(lines[first - 1:], start=first):
-        if line == b'end' and is_whole(nodes, nets):
-            return Schedule(strict, drift, nodes, events, nets)
-        if not events and line.startswith(b'node ') and not nets:
-            found, value = nodes, node_of(line, drift)
-        elif not events and line.startswith(b'net '):
-            found, value = nets, net_of(line)
-            value = value if value and takes_net(nodes, nets, value) else None
-        else:
-            found, value = events, event_of(line) if is_whole(nodes, nets) else None
-        if value is None:
-            raise NotASchedule(number)
-        found.append(value)
-    raise NotASchedule(len(lines) + 1)
+def line_at(text, number):
+    """A line of a text, counted from 1, or None where there are fewer."""
+    return next(itertools.islice(lines_of(text), number - 1, None), None)

@@ -26,19 +26,6 @@ class Post(NamedTuple):
     message: list
 
 
-def read(path, schedule):
-    """The acts of a trace of this schedule."""
-    acts = []
-    with open(path, 'rb') as file:
-        for line in file:
-            words = line.decode('ascii').split()
-            if len(words) < 5 or words[0] in ('bad', 'limit'):
-                break
-            event, node, port, tick = (int(word) for word in words[:4])
-            acts.append(Act(len(acts), event, node, port, tick, schedule.events[event - 1].at, words[4:]))
-    return acts
-
-
 def post_of(act):
     """The post that an act is."""
     return Post(act, None if act.words[2] == '-' else int(act.words[2]), act.words[3:])

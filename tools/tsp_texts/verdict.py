@@ -2,6 +2,7 @@
 
 What it doesn't know is how many datagrams were posted, so it says nothing of the number of a take.
 """
+import itertools
 from typing import NamedTuple, Optional
 
 from tsp_texts import hints, schedule
@@ -24,7 +25,7 @@ class Reader:
 
     def __init__(self):
         self.strict, self.drift, self.nodes, self.nets = False, None, [], []
-        self.events, self.time, self.up = 0, 0, set()
+        self.events, self.happened, self.time, self.up = 0, [], 0, set()
         self.number, self.ended, self.stopped = 0, False, False
 
     def line(self, line):
@@ -110,6 +111,7 @@ class Reader:
             self.stopped = True
             return Fault(self.number, None, 0, f'there are {schedule.MOST_EVENTS} events, and no more are taken')
         self.time = event.at
+        self.happened.append(event)
         if event.kind == 'boot':
             self.up.add(event.node)
         return None
@@ -124,16 +126,32 @@ class Reader:
         return None if self.ended else Fault(self.number, 'no-end', 0, 'the last line is `end`, and it is missing')
 
 
-def faults_of(text):
-    """The faults of a text, the first first. Behind a fault of the header, nothing is looked at."""
-    reader, found = Reader(), []
+class NotASchedule(Exception):
+    """The first fault of a text that isn't a schedule."""
+
+    def __init__(self, fault):
+        super().__init__(f'line {fault.line}: {fault.hint}')
+
+
+def faults_of(text, reader=None):
+    """The faults of a text, one after the other. Behind a fault of the header, nothing is looked at."""
+    reader = reader or Reader()
     last = text[:schedule.MOST_OCTETS].count(b'\n') if len(text) > schedule.MOST_OCTETS else None
-    for line in schedule.lines_of(text)[:last]:
+    for line in itertools.islice(schedule.lines_of(text), last):
         fault = reader.line(line)
-        found += [fault] if fault else []
+        if fault:
+            yield fault
         if reader.stopped:
-            return found
-    if last is not None:
-        return found + [Fault(last + 1, None, 0, f'the input has more than {schedule.MOST_OCTETS} octets')]
-    fault = reader.end()
-    return found + ([fault] if fault else [])
+            return
+    fault = reader.end() if last is None else Fault(last + 1, None, 0, f'the input has more than {schedule.MOST_OCTETS} octets')
+    if fault:
+        yield fault
+
+
+def read(text):
+    """The schedule that a text is, whose takes aren't looked at."""
+    reader = Reader()
+    fault = next(faults_of(text, reader), None)
+    if fault:
+        raise NotASchedule(fault)
+    return schedule.Schedule(reader.strict, reader.drift, reader.nodes, reader.happened, reader.nets)

@@ -1,7 +1,7 @@
 //! The time of a master's rounds over the number of its network's peers.
 //!
-//! Standard output has how many rounds closed. Standard error has, for each number of peers, the nanoseconds of a
-//! round, and how they grew beside n log n, in hundredths.
+//! Standard output has how many rounds closed. Standard error has, for each number of peers, the
+//! nanoseconds of a round, and how they grew beside n log n, in hundredths.
 #![tactic(auto)]
 
 mod network;

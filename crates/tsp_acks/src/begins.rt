@@ -25,19 +25,27 @@ use tsp_base::place::{PeerId, Place, Port};
 impl Station {
     ghost use Rattle.tsp_acks.specs.Stands.{StandsActing, own_number};
 
-    /// Begins an ELECTION, a CONFLICT or a QUIT to one of the peers, with the port's next own number; it
-    /// replaces the send that is open to that peer. In this step an alarm has rung or come late, or a datagram
-    /// was taken.
+    /// Begins an ELECTION, a CONFLICT or a QUIT to one of the peers, with the port's next own
+    /// number; it replaces the send that is open to that peer. In this step an alarm has rung or
+    /// come late, or a datagram was taken.
     pub fn begin<D: Desk>(&mut self, kind: Kind, p: PeerId, tick: u64, port: Port, desk: &mut D)
         requires room { 1 ≤ D.spare desk.old }
         requires kind { is_bare_send kind ≡ true }
         requires peer { Contains self.old.peers p }
         requires tick { IsTick tick }
-        ensures row { Performs StandsActing StandsActing (begins kind p) tick port (self.old, tt) (self.new, tt) (D.acts desk.old) (D.acts desk.new) }
-        ensures sends { SetsOnly p (Some (record { began = tick; posts = 1; message = bare kind (own_number self.old) self.old.me.name })) self.old.sends self.new.sends }
+        ensures row { Performs StandsActing StandsActing (begins kind p) tick port (self.old, tt)
+            (self.new, tt) (D.acts desk.old) (D.acts desk.new) }
+        ensures sends { SetsOnly p
+            (Some (record {
+              began = tick;
+              posts = 1;
+              message = bare kind (own_number self.old)
+                  self.old.me.name;
+            })) self.old.sends self.new.sends }
         ensures rest { ChangesSends self.old self.new }
         ensures begun { self.new.begun ≡ (self.old.begun + 1) % 32768 }
-        ensures room { PutsExactly 1 (D.spare desk.old) (D.spare desk.new) (D.acts desk.old) (D.acts desk.new) }
+        ensures room { PutsExactly 1 (D.spare desk.old) (D.spare desk.new) (D.acts desk.old)
+            (D.acts desk.new) }
     {
         let message = Message::new(kind, self.next_number(), Body::Nothing, self.me.name.copy());
         self.open(p, message, tick, port, desk);
@@ -58,11 +66,19 @@ impl Station {
         requires kind { is_set_date_request kind ≡ true }
         requires peer { Contains self.old.peers p }
         requires tick { IsTick tick }
-        ensures row { Performs StandsActing StandsActing (begins_timed kind p time) tick port (self.old, tt) (self.new, tt) (D.acts desk.old) (D.acts desk.new) }
-        ensures sends { SetsOnly p (Some (record { began = tick; posts = 1; message = timed kind (own_number self.old) time self.old.me.name })) self.old.sends self.new.sends }
+        ensures row { Performs StandsActing StandsActing (begins_timed kind p time) tick port
+            (self.old, tt) (self.new, tt) (D.acts desk.old) (D.acts desk.new) }
+        ensures sends { SetsOnly p
+            (Some (record {
+              began = tick;
+              posts = 1;
+              message = timed kind (own_number self.old) time
+                  self.old.me.name;
+            })) self.old.sends self.new.sends }
         ensures rest { ChangesSends self.old self.new }
         ensures begun { self.new.begun ≡ (self.old.begun + 1) % 32768 }
-        ensures room { PutsExactly 1 (D.spare desk.old) (D.spare desk.new) (D.acts desk.old) (D.acts desk.new) }
+        ensures room { PutsExactly 1 (D.spare desk.old) (D.spare desk.new) (D.acts desk.old)
+            (D.acts desk.new) }
     {
         let message = Message::new(
             kind,
@@ -91,11 +107,19 @@ impl Station {
         requires kind { is_correction kind ≡ true }
         requires peer { Contains self.old.peers p }
         requires tick { IsTick tick }
-        ensures row { Performs StandsActing StandsActing (posts_time p kind number time) tick port (self.old, tt) (self.new, tt) (D.acts desk.old) (D.acts desk.new) }
-        ensures sends { SetsOnly p (Some (record { began = tick; posts = 1; message = timed kind number time self.old.me.name })) self.old.sends self.new.sends }
+        ensures row { Performs StandsActing StandsActing (posts_time p kind number time) tick port
+            (self.old, tt) (self.new, tt) (D.acts desk.old) (D.acts desk.new) }
+        ensures sends { SetsOnly p
+            (Some (record {
+              began = tick;
+              posts = 1;
+              message = timed kind number time
+                  self.old.me.name;
+            })) self.old.sends self.new.sends }
         ensures rest { ChangesSends self.old self.new }
         ensures begun { self.new.begun ≡ self.old.begun }
-        ensures room { PutsExactly 1 (D.spare desk.old) (D.spare desk.new) (D.acts desk.old) (D.acts desk.new) }
+        ensures room { PutsExactly 1 (D.spare desk.old) (D.spare desk.new) (D.acts desk.old)
+            (D.acts desk.new) }
     {
         let message = Message::new(kind, number, Body::Time(time), self.me.name.copy());
         self.open(p, message, tick, port, desk);
@@ -106,9 +130,11 @@ impl Station {
         requires room { length self.old.peers ≤ D.spare desk.old }
         requires kind { is_bare_send kind ≡ true }
         requires tick { IsTick tick }
-        ensures row { Performs StandsActing StandsActing (begins_to_others kind) tick port (self.old, tt) (self.new, tt) (D.acts desk.old) (D.acts desk.new) }
+        ensures row { Performs StandsActing StandsActing (begins_to_others kind) tick port
+            (self.old, tt) (self.new, tt) (D.acts desk.old) (D.acts desk.new) }
         ensures rest { ChangesSends self.old self.new }
-        ensures room { PutsAtMost (length self.old.peers) (D.spare desk.old) (D.spare desk.new) (D.acts desk.old) (D.acts desk.new) }
+        ensures room { PutsAtMost (length self.old.peers) (D.spare desk.old) (D.spare desk.new)
+            (D.acts desk.old) (D.acts desk.new) }
     {
         for place in 0..self.peers.as_slice().len() {
             let p = self.peers.as_slice()[place];
@@ -123,11 +149,14 @@ impl Station {
         requires room { 1 ≤ D.spare desk.old }
         requires peer { Contains self.old.peers p }
         requires tick { IsTick tick }
-        ensures acts { D.acts desk.new ≡ D.acts desk.old ++ placed port (Post (Peer p) (MessageOf message) ∷ []) }
-        ensures sends { SetsOnly p (Some (record { began = tick; posts = 1; message = message })) self.old.sends self.new.sends }
+        ensures acts { D.acts desk.new ≡ D.acts desk.old ++ placed port
+            (Post (Peer p) (MessageOf message) ∷ []) }
+        ensures sends { SetsOnly p (Some (record { began = tick; posts = 1; message = message }))
+            self.old.sends self.new.sends }
         ensures rest { ChangesSends self.old self.new }
         ensures begun { self.new.begun ≡ self.old.begun }
-        ensures room { PutsExactly 1 (D.spare desk.old) (D.spare desk.new) (D.acts desk.old) (D.acts desk.new) }
+        ensures room { PutsExactly 1 (D.spare desk.old) (D.spare desk.new) (D.acts desk.old)
+            (D.acts desk.new) }
     {
         let datagram = Datagram::Message(message.copy());
         desk.put(port, Act::Post(Place::Peer(p), datagram));

@@ -28,9 +28,14 @@ impl Station {
     pub fn arm<D: Desk>(&mut self, alarm: Alarm, tick: u64, long: u64, port: Port, desk: &mut D)
         requires room { 1 ≤ D.spare desk.old }
         requires end { tick + long < 2 ^ 64 }
-        ensures row { Performs Stands Stands (arms alarm long) tick port self.old self.new (D.acts desk.old) (D.acts desk.new) }
-        ensures station { self.new ≡ record self.old { alarms = with_deadline self.old.alarms alarm (Some (tick + long)) } }
-        ensures room { PutsExactly 1 (D.spare desk.old) (D.spare desk.new) (D.acts desk.old) (D.acts desk.new) }
+        ensures row { Performs Stands Stands (arms alarm long) tick port self.old self.new
+            (D.acts desk.old) (D.acts desk.new) }
+        ensures station { self.new ≡ record self.old {
+          alarms = with_deadline self.old.alarms alarm
+              (Some (tick + long));
+        } }
+        ensures room { PutsExactly 1 (D.spare desk.old) (D.spare desk.new) (D.acts desk.old)
+            (D.acts desk.new) }
     {
         let at = tick + long;
         desk.put(port, Act::Arm(alarm, at));
@@ -40,9 +45,14 @@ impl Station {
     /// Rings an alarm that is in time, which turns it off.
     pub fn ring<D: Desk>(&mut self, alarm: Alarm, port: Port, desk: &mut D)
         requires room { 1 ≤ D.spare desk.old }
-        ensures row { (x : ℕ) → Performs Stands Stands (puts (Ring alarm)) x port self.old self.new (D.acts desk.old) (D.acts desk.new) }
-        ensures station { self.new ≡ record self.old { alarms = with_deadline self.old.alarms alarm None } }
-        ensures room { PutsExactly 1 (D.spare desk.old) (D.spare desk.new) (D.acts desk.old) (D.acts desk.new) }
+        ensures row { (x : ℕ) → Performs Stands Stands (puts (Ring alarm)) x port self.old self.new
+            (D.acts desk.old) (D.acts desk.new) }
+        ensures station { self.new ≡ record self.old {
+          alarms = with_deadline self.old.alarms alarm
+              None;
+        } }
+        ensures room { PutsExactly 1 (D.spare desk.old) (D.spare desk.new) (D.acts desk.old)
+            (D.acts desk.new) }
     {
         desk.put(port, Act::Ring(alarm));
         self.alarms.off(alarm);
@@ -51,9 +61,14 @@ impl Station {
     /// Finds that an alarm is met too late, which turns it off.
     pub fn late<D: Desk>(&mut self, alarm: Alarm, port: Port, desk: &mut D)
         requires room { 1 ≤ D.spare desk.old }
-        ensures row { (x : ℕ) → Performs Stands Stands (puts (Late alarm)) x port self.old self.new (D.acts desk.old) (D.acts desk.new) }
-        ensures station { self.new ≡ record self.old { alarms = with_deadline self.old.alarms alarm None } }
-        ensures room { PutsExactly 1 (D.spare desk.old) (D.spare desk.new) (D.acts desk.old) (D.acts desk.new) }
+        ensures row { (x : ℕ) → Performs Stands Stands (puts (Late alarm)) x port self.old self.new
+            (D.acts desk.old) (D.acts desk.new) }
+        ensures station { self.new ≡ record self.old {
+          alarms = with_deadline self.old.alarms alarm
+              None;
+        } }
+        ensures room { PutsExactly 1 (D.spare desk.old) (D.spare desk.new) (D.acts desk.old)
+            (D.acts desk.new) }
     {
         desk.put(port, Act::Late(alarm));
         self.alarms.off(alarm);
@@ -62,9 +77,12 @@ impl Station {
     /// Gives up a round: no more probes, and no close.
     pub fn abandon<D: Desk>(&mut self, port: Port, desk: &mut D)
         requires room { 1 ≤ D.spare desk.old }
-        ensures row { (x : ℕ) → Performs Stands Stands (puts Abandon) x port self.old self.new (D.acts desk.old) (D.acts desk.new) }
-        ensures station { self.new ≡ record self.old { alarms = with_deadline (with_deadline self.old.alarms Probe None) Close None } }
-        ensures room { PutsExactly 1 (D.spare desk.old) (D.spare desk.new) (D.acts desk.old) (D.acts desk.new) }
+        ensures row { (x : ℕ) → Performs Stands Stands (puts Abandon) x port self.old self.new
+            (D.acts desk.old) (D.acts desk.new) }
+        ensures station { self.new ≡ record self.old
+            { alarms = with_deadline (with_deadline self.old.alarms Probe None) Close None } }
+        ensures room { PutsExactly 1 (D.spare desk.old) (D.spare desk.new) (D.acts desk.old)
+            (D.acts desk.new) }
     {
         desk.put(port, Act::Abandon);
         self.alarms.off(Alarm::Probe);
@@ -76,7 +94,8 @@ impl Station {
     pub fn become_role<D: Desk>(&mut self, role: Role, port: Port, desk: &mut D)
         requires room { 1 ≤ D.spare desk.old }
         requires peer { follows_among role self.old.peers ≡ true }
-        ensures row { (x : ℕ) → Performs Stands Stands (puts (Become role)) x port self.old self.new (D.acts desk.old) (D.acts desk.new) }
+        ensures row { (x : ℕ) → Performs Stands Stands (puts (Become role)) x port self.old self.new
+            (D.acts desk.old) (D.acts desk.new) }
         ensures me { self.new.me ≡ self.old.me }
         ensures hold { self.new.hold ≡ self.old.hold }
         ensures begun { self.new.begun ≡ self.old.begun }
@@ -85,7 +104,8 @@ impl Station {
         ensures role { self.new.role ≡ role }
         ensures alarms { self.new.alarms ≡ none_armed }
         ensures sends { (p : PeerId) → sending_to self.new.sends p ≡ None }
-        ensures room { PutsExactly 1 (D.spare desk.old) (D.spare desk.new) (D.acts desk.old) (D.acts desk.new) }
+        ensures room { PutsExactly 1 (D.spare desk.old) (D.spare desk.new) (D.acts desk.old)
+            (D.acts desk.new) }
     {
         desk.put(port, Act::Become(role));
         self.role = role;
@@ -97,9 +117,11 @@ impl Station {
     /// Backs a candidate.
     pub fn back<D: Desk>(&mut self, p: PeerId, tick: u64, port: Port, desk: &mut D)
         requires room { 1 ≤ D.spare desk.old }
-        ensures row { Performs Stands Stands (puts (Back p)) tick port self.old self.new (D.acts desk.old) (D.acts desk.new) }
+        ensures row { Performs Stands Stands (puts (Back p)) tick port self.old self.new
+            (D.acts desk.old) (D.acts desk.new) }
         ensures station { self.new ≡ record self.old { hold = record self.old.hold { back = Some (tick, p) } } }
-        ensures room { PutsExactly 1 (D.spare desk.old) (D.spare desk.new) (D.acts desk.old) (D.acts desk.new) }
+        ensures room { PutsExactly 1 (D.spare desk.old) (D.spare desk.new) (D.acts desk.old)
+            (D.acts desk.new) }
     {
         desk.put(port, Act::Back(p));
         self.hold.back(tick, p);
@@ -108,9 +130,14 @@ impl Station {
     /// Counts a peer among those that back this candidature.
     pub fn count_backer<D: Desk>(&mut self, p: PeerId, port: Port, desk: &mut D)
         requires room { 1 ≤ D.spare desk.old }
-        ensures row { (x : ℕ) → Performs Stands Stands (puts (Backer p)) x port self.old self.new (D.acts desk.old) (D.acts desk.new) }
-        ensures station { self.new ≡ record self.old { backers = min (self.old.backers + 1) 4294967295 } }
-        ensures room { PutsExactly 1 (D.spare desk.old) (D.spare desk.new) (D.acts desk.old) (D.acts desk.new) }
+        ensures row { (x : ℕ) → Performs Stands Stands (puts (Backer p)) x port self.old self.new
+            (D.acts desk.old) (D.acts desk.new) }
+        ensures station { self.new ≡ record self.old {
+          backers = min (self.old.backers + 1)
+              4294967295;
+        } }
+        ensures room { PutsExactly 1 (D.spare desk.old) (D.spare desk.new) (D.acts desk.old)
+            (D.acts desk.new) }
     {
         desk.put(port, Act::Backer(p));
         self.backers = self.backers.saturating_add(1);
@@ -119,9 +146,11 @@ impl Station {
     /// Notes that a peer asked this node to stop leading.
     pub fn quit<D: Desk>(&mut self, p: PeerId, tick: u64, port: Port, desk: &mut D)
         requires room { 1 ≤ D.spare desk.old }
-        ensures row { Performs Stands Stands (puts (Quit p)) tick port self.old self.new (D.acts desk.old) (D.acts desk.new) }
+        ensures row { Performs Stands Stands (puts (Quit p)) tick port self.old self.new
+            (D.acts desk.old) (D.acts desk.new) }
         ensures station { self.new ≡ record self.old { hold = record self.old.hold { quit = Some tick } } }
-        ensures room { PutsExactly 1 (D.spare desk.old) (D.spare desk.new) (D.acts desk.old) (D.acts desk.new) }
+        ensures room { PutsExactly 1 (D.spare desk.old) (D.spare desk.new) (D.acts desk.old)
+            (D.acts desk.new) }
     {
         desk.put(port, Act::Quit(p));
         self.hold.quit(tick);
@@ -138,9 +167,14 @@ impl Station {
     pub fn arm_elect<D: Desk>(&mut self, tick: u64, port: Port, desk: &mut D)
         requires room { 1 ≤ D.spare desk.old }
         requires tick { IsTick tick }
-        ensures row { Performs Stands Stands arms_elect tick port self.old self.new (D.acts desk.old) (D.acts desk.new) }
-        ensures station { self.new ≡ record self.old { alarms = with_deadline self.old.alarms Elect (Some (tick + delay self.old.me.word)) } }
-        ensures room { PutsExactly 1 (D.spare desk.old) (D.spare desk.new) (D.acts desk.old) (D.acts desk.new) }
+        ensures row { Performs Stands Stands arms_elect tick port self.old self.new
+            (D.acts desk.old) (D.acts desk.new) }
+        ensures station { self.new ≡ record self.old {
+          alarms = with_deadline self.old.alarms Elect
+              (Some (tick + delay self.old.me.word));
+        } }
+        ensures room { PutsExactly 1 (D.spare desk.old) (D.spare desk.new) (D.acts desk.old)
+            (D.acts desk.new) }
     {
         let delay = self.delay();
         self.arm(Alarm::Elect, tick, delay, port, desk);

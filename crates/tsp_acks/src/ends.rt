@@ -21,17 +21,22 @@ use tsp_base::place::{PeerId, Port};
 impl Station {
     ghost use Rattle.tsp_acks.specs.Stands.{Stands};
 
-    /// Ends the ELECTION that is open to a peer, where it has this number, and tells whether it has: an ACCEPT
-    /// or a REFUSE answers it.
+    /// Ends the ELECTION that is open to a peer, where it has this number, and tells whether it
+    /// has: an ACCEPT or a REFUSE answers it.
     pub fn answered<D: Desk>(&mut self, p: PeerId, number: u16, port: Port, desk: &mut D) -> bool
         requires room { 1 ≤ D.spare desk.old }
-        ensures test { (x : ℕ) (past : Past) → Stands past self.old → has_election p number x past ≡ result }
-        ensures row { result ≡ true → (x : ℕ) → Performs Stands Stands (puts (Acked p)) x port self.old self.new (D.acts desk.old) (D.acts desk.new) }
-        ensures sends { MatchBool result (SetsOnly p None self.old.sends self.new.sends) (self.new ≡ self.old) }
+        ensures test { (x : ℕ) (past : Past) → Stands past self.old
+            → has_election p number x past ≡ result }
+        ensures row { result ≡ true → (x : ℕ)
+            → Performs Stands Stands (puts (Acked p)) x port self.old self.new (D.acts desk.old)
+            (D.acts desk.new) }
+        ensures sends { MatchBool result (SetsOnly p None self.old.sends self.new.sends)
+            (self.new ≡ self.old) }
         ensures same { result ≡ false → D.acts desk.new ≡ D.acts desk.old }
         ensures rest { ChangesSends self.old self.new }
         ensures begun { self.new.begun ≡ self.old.begun }
-        ensures room { PutsExactly (if result then 1 else 0) (D.spare desk.old) (D.spare desk.new) (D.acts desk.old) (D.acts desk.new) }
+        ensures room { PutsExactly (if result then 1 else 0) (D.spare desk.old) (D.spare desk.new)
+            (D.acts desk.old) (D.acts desk.new) }
     {
         let asks = is_election(self.sends.kind(p));
         self.end(asks, p, number, port, desk)
@@ -41,13 +46,18 @@ impl Station {
     /// DATEACK answers it.
     pub fn dated<D: Desk>(&mut self, p: PeerId, number: u16, port: Port, desk: &mut D) -> bool
         requires room { 1 ≤ D.spare desk.old }
-        ensures test { (x : ℕ) (past : Past) → Stands past self.old → has_date p number x past ≡ result }
-        ensures row { result ≡ true → (x : ℕ) → Performs Stands Stands (puts (Acked p)) x port self.old self.new (D.acts desk.old) (D.acts desk.new) }
-        ensures sends { MatchBool result (SetsOnly p None self.old.sends self.new.sends) (self.new ≡ self.old) }
+        ensures test { (x : ℕ) (past : Past) → Stands past self.old
+            → has_date p number x past ≡ result }
+        ensures row { result ≡ true → (x : ℕ)
+            → Performs Stands Stands (puts (Acked p)) x port self.old self.new (D.acts desk.old)
+            (D.acts desk.new) }
+        ensures sends { MatchBool result (SetsOnly p None self.old.sends self.new.sends)
+            (self.new ≡ self.old) }
         ensures same { result ≡ false → D.acts desk.new ≡ D.acts desk.old }
         ensures rest { ChangesSends self.old self.new }
         ensures begun { self.new.begun ≡ self.old.begun }
-        ensures room { PutsExactly (if result then 1 else 0) (D.spare desk.old) (D.spare desk.new) (D.acts desk.old) (D.acts desk.new) }
+        ensures room { PutsExactly (if result then 1 else 0) (D.spare desk.old) (D.spare desk.new)
+            (D.acts desk.old) (D.acts desk.new) }
     {
         let passes_on = is_date(self.sends.kind(p));
         self.end(passes_on, p, number, port, desk)
@@ -57,13 +67,17 @@ impl Station {
     /// ELECTION and a SETDATEREQ are passed over: they have answers of their own.
     pub fn acknowledge<D: Desk>(&mut self, p: PeerId, number: u16, port: Port, desk: &mut D) -> bool
         requires room { 1 ≤ D.spare desk.old }
-        ensures test { (x : ℕ) (past : Past) → Stands past self.old → has_other p number x past ≡ result }
-        ensures row { (x : ℕ) → Performs Stands Stands (acknowledges p number) x port self.old self.new (D.acts desk.old) (D.acts desk.new) }
-        ensures sends { MatchBool result (SetsOnly p None self.old.sends self.new.sends) (self.new ≡ self.old) }
+        ensures test { (x : ℕ) (past : Past) → Stands past self.old
+            → has_other p number x past ≡ result }
+        ensures row { (x : ℕ) → Performs Stands Stands (acknowledges p number) x port self.old
+            self.new (D.acts desk.old) (D.acts desk.new) }
+        ensures sends { MatchBool result (SetsOnly p None self.old.sends self.new.sends)
+            (self.new ≡ self.old) }
         ensures same { result ≡ false → D.acts desk.new ≡ D.acts desk.old }
         ensures rest { ChangesSends self.old self.new }
         ensures begun { self.new.begun ≡ self.old.begun }
-        ensures room { PutsExactly (if result then 1 else 0) (D.spare desk.old) (D.spare desk.new) (D.acts desk.old) (D.acts desk.new) }
+        ensures room { PutsExactly (if result then 1 else 0) (D.spare desk.old) (D.spare desk.new)
+            (D.acts desk.old) (D.acts desk.new) }
     {
         let waits = ends_by_ack(self.sends.kind(p));
         self.end(waits, p, number, port, desk)
@@ -74,12 +88,16 @@ impl Station {
     fn end<D: Desk>(&mut self, fits: bool, p: PeerId, number: u16, port: Port, desk: &mut D) -> bool
         requires room { 1 ≤ D.spare desk.old }
         ensures ends { result ≡ (fits && has_number number (sending_to self.old.sends p)) }
-        ensures row { result ≡ true → (x : ℕ) → Performs Stands Stands (puts (Acked p)) x port self.old self.new (D.acts desk.old) (D.acts desk.new) }
-        ensures sends { MatchBool result (SetsOnly p None self.old.sends self.new.sends) (self.new ≡ self.old) }
+        ensures row { result ≡ true → (x : ℕ)
+            → Performs Stands Stands (puts (Acked p)) x port self.old self.new (D.acts desk.old)
+            (D.acts desk.new) }
+        ensures sends { MatchBool result (SetsOnly p None self.old.sends self.new.sends)
+            (self.new ≡ self.old) }
         ensures same { result ≡ false → D.acts desk.new ≡ D.acts desk.old }
         ensures rest { ChangesSends self.old self.new }
         ensures begun { self.new.begun ≡ self.old.begun }
-        ensures room { PutsExactly (if result then 1 else 0) (D.spare desk.old) (D.spare desk.new) (D.acts desk.old) (D.acts desk.new) }
+        ensures room { PutsExactly (if result then 1 else 0) (D.spare desk.old) (D.spare desk.new)
+            (D.acts desk.old) (D.acts desk.new) }
     {
         if !fits {
             return false;

@@ -22,8 +22,10 @@ impl Station {
     pub fn post_back<D: Desk>(&self, to: Place, kind: Kind, number: u16, port: Port, desk: &mut D)
         requires room { 1 ≤ D.spare desk.old }
         requires plain { is_plain kind ≡ true }
-        ensures row { (x : ℕ) → Performs Stands Stands (posts_back to kind number) x port self.now self.now (D.acts desk.old) (D.acts desk.new) }
-        ensures room { PutsExactly 1 (D.spare desk.old) (D.spare desk.new) (D.acts desk.old) (D.acts desk.new) }
+        ensures row { (x : ℕ) → Performs Stands Stands (posts_back to kind number) x port self.now
+            self.now (D.acts desk.old) (D.acts desk.new) }
+        ensures room { PutsExactly 1 (D.spare desk.old) (D.spare desk.new) (D.acts desk.old)
+            (D.acts desk.new) }
     {
         let message = Message::new(kind, number, Body::Nothing, self.me.name.copy());
         desk.put(port, Act::Post(to, Datagram::Message(message)));
@@ -33,9 +35,12 @@ impl Station {
     pub fn post<D: Desk>(&self, p: PeerId, kind: Kind, number: u16, port: Port, desk: &mut D)
         requires room { 1 ≤ D.spare desk.old }
         requires plain { is_plain kind ≡ true }
-        ensures acts { D.acts desk.new ≡ D.acts desk.old ++ placed port (post_of kind number self.now.me.name p ∷ []) }
-        ensures row { (x : ℕ) → Performs Stands Stands (posts p kind number) x port self.now self.now (D.acts desk.old) (D.acts desk.new) }
-        ensures room { PutsExactly 1 (D.spare desk.old) (D.spare desk.new) (D.acts desk.old) (D.acts desk.new) }
+        ensures acts { D.acts desk.new ≡ D.acts desk.old ++ placed port
+            (post_of kind number self.now.me.name p ∷ []) }
+        ensures row { (x : ℕ) → Performs Stands Stands (posts p kind number) x port self.now
+            self.now (D.acts desk.old) (D.acts desk.new) }
+        ensures room { PutsExactly 1 (D.spare desk.old) (D.spare desk.new) (D.acts desk.old)
+            (D.acts desk.new) }
     {
         let message = Message::new(kind, number, Body::Nothing, self.me.name.copy());
         desk.put(port, Act::Post(Place::Peer(p), Datagram::Message(message)));
@@ -45,8 +50,10 @@ impl Station {
     pub fn post_to_others<D: Desk>(&self, kind: Kind, number: u16, port: Port, desk: &mut D)
         requires room { length self.now.peers ≤ D.spare desk.old }
         requires plain { is_plain kind ≡ true }
-        ensures row { (x : ℕ) → Performs Stands Stands (posts_to_others kind number) x port self.now self.now (D.acts desk.old) (D.acts desk.new) }
-        ensures room { PutsAtMost (length self.now.peers) (D.spare desk.old) (D.spare desk.new) (D.acts desk.old) (D.acts desk.new) }
+        ensures row { (x : ℕ) → Performs Stands Stands (posts_to_others kind number) x port self.now
+            self.now (D.acts desk.old) (D.acts desk.new) }
+        ensures room { PutsAtMost (length self.now.peers) (D.spare desk.old) (D.spare desk.new)
+            (D.acts desk.old) (D.acts desk.new) }
     {
         for p in self.peers.as_slice() {
             if p.0 != self.me.own.0 {

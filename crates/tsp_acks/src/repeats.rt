@@ -29,13 +29,17 @@ impl Station {
     ) -> Option<Due>
         requires room { 1 ≤ D.spare desk.old }
         requires tick { IsTick tick }
-        ensures next { IfSome result (λ due. Contains self.old.peers (peer_of due) × IsAfter after (peer_of due)) }
+        ensures next { IfSome result (λ due. Contains self.old.peers (peer_of due)
+            × IsAfter after (peer_of due)) }
         ensures sends { RepeatsNext after tick self.old.sends self.new.sends result }
-        ensures row { IfSome result (λ due. Performs StandsStill StandsStill (bare_send (peer_of due)) tick port (self.old, tt) (self.new, tt) (D.acts desk.old) (D.acts desk.new)) }
+        ensures row { IfSome result (λ due. Performs StandsStill StandsStill
+            (bare_send (peer_of due)) tick port (self.old, tt) (self.new, tt) (D.acts desk.old)
+            (D.acts desk.new)) }
         ensures same { IfNone result ((self.new ≡ self.old) × (desk.new ≡ desk.old)) }
         ensures rest { ChangesSends self.old self.new }
         ensures begun { self.new.begun ≡ self.old.begun }
-        ensures room { PutsExactly (if is_some result then 1 else 0) (D.spare desk.old) (D.spare desk.new) (D.acts desk.old) (D.acts desk.new) }
+        ensures room { PutsExactly (if is_some result then 1 else 0) (D.spare desk.old)
+            (D.spare desk.new) (D.acts desk.old) (D.acts desk.new) }
     {
         let due = self.sends.due(after, tick)?;
         match &due {

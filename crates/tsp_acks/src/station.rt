@@ -52,7 +52,8 @@ impl Station {
     pub fn new(alloc: Global, me: Me, peers: &[PeerId], tick: u64) -> Result<Station, AllocError>
         requires { IsPeers peers.now }
         ensures station { IfOk result (λ s. IsFresh me peers.now tick s) }
-        ensures stands { IfOk result (λ s. (past : Past) (wall : ℤ) → IsPortOf me peers.now past → past.step.cause ≡ Booted me.word wall → Stands (grown tick past (Boot ∷ [])) s) }
+        ensures stands { IfOk result (λ s. (past : Past) (wall : ℤ) → IsPortOf me peers.now past
+            → past.step.cause ≡ Booted me.word wall → Stands (grown tick past (Boot ∷ [])) s) }
     {
         let sends = Sends::new(alloc, peers)?;
         let peers = Peers::new(alloc, peers)?;

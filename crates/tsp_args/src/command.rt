@@ -50,8 +50,10 @@ fn lone_command(word: &str) -> Option<Command>
 fn other_command(word: &str, rest: &[String]) -> Option<Command>
     requires serve { word.now ≢ codes "serve" }
     requires storm { word.now ≢ codes "storm" }
-    ensures found { IfSome result (λ c. IsCommand c × (word.now ∷ map string_bytes rest.now ≡ words_of c)) }
-    ensures reads { (c : Command) → IsCommand c → word.now ∷ map string_bytes rest.now ≡ words_of c → result ≡ Some c }
+    ensures found { IfSome result (λ c. IsCommand c
+        × (word.now ∷ map string_bytes rest.now ≡ words_of c)) }
+    ensures reads { (c : Command) → IsCommand c → word.now ∷ map string_bytes rest.now ≡ words_of c
+        → result ≡ Some c }
 {
     match rest {
         [] => lone_command(word),
@@ -67,8 +69,10 @@ fn other_command(word: &str, rest: &[String]) -> Option<Command>
 ///
 /// The call fails only where memory is refused.
 pub fn command_of(alloc: Global, words: &[String]) -> Result<Option<Command>, AllocError>
-    ensures reads { IfOk result (λ r. MatchOption r (IsNoCommand (map string_bytes words.now)) (λ c. IsCommand c × (map string_bytes words.now ≡ words_of c))) }
-    ensures one { (c : Command) → IsCommand c → map string_bytes words.now ≡ words_of c → IfOk result (λ r. r ≡ Some c) }
+    ensures reads { IfOk result (λ r. MatchOption r (IsNoCommand (map string_bytes words.now))
+        (λ c. IsCommand c × (map string_bytes words.now ≡ words_of c))) }
+    ensures one { (c : Command) → IsCommand c → map string_bytes words.now ≡ words_of c
+        → IfOk result (λ r. r ≡ Some c) }
 {
     let Some((first, rest)) = words.split_first() else {
         return Ok(None);

@@ -1,5 +1,7 @@
 //! The peers of a daemon's ports as words.
-ghost use Rattle.std.specs.Prelude.{◌≡◌, ◌<◌, ◌≤◌, ℕ, List, [], ◌∷◌, ◌++◌, length, map, All, Contains, IfOk, IfSome, Ok, Some, MatchResult, MatchBool, slice_get, string_bytes, codes};
+ghost use Rattle.std.specs.Prelude.{◌≡◌, ◌<◌, ◌≤◌, ℕ, List, [], ◌∷◌, ◌++◌, length, map, All};
+ghost use Rattle.std.specs.Prelude.{Contains, IfOk, IfSome, Ok, Some, MatchResult, MatchBool};
+ghost use Rattle.std.specs.Prelude.{slice_get, string_bytes, codes};
 ghost use Rattle.tsp_io.specs.declared.addr.Addr.{Addr};
 ghost use Rattle.tsp_args.specs.Addrs.{addr_text, IsAddr};
 ghost use Rattle.tsp_args.specs.Ports.{peer_words, all_peers, IsPeerWord, AllDiffer, ArePeers, ServeOne, ArePorts};
@@ -39,7 +41,8 @@ impl Ports {
 
     /// One more peer of the last port.
     fn add(&mut self, peer: Addr) -> Result<(), AllocError>
-        ensures words { IfOk result (λ _. peer_words self.new ≡ peer_words self.old ++ addr_text peer ∷ []) }
+        ensures words { IfOk result (λ _. peer_words self.new ≡ peer_words self.old ++ addr_text
+            peer ∷ []) }
         ensures peers { IfOk result (λ _. all_peers self.new ≡ all_peers self.old ++ peer ∷ []) }
         ensures some { 1 ≤ length self.new }
     {
@@ -49,7 +52,8 @@ impl Ports {
 
     /// One more port, without peers.
     fn next(&mut self, alloc: Global) -> Result<(), AllocError>
-        ensures words { IfOk result (λ _. peer_words self.new ≡ peer_words self.old ++ codes "+" ∷ []) }
+        ensures words { IfOk result (λ _. peer_words self.new ≡ peer_words self.old ++ codes
+            "+" ∷ []) }
         ensures peers { IfOk result (λ _. all_peers self.new ≡ all_peers self.old) }
         ensures some { 1 ≤ length self.new }
     {
@@ -58,10 +62,12 @@ impl Ports {
         Ok(())
     }
 
-    /// Takes a word: a plus begins the next port, an address is one more peer. The answer is false where it is
-    /// neither.
+    /// Takes a word: a plus begins the next port, an address is one more peer. The answer is false
+    /// where it is neither.
     fn take(&mut self, alloc: Global, word: &str) -> Result<bool, AllocError>
-        ensures words { IfOk result (λ took. MatchBool took (peer_words self.new ≡ peer_words self.old ++ word.now ∷ []) (¬ IsPeerWord word.now)) }
+        ensures words { IfOk result
+            (λ took. MatchBool took (peer_words self.new ≡ peer_words self.old ++ word.now ∷ [])
+            (¬ IsPeerWord word.now)) }
         ensures peers { ArePeers self.old → IfOk result (λ _. ArePeers self.new) }
     {
         if word == "+" {
@@ -108,8 +114,10 @@ impl Ports {
 
 /// The ports that the words are, however many and whosever.
 fn read(alloc: Global, words: &[String]) -> Result<Option<Ports>, AllocError>
-    ensures found { IfOk result (λ r. IfSome r (λ ports. ArePeers ports × (map string_bytes words.now ≡ peer_words ports))) }
-    ensures reads { (ports : List (List Addr)) → ArePeers ports → map string_bytes words.now ≡ peer_words ports → IfOk result (λ r. r ≡ Some ports) }
+    ensures found { IfOk result (λ r. IfSome r (λ ports. ArePeers ports
+        × (map string_bytes words.now ≡ peer_words ports))) }
+    ensures reads { (ports : List (List Addr)) → ArePeers ports
+        → map string_bytes words.now ≡ peer_words ports → IfOk result (λ r. r ≡ Some ports) }
 {
     let mut ports = Ports::new(alloc);
     for word in words {
@@ -153,8 +161,10 @@ pub(crate) fn ports_of(
     local: Addr,
     words: &[String],
 ) -> Result<Option<Ports>, AllocError>
-    ensures found { IfOk result (λ r. IfSome r (λ ports. ArePorts local ports × (map string_bytes words.now ≡ peer_words ports))) }
-    ensures reads { (ports : List (List Addr)) → ArePorts local ports → map string_bytes words.now ≡ peer_words ports → IfOk result (λ r. r ≡ Some ports) }
+    ensures found { IfOk result (λ r. IfSome r (λ ports. ArePorts local ports
+        × (map string_bytes words.now ≡ peer_words ports))) }
+    ensures reads { (ports : List (List Addr)) → ArePorts local ports
+        → map string_bytes words.now ≡ peer_words ports → IfOk result (λ r. r ≡ Some ports) }
 {
     let Some(ports) = read(alloc, words)? else {
         return Ok(None);

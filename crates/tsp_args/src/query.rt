@@ -39,7 +39,8 @@ fn switch_of(word: &str) -> Option<bool>
 /// The date that the word is.
 fn date_of(word: &str) -> Option<Micros>
     ensures found { IfSome result (λ t. IsQuery (Query.Date t) × (word.now ≡ signed_decimal t)) }
-    ensures reads { (t : ℤ) → IsQuery (Query.Date t) → word.now ≡ signed_decimal t → result ≡ Some t }
+    ensures reads { (t : ℤ) → IsQuery (Query.Date t) → word.now ≡ signed_decimal t
+        → result ≡ Some t }
 {
     let time = Micros::of(signed_of(word.as_bytes())?)?;
     if time.get() <= -LIMIT {
@@ -50,7 +51,8 @@ fn date_of(word: &str) -> Option<Micros>
 
 /// The question of a word that nothing follows but the address.
 fn plain_query(word: &str) -> Option<Query>
-    ensures found { IfSome result (λ q. IsQuery q × (word.now ≡ query_word q) × (query_rest q ≡ [])) }
+    ensures found { IfSome result (λ q. IsQuery q × (word.now ≡ query_word q)
+        × (query_rest q ≡ [])) }
     ensures reads { (q : Query) → word.now ≡ query_word q → query_rest q ≡ [] → result ≡ Some q }
 {
     match word {
@@ -63,8 +65,10 @@ fn plain_query(word: &str) -> Option<Query>
 
 /// The question of a word that another one follows behind the address.
 fn query_with(word: &str, value: &str) -> Option<Query>
-    ensures found { IfSome result (λ q. IsQuery q × (word.now ≡ query_word q) × (query_rest q ≡ value.now ∷ [])) }
-    ensures reads { (q : Query) → IsQuery q → word.now ≡ query_word q → query_rest q ≡ value.now ∷ [] → result ≡ Some q }
+    ensures found { IfSome result (λ q. IsQuery q × (word.now ≡ query_word q)
+        × (query_rest q ≡ value.now ∷ [])) }
+    ensures reads { (q : Query) → IsQuery q → word.now ≡ query_word q
+        → query_rest q ≡ value.now ∷ [] → result ≡ Some q }
 {
     match word {
         "trace" => Some(Query::Trace(switch_of(value)?)),
@@ -75,8 +79,10 @@ fn query_with(word: &str, value: &str) -> Option<Query>
 
 /// The question of this word, with what stands behind the address; None exactly where there is none.
 pub(crate) fn query_of(word: &str, rest: &[String]) -> Option<Query>
-    ensures found { IfSome result (λ q. IsQuery q × (word.now ≡ query_word q) × (map string_bytes rest.now ≡ query_rest q)) }
-    ensures reads { (q : Query) → IsQuery q → word.now ≡ query_word q → map string_bytes rest.now ≡ query_rest q → result ≡ Some q }
+    ensures found { IfSome result (λ q. IsQuery q × (word.now ≡ query_word q)
+        × (map string_bytes rest.now ≡ query_rest q)) }
+    ensures reads { (q : Query) → IsQuery q → word.now ≡ query_word q
+        → map string_bytes rest.now ≡ query_rest q → result ≡ Some q }
 {
     match rest {
         [] => plain_query(word),

@@ -65,8 +65,10 @@ fn turns_of(word: &str) -> Option<u64>
 
 /// What the words behind `serve` tell a daemon; None exactly where they are none of a daemon's.
 pub(crate) fn serve_of(alloc: Global, words: &[String]) -> Result<Option<ServeWords>, AllocError>
-    ensures found { IfOk result (λ r. IfSome r (λ s. IsServe s × (map string_bytes words.now ≡ serve_words s))) }
-    ensures reads { (s : ServeWords) → IsServe s → map string_bytes words.now ≡ serve_words s → IfOk result (λ r. r ≡ Some s) }
+    ensures found { IfOk result (λ r. IfSome r (λ s. IsServe s
+        × (map string_bytes words.now ≡ serve_words s))) }
+    ensures reads { (s : ServeWords) → IsServe s → map string_bytes words.now ≡ serve_words s
+        → IfOk result (λ r. r ≡ Some s) }
 {
     let [local, name, candidacy, turns, peers @ ..] = words else {
         return Ok(None);

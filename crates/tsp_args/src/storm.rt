@@ -31,7 +31,8 @@ fn count_of(word: &str, most: u32) -> Option<u32>
 /// The numbers of seed, nodes and events; None exactly where the words aren't three such numbers.
 pub(crate) fn storm_of(words: &[String]) -> Option<StormWords>
     ensures found { IfSome result (λ s. IsStorm s × (map string_bytes words.now ≡ storm_words s)) }
-    ensures reads { (s : StormWords) → IsStorm s → map string_bytes words.now ≡ storm_words s → result ≡ Some s }
+    ensures reads { (s : StormWords) → IsStorm s → map string_bytes words.now ≡ storm_words s
+        → result ≡ Some s }
 {
     match words {
         [seed, nodes, events] => {

@@ -15,9 +15,9 @@ use Rattle.tsp_promises.proofs.EverywhereLemmas.{Everywhere-at}
 use Rattle.tsp_base.proofs.PlaceLemmas.{Within-all, Within-comparable, Within-length, Within-tail, Within-through}
 use Rattle.tsp_audit.specs.Agreeing.{AccordIs, AfterAs, AfterIs, AllAgree, BossAgrees, IsAt, LiveAs, LiveIs, MasterNear, NodeIs, Numbered, PairAgrees, PairNear, Stands, shown_by}
 use Rattle.tsp_audit.specs.Settings.{HasClocks}
-use Rattle.tsp_audit.specs.declared.accord.Accord.{Accord}
-use Rattle.tsp_audit.specs.declared.live.LiveCast.{LiveCast}
-use Rattle.tsp_audit.specs.declared.live.NodeState.{NodeState}
+use Rattle.tsp_audit.specs.declared.agreement_tracker.AgreementTracker.{AgreementTracker}
+use Rattle.tsp_audit.specs.declared.round_correction.RoundCorrection.{RoundCorrection}
+use Rattle.tsp_audit.specs.declared.round_correction.NodeState.{NodeState}
 use Rattle.tsp_audit.proofs.CastLemmas.{cast-one}
 use Rattle.tsp_audit.proofs.StateLemmas.{last-one}
 
@@ -40,8 +40,8 @@ act-within [] = refl
 act-within (l ∷ h) = act-at l.did.deed l h (act-within h)
 
 -- what is kept of a Cast since which its node was left alone
-pub record Found (m : ℕ) (close : Line) (cpast : List Line) (r : Line) (e : ℤ) (o : Option LiveCast) : Type 0 where
-  pub live : LiveCast
+pub record Found (m : ℕ) (close : Line) (cpast : List Line) (r : Line) (e : ℤ) (o : Option RoundCorrection) : Type 0 where
+  pub live : RoundCorrection
   pub is : o ≡ Some live
   pub master : live.master ≡ m
   pub close_is : live.close ≡ length cpast
@@ -50,7 +50,7 @@ pub record Found (m : ℕ) (close : Line) (cpast : List Line) (r : Line) (e : �
   pub lives_is : live.lives ≡ lives (dids (of m (close ∷ cpast)))
   pub corrects_is : live.corrects ≡ all_corrects (dids (of m (close ∷ cpast)))
 
-found : (n : ℕ) (h : List Line) (o : Option LiveCast) → LiveIs n h o → (m : ℕ) (close : Line) (cpast : List Line) (c : Line) (past : List Line) (r : Line) (older : List Line) (e : ℤ) →
+found : (n : ℕ) (h : List Line) (o : Option RoundCorrection) → LiveIs n h o → (m : ℕ) (close : Line) (cpast : List Line) (c : Line) (past : List Line) (r : Line) (older : List Line) (e : ℤ) →
     Cast m close cpast c past r older e → node_of c ≡ n → Unchanged n (c ∷ past) h → Found m close cpast r e o
 found n h None none m close cpast c past r older e cast node u = absurd (none c past node u m close cpast r older e cast)
 found n h (Some k) a m close cpast c past r older e cast node u =
@@ -87,7 +87,7 @@ pub record Kept (states : List NodeState) (n : ℕ) (h : List Line) : Type 0 whe
   pub at : IsAt states n state
   pub is : NodeIs n h state
 
-kept : (count : ℕ) (h : List Line) (a : Accord) (n : ℕ) → AccordIs count h a → n < count → Kept a.nodes.items n h
+kept : (count : ℕ) (h : List Line) (a : AgreementTracker) (n : ℕ) → AccordIs count h a → n < count → Kept a.nodes.items n h
 kept count h a n is lt =
     let below : n < length a.nodes.items = omega (arith, lt, is.many) in
     let none : NodeState = record { moved = pos 0; lives = 0; corrects = 0; after = None; cast = None } in
@@ -115,7 +115,7 @@ close-move u v e w t p x y g z r ux vy eg wz pr near =
     subst₂ (λ (a b : ℤ). Close a b g z t r) ux vy (subst (λ (a : ℤ). Close u v a z t r) eg (subst (λ (a : ℕ). Close u v e z t a) pr (subst (λ (a : ℕ). Close u v e a t p) wz near)))
 
 -- peers
-peers-agree : (header : HeaderValue) (setting : Setting) (count : ℕ) (h : List Line) (a : Accord) (t : ℕ) → HasClocks header setting → Numbered count h → AccordIs count h a → AllAgree header t a.nodes.items → PeersAgree setting h t
+peers-agree : (header : HeaderValue) (setting : Setting) (count : ℕ) (h : List Line) (a : AgreementTracker) (t : ℕ) → HasClocks header setting → Numbered count h → AccordIs count h a → AllAgree header t a.nodes.items → PeersAgree setting h t
 peers-agree header setting count h a t has numbered is all = λ m close cpast c d past qast r q rolder qolder e f one other cu du.
     let n : ℕ = node_of c in
     let k : ℕ = node_of d in
@@ -128,7 +128,7 @@ peers-agree header setting count h a t has numbered is all = λ m close cpast c 
     (clock-kept header setting n h x.state t has x.is) (clock-kept header setting k h y.state t has y.is) o.err p.err (sym has.drift_is) o.at p.at near
 
 -- the master was left alone just where what is kept says so
-stands-so : (m : ℕ) (close : Line) (cpast h : List Line) (c : LiveCast) (b : NodeState) → c.close ≡ length cpast → c.lives ≡ lives (dids (of m (close ∷ cpast))) → c.corrects ≡ all_corrects (dids (of m (close ∷ cpast))) → NodeIs m h b → UnchangedBut m close cpast h → Stands c b
+stands-so : (m : ℕ) (close : Line) (cpast h : List Line) (c : RoundCorrection) (b : NodeState) → c.close ≡ length cpast → c.lives ≡ lives (dids (of m (close ∷ cpast))) → c.corrects ≡ all_corrects (dids (of m (close ∷ cpast))) → NodeIs m h b → UnchangedBut m close cpast h → Stands c b
 stands-so m close cpast h c b close_is lives_is corrects_is is u = (
   lives_is ∙ (u.lives ∙ sym is.lives_is),
   elim u.corrects [
@@ -146,7 +146,7 @@ stands-so m close cpast h c b close_is lives_is corrects_is is u = (
       let past : y.apast ≡ cpast = cc in
       ap Some (y.index_is ∙ (ap (λ (t : List Line). length t) past ∙ sym close_is))
 
-stands-but : (m : ℕ) (close : Line) (cpast h : List Line) (c : LiveCast) (b : NodeState) → Within (close ∷ cpast) h → c.close ≡ length cpast → c.lives ≡ lives (dids (of m (close ∷ cpast))) → c.corrects ≡ all_corrects (dids (of m (close ∷ cpast))) → NodeIs m h b → Stands c b → UnchangedBut m close cpast h
+stands-but : (m : ℕ) (close : Line) (cpast h : List Line) (c : RoundCorrection) (b : NodeState) → Within (close ∷ cpast) h → c.close ≡ length cpast → c.lives ≡ lives (dids (of m (close ∷ cpast))) → c.corrects ≡ all_corrects (dids (of m (close ∷ cpast))) → NodeIs m h b → Stands c b → UnchangedBut m close cpast h
 stands-but m close cpast h c b w close_is lives_is corrects_is is stands = record {
   lives = sym lives_is ∙ (stands.0 ∙ is.lives_is);
   corrects = elim stands.1 [
@@ -163,7 +163,7 @@ stands-but m close cpast h c b w close_is lives_is corrects_is is stands = recor
 }
 
 -- the master
-master-agrees : (header : HeaderValue) (setting : Setting) (count : ℕ) (h : List Line) (a : Accord) (t : ℕ) → HasClocks header setting → Numbered count h → AccordIs count h a → AllAgree header t a.nodes.items → MasterAgrees setting h t
+master-agrees : (header : HeaderValue) (setting : Setting) (count : ℕ) (h : List Line) (a : AgreementTracker) (t : ℕ) → HasClocks header setting → Numbered count h → AccordIs count h a → AllAgree header t a.nodes.items → MasterAgrees setting h t
 master-agrees header setting count h a t has numbered is all = λ m close cpast c past r rolder e cast u but.
     let n : ℕ = node_of c in
     let x = kept count h a n is (node-below count c past h numbered u.within) in
@@ -177,14 +177,14 @@ master-agrees header setting count h a t has numbered is all = λ m close cpast 
     close-move (shown_by header n x.state.moved t) (shown_by header o.live.master b.state.moved t) o.live.err header.drift t o.live.at (clock_at setting n h t) (clock_at setting m h t) e setting.drift r.did.step.at
     (clock-kept header setting n h x.state t has x.is) mine o.err (sym has.drift_is) o.at near
 
-pub clocks-agree : (header : HeaderValue) (setting : Setting) (count : ℕ) (h : List Line) (a : Accord) (t : ℕ) → HasClocks header setting → Numbered count h → AccordIs count h a → AllAgree header t a.nodes.items → ClocksAgree setting h t
+pub clocks-agree : (header : HeaderValue) (setting : Setting) (count : ℕ) (h : List Line) (a : AgreementTracker) (t : ℕ) → HasClocks header setting → Numbered count h → AccordIs count h a → AllAgree header t a.nodes.items → ClocksAgree setting h t
 clocks-agree header setting count h a t has numbered is all = record { peers = peers-agree header setting count h a t has numbered is all; master = master-agrees header setting count h a t has numbered is all }
 
 -- and back
 pair-back : (header : HeaderValue) (setting : Setting) (h : List Line) (t n k : ℕ) (a b : NodeState) → HasClocks header setting → NodeIs n h a → NodeIs k h b → PeersAgree setting h t → PairAgrees header t n a k b
 pair-back header setting h t n k a b has ai bi peers = λ c d ac bd masters closes.
-    let x : LiveAs n h c = subst (λ (o : Option LiveCast). LiveIs n h o) ac ai.cast_is in
-    let y : LiveAs k h d = subst (λ (o : Option LiveCast). LiveIs k h o) bd bi.cast_is in
+    let x : LiveAs n h c = subst (λ (o : Option RoundCorrection). LiveIs n h o) ac ai.cast_is in
+    let y : LiveAs k h d = subst (λ (o : Option RoundCorrection). LiveIs k h o) bd bi.cast_is in
     let xw : Within (x.is.close ∷ x.is.cpast) h = Within-through (x.is.close ∷ x.is.cpast) x.past h x.is.cast.closes (Within-tail x.correct x.past h x.unchanged.within) in
     let yw : Within (y.is.close ∷ y.is.cpast) h = Within-through (y.is.close ∷ y.is.cpast) y.past h y.is.cast.closes (Within-tail y.correct y.past h y.unchanged.within) in
     let same : y.is.close ∷ y.is.cpast ≡ x.is.close ∷ x.is.cpast = place-one y.is.close x.is.close y.is.cpast x.is.cpast h yw xw (sym y.is.close_is ∙ (sym closes ∙ x.is.close_is)) in
@@ -198,9 +198,9 @@ pair-back header setting h t n k a b has ai bi peers = λ c d ac bd masters clos
     near-move (clock_at setting (node_of x.correct) h t) (clock_at setting (node_of y.correct) h t) c.err d.err setting.drift t x.is.reading.did.step.at y.is.reading.did.step.at (shown_by header n a.moved t) (shown_by header k b.moved t) c.err d.err header.drift c.at d.at
     (ap (λ (i : ℕ). clock_at setting i h t) x.node ∙ sym (clock-kept header setting n h a t has ai)) (ap (λ (i : ℕ). clock_at setting i h t) y.node ∙ sym (clock-kept header setting k h b t has bi)) refl refl has.drift_is (sym x.is.at_is) (sym y.is.at_is) near
 
-boss-back : (header : HeaderValue) (setting : Setting) (count : ℕ) (h : List Line) (s : Accord) (t n : ℕ) (a : NodeState) → HasClocks header setting → AccordIs count h s → NodeIs n h a → MasterAgrees setting h t → BossAgrees header t n a s.nodes.items
+boss-back : (header : HeaderValue) (setting : Setting) (count : ℕ) (h : List Line) (s : AgreementTracker) (t n : ℕ) (a : NodeState) → HasClocks header setting → AccordIs count h s → NodeIs n h a → MasterAgrees setting h t → BossAgrees header t n a s.nodes.items
 boss-back header setting count h s t n a has is ai master = λ c b ac at stands.
-    let x : LiveAs n h c = subst (λ (o : Option LiveCast). LiveIs n h o) ac ai.cast_is in
+    let x : LiveAs n h c = subst (λ (o : Option RoundCorrection). LiveIs n h o) ac ai.cast_is in
     let bi : NodeIs c.master h b = is.nodes_are c.master b at in
     let xw : Within (x.is.close ∷ x.is.cpast) h = Within-through (x.is.close ∷ x.is.cpast) x.past h x.is.cast.closes (Within-tail x.correct x.past h x.unchanged.within) in
     let near : Close (clock_at setting (node_of x.correct) h t) (clock_at setting c.master h t) c.err setting.drift t x.is.reading.did.step.at =
@@ -209,7 +209,7 @@ boss-back header setting count h s t n a has is ai master = λ c b ac at stands.
     close-move (clock_at setting (node_of x.correct) h t) (clock_at setting c.master h t) c.err setting.drift t x.is.reading.did.step.at (shown_by header n a.moved t) (shown_by header c.master b.moved t) c.err header.drift c.at
     (ap (λ (i : ℕ). clock_at setting i h t) x.node ∙ sym (clock-kept header setting n h a t has ai)) (sym (clock-kept header setting c.master h b t has bi)) refl has.drift_is (sym x.is.at_is) near
 
-pub clocks-back : (header : HeaderValue) (setting : Setting) (count : ℕ) (h : List Line) (s : Accord) (t : ℕ) → HasClocks header setting → AccordIs count h s → ClocksAgree setting h t → AllAgree header t s.nodes.items
+pub clocks-back : (header : HeaderValue) (setting : Setting) (count : ℕ) (h : List Line) (s : AgreementTracker) (t : ℕ) → HasClocks header setting → AccordIs count h s → ClocksAgree setting h t → AllAgree header t s.nodes.items
 clocks-back header setting count h s t has is c = λ n a at. record {
   pairs = λ k b there. pair-back header setting h t n k a b has (is.nodes_are n a at) (is.nodes_are k b there) c.peers;
   master = boss-back header setting count h s t n a has is (is.nodes_are n a at) c.master;

@@ -26,11 +26,11 @@ use Rattle.tsp_base.proofs.PlaceLemmas.{Within-length}
 use Rattle.tsp_audit.specs.Agreeing.{AccordIs, AllAgree, AllAre, AllBounded, AreBlank, FirstIs, IsAt, NodeIs, Numbered, TripsTell}
 use Rattle.tsp_audit.specs.Resting.{RestsOn}
 use Rattle.tsp_audit.specs.Settings.{HasClocks}
-use Rattle.tsp_audit.specs.declared.accord.Accord.{Accord}
-use Rattle.tsp_audit.specs.declared.live.NodeState.{NodeState}
+use Rattle.tsp_audit.specs.declared.agreement_tracker.AgreementTracker.{AgreementTracker}
+use Rattle.tsp_audit.specs.declared.round_correction.NodeState.{NodeState}
 use Rattle.tsp_audit.proofs.AccordLemmas.{clocks-agree, clocks-back}
 use Rattle.tsp_audit.proofs.StateLemmas.{node-still, still-other}
-use Rattle.tsp_history.specs.declared.noted.Noted.{Noted}
+use Rattle.tsp_history.specs.declared.line.HistoryLine.{HistoryLine}
 use Rattle.tsp_history.specs.declared.rounds.Best.{Best}
 use Rattle.tsp_history.specs.Histories.{deed_of, history_of, line_of}
 use Rattle.tsp_history.specs.Rounds.{Bests, SeenAt, trip_at}
@@ -87,7 +87,7 @@ trips-next h l trips many tell = λ k before w. by_place k before w where
       get_or-append trips (trip_at l h ∷ []) (pos 0) (length before) lt ∙ tell k before w
 
 -- the accord of a line more
-pub accord-next : (count : ℕ) (h : List Line) (l : Line) (a b : Accord) → AccordIs count h a → b.trips.items ≡ a.trips.items ++ trip_at l h ∷ [] → FirstIs (from_act (l ∷ h)) b.last → AllAre (l ∷ h) b.nodes.items → length b.nodes.items ≡ length a.nodes.items → AccordIs count (l ∷ h) b
+pub accord-next : (count : ℕ) (h : List Line) (l : Line) (a b : AgreementTracker) → AccordIs count h a → b.trips.items ≡ a.trips.items ++ trip_at l h ∷ [] → FirstIs (from_act (l ∷ h)) b.last → AllAre (l ∷ h) b.nodes.items → length b.nodes.items ≡ length a.nodes.items → AccordIs count (l ∷ h) b
 accord-next count h l a b is trips last nodes many = record {
   few = is.few;
   many = many ∙ is.many;
@@ -97,7 +97,7 @@ accord-next count h l a b is trips last nodes many = record {
   nodes_are = nodes;
 }
 
-pub accord-blank : (count : ℕ) (a : Accord) → count ≤ 64 → AreBlank count a.nodes.items → a.trips.items ≡ [] → a.last ≡ None → AccordIs count [] a
+pub accord-blank : (count : ℕ) (a : AgreementTracker) → count ≤ 64 → AreBlank count a.nodes.items → a.trips.items ≡ [] → a.last ≡ None → AccordIs count [] a
 accord-blank count a few blank trips last = record {
   few = few;
   many = blank.many;
@@ -116,7 +116,7 @@ rests-told l seen p m true deed kind act good = λ q o close older d k t closes.
     subst (λ (r : PeerId). is_some (best r older) ≡ true) who (good close older closes)
 rests-told l seen p m false deed kind act bad = λ f. bad (λ close older closes. f p m close older deed kind act closes)
 
-pub sample-told : (ns : List Noted) (n : ℕ) (q : Port) (p : PeerId) (i : ℕ) (o : Option Best) (b : Bool) → SeenAt ns n q (closed (view q (of n (history_of ns)))) i → Bests (take i ns) n q (best p (view q (of n (history_of (take i ns))))) o → b ≡ is_some o →
+pub sample-told : (ns : List HistoryLine) (n : ℕ) (q : Port) (p : PeerId) (i : ℕ) (o : Option Best) (b : Bool) → SeenAt ns n q (closed (view q (of n (history_of ns)))) i → Bests (take i ns) n q (best p (view q (of n (history_of (take i ns))))) o → b ≡ is_some o →
     MatchBool b (RestsOn p (view q (of n (history_of ns)))) (RestsOn p (view q (of n (history_of ns))) → ⊥)
 sample-told ns n q p i None true s none e = let bad : ⊥ = cc in absurd bad
 sample-told ns n q p i None false s none e = λ f. true≢false (sym (f (line_of s.noted).did (view q (of n (history_of (take i ns)))) s.is) ∙ ap is_some none)
@@ -127,7 +127,7 @@ sample-told ns n q p i (Some b) true s best_is e = λ close older closes.
 sample-told ns n q p i (Some b) false s best_is e = let bad : ⊥ = cc in absurd bad
 
 -- the clocks after an act tell whether it keeps that clocks agree
-pub agrees-told : (header : HeaderValue) (setting : Setting) (count : ℕ) (l : Line) (h : List Line) (a : Accord) (act : Act) (b : Bool) → HasClocks header setting → Numbered count (l ∷ h) → AccordIs count (l ∷ h) a → RestsOnSample l (view l.port (of (node_of l) h)) → l.did.deed ≡ Acts act →
+pub agrees-told : (header : HeaderValue) (setting : Setting) (count : ℕ) (l : Line) (h : List Line) (a : AgreementTracker) (act : Act) (b : Bool) → HasClocks header setting → Numbered count (l ∷ h) → AccordIs count (l ∷ h) a → RestsOnSample l (view l.port (of (node_of l) h)) → l.did.deed ≡ Acts act →
     MatchBool b (AllAgree header l.did.step.at a.nodes.items) (AllAgree header l.did.step.at a.nodes.items → ⊥) → MatchBool b (AgreedAt setting l h) (AgreedAt setting l h → ⊥)
 agrees-told header setting count l h a act true has numbered is rests deed good = record { rests = rests; clocks = λ d e. clocks-agree header setting count (l ∷ h) a l.did.step.at has numbered is good }
 agrees-told header setting count l h a act false has numbered is rests deed bad = λ c. bad (clocks-back header setting count (l ∷ h) a l.did.step.at has is (c.clocks act deed))

@@ -22,7 +22,7 @@ use Rattle.tsp_audit.proofs.SendPlaces.{one-number, one-place, send-number, take
 use Rattle.tsp_audit.specs.Acting.{ActedIs, ActsAt, Corrects, TakenIn, TakesAs, TakesSend, TakesWell, is_in, is_unknown, with_send}
 use Rattle.tsp_audit.specs.declared.premises.Premises.{Premises}
 use Rattle.tsp_audit.specs.Parts.{ActsOnce, AllKept}
-use Rattle.tsp_history.specs.Told.{PostedAt}
+use Rattle.tsp_history.specs.PostedPlaces.{PostedAt}
 
 -- what takes no post of a send takes none twice
 pub once-none : (l : Line) (h : List Line) → ((s : ℕ) → TakesSend l h s → ⊥) → OnceAt is_numbered l h

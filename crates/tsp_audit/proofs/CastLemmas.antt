@@ -26,8 +26,8 @@ use Rattle.tsp_audit.proofs.TakeLemmas.{same-noted}
 use Rattle.tsp_audit.specs.Acting.{TakesSend}
 use Rattle.tsp_audit.specs.Agreeing.{CastAs, IsNoCast}
 use Rattle.tsp_audit.specs.Casting.{BegunAt, HasNoRound, IsAdjusting, RoundAs, Rounds}
-use Rattle.tsp_audit.specs.declared.live.LiveCast.{LiveCast}
-use Rattle.tsp_history.specs.declared.noted.Noted.{Noted}
+use Rattle.tsp_audit.specs.declared.round_correction.RoundCorrection.{RoundCorrection}
+use Rattle.tsp_history.specs.declared.line.HistoryLine.{HistoryLine}
 use Rattle.tsp_history.specs.Histories.{deed_of, history_of, line_of}
 use Rattle.tsp_history.specs.Posts.{PostsAt}
 
@@ -127,7 +127,7 @@ cast-one l h m n close other cpast opast r s older rest e f a b =
     record { master = master; rounds = rounds-one m a.post.port (node_of l) a.begun h close other cpast opast r s older rest e f (cast-rounds m close cpast l h r older e a) here }
 
 -- a round of which a send came makes the Correct that takes a post of it a Cast
-pub begun-cast : (ns : List Noted) (l : Line) (i : ℕ) (c : LiveCast) → (x : BegunAt ns l i) → RoundAs x.noted.node x.noted.port (node_of l) (history_of (take i ns)) c → CastAs l (history_of ns) c
+pub begun-cast : (ns : List HistoryLine) (l : Line) (i : ℕ) (c : RoundCorrection) → (x : BegunAt ns l i) → RoundAs x.noted.node x.noted.port (node_of l) (history_of (take i ns)) c → CastAs l (history_of ns) c
 begun-cast ns l i c x r =
     let seen : List Seen = view x.noted.port (of x.noted.node (history_of (take i ns))) in
     let lifted : Rounds x.noted.node x.noted.port (node_of l) seen (history_of ns) r.close r.cpast r.reading r.older c.err =
@@ -166,7 +166,7 @@ begun-cast ns l i c x r =
     }
 
 -- without one it is none
-pub begun-none : (ns : List Noted) (l : Line) (i : ℕ) → (x : BegunAt ns l i) → HasNoRound x.noted.node x.noted.port (node_of l) (history_of (take i ns)) → IsNoCast l (history_of ns)
+pub begun-none : (ns : List HistoryLine) (l : Line) (i : ℕ) → (x : BegunAt ns l i) → HasNoRound x.noted.node x.noted.port (node_of l) (history_of (take i ns)) → IsNoCast l (history_of ns)
 begun-none ns l i x none = λ m close cpast r older e c.
     let one = send-one l (history_of ns) c.post x.post c.before x.before c.first (line_of x.noted).did c.begun (view x.noted.port (of x.noted.node (history_of (take i ns)))) c.acts x.acts c.of_send x.of_send in
     let begun : c.begun ≡ view x.noted.port (of x.noted.node (history_of (take i ns))) = (let k = one.send in cc) in
@@ -192,16 +192,16 @@ takes-posted l h s t few =
     omega (arith, few, t.at.number, posted-mono (t.at.line ∷ t.at.before) h w, posted-post t.at.line t.at.before t.at.to t.at.datagram t.at.deed)
 
 -- the first post of a send stands where the post with its number does
-first-there : (ns : List Noted) (l : Line) (s i : ℕ) (noted : Noted) → (t : TakesSend l (history_of ns) s) → PostsAt ns s i → get_or ns i noted ≡ noted → t.at.line ∷ t.at.before ≡ line_of noted ∷ history_of (take i ns)
+first-there : (ns : List HistoryLine) (l : Line) (s i : ℕ) (noted : HistoryLine) → (t : TakesSend l (history_of ns) s) → PostsAt ns s i → get_or ns i noted ≡ noted → t.at.line ∷ t.at.before ≡ line_of noted ∷ history_of (take i ns)
 first-there ns l s i noted t p is =
     let same : p.noted ≡ noted = same-noted ns i p.noted noted p.below p.noted_is is in
     let w : Within (t.at.line ∷ t.at.before) (history_of ns) = Within-through (t.at.line ∷ t.at.before) (t.post ∷ t.older) (history_of ns) t.at.within t.acts.brings.place in
     let place : t.at.line ∷ t.at.before ≡ line_of p.noted ∷ history_of (take i ns) =
     post_unique (history_of ns) t.at.line (line_of p.noted) t.at.before (history_of (take i ns)) t.at.to p.to t.at.datagram p.datagram w p.within t.at.deed (ap deed_of p.act) (t.at.number ∙ sym p.number) in
-    place ∙ ap (λ (n : Noted). line_of n ∷ history_of (take i ns)) same
+    place ∙ ap (λ (n : HistoryLine). line_of n ∷ history_of (take i ns)) same
 
 -- the send that it begins, as its port sees it
-first-seen : (ns : List Noted) (l : Line) (s i : ℕ) (noted : Noted) → (t : TakesSend l (history_of ns) s) → PostsAt ns s i → get_or ns i noted ≡ noted → Here t.first ∷ t.begun ≡ Here (line_of noted).did ∷ view noted.port (of noted.node (history_of (take i ns)))
+first-seen : (ns : List HistoryLine) (l : Line) (s i : ℕ) (noted : HistoryLine) → (t : TakesSend l (history_of ns) s) → PostsAt ns s i → get_or ns i noted ≡ noted → Here t.first ∷ t.begun ≡ Here (line_of noted).did ∷ view noted.port (of noted.node (history_of (take i ns)))
 first-seen ns l s i noted t p is =
     let there : t.at.line ∷ t.at.before ≡ line_of noted ∷ history_of (take i ns) = first-there ns l s i noted t p is in
     let line : t.at.line ≡ line_of noted = cc in
@@ -210,14 +210,14 @@ first-seen ns l s i noted t p is =
     subst₂ (λ (n : ℕ) (q : Port). Here t.first ∷ t.begun ≡ Here t.at.line.did ∷ view q (of n t.at.before)) (sym t.at.node) (sym t.at.port) t.at.is in
     subst₂ (λ (j : Line) (b : List Line). Here t.first ∷ t.begun ≡ Here j.did ∷ view j.port (of (node_of j) b)) line rest own
 
-pub begun-other : (ns : List Noted) (l : Line) (s i : ℕ) (noted : Noted) → TakesSend l (history_of ns) s → PostsAt ns s i → get_or ns i noted ≡ noted → (IsAdjusting (deed_of noted.act) → ⊥) → IsNoCast l (history_of ns)
+pub begun-other : (ns : List HistoryLine) (l : Line) (s i : ℕ) (noted : HistoryLine) → TakesSend l (history_of ns) s → PostsAt ns s i → get_or ns i noted ≡ noted → (IsAdjusting (deed_of noted.act) → ⊥) → IsNoCast l (history_of ns)
 begun-other ns l s i noted t p is bad = λ m close cpast r older e c.
     let one = send-one l (history_of ns) c.post t.post c.before t.older c.first t.first c.begun t.begun c.acts t.acts c.of_send t.of_send in
     let both : Here c.first ∷ c.begun ≡ Here (line_of noted).did ∷ view noted.port (of noted.node (history_of (take i ns))) = one.send ∙ first-seen ns l s i noted t p is in
     let first : c.first ≡ (line_of noted).did = cc in
     bad (record { to = Peer (peer_of (node_of l)); message = c.message; is = sym (ap (λ (d : Did). d.deed) first) ∙ c.begins; kind = c.kind })
 
-pub begun-found : (ns : List Noted) (l : Line) (s i : ℕ) (noted : Noted) → TakesSend l (history_of ns) s → PostsAt ns s i → get_or ns i noted ≡ noted → IsAdjusting (deed_of noted.act) → BegunAt ns l i
+pub begun-found : (ns : List HistoryLine) (l : Line) (s i : ℕ) (noted : HistoryLine) → TakesSend l (history_of ns) s → PostsAt ns s i → get_or ns i noted ≡ noted → IsAdjusting (deed_of noted.act) → BegunAt ns l i
 begun-found ns l s i noted t p is adjusts =
     let same : p.noted ≡ noted = same-noted ns i p.noted noted p.below p.noted_is is in
     let there : t.at.line ∷ t.at.before ≡ line_of noted ∷ history_of (take i ns) = first-there ns l s i noted t p is in
@@ -230,7 +230,7 @@ begun-found ns l s i noted t p is adjusts =
     let message : adjusts.message ≡ b.message = cc in
     record {
       noted = noted;
-      at = record { below = p.below; noted_is = is; within = subst (λ (n : Noted). Within (line_of n ∷ history_of (take i ns)) (history_of ns)) same p.within };
+      at = record { below = p.below; noted_is = is; within = subst (λ (n : HistoryLine). Within (line_of n ∷ history_of (take i ns)) (history_of ns)) same p.within };
       post = t.post;
       before = t.older;
       acts = t.acts;

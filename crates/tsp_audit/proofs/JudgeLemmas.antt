@@ -16,7 +16,7 @@ use Rattle.tsp_promises.specs.OnlyMaster.{OnlyMaster}
 use Rattle.tsp_base.specs.Places.{Within}
 use Rattle.tsp_promises.specs.Setting.{Setting}
 use Rattle.tsp_base.proofs.PlaceLemmas.{Within-comparable, Within-length}
-use Rattle.tsp_history.specs.declared.noted.Noted.{Noted}
+use Rattle.tsp_history.specs.declared.line.HistoryLine.{HistoryLine}
 use Rattle.tsp_history.specs.Histories.{history_of}
 
 pub decided : (b : Bool) (P : Type 0) → b ≡ true → MatchBool b P (P → ⊥) → P
@@ -89,7 +89,7 @@ if-kept true K P Q k m old = λ x. m (old k)
 if-kept false K P Q k m old = λ g. m (old k) (g k)
 
 -- a history is as long as its lines
-pub history-length : (ns : List Noted) → length (history_of ns) ≡ length ns
+pub history-length : (ns : List HistoryLine) → length (history_of ns) ≡ length ns
 history-length ns = omega (arith, length-noted [] ns)
 
 same-length : (s t : List Line) → Within s t → length s ≡ length t → s ≡ t
@@ -98,7 +98,7 @@ same-length s (l ∷ t) (inl e) long = e
 same-length s (l ∷ t) (inr w) long = let bad : ⊥ = omega (arith, Within-length s t w, long) in absurd bad
 
 -- the first lines are the history that was there before
-pub prefix-is : (ns : List Noted) (h : List Line) (from : ℕ) → Within h (history_of ns) → length h ≡ from → history_of (take from ns) ≡ h
+pub prefix-is : (ns : List HistoryLine) (h : List Line) (from : ℕ) → Within h (history_of ns) → length h ≡ from → history_of (take from ns) ≡ h
 prefix-is ns h from w long =
     let le : from ≤ length ns = omega (arith, Within-length h (history_of ns) w, history-length ns, long) in
     let taken : length (history_of (take from ns)) ≡ from = omega (arith, history-length (take from ns), length-take from ns) in
@@ -108,7 +108,7 @@ prefix-is ns h from w long =
     ]
 
 -- what is judged of noted lines is judged of the history that they are
-pub looked : (premises : Premises) (header told : HeaderValue) (ns : List Noted) (count : ℕ) (w h : List Line) (from : ℕ) (N : List Line → Type 0) (R : Type 0) (r : Option ℕ) → told ≡ header → history_of ns ≡ w → Grown count h w from → R →
+pub looked : (premises : Premises) (header told : HeaderValue) (ns : List HistoryLine) (count : ℕ) (w h : List Line) (from : ℕ) (N : List Line → Type 0) (R : Type 0) (r : Option ℕ) → told ≡ header → history_of ns ≡ w → Grown count h w from → R →
     ((setting : Setting) → HasClocks told setting → Timely (history_of ns) → Numbered count (history_of ns) → R → N (history_of (take from ns)) → AllKeep premises setting (history_of (take from ns)) → Judges premises setting (history_of ns) r) →
     N h → (setting : Setting) → HasClocks header setting → AllKeep premises setting h → Judges premises setting w r
 looked premises header told ns count w h from N R r same is grown room f a setting has keeps =
@@ -117,11 +117,11 @@ looked premises header told ns count w h from N R r same is grown room f a setti
     (f setting (subst (λ (x : HeaderValue). HasClocks x setting) (sym same) has) (subst (λ (x : List Line). Timely x) (sym is) grown.timely) (subst (λ (x : List Line). Numbered count x) (sym is) grown.numbered) room
     (subst N (sym first) a) (subst (λ (x : List Line). AllKeep premises setting x) (sym first) keeps))
 
-pub looked-notes : (ns : List Noted) (count : ℕ) (w h : List Line) (from : ℕ) (N M : List Line → Type 0) → history_of ns ≡ w → Grown count h w from → (N (history_of (take from ns)) → M (history_of ns)) → N h → M w
+pub looked-notes : (ns : List HistoryLine) (count : ℕ) (w h : List Line) (from : ℕ) (N M : List Line → Type 0) → history_of ns ≡ w → Grown count h w from → (N (history_of (take from ns)) → M (history_of ns)) → N h → M w
 looked-notes ns count w h from N M is grown f a =
     let first : history_of (take from ns) ≡ h = prefix-is ns h from (subst (λ (x : List Line). Within h x) (sym is) grown.within) grown.long in
     subst M is (f (subst N (sym first) a))
 
 -- the newest event begins no later than the history ends
-pub begins-within : (ns : List Noted) (count : ℕ) (w h : List Line) (from : ℕ) → history_of ns ≡ w → Grown count h w from → from ≤ length ns
+pub begins-within : (ns : List HistoryLine) (count : ℕ) (w h : List Line) (from : ℕ) → history_of ns ≡ w → Grown count h w from → from ≤ length ns
 begins-within ns count w h from is grown = omega (arith, Within-length h w grown.within, grown.long, history-length ns, ap (λ (x : List Line). length x) is)

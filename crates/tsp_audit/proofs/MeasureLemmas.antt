@@ -26,7 +26,7 @@ use Rattle.tsp_audit.specs.Parts.{MeasuresWell}
 use Rattle.tsp_audit.specs.Settings.{HasClocks, clock_in}
 use Rattle.tsp_history.proofs.HistoryLemmas.{history-more}
 use Rattle.tsp_audit.proofs.TakeLemmas.{came-cause, came-there, came-within, clock-set, same-noted, unposted}
-use Rattle.tsp_history.specs.declared.noted.Noted.{Noted}
+use Rattle.tsp_history.specs.declared.line.HistoryLine.{HistoryLine}
 use Rattle.tsp_history.specs.Histories.{history_of, line_of}
 use Rattle.tsp_history.specs.Rounds.{AskedAt}
 
@@ -34,14 +34,14 @@ use Rattle.tsp_history.specs.Rounds.{AskedAt}
 pub replies-none : (l : Line) (h : List Line) (p : PeerId) → IsUnposted l h → (post : Line) (older : List Line) → Replies l h p post older → ⊥
 replies-none l h p u post older r = unposted l h u post older (Peer (peer_of (node_of l))) (Stamp (Reply r.posts.reply)) r.place r.takes r.posts.deed
 
-pub replies-other : (ns : List Noted) (l : Line) (p : PeerId) (i : ℕ) (noted : Noted) → CameAt ns l i → get_or ns i noted ≡ noted → (RepliesTo (line_of noted) p (node_of l) → ⊥) →
+pub replies-other : (ns : List HistoryLine) (l : Line) (p : PeerId) (i : ℕ) (noted : HistoryLine) → CameAt ns l i → get_or ns i noted ≡ noted → (RepliesTo (line_of noted) p (node_of l) → ⊥) →
     (post : Line) (older : List Line) → Replies l (history_of ns) p post older → ⊥
 replies-other ns l p i noted came is bad post older r =
     let place : post ∷ older ≡ line_of noted ∷ history_of (take i ns) = came-there ns l i noted came is post older (Peer (peer_of (node_of l))) (Stamp (Reply r.posts.reply)) r.place r.takes r.posts.deed in
     let line : post ≡ line_of noted = cc in
     bad (subst (λ (m : Line). RepliesTo m p (node_of l)) line r.posts)
 
-pub replies-found : (ns : List Noted) (l : Line) (p : PeerId) (i : ℕ) (noted : Noted) → CameAt ns l i → get_or ns i noted ≡ noted → RepliesTo (line_of noted) p (node_of l) → RepliesAt ns l p i
+pub replies-found : (ns : List HistoryLine) (l : Line) (p : PeerId) (i : ℕ) (noted : HistoryLine) → CameAt ns l i → get_or ns i noted ≡ noted → RepliesTo (line_of noted) p (node_of l) → RepliesAt ns l p i
 replies-found ns l p i noted came is posts = record {
   below = came.posts.below;
   replies = λ other at.
@@ -49,7 +49,7 @@ replies-found ns l p i noted came is posts = record {
       record {
         place = came-within ns l i came other at;
         takes = came-cause ns l i came;
-        posts = subst (λ (n : Noted). RepliesTo (line_of n) p (node_of l)) mine posts;
+        posts = subst (λ (n : HistoryLine). RepliesTo (line_of n) p (node_of l)) mine posts;
       };
 }
 
@@ -71,7 +71,7 @@ read-from setting l h p diff err post older r near = record { post = post; older
 pub read-none : (setting : Setting) (l : Line) (h : List Line) (p : PeerId) (diff err : ℤ) → ((post : Line) (older : List Line) → Replies l h p post older → ⊥) → ReadBy setting l h p diff err → ⊥
 read-none setting l h p diff err bad r = bad r.post r.older (read-replies setting l h p diff err r)
 
-pub read-decides : (header : HeaderValue) (setting : Setting) (ns : List Noted) (l : Line) (p : PeerId) (i : ℕ) (noted : Noted) (b : Bool) (diff err ahead own : ℤ) → HasClocks header setting → RepliesAt ns l p i → get_or ns i noted ≡ noted →
+pub read-decides : (header : HeaderValue) (setting : Setting) (ns : List HistoryLine) (l : Line) (p : PeerId) (i : ℕ) (noted : HistoryLine) (b : Bool) (diff err ahead own : ℤ) → HasClocks header setting → RepliesAt ns l p i → get_or ns i noted ≡ noted →
     ahead ≡ clock_in header p.0 (history_of (take (i + 1) ns)) noted.at → own ≡ clock_in header (node_of l) (history_of (take (i + 1) ns)) noted.at →
     MatchBool b (IsNear diff err ahead own) (IsNear diff err ahead own → ⊥) → MatchBool b (ReadBy setting l (history_of ns) p diff err) (ReadBy setting l (history_of ns) p diff err → ⊥)
 read-decides header setting ns l p i noted b diff err ahead own has at is ahead_is own_is m = by_case b m where

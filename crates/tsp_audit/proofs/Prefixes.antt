@@ -7,27 +7,27 @@ use Rattle.tsp_base.specs.History.{Line}
 use Rattle.tsp_base.specs.Places.{Within}
 use Rattle.tsp_promises.proofs.EverywhereLemmas.{Everywhere-at}
 use Rattle.tsp_base.proofs.PlaceLemmas.{Within-all, Within-tail}
-use Rattle.tsp_history.specs.declared.noted.Noted.{Noted}
+use Rattle.tsp_history.specs.declared.line.HistoryLine.{HistoryLine}
 use Rattle.tsp_history.specs.Histories.{line_of, noted_after, history_of}
 use Rattle.tsp_history.proofs.HistoryLemmas.{Within-noted, history-more, noted-append}
 
-noted-within : (h : List Line) (xs : List Noted) → Within h (noted_after h xs)
+noted-within : (h : List Line) (xs : List HistoryLine) → Within h (noted_after h xs)
 noted-within h [] = Within-all h
 noted-within h (n ∷ xs) = Within-tail (line_of n) h (noted_after (line_of n ∷ h) xs) (noted-within (line_of n ∷ h) xs)
 
 -- a history is longer by its lines
-pub length-noted : (h : List Line) (ns : List Noted) → length (noted_after h ns) ≡ length h + length ns
+pub length-noted : (h : List Line) (ns : List HistoryLine) → length (noted_after h ns) ≡ length h + length ns
 length-noted h [] = omega arith
 length-noted h (n ∷ rest) = omega (arith, length-noted (line_of n ∷ h) rest)
 
 -- the history of the first lines is a place of the whole
-pub history-within : (ns : List Noted) (i : ℕ) → Within (history_of (take i ns)) (history_of ns)
+pub history-within : (ns : List HistoryLine) (i : ℕ) → Within (history_of (take i ns)) (history_of ns)
 history-within ns i = subst (λ ms. Within (history_of (take i ns)) ms) (sym (noted-append [] (take i ns) (drop i ns)) ∙ ap history_of (take-append-drop i ns)) (noted-within (history_of (take i ns)) (drop i ns))
 
 -- what holds everywhere holds at a line
-pub at-line : (P : Line → List Line → Type 0) (ns : List Noted) (i : ℕ) (n : Noted) → i < length ns → get_or ns i n ≡ n → Everywhere P (history_of ns) → P (line_of n) (history_of (take i ns))
+pub at-line : (P : Line → List Line → Type 0) (ns : List HistoryLine) (i : ℕ) (n : HistoryLine) → i < length ns → get_or ns i n ≡ n → Everywhere P (history_of ns) → P (line_of n) (history_of (take i ns))
 at-line P ns i n lt is e = Everywhere-at P (line_of n) (history_of (take i ns)) (history_of ns) e (Within-noted ns i n lt is)
 
 -- what holds of the first lines and of the next one
-pub one-more : (P : Line → List Line → Type 0) (ns : List Noted) (i : ℕ) (n : Noted) → i < length ns → get_or ns i n ≡ n → P (line_of n) (history_of (take i ns)) → Everywhere P (history_of (take i ns)) → Everywhere P (history_of (take (i + 1) ns))
+pub one-more : (P : Line → List Line → Type 0) (ns : List HistoryLine) (i : ℕ) (n : HistoryLine) → i < length ns → get_or ns i n ≡ n → P (line_of n) (history_of (take i ns)) → Everywhere P (history_of (take i ns)) → Everywhere P (history_of (take (i + 1) ns))
 one-more P ns i n lt is p e = subst (λ h. Everywhere P h) (sym (history-more ns i n lt is)) (p, e)

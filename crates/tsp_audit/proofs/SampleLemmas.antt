@@ -18,25 +18,25 @@ use Rattle.tsp_history.proofs.HistoryLemmas.{Within-noted, history-more}
 use Rattle.tsp_audit.proofs.TakeLemmas.{same-noted}
 use Rattle.tsp_audit.specs.Agreeing.{CastAs, IsNoCast, TripsTell}
 use Rattle.tsp_audit.specs.Casting.{BegunAt, HasNoRound, RoundAs, Rounds, TakesNone, TakesThen}
-use Rattle.tsp_audit.specs.declared.live.LiveCast.{LiveCast}
-use Rattle.tsp_history.specs.declared.noted.Noted.{Noted}
+use Rattle.tsp_audit.specs.declared.round_correction.RoundCorrection.{RoundCorrection}
+use Rattle.tsp_history.specs.declared.line.HistoryLine.{HistoryLine}
 use Rattle.tsp_history.specs.declared.rounds.Best.{Best}
 use Rattle.tsp_history.specs.Histories.{deed_of, history_of, line_of}
 use Rattle.tsp_history.specs.Posts.{PostsAt}
 use Rattle.tsp_history.specs.Rounds.{BestAt, SeenAt, trip_at}
 
 -- the index of a line is how many stand before it
-pub history-length : (ns : List Noted) (i : ℕ) → i ≤ length ns → length (history_of (take i ns)) ≡ i
+pub history-length : (ns : List HistoryLine) (i : ℕ) → i ≤ length ns → length (history_of (take i ns)) ≡ i
 history-length ns i le = omega (arith, length-noted [] (take i ns), length-take i ns, le)
 
 -- the round trip of a line by its index
-pub trip-here : (ns : List Noted) (trips : List ℤ) (i : ℕ) (noted : Noted) → TripsTell (history_of ns) trips → i < length ns → get_or ns i noted ≡ noted → get_or trips i (pos 0) ≡ trip_at (line_of noted) (history_of (take i ns))
+pub trip-here : (ns : List HistoryLine) (trips : List ℤ) (i : ℕ) (noted : HistoryLine) → TripsTell (history_of ns) trips → i < length ns → get_or ns i noted ≡ noted → get_or trips i (pos 0) ≡ trip_at (line_of noted) (history_of (take i ns))
 trip-here ns trips i noted tell lt is = subst (λ (k : ℕ). get_or trips k (pos 0) ≡ trip_at (line_of noted) (history_of (take i ns))) (history-length ns i (omega (arith, lt))) (tell (line_of noted) (history_of (take i ns)) (Within-noted ns i noted lt is))
 
-pub trips-before : (ns : List Noted) (trips : List ℤ) (i : ℕ) → TripsTell (history_of ns) trips → TripsTell (history_of (take i ns)) trips
+pub trips-before : (ns : List HistoryLine) (trips : List ℤ) (i : ℕ) → TripsTell (history_of ns) trips → TripsTell (history_of (take i ns)) trips
 trips-before ns trips i tell = λ l before w. tell l before (Within-through (l ∷ before) (history_of (take i ns)) (history_of ns) w (history-within ns i))
 
-pub reading-found : (ns : List Noted) (l : Line) (k i : ℕ) (noted : Noted) → l.did.step.cause ≡ Came k → PostsAt ns k i → get_or ns i noted ≡ noted → TakesThen (history_of ns) l (get_or ns i noted).at
+pub reading-found : (ns : List HistoryLine) (l : Line) (k i : ℕ) (noted : HistoryLine) → l.did.step.cause ≡ Came k → PostsAt ns k i → get_or ns i noted ≡ noted → TakesThen (history_of ns) l (get_or ns i noted).at
 reading-found ns l k i noted cause p is =
     let same : p.noted ≡ get_or ns i noted = same-noted ns i p.noted noted p.below p.noted_is is ∙ sym is in
     record {
@@ -47,16 +47,16 @@ reading-found ns l k i noted cause p is =
       to = p.to;
       datagram = p.datagram;
       deed = ap deed_of p.act;
-      at_is = ap (λ (n : Noted). n.at) (sym same);
+      at_is = ap (λ (n : HistoryLine). n.at) (sym same);
     }
 
 -- the Close of a round stands where its index says
-close-there : (ns : List Noted) (n : ℕ) (q : Port) (k i : ℕ) (world : List Line) (close : Line) (cpast : List Line) (r : Line) (older : List Line) (e : ℤ) → Within (history_of ns) world → (s : SeenAt ns n q (closed (view q (of n (history_of ns)))) i) →
+close-there : (ns : List HistoryLine) (n : ℕ) (q : Port) (k i : ℕ) (world : List Line) (close : Line) (cpast : List Line) (r : Line) (older : List Line) (e : ℤ) → Within (history_of ns) world → (s : SeenAt ns n q (closed (view q (of n (history_of ns)))) i) →
     Rounds n q k (view q (of n (history_of ns))) world close cpast r older e → close ∷ cpast ≡ line_of s.noted ∷ history_of (take i ns)
 close-there ns n q k i world close cpast r older e w s x =
     lines-one n q world close (line_of s.noted) cpast (history_of (take i ns)) x.close_node s.node x.close_port s.port x.closes (Within-through (line_of s.noted ∷ history_of (take i ns)) (history_of ns) world s.at.within w) (sym x.close_is ∙ s.is)
 
-pub sample-none : (ns : List Noted) (n : ℕ) (q : Port) (k i : ℕ) → SeenAt ns n q (closed (view q (of n (history_of ns)))) i → best (peer_of k) (view q (of n (history_of (take i ns)))) ≡ None → HasNoRound n q k (history_of ns)
+pub sample-none : (ns : List HistoryLine) (n : ℕ) (q : Port) (k i : ℕ) → SeenAt ns n q (closed (view q (of n (history_of ns)))) i → best (peer_of k) (view q (of n (history_of (take i ns)))) ≡ None → HasNoRound n q k (history_of ns)
 sample-none ns n q k i s none = λ world close cpast r older e w x.
     let there : close ∷ cpast ≡ line_of s.noted ∷ history_of (take i ns) = close-there ns n q k i world close cpast r older e w s x in
     let past : cpast ≡ history_of (take i ns) = cc in
@@ -64,7 +64,7 @@ sample-none ns n q k i s none = λ world close cpast r older e w x.
     let bad : ⊥ = cc in
     bad
 
-pub reading-none : (ns : List Noted) (n : ℕ) (q : Port) (k i : ℕ) (b : Best) (noted : Noted) → SeenAt ns n q (closed (view q (of n (history_of ns)))) i → BestAt (take i ns) n q (best (peer_of k) (view q (of n (history_of (take i ns))))) b →
+pub reading-none : (ns : List HistoryLine) (n : ℕ) (q : Port) (k i : ℕ) (b : Best) (noted : HistoryLine) → SeenAt ns n q (closed (view q (of n (history_of ns)))) i → BestAt (take i ns) n q (best (peer_of k) (view q (of n (history_of (take i ns))))) b →
     get_or (take i ns) b.index noted ≡ noted → TakesNone (history_of (take b.index (take i ns))) (line_of noted) → HasNoRound n q k (history_of ns)
 reading-none ns n q k i b noted s best_is is none = λ world close cpast r older e w x.
     let there : close ∷ cpast ≡ line_of s.noted ∷ history_of (take i ns) = close-there ns n q k i world close cpast r older e w s x in
@@ -84,7 +84,7 @@ reading-none ns n q k i b noted s best_is is none = λ world close cpast r older
     let reads : Within (r ∷ older) (history_of (take b.index (take i ns))) = subst (λ (t : List Line). Within (r ∷ older) t) before x.reading.reads in
     omega (arith, few, posted-mono (r ∷ older) (history_of (take b.index (take i ns))) reads, posted-post r older x.reading.to x.reading.datagram x.reading.deed)
 
-pub round-found : (ns : List Noted) (n : ℕ) (q : Port) (k i : ℕ) (b : Best) (noted : Noted) (c : LiveCast) → SeenAt ns n q (closed (view q (of n (history_of ns)))) i → BestAt (take i ns) n q (best (peer_of k) (view q (of n (history_of (take i ns))))) b →
+pub round-found : (ns : List HistoryLine) (n : ℕ) (q : Port) (k i : ℕ) (b : Best) (noted : HistoryLine) (c : RoundCorrection) → SeenAt ns n q (closed (view q (of n (history_of ns)))) i → BestAt (take i ns) n q (best (peer_of k) (view q (of n (history_of (take i ns))))) b →
     get_or (take i ns) b.index noted ≡ noted → TakesThen (history_of (take b.index (take i ns))) (line_of noted) c.at → c.master ≡ n → c.close ≡ i → c.err ≡ b.err →
     c.lives ≡ lives (dids (of n (history_of (take (i + 1) ns)))) → c.corrects ≡ all_corrects (dids (of n (history_of (take (i + 1) ns)))) → RoundAs n q k (history_of ns) c
 round-found ns n q k i b noted c s best_is is t master_is close_is err_is lives_is corrects_is =
@@ -112,7 +112,7 @@ round-found ns n q k i b noted c s best_is is t master_is close_is err_is lives_
           port = p.port;
           is = p.is;
           reads = t.reads;
-          takes = subst (λ (m : Noted). (line_of m).did.step.cause ≡ Came (posted (dids t.older))) same t.takes;
+          takes = subst (λ (m : HistoryLine). (line_of m).did.step.cause ≡ Came (posted (dids t.older))) same t.takes;
           to = t.to;
           datagram = t.datagram;
           deed = t.deed;
@@ -126,11 +126,11 @@ round-found ns n q k i b noted c s best_is is t master_is close_is err_is lives_
     }
 
 -- what a Correct came of, by the first post of the send that it takes
-pub cast-told : (ns : List Noted) (l : Line) (i : ℕ) (noted : Noted) (o : Option LiveCast) → BegunAt ns l i → get_or ns i noted ≡ noted → MatchOption o (HasNoRound noted.node noted.port (node_of l) (history_of (take i ns))) (λ c. RoundAs noted.node noted.port (node_of l) (history_of (take i ns)) c) →
+pub cast-told : (ns : List HistoryLine) (l : Line) (i : ℕ) (noted : HistoryLine) (o : Option RoundCorrection) → BegunAt ns l i → get_or ns i noted ≡ noted → MatchOption o (HasNoRound noted.node noted.port (node_of l) (history_of (take i ns))) (λ c. RoundAs noted.node noted.port (node_of l) (history_of (take i ns)) c) →
     MatchOption o (IsNoCast l (history_of ns)) (λ c. CastAs l (history_of ns) c)
 cast-told ns l i noted None x is none =
     let same : noted ≡ x.noted = same-noted ns i noted x.noted x.at.below is x.at.noted_is in
-    begun-none ns l i x (subst (λ (m : Noted). HasNoRound m.node m.port (node_of l) (history_of (take i ns))) same none)
+    begun-none ns l i x (subst (λ (m : HistoryLine). HasNoRound m.node m.port (node_of l) (history_of (take i ns))) same none)
 cast-told ns l i noted (Some c) x is r =
     let same : noted ≡ x.noted = same-noted ns i noted x.noted x.at.below is x.at.noted_is in
-    begun-cast ns l i c x (subst (λ (m : Noted). RoundAs m.node m.port (node_of l) (history_of (take i ns)) c) same r)
+    begun-cast ns l i c x (subst (λ (m : HistoryLine). RoundAs m.node m.port (node_of l) (history_of (take i ns)) c) same r)

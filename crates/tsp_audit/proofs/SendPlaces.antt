@@ -21,7 +21,7 @@ use Rattle.tsp_promises.proofs.SeenPlaces.{seen_same}
 use Rattle.tsp_promises.proofs.SendPlaces.{post_unique, same-number}
 use Rattle.tsp_promises.proofs.SendProof.{begun_at}
 use Rattle.tsp_audit.specs.Acting.{TakesSend}
-use Rattle.tsp_history.specs.Told.{PostedAt}
+use Rattle.tsp_history.specs.PostedPlaces.{PostedAt}
 
 not-shared : (d : Did) (to : Place) (datagram : Datagram) → d.deed ≡ Acts (Post to datagram) → is_shared d.deed ≡ false
 not-shared d to datagram e = rw e refl

@@ -14,8 +14,8 @@ use Rattle.tsp_promises.proofs.HistoryPlaces.{Within-of, of-other, of-own}
 use Rattle.tsp_promises.proofs.LateProof.{lives-deed}
 use Rattle.tsp_audit.specs.Agreeing.{AfterIs, CastAs, FirstIs, IsNoCast, LiveIs, NodeIs}
 use Rattle.tsp_audit.specs.Changes.{IsCorrect}
-use Rattle.tsp_audit.specs.declared.live.LiveCast.{LiveCast}
-use Rattle.tsp_audit.specs.declared.live.NodeState.{NodeState}
+use Rattle.tsp_audit.specs.declared.round_correction.RoundCorrection.{RoundCorrection}
+use Rattle.tsp_audit.specs.declared.round_correction.NodeState.{NodeState}
 use Rattle.tsp_history.specs.Clocks.{IsSumOf}
 
 -- a node's Corrects and Boots grow in number
@@ -83,7 +83,7 @@ not-now n l c h past a s y node deed e still =
     let counts : all_corrects (dids (of n (l ∷ h))) ≡ all_corrects (dids (of n h)) + 1 = correct-counts n l h a s y (subst (λ (k : Line). node_of k ≡ n) line node) (subst (λ (k : Line). k.did.deed ≡ Acts (Correct a s y)) line deed) in
     omega (arith, counts, still)
 
-live-still : (n : ℕ) (l : Line) (h : List Line) (o : Option LiveCast) → Still n l h → LiveIs n h o → LiveIs n (l ∷ h) o
+live-still : (n : ℕ) (l : Line) (h : List Line) (o : Option RoundCorrection) → Still n l h → LiveIs n h o → LiveIs n (l ∷ h) o
 live-still n l h None st none = λ c past node u m close cpast r older e cast. elim u.within [
   | inl same ↦ not-now n l c h past cast.acts.amount cast.acts.stepped cast.acts.shown node cast.acts.correct same st.corrects_is
   | inr w ↦ none c past node (record { within = w; since = record { corrects = u.since.corrects ∙ st.corrects_is; lives = u.since.lives ∙ st.lives_is } }) m close cpast r older e cast
@@ -134,10 +134,10 @@ node-boot n l h s t node deed a moved_is lives_is corrects_is after_is cast_is =
       lives_is = lives_is;
       corrects_is = corrects_is ∙ (a.corrects_is ∙ sym still);
       after_is = subst (λ (o : Option ℕ). AfterIs n (l ∷ h) o) (sym after_is) (after-still n l h s.after still a.after_is);
-      cast_is = subst (λ (o : Option LiveCast). LiveIs n (l ∷ h) o) (sym cast_is) none;
+      cast_is = subst (λ (o : Option RoundCorrection). LiveIs n (l ∷ h) o) (sym cast_is) none;
     }
 
-live-correct : (n : ℕ) (l : Line) (h : List Line) (o : Option LiveCast) (a : ℤ) (s : Bool) (y : ℤ) → node_of l ≡ n → l.did.deed ≡ Acts (Correct a s y) → MatchOption o (IsNoCast l h) (λ c. CastAs l h c) → LiveIs n (l ∷ h) o
+live-correct : (n : ℕ) (l : Line) (h : List Line) (o : Option RoundCorrection) (a : ℤ) (s : Bool) (y : ℤ) → node_of l ≡ n → l.did.deed ≡ Acts (Correct a s y) → MatchOption o (IsNoCast l h) (λ c. CastAs l h c) → LiveIs n (l ∷ h) o
 live-correct n l h None a s y node deed none = λ c past same u m close cpast r older e cast. elim u.within [
   | inl now ↦
       let line : c ≡ l = cc in
@@ -188,7 +188,7 @@ node-blank n s moved_is lives_is corrects_is after_is cast_is =
       lives_is = lives_is;
       corrects_is = corrects_is;
       after_is = subst (λ (o : Option ℕ). AfterIs n [] o) (sym after_is) first;
-      cast_is = subst (λ (o : Option LiveCast). LiveIs n [] o) (sym cast_is) none;
+      cast_is = subst (λ (o : Option RoundCorrection). LiveIs n [] o) (sym cast_is) none;
     }
 
 -- as many amounts as there can be lines

@@ -29,14 +29,14 @@ use Rattle.tsp_history.proofs.HistoryLemmas.{history-more}
 use Rattle.tsp_audit.proofs.SendPlaces.{brings-one}
 use Rattle.tsp_audit.specs.Acting.{ActsNow, BringsAt, CameAt, Corrects, IsNumbered, IsUnposted, Moves, PostsTo, TakesSend, deed_corrects}
 use Rattle.tsp_audit.specs.Settings.{HasClocks, clock_in}
-use Rattle.tsp_history.specs.declared.noted.Noted.{Noted}
+use Rattle.tsp_history.specs.declared.line.HistoryLine.{HistoryLine}
 use Rattle.tsp_history.specs.Histories.{deed_of, history_of, line_of}
 use Rattle.tsp_history.specs.Posts.{PostsAt}
 use Rattle.tsp_history.specs.Spacing.{Spaced}
-use Rattle.tsp_history.specs.Told.{PostedAt, Told}
+use Rattle.tsp_history.specs.PostedPlaces.{PostedAt, IsPlaceOf}
 
 -- one line stands at an index
-pub same-noted : (ns : List Noted) (i : ℕ) (a b : Noted) → i < length ns → get_or ns i a ≡ a → get_or ns i b ≡ b → a ≡ b
+pub same-noted : (ns : List HistoryLine) (i : ℕ) (a b : HistoryLine) → i < length ns → get_or ns i a ≡ a → get_or ns i b ≡ b → a ≡ b
 same-noted ns i a b lt p q = sym p ∙ (get_or_default ns i a b lt ∙ q)
 
 -- nothing comes that was never posted
@@ -44,32 +44,32 @@ pub unposted : (l : Line) (h : List Line) → IsUnposted l h → (post : Line) (
 unposted l h few post older to datagram w cause deed = omega (arith, few (posted (dids older)) cause, posted-mono (post ∷ older) h w, posted-post post older to datagram deed)
 
 -- what comes was posted where the post with its number stands
-pub came-there : (ns : List Noted) (l : Line) (i : ℕ) (noted : Noted) → CameAt ns l i → get_or ns i noted ≡ noted → (post : Line) (older : List Line) (to : Place) (datagram : Datagram) → Within (post ∷ older) (history_of ns) →
+pub came-there : (ns : List HistoryLine) (l : Line) (i : ℕ) (noted : HistoryLine) → CameAt ns l i → get_or ns i noted ≡ noted → (post : Line) (older : List Line) (to : Place) (datagram : Datagram) → Within (post ∷ older) (history_of ns) →
     l.did.step.cause ≡ Came (posted (dids older)) → post.did.deed ≡ Acts (Post to datagram) → post ∷ older ≡ line_of noted ∷ history_of (take i ns)
 came-there ns l i noted came is post older to datagram w cause deed =
     let p = came.posts in
     let same : p.noted ≡ noted = same-noted ns i p.noted noted p.below p.noted_is is in
     let number : posted (dids older) ≡ posted (dids (history_of (take i ns))) = sym (same-number came.number (posted (dids older)) (sym came.cause ∙ cause)) ∙ sym p.number in
-    post_unique (history_of ns) post (line_of p.noted) older (history_of (take i ns)) to p.to datagram p.datagram w p.within deed (ap deed_of p.act) number ∙ ap (λ (m : Noted). line_of m ∷ history_of (take i ns)) same
+    post_unique (history_of ns) post (line_of p.noted) older (history_of (take i ns)) to p.to datagram p.datagram w p.within deed (ap deed_of p.act) number ∙ ap (λ (m : HistoryLine). line_of m ∷ history_of (take i ns)) same
 
-pub came-within : (ns : List Noted) (l : Line) (i : ℕ) → CameAt ns l i → (noted : Noted) → get_or ns i noted ≡ noted → Within (line_of noted ∷ history_of (take i ns)) (history_of ns)
+pub came-within : (ns : List HistoryLine) (l : Line) (i : ℕ) → CameAt ns l i → (noted : HistoryLine) → get_or ns i noted ≡ noted → Within (line_of noted ∷ history_of (take i ns)) (history_of ns)
 came-within ns l i came noted is =
     let p = came.posts in
-    subst (λ (n : Noted). Within (line_of n ∷ history_of (take i ns)) (history_of ns)) (same-noted ns i p.noted noted p.below p.noted_is is) p.within
+    subst (λ (n : HistoryLine). Within (line_of n ∷ history_of (take i ns)) (history_of ns)) (same-noted ns i p.noted noted p.below p.noted_is is) p.within
 
-pub came-cause : (ns : List Noted) (l : Line) (i : ℕ) → CameAt ns l i → l.did.step.cause ≡ Came (posted (dids (history_of (take i ns))))
+pub came-cause : (ns : List HistoryLine) (l : Line) (i : ℕ) → CameAt ns l i → l.did.step.cause ≡ Came (posted (dids (history_of (take i ns))))
 came-cause ns l i came = came.cause ∙ ap Came (sym came.posts.number)
 
 pub brings-none : (l : Line) (h : List Line) → IsUnposted l h → (post : Line) (older : List Line) → Brings l h post older → ⊥
 brings-none l h few post older b = unposted l h few post older (Peer (peer_of (node_of l))) (Message b.message) b.place b.cause b.deed
 
-pub brings-other : (ns : List Noted) (l : Line) (i : ℕ) (noted : Noted) → CameAt ns l i → get_or ns i noted ≡ noted → (PostsTo (deed_of noted.act) (node_of l) → ⊥) → (post : Line) (older : List Line) → Brings l (history_of ns) post older → ⊥
+pub brings-other : (ns : List HistoryLine) (l : Line) (i : ℕ) (noted : HistoryLine) → CameAt ns l i → get_or ns i noted ≡ noted → (PostsTo (deed_of noted.act) (node_of l) → ⊥) → (post : Line) (older : List Line) → Brings l (history_of ns) post older → ⊥
 brings-other ns l i noted came is bad post older b =
     let place : post ∷ older ≡ line_of noted ∷ history_of (take i ns) = came-there ns l i noted came is post older (Peer (peer_of (node_of l))) (Message b.message) b.place b.cause b.deed in
     let line : post ≡ line_of noted = cc in
     bad (record { message = b.message; is = subst (λ (m : Line). m.did.deed ≡ Acts (Post (Peer (peer_of (node_of l))) (Message b.message))) line b.deed })
 
-pub brings-found : (ns : List Noted) (l : Line) (i : ℕ) (noted : Noted) → CameAt ns l i → get_or ns i noted ≡ noted → PostsTo (deed_of noted.act) (node_of l) → BringsAt ns l i
+pub brings-found : (ns : List HistoryLine) (l : Line) (i : ℕ) (noted : HistoryLine) → CameAt ns l i → get_or ns i noted ≡ noted → PostsTo (deed_of noted.act) (node_of l) → BringsAt ns l i
 brings-found ns l i noted came is posts = record {
   below = came.posts.below;
   brings = λ other at.
@@ -78,12 +78,12 @@ brings-found ns l i noted came is posts = record {
         place = came-within ns l i came other at;
         cause = came-cause ns l i came;
         message = posts.message;
-        deed = subst (λ (n : Noted). deed_of n.act ≡ Acts (Post (Peer (peer_of (node_of l))) (Message posts.message))) mine posts.is;
+        deed = subst (λ (n : HistoryLine). deed_of n.act ≡ Acts (Post (Peer (peer_of (node_of l))) (Message posts.message))) mine posts.is;
       };
 }
 
 -- a Correct that takes a numbered post of a send
-pub takes-found : (ns : List Noted) (l : Line) (i : ℕ) (noted : Noted) (k : ℕ) (a : ℤ) (s : Bool) (y : ℤ) → BringsAt ns l i → get_or ns i noted ≡ noted → l.did.deed ≡ Acts (Correct a s y) → is_some (heard (dids (of (node_of l) (history_of ns)))) ≡ true →
+pub takes-found : (ns : List HistoryLine) (l : Line) (i : ℕ) (noted : HistoryLine) (k : ℕ) (a : ℤ) (s : Bool) (y : ℤ) → BringsAt ns l i → get_or ns i noted ≡ noted → l.did.deed ≡ Acts (Correct a s y) → is_some (heard (dids (of (node_of l) (history_of ns)))) ≡ true →
     IsNumbered (deed_of noted.act) → PostedAt noted.node noted.port (history_of (take (i + 1) ns)) (begun_to (peer_of (node_of l)) (view noted.port (of noted.node (history_of (take (i + 1) ns))))) k → TakesSend l (history_of ns) k
 takes-found ns l i noted k a s y b is correct took numbered told =
     let brings : Brings l (history_of ns) (line_of noted) (history_of (take i ns)) = b.brings noted is in
@@ -119,16 +119,16 @@ takes-found ns l i noted k a s y b is correct took numbered told =
     }
 
 -- the post that a Correct takes is the one that its step brings
-takes-there : (ns : List Noted) (l : Line) (i : ℕ) (noted : Noted) (k : ℕ) → BringsAt ns l i → get_or ns i noted ≡ noted → (t : TakesSend l (history_of ns) k) → t.post ∷ t.older ≡ line_of noted ∷ history_of (take i ns)
+takes-there : (ns : List HistoryLine) (l : Line) (i : ℕ) (noted : HistoryLine) (k : ℕ) → BringsAt ns l i → get_or ns i noted ≡ noted → (t : TakesSend l (history_of ns) k) → t.post ∷ t.older ≡ line_of noted ∷ history_of (take i ns)
 takes-there ns l i noted k b is t = brings-one l (history_of ns) t.post (line_of noted) t.older (history_of (take i ns)) t.acts.brings (b.brings noted is)
 
-pub takes-unnumbered : (ns : List Noted) (l : Line) (i : ℕ) (noted : Noted) (k : ℕ) → BringsAt ns l i → get_or ns i noted ≡ noted → (IsNumbered (deed_of noted.act) → ⊥) → TakesSend l (history_of ns) k → ⊥
+pub takes-unnumbered : (ns : List HistoryLine) (l : Line) (i : ℕ) (noted : HistoryLine) (k : ℕ) → BringsAt ns l i → get_or ns i noted ≡ noted → (IsNumbered (deed_of noted.act) → ⊥) → TakesSend l (history_of ns) k → ⊥
 takes-unnumbered ns l i noted k b is bad t =
     let place : t.post ∷ t.older ≡ line_of noted ∷ history_of (take i ns) = takes-there ns l i noted k b is t in
     let line : t.post ≡ line_of noted = cc in
     bad (record { to = Peer (peer_of (node_of l)); message = t.of_send.message; is = subst (λ (m : Line). m.did.deed ≡ Acts (Post (Peer (peer_of (node_of l))) (Message t.of_send.message))) line t.of_send.deed; numbered = t.of_send.numbered })
 
-pub takes-unbegun : (ns : List Noted) (l : Line) (i : ℕ) (noted : Noted) (k : ℕ) → BringsAt ns l i → get_or ns i noted ≡ noted →
+pub takes-unbegun : (ns : List HistoryLine) (l : Line) (i : ℕ) (noted : HistoryLine) (k : ℕ) → BringsAt ns l i → get_or ns i noted ≡ noted →
     begun_to (peer_of (node_of l)) (view noted.port (of noted.node (history_of (take (i + 1) ns)))) ≡ [] → TakesSend l (history_of ns) k → ⊥
 takes-unbegun ns l i noted k b is none t =
     let place : t.post ∷ t.older ≡ line_of noted ∷ history_of (take i ns) = takes-there ns l i noted k b is t in
@@ -143,7 +143,7 @@ takes-unbegun ns l i noted k b is none t =
     bad
 
 -- a follower's Correct obeys
-pub obeys-found : (setting : Setting) (ns : List Noted) (l : Line) (amount : ℤ) (master : PeerId) (i : ℕ) (noted : Noted) → BringsAt ns l i → get_or ns i noted ≡ noted → noted.node ≡ master.0 →
+pub obeys-found : (setting : Setting) (ns : List HistoryLine) (l : Line) (amount : ℤ) (master : PeerId) (i : ℕ) (noted : HistoryLine) → BringsAt ns l i → get_or ns i noted ≡ noted → noted.node ≡ master.0 →
     Moves (deed_of noted.act) amount (clock_at setting (node_of l) (history_of ns) l.did.step.at) → Obeys setting l (history_of ns) amount master
 obeys-found setting ns l amount master i noted b is node moves =
     let brings : Brings l (history_of ns) (line_of noted) (history_of (take i ns)) = b.brings noted is in
@@ -158,7 +158,7 @@ obeys-found setting ns l amount master i noted b is node moves =
       amount_is = subst (λ (m : MessageValue). amount ≡ amount_of m.kind (time_in m.body) (clock_at setting (node_of l) (history_of ns) l.did.step.at)) message moves.amount_is;
     }
 
-pub obeys-not : (setting : Setting) (ns : List Noted) (l : Line) (amount : ℤ) (master : PeerId) (i : ℕ) (noted : Noted) → BringsAt ns l i → get_or ns i noted ≡ noted →
+pub obeys-not : (setting : Setting) (ns : List HistoryLine) (l : Line) (amount : ℤ) (master : PeerId) (i : ℕ) (noted : HistoryLine) → BringsAt ns l i → get_or ns i noted ≡ noted →
     (noted.node ≡ master.0 → Moves (deed_of noted.act) amount (clock_at setting (node_of l) (history_of ns) l.did.step.at) → ⊥) → Obeys setting l (history_of ns) amount master → ⊥
 obeys-not setting ns l amount master i noted b is bad o =
     let place : o.post ∷ o.older ≡ line_of noted ∷ history_of (take i ns) = brings-one l (history_of ns) o.post (line_of noted) o.older (history_of (take i ns)) o.brings (b.brings noted is) in
@@ -176,7 +176,7 @@ obeys-not setting ns l amount master i noted b is bad o =
 pub clock-set : (header : HeaderValue) (setting : Setting) (n : ℕ) (h : List Line) (at : ℕ) → HasClocks header setting → clock_in header n h at ≡ clock_at setting n h at
 clock-set header setting n h at has = subst₂ (λ (w r : ℤ). clock_in header n h at ≡ (w +ℤ moved (dids (of n h))) +ℤ pos (tick_at r at)) (sym (has.wall_is n)) (sym (has.rate_is n)) refl
 
-pub obeys-decides : (header : HeaderValue) (setting : Setting) (ns : List Noted) (l : Line) (amount : ℤ) (master : PeerId) (i : ℕ) (noted : Noted) (b : Bool) (t : ℤ) → HasClocks header setting → BringsAt ns l i → get_or ns i noted ≡ noted → noted.node ≡ master.0 →
+pub obeys-decides : (header : HeaderValue) (setting : Setting) (ns : List HistoryLine) (l : Line) (amount : ℤ) (master : PeerId) (i : ℕ) (noted : HistoryLine) (b : Bool) (t : ℤ) → HasClocks header setting → BringsAt ns l i → get_or ns i noted ≡ noted → noted.node ≡ master.0 →
     t ≡ clock_in header (node_of l) (history_of ns) l.did.step.at → MatchBool b (Moves (deed_of noted.act) amount t) (Moves (deed_of noted.act) amount t → ⊥) →
     MatchBool b (Obeys setting l (history_of ns) amount master) (Obeys setting l (history_of ns) amount master → ⊥)
 obeys-decides header setting ns l amount master i noted b t has brings is node clock m = by_case b m where
@@ -202,8 +202,8 @@ pub spaced-decides : (b : Bool) (l : Line) (h : List Line) (a : ℤ) (s : Bool) 
 spaced-decides true l h a s y deed good = λ other older c d t u x z here w n there lived. good other older d u z w n there lived
 spaced-decides false l h a s y deed bad = λ f. bad (λ other older d u z w n there lived. f other older a d s u y z deed w n there lived)
 
-pub takes-decide : (ns : List Noted) (l : Line) (i : ℕ) (noted : Noted) (r : Option ℕ) → BringsAt ns l i → get_or ns i noted ≡ noted → ActsNow l (history_of ns) → IsNumbered (deed_of noted.act) →
-    Told noted.node noted.port (history_of (take (i + 1) ns)) (begun_to (peer_of (node_of l)) (view noted.port (of noted.node (history_of (take (i + 1) ns))))) r →
+pub takes-decide : (ns : List HistoryLine) (l : Line) (i : ℕ) (noted : HistoryLine) (r : Option ℕ) → BringsAt ns l i → get_or ns i noted ≡ noted → ActsNow l (history_of ns) → IsNumbered (deed_of noted.act) →
+    IsPlaceOf noted.node noted.port (history_of (take (i + 1) ns)) (begun_to (peer_of (node_of l)) (view noted.port (of noted.node (history_of (take (i + 1) ns))))) r →
     MatchOption r ((s : ℕ) → TakesSend l (history_of ns) s → ⊥) (λ s. TakesSend l (history_of ns) s)
 takes-decide ns l i noted None b is acts numbered none = λ s t. takes-unbegun ns l i noted s b is none t
 takes-decide ns l i noted (Some k) b is acts numbered told = takes-found ns l i noted k acts.amount acts.stepped acts.shown b is acts.correct acts.took numbered told
@@ -212,7 +212,7 @@ takes-decide ns l i noted (Some k) b is acts numbered told = takes-found ns l i 
 pub corrects-none : (h : List Line) (k : ℕ) → posted (dids h) ≤ k → Corrects h k false
 corrects-none h k few = λ post older p m w d n. absurd (omega (arith, few, n, posted-mono (post ∷ older) h w, posted-post post older (Peer p) (Message m) d))
 
-pub corrects-at : (ns : List Noted) (k i : ℕ) (noted : Noted) (b : Bool) → PostsAt ns k i → get_or ns i noted ≡ noted → b ≡ deed_corrects (deed_of noted.act) → Corrects (history_of ns) k b
+pub corrects-at : (ns : List HistoryLine) (k i : ℕ) (noted : HistoryLine) (b : Bool) → PostsAt ns k i → get_or ns i noted ≡ noted → b ≡ deed_corrects (deed_of noted.act) → Corrects (history_of ns) k b
 corrects-at ns k i noted b at is corrects = λ post older p m w d n.
     let same : at.noted ≡ noted = same-noted ns i at.noted noted at.below at.noted_is is in
     let place : post ∷ older ≡ line_of at.noted ∷ history_of (take i ns) =

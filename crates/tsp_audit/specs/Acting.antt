@@ -17,17 +17,17 @@ use Rattle.tsp_base.specs.Places.{Within}
 use Rattle.tsp_base.specs.SendFacts.{is_correction, is_numbered}
 use Rattle.tsp_promises.specs.Setting.{Setting}
 use Rattle.tsp_base.specs.Takings.{heard, peer_of, posted, time_in}
-use Rattle.tsp_history.specs.declared.noted.Noted.{Noted}
+use Rattle.tsp_history.specs.declared.line.HistoryLine.{HistoryLine}
 use Rattle.tsp_history.specs.Histories.{history_of, line_of}
 use Rattle.tsp_history.specs.Posts.{PostsAt}
-use Rattle.tsp_history.specs.Told.{PostedAt}
+use Rattle.tsp_history.specs.PostedPlaces.{PostedAt}
 
 -- the datagram that the line's step takes, if it takes one, was never posted
 abbrev pub IsUnposted : Line → List Line → Type 0
 IsUnposted l h = (k : ℕ) → l.did.step.cause ≡ Came k → posted (dids h) ≤ k
 
 -- the datagram that the line's step takes is posted by the line at this index of those before it
-pub record CameAt (ns : List Noted) (l : Line) (i : ℕ) : Type 0 where
+pub record CameAt (ns : List HistoryLine) (l : Line) (i : ℕ) : Type 0 where
   pub number : ℕ
   pub cause : l.did.step.cause ≡ Came number
   pub posts : PostsAt ns number i
@@ -38,9 +38,9 @@ pub record PostsTo (deed : Deed) (node : ℕ) : Type 0 where
   pub is : deed ≡ Acts (Post (Peer (peer_of node)) (Message message))
 
 -- the message that the line's step brings is posted by the line at this index of those before it
-pub record BringsAt (ns : List Noted) (l : Line) (i : ℕ) : Type 0 where
+pub record BringsAt (ns : List HistoryLine) (l : Line) (i : ℕ) : Type 0 where
   pub below : i < length ns
-  pub brings : (noted : Noted) → get_or ns i noted ≡ noted → Brings l (history_of ns) (line_of noted) (history_of (take i ns))
+  pub brings : (noted : HistoryLine) → get_or ns i noted ≡ noted → Brings l (history_of ns) (line_of noted) (history_of (take i ns))
 
 -- a deed posts a numbered message
 pub record IsNumbered (deed : Deed) : Type 0 where

@@ -1,8 +1,8 @@
 -- What is kept from line to line of clocks that one round corrected.
 use Rattle.std.specs.Prelude.{◌≡◌, ◌<◌, ◌≤◌, ◌≤ℤ◌, ◌⊎◌, ℕ, ◌+◌, ◌-◌, ◌*◌, ℤ, pos, ◌+ℤ◌, ◌-ℤ◌, nat_abs, List, [], ◌∷◌, length, get_or, Option, None, Some}
-use Rattle.tsp_audit.specs.declared.live.LiveCast.{LiveCast}
-use Rattle.tsp_audit.specs.declared.live.NodeState.{NodeState}
-use Rattle.tsp_audit.specs.declared.accord.Accord.{Accord}
+use Rattle.tsp_audit.specs.declared.round_correction.RoundCorrection.{RoundCorrection}
+use Rattle.tsp_audit.specs.declared.round_correction.NodeState.{NodeState}
+use Rattle.tsp_audit.specs.declared.agreement_tracker.AgreementTracker.{AgreementTracker}
 use Rattle.tsp_promises.specs.Agreed.{Cast, RightAfter, Unchanged}
 use Rattle.tsp_promises.specs.Everywhere.{Everywhere}
 use Rattle.tsp_promises.specs.Fits.{node_of}
@@ -24,7 +24,7 @@ abbrev pub TripsTell : List Line → List ℤ → Type 0
 TripsTell h trips = (l : Line) (before : List Line) → Within (l ∷ before) h → get_or trips (length before) (pos 0) ≡ trip_at l before
 
 -- a Correct is a Cast
-pub record CastAs (l : Line) (h : List Line) (c : LiveCast) : Type 0 where
+pub record CastAs (l : Line) (h : List Line) (c : RoundCorrection) : Type 0 where
   pub close : Line
   pub cpast : List Line
   pub reading : Line
@@ -40,7 +40,7 @@ abbrev pub IsNoCast : Line → List Line → Type 0
 IsNoCast l h = (m : ℕ) (close : Line) (cpast : List Line) (r : Line) (older : List Line) (err : ℤ) → Cast m close cpast l h r older err → ⊥
 
 -- a Correct of node n is a Cast, and n was left alone since
-pub record LiveAs (n : ℕ) (h : List Line) (c : LiveCast) : Type 0 where
+pub record LiveAs (n : ℕ) (h : List Line) (c : RoundCorrection) : Type 0 where
   pub correct : Line
   pub past : List Line
   pub is : CastAs correct past c
@@ -48,7 +48,7 @@ pub record LiveAs (n : ℕ) (h : List Line) (c : LiveCast) : Type 0 where
   pub unchanged : Unchanged n (correct ∷ past) h
 
 -- a Correct of node n since which n was left alone is this Cast; none where there is no such
-abbrev pub LiveIs : ℕ → List Line → Option LiveCast → Type 0
+abbrev pub LiveIs : ℕ → List Line → Option RoundCorrection → Type 0
 LiveIs n h None = (correct : Line) (past : List Line) → node_of correct ≡ n → Unchanged n (correct ∷ past) h → IsNoCast correct past
 LiveIs n h (Some c) = LiveAs n h c
 
@@ -95,7 +95,7 @@ abbrev pub AllAre : List Line → List NodeState → Type 0
 AllAre h states = (n : ℕ) (s : NodeState) → IsAt states n s → NodeIs n h s
 
 -- an accord of so many nodes stands for a history
-pub record AccordIs (count : ℕ) (h : List Line) (a : Accord) : Type 0 where
+pub record AccordIs (count : ℕ) (h : List Line) (a : AgreementTracker) : Type 0 where
   pub few : count ≤ 64
   pub many : length a.nodes.items ≡ count
   pub lines : length a.trips.items ≡ length h
@@ -108,24 +108,24 @@ abbrev pub shown_by : HeaderValue → ℕ → ℤ → ℕ → ℤ
 shown_by header n moved at = ((node_line header n).wall +ℤ moved) +ℤ pos (tick_at (node_line header n).rate at)
 
 -- two nodes that one Close corrected differ by at most their errors and drift
-abbrev pub PairNear : HeaderValue → ℕ → ℕ → NodeState → LiveCast → ℕ → NodeState → LiveCast → Type 0
+abbrev pub PairNear : HeaderValue → ℕ → ℕ → NodeState → RoundCorrection → ℕ → NodeState → RoundCorrection → Type 0
 PairNear header t n a c k b d = pos (nat_abs (shown_by header n a.moved t -ℤ shown_by header k b.moved t)) ≤ℤ ((c.err +ℤ d.err) +ℤ pos (2 * width header.drift (t - c.at) + 2 * width header.drift (t - d.at)))
 
 -- the same, as far as one Close corrected both
 abbrev pub PairAgrees : HeaderValue → ℕ → ℕ → NodeState → ℕ → NodeState → Type 0
-PairAgrees header t n a k b = (c d : LiveCast) → a.cast ≡ Some c → b.cast ≡ Some d → c.master ≡ d.master → c.close ≡ d.close → PairNear header t n a c k b d
+PairAgrees header t n a k b = (c d : RoundCorrection) → a.cast ≡ Some c → b.cast ≡ Some d → c.master ≡ d.master → c.close ≡ d.close → PairNear header t n a c k b d
 
 -- since the Close of a cast its master has neither booted nor moved its clock, but by the Correct that is the next act
-abbrev pub Stands : LiveCast → NodeState → Type 0
+abbrev pub Stands : RoundCorrection → NodeState → Type 0
 Stands c b = (c.lives ≡ b.lives) × ((c.corrects ≡ b.corrects) ⊎ (b.after ≡ Some c.close))
 
 -- a node that a Close corrected and its master differ by at most the error and drift
-abbrev pub MasterNear : HeaderValue → ℕ → ℕ → NodeState → LiveCast → NodeState → Type 0
+abbrev pub MasterNear : HeaderValue → ℕ → ℕ → NodeState → RoundCorrection → NodeState → Type 0
 MasterNear header t n a c b = pos (nat_abs (shown_by header n a.moved t -ℤ shown_by header c.master b.moved t)) ≤ℤ (c.err +ℤ pos (2 * width header.drift (t - c.at)))
 
 -- the same, as far as the master was left alone
 abbrev pub BossAgrees : HeaderValue → ℕ → ℕ → NodeState → List NodeState → Type 0
-BossAgrees header t n a states = (c : LiveCast) (b : NodeState) → a.cast ≡ Some c → IsAt states c.master b → Stands c b → MasterNear header t n a c b
+BossAgrees header t n a states = (c : RoundCorrection) (b : NodeState) → a.cast ≡ Some c → IsAt states c.master b → Stands c b → MasterNear header t n a c b
 
 -- a node agrees with each that the same Close corrected, and with its master
 pub record NodeAgrees (header : HeaderValue) (t n : ℕ) (a : NodeState) (states : List NodeState) : Type 0 where

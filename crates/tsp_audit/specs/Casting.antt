@@ -1,6 +1,6 @@
 -- What a Correct came of, if that is a round.
 use Rattle.std.specs.Prelude.{◌≡◌, ◌≤◌, ℕ, ℤ, List, ◌∷◌, length, take, Some}
-use Rattle.tsp_audit.specs.declared.live.LiveCast.{LiveCast}
+use Rattle.tsp_audit.specs.declared.round_correction.RoundCorrection.{RoundCorrection}
 use Rattle.tsp_base.specs.declared.act.Act.TheVariants.{Post}
 use Rattle.tsp_base.specs.declared.datagram.Datagram.{Datagram}
 use Rattle.tsp_base.specs.declared.datagram.Datagram.TheVariants.{Message}
@@ -18,7 +18,7 @@ use Rattle.tsp_base.specs.Places.{Within}
 use Rattle.tsp_base.specs.RoundFacts.{Sampled, best}
 use Rattle.tsp_promises.specs.StepFacts.{closed}
 use Rattle.tsp_base.specs.Takings.{peer_of, posted}
-use Rattle.tsp_history.specs.declared.noted.Noted.{Noted}
+use Rattle.tsp_history.specs.declared.line.HistoryLine.{HistoryLine}
 use Rattle.tsp_history.specs.Histories.{history_of, line_of}
 use Rattle.tsp_history.specs.Rounds.{LineAt}
 
@@ -30,8 +30,8 @@ pub record IsAdjusting (deed : Deed) : Type 0 where
   pub kind : message.kind ≡ AdjTime
 
 -- the send of which the line's Correct takes a post begins at this index, with an ADJTIME to its node
-pub record BegunAt (ns : List Noted) (l : Line) (i : ℕ) : Type 0 where
-  pub noted : Noted
+pub record BegunAt (ns : List HistoryLine) (l : Line) (i : ℕ) : Type 0 where
+  pub noted : HistoryLine
   pub at : LineAt ns i noted
   pub post : Line
   pub before : List Line
@@ -55,7 +55,7 @@ pub record Rounds (m : ℕ) (q : Port) (k : ℕ) (seen : List Seen) (world : Lis
   pub reading : ReadingOf m q sample.place world r older
 
 -- the same, as it is kept
-pub record RoundAs (m : ℕ) (q : Port) (k : ℕ) (h : List Line) (c : LiveCast) : Type 0 where
+pub record RoundAs (m : ℕ) (q : Port) (k : ℕ) (h : List Line) (c : RoundCorrection) : Type 0 where
   pub close : Line
   pub cpast : List Line
   pub reading : Line

@@ -12,7 +12,7 @@ use Rattle.tsp_base.specs.Places.{Within}
 use Rattle.tsp_promises.specs.Setting.{Setting}
 use Rattle.tsp_base.specs.Stamps.{ReplyValue}
 use Rattle.tsp_base.specs.Takings.{peer_of, posted}
-use Rattle.tsp_history.specs.declared.noted.Noted.{Noted}
+use Rattle.tsp_history.specs.declared.line.HistoryLine.{HistoryLine}
 use Rattle.tsp_history.specs.Histories.{history_of, line_of}
 
 -- a line is that of peer p, and posts a reply to this node
@@ -28,9 +28,9 @@ pub record Replies (l : Line) (h : List Line) (p : PeerId) (post : Line) (older 
   pub posts : RepliesTo post p (node_of l)
 
 -- p posts the reply that the line's step takes at the line with this index, of those before it
-pub record RepliesAt (ns : List Noted) (l : Line) (p : PeerId) (i : ℕ) : Type 0 where
+pub record RepliesAt (ns : List HistoryLine) (l : Line) (p : PeerId) (i : ℕ) : Type 0 where
   pub below : i < length ns
-  pub replies : (noted : Noted) → get_or ns i noted ≡ noted → Replies l (history_of ns) p (line_of noted) (history_of (take i ns))
+  pub replies : (noted : HistoryLine) → get_or ns i noted ≡ noted → Replies l (history_of ns) p (line_of noted) (history_of (take i ns))
 
 -- one clock stands ahead of another by diff, give or take err
 abbrev pub IsNear : ℤ → ℤ → ℤ → ℤ → Type 0

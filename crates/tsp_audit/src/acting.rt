@@ -1,5 +1,6 @@
 //! Whether each correction acts at most once.
-ghost use Rattle.std.specs.Prelude.{◌≡◌, ◌≤◌, ◌<◌, ◌+◌, ◌-◌, ◌^◌, ℕ, true, List, length, take, vec_len, vec_capacity, MatchBool, MatchOption};
+ghost use Rattle.std.specs.Prelude.{◌≡◌, ◌≤◌, ◌<◌, ◌+◌, ◌-◌, ◌^◌, ℕ, true, List, length, take};
+ghost use Rattle.std.specs.Prelude.{vec_len, vec_capacity, MatchBool, MatchOption};
 ghost use Rattle.tsp_promises.specs.CorrectFits.{amount_of};
 ghost use Rattle.tsp_base.specs.History.{Line};
 ghost use Rattle.tsp_promises.specs.Once.{ConfirmedAt, Obeys, ObeysAt, OnceAt, SpacedAt};
@@ -8,13 +9,14 @@ ghost use Rattle.tsp_promises.specs.Setting.{Setting};
 ghost use Rattle.tsp_base.specs.Takings.{time_in};
 ghost use Rattle.tsp_audit.specs.Parts.{ActsOnce, AllKept};
 ghost use Rattle.tsp_audit.specs.Settings.{HasClocks, Timely};
-ghost use Rattle.tsp_audit.specs.Acting.{ActedIs, ActsAt, ActsNow, Corrects, IsNumbered, Moves, TakesAs, TakesSend, TakesWell, deed_corrects, is_unknown, with_send};
+ghost use Rattle.tsp_audit.specs.Acting.{ActedIs, ActsAt, ActsNow, Corrects, IsNumbered, Moves};
+ghost use Rattle.tsp_audit.specs.Acting.{TakesAs, TakesSend, TakesWell, deed_corrects, is_unknown};
+ghost use Rattle.tsp_audit.specs.Acting.{with_send};
 ghost use Rattle.tsp_history.specs.Clocks.{IsSmall};
 ghost use Rattle.tsp_history.specs.Histories.{deed_of, line_of, history_of};
 
 use crate::brought::brought;
 use crate::clock::clock_at;
-use crate::leading::is_correction;
 use crate::premises::Premises;
 use tsp_base::act::Act;
 use tsp_base::datagram::Datagram;
@@ -24,14 +26,15 @@ use tsp_base::message::Body;
 use tsp_base::place::{PeerId, Place};
 use tsp_base::role::Role;
 use tsp_history::clocks::is_spaced;
-use tsp_history::noted::Noted;
+use tsp_history::line::HistoryLine;
 use tsp_history::posts::{has_taken, post_at};
 use tsp_history::scans::role_at;
 use tsp_history::sends::{begun_to, open_to};
 
 /// Whether a Correct stands GAP ticks after each one of its node's life, where these lines stand before it.
-fn spaces(lines: &[Noted], line: &Noted) -> bool
-    ensures { MatchBool result (SpacedAt (line_of line.now) (history_of lines.now)) (SpacedAt (line_of line.now) (history_of lines.now) → ⊥) }
+fn spaces(lines: &[HistoryLine], line: &HistoryLine) -> bool
+    ensures { MatchBool result (SpacedAt (line_of line.now) (history_of lines.now))
+        (SpacedAt (line_of line.now) (history_of lines.now) → ⊥) }
 {
     match &line.act {
         Some(Act::Correct { .. }) => is_spaced(lines, line.node, line.tick),
@@ -39,7 +42,8 @@ fn spaces(lines: &[Noted], line: &Noted) -> bool
     }
 }
 
-/// By how much a correction moves a clock with this target, in microseconds: an ADJTIME by its time, a SETTIME to its time.
+/// By how much a correction moves a clock with this target, in microseconds: an ADJTIME by its
+/// time, a SETTIME to its time.
 fn amount_of(kind: Kind, body: Body, target: i128) -> i128
     requires { IsSmall target }
     ensures { result ≡ amount_of kind (time_in body) target }
@@ -55,23 +59,31 @@ fn amount_of(kind: Kind, body: Body, target: i128) -> i128
 }
 
 /// Whether a line posts a correction that moves a clock with this target by this amount.
-fn moves(post: &Noted, amount: i64, target: i128) -> bool
+fn moves(post: &HistoryLine, amount: i64, target: i128) -> bool
     requires { IsSmall target }
-    ensures { MatchBool result (Moves (deed_of post.now.act) amount target) (Moves (deed_of post.now.act) amount target → ⊥) }
+    ensures { MatchBool result (Moves (deed_of post.now.act) amount target)
+        (Moves (deed_of post.now.act) amount target → ⊥) }
 {
     match &post.act {
         Some(Act::Post(_, Datagram::Message(m))) => {
-            is_correction(m.kind()) && i128::from(amount) == amount_of(m.kind(), m.body(), target)
+            m.kind().is_correction() && i128::from(amount) == amount_of(m.kind(), m.body(), target)
         }
         _ => false,
     }
 }
 
 /// Whether the step of a Correct brings a correction of this master, which moves the clock by this amount.
-fn obeys_master(header: &Header, lines: &[Noted], line: &Noted, amount: i64, master: PeerId) -> bool
+fn obeys_master(
+    header: &Header,
+    lines: &[HistoryLine],
+    line: &HistoryLine,
+    amount: i64,
+    master: PeerId,
+) -> bool
     requires { length lines.now < 2 ^ 32 }
     ensures { (setting : Setting) → HasClocks header.now setting → line.now.at ≤ 1000000000000000
-        → MatchBool result (Obeys setting (line_of line.now) (history_of lines.now) amount master) (Obeys setting (line_of line.now) (history_of lines.now) amount master → ⊥) }
+        → MatchBool result (Obeys setting (line_of line.now) (history_of lines.now) amount master)
+        (Obeys setting (line_of line.now) (history_of lines.now) amount master → ⊥) }
 {
     match brought(lines, line) {
         None => false,
@@ -87,10 +99,11 @@ fn obeys_master(header: &Header, lines: &[Noted], line: &Noted, amount: i64, mas
 }
 
 /// Whether a follower's Correct does as its master says, where these lines stand before it.
-fn obeys(header: &Header, lines: &[Noted], line: &Noted) -> bool
+fn obeys(header: &Header, lines: &[HistoryLine], line: &HistoryLine) -> bool
     requires { length lines.now < 2 ^ 32 }
     ensures { (setting : Setting) → HasClocks header.now setting → line.now.at ≤ 1000000000000000
-        → MatchBool result (ObeysAt setting (line_of line.now) (history_of lines.now)) (ObeysAt setting (line_of line.now) (history_of lines.now) → ⊥) }
+        → MatchBool result (ObeysAt setting (line_of line.now) (history_of lines.now))
+        (ObeysAt setting (line_of line.now) (history_of lines.now) → ⊥) }
 {
     match &line.act {
         Some(Act::Correct { amount, .. }) => match role_at(lines, line.node, line.port) {
@@ -102,26 +115,20 @@ fn obeys(header: &Header, lines: &[Noted], line: &Noted) -> bool
 }
 
 /// Whether a line posts a numbered message.
-fn is_numbered(line: &Noted) -> bool
-    ensures { MatchBool result (IsNumbered (deed_of line.now.act)) (IsNumbered (deed_of line.now.act) → ⊥) }
+fn is_numbered(line: &HistoryLine) -> bool
+    ensures { MatchBool result (IsNumbered (deed_of line.now.act))
+        (IsNumbered (deed_of line.now.act) → ⊥) }
 {
     match &line.act {
-        Some(Act::Post(_, Datagram::Message(m))) => matches!(
-            m.kind(),
-            Kind::AdjTime
-                | Kind::SetTime
-                | Kind::Election
-                | Kind::Conflict
-                | Kind::Quit
-                | Kind::SetDateReq
-        ),
+        Some(Act::Post(_, Datagram::Message(m))) => m.kind().is_numbered(),
         _ => false,
     }
 }
 
 /// Whether a line is a Correct after its step's Took, where these lines stand before it.
-fn acts(lines: &[Noted], line: &Noted) -> bool
-    ensures { MatchBool result (ActsNow (line_of line.now) (history_of lines.now)) (ActsNow (line_of line.now) (history_of lines.now) → ⊥) }
+fn acts(lines: &[HistoryLine], line: &HistoryLine) -> bool
+    ensures { MatchBool result (ActsNow (line_of line.now) (history_of lines.now))
+        (ActsNow (line_of line.now) (history_of lines.now) → ⊥) }
 {
     match &line.act {
         Some(Act::Correct { .. }) => has_taken(lines, line.node),
@@ -130,9 +137,10 @@ fn acts(lines: &[Noted], line: &Noted) -> bool
 }
 
 /// The number of the datagram that begins the send of which a line's Correct takes a post, if it takes one.
-pub(crate) fn takes_send(lines: &[Noted], line: &Noted) -> Option<u64>
+pub(crate) fn takes_send(lines: &[HistoryLine], line: &HistoryLine) -> Option<u64>
     requires { length lines.now < 2 ^ 32 }
-    ensures { MatchOption result ((s : ℕ) → TakesSend (line_of line.now) (history_of lines.now) s → ⊥) (λ s. TakesSend (line_of line.now) (history_of lines.now) s) }
+    ensures { MatchOption result ((s : ℕ) → TakesSend (line_of line.now) (history_of lines.now) s
+        → ⊥) (λ s. TakesSend (line_of line.now) (history_of lines.now) s) }
 {
     if !acts(lines, line) {
         return None;
@@ -150,7 +158,8 @@ pub(crate) fn takes_send(lines: &[Noted], line: &Noted) -> Option<u64>
     }
 }
 
-/// Whether no Correct before, of which these are the sends, has taken a post of the send that a line's Correct takes a post of.
+/// Whether no Correct before, of which these are the sends, has taken a post of the send that a
+/// line's Correct takes a post of.
 fn is_new(acted: &[u64], send: Option<u64>) -> bool
     ensures { result ≡ is_unknown send acted.now }
 {
@@ -161,17 +170,17 @@ fn is_new(acted: &[u64], send: Option<u64>) -> bool
 }
 
 /// Whether a line posts a correction.
-fn is_correcting(line: &Noted) -> bool
+fn is_correcting(line: &HistoryLine) -> bool
     ensures { result ≡ deed_corrects (deed_of line.now.act) }
 {
     match &line.act {
-        Some(Act::Post(_, Datagram::Message(m))) => is_correction(m.kind()),
+        Some(Act::Post(_, Datagram::Message(m))) => m.kind().is_correction(),
         _ => false,
     }
 }
 
 /// Whether the datagram with this number is a correction.
-fn corrects(lines: &[Noted], number: u64) -> bool
+fn corrects(lines: &[HistoryLine], number: u64) -> bool
     ensures { Corrects (history_of lines.now) number result }
 {
     match post_at(lines, number) {
@@ -180,11 +189,13 @@ fn corrects(lines: &[Noted], number: u64) -> bool
     }
 }
 
-/// Whether a correction that an Acked ends was taken, where these lines stand before it and these are the sends that Corrects
-/// have taken posts of.
-fn confirms(lines: &[Noted], acted: &[u64], line: &Noted) -> bool
+/// Whether a correction that an Acked ends was taken, where these lines stand before it and these
+/// are the sends that Corrects have taken posts of.
+fn confirms(lines: &[HistoryLine], acted: &[u64], line: &HistoryLine) -> bool
     requires { length lines.now < 2 ^ 32 }
-    ensures { ActedIs (history_of lines.now) acted.now → MatchBool result (ConfirmedAt (line_of line.now) (history_of lines.now)) (ConfirmedAt (line_of line.now) (history_of lines.now) → ⊥) }
+    ensures { ActedIs (history_of lines.now) acted.now
+        → MatchBool result (ConfirmedAt (line_of line.now) (history_of lines.now))
+        (ConfirmedAt (line_of line.now) (history_of lines.now) → ⊥) }
 {
     match &line.act {
         Some(Act::Acked(p)) => match open_to(lines, line.node, line.port, *p) {
@@ -201,10 +212,12 @@ fn confirms(lines: &[Noted], acted: &[u64], line: &Noted) -> bool
 }
 
 /// Whether a follower's Correct does as its master says, if that is asked.
-fn obeys_if(honest: bool, header: &Header, lines: &[Noted], line: &Noted) -> bool
+fn obeys_if(honest: bool, header: &Header, lines: &[HistoryLine], line: &HistoryLine) -> bool
     requires { length lines.now < 2 ^ 32 }
     ensures { (setting : Setting) → HasClocks header.now setting → line.now.at ≤ 1000000000000000
-        → MatchBool result (honest ≡ true → ObeysAt setting (line_of line.now) (history_of lines.now)) ((honest ≡ true → ObeysAt setting (line_of line.now) (history_of lines.now)) → ⊥) }
+        → MatchBool result (honest ≡ true
+        → ObeysAt setting (line_of line.now) (history_of lines.now)) ((honest ≡ true
+        → ObeysAt setting (line_of line.now) (history_of lines.now)) → ⊥) }
 {
     if honest {
         obeys(header, lines, line)
@@ -214,10 +227,12 @@ fn obeys_if(honest: bool, header: &Header, lines: &[Noted], line: &Noted) -> boo
 }
 
 /// Whether a line takes no send again, and confirms none that wasn't taken.
-fn takes_well(lines: &[Noted], acted: &[u64], line: &Noted, send: Option<u64>) -> bool
+fn takes_well(lines: &[HistoryLine], acted: &[u64], line: &HistoryLine, send: Option<u64>) -> bool
     requires { length lines.now < 2 ^ 32 }
-    ensures { ActedIs (history_of lines.now) acted.now → TakesAs (line_of line.now) (history_of lines.now) send
-        → MatchBool result (TakesWell (line_of line.now) (history_of lines.now)) (TakesWell (line_of line.now) (history_of lines.now) → ⊥) }
+    ensures { ActedIs (history_of lines.now) acted.now
+        → TakesAs (line_of line.now) (history_of lines.now) send
+        → MatchBool result (TakesWell (line_of line.now) (history_of lines.now))
+        (TakesWell (line_of line.now) (history_of lines.now) → ⊥) }
 {
     if !is_new(acted, send) {
         return false;
@@ -228,14 +243,16 @@ fn takes_well(lines: &[Noted], acted: &[u64], line: &Noted, send: Option<u64>) -
 /// The same, if that is asked.
 fn takes_well_if(
     premises: Premises,
-    lines: &[Noted],
+    lines: &[HistoryLine],
     acted: &[u64],
-    line: &Noted,
+    line: &HistoryLine,
     send: Option<u64>,
 ) -> bool
     requires { length lines.now < 2 ^ 32 }
-    ensures { ActedIs (history_of lines.now) acted.now → TakesAs (line_of line.now) (history_of lines.now) send
-        → MatchBool result (AllKept premises → TakesWell (line_of line.now) (history_of lines.now)) ((AllKept premises → TakesWell (line_of line.now) (history_of lines.now)) → ⊥) }
+    ensures { ActedIs (history_of lines.now) acted.now
+        → TakesAs (line_of line.now) (history_of lines.now) send
+        → MatchBool result (AllKept premises → TakesWell (line_of line.now) (history_of lines.now))
+        ((AllKept premises → TakesWell (line_of line.now) (history_of lines.now)) → ⊥) }
 {
     if premises.all_kept() {
         takes_well(lines, acted, line, send)
@@ -244,19 +261,22 @@ fn takes_well_if(
     }
 }
 
-/// Whether a line keeps that each correction acts at most once, where these lines stand before it, these are the sends that
-/// Corrects have taken posts of, and it takes a post of this one.
+/// Whether a line keeps that each correction acts at most once, where these lines stand before it,
+/// these are the sends that Corrects have taken posts of, and it takes a post of this one.
 fn acts_once(
     header: &Header,
     premises: Premises,
-    lines: &[Noted],
+    lines: &[HistoryLine],
     acted: &[u64],
-    line: &Noted,
+    line: &HistoryLine,
     send: Option<u64>,
 ) -> bool
     requires { length lines.now < 2 ^ 32 }
-    ensures { (setting : Setting) → HasClocks header.now setting → line.now.at ≤ 1000000000000000 → ActedIs (history_of lines.now) acted.now → TakesAs (line_of line.now) (history_of lines.now) send
-        → MatchBool result (ActsAt premises setting (line_of line.now) (history_of lines.now)) (ActsAt premises setting (line_of line.now) (history_of lines.now) → ⊥) }
+    ensures { (setting : Setting) → HasClocks header.now setting → line.now.at ≤ 1000000000000000
+        → ActedIs (history_of lines.now) acted.now
+        → TakesAs (line_of line.now) (history_of lines.now) send
+        → MatchBool result (ActsAt premises setting (line_of line.now) (history_of lines.now))
+        (ActsAt premises setting (line_of line.now) (history_of lines.now) → ⊥) }
 {
     if !spaces(lines, line) {
         return false;
@@ -269,7 +289,8 @@ fn acts_once(
 
 /// Puts a send behind those of which Corrects have taken posts, if there is one; there is to be room for it.
 fn note(acted: &mut Vec<u64>, send: Option<u64>)
-    ensures items { vec_len acted.old < vec_capacity acted.old → acted.new.items ≡ with_send send acted.old.items }
+    ensures items { vec_len acted.old < vec_capacity acted.old
+        → acted.new.items ≡ with_send send acted.old.items }
     ensures len { vec_len acted.new ≤ vec_len acted.old + 1 }
     ensures capacity { vec_capacity acted.new ≡ vec_capacity acted.old }
 {
@@ -280,20 +301,27 @@ fn note(acted: &mut Vec<u64>, send: Option<u64>)
     }
 }
 
-/// Whether each correction acts at most once in all lines, where it is so in those before `from`. `acted` are the sends of
-/// which Corrects before `from` have taken posts, and then those of all.
+/// Whether each correction acts at most once in all lines, where it is so in those before `from`.
+/// `acted` are the sends of which Corrects before `from` have taken posts, and then those of all.
 pub(crate) fn keeps_acting(
     header: &Header,
     premises: Premises,
-    lines: &[Noted],
+    lines: &[HistoryLine],
     from: usize,
     acted: &mut Vec<u64>,
 ) -> bool
     requires from { from ≤ length lines.now }
     requires few { length lines.now < 2 ^ 32 }
-    ensures keeps { (setting : Setting) → HasClocks header.now setting → Timely (history_of lines.now) → vec_len acted.old + (length lines.now - from) ≤ vec_capacity acted.old → ActedIs (history_of (take from lines.now)) acted.old.items → ActsOnce premises setting (history_of (take from lines.now))
-        → MatchBool result (ActsOnce premises setting (history_of lines.now)) (ActsOnce premises setting (history_of lines.now) → ⊥) }
-    ensures acted { result ≡ true → vec_len acted.old + (length lines.now - from) ≤ vec_capacity acted.old → ActedIs (history_of (take from lines.now)) acted.old.items → ActedIs (history_of lines.now) acted.new.items }
+    ensures keeps { (setting : Setting) → HasClocks header.now setting
+        → Timely (history_of lines.now)
+        → vec_len acted.old + (length lines.now - from) ≤ vec_capacity acted.old
+        → ActedIs (history_of (take from lines.now)) acted.old.items
+        → ActsOnce premises setting (history_of (take from lines.now))
+        → MatchBool result (ActsOnce premises setting (history_of lines.now))
+        (ActsOnce premises setting (history_of lines.now) → ⊥) }
+    ensures acted { result ≡ true → vec_len acted.old + (length lines.now - from) ≤ vec_capacity
+        acted.old → ActedIs (history_of (take from lines.now)) acted.old.items
+        → ActedIs (history_of lines.now) acted.new.items }
 {
     for i in from..lines.len() {
         let before = &lines[..i];

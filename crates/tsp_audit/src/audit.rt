@@ -18,11 +18,16 @@ use tsp_claims::audit_fault::AuditFault;
 use tsp_claims::claims::Claims;
 use tsp_script::trace::Line2;
 
-/// The first failure among the lines of the newest event, which begin after so many, where all parts hold before it. The notes are
-/// those of the lines before it, and where nothing fails then those of all.
+/// The first failure among the lines of the newest event, which begin after so many, where all
+/// parts hold before it. The notes are those of the lines before it, and where nothing fails then
+/// those of all.
 fn look(claims: &Claims, premises: Premises, from: usize, notes: &mut Notes) -> Option<Failure>
-    ensures { (header : HeaderValue) (new : List Claim) (h : List Line) → ClaimsStand header new claims.now → Grown (length header.nodes) h (claimed header new) from
-        → HasRoom (length (claimed header new) - from) notes.old → NotesStand premises (length header.nodes) h notes.old → Looks premises header new h notes.new result }
+    ensures { (header : HeaderValue) (new : List Claim) (h : List Line)
+        → ClaimsStand header new claims.now
+        → Grown (length header.nodes) h (claimed header new) from
+        → HasRoom (length (claimed header new) - from) notes.old
+        → NotesStand premises (length header.nodes) h notes.old
+        → Looks premises header new h notes.new result }
 {
     let lines = claims.lines();
     if lines.len() < from {
@@ -45,8 +50,12 @@ fn find(
     from: usize,
     notes: &mut Notes,
 ) -> Option<Failure>
-    ensures { (header : HeaderValue) (new : List Claim) (h : List Line) → ClaimsStand header new claims.now → Grown (length header.nodes) h (claimed header new) from
-        → HasRoom (length (claimed header new) - from) notes.old → (failed ≡ None → NotesStand premises (length header.nodes) h notes.old) → Finds premises header new h failed notes.new result }
+    ensures { (header : HeaderValue) (new : List Claim) (h : List Line)
+        → ClaimsStand header new claims.now
+        → Grown (length header.nodes) h (claimed header new) from
+        → HasRoom (length (claimed header new) - from) notes.old
+        → (failed ≡ None → NotesStand premises (length header.nodes) h notes.old)
+        → Finds premises header new h failed notes.new result }
 {
     match failed {
         Some(failure) => Some(failure),
@@ -77,7 +86,7 @@ impl Audit {
     ghost use Rattle.tsp_run.specs.Run.{event_at};
     ghost use Rattle.std.specs.Prelude.{List};
 
-    /// Nothing is claimed. The refusal is want of memory, and drops the header.
+    /// Nothing is claimed. Fails only if out of memory, and then drops the header.
     pub fn new(alloc: Global, header: Header, premises: Premises) -> Result<Audit, AllocError>
         requires some { 1 ≤ length header.nodes }
         requires few { length header.nodes ≤ 16 }
@@ -96,15 +105,17 @@ impl Audit {
         }
     }
 
-    /// Takes in an event and the lines that are claimed of it, and gives the verdict of the history so far. `History` names
-    /// the first line that doesn't fit, or the number of lines where the event lacks something. After either fault the audit
-    /// is what it was.
+    /// Takes in an event and the lines that are claimed of it, and gives the verdict of the history
+    /// so far. `History` names the first line that doesn't fit, or the number of lines where the
+    /// event lacks something. After either fault the audit is what it was.
     pub fn event(&mut self, e: &Event, acts: &[Line2]) -> Result<Verdict, AuditFault>
         requires time { event_at e.now ≤ 1000000000000000 }
         requires node { NamesNode (length self.old.claims.header.nodes) e.now }
         requires events { self.old.claims.events < 20000 }
         requires lines { self.old.claims.told + length acts.now ≤ 20000 }
-        ensures { (premises : Premises) (header : HeaderValue) (claims : List Claim) → AuditStands premises header claims self.old → Audits premises header claims e.now acts.now result self.new }
+        ensures { (premises : Premises) (header : HeaderValue) (claims : List Claim)
+            → AuditStands premises header claims self.old
+            → Audits premises header claims e.now acts.now result self.new }
     {
         let from = self.claims.lines().len();
         if self.notes.make_room(acts.len() + 1).is_err() {
@@ -134,8 +145,9 @@ impl Audit {
 
     /// The first failure, if one was found.
     pub fn failure(&self) -> Option<Failure>
-        ensures { (premises : Premises) (header : HeaderValue) (claims : List Claim) → AuditStands premises header claims self.now
-            → (setting : Setting) → HasClocks header setting → IsFound premises setting header claims result }
+        ensures { (premises : Premises) (header : HeaderValue) (claims : List Claim)
+            → AuditStands premises header claims self.now → (setting : Setting)
+            → HasClocks header setting → IsFound premises setting header claims result }
     {
         self.failed
     }

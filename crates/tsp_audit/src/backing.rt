@@ -11,12 +11,13 @@ use tsp_base::datagram::Datagram;
 use tsp_base::kind::Kind;
 use tsp_base::place::{PeerId, Place, Port};
 use tsp_base::role::Role;
-use tsp_history::noted::Noted;
+use tsp_history::line::HistoryLine;
 use tsp_history::scans::is_held;
 
 /// Whom the step of a node's port has backed last after a line, where it was `keep` before.
-fn backed_after(line: &Noted, node: u32, port: Port, keep: Option<PeerId>) -> Option<PeerId>
-    ensures { (before : List Line) → keep ≡ backed (view port (of node before)) → result ≡ backed (view port (of node (line_of line.now ∷ before))) }
+fn backed_after(line: &HistoryLine, node: u32, port: Port, keep: Option<PeerId>) -> Option<PeerId>
+    ensures { (before : List Line) → keep ≡ backed (view port (of node before))
+        → result ≡ backed (view port (of node (line_of line.now ∷ before))) }
 {
     if line.node != node {
         return keep;
@@ -35,7 +36,7 @@ fn backed_after(line: &Noted, node: u32, port: Port, keep: Option<PeerId>) -> Op
 }
 
 /// Whom the step of a node's port has backed last.
-fn backed_at(lines: &[Noted], node: u32, port: Port) -> Option<PeerId>
+fn backed_at(lines: &[HistoryLine], node: u32, port: Port) -> Option<PeerId>
     ensures { result ≡ backed (view port (of node (history_of lines.now))) }
 {
     let mut backed = None;
@@ -46,8 +47,9 @@ fn backed_at(lines: &[Noted], node: u32, port: Port) -> Option<PeerId>
 }
 
 /// Whether a node's port is an unbacked candidate after a line, where it was `keep` before.
-fn is_unbacked_after(line: &Noted, node: u32, port: Port, keep: bool) -> bool
-    ensures { (before : List Line) → keep ≡ is_unbacked (view port (of node before)) → result ≡ is_unbacked (view port (of node (line_of line.now ∷ before))) }
+fn is_unbacked_after(line: &HistoryLine, node: u32, port: Port, keep: bool) -> bool
+    ensures { (before : List Line) → keep ≡ is_unbacked (view port (of node before))
+        → result ≡ is_unbacked (view port (of node (line_of line.now ∷ before))) }
 {
     if line.node != node {
         return keep;
@@ -67,7 +69,7 @@ fn is_unbacked_after(line: &Noted, node: u32, port: Port, keep: bool) -> bool
 }
 
 /// Whether a node's port became a candidate in its step and hasn't yet backed itself.
-fn is_unbacked_at(lines: &[Noted], node: u32, port: Port) -> bool
+fn is_unbacked_at(lines: &[HistoryLine], node: u32, port: Port) -> bool
     ensures { result ≡ is_unbacked (view port (of node (history_of lines.now))) }
 {
     let mut unbacked = false;
@@ -78,8 +80,9 @@ fn is_unbacked_at(lines: &[Noted], node: u32, port: Port) -> bool
 }
 
 /// Whether a line is no Back for another candidate than its port holds, where these stand before it.
-fn holds(lines: &[Noted], line: &Noted) -> bool
-    ensures { MatchBool result (HoldsAt (line_of line.now) (history_of lines.now)) (HoldsAt (line_of line.now) (history_of lines.now) → ⊥) }
+fn holds(lines: &[HistoryLine], line: &HistoryLine) -> bool
+    ensures { MatchBool result (HoldsAt (line_of line.now) (history_of lines.now))
+        (HoldsAt (line_of line.now) (history_of lines.now) → ⊥) }
 {
     match &line.act {
         Some(Act::Back(p)) => is_held(lines, line.node, line.port, line.tick, *p),
@@ -88,7 +91,7 @@ fn holds(lines: &[Noted], line: &Noted) -> bool
 }
 
 /// Whether a line makes a node's port a candidate; with no node any node's.
-fn stands(line: &Noted, node: Option<u32>) -> bool
+fn stands(line: &HistoryLine, node: Option<u32>) -> bool
     ensures { result ≡ is_stand (line_of line.now) && concerns node line.now.node }
 {
     if let Some(node) = node
@@ -99,10 +102,13 @@ fn stands(line: &Noted, node: Option<u32>) -> bool
     matches!(&line.act, Some(Act::Become(Role::Candidate)))
 }
 
-/// Whether no port of the node, or with no node of any, is an unbacked candidate, where none was before `from`.
-fn settles(lines: &[Noted], from: usize, node: Option<u32>) -> bool
+/// Whether no port of the node, or with no node of any, is an unbacked candidate, where none was
+/// before `from`.
+fn settles(lines: &[HistoryLine], from: usize, node: Option<u32>) -> bool
     requires { from ≤ length lines.now }
-    ensures { Settled node (history_of (take from lines.now)) → MatchBool result (Settled node (history_of lines.now)) (Settled node (history_of lines.now) → ⊥) }
+    ensures { Settled node (history_of (take from lines.now))
+        → MatchBool result (Settled node (history_of lines.now))
+        (Settled node (history_of lines.now) → ⊥) }
 {
     for i in from..lines.len() {
         let line = &lines[i];
@@ -113,9 +119,11 @@ fn settles(lines: &[Noted], from: usize, node: Option<u32>) -> bool
     true
 }
 
-/// Whether a post's addressee was backed, if it is accepted, and whether the port backed itself, if it asks for votes.
-fn may_post(lines: &[Noted], line: &Noted, to: Place, kind: Kind) -> bool
-    ensures { let seen = view line.now.port (of line.now.node (history_of lines.now)) in result ≡ post_backs kind to (backed seen) (is_unbacked seen) }
+/// Whether a post's addressee was backed, if it is accepted, and whether the port backed itself, if
+/// it asks for votes.
+fn may_post(lines: &[HistoryLine], line: &HistoryLine, to: Place, kind: Kind) -> bool
+    ensures { let seen = view line.now.port (of line.now.node (history_of lines.now)) in
+        result ≡ post_backs kind to (backed seen) (is_unbacked seen) }
 {
     match kind {
         Kind::Accept => match to {
@@ -131,8 +139,9 @@ fn may_post(lines: &[Noted], line: &Noted, to: Place, kind: Kind) -> bool
 }
 
 /// Whether a line that is no mark keeps to whom its step has backed, where these stand before it.
-fn votes(lines: &[Noted], line: &Noted) -> bool
-    ensures { let seen = view line.now.port (of line.now.node (history_of lines.now)) in result ≡ deed_backs (deed_of line.now.act) (backed seen) (is_unbacked seen) }
+fn votes(lines: &[HistoryLine], line: &HistoryLine) -> bool
+    ensures { let seen = view line.now.port (of line.now.node (history_of lines.now)) in
+        result ≡ deed_backs (deed_of line.now.act) (backed seen) (is_unbacked seen) }
 {
     match &line.act {
         Some(Act::Post(to, Datagram::Message(m))) => may_post(lines, line, *to, m.kind()),
@@ -140,10 +149,13 @@ fn votes(lines: &[Noted], line: &Noted) -> bool
     }
 }
 
-/// Whether a line keeps to whom its step has backed, where these stand before it, and before `from` no candidate was unbacked.
-fn backs(lines: &[Noted], from: usize, line: &Noted) -> bool
+/// Whether a line keeps to whom its step has backed, where these stand before it, and before `from`
+/// no candidate was unbacked.
+fn backs(lines: &[HistoryLine], from: usize, line: &HistoryLine) -> bool
     requires { from ≤ length lines.now }
-    ensures { Settled None (history_of (take from lines.now)) → MatchBool result (BacksAt (line_of line.now) (history_of lines.now)) (BacksAt (line_of line.now) (history_of lines.now) → ⊥) }
+    ensures { Settled None (history_of (take from lines.now))
+        → MatchBool result (BacksAt (line_of line.now) (history_of lines.now))
+        (BacksAt (line_of line.now) (history_of lines.now) → ⊥) }
 {
     match &line.act {
         None => settles(lines, from, Some(line.node)),
@@ -152,17 +164,20 @@ fn backs(lines: &[Noted], from: usize, line: &Noted) -> bool
 }
 
 /// Whether a line keeps the promise about backing, where these stand before it.
-fn is_backing(lines: &[Noted], from: usize, line: &Noted) -> bool
+fn is_backing(lines: &[HistoryLine], from: usize, line: &HistoryLine) -> bool
     requires { from ≤ length lines.now }
-    ensures { Settled None (history_of (take from lines.now)) → MatchBool result (Backs (line_of line.now) (history_of lines.now)) (Backs (line_of line.now) (history_of lines.now) → ⊥) }
+    ensures { Settled None (history_of (take from lines.now))
+        → MatchBool result (Backs (line_of line.now) (history_of lines.now))
+        (Backs (line_of line.now) (history_of lines.now) → ⊥) }
 {
     holds(lines, line) && backs(lines, from, line)
 }
 
 /// Whether nobody backs two candidates within the hold in all lines, where it is so in those before `from`.
-pub(crate) fn keeps_backing(lines: &[Noted], from: usize) -> bool
+pub(crate) fn keeps_backing(lines: &[HistoryLine], from: usize) -> bool
     requires { from ≤ length lines.now }
-    ensures { OneBack (history_of (take from lines.now)) → MatchBool result (OneBack (history_of lines.now)) (OneBack (history_of lines.now) → ⊥) }
+    ensures { OneBack (history_of (take from lines.now))
+        → MatchBool result (OneBack (history_of lines.now)) (OneBack (history_of lines.now) → ⊥) }
 {
     for i in from..lines.len() {
         if !is_backing(&lines[..i], from, &lines[i]) {

@@ -8,12 +8,13 @@ ghost use Rattle.tsp_history.specs.Histories.{deed_of, line_of, history_of};
 use tsp_base::act::Act;
 use tsp_base::datagram::Datagram;
 use tsp_base::place::Place;
-use tsp_history::noted::{Noted, Why};
+use tsp_history::line::{HistoryLine, Why};
 use tsp_history::posts::post_at;
 
 /// The index of the line, among these before it, that posts the datagram which a line's step takes.
-pub(crate) fn came_at(lines: &[Noted], line: &Noted) -> Option<usize>
-    ensures { MatchOption result (IsUnposted (line_of line.now) (history_of lines.now)) (λ i. CameAt lines.now (line_of line.now) i) }
+pub(crate) fn came_at(lines: &[HistoryLine], line: &HistoryLine) -> Option<usize>
+    ensures { MatchOption result (IsUnposted (line_of line.now) (history_of lines.now))
+        (λ i. CameAt lines.now (line_of line.now) i) }
 {
     match line.why {
         Why::Came(number) => post_at(lines, number),
@@ -22,8 +23,9 @@ pub(crate) fn came_at(lines: &[Noted], line: &Noted) -> Option<usize>
 }
 
 /// Whether a line posts a message to a node.
-fn posts_to(line: &Noted, node: u32) -> bool
-    ensures { MatchBool result (PostsTo (deed_of line.now.act) node) (PostsTo (deed_of line.now.act) node → ⊥) }
+fn posts_to(line: &HistoryLine, node: u32) -> bool
+    ensures { MatchBool result (PostsTo (deed_of line.now.act) node) (PostsTo (deed_of line.now.act)
+        node → ⊥) }
 {
     match &line.act {
         Some(Act::Post(Place::Peer(p), Datagram::Message(_))) => p.0 == node,
@@ -31,9 +33,12 @@ fn posts_to(line: &Noted, node: u32) -> bool
     }
 }
 
-/// The index of the line, among these before it, that posts the message which a line's step brings to its node.
-pub(crate) fn brought(lines: &[Noted], line: &Noted) -> Option<usize>
-    ensures { MatchOption result ((post : Line) (older : List Line) → Brings (line_of line.now) (history_of lines.now) post older → ⊥) (λ i. BringsAt lines.now (line_of line.now) i) }
+/// The index of the line, among these before it, that posts the message which a line's step brings
+/// to its node.
+pub(crate) fn brought(lines: &[HistoryLine], line: &HistoryLine) -> Option<usize>
+    ensures { MatchOption result ((post : Line) (older : List Line)
+        → Brings (line_of line.now) (history_of lines.now) post older
+        → ⊥) (λ i. BringsAt lines.now (line_of line.now) i) }
 {
     match came_at(lines, line) {
         None => None,

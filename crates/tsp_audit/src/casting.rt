@@ -10,12 +10,12 @@ ghost use Rattle.tsp_history.specs.Rounds.{Bests, SeenAt};
 
 use crate::acting::takes_send;
 use crate::counts::counts_at;
-use crate::live::LiveCast;
+use crate::round_correction::RoundCorrection;
 use tsp_base::act::Act;
 use tsp_base::datagram::Datagram;
 use tsp_base::kind::Kind;
 use tsp_base::place::{PeerId, Port};
-use tsp_history::noted::{Noted, Why};
+use tsp_history::line::{HistoryLine, Why};
 use tsp_history::posts::post_at;
 use tsp_history::rounds::{Best, best_after, closed_at};
 
@@ -26,16 +26,17 @@ fn trip_in(trips: &[i128], index: usize) -> i128
     if index < trips.len() { trips[index] } else { 0 }
 }
 
-/// The best sample of a peer since the last round of a node's port began, if there is one, where the round trips of these
-/// lines stand at their indices.
+/// The best sample of a peer since the last round of a node's port began, if there is one, where
+/// the round trips of these lines stand at their indices.
 pub(crate) fn best_in(
-    lines: &[Noted],
+    lines: &[HistoryLine],
     trips: &[i128],
     node: u32,
     port: Port,
     p: PeerId,
 ) -> Option<Best>
-    ensures { TripsTell (history_of lines.now) trips.now → Bests lines.now node port (best p (view port (of node (history_of lines.now)))) result }
+    ensures { TripsTell (history_of lines.now) trips.now
+        → Bests lines.now node port (best p (view port (of node (history_of lines.now)))) result }
 {
     let mut best = None;
     for (index, line) in lines.iter().enumerate() {
@@ -44,9 +45,11 @@ pub(crate) fn best_in(
     best
 }
 
-/// The true time, in microseconds, at which something was posted, among these lines, that the step of a later line takes.
-fn reading_of(lines: &[Noted], line: &Noted) -> Option<u64>
-    ensures { MatchOption result (TakesNone (history_of lines.now) (line_of line.now)) (λ t. TakesThen (history_of lines.now) (line_of line.now) t) }
+/// The true time, in microseconds, at which something was posted, among these lines, that the step
+/// of a later line takes.
+fn reading_of(lines: &[HistoryLine], line: &HistoryLine) -> Option<u64>
+    ensures { MatchOption result (TakesNone (history_of lines.now) (line_of line.now))
+        (λ t. TakesThen (history_of lines.now) (line_of line.now) t) }
 {
     let Why::Came(number) = line.why else {
         return None;
@@ -57,19 +60,22 @@ fn reading_of(lines: &[Noted], line: &Noted) -> Option<u64>
     }
 }
 
-/// What a Close at this index is kept as, where these lines stand before the first post of a send to a node: with its best
-/// sample of that node, if this has a reading.
+/// What a Close at this index is kept as, where these lines stand before the first post of a send
+/// to a node: with its best sample of that node, if this has a reading.
 fn sampled(
-    lines: &[Noted],
+    lines: &[HistoryLine],
     trips: &[i128],
     close: usize,
-    first: &Noted,
+    first: &HistoryLine,
     node: u32,
-) -> Option<LiveCast>
+) -> Option<RoundCorrection>
     requires few { length lines.now < 2 ^ 32 }
     requires below { close < length lines.now }
-    ensures { TripsTell (history_of lines.now) trips.now → SeenAt lines.now first.now.node first.now.port (closed (view first.now.port (of first.now.node (history_of lines.now)))) close
-        → MatchOption result (HasNoRound first.now.node first.now.port node (history_of lines.now)) (λ c. RoundAs first.now.node first.now.port node (history_of lines.now) c) }
+    ensures { TripsTell (history_of lines.now) trips.now
+        → SeenAt lines.now first.now.node first.now.port
+        (closed (view first.now.port (of first.now.node (history_of lines.now)))) close
+        → MatchOption result (HasNoRound first.now.node first.now.port node (history_of lines.now))
+        (λ c. RoundAs first.now.node first.now.port node (history_of lines.now) c) }
 {
     let past = &lines[..close];
     let Some(best) = best_in(past, trips, first.node, first.port, PeerId(node)) else {
@@ -82,7 +88,7 @@ fn sampled(
         None => None,
         Some(at) => {
             let counts = counts_at(&lines[..close + 1], first.node);
-            Some(LiveCast {
+            Some(RoundCorrection {
                 master: first.node,
                 close,
                 lives: counts.lives,
@@ -94,11 +100,18 @@ fn sampled(
     }
 }
 
-/// What began a send to a node, if that is a Close of its step that had a sample of the node, where these lines stand before
-/// its first post.
-fn round_of(lines: &[Noted], trips: &[i128], first: &Noted, node: u32) -> Option<LiveCast>
+/// What began a send to a node, if that is a Close of its step that had a sample of the node, where
+/// these lines stand before its first post.
+fn round_of(
+    lines: &[HistoryLine],
+    trips: &[i128],
+    first: &HistoryLine,
+    node: u32,
+) -> Option<RoundCorrection>
     requires { length lines.now < 2 ^ 32 }
-    ensures { TripsTell (history_of lines.now) trips.now → MatchOption result (HasNoRound first.now.node first.now.port node (history_of lines.now)) (λ c. RoundAs first.now.node first.now.port node (history_of lines.now) c) }
+    ensures { TripsTell (history_of lines.now) trips.now
+        → MatchOption result (HasNoRound first.now.node first.now.port node (history_of lines.now))
+        (λ c. RoundAs first.now.node first.now.port node (history_of lines.now) c) }
 {
     match closed_at(lines, first.node, first.port) {
         None => None,
@@ -113,8 +126,9 @@ fn round_of(lines: &[Noted], trips: &[i128], first: &Noted, node: u32) -> Option
 }
 
 /// Whether a line posts an ADJTIME.
-fn is_adjusting(line: &Noted) -> bool
-    ensures { MatchBool result (IsAdjusting (deed_of line.now.act)) (IsAdjusting (deed_of line.now.act) → ⊥) }
+fn is_adjusting(line: &HistoryLine) -> bool
+    ensures { MatchBool result (IsAdjusting (deed_of line.now.act))
+        (IsAdjusting (deed_of line.now.act) → ⊥) }
 {
     match &line.act {
         Some(Act::Post(_, Datagram::Message(m))) => m.kind() == Kind::AdjTime,
@@ -123,9 +137,10 @@ fn is_adjusting(line: &Noted) -> bool
 }
 
 /// The index of the first post of the send of which a line's Correct takes a post, if that is an ADJTIME.
-fn begun(lines: &[Noted], line: &Noted) -> Option<usize>
+fn begun(lines: &[HistoryLine], line: &HistoryLine) -> Option<usize>
     requires { length lines.now < 2 ^ 32 }
-    ensures { MatchOption result (IsNoCast (line_of line.now) (history_of lines.now)) (λ i. BegunAt lines.now (line_of line.now) i) }
+    ensures { MatchOption result (IsNoCast (line_of line.now) (history_of lines.now))
+        (λ i. BegunAt lines.now (line_of line.now) i) }
 {
     let Some(number) = takes_send(lines, line) else {
         return None;
@@ -142,10 +157,17 @@ fn begun(lines: &[Noted], line: &Noted) -> Option<usize>
     }
 }
 
-/// What a line's Correct came of, if that is a round, where these lines stand before it, with their round trips.
-pub(crate) fn cast_at(lines: &[Noted], trips: &[i128], line: &Noted) -> Option<LiveCast>
+/// What a line's Correct came of, if that is a round, where these lines stand before it, with their
+/// round trips.
+pub(crate) fn cast_at(
+    lines: &[HistoryLine],
+    trips: &[i128],
+    line: &HistoryLine,
+) -> Option<RoundCorrection>
     requires { length lines.now < 2 ^ 32 }
-    ensures { TripsTell (history_of lines.now) trips.now → MatchOption result (IsNoCast (line_of line.now) (history_of lines.now)) (λ c. CastAs (line_of line.now) (history_of lines.now) c) }
+    ensures { TripsTell (history_of lines.now) trips.now
+        → MatchOption result (IsNoCast (line_of line.now) (history_of lines.now))
+        (λ c. CastAs (line_of line.now) (history_of lines.now) c) }
 {
     match begun(lines, line) {
         None => None,

@@ -7,7 +7,7 @@ ghost use Rattle.tsp_history.specs.Histories.{line_of, history_of};
 
 use tsp_base::act::Act;
 use tsp_base::place::Port;
-use tsp_history::noted::Noted;
+use tsp_history::line::HistoryLine;
 
 /// How often a node has booted, and how often it has corrected its clock over all its lives.
 #[derive(Clone, Copy)]
@@ -19,11 +19,13 @@ pub(crate) struct Counts {
 }
 
 /// The counts of a node after a line, where they are `keep` before it.
-fn counts_after(line: &Noted, node: u32, keep: Counts) -> Counts
+fn counts_after(line: &HistoryLine, node: u32, keep: Counts) -> Counts
     requires lives { keep.lives < 2 ^ 32 }
     requires corrects { keep.corrects < 2 ^ 32 }
-    ensures lives { (before : List Line) → keep.lives ≡ lives (dids (of node before)) → result.lives ≡ lives (dids (of node (line_of line.now ∷ before))) }
-    ensures corrects { (before : List Line) → keep.corrects ≡ all_corrects (dids (of node before)) → result.corrects ≡ all_corrects (dids (of node (line_of line.now ∷ before))) }
+    ensures lives { (before : List Line) → keep.lives ≡ lives (dids (of node before))
+        → result.lives ≡ lives (dids (of node (line_of line.now ∷ before))) }
+    ensures corrects { (before : List Line) → keep.corrects ≡ all_corrects (dids (of node before))
+        → result.corrects ≡ all_corrects (dids (of node (line_of line.now ∷ before))) }
     ensures few_lives { result.lives ≤ keep.lives + 1 }
     ensures few_corrects { result.corrects ≤ keep.corrects + 1 }
 {
@@ -44,7 +46,7 @@ fn counts_after(line: &Noted, node: u32, keep: Counts) -> Counts
 }
 
 /// How often a node has booted, and how often it has corrected its clock over all its lives.
-pub(crate) fn counts_at(lines: &[Noted], node: u32) -> Counts
+pub(crate) fn counts_at(lines: &[HistoryLine], node: u32) -> Counts
     requires { length lines.now < 2 ^ 32 }
     ensures lives { result.lives ≡ lives (dids (of node (history_of lines.now))) }
     ensures corrects { result.corrects ≡ all_corrects (dids (of node (history_of lines.now))) }
@@ -60,8 +62,9 @@ pub(crate) fn counts_at(lines: &[Noted], node: u32) -> Counts
 }
 
 /// Whether a port's step has taken something or an alarm, after a line, where `keep` says so before it.
-fn is_acting_after(line: &Noted, node: u32, port: Port, keep: bool) -> bool
-    ensures { (before : List Line) → keep ≡ acting (view port (of node before)) → result ≡ acting (view port (of node (line_of line.now ∷ before))) }
+fn is_acting_after(line: &HistoryLine, node: u32, port: Port, keep: bool) -> bool
+    ensures { (before : List Line) → keep ≡ acting (view port (of node before))
+        → result ≡ acting (view port (of node (line_of line.now ∷ before))) }
 {
     if line.node != node {
         return keep;
@@ -73,8 +76,9 @@ fn is_acting_after(line: &Noted, node: u32, port: Port, keep: bool) -> bool
     }
 }
 
-/// Whether the step that a port is in has taken something or an alarm: what it posts from here on is no repeat.
-pub(crate) fn is_acting(lines: &[Noted], node: u32, port: Port) -> bool
+/// Whether the step that a port is in has taken something or an alarm: what it posts from here on
+/// is no repeat.
+pub(crate) fn is_acting(lines: &[HistoryLine], node: u32, port: Port) -> bool
     ensures { result ≡ acting (view port (of node (history_of lines.now))) }
 {
     let mut is_acting = false;

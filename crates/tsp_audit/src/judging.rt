@@ -1,5 +1,6 @@
 //! Whether the lines of an event keep all parts.
-ghost use Rattle.std.specs.Prelude.{◌≡◌, ◌≤◌, ◌<◌, ◌+◌, ◌-◌, ◌^◌, ℕ, true, length, take, vec_len, vec_capacity, None, MatchBool};
+ghost use Rattle.std.specs.Prelude.{◌≡◌, ◌≤◌, ◌<◌, ◌+◌, ◌-◌, ◌^◌, ℕ, true, length, take, vec_len};
+ghost use Rattle.std.specs.Prelude.{vec_capacity, None, MatchBool};
 ghost use Rattle.tsp_audit.specs.Agreeing.{AccordIs, Numbered};
 ghost use Rattle.tsp_audit.specs.Judged.{Judges};
 ghost use Rattle.tsp_audit.specs.Notes.{HasRoom, NotesStand};
@@ -8,31 +9,38 @@ ghost use Rattle.tsp_audit.specs.Settings.{HasClocks, Timely};
 ghost use Rattle.tsp_promises.specs.Setting.{Setting};
 ghost use Rattle.tsp_history.specs.Histories.{history_of};
 
-use crate::accord::Accord;
 use crate::acting::keeps_acting;
+use crate::agreement_tracker::AgreementTracker;
 use crate::backing::keeps_backing;
 use crate::leading::keeps_leading;
 use crate::measuring::keeps_measuring_if;
 use crate::notes::Notes;
 use crate::premises::Premises;
 use tsp_base::header::Header;
-use tsp_history::noted::Noted;
+use tsp_history::line::HistoryLine;
 
-/// Whether clocks agree in all lines, if that is asked, where they do in those before `from`, for which the accord stands; there is
-/// to be room for the others. It stands for all lines after that, where that is asked and the answer is yes.
+/// Whether clocks agree in all lines, if that is asked, where they do in those before `from`, for
+/// which the accord stands; there is to be room for the others. It stands for all lines after that,
+/// where that is asked and the answer is yes.
 fn keeps_agreeing_if(
     header: &Header,
     premises: Premises,
-    lines: &[Noted],
+    lines: &[HistoryLine],
     from: usize,
-    accord: &mut Accord,
+    accord: &mut AgreementTracker,
 ) -> bool
     requires from { from ≤ length lines.now }
     requires few { length lines.now < 2 ^ 32 }
-    ensures keeps { (setting : Setting) (count : ℕ) → HasClocks header.now setting → Timely (history_of lines.now) → Numbered count (history_of lines.now) → vec_len accord.old.trips + (length lines.now - from) ≤ vec_capacity accord.old.trips
-        → (AllKept premises → AccordIs count (history_of (take from lines.now)) accord.old) → Keeps premises setting Agreeing (history_of (take from lines.now))
-        → MatchBool result (Keeps premises setting Agreeing (history_of lines.now)) (Keeps premises setting Agreeing (history_of lines.now) → ⊥) }
-    ensures accord { (count : ℕ) → AllKept premises → result ≡ true → vec_len accord.old.trips + (length lines.now - from) ≤ vec_capacity accord.old.trips → AccordIs count (history_of (take from lines.now)) accord.old
+    ensures keeps { (setting : Setting) (count : ℕ) → HasClocks header.now setting
+        → Timely (history_of lines.now) → Numbered count (history_of lines.now)
+        → vec_len accord.old.trips + (length lines.now - from) ≤ vec_capacity accord.old.trips
+        → (AllKept premises → AccordIs count (history_of (take from lines.now)) accord.old)
+        → Keeps premises setting Agreeing (history_of (take from lines.now))
+        → MatchBool result (Keeps premises setting Agreeing (history_of lines.now))
+        (Keeps premises setting Agreeing (history_of lines.now) → ⊥) }
+    ensures accord { (count : ℕ) → AllKept premises → result ≡ true
+        → vec_len accord.old.trips + (length lines.now - from) ≤ vec_capacity accord.old.trips
+        → AccordIs count (history_of (take from lines.now)) accord.old
         → AccordIs count (history_of lines.now) accord.new }
 {
     if premises.all_kept() {
@@ -42,20 +50,27 @@ fn keeps_agreeing_if(
     }
 }
 
-/// The number of the least part that fails of all lines, where all parts hold of those before `from`; none where all hold.
-/// The notes are those of the lines before `from`, with room for the others, and where all hold then those of all.
+/// The number of the least part that fails of all lines, where all parts hold of those before
+/// `from`; none where all hold. The notes are those of the lines before `from`, with room for the
+/// others, and where all hold then those of all.
 pub(crate) fn judge(
     header: &Header,
     premises: Premises,
-    lines: &[Noted],
+    lines: &[HistoryLine],
     from: usize,
     notes: &mut Notes,
 ) -> Option<u32>
     requires from { from ≤ length lines.now }
     requires few { length lines.now < 2 ^ 32 }
-    ensures judges { (setting : Setting) (count : ℕ) → HasClocks header.now setting → Timely (history_of lines.now) → Numbered count (history_of lines.now) → HasRoom (length lines.now - from) notes.old
-        → NotesStand premises count (history_of (take from lines.now)) notes.old → AllKeep premises setting (history_of (take from lines.now)) → Judges premises setting (history_of lines.now) result }
-    ensures notes { (count : ℕ) → result ≡ None → HasRoom (length lines.now - from) notes.old → NotesStand premises count (history_of (take from lines.now)) notes.old → NotesStand premises count (history_of lines.now) notes.new }
+    ensures judges { (setting : Setting) (count : ℕ) → HasClocks header.now setting
+        → Timely (history_of lines.now) → Numbered count (history_of lines.now)
+        → HasRoom (length lines.now - from) notes.old
+        → NotesStand premises count (history_of (take from lines.now)) notes.old
+        → AllKeep premises setting (history_of (take from lines.now))
+        → Judges premises setting (history_of lines.now) result }
+    ensures notes { (count : ℕ) → result ≡ None → HasRoom (length lines.now - from) notes.old
+        → NotesStand premises count (history_of (take from lines.now)) notes.old
+        → NotesStand premises count (history_of lines.now) notes.new }
 {
     if !keeps_backing(lines, from) {
         return Some(12);

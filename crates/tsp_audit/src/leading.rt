@@ -2,27 +2,19 @@
 ghost use Rattle.std.specs.Prelude.{◌≡◌, ◌≤◌, List, ◌∷◌, length, take, MatchBool};
 ghost use Rattle.tsp_base.specs.History.{Line};
 ghost use Rattle.tsp_promises.specs.OnlyMaster.{LeadsAt, OnlyMaster};
-ghost use Rattle.tsp_base.specs.SendFacts.{is_correction};
 ghost use Rattle.tsp_audit.specs.Leading.{closing, must_lead};
 ghost use Rattle.tsp_history.specs.Histories.{line_of, history_of, deed_of};
 
 use tsp_base::act::Act;
 use tsp_base::datagram::Datagram;
-use tsp_base::kind::Kind;
 use tsp_base::role::Role;
-use tsp_history::noted::Noted;
+use tsp_history::line::HistoryLine;
 use tsp_history::scans::role_at;
 
-/// Whether messages of this kind correct a clock.
-pub(crate) fn is_correction(kind: Kind) -> bool
-    ensures { result ≡ is_correction kind }
-{
-    matches!(kind, Kind::AdjTime | Kind::SetTime)
-}
-
 /// Whether the newest act after a line is a Close, where `keep` says so of what stands before.
-fn closes_after(line: &Noted, keep: bool) -> bool
-    ensures { (before : List Line) → keep ≡ closing before → result ≡ closing (line_of line.now ∷ before) }
+fn closes_after(line: &HistoryLine, keep: bool) -> bool
+    ensures { (before : List Line) → keep ≡ closing before
+        → result ≡ closing (line_of line.now ∷ before) }
 {
     match &line.act {
         None => keep,
@@ -32,7 +24,7 @@ fn closes_after(line: &Noted, keep: bool) -> bool
 }
 
 /// Whether the newest act is a Close.
-fn closes_last(lines: &[Noted]) -> bool
+fn closes_last(lines: &[HistoryLine]) -> bool
     ensures { result ≡ closing (history_of lines.now) }
 {
     let mut closing = false;
@@ -43,11 +35,11 @@ fn closes_last(lines: &[Noted]) -> bool
 }
 
 /// Whether a line asks that its port leads, where these stand before it.
-fn must_lead(lines: &[Noted], line: &Noted) -> bool
+fn must_lead(lines: &[HistoryLine], line: &HistoryLine) -> bool
     ensures { result ≡ must_lead (deed_of line.now.act) (closing (history_of lines.now)) }
 {
     match &line.act {
-        Some(Act::Post(_, Datagram::Message(m))) => is_correction(m.kind()),
+        Some(Act::Post(_, Datagram::Message(m))) => m.kind().is_correction(),
         Some(Act::Close { .. }) => true,
         Some(Act::Correct { .. }) => closes_last(lines),
         _ => false,
@@ -55,8 +47,9 @@ fn must_lead(lines: &[Noted], line: &Noted) -> bool
 }
 
 /// Whether a line is a master's where it must be, where these stand before it.
-fn leads(lines: &[Noted], line: &Noted) -> bool
-    ensures { MatchBool result (LeadsAt (line_of line.now) (history_of lines.now)) (LeadsAt (line_of line.now) (history_of lines.now) → ⊥) }
+fn leads(lines: &[HistoryLine], line: &HistoryLine) -> bool
+    ensures { MatchBool result (LeadsAt (line_of line.now) (history_of lines.now))
+        (LeadsAt (line_of line.now) (history_of lines.now) → ⊥) }
 {
     if must_lead(lines, line) {
         match role_at(lines, line.node, line.port) {
@@ -69,9 +62,11 @@ fn leads(lines: &[Noted], line: &Noted) -> bool
 }
 
 /// Whether only masters correct in all lines, where it is so in those before `from`.
-pub(crate) fn keeps_leading(lines: &[Noted], from: usize) -> bool
+pub(crate) fn keeps_leading(lines: &[HistoryLine], from: usize) -> bool
     requires { from ≤ length lines.now }
-    ensures { OnlyMaster (history_of (take from lines.now)) → MatchBool result (OnlyMaster (history_of lines.now)) (OnlyMaster (history_of lines.now) → ⊥) }
+    ensures { OnlyMaster (history_of (take from lines.now))
+        → MatchBool result (OnlyMaster (history_of lines.now)) (OnlyMaster (history_of lines.now)
+        → ⊥) }
 {
     for i in from..lines.len() {
         if !leads(&lines[..i], &lines[i]) {

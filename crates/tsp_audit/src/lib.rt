@@ -1,8 +1,8 @@
 //! The audit of a claimed history: whether it keeps the promises that every run keeps.
 #![tactic(auto)]
 
-mod accord;
 mod acting;
+mod agreement_tracker;
 pub mod audit;
 mod backing;
 mod brought;
@@ -11,12 +11,12 @@ mod clock;
 mod counts;
 mod judging;
 mod leading;
-mod live;
 mod measuring;
 mod nearness;
 mod notes;
 pub mod premised;
 pub mod premises;
 mod resting;
+mod round_correction;
 mod states;
 pub mod verdict;

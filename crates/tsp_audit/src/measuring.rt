@@ -20,12 +20,13 @@ use tsp_base::header::Header;
 use tsp_base::place::{PeerId, Place};
 use tsp_base::stamp::Stamp;
 use tsp_history::clocks::target_at;
-use tsp_history::noted::Noted;
+use tsp_history::line::HistoryLine;
 use tsp_history::rounds::{asked_at, is_going};
 
 /// Whether a line is a peer's, and posts a reply to a node.
-fn replies_to(post: &Noted, peer: PeerId, node: u32) -> bool
-    ensures { MatchBool result (RepliesTo (line_of post.now) peer node) (RepliesTo (line_of post.now) peer node → ⊥) }
+fn replies_to(post: &HistoryLine, peer: PeerId, node: u32) -> bool
+    ensures { MatchBool result (RepliesTo (line_of post.now) peer node)
+        (RepliesTo (line_of post.now) peer node → ⊥) }
 {
     match &post.act {
         Some(Act::Post(Place::Peer(to), Datagram::Stamp(Stamp::Reply(_)))) => {
@@ -36,8 +37,10 @@ fn replies_to(post: &Noted, peer: PeerId, node: u32) -> bool
 }
 
 /// The index of the line, among these before it, at which a peer posts the reply that a line's step takes.
-fn reply_at(lines: &[Noted], line: &Noted, peer: PeerId) -> Option<usize>
-    ensures { MatchOption result ((post : Line) (older : List Line) → Replies (line_of line.now) (history_of lines.now) peer post older → ⊥) (λ i. RepliesAt lines.now (line_of line.now) peer i) }
+fn reply_at(lines: &[HistoryLine], line: &HistoryLine, peer: PeerId) -> Option<usize>
+    ensures { MatchOption result ((post : Line) (older : List Line)
+        → Replies (line_of line.now) (history_of lines.now) peer post older
+        → ⊥) (λ i. RepliesAt lines.now (line_of line.now) peer i) }
 {
     match came_at(lines, line) {
         None => None,
@@ -70,18 +73,20 @@ fn stands_ahead(diff: i64, err: i64, ahead: i128, own: i128) -> bool
     is_near(i128::from(diff), gap(ahead, own), i128::from(err))
 }
 
-/// Whether a Sample of a peer has a reading from which diff errs by at most err, where these lines stand before it.
+/// Whether a Sample of a peer has a reading from which diff errs by at most err, where these lines
+/// stand before it.
 fn has_reading(
     header: &Header,
-    lines: &[Noted],
-    line: &Noted,
+    lines: &[HistoryLine],
+    line: &HistoryLine,
     peer: PeerId,
     diff: i64,
     err: i64,
 ) -> bool
     requires { length lines.now < 2 ^ 32 }
     ensures { (setting : Setting) → HasClocks header.now setting → Timely (history_of lines.now)
-        → MatchBool result (ReadBy setting (line_of line.now) (history_of lines.now) peer diff err) (ReadBy setting (line_of line.now) (history_of lines.now) peer diff err → ⊥) }
+        → MatchBool result (ReadBy setting (line_of line.now) (history_of lines.now) peer diff err)
+        (ReadBy setting (line_of line.now) (history_of lines.now) peer diff err → ⊥) }
 {
     match reply_at(lines, line, peer) {
         None => false,
@@ -96,10 +101,11 @@ fn has_reading(
 }
 
 /// Whether a Sample errs by at most its err, where these lines stand before it.
-fn errs_little(header: &Header, lines: &[Noted], line: &Noted) -> bool
+fn errs_little(header: &Header, lines: &[HistoryLine], line: &HistoryLine) -> bool
     requires { length lines.now < 2 ^ 32 }
     ensures { (setting : Setting) → HasClocks header.now setting → Timely (history_of lines.now)
-        → MatchBool result (MeasuredAt setting (line_of line.now) (history_of lines.now)) (MeasuredAt setting (line_of line.now) (history_of lines.now) → ⊥) }
+        → MatchBool result (MeasuredAt setting (line_of line.now) (history_of lines.now))
+        (MeasuredAt setting (line_of line.now) (history_of lines.now) → ⊥) }
 {
     match &line.act {
         Some(
@@ -145,10 +151,21 @@ fn is_half(err: i64, now: i128, start: i128) -> bool
     is_same(err, half_up(gap(now, start)))
 }
 
-/// Whether a Sample under this counter ends an exchange with a peer whose trip takes twice err, where these lines stand before it.
-fn ends_exchange(lines: &[Noted], line: &Noted, peer: PeerId, counter: u64, err: i64) -> bool
+/// Whether a Sample under this counter ends an exchange with a peer whose trip takes twice err,
+/// where these lines stand before it.
+fn ends_exchange(
+    lines: &[HistoryLine],
+    line: &HistoryLine,
+    peer: PeerId,
+    counter: u64,
+    err: i64,
+) -> bool
     requires { length lines.now < 2 ^ 32 }
-    ensures { MatchBool result (TripOf (line_of line.now) (view line.now.port (of line.now.node (history_of lines.now))) peer counter err) (TripOf (line_of line.now) (view line.now.port (of line.now.node (history_of lines.now))) peer counter err → ⊥) }
+    ensures { MatchBool result
+        (TripOf (line_of line.now) (view line.now.port (of line.now.node (history_of lines.now)))
+        peer counter err)
+        (TripOf (line_of line.now) (view line.now.port (of line.now.node (history_of lines.now)))
+        peer counter err → ⊥) }
 {
     if !is_going(lines, line.node, line.port) {
         return false;
@@ -160,9 +177,10 @@ fn ends_exchange(lines: &[Noted], line: &Noted, peer: PeerId, counter: u64, err:
 }
 
 /// Whether the err of a Sample is half its round trip, where these lines stand before it.
-fn trips_well(lines: &[Noted], line: &Noted) -> bool
+fn trips_well(lines: &[HistoryLine], line: &HistoryLine) -> bool
     requires { length lines.now < 2 ^ 32 }
-    ensures { MatchBool result (TripAt (line_of line.now) (history_of lines.now)) (TripAt (line_of line.now) (history_of lines.now) → ⊥) }
+    ensures { MatchBool result (TripAt (line_of line.now) (history_of lines.now))
+        (TripAt (line_of line.now) (history_of lines.now) → ⊥) }
 {
     match &line.act {
         Some(
@@ -177,11 +195,13 @@ fn trips_well(lines: &[Noted], line: &Noted) -> bool
     }
 }
 
-/// Whether a line keeps that each measurement errs by at most half its round trip, where these lines stand before it.
-fn measures(header: &Header, lines: &[Noted], line: &Noted) -> bool
+/// Whether a line keeps that each measurement errs by at most half its round trip, where these
+/// lines stand before it.
+fn measures(header: &Header, lines: &[HistoryLine], line: &HistoryLine) -> bool
     requires { length lines.now < 2 ^ 32 }
     ensures { (setting : Setting) → HasClocks header.now setting → Timely (history_of lines.now)
-        → MatchBool result (MeasuresAt setting (line_of line.now) (history_of lines.now)) (MeasuresAt setting (line_of line.now) (history_of lines.now) → ⊥) }
+        → MatchBool result (MeasuresAt setting (line_of line.now) (history_of lines.now))
+        (MeasuresAt setting (line_of line.now) (history_of lines.now) → ⊥) }
 {
     if !trips_well(lines, line) {
         return false;
@@ -189,12 +209,15 @@ fn measures(header: &Header, lines: &[Noted], line: &Noted) -> bool
     errs_little(header, lines, line)
 }
 
-/// Whether each measurement errs by at most half its round trip in all lines, where it is so in those before `from`.
-fn keeps_measuring(header: &Header, lines: &[Noted], from: usize) -> bool
+/// Whether each measurement errs by at most half its round trip in all lines, where it is so in
+/// those before `from`.
+fn keeps_measuring(header: &Header, lines: &[HistoryLine], from: usize) -> bool
     requires from { from ≤ length lines.now }
     requires few { length lines.now < 2 ^ 32 }
-    ensures { (setting : Setting) → HasClocks header.now setting → Timely (history_of lines.now) → MeasuresWell setting (history_of (take from lines.now))
-        → MatchBool result (MeasuresWell setting (history_of lines.now)) (MeasuresWell setting (history_of lines.now) → ⊥) }
+    ensures { (setting : Setting) → HasClocks header.now setting → Timely (history_of lines.now)
+        → MeasuresWell setting (history_of (take from lines.now))
+        → MatchBool result (MeasuresWell setting (history_of lines.now))
+        (MeasuresWell setting (history_of lines.now) → ⊥) }
 {
     for i in from..lines.len() {
         if !measures(header, &lines[..i], &lines[i]) {
@@ -208,13 +231,15 @@ fn keeps_measuring(header: &Header, lines: &[Noted], from: usize) -> bool
 pub(crate) fn keeps_measuring_if(
     header: &Header,
     premises: Premises,
-    lines: &[Noted],
+    lines: &[HistoryLine],
     from: usize,
 ) -> bool
     requires from { from ≤ length lines.now }
     requires few { length lines.now < 2 ^ 32 }
-    ensures { (setting : Setting) → HasClocks header.now setting → Timely (history_of lines.now) → Keeps premises setting Measuring (history_of (take from lines.now))
-        → MatchBool result (Keeps premises setting Measuring (history_of lines.now)) (Keeps premises setting Measuring (history_of lines.now) → ⊥) }
+    ensures { (setting : Setting) → HasClocks header.now setting → Timely (history_of lines.now)
+        → Keeps premises setting Measuring (history_of (take from lines.now))
+        → MatchBool result (Keeps premises setting Measuring (history_of lines.now))
+        (Keeps premises setting Measuring (history_of lines.now) → ⊥) }
 {
     if premises.honest && premises.words {
         keeps_measuring(header, lines, from)

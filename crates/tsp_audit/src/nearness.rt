@@ -1,12 +1,14 @@
 //! Whether clocks that one round corrected agree.
-ghost use Rattle.std.specs.Prelude.{◌≡◌, ◌≤◌, ◌<◌, ◌^◌, ◌+◌, ◌-◌, ◌*◌, ◌≤ℤ◌, ◌+ℤ◌, ◌-ℤ◌, pos, neg_ℤ, nat_abs, ℕ, length, get_or, Some, MatchBool};
-ghost use Rattle.tsp_audit.specs.Agreeing.{AllAgree, AllBounded, BossAgrees, IsAt, MasterNear, NodeAgrees, PairAgrees, PairNear, Stands, shown_by};
-ghost use Rattle.tsp_audit.specs.declared.live.NodeState.{NodeState as NodeValue};
+ghost use Rattle.std.specs.Prelude.{◌≡◌, ◌≤◌, ◌<◌, ◌^◌, ◌+◌, ◌-◌, ◌*◌, ◌≤ℤ◌, ◌+ℤ◌, ◌-ℤ◌, pos};
+ghost use Rattle.std.specs.Prelude.{neg_ℤ, nat_abs, ℕ, length, get_or, Some, MatchBool};
+ghost use Rattle.tsp_audit.specs.Agreeing.{AllAgree, AllBounded, BossAgrees, IsAt, MasterNear};
+ghost use Rattle.tsp_audit.specs.Agreeing.{NodeAgrees, PairAgrees, PairNear, Stands, shown_by};
+ghost use Rattle.tsp_audit.specs.declared.round_correction.NodeState.{NodeState as NodeValue};
 ghost use Rattle.tsp_base.specs.Ticks.{width};
 ghost use Rattle.tsp_history.specs.Clocks.{IsSumOf, IsTrip};
 
 use crate::clock::clock_of_moved;
-use crate::live::{LiveCast, NodeState};
+use crate::round_correction::{NodeState, RoundCorrection};
 use tsp_base::constants::SCHEDULE_END;
 use tsp_base::drift::width;
 use tsp_base::header::Header;
@@ -28,7 +30,8 @@ fn drifted(drift: u32, at: u64, reading: u64) -> u64
 pub(crate) fn is_near(a: i128, b: i128, most: i128) -> bool
     requires first { IsTrip a }
     requires second { IsTrip b }
-    ensures { MatchBool result (pos (nat_abs (a -ℤ b)) ≤ℤ most) (pos (nat_abs (a -ℤ b)) ≤ℤ most → ⊥) }
+    ensures { MatchBool result (pos (nat_abs (a -ℤ b)) ≤ℤ most) (pos (nat_abs (a -ℤ b)) ≤ℤ most
+        → ⊥) }
 {
     if a - b > most {
         return false;
@@ -71,13 +74,15 @@ fn pair_near(
     at: u64,
     first: u32,
     a: &NodeState,
-    c: &LiveCast,
+    c: &RoundCorrection,
     second: u32,
     b: &NodeState,
-    d: &LiveCast,
+    d: &RoundCorrection,
 ) -> bool
-    ensures { at ≤ 1000000000000000 → IsSumOf 4294967295 a.now.moved → IsSumOf 4294967295 b.now.moved
-        → MatchBool result (PairNear header.now at first a.now c.now second b.now d.now) (PairNear header.now at first a.now c.now second b.now d.now → ⊥) }
+    ensures { at ≤ 1000000000000000 → IsSumOf 4294967295 a.now.moved
+        → IsSumOf 4294967295 b.now.moved
+        → MatchBool result (PairNear header.now at first a.now c.now second b.now d.now)
+        (PairNear header.now at first a.now c.now second b.now d.now → ⊥) }
 {
     let drift = header.drift();
     let most = bound(
@@ -100,8 +105,10 @@ fn pair_agrees(
     second: u32,
     b: &NodeState,
 ) -> bool
-    ensures { at ≤ 1000000000000000 → IsSumOf 4294967295 a.now.moved → IsSumOf 4294967295 b.now.moved
-        → MatchBool result (PairAgrees header.now at first a.now second b.now) (PairAgrees header.now at first a.now second b.now → ⊥) }
+    ensures { at ≤ 1000000000000000 → IsSumOf 4294967295 a.now.moved
+        → IsSumOf 4294967295 b.now.moved
+        → MatchBool result (PairAgrees header.now at first a.now second b.now)
+        (PairAgrees header.now at first a.now second b.now → ⊥) }
 {
     match (&a.cast, &b.cast) {
         (Some(c), Some(d)) => {
@@ -119,7 +126,9 @@ fn pair_agrees(
 fn pairs_agree(header: &Header, at: u64, node: u32, a: &NodeState, states: &[NodeState]) -> bool
     requires { length states.now < 2 ^ 32 }
     ensures { at ≤ 1000000000000000 → IsSumOf 4294967295 a.now.moved → AllBounded states.now
-        → MatchBool result ((k : ℕ) (b : NodeValue) → IsAt states.now k b → PairAgrees header.now at node a.now k b) (((k : ℕ) (b : NodeValue) → IsAt states.now k b → PairAgrees header.now at node a.now k b) → ⊥) }
+        → MatchBool result ((k : ℕ) (b : NodeValue) → IsAt states.now k b
+        → PairAgrees header.now at node a.now k b) (((k : ℕ) (b : NodeValue) → IsAt states.now k b
+        → PairAgrees header.now at node a.now k b) → ⊥) }
 {
     for k in 0..states.len() {
         if !pair_agrees(header, at, node, a, k as u32, &states[k]) {
@@ -130,7 +139,7 @@ fn pairs_agree(header: &Header, at: u64, node: u32, a: &NodeState, states: &[Nod
 }
 
 /// Whether the master of a cast was left alone since its Close, but for a Correct that is the next act.
-fn stands(c: &LiveCast, b: &NodeState) -> bool
+fn stands(c: &RoundCorrection, b: &NodeState) -> bool
     ensures { MatchBool result (Stands c.now b.now) (Stands c.now b.now → ⊥) }
 {
     if c.lives != b.lives {
@@ -151,11 +160,13 @@ fn master_near(
     at: u64,
     node: u32,
     a: &NodeState,
-    c: &LiveCast,
+    c: &RoundCorrection,
     b: &NodeState,
 ) -> bool
-    ensures { at ≤ 1000000000000000 → IsSumOf 4294967295 a.now.moved → IsSumOf 4294967295 b.now.moved
-        → MatchBool result (MasterNear header.now at node a.now c.now b.now) (MasterNear header.now at node a.now c.now b.now → ⊥) }
+    ensures { at ≤ 1000000000000000 → IsSumOf 4294967295 a.now.moved
+        → IsSumOf 4294967295 b.now.moved
+        → MatchBool result (MasterNear header.now at node a.now c.now b.now)
+        (MasterNear header.now at node a.now c.now b.now → ⊥) }
 {
     let most = bound(c.err, 0, drifted(header.drift(), at, c.at), 0);
     let clock = clock_of_moved(header, node, a.moved, at);
@@ -166,7 +177,8 @@ fn master_near(
 /// The same, as far as the master was left alone.
 fn master_agrees(header: &Header, at: u64, node: u32, a: &NodeState, states: &[NodeState]) -> bool
     ensures { at ≤ 1000000000000000 → IsSumOf 4294967295 a.now.moved → AllBounded states.now
-        → MatchBool result (BossAgrees header.now at node a.now states.now) (BossAgrees header.now at node a.now states.now → ⊥) }
+        → MatchBool result (BossAgrees header.now at node a.now states.now)
+        (BossAgrees header.now at node a.now states.now → ⊥) }
 {
     let Some(c) = &a.cast else {
         return true;
@@ -187,7 +199,8 @@ fn master_agrees(header: &Header, at: u64, node: u32, a: &NodeState, states: &[N
 fn node_agrees(header: &Header, at: u64, node: u32, a: &NodeState, states: &[NodeState]) -> bool
     requires { length states.now < 2 ^ 32 }
     ensures { at ≤ 1000000000000000 → IsSumOf 4294967295 a.now.moved → AllBounded states.now
-        → MatchBool result (NodeAgrees header.now at node a.now states.now) (NodeAgrees header.now at node a.now states.now → ⊥) }
+        → MatchBool result (NodeAgrees header.now at node a.now states.now)
+        (NodeAgrees header.now at node a.now states.now → ⊥) }
 {
     if a.cast.is_none() {
         return true;
@@ -198,7 +211,9 @@ fn node_agrees(header: &Header, at: u64, node: u32, a: &NodeState, states: &[Nod
 /// Whether each of these nodes does.
 pub(crate) fn all_agree(header: &Header, at: u64, states: &[NodeState]) -> bool
     requires { length states.now < 2 ^ 32 }
-    ensures { at ≤ 1000000000000000 → AllBounded states.now → MatchBool result (AllAgree header.now at states.now) (AllAgree header.now at states.now → ⊥) }
+    ensures { at ≤ 1000000000000000 → AllBounded states.now
+        → MatchBool result (AllAgree header.now at states.now) (AllAgree header.now at states.now
+        → ⊥) }
 {
     for n in 0..states.len() {
         if !node_agrees(header, at, n as u32, &states[n], states) {

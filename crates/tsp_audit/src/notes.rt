@@ -3,7 +3,7 @@ ghost use Rattle.std.specs.Prelude.{◌≤◌, ℕ, [], List, IfOk, OnOk};
 ghost use Rattle.tsp_audit.specs.declared.premises.Premises.{Premises};
 ghost use Rattle.tsp_base.specs.History.{Line};
 
-use crate::accord::Accord;
+use crate::agreement_tracker::AgreementTracker;
 use std::alloc::{AllocError, Global};
 
 /// What is noted of the lines so far.
@@ -12,18 +12,19 @@ pub(crate) struct Notes {
     /// The sends, by the numbers of the datagrams that begin them, of which Corrects have taken posts.
     pub(crate) acted: Vec<u64>,
     /// What tells whether clocks agree; it is kept only where the schedule keeps all premises.
-    pub(crate) accord: Accord,
+    pub(crate) accord: AgreementTracker,
 }
 
 impl Notes {
     ghost use Rattle.tsp_audit.specs.Notes.{HasRoom, NotesStand};
 
-    /// Nothing is noted of so many nodes. The refusal is want of memory.
+    /// Nothing is noted of so many nodes. Fails only if out of memory.
     pub(crate) fn new(alloc: Global, count: usize) -> Result<Notes, AllocError>
         requires { count ≤ 64 }
-        ensures { IfOk result (λ notes. (premises : Premises) → NotesStand premises count [] notes) }
+        ensures { IfOk result (λ notes. (premises : Premises)
+            → NotesStand premises count [] notes) }
     {
-        match Accord::new(alloc, count) {
+        match AgreementTracker::new(alloc, count) {
             Ok(accord) => Ok(Notes {
                 acted: Vec::new(alloc),
                 accord,
@@ -32,10 +33,12 @@ impl Notes {
         }
     }
 
-    /// Makes room for so many lines more. The refusal is want of memory; either way they stand for what they did.
+    /// Makes room for so many lines more. Fails only if out of memory; either way they stand for
+    /// what they did.
     pub(crate) fn make_room(&mut self, lines: usize) -> Result<(), AllocError>
         ensures room { OnOk result (HasRoom lines self.new) }
-        ensures stand { (premises : Premises) (count : ℕ) (h : List Line) → NotesStand premises count h self.old → NotesStand premises count h self.new }
+        ensures stand { (premises : Premises) (count : ℕ) (h : List Line)
+            → NotesStand premises count h self.old → NotesStand premises count h self.new }
     {
         match self.acted.reserve(lines) {
             Ok(()) => self.accord.make_room(lines),

@@ -12,12 +12,14 @@ use tsp_base::act::Act;
 use tsp_base::datagram::Datagram;
 use tsp_base::kind::Kind;
 use tsp_base::place::{PeerId, Place, Port};
-use tsp_history::noted::Noted;
+use tsp_history::line::HistoryLine;
 use tsp_history::rounds::closed_at;
 
 /// Whether the last Close of a port's step, if there is one, had a sample of a peer.
-fn has_sample(lines: &[Noted], trips: &[i128], node: u32, port: Port, p: PeerId) -> bool
-    ensures { TripsTell (history_of lines.now) trips.now → MatchBool result (RestsOn p (view port (of node (history_of lines.now)))) (RestsOn p (view port (of node (history_of lines.now))) → ⊥) }
+fn has_sample(lines: &[HistoryLine], trips: &[i128], node: u32, port: Port, p: PeerId) -> bool
+    ensures { TripsTell (history_of lines.now) trips.now
+        → MatchBool result (RestsOn p (view port (of node (history_of lines.now))))
+        (RestsOn p (view port (of node (history_of lines.now))) → ⊥) }
 {
     match closed_at(lines, node, port) {
         None => true,
@@ -31,11 +33,14 @@ fn has_sample(lines: &[Noted], trips: &[i128], node: u32, port: Port, p: PeerId)
     }
 }
 
-/// Whether an ADJTIME that a Close begins rests on a sample of its addressee, where these lines stand before it, with their
-/// round trips.
-pub(crate) fn rests(lines: &[Noted], trips: &[i128], line: &Noted) -> bool
+/// Whether an ADJTIME that a Close begins rests on a sample of its addressee, where these lines
+/// stand before it, with their round trips.
+pub(crate) fn rests(lines: &[HistoryLine], trips: &[i128], line: &HistoryLine) -> bool
     ensures { TripsTell (history_of lines.now) trips.now
-        → MatchBool result (RestsOnSample (line_of line.now) (view line.now.port (of line.now.node (history_of lines.now)))) (RestsOnSample (line_of line.now) (view line.now.port (of line.now.node (history_of lines.now))) → ⊥) }
+        → MatchBool result (RestsOnSample (line_of line.now)
+        (view line.now.port (of line.now.node (history_of lines.now))))
+        (RestsOnSample (line_of line.now)
+        (view line.now.port (of line.now.node (history_of lines.now))) → ⊥) }
 {
     match &line.act {
         Some(Act::Post(Place::Peer(p), Datagram::Message(m))) => {

@@ -9,10 +9,10 @@ ghost use Rattle.tsp_history.specs.Histories.{deed_of, line_of, history_of};
 
 use crate::casting::cast_at;
 use crate::counts::counts_at;
-use crate::live::NodeState;
+use crate::round_correction::NodeState;
 use tsp_base::act::Act;
 use tsp_history::clocks::moved_at;
-use tsp_history::noted::Noted;
+use tsp_history::line::HistoryLine;
 
 /// What is kept of a node before any line.
 pub(crate) fn blank() -> NodeState
@@ -28,32 +28,37 @@ pub(crate) fn blank() -> NodeState
 }
 
 /// Whether a line is a Boot.
-fn is_boot(line: &Noted) -> bool
-    ensures { MatchBool result (deed_of line.now.act ≡ Acts Boot) ((n : ℕ) → lives_after (deed_of line.now.act) n ≡ n) }
+fn is_boot(line: &HistoryLine) -> bool
+    ensures { MatchBool result (deed_of line.now.act ≡ Acts Boot) ((n : ℕ)
+        → lives_after (deed_of line.now.act) n ≡ n) }
 {
     matches!(&line.act, Some(Act::Boot))
 }
 
 /// Whether a line is a Correct.
-fn is_correct(line: &Noted) -> bool
-    ensures { MatchBool result (IsCorrect (deed_of line.now.act)) ((n : ℕ) → all_corrects_after (deed_of line.now.act) n ≡ n) }
+fn is_correct(line: &HistoryLine) -> bool
+    ensures { MatchBool result (IsCorrect (deed_of line.now.act)) ((n : ℕ)
+        → all_corrects_after (deed_of line.now.act) n ≡ n) }
 {
     matches!(&line.act, Some(Act::Correct { .. }))
 }
 
 /// What is kept of a node after a Correct of it, before which this is the newest act.
 fn corrected(
-    upto: &[Noted],
-    before: &[Noted],
+    upto: &[HistoryLine],
+    before: &[HistoryLine],
     trips: &[i128],
-    line: &Noted,
+    line: &HistoryLine,
     last: Option<usize>,
     keep: NodeState,
 ) -> NodeState
     requires few { length upto.now < 2 ^ 32 }
     requires past { length before.now < 2 ^ 32 }
-    ensures { history_of upto.now ≡ line_of line.now ∷ history_of before.now → TripsTell (history_of before.now) trips.now → FirstIs (from_act (history_of before.now)) last → IsCorrect (deed_of line.now.act)
-        → NodeIs line.now.node (history_of before.now) keep → NodeIs line.now.node (line_of line.now ∷ history_of before.now) result }
+    ensures { history_of upto.now ≡ line_of line.now ∷ history_of before.now
+        → TripsTell (history_of before.now) trips.now
+        → FirstIs (from_act (history_of before.now)) last → IsCorrect (deed_of line.now.act)
+        → NodeIs line.now.node (history_of before.now) keep
+        → NodeIs line.now.node (line_of line.now ∷ history_of before.now) result }
 {
     NodeState {
         moved: moved_at(upto, line.node),
@@ -65,10 +70,11 @@ fn corrected(
 }
 
 /// What is kept of a node after a Boot of it.
-fn booted(upto: &[Noted], line: &Noted, keep: NodeState) -> NodeState
+fn booted(upto: &[HistoryLine], line: &HistoryLine, keep: NodeState) -> NodeState
     requires { length upto.now < 2 ^ 32 }
-    ensures { (before : List Line) → history_of upto.now ≡ line_of line.now ∷ before → deed_of line.now.act ≡ Acts Boot
-        → NodeIs line.now.node before keep → NodeIs line.now.node (line_of line.now ∷ before) result }
+    ensures { (before : List Line) → history_of upto.now ≡ line_of line.now ∷ before
+        → deed_of line.now.act ≡ Acts Boot → NodeIs line.now.node before keep
+        → NodeIs line.now.node (line_of line.now ∷ before) result }
 {
     NodeState {
         moved: 0,
@@ -78,20 +84,23 @@ fn booted(upto: &[Noted], line: &Noted, keep: NodeState) -> NodeState
     }
 }
 
-/// What is kept of a line's node after it, where these lines stand before it, with their round trips and the index of the
-/// newest act among them; `upto` are these lines and it.
+/// What is kept of a line's node after it, where these lines stand before it, with their round
+/// trips and the index of the newest act among them; `upto` are these lines and it.
 pub(crate) fn state_after(
-    upto: &[Noted],
-    before: &[Noted],
+    upto: &[HistoryLine],
+    before: &[HistoryLine],
     trips: &[i128],
-    line: &Noted,
+    line: &HistoryLine,
     last: Option<usize>,
     keep: NodeState,
 ) -> NodeState
     requires few { length upto.now < 2 ^ 32 }
     requires past { length before.now < 2 ^ 32 }
-    ensures { history_of upto.now ≡ line_of line.now ∷ history_of before.now → TripsTell (history_of before.now) trips.now → FirstIs (from_act (history_of before.now)) last
-        → NodeIs line.now.node (history_of before.now) keep → NodeIs line.now.node (line_of line.now ∷ history_of before.now) result }
+    ensures { history_of upto.now ≡ line_of line.now ∷ history_of before.now
+        → TripsTell (history_of before.now) trips.now
+        → FirstIs (from_act (history_of before.now)) last
+        → NodeIs line.now.node (history_of before.now) keep
+        → NodeIs line.now.node (line_of line.now ∷ history_of before.now) result }
 {
     if is_boot(line) {
         return booted(upto, line, keep);

@@ -7,9 +7,10 @@ ghost use Rattle.tsp_audit.specs.Named.{named};
 pub enum Verdict {
     /// All parts hold.
     Holds,
-    /// Up to the least event at which a part fails, the part with this number is the least that fails: 12 that no node backs
-    /// two candidates within the hold, 13 that only masters correct, 14 that each correction acts at most once, 15 that each
-    /// measurement errs by at most half its round trip, 16 that clocks which one round corrected agree.
+    /// Up to the least event at which a part fails, the part with this number is the least that
+    /// fails: 12 that no node backs two candidates within the hold, 13 that only masters correct,
+    /// 14 that each correction acts at most once, 15 that each measurement errs by at most half its
+    /// round trip, 16 that clocks which one round corrected agree.
     Fails(u32),
 }
 

@@ -1,7 +1,7 @@
 -- Where the whole input may be audited, nothing of it is refused.
 use Rattle.std.specs.Prelude.{◌≡◌, ◌⊎◌, ℕ, ◌≤◌, List, [], length, reverse, Option, Some}
 use Rattle.std.proofs.Common.{◌∙◌, subst, inl, inr, sym, refl}
-use Rattle.tsp_audit_command.specs.Claimings.{ClaimingValue, passes_all}
+use Rattle.tsp_audit_command.specs.ClaimReaders.{ClaimingValue, passes_all}
 use Rattle.tsp_audit_command.specs.Meaning.{IsAuditText, auditing}
 use Rattle.tsp_audit_command.specs.Readings.{Claimed, Lacks, Reaches, Reading, Scheduling}
 use Rattle.tsp_audit_command.proofs.Definites.{IsDefinite-auditing, Reaches-one}

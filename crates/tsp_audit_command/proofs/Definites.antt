@@ -14,7 +14,7 @@ use Rattle.tsp_base.specs.History.{Line}
 use Rattle.tsp_base.specs.Places.{Within}
 use Rattle.tsp_promises.specs.Setting.{Setting}
 use Rattle.tsp_base.proofs.PlaceLemmas.{Within-comparable}
-use Rattle.tsp_audit_command.specs.Claimings.{ClaimingValue, FitsAt, FitsHere, MisfitsAt, Tells, and_then, comes_to, lines_told, most_lines, pass_first, pass_one, passes, passes_all, tallied, told_more, unclaimed}
+use Rattle.tsp_audit_command.specs.ClaimReaders.{ClaimingValue, FitsAt, FitsHere, MisfitsAt, Tells, and_then, comes_to, lines_told, most_lines, pass_first, pass_one, passes, passes_all, tallied, told_more, unclaimed}
 use Rattle.tsp_audit_command.specs.Listings.{most_nodes, refused}
 use Rattle.tsp_audit_command.specs.Meaning.{auditing}
 use Rattle.tsp_audit_command.specs.Readings.{Claimed, Ends, GoesOn, Judges, Lacks, Limits, Reaches, Reading, Refuses, Scheduling, nodes_at, reading_of}

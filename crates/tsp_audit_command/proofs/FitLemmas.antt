@@ -2,7 +2,7 @@
 use Rattle.std.specs.Prelude.{◌≡◌, ℕ, zero, suc, ◌+◌, ◌≤◌, false, List, [], ◌∷◌, ◌++◌, length}
 use Rattle.std.proofs.Common.{refl, arith}
 use Rattle.tsp_base.specs.declared.event.Event.{Event}
-use Rattle.tsp_audit_command.specs.Claimings.{tallied}
+use Rattle.tsp_audit_command.specs.ClaimReaders.{tallied}
 use Rattle.tsp_audit_command.specs.Sound.{FitSoFar}
 use Rattle.tsp_claims.specs.declared.tally.Tally.{Tally}
 use Rattle.tsp_claims.specs.Fitting.{AllFit, Misfits, counted, lacks}

@@ -3,7 +3,7 @@ use Rattle.std.specs.Prelude.{◌≡◌, ℕ, suc, false, List, [], ◌∷◌, O
 use Rattle.std.proofs.Common.{◌∙◌, ap, sym, refl}
 use Rattle.tsp_base.specs.declared.event.Event.{Event}
 use Rattle.tsp_base.specs.Headers.{HeaderValue}
-use Rattle.tsp_audit_command.specs.Claimings.{ClaimingValue, and_then, pass_first, pass_one, passes, tallied}
+use Rattle.tsp_audit_command.specs.ClaimReaders.{ClaimingValue, and_then, pass_first, pass_one, passes, tallied}
 use Rattle.tsp_audit_command.specs.Stands.{Unpassed}
 use Rattle.tsp_claims.specs.ClaimedHistory.{Claim}
 use Rattle.tsp_claims.specs.Fitting.{lacks, untold}

@@ -8,7 +8,7 @@ use Rattle.tsp_audit.specs.declared.premises.Premises.{Premises}
 use Rattle.tsp_audit.specs.Premised.{kept_with, premises_of}
 use Rattle.tsp_base.specs.declared.event.Event.{Event}
 use Rattle.tsp_base.specs.Headers.{HeaderValue}
-use Rattle.tsp_audit_command.specs.Claimings.{ClaimingValue, FitsFirst, most_lines, pass_first, tallied}
+use Rattle.tsp_audit_command.specs.ClaimReaders.{ClaimingValue, FitsFirst, most_lines, pass_first, tallied}
 use Rattle.tsp_audit_command.specs.Listings.{AreListed, IsAudited}
 use Rattle.tsp_audit_command.specs.Sound.{FitAtHand, FitEach, Sound, claims_on}
 use Rattle.tsp_audit_command.proofs.ClaimLemmas.{claims_on-events, claims_on-length, claims_on-more, FitEach-more}

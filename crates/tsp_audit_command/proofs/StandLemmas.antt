@@ -1,10 +1,10 @@
 -- What is held, and how far the lines have come.
 use Rattle.std.specs.Prelude.{◌≡◌, ℕ, ◌<◌, ◌≤◌, List, [], ◌∷◌, length, codes, reverse, Option, Some}
 use Rattle.std.proofs.Common.{◌∙◌, ap, subst, inl, inr, sym, refl, append-nil}
-use Rattle.tsp_audit_command.specs.declared.check.Held.{Held}
-use Rattle.tsp_audit_command.specs.declared.check.Held.TheVariants.{Schedule, Claims as ClaimsOf}
+use Rattle.tsp_audit_command.specs.declared.check.AuditInput.{AuditInput}
+use Rattle.tsp_audit_command.specs.declared.check.AuditInput.TheVariants.{Schedule, Claims as ClaimsOf}
 use Rattle.tsp_audit_command.specs.declared.listing.Listing.{Listing}
-use Rattle.tsp_audit_command.specs.Claimings.{ClaimingValue, comes_to, told_more}
+use Rattle.tsp_audit_command.specs.ClaimReaders.{ClaimingValue, comes_to, told_more}
 use Rattle.tsp_audit_command.specs.Listings.{most_nodes, refused}
 use Rattle.tsp_audit_command.specs.Meaning.{auditing}
 use Rattle.tsp_audit_command.specs.Readings.{Claimed, Lacks, Reaches, Reading, Refuses, Scheduling, nodes_at, reading_of}
@@ -22,12 +22,12 @@ use Rattle.tsp_lines.proofs.Outputs.{Hands-nil}
 use Rattle.tsp_script.specs.declared.trace.Line2.{Line2}
 
 -- a long line is no trace's
-pub Refuses-long : (r : Reading) (held : Held) (c : ClaimingValue) (line cause : List ℕ) → held ≡ ClaimsOf c → HeldStands r held → 1024 < length line → cause ≡ codes "line" → Refuses r line cause
+pub Refuses-long : (r : Reading) (held : AuditInput) (c : ClaimingValue) (line cause : List ℕ) → held ≡ ClaimsOf c → HeldStands r held → 1024 < length line → cause ≡ codes "line" → Refuses r line cause
 Refuses-long (Scheduling p) held c line cause is stands long cause_is = let bad : ⊥ = subst (λ h. HeldStands (Scheduling p) h) is stands in absurd bad
 Refuses-long (Claimed v) held c line cause is stands long cause_is = inl (SpellsTrace-long line long, cause_is)
 
 -- a line of the schedule that it took, and which brings no node too many
-pub Advances-scheduled : (p : Progress) (line : List ℕ) (stage : Stage Listing) (a : AdvancesBy refused ListingStands p line stage) (next : Held) → nodes_at a.to ≤ most_nodes → HeldStands (reading_of a.to) next → Advances (Scheduling p) line next
+pub Advances-scheduled : (p : Progress) (line : List ℕ) (stage : Stage Listing) (a : AdvancesBy refused ListingStands p line stage) (next : AuditInput) → nodes_at a.to ≤ most_nodes → HeldStands (reading_of a.to) next → Advances (Scheduling p) line next
 Advances-scheduled p line stage a next few stands = record {
   to = reading_of a.to;
   goes = (a.to, a.goes, few, refl);
@@ -57,12 +57,12 @@ Advances-claimed c line next (l, tells, (here, fits, room, is)) = record {
       g.5 ∙ (ap (λ (k : Line2). Claimed (told_more g.1 k)) same ∙ (ap (λ v. Claimed (told_more v l)) (comes-same c l g.0 here g.1 same fits.0 g.3.0) ∙ ap (λ v. Claimed v) (sym is)));
 }
 
-pub Advances-held : (r : Reading) (held : Held) (c next : ClaimingValue) (line : List ℕ) → held ≡ ClaimsOf c → HeldStands r held → ClaimAdvances c line next → Advances r line (ClaimsOf next)
+pub Advances-held : (r : Reading) (held : AuditInput) (c next : ClaimingValue) (line : List ℕ) → held ≡ ClaimsOf c → HeldStands r held → ClaimAdvances c line next → Advances r line (ClaimsOf next)
 Advances-held (Scheduling p) held c next line is stands a = let bad : ⊥ = subst (λ h. HeldStands (Scheduling p) h) is stands in absurd bad
 Advances-held (Claimed v) held c next line is stands a = let same : c ≡ v = subst (λ h. HeldStands (Claimed v) h) is stands in subst (λ x. Advances (Claimed x) line (ClaimsOf next)) same (Advances-claimed c line next a)
 
 -- an accepted line
-pub Goes-advances : (lines : List (List ℕ)) (text line : List ℕ) (r : Reading) (next : Held) (written : Option (List ℕ)) (held : List ℕ) → Reaches (reverse lines) r → text ≡ [] → ((q : Reading) → Reaches (reverse lines) q → Advances q line next) →
+pub Goes-advances : (lines : List (List ℕ)) (text line : List ℕ) (r : Reading) (next : AuditInput) (written : Option (List ℕ)) (held : List ℕ) → Reaches (reverse lines) r → text ≡ [] → ((q : Reading) → Reaches (reverse lines) q → Advances q line next) →
     Goes auditing (Stands next) lines text line written held written held
 Goes-advances lines text line r next written held reaches text_is advances =
     let a = advances r reaches in (
@@ -97,12 +97,12 @@ Reaches-open (line ∷ before) p (Scheduling q, r, g) e = reading-open g.0 p (sy
 Reaches-open (line ∷ before) p (Claimed c, r, g) e = let is = g.5 in let bad : ⊥ = cc in bad
 
 -- the input ends within the schedule
-pub Ends-schedule : (lines : List (List ℕ)) (r : Reading) (held : Held) (stage : Stage Listing) (cause : List ℕ) → held ≡ Schedule stage → Reaches (reverse lines) r → HeldStands r held →
+pub Ends-schedule : (lines : List (List ℕ)) (r : Reading) (held : AuditInput) (stage : Stage Listing) (cause : List ℕ) → held ≡ Schedule stage → Reaches (reverse lines) r → HeldStands r held →
     ((p : Progress) → StageStands ListingStands p stage → ¬ IsEnded p → Lacks (Scheduling p) cause) → Lacks r cause
 Ends-schedule lines (Scheduling p) held stage cause is reaches stands lacks = lacks p (subst (λ h. HeldStands (Scheduling p) h) is stands) (λ e. Reaches-open (reverse lines) p reaches e)
 Ends-schedule lines (Claimed c) held stage cause is reaches stands lacks = let bad : ⊥ = subst (λ h. HeldStands (Claimed c) h) is stands in absurd bad
 
 -- the claims that are held are those to which the lines have come
-pub held-claims : (r : Reading) (held : Held) (c : ClaimingValue) → held ≡ ClaimsOf c → HeldStands r held → r ≡ Claimed c
+pub held-claims : (r : Reading) (held : AuditInput) (c : ClaimingValue) → held ≡ ClaimsOf c → HeldStands r held → r ≡ Claimed c
 held-claims (Scheduling p) held c is stands = let bad : ⊥ = subst (λ h. HeldStands (Scheduling p) h) is stands in absurd bad
 held-claims (Claimed v) held c is stands = let same : c ≡ v = subst (λ h. HeldStands (Claimed v) h) is stands in ap (λ x. Claimed x) (sym same)

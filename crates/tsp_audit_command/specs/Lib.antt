@@ -1,4 +1,4 @@
-pub mod Claimings
+pub mod ClaimReaders
 pub mod Listings
 pub mod Meaning
 pub mod Readings

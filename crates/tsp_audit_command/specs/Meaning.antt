@@ -1,6 +1,6 @@
 -- What lines mean to the audit of a claimed history.
 use Rattle.std.specs.Prelude.{◌≡◌, ℕ, List, [], reverse, All, Some}
-use Rattle.tsp_audit_command.specs.Claimings.{ClaimingValue, passes_all}
+use Rattle.tsp_audit_command.specs.ClaimReaders.{ClaimingValue, passes_all}
 use Rattle.tsp_audit_command.specs.Readings.{Claimed, Ends, Lacks, Limits, Reaches, Reading, Refuses}
 use Rattle.tsp_lines.specs.Lines.{NoFeed, AreLines}
 use Rattle.tsp_lines.specs.Meanings.{Meaning}

@@ -6,7 +6,7 @@ use Rattle.tsp_audit.specs.Settings.{HasClocks}
 use Rattle.tsp_audit.specs.Verdicts.{IsFound}
 use Rattle.tsp_base.specs.Headers.{HeaderValue}
 use Rattle.tsp_promises.specs.Setting.{Setting}
-use Rattle.tsp_audit_command.specs.Claimings.{ClaimingValue, FitsAt, MisfitsAt, Tells, lines_told, most_lines, passes_all, told_more, unclaimed}
+use Rattle.tsp_audit_command.specs.ClaimReaders.{ClaimingValue, FitsAt, MisfitsAt, Tells, lines_told, most_lines, passes_all, told_more, unclaimed}
 use Rattle.tsp_audit_command.specs.Listings.{most_nodes, refused}
 use Rattle.tsp_audit_command.specs.Texts.{verdict_text}
 use Rattle.tsp_claims.specs.ClaimedHistory.{Claim}

@@ -6,7 +6,7 @@ use Rattle.tsp_audit.specs.Premised.{premises_of}
 use Rattle.tsp_audit.specs.Verdicts.{AuditStands}
 use Rattle.tsp_base.specs.declared.event.Event.{Event}
 use Rattle.tsp_base.specs.Headers.{HeaderValue}
-use Rattle.tsp_audit_command.specs.Claimings.{most_lines, tallied}
+use Rattle.tsp_audit_command.specs.ClaimReaders.{most_lines, tallied}
 use Rattle.tsp_audit_command.specs.Listings.{AreListed, IsAudited}
 use Rattle.tsp_claims.specs.declared.claims.Claims.{Claims}
 use Rattle.tsp_claims.specs.declared.tally.Tally.{Tally}

@@ -2,10 +2,10 @@
 use Rattle.std.specs.Prelude.{◌≡◌, ℕ, ◌<◌, ◌≤◌, List, [], length, reverse, Option, None, codes}
 use Rattle.tsp_base.specs.declared.event.Event.{Event}
 use Rattle.tsp_base.specs.Headers.{HeaderValue}
-use Rattle.tsp_audit_command.specs.declared.check.Held.{Held}
-use Rattle.tsp_audit_command.specs.declared.check.Held.TheVariants.{Schedule, Claims as ClaimsOf}
+use Rattle.tsp_audit_command.specs.declared.check.AuditInput.{AuditInput}
+use Rattle.tsp_audit_command.specs.declared.check.AuditInput.TheVariants.{Schedule, Claims as ClaimsOf}
 use Rattle.tsp_audit_command.specs.declared.listing.Listing.{Listing}
-use Rattle.tsp_audit_command.specs.Claimings.{ClaimingValue, FitsAt, FitsHere, MisfitsAt, Tells, lines_told, most_lines, told_more}
+use Rattle.tsp_audit_command.specs.ClaimReaders.{ClaimingValue, FitsAt, FitsHere, MisfitsAt, Tells, lines_told, most_lines, told_more}
 use Rattle.tsp_audit_command.specs.Listings.{most_nodes}
 use Rattle.tsp_audit_command.specs.Readings.{Claimed, Ends, GoesOn, Lacks, Limits, Reaches, Reading, Refuses, Scheduling, nodes_at}
 use Rattle.tsp_claims.specs.Listed.{booted, up_in}
@@ -27,17 +27,17 @@ pub record ListingStands (header : HeaderValue) (events : List Event) (listing :
   pub up_is : up_in listing.up.items ≡ booted events
 
 -- what is held stands for how far the lines have come
-abbrev pub HeldStands : Reading → Held → Type 0
+abbrev pub HeldStands : Reading → AuditInput → Type 0
 HeldStands (Scheduling p) (Schedule stage) = StageStands ListingStands p stage
 HeldStands (Claimed c) (ClaimsOf claiming) = claiming ≡ c
 HeldStands _ _ = ⊥
 
 -- the treatment is where these lines have brought it, whichever way they are read
-abbrev pub Stands : Held → List (List ℕ) → Type 0
+abbrev pub Stands : AuditInput → List (List ℕ) → Type 0
 Stands held lines = (r : Reading) → Reaches (reverse lines) r → HeldStands r held
 
 -- a line was accepted: this is how far it brings the reading, and nothing else is
-pub record Advances (r : Reading) (line : List ℕ) (next : Held) : Type 0 where
+pub record Advances (r : Reading) (line : List ℕ) (next : AuditInput) : Type 0 where
   pub to : Reading
   pub goes : GoesOn r line to
   pub stands_for : HeldStands to next

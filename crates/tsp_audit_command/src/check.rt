@@ -2,33 +2,35 @@
 ghost use Rattle.std.specs.Prelude.{◌≡◌, ◌≢◌, ◌≤◌, ◌<◌, ℕ, List, length, take, MatchResult, Err};
 ghost use Rattle.tsp_audit_command.specs.Listings.{most_nodes};
 ghost use Rattle.tsp_audit_command.specs.Readings.{Lacks, Reading, Refuses, Scheduling, nodes_at, reading_of};
-ghost use Rattle.tsp_audit_command.specs.Stands.{Advances, Concludes, Halts, HaltsBehind, HaltsConcluding, HasNodes, HeldStands, ListingStands};
+ghost use Rattle.tsp_audit_command.specs.Stands.{Advances, Concludes, Halts, HaltsBehind};
+ghost use Rattle.tsp_audit_command.specs.Stands.{HaltsConcluding, HasNodes, HeldStands};
+ghost use Rattle.tsp_audit_command.specs.Stands.{ListingStands};
 ghost use Rattle.tsp_schedule.specs.Schedules.{IsEnded, Progress};
 ghost use Rattle.tsp_schedule.specs.Stages.{RunStands, StageStands};
 ghost use Rattle.tsp_io.specs.Counts.{Rose};
 
-use crate::claiming::Claiming;
+use crate::claim_reader::ClaimReader;
 use crate::listing::Listing;
 use crate::verdict_text::tell;
 use std::alloc::Global;
 use std::mem;
-use tsp_schedule::run::Run;
-use tsp_schedule::stage::Stage;
 use tsp_io::sink::Sink;
 use tsp_lines::cause::Cause;
 use tsp_lines::output::Output;
 use tsp_lines::treatment::{Stop, Treatment};
+use tsp_schedule::run::Run;
+use tsp_schedule::stage::Stage;
 
 /// How many nodes a schedule may have that is to be audited.
 const MOST_NODES: usize = 16;
 
 /// What was read of an audit's input.
 #[derive(Drop)]
-pub(crate) enum Held {
+pub(crate) enum AuditInput {
     /// A schedule, up to some line before its last.
     Schedule(Stage<Listing>),
     /// A whole schedule, and claimed lines behind it.
-    Claims(Claiming),
+    Claims(ClaimReader),
 }
 
 /// How many nodes a schedule has so far.
@@ -47,7 +49,8 @@ fn node_count(stage: &Stage<Listing>) -> usize
 
 /// What is missing of a schedule.
 fn missing(stage: &Stage<Listing>) -> Cause
-    ensures { (p : Progress) → StageStands ListingStands p stage.now → ¬ IsEnded p → Lacks (Scheduling p) result }
+    ensures { (p : Progress) → StageStands ListingStands p stage.now → ¬ IsEnded p
+        → Lacks (Scheduling p) result }
 {
     match stage.lacks() {
         Some(cause) => cause,
@@ -56,12 +59,13 @@ fn missing(stage: &Stage<Listing>) -> Cause
 }
 
 /// Passes the events that are left, and hands the verdict over.
-fn conclude<K: Sink>(claiming: Claiming, output: &mut Output, sink: &mut K) -> Result<(), Stop>
+fn conclude<K: Sink>(claiming: ClaimReader, output: &mut Output, sink: &mut K) -> Result<(), Stop>
     ensures ends { MatchResult result
         (λ _. Concludes claiming (K.written sink.old) output.old (K.written sink.new) output.new)
         (HaltsConcluding claiming (K.written sink.old) output.old (K.written sink.new) output.new) }
     ensures later { K.faults sink.old ≤ K.faults sink.new }
-    ensures cause { result ≡ Err Stop.WriteFault → Rose (K.faults sink.old) (K.faults sink.new) × (0 < length output.new) }
+    ensures cause { result ≡ Err Stop.WriteFault → Rose (K.faults sink.old) (K.faults sink.new)
+        × (0 < length output.new) }
     ensures still { result ≢ Err Stop.WriteFault → K.faults sink.new ≡ K.faults sink.old }
 {
     match claiming.pass_all() {
@@ -73,31 +77,34 @@ fn conclude<K: Sink>(claiming: Claiming, output: &mut Output, sink: &mut K) -> R
     }
 }
 
-impl Held {
+impl AuditInput {
     /// No line was read. Takes no memory.
-    fn new() -> Held
-        ensures { result ≡ Held.Schedule Stage.Untitled }
+    fn new() -> AuditInput
+        ensures { result ≡ AuditInput.Schedule Stage.Untitled }
     {
-        Held::Schedule(Stage::Untitled)
+        AuditInput::Schedule(Stage::Untitled)
     }
 
     /// What is held after one line more, or why the line may not follow.
-    fn next(self, alloc: Global, line: &[u8]) -> Result<Held, Stop>
-        ensures next { (r : Reading) → HeldStands r self → MatchResult result (Advances r line.now) (Halts r line.now) }
+    fn next(self, alloc: Global, line: &[u8]) -> Result<AuditInput, Stop>
+        ensures next { (r : Reading) → HeldStands r self
+            → MatchResult result (Advances r line.now) (Halts r line.now) }
         ensures kind { result ≢ Err Stop.WriteFault }
     {
         match self {
-            Held::Schedule(stage) => Self::schedule(alloc, stage, line),
-            Held::Claims(claiming) => match claiming.line(line) {
-                Ok(next) => Ok(Held::Claims(next)),
+            AuditInput::Schedule(stage) => Self::schedule(alloc, stage, line),
+            AuditInput::Claims(claiming) => match claiming.line(line) {
+                Ok(next) => Ok(AuditInput::Claims(next)),
                 Err(stop) => Err(stop),
             },
         }
     }
 
     /// Reads a line of the schedule.
-    fn schedule(alloc: Global, mut stage: Stage<Listing>, line: &[u8]) -> Result<Held, Stop>
-        ensures next { (p : Progress) → StageStands ListingStands p stage → MatchResult result (Advances (Scheduling p) line.now) (Halts (Scheduling p) line.now) }
+    fn schedule(alloc: Global, mut stage: Stage<Listing>, line: &[u8]) -> Result<AuditInput, Stop>
+        ensures next { (p : Progress) → StageStands ListingStands p stage
+            → MatchResult result (Advances (Scheduling p) line.now)
+            (Halts (Scheduling p) line.now) }
         ensures kind { result ≢ Err Stop.WriteFault }
     {
         match stage.advance(alloc, line) {
@@ -107,8 +114,10 @@ impl Held {
     }
 
     /// What is held behind a line that the schedule took; refused where it has a node too many.
-    fn behind(alloc: Global, stage: Stage<Listing>) -> Result<Held, Stop>
-        ensures next { (p : Progress) → StageStands ListingStands p stage → MatchResult result (λ next. (nodes_at p ≤ most_nodes) × HeldStands (reading_of p) next) (HaltsBehind p) }
+    fn behind(alloc: Global, stage: Stage<Listing>) -> Result<AuditInput, Stop>
+        ensures next { (p : Progress) → StageStands ListingStands p stage
+            → MatchResult result (λ next. (nodes_at p ≤ most_nodes)
+            × HeldStands (reading_of p) next) (HaltsBehind p) }
         ensures kind { result ≢ Err Stop.WriteFault }
     {
         if node_count(&stage) > MOST_NODES {
@@ -116,36 +125,38 @@ impl Held {
         }
         match stage {
             Stage::Running(run) => Self::behind_header(alloc, run),
-            Stage::Untitled => Ok(Held::Schedule(Stage::Untitled)),
-            Stage::Titled(version) => Ok(Held::Schedule(Stage::Titled(version))),
-            Stage::Drifted(header) => Ok(Held::Schedule(Stage::Drifted(header))),
-            Stage::Heading(header) => Ok(Held::Schedule(Stage::Heading(header))),
+            Stage::Untitled => Ok(AuditInput::Schedule(Stage::Untitled)),
+            Stage::Titled(version) => Ok(AuditInput::Schedule(Stage::Titled(version))),
+            Stage::Drifted(header) => Ok(AuditInput::Schedule(Stage::Drifted(header))),
+            Stage::Heading(header) => Ok(AuditInput::Schedule(Stage::Heading(header))),
         }
     }
 
     /// What is held behind a line behind the header: with the schedule's last one the claims begin.
-    fn behind_header(alloc: Global, run: Run<Listing>) -> Result<Held, Stop>
+    fn behind_header(alloc: Global, run: Run<Listing>) -> Result<AuditInput, Stop>
         requires { length run.course.header.nodes ≤ most_nodes }
-        ensures next { (p : Progress) → RunStands ListingStands p run → MatchResult result (HeldStands (reading_of p)) (λ stop. stop ≡ Stop.OutOfMemory) }
+        ensures next { (p : Progress) → RunStands ListingStands p run
+            → MatchResult result (HeldStands (reading_of p)) (λ stop. stop ≡ Stop.OutOfMemory) }
         ensures kind { result ≢ Err Stop.WriteFault }
     {
         if !run.over {
-            return Ok(Held::Schedule(Stage::Running(run)));
+            return Ok(AuditInput::Schedule(Stage::Running(run)));
         }
         let listing = run.course;
-        match Claiming::begin(alloc, listing.header, listing.events) {
-            Ok(claiming) => Ok(Held::Claims(claiming)),
+        match ClaimReader::begin(alloc, listing.header, listing.events) {
+            Ok(claiming) => Ok(AuditInput::Claims(claiming)),
             Err(_) => Err(Stop::OutOfMemory),
         }
     }
 
     /// For what cause a line of more than 1,024 octets is refused, of which these are the first 8.
     fn refuse_long(&self, start: &[u8]) -> Cause
-        ensures { (r : Reading) → HeldStands r self.now → (line : List ℕ) → 1024 < length line → start.now ≡ take 8 line → Refuses r line result }
+        ensures { (r : Reading) → HeldStands r self.now → (line : List ℕ) → 1024 < length line
+            → start.now ≡ take 8 line → Refuses r line result }
     {
         match self {
-            Held::Schedule(stage) => stage.refuse_long(start),
-            Held::Claims(_) => Cause::of(b"line"),
+            AuditInput::Schedule(stage) => stage.refuse_long(start),
+            AuditInput::Claims(_) => Cause::of(b"line"),
         }
     }
 }
@@ -154,17 +165,17 @@ impl Held {
 #[derive(Drop)]
 pub(crate) struct Check {
     alloc: Global,
-    held: Held,
+    held: AuditInput,
 }
 
 impl Check {
     /// No line was read. Takes no memory.
     pub(crate) fn new(alloc: Global) -> Check
-        ensures { result.held ≡ Held.Schedule Stage.Untitled }
+        ensures { result.held ≡ AuditInput.Schedule Stage.Untitled }
     {
         Check {
             alloc,
-            held: Held::new(),
+            held: AuditInput::new(),
         }
     }
 }
@@ -187,7 +198,7 @@ impl Treatment for Check {
         _output: &mut Output,
         _sink: &mut K,
     ) -> Result<(), Stop> {
-        match mem::replace(&mut self.held, Held::new()).next(self.alloc, line) {
+        match mem::replace(&mut self.held, AuditInput::new()).next(self.alloc, line) {
             Ok(next) => {
                 self.held = next;
                 Ok(())
@@ -201,9 +212,9 @@ impl Treatment for Check {
     }
 
     fn end<K: Sink>(&mut self, output: &mut Output, sink: &mut K) -> Result<(), Stop> {
-        match mem::replace(&mut self.held, Held::new()) {
-            Held::Schedule(stage) => Err(Stop::Bad(missing(&stage))),
-            Held::Claims(claiming) => conclude(claiming, output, sink),
+        match mem::replace(&mut self.held, AuditInput::new()) {
+            AuditInput::Schedule(stage) => Err(Stop::Bad(missing(&stage))),
+            AuditInput::Claims(claiming) => conclude(claiming, output, sink),
         }
     }
 }

@@ -62,7 +62,7 @@ fn copy_node(line: &NodeLine) -> NodeLine
     }
 }
 
-/// A header with the same drift, strictness and nodes, and without networks. The refusal is want of memory.
+/// A header with the same drift, strictness and nodes, and without networks. Fails only if out of memory.
 fn copy_nodes(alloc: Global, header: &Header) -> Result<Header, AllocError>
     ensures { IfOk result (λ copy. copy ≡ record header.now { nets = [] }) }
 {
@@ -75,7 +75,7 @@ fn copy_nodes(alloc: Global, header: &Header) -> Result<Header, AllocError>
     Ok(copy)
 }
 
-/// The same header again. The refusal is want of memory.
+/// The same header again. Fails only if out of memory.
 pub(crate) fn copy_header(alloc: Global, header: &Header) -> Result<Header, AllocError>
     ensures { IfOk result (λ copy. copy ≡ header.now) }
 {

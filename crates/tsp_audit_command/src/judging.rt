@@ -11,8 +11,8 @@ ghost use Rattle.tsp_claims.specs.Listed.{NamesNode};
 ghost use Rattle.tsp_claims.specs.Stands.{claim_of};
 ghost use Rattle.tsp_run.specs.Run.{event_at};
 
-use crate::claiming::Claiming;
-use crate::told::Told;
+use crate::claim_reader::ClaimReader;
+use crate::event_lines::EventLines;
 use std::alloc::AllocError;
 use tsp_audit::audit::Audit;
 use tsp_audit::verdict::Failure;
@@ -20,14 +20,17 @@ use tsp_base::event::Event;
 use tsp_claims::audit_fault::AuditFault;
 use tsp_script::trace::Line2;
 
-/// Audits an event and its lines, which fit. The refusal is want of memory.
+/// Audits an event and its lines, which fit. Fails only if out of memory.
 fn audit_one(audit: &mut Audit, e: &Event, lines: &[Line2]) -> Result<(), AllocError>
     requires time { event_at e.now ≤ 1000000000000000 }
     requires node { NamesNode (length audit.old.claims.header.nodes) e.now }
     requires events { audit.old.claims.events < 20000 }
     requires lines { audit.old.claims.told + length lines.now ≤ 20000 }
-    requires fit { (premises : Premises) × (header : HeaderValue) × (before : List Claim) × AuditStands premises header before audit.old × Fit header before e.now lines.now }
-    ensures { (premises : Premises) (header : HeaderValue) (before : List Claim) → AuditStands premises header before audit.old → OnOk result (AuditStands premises header (claim_of e.now lines.now ∷ before) audit.new) }
+    requires fit { (premises : Premises) × (header : HeaderValue) × (before : List Claim)
+        × AuditStands premises header before audit.old × Fit header before e.now lines.now }
+    ensures { (premises : Premises) (header : HeaderValue) (before : List Claim)
+        → AuditStands premises header before audit.old
+        → OnOk result (AuditStands premises header (claim_of e.now lines.now ∷ before) audit.new) }
 {
     match audit.event(e, lines) {
         Ok(_) => Ok(()),
@@ -36,10 +39,14 @@ fn audit_one(audit: &mut Audit, e: &Event, lines: &[Line2]) -> Result<(), AllocE
     }
 }
 
-/// Audits the first of these events, of which these lines are claimed, one after the other. The refusal is want of memory.
-fn audit_all(audit: &mut Audit, events: &[Event], told: &[Told]) -> Result<(), AllocError>
-    requires fit { (premises : Premises) × (header : HeaderValue) × IsAuditable premises header events.now told.now audit.old }
-    ensures { (premises : Premises) (header : HeaderValue) → IsAuditable premises header events.now told.now audit.old → OnOk result (AuditStands premises header (claims_on [] events.now told.now) audit.new) }
+/// Audits the first of these events, of which these lines are claimed, one after the other. Fails
+/// only if out of memory.
+fn audit_all(audit: &mut Audit, events: &[Event], told: &[EventLines]) -> Result<(), AllocError>
+    requires fit { (premises : Premises) × (header : HeaderValue)
+        × IsAuditable premises header events.now told.now audit.old }
+    ensures { (premises : Premises) (header : HeaderValue)
+        → IsAuditable premises header events.now told.now audit.old
+        → OnOk result (AuditStands premises header (claims_on [] events.now told.now) audit.new) }
 {
     for (i, lines) in told.iter().enumerate() {
         audit_one(audit, &events[i], lines.lines())?;
@@ -47,9 +54,9 @@ fn audit_all(audit: &mut Audit, events: &[Event], told: &[Told]) -> Result<(), A
     Ok(())
 }
 
-impl Claiming {
-    /// What fails first of what is claimed of the events that were passed, under the premises that they keep. The
-    /// refusal is want of memory.
+impl ClaimReader {
+    /// What fails first of what is claimed of the events that were passed, under the premises that
+    /// they keep. Fails only if out of memory.
     pub(crate) fn judge(self) -> Result<Option<Failure>, AllocError>
         ensures { IfOk result (λ found. Judges self.header self.passed found) }
     {

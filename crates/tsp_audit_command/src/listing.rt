@@ -10,9 +10,9 @@ use tsp_base::event::{Event, EventFault};
 use tsp_base::header::Header;
 use tsp_base::members::Members;
 use tsp_claims::booted::{none_booted, wake};
-use tsp_schedule::course::Course;
 use tsp_networks::all_nodes;
 use tsp_networks::refusals::time_of;
+use tsp_schedule::handler::EventHandler;
 
 /// The header and the events of a schedule so far, at most 20,000, none of which is refused.
 #[derive(Drop)]
@@ -37,7 +37,8 @@ pub(crate) struct Listing {
 impl Listing {
     ghost use Rattle.tsp_audit_command.specs.Stands.{ListingStands};
 
-    /// No event has happened. Takes memory for the nodes; the refusal is want of memory, and drops the header.
+    /// No event has happened. Takes memory for the nodes; fails only if out of memory, and then
+    /// drops the header.
     fn new(alloc: Global, header: Header) -> Result<Listing, AllocError>
         requires some { 1 ≤ length header.nodes }
         requires whole { is_whole header ≡ true }
@@ -55,7 +56,7 @@ impl Listing {
     }
 }
 
-impl Course for Listing {
+impl EventHandler for Listing {
     ghost use Rattle.tsp_audit_command.specs.Listings.{refused};
     ghost use Rattle.tsp_audit_command.specs.Stands.{ListingStands};
 

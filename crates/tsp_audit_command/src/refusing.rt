@@ -63,7 +63,8 @@ impl Listing {
 
     /// The first cause for which an event is refused, if it is.
     pub(crate) fn refusal(&self, e: &Event) -> Option<EventFault>
-        ensures { result ≡ refusal_at self.now.header self.now.last (length self.now.events.items) (up_in self.now.up.items) e.now }
+        ensures { result ≡ refusal_at self.now.header self.now.last (length self.now.events.items)
+            (up_in self.now.up.items) e.now }
     {
         let later = first_of(self.down(e), no_room(self.events.len() as u64));
         let absent = first_of(self.absent(e), later);

@@ -37,11 +37,14 @@ pub(crate) fn tell<K: Sink>(
     output: &mut Output,
     sink: &mut K,
 ) -> Result<(), Stop>
-    ensures ok { OnOk result (Hands (K.written sink.old) output.old (K.written sink.new) output.new (verdict_text found)) }
-    ensures err { OnErr result (Hands (K.written sink.old) output.old (K.written sink.new) output.new []) }
+    ensures ok { OnOk result (Hands (K.written sink.old) output.old (K.written sink.new) output.new
+        (verdict_text found)) }
+    ensures err { OnErr result (Hands (K.written sink.old) output.old (K.written sink.new)
+        output.new []) }
     ensures stop { IfErr result (λ stop. (fault : Unwritten) × (stop ≡ stop_of fault)) }
     ensures later { K.faults sink.old ≤ K.faults sink.new }
-    ensures cause { result ≡ Err Stop.WriteFault → Rose (K.faults sink.old) (K.faults sink.new) × (0 < length output.new) }
+    ensures cause { result ≡ Err Stop.WriteFault → Rose (K.faults sink.old) (K.faults sink.new)
+        × (0 < length output.new) }
     ensures still { result ≢ Err Stop.WriteFault → K.faults sink.new ≡ K.faults sink.old }
 {
     match output.put(sink, text_of(found).as_slice()) {

@@ -1,11 +1,11 @@
 //! Audits over lines of text.
 
+use crate::claiming::{event_of, header_of, is_claimable, lines_of};
 use std::alloc::Global;
 use tsp_audit::audit::Audit;
 use tsp_audit::premises::Premises;
 use tsp_audit::verdict::Verdict;
 use tsp_claims::audit_fault::AuditFault;
-use crate::claiming::{event_of, header_of, is_claimable, lines_of};
 
 /// What comes of lines that are claimed of an event.
 #[derive(Clone, Copy, PartialEq, Eq, Debug)]
@@ -51,8 +51,8 @@ fn claim(audit: &mut Audit, alloc: Global, event: &str, text: &str) -> Answer {
     }
 }
 
-/// Claims row after row: an event, the lines that are claimed of it, and what should come of it. The index of the first
-/// row of which something else comes.
+/// Claims row after row: an event, the lines that are claimed of it, and what should come of it.
+/// The index of the first row of which something else comes.
 pub(crate) fn first_wrong(
     audit: &mut Audit,
     alloc: Global,

@@ -1,4 +1,5 @@
-//! Rows that were worked out by hand: which lines fit which events, what was posted, and where the clocks stand.
+//! Rows that were worked out by hand: which lines fit which events, what was posted, and where the
+//! clocks stand.
 
 use crate::claiming::Answer::{Fits, Misfit};
 use crate::claiming::{base, claims_of_two, first_wrong, looks_at};

@@ -28,9 +28,11 @@ pub(crate) enum Answer {
     Unread,
 }
 
-/// A header of nodes on one network: the rate of each, in millionths, and its wall at tick 0, in microseconds.
+/// A header of nodes on one network: the rate of each, in millionths, and its wall at tick 0, in
+/// microseconds.
 pub fn header_of(alloc: Global, drift: u32, clocks: &[(i32, i64)]) -> Option<Header>
-    ensures { IfSome result (λ header. (1 ≤ length header.nodes) × (length header.nodes ≤ 16) × (is_whole header ≡ true)) }
+    ensures { IfSome result (λ header. (1 ≤ length header.nodes) × (length header.nodes ≤ 16)
+        × (is_whole header ≡ true)) }
 {
     if drift > 1000 {
         return None;
@@ -115,8 +117,8 @@ fn claim(claims: &mut Claims, alloc: Global, event: &str, text: &str) -> Answer 
     }
 }
 
-/// Claims row after row: an event, the lines that are claimed of it, and what should come of it. The index of the first
-/// row of which something else comes.
+/// Claims row after row: an event, the lines that are claimed of it, and what should come of it.
+/// The index of the first row of which something else comes.
 pub(crate) fn first_wrong(
     claims: &mut Claims,
     alloc: Global,

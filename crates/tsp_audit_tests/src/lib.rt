@@ -1,4 +1,5 @@
-//! Tests of the audit: of the facts that a history tells, of claims, of verdicts event by event, and of whole inputs.
+//! Tests of the audit: of the facts that a history tells, of claims, of verdicts event by event,
+//! and of whole inputs.
 //!
 //! They stand apart, so that each crate that they test is proved once.
 #![tactic(auto)]

@@ -14,7 +14,7 @@ use tsp_base::place::{PeerId, Place, Port};
 use tsp_base::role::Role;
 use tsp_base::stamp::Stamp;
 use tsp_history::clocks::{is_spaced, moved_at, target_at};
-use tsp_history::noted::{Noted, Why};
+use tsp_history::line::{HistoryLine, Why};
 use tsp_history::posts::{has_taken, post_at};
 use tsp_history::rounds::{Best, asked_at, best_after, closed_at, is_going, trip_of};
 use tsp_history::scans::{is_held, role_at};
@@ -27,8 +27,8 @@ const PORT: Port = Port(1);
 const PEER: PeerId = PeerId(2);
 
 /// An act of the node on its port at a tick.
-fn acts(tick: u64, act: Act) -> Noted {
-    Noted {
+fn acts(tick: u64, act: Act) -> HistoryLine {
+    HistoryLine {
         at: tick,
         node: NODE,
         why: Why::Turned,
@@ -39,8 +39,8 @@ fn acts(tick: u64, act: Act) -> Noted {
 }
 
 /// The mark of a step of the node at a tick.
-fn mark(tick: u64) -> Noted {
-    Noted {
+fn mark(tick: u64) -> HistoryLine {
+    HistoryLine {
         at: tick,
         node: NODE,
         why: Why::Turned,
@@ -51,8 +51,8 @@ fn mark(tick: u64) -> Noted {
 }
 
 /// A boot of the node at a tick, when its wall clock shows 1,000.
-fn boot(tick: u64) -> Noted {
-    Noted {
+fn boot(tick: u64) -> HistoryLine {
+    HistoryLine {
         at: tick,
         node: NODE,
         why: Why::Booted(7, 1_000),
@@ -63,7 +63,7 @@ fn boot(tick: u64) -> Noted {
 }
 
 /// A correction by so many microseconds.
-fn correct(tick: u64, amount: i64) -> Noted {
+fn correct(tick: u64, amount: i64) -> HistoryLine {
     acts(
         tick,
         Act::Correct {
@@ -75,7 +75,7 @@ fn correct(tick: u64, amount: i64) -> Noted {
 }
 
 /// A message of a numbered kind without a body to the peer.
-fn send(tick: u64) -> Noted {
+fn send(tick: u64) -> HistoryLine {
     let message = Message::new(Kind::Quit, 5, Body::Nothing, Name::empty());
     acts(
         tick,
@@ -84,13 +84,13 @@ fn send(tick: u64) -> Noted {
 }
 
 /// A request for the peer's reading.
-fn request(tick: u64, counter: u64) -> Noted {
+fn request(tick: u64, counter: u64) -> HistoryLine {
     let stamp = Stamp::Request { word: 7, counter };
     acts(tick, Act::Post(Place::Peer(PEER), Datagram::Stamp(stamp)))
 }
 
 /// A sample of the peer.
-fn sample(tick: u64, counter: u64, diff: i64) -> Noted {
+fn sample(tick: u64, counter: u64, diff: i64) -> HistoryLine {
     acts(
         tick,
         Act::Sample {
@@ -104,7 +104,7 @@ fn sample(tick: u64, counter: u64, diff: i64) -> Noted {
 }
 
 /// The round trip of each line.
-fn trips(alloc: Global, lines: &[Noted]) -> Result<Vec<i128>, AllocError>
+fn trips(alloc: Global, lines: &[HistoryLine]) -> Result<Vec<i128>, AllocError>
     requires { length lines.now < 2 ^ 32 }
 {
     let mut trips = Vec::new(alloc);
@@ -115,7 +115,7 @@ fn trips(alloc: Global, lines: &[Noted]) -> Result<Vec<i128>, AllocError>
 }
 
 /// The best sample of the peer, where these are the round trips of the lines.
-fn best_of(lines: &[Noted], trips: &[i128]) -> Option<Best> {
+fn best_of(lines: &[HistoryLine], trips: &[i128]) -> Option<Best> {
     let mut best = None;
     for (index, (line, trip)) in lines.iter().zip(trips).enumerate() {
         best = best_after(line, index, *trip, NODE, PORT, PEER, best);

@@ -24,12 +24,14 @@ const MEASURED: [(&str, &str, Answer); 16] = [
     ),
     (
         "at 80000000 turn 0",
-        "3 0 0 80000000 ring quiet\n3 0 0 80000000 become loose\n3 0 0 80000000 arm search 85000000\n3 0 0 80000000 post 0 1 masterreq 0 a",
+        "3 0 0 80000000 ring quiet\n3 0 0 80000000 become loose\n\
+            3 0 0 80000000 arm search 85000000\n3 0 0 80000000 post 0 1 masterreq 0 a",
         HOLDS,
     ),
     (
         "at 80000000 turn 1",
-        "4 1 0 80000000 ring quiet\n4 1 0 80000000 become loose\n4 1 0 80000000 arm search 85000000\n4 1 0 80000000 post 1 0 masterreq 0 b",
+        "4 1 0 80000000 ring quiet\n4 1 0 80000000 become loose\n\
+            4 1 0 80000000 arm search 85000000\n4 1 0 80000000 post 1 0 masterreq 0 b",
         HOLDS,
     ),
     (
@@ -44,12 +46,14 @@ const MEASURED: [(&str, &str, Answer); 16] = [
     ),
     (
         "at 385000000 turn 0",
-        "7 0 0 385000000 ring elect\n7 0 0 385000000 become candidate\n7 0 0 385000000 back 0\n7 0 0 385000000 arm window 390000000\n7 0 0 385000000 post 2 1 election 32768 a",
+        "7 0 0 385000000 ring elect\n7 0 0 385000000 become candidate\n7 0 0 385000000 back 0\n\
+            7 0 0 385000000 arm window 390000000\n7 0 0 385000000 post 2 1 election 32768 a",
         HOLDS,
     ),
     (
         "at 385000003 take 2",
-        "8 1 0 385000003 took 0 election 32768 a\n8 1 0 385000003 back 0\n8 1 0 385000003 arm elect 685000012\n8 1 0 385000003 post 3 0 accept 32768 b",
+        "8 1 0 385000003 took 0 election 32768 a\n8 1 0 385000003 back 0\n\
+            8 1 0 385000003 arm elect 685000012\n8 1 0 385000003 post 3 0 accept 32768 b",
         HOLDS,
     ),
     (
@@ -59,12 +63,14 @@ const MEASURED: [(&str, &str, Answer); 16] = [
     ),
     (
         "at 390000000 turn 0",
-        "10 0 0 390000000 ring window\n10 0 0 390000000 become master\n10 0 0 390000000 arm round 630000000\n10 0 0 390000000 post 4 1 masterup 0 a",
+        "10 0 0 390000000 ring window\n10 0 0 390000000 become master\n\
+            10 0 0 390000000 arm round 630000000\n10 0 0 390000000 post 4 1 masterup 0 a",
         HOLDS,
     ),
     (
         "at 390000500 take 4",
-        "11 1 0 390000500 took 0 masterup 0 a\n11 1 0 390000500 become follow 0\n11 1 0 390000500 arm elect 690000509\n11 1 0 390000500 post 5 0 slaveup 9 b",
+        "11 1 0 390000500 took 0 masterup 0 a\n11 1 0 390000500 become follow 0\n\
+            11 1 0 390000500 arm elect 690000509\n11 1 0 390000500 post 5 0 slaveup 9 b",
         HOLDS,
     ),
     (
@@ -74,7 +80,9 @@ const MEASURED: [(&str, &str, Answer); 16] = [
     ),
     (
         "at 390001400 take 6",
-        "13 1 0 390001400 took 0 settime 9 390001000 a\n13 1 0 390001400 correct -10400 step 390001000\n13 1 0 390001400 arm elect 690001409\n13 1 0 390001400 post 7 0 ack 9 b",
+        "13 1 0 390001400 took 0 settime 9 390001000 a\n\
+            13 1 0 390001400 correct -10400 step 390001000\n13 1 0 390001400 arm elect 690001409\n\
+            13 1 0 390001400 post 7 0 ack 9 b",
         HOLDS,
     ),
     (
@@ -84,7 +92,9 @@ const MEASURED: [(&str, &str, Answer); 16] = [
     ),
     (
         "at 630000000 turn 0",
-        "15 0 0 630000000 ring round\n15 0 0 630000000 arm round 870000000\n15 0 0 630000000 arm probe 631000000\n15 0 0 630000000 arm close 638000000\n15 0 0 630000000 post 8 1 masterup 0 a\n15 0 0 630000000 post 9 1 request 0 0",
+        "15 0 0 630000000 ring round\n15 0 0 630000000 arm round 870000000\n\
+            15 0 0 630000000 arm probe 631000000\n15 0 0 630000000 arm close 638000000\n\
+            15 0 0 630000000 post 8 1 masterup 0 a\n15 0 0 630000000 post 9 1 request 0 0",
         HOLDS,
     ),
     (
@@ -118,7 +128,8 @@ const PROBED: [(&str, &str, Answer); 4] = [
     ),
 ];
 
-/// A follower corrects its clock again, one tick too soon; the failure stays, and what comes after it is still fitted.
+/// A follower corrects its clock again, one tick too soon; the failure stays, and what comes after
+/// it is still fitted.
 #[test]
 fn corrects_too_soon(rt: HostRuntime) -> Result<(), Fail> {
     let clocks = [(0, 0), (0, 0)];
@@ -131,17 +142,20 @@ fn corrects_too_soon(rt: HostRuntime) -> Result<(), Fail> {
         ),
         (
             "at 80000000 turn 0",
-            "2 0 0 80000000 ring quiet\n2 0 0 80000000 become loose\n2 0 0 80000000 arm search 85000000\n2 0 0 80000000 post 0 1 masterreq 0 a",
+            "2 0 0 80000000 ring quiet\n2 0 0 80000000 become loose\n\
+                2 0 0 80000000 arm search 85000000\n2 0 0 80000000 post 0 1 masterreq 0 a",
             HOLDS,
         ),
         (
             "at 81000000 bytes 0 1 0601000000000000000000006200",
-            "3 0 0 81000000 took 1 masterup 0 b\n3 0 0 81000000 become follow 1\n3 0 0 81000000 arm elect 381000007\n3 0 0 81000000 post 1 1 slaveup 7 a",
+            "3 0 0 81000000 took 1 masterup 0 b\n3 0 0 81000000 become follow 1\n\
+                3 0 0 81000000 arm elect 381000007\n3 0 0 81000000 post 1 1 slaveup 7 a",
             HOLDS,
         ),
         (
             "at 82000000 bytes 0 1 0101000700000000000027106200",
-            "4 0 0 82000000 took 1 adjtime 7 10000 b\n4 0 0 82000000 correct 10000 slew 82000000\n4 0 0 82000000 arm elect 382000007\n4 0 0 82000000 post 2 1 ack 7 a",
+            "4 0 0 82000000 took 1 adjtime 7 10000 b\n4 0 0 82000000 correct 10000 slew 82000000\n\
+                4 0 0 82000000 arm elect 382000007\n4 0 0 82000000 post 2 1 ack 7 a",
             HOLDS,
         ),
         (
@@ -181,7 +195,9 @@ fn backs_too_soon(rt: HostRuntime) -> Result<(), Fail> {
         ),
         (
             "at 80000000 turn 0",
-            "2 0 0 80000000 ring quiet\n2 0 0 80000000 become loose\n2 0 0 80000000 arm search 85000000\n2 0 0 80000000 post 0 1 masterreq 0 a\n2 0 0 80000000 post 1 2 masterreq 0 a",
+            "2 0 0 80000000 ring quiet\n2 0 0 80000000 become loose\n\
+                2 0 0 80000000 arm search 85000000\n2 0 0 80000000 post 0 1 masterreq 0 a\n\
+                2 0 0 80000000 post 1 2 masterreq 0 a",
             HOLDS,
         ),
         (
@@ -191,7 +207,8 @@ fn backs_too_soon(rt: HostRuntime) -> Result<(), Fail> {
         ),
         (
             "at 90000000 bytes 0 1 0801800000000000000000006200",
-            "4 0 0 90000000 took 1 election 32768 b\n4 0 0 90000000 back 1\n4 0 0 90000000 arm elect 390000000\n4 0 0 90000000 post 2 1 accept 32768 a",
+            "4 0 0 90000000 took 1 election 32768 b\n4 0 0 90000000 back 1\n\
+                4 0 0 90000000 arm elect 390000000\n4 0 0 90000000 post 2 1 accept 32768 a",
             HOLDS,
         ),
         (
@@ -234,8 +251,8 @@ fn errs_too_little(rt: HostRuntime) -> Result<(), Fail> {
     Ok(())
 }
 
-/// The index of the first wrong row where the master closes its round, and its slave's clock is corrected by so many
-/// microseconds, of which this should come; and what has failed.
+/// The index of the first wrong row where the master closes its round, and its slave's clock is
+/// corrected by so many microseconds, of which this should come; and what has failed.
 fn corrected_by(
     alloc: Global,
     amount: u32,
@@ -246,10 +263,14 @@ fn corrected_by(
         return Err("a probe doesn't hold".into());
     }
     let closed = format!(in alloc;
-        "21 0 0 638000000 ring close\n21 0 0 638000000 close 2 -500 500 -250\n21 0 0 638000000 correct -250 slew 638000000\n21 0 0 638000000 post 14 1 adjtime 10 {amount} a"
+        "21 0 0 638000000 ring close\n21 0 0 638000000 close 2 -500 500 -250\n\
+            21 0 0 638000000 correct -250 slew 638000000\n\
+            21 0 0 638000000 post 14 1 adjtime 10 {amount} a"
     )?;
     let corrected = format!(in alloc;
-        "22 1 0 638000400 took 0 adjtime 10 {amount} a\n22 1 0 638000400 correct {amount} slew 638000000\n22 1 0 638000400 arm elect 938000409\n22 1 0 638000400 post 15 0 ack 10 b"
+        "22 1 0 638000400 took 0 adjtime 10 {amount} a\n\
+            22 1 0 638000400 correct {amount} slew 638000000\n\
+            22 1 0 638000400 arm elect 938000409\n22 1 0 638000400 post 15 0 ack 10 b"
     )?;
     let rows = [
         ("at 638000000 turn 0", closed.as_str(), HOLDS),

@@ -1,6 +1,6 @@
 //! The kinds of alarm.
 
-/// What a deadline is for, in the order in which due alarms are treated.
+/// What a deadline is for, in the order in which due alarms are handled.
 #[derive(Clone, Copy, PartialEq, Eq, Debug)]
 pub enum Alarm {
     /// The quiet time after a boot ends.

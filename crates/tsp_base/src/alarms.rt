@@ -24,7 +24,16 @@ impl Model for Alarms {
 
     ghost Value = { Deadlines };
 
-    ghost view = { λ a. record { quiet = a.quiet; search = a.search; elect = a.elect; window = a.window; probe = a.probe; close = a.close; resolve = a.resolve; round = a.round } };
+    ghost view = { λ a. record {
+      quiet = a.quiet;
+      search = a.search;
+      elect = a.elect;
+      window = a.window;
+      probe = a.probe;
+      close = a.close;
+      resolve = a.resolve;
+      round = a.round;
+    } };
 }
 
 impl Alarms {
@@ -125,6 +134,8 @@ pub fn earlier(a: Option<u64>, b: Option<u64>) -> Option<u64>
 
 /// The earliest deadline is one of those armed, and none is armed for an earlier tick.
 pub fn least_is_least()
-    ensures armed { (d : Deadlines) (t : ℕ) → least_deadline d ≡ Some t → (a : Alarm) × (deadline d a ≡ Some t) }
-    ensures first { (d : Deadlines) (a : Alarm) (t : ℕ) → deadline d a ≡ Some t → IfSome (least_deadline d) (λ l. l ≤ t) × IsSome (least_deadline d) }
+    ensures armed { (d : Deadlines) (t : ℕ) → least_deadline d ≡ Some t
+        → (a : Alarm) × (deadline d a ≡ Some t) }
+    ensures first { (d : Deadlines) (a : Alarm) (t : ℕ) → deadline d a ≡ Some t
+        → IfSome (least_deadline d) (λ l. l ≤ t) × IsSome (least_deadline d) }
 {}

@@ -14,7 +14,7 @@ pub trait Desk {
     /// How many more there is room for.
     ghost spare: { Self → ℕ };
 
-    /// Makes room for at least `n` more acts; the acts stay. The refusal is want of memory and changes
+    /// Makes room for at least `n` more acts; the acts stay. Fails only if out of memory, and then changes
     /// nothing.
     fn reserve(&mut self, n: usize) -> Result<(), AllocError>
         ensures acts { acts self.new ≡ acts self.old }

@@ -1,7 +1,8 @@
 //! The header of a schedule: the nodes, their clocks and their networks.
 ghost use Rattle.std.specs.Prelude.{◌≡◌, ◌≤◌, ◌<◌, ◌↔◌, length, [], ◌∷◌, ◌++◌, IsTrue, nat_lt};
 ghost use Rattle.std.specs.List.{list_any, list_all};
-ghost use Rattle.tsp_base.specs.Headers.{IsHeader, Pushes, Keeps, AddsNet, IsNet, Joins, nets_with, has_member, all_joined, is_whole};
+ghost use Rattle.tsp_base.specs.Headers.{IsHeader, Pushes, Keeps, AddsNet, IsNet, Joins, nets_with};
+ghost use Rattle.tsp_base.specs.Headers.{has_member, all_joined, is_whole};
 
 use crate::constants::SCHEDULE_END;
 use crate::members::{Members, is_ascending};
@@ -61,9 +62,19 @@ impl Model for Header {
 
     ghost Value = { HeaderValue };
 
-    ghost view = { λ h. record { drift = h.drift; strict = h.strict; nodes = h.nodes.items; nets = h.nets.items } };
+    ghost view = { λ h. record {
+      drift = h.drift;
+      strict = h.strict;
+      nodes = h.nodes.items;
+      nets = h.nets.items;
+    } };
 
-    ghost invariant = { λ h. IsHeader (record { drift = h.drift; strict = h.strict; nodes = h.nodes.items; nets = h.nets.items }) };
+    ghost invariant = { λ h. IsHeader (record {
+      drift = h.drift;
+      strict = h.strict;
+      nodes = h.nodes.items;
+      nets = h.nets.items;
+    }) };
 }
 
 impl Header {

@@ -1,6 +1,7 @@
 //! The kinds of message: numbers 1 to 13 are the protocol's, 14 to 24 a profile of this project.
 ghost use Rattle.std.specs.Prelude.{◌≡◌, ◌≤◌, length, ℕ, IfSome, IfNone};
 ghost use Rattle.tsp_base.specs.Kinds.{kind_number, kind_of, carries_time, carries_hops, kind_word};
+ghost use Rattle.tsp_base.specs.SendFacts.{is_correction, is_numbered, sets_date};
 ghost use Rattle.tsp_base.specs.declared.kind.Kind.{Kind};
 
 /// The type of a message. (TSP specification, message types.)
@@ -172,6 +173,38 @@ impl Kind {
                 | Kind::DateReq
                 | Kind::SetDate
                 | Kind::SetDateReq
+        )
+    }
+
+    /// Whether its messages correct a clock.
+    pub fn is_correction(&self) -> bool
+        ensures { result ≡ is_correction self.now }
+    {
+        matches!(self, Kind::AdjTime | Kind::SetTime)
+    }
+
+    /// Whether its messages are numbered sends, which are repeated until they are acknowledged.
+    pub fn is_numbered(&self) -> bool
+        ensures { result ≡ is_numbered self.now }
+    {
+        matches!(
+            self,
+            Kind::AdjTime
+                | Kind::SetTime
+                | Kind::Election
+                | Kind::Conflict
+                | Kind::Quit
+                | Kind::SetDateReq
+        )
+    }
+
+    /// Whether its messages set the network's date, or pass one on that is to be set.
+    pub fn sets_date(&self) -> bool
+        ensures { result ≡ sets_date self.now }
+    {
+        matches!(
+            self,
+            Kind::Date | Kind::SetDate | Kind::DateReq | Kind::SetDateReq
         )
     }
 }

@@ -42,7 +42,12 @@ impl Message {
     /// A message; None exactly where the body isn't the one that the kind carries.
     pub fn of(kind: Kind, number: u16, body: Body, name: Name) -> Option<Message>
         ensures variant { IsSome result ↔ (body_fits kind body ≡ true) }
-        ensures value { IfSome result (λ m. m ≡ record { kind = kind; number = number; body = body; name = name }) }
+        ensures value { IfSome result (λ m. m ≡ record {
+          kind = kind;
+          number = number;
+          body = body;
+          name = name;
+        }) }
     {
         if fits(kind, &body) {
             Some(Message {

@@ -20,11 +20,21 @@ impl Model for StampReply {
 
     ghost Value = { ReplyValue };
 
-    ghost view = { λ r. record { ticket = r.ticket; word = r.word; counter = r.counter; reading = r.reading } };
+    ghost view = { λ r. record {
+      ticket = r.ticket;
+      word = r.word;
+      counter = r.counter;
+      reading = r.reading;
+    } };
 
     ghost invariant = { λ r. IsReply r.ticket r.reading };
 
-    ghost inverse = { λ v. record { ticket = v.ticket; word = v.word; counter = v.counter; reading = v.reading } };
+    ghost inverse = { λ v. record {
+      ticket = v.ticket;
+      word = v.word;
+      counter = v.counter;
+      reading = v.reading;
+    } };
 }
 
 impl StampReply {
@@ -77,7 +87,13 @@ impl Stamp {
     /// -2^31 and 2^31 seconds.
     pub fn reply(ticket: u16, word: u64, counter: u64, reading: i64) -> Option<Stamp>
         ensures variant { IsSome result ↔ IsReply ticket reading }
-        ensures value { IfSome result (λ s. s ≡ Stamp.Reply (record { ticket = ticket; word = word; counter = counter; reading = reading })) }
+        ensures value { IfSome result
+            (λ s. s ≡ Stamp.Reply (record {
+              ticket = ticket;
+              word = word;
+              counter = counter;
+              reading = reading;
+            })) }
     {
         if ticket < 32768 && -LIMIT < reading && reading < LIMIT {
             Some(Stamp::Reply(StampReply {

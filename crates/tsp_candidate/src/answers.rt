@@ -21,8 +21,10 @@ pub(crate) fn take_accept<D: Desk>(
     desk: &mut D,
 )
     requires room { 2 ≤ D.spare desk.old }
-    ensures row { (x : ℕ) → Performs Stands Stands (accepted_by from number) x port station.old station.new (D.acts desk.old) (D.acts desk.new) }
-    ensures room { PutsAtMost 2 (D.spare desk.old) (D.spare desk.new) (D.acts desk.old) (D.acts desk.new) }
+    ensures row { (x : ℕ) → Performs Stands Stands (accepted_by from number) x port station.old
+        station.new (D.acts desk.old) (D.acts desk.new) }
+    ensures room { PutsAtMost 2 (D.spare desk.old) (D.spare desk.new) (D.acts desk.old)
+        (D.acts desk.new) }
     ensures port { IsSamePort station.old station.new }
 {
     if station.answered(from, number, port, desk) {
@@ -42,8 +44,10 @@ pub(crate) fn take_refuse<D: Desk>(
 )
     requires tick { IsTick tick }
     requires room { 3 ≤ D.spare desk.old }
-    ensures row { Performs Stands Stands (refused_by from number) tick port station.old station.new (D.acts desk.old) (D.acts desk.new) }
-    ensures room { PutsAtMost 3 (D.spare desk.old) (D.spare desk.new) (D.acts desk.old) (D.acts desk.new) }
+    ensures row { Performs Stands Stands (refused_by from number) tick port station.old station.new
+        (D.acts desk.old) (D.acts desk.new) }
+    ensures room { PutsAtMost 3 (D.spare desk.old) (D.spare desk.new) (D.acts desk.old)
+        (D.acts desk.new) }
     ensures port { IsSamePort station.old station.new }
 {
     if station.answered(from, number, port, desk) {

@@ -21,8 +21,10 @@ use tsp_base::role::Role;
 pub fn candidate_ring<D: Desk>(station: &mut Station, tick: u64, port: Port, desk: &mut D)
     requires tick { IsTick tick }
     requires room { length station.old.peers + 3 ≤ D.spare desk.old }
-    ensures row { Performs Stands Stands window_rings tick port station.old station.new (D.acts desk.old) (D.acts desk.new) }
-    ensures room { PutsAtMost (length station.old.peers + 3) (D.spare desk.old) (D.spare desk.new) (D.acts desk.old) (D.acts desk.new) }
+    ensures row { Performs Stands Stands window_rings tick port station.old station.new
+        (D.acts desk.old) (D.acts desk.new) }
+    ensures room { PutsAtMost (length station.old.peers + 3) (D.spare desk.old) (D.spare desk.new)
+        (D.acts desk.old) (D.acts desk.new) }
     ensures port { IsSamePort station.old station.new }
 {
     if station.is_in_time(Alarm::Window, tick) {
@@ -38,8 +40,10 @@ pub fn candidate_ring<D: Desk>(station: &mut Station, tick: u64, port: Port, des
 fn lead_or_give_way<D: Desk>(station: &mut Station, tick: u64, port: Port, desk: &mut D)
     requires tick { IsTick tick }
     requires room { length station.old.peers + 2 ≤ D.spare desk.old }
-    ensures row { Performs Stands Stands (either_by has_won lead_row yields) tick port station.old station.new (D.acts desk.old) (D.acts desk.new) }
-    ensures room { PutsAtMost (length station.old.peers + 2) (D.spare desk.old) (D.spare desk.new) (D.acts desk.old) (D.acts desk.new) }
+    ensures row { Performs Stands Stands (either_by has_won lead_row yields) tick port station.old
+        station.new (D.acts desk.old) (D.acts desk.new) }
+    ensures room { PutsAtMost (length station.old.peers + 2) (D.spare desk.old) (D.spare desk.new)
+        (D.acts desk.old) (D.acts desk.new) }
     ensures port { IsSamePort station.old station.new }
 {
     if has_won(station) {
@@ -61,8 +65,10 @@ fn has_won(station: &Station) -> bool
 fn lead<D: Desk>(station: &mut Station, tick: u64, port: Port, desk: &mut D)
     requires tick { IsTick tick }
     requires room { length station.old.peers + 2 ≤ D.spare desk.old }
-    ensures row { Performs Stands Stands lead_row tick port station.old station.new (D.acts desk.old) (D.acts desk.new) }
-    ensures room { PutsAtMost (length station.old.peers + 2) (D.spare desk.old) (D.spare desk.new) (D.acts desk.old) (D.acts desk.new) }
+    ensures row { Performs Stands Stands lead_row tick port station.old station.new
+        (D.acts desk.old) (D.acts desk.new) }
+    ensures room { PutsAtMost (length station.old.peers + 2) (D.spare desk.old) (D.spare desk.new)
+        (D.acts desk.old) (D.acts desk.new) }
     ensures port { IsSamePort station.old station.new }
 {
     station.become_role(Role::Master, port, desk);
@@ -74,8 +80,10 @@ fn lead<D: Desk>(station: &mut Station, tick: u64, port: Port, desk: &mut D)
 pub(crate) fn give_way<D: Desk>(station: &mut Station, tick: u64, port: Port, desk: &mut D)
     requires tick { IsTick tick }
     requires room { 2 ≤ D.spare desk.old }
-    ensures row { Performs Stands Stands yields tick port station.old station.new (D.acts desk.old) (D.acts desk.new) }
-    ensures room { PutsExactly 2 (D.spare desk.old) (D.spare desk.new) (D.acts desk.old) (D.acts desk.new) }
+    ensures row { Performs Stands Stands yields tick port station.old station.new (D.acts desk.old)
+        (D.acts desk.new) }
+    ensures room { PutsExactly 2 (D.spare desk.old) (D.spare desk.new) (D.acts desk.old)
+        (D.acts desk.new) }
     ensures port { IsSamePort station.old station.new }
 {
     station.become_role(Role::Loose, port, desk);

@@ -35,9 +35,12 @@ pub fn candidate_take<D: Desk>(
     requires tick { IsTick tick }
     requires room { 5 ≤ D.spare desk.old }
     requires peer { Contains station.old.peers from }
-    ensures row { (took : Option Received) → IsMessage from m.now took → Performs SlaveStands SlaveStands (candidate_takes from m.now) tick port
-        (station.old, (last.old, (clock.now, took))) (station.new, (last.new, (clock.now, took))) (D.acts desk.old) (D.acts desk.new) }
-    ensures room { PutsAtMost 5 (D.spare desk.old) (D.spare desk.new) (D.acts desk.old) (D.acts desk.new) }
+    ensures row { (took : Option Received) → IsMessage from m.now took
+        → Performs SlaveStands SlaveStands (candidate_takes from m.now) tick port
+        (station.old, (last.old, (clock.now, took))) (station.new, (last.new, (clock.now, took)))
+        (D.acts desk.old) (D.acts desk.new) }
+    ensures room { PutsAtMost 5 (D.spare desk.old) (D.spare desk.new) (D.acts desk.old)
+        (D.acts desk.new) }
     ensures port { IsSamePort station.old station.new }
 {
     let number = m.number();

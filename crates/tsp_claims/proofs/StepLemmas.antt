@@ -8,7 +8,7 @@ use Rattle.tsp_base.specs.Joins.{joined, line_of as line_in}
 use Rattle.tsp_claims.specs.declared.acting.Acting.{Acting}
 use Rattle.tsp_claims.specs.Fitting.{acts_of}
 use Rattle.tsp_claims.specs.Steps.{ActsIn, step_by}
-use Rattle.tsp_history.specs.declared.noted.Noted.{Noted}
+use Rattle.tsp_history.specs.declared.line.HistoryLine.{HistoryLine}
 use Rattle.tsp_history.specs.Histories.{history_of, line_of}
 use Rattle.tsp_history.proofs.HistoryLemmas.{noted-append}
 use Rattle.tsp_run.specs.Run.{step_tick}
@@ -30,7 +30,7 @@ acts-out header None h = refl
 acts-out header (Some step) h = absurd h
 
 -- one line more
-pub history-push : (ns : List Noted) (n : Noted) → history_of (ns ++ n ∷ []) ≡ (line_of n ∷ history_of ns)
+pub history-push : (ns : List HistoryLine) (n : HistoryLine) → history_of (ns ++ n ∷ []) ≡ (line_of n ∷ history_of ns)
 history-push ns n = noted-append [] ns (n ∷ [])
 
 -- the acts that are left, one line on
@@ -38,7 +38,7 @@ pub acts-next : (lines : List Line2) (i : ℕ) (l : Line2) → i < length lines 
 acts-next lines i l below is = ap (λ ls. acts_of ls) (drop_more lines i l below) ∙ ap (λ (k : Line2). k.placed ∷ acts_of (drop (i + 1) lines)) is
 
 -- noting the line of an act leaves one act less to be joined
-pub note-next : (s : Step) (x : ℕ) (lines : List Line2) (i : ℕ) (l : Line2) (ns : List Noted) (n : Noted) → i < length lines → get_or lines i l ≡ l → line_of n ≡ line_in s x l.placed.port (Acts l.placed.act) →
+pub note-next : (s : Step) (x : ℕ) (lines : List Line2) (i : ℕ) (l : Line2) (ns : List HistoryLine) (n : HistoryLine) → i < length lines → get_or lines i l ≡ l → line_of n ≡ line_in s x l.placed.port (Acts l.placed.act) →
     joined s x (acts_of (drop (i + 1) lines)) (history_of (ns ++ n ∷ [])) ≡ joined s x (acts_of (drop i lines)) (history_of ns)
 note-next s x lines i l ns n below is same =
     ap (λ h. joined s x (acts_of (drop (i + 1) lines)) h) (history-push ns n ∙ ap (λ (k : Line). k ∷ history_of ns) same) ∙ sym (ap (λ acts. joined s x acts (history_of ns)) (acts-next lines i l below is))

@@ -16,8 +16,8 @@ use tsp_base::drift::tick_at;
 use tsp_base::event::Event;
 use tsp_base::header::NodeLine;
 use tsp_base::members::Members;
+use tsp_history::line::Why;
 use tsp_networks::{address_of, networks_of, port_count};
-use tsp_history::noted::Why;
 use tsp_run::address::Address;
 
 /// A step in which a node acts.
@@ -81,7 +81,8 @@ impl Claims {
 
     /// Who takes the claimed post with this number: its addressee, if that is up.
     pub(crate) fn taker(&self, k: u64) -> Option<Address>
-        ensures taker { result ≡ taker self.now.header self.now.posts.items (up_in self.now.up.items) k }
+        ensures taker { result ≡ taker self.now.header self.now.posts.items
+            (up_in self.now.up.items) k }
         ensures node { IfSome result (λ a. a.node < vec_len self.now.up) }
     {
         let address = self.address(k)?;
@@ -96,7 +97,12 @@ impl Claims {
     fn step(&self, at: u64, node: u32, why: Why) -> Acting
         requires node { node < length self.now.header.nodes }
         requires time { at ≤ 1000000000000000 }
-        ensures { result ≡ record { at = at; node = node; why = why; tick = tick_at (node_line self.now.header node).rate at } }
+        ensures { result ≡ record {
+          at = at;
+          node = node;
+          why = why;
+          tick = tick_at (node_line self.now.header node).rate at;
+        } }
     {
         Acting {
             at,
@@ -122,7 +128,8 @@ impl Claims {
     pub(crate) fn acting(&self, e: &Event) -> Option<Acting>
         requires time { event_at e.now ≤ 1000000000000000 }
         requires node { NamesNode (length self.now.header.nodes) e.now }
-        ensures { ActsIn self.now.header (step_at self.now.header self.now.posts.items (up_in self.now.up.items) e.now) result }
+        ensures { ActsIn self.now.header (step_at self.now.header self.now.posts.items
+            (up_in self.now.up.items) e.now) result }
     {
         match e {
             Event::Boot { at, node, word } => Some(self.boot(*at, *node, *word)),

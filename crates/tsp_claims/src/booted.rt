@@ -5,7 +5,7 @@ ghost use Rattle.tsp_claims.specs.Listed.{NamesNode, Wakes, booted, up_in};
 use std::alloc::{AllocError, Global};
 use tsp_base::event::Event;
 
-/// The list of so many nodes, before any event. The refusal is want of memory.
+/// The list of so many nodes, before any event. Fails only if out of memory.
 pub fn none_booted(alloc: Global, count: usize) -> Result<Vec<bool>, AllocError>
     ensures none { IfOk result (λ up. up_in up.items ≡ booted []) }
     ensures places { IfOk result (λ up. vec_len up ≡ count) }

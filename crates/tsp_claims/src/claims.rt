@@ -1,5 +1,6 @@
 //! The lines that are claimed of a schedule's events, as far as they fit.
-ghost use Rattle.std.specs.Prelude.{◌≡◌, ◌≤◌, ◌<◌, ◌+◌, ◌↔◌, ◌∷◌, [], true, IsTrue, length, vec_len, slice_get, option_copied, IfOk};
+ghost use Rattle.std.specs.Prelude.{◌≡◌, ◌≤◌, ◌<◌, ◌+◌, ◌↔◌, ◌∷◌, [], true, IsTrue, length};
+ghost use Rattle.std.specs.Prelude.{vec_len, slice_get, option_copied, IfOk};
 ghost use Rattle.tsp_base.specs.Headers.{is_whole};
 ghost use Rattle.tsp_run.specs.Networks.{numbers_below};
 
@@ -11,9 +12,9 @@ use std::alloc::{AllocError, Global};
 use tsp_base::event::Event;
 use tsp_base::header::Header;
 use tsp_base::members::Members;
-use tsp_networks::all_nodes;
 use tsp_history::clocks::moved_at;
-use tsp_history::noted::Noted;
+use tsp_history::line::HistoryLine;
+use tsp_networks::all_nodes;
 use tsp_script::trace::Line2;
 
 /// The claimed lines of some events, event by event: all fit the schedule.
@@ -26,7 +27,7 @@ pub struct Claims {
     /// Whether each node has booted.
     pub(crate) up: Vec<bool>,
     /// The claimed lines and the marks of their steps, the oldest first.
-    pub(crate) lines: Vec<Noted>,
+    pub(crate) lines: Vec<HistoryLine>,
     /// The claimed posts, each under its number.
     pub(crate) posts: Vec<Claimed>,
     /// How many events were taken in.
@@ -50,7 +51,8 @@ impl Claims {
     ghost use Rattle.tsp_claims.specs.Stands.{ClaimsStand, TakesIn};
     ghost use Rattle.std.specs.Prelude.{List, ℕ};
 
-    /// Nothing is claimed. Takes memory for the nodes; the refusal is want of memory, and drops the header.
+    /// Nothing is claimed. Takes memory for the nodes; fails only if out of memory, and then drops
+    /// the header.
     pub fn new(alloc: Global, header: Header) -> Result<Claims, AllocError>
         requires some { 1 ≤ length header.nodes }
         requires few { length header.nodes ≤ 16 }
@@ -70,15 +72,16 @@ impl Claims {
         })
     }
 
-    /// Takes in an event and the lines that are claimed of it: Ok exactly where they fit and memory isn't refused.
-    /// `History` names the first line that doesn't fit, or the number of lines where the event lacks something. After
-    /// either fault the claims are what they were.
+    /// Takes in an event and the lines that are claimed of it: Ok exactly where they fit and memory
+    /// isn't refused. `History` names the first line that doesn't fit, or the number of lines where
+    /// the event lacks something. After either fault the claims are what they were.
     pub fn event(&mut self, e: &Event, acts: &[Line2]) -> Result<(), AuditFault>
         requires time { event_at e.now ≤ 1000000000000000 }
         requires node { NamesNode (length self.old.header.nodes) e.now }
         requires events { self.old.events < 20000 }
         requires lines { self.old.told + length acts.now ≤ 20000 }
-        ensures { (header : HeaderValue) (claims : List Claim) → ClaimsStand header claims self.old → TakesIn header claims e.now acts.now result self.new }
+        ensures { (header : HeaderValue) (claims : List Claim) → ClaimsStand header claims self.old
+            → TakesIn header claims e.now acts.now result self.new }
     {
         let step = self.acting(e);
         if let Some(index) = self.misfit(e, step, acts) {
@@ -96,37 +99,42 @@ impl Claims {
         requires time { event_at e.now ≤ 1000000000000000 }
         requires node { NamesNode (length self.now.header.nodes) e.now }
         requires events { self.now.events < 20000 }
-        ensures { (header : HeaderValue) (claims : List Claim) → ClaimsStand header claims self.now → IsTrue result ↔ FitsNext header claims e.now behind line.now }
+        ensures { (header : HeaderValue) (claims : List Claim) → ClaimsStand header claims self.now
+            → IsTrue result ↔ FitsNext header claims e.now behind line.now }
     {
         self.fits_in(e, self.acting(e), behind, line)
     }
 
-    /// What a node's clock shows more than its tick, in microseconds: its wall, and the amounts of its claimed
-    /// corrections since its last boot.
+    /// What a node's clock shows more than its tick, in microseconds: its wall, and the amounts of
+    /// its claimed corrections since its last boot.
     pub fn base(&self, node: u32) -> i128
         requires { node < length self.now.header.nodes }
-        ensures { (header : HeaderValue) (claims : List Claim) → ClaimsStand header claims self.now → result ≡ base_of header claims node }
+        ensures { (header : HeaderValue) (claims : List Claim) → ClaimsStand header claims self.now
+            → result ≡ base_of header claims node }
     {
         i128::from(self.line(node).wall) + moved_at(self.lines.as_slice(), node)
     }
 
     /// The claimed post with this number; None exactly where so many posts aren't claimed.
     pub fn post(&self, k: u64) -> Option<&Claimed>
-        ensures { (header : HeaderValue) (claims : List Claim) → ClaimsStand header claims self.now → option_copied result ≡ slice_get (posts_of header claims) k }
+        ensures { (header : HeaderValue) (claims : List Claim) → ClaimsStand header claims self.now
+            → option_copied result ≡ slice_get (posts_of header claims) k }
     {
         self.posts.get(k as usize)
     }
 
     /// The claimed posts, in order.
     pub fn posts(&self) -> &[Claimed]
-        ensures { (header : HeaderValue) (claims : List Claim) → ClaimsStand header claims self.now → result.now ≡ posts_of header claims }
+        ensures { (header : HeaderValue) (claims : List Claim) → ClaimsStand header claims self.now
+            → result.now ≡ posts_of header claims }
     {
         self.posts.as_slice()
     }
 
     /// The claimed lines and the marks of their steps, the oldest first.
-    pub fn lines(&self) -> &[Noted]
-        ensures lines { (header : HeaderValue) (claims : List Claim) → ClaimsStand header claims self.now → history_of result.now ≡ claimed header claims }
+    pub fn lines(&self) -> &[HistoryLine]
+        ensures lines { (header : HeaderValue) (claims : List Claim)
+            → ClaimsStand header claims self.now → history_of result.now ≡ claimed header claims }
         ensures few { length result.now ≤ 40000 }
     {
         self.lines.as_slice()

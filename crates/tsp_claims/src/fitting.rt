@@ -1,7 +1,8 @@
 //! Whether claimed lines fit.
 ghost use Rattle.std.specs.Prelude.{◌≡◌, ◌≤◌, ◌<◌, ◌+◌, ◌↔◌, ◌^◌, IsTrue, length, slice_get, MatchOption};
 ghost use Rattle.tsp_claims.specs.ClaimedHistory.{step_at, taker};
-ghost use Rattle.tsp_claims.specs.Fitting.{ActFits, AllFit, FitsAfter, LineFits, Misfits, TakesPost, TookFits, begins_with_boot, untold};
+ghost use Rattle.tsp_claims.specs.Fitting.{ActFits, AllFit, FitsAfter, LineFits, Misfits};
+ghost use Rattle.tsp_claims.specs.Fitting.{TakesPost, TookFits, begins_with_boot, untold};
 ghost use Rattle.tsp_claims.specs.Listed.{up_in};
 ghost use Rattle.tsp_claims.specs.Steps.{ActsIn, step_by};
 ghost use Rattle.tsp_run.specs.Run.{step_tick};
@@ -27,9 +28,12 @@ fn begins_with_boot(e: &Event) -> bool
 }
 
 impl Claims {
-    /// Whether what was taken on a port, as from somebody, is the claimed post with this number, which reaches that port.
+    /// Whether what was taken on a port, as from somebody, is the claimed post with this number,
+    /// which reaches that port.
     fn takes_post(&self, k: u64, port: Port, from: Place, taken: &Taken) -> bool
-        ensures { IsTrue result ↔ TakesPost (slice_get self.now.posts.items k) (taker self.now.header self.now.posts.items (up_in self.now.up.items) k) port from taken.now }
+        ensures { IsTrue result ↔ TakesPost (slice_get self.now.posts.items k)
+            (taker self.now.header self.now.posts.items (up_in self.now.up.items) k) port from
+            taken.now }
     {
         match (self.posts.get(k as usize), self.taker(k)) {
             (Some(post), Some(address)) => {
@@ -43,7 +47,8 @@ impl Claims {
 
     /// Whether what was taken on a port, as from somebody, is what an event brings.
     fn took_fits(&self, e: &Event, port: Port, from: Place, taken: &Taken) -> bool
-        ensures { IsTrue result ↔ TookFits self.now.header self.now.posts.items (up_in self.now.up.items) e.now port from taken.now }
+        ensures { IsTrue result ↔ TookFits self.now.header self.now.posts.items
+            (up_in self.now.up.items) e.now port from taken.now }
     {
         match e {
             Event::Boot { .. } => false,
@@ -59,7 +64,8 @@ impl Claims {
 
     /// Whether an act may stand next in an event.
     fn act_fits(&self, e: &Event, tally: Tally, placed: &Placed) -> bool
-        ensures { IsTrue result ↔ ActFits self.now.header self.now.posts.items (up_in self.now.up.items) e.now tally placed.now.port placed.now.act }
+        ensures { IsTrue result ↔ ActFits self.now.header self.now.posts.items
+            (up_in self.now.up.items) e.now tally placed.now.port placed.now.act }
     {
         let wants_boot = begins_with_boot(e) && !tally.begun;
         match &placed.act {
@@ -75,7 +81,8 @@ impl Claims {
     fn fits_at(&self, e: &Event, step: Acting, tally: Tally, line: &Line2) -> bool
         requires events { self.now.events < 20000 }
         requires tick { step.tick ≡ step_tick self.now.header (step_by step) }
-        ensures { IsTrue result ↔ LineFits self.now.header self.now.posts.items (up_in self.now.up.items) (self.now.events + 1) e.now tally (step_by step) line.now }
+        ensures { IsTrue result ↔ LineFits self.now.header self.now.posts.items
+            (up_in self.now.up.items) (self.now.events + 1) e.now tally (step_by step) line.now }
     {
         line.event == self.events + 1
             && line.node == step.node
@@ -99,8 +106,10 @@ impl Claims {
         line: &Line2,
     ) -> bool
         requires events { self.now.events < 20000 }
-        requires step { ActsIn self.now.header (step_at self.now.header self.now.posts.items (up_in self.now.up.items) e.now) step }
-        ensures { IsTrue result ↔ FitsAfter self.now.header self.now.posts.items (up_in self.now.up.items) (self.now.events + 1) e.now tally line.now }
+        requires step { ActsIn self.now.header (step_at self.now.header self.now.posts.items
+            (up_in self.now.up.items) e.now) step }
+        ensures { IsTrue result ↔ FitsAfter self.now.header self.now.posts.items
+            (up_in self.now.up.items) (self.now.events + 1) e.now tally line.now }
     {
         match step {
             Some(step) => self.fits_at(e, step, tally, line),
@@ -108,15 +117,18 @@ impl Claims {
         }
     }
 
-    /// The index of the first line that doesn't fit in an event at which a node acts in this step, or their number where
-    /// the event lacks something.
+    /// The index of the first line that doesn't fit in an event at which a node acts in this step,
+    /// or their number where the event lacks something.
     pub(crate) fn misfit(&self, e: &Event, step: Option<Acting>, lines: &[Line2]) -> Option<usize>
         requires events { self.now.events < 20000 }
         requires few { length lines.now ≤ 20000 }
-        requires step { ActsIn self.now.header (step_at self.now.header self.now.posts.items (up_in self.now.up.items) e.now) step }
+        requires step { ActsIn self.now.header (step_at self.now.header self.now.posts.items
+            (up_in self.now.up.items) e.now) step }
         ensures { MatchOption result
-            (AllFit (FitsAfter self.now.header self.now.posts.items (up_in self.now.up.items) (self.now.events + 1)) e.now untold lines.now)
-            (λ i. Misfits (FitsAfter self.now.header self.now.posts.items (up_in self.now.up.items) (self.now.events + 1)) e.now untold lines.now i) }
+            (AllFit (FitsAfter self.now.header self.now.posts.items (up_in self.now.up.items)
+            (self.now.events + 1)) e.now untold lines.now)
+            (λ i. Misfits (FitsAfter self.now.header self.now.posts.items (up_in self.now.up.items)
+            (self.now.events + 1)) e.now untold lines.now i) }
     {
         let mut tally = Tally::new();
         for (i, line) in lines.iter().enumerate() {

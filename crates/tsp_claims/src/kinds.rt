@@ -60,8 +60,8 @@ pub(crate) fn is_posted(act: &Act, taken: &Taken) -> bool
     }
 }
 
-/// Whether an act has its number: a post the next one, of which there were some before and some in the event, and any
-/// other act whatever number.
+/// Whether an act has its number: a post the next one, of which there were some before and some in
+/// the event, and any other act whatever number.
 pub(crate) fn is_numbered(before: u64, posts: u64, act: &Act, number: u64) -> bool
     ensures { IsTrue result ↔ NumberFits (before + posts) act.now number }
 {

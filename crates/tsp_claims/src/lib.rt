@@ -1,4 +1,5 @@
-//! Lines that are claimed of a schedule's events: whether they fit it, the posts among them, and the clocks after them.
+//! Lines that are claimed of a schedule's events: whether they fit it, the posts among them, and
+//! the clocks after them.
 #![tactic(auto)]
 
 mod acting;

@@ -18,14 +18,21 @@ use std::alloc::AllocError;
 use tsp_base::act::{Act, Placed};
 use tsp_base::event::Event;
 use tsp_base::place::Port;
-use tsp_history::noted::Noted;
+use tsp_history::line::HistoryLine;
 use tsp_script::trace::Line2;
 
 /// A line of a step: its mark, or an act on a port.
-fn noted(step: Acting, port: Port, act: Option<Act>) -> Noted
-    ensures { result ≡ record { at = step.at; node = step.node; why = step.why; tick = step.tick; port = port; act = act } }
+fn noted(step: Acting, port: Port, act: Option<Act>) -> HistoryLine
+    ensures { result ≡ record {
+      at = step.at;
+      node = step.node;
+      why = step.why;
+      tick = step.tick;
+      port = port;
+      act = act;
+    } }
 {
-    Noted {
+    HistoryLine {
         at: step.at,
         node: step.node,
         why: step.why,
@@ -36,9 +43,10 @@ fn noted(step: Acting, port: Port, act: Option<Act>) -> Noted
 }
 
 /// Notes acts of a step.
-fn note(lines: &mut Vec<Noted>, step: Acting, acts: &[Line2])
+fn note(lines: &mut Vec<HistoryLine>, step: Acting, acts: &[Line2])
     requires { vec_len lines.old + length acts.now ≤ vec_capacity lines.old }
-    ensures history { history_of lines.new.items ≡ joined (step_by step) step.tick (acts_of acts.now) (history_of lines.old.items) }
+    ensures history { history_of lines.new.items ≡ joined (step_by step) step.tick
+        (acts_of acts.now) (history_of lines.old.items) }
     ensures len { vec_len lines.new ≡ vec_len lines.old + length acts.now }
 {
     for line in acts {
@@ -50,7 +58,8 @@ fn note(lines: &mut Vec<Noted>, step: Acting, acts: &[Line2])
 /// Notes the post that an act of a step claims, if it claims one.
 fn claim_one(posts: &mut Vec<Claimed>, event: u64, step: Acting, placed: &Placed)
     requires { vec_len posts.old < vec_capacity posts.old }
-    ensures posts { posts.new.items ≡ posts.old.items ++ claims_post event (step_by step) placed.now placed.now.act }
+    ensures posts { posts.new.items ≡ posts.old.items ++ claims_post event (step_by step) placed.now
+        placed.now.act }
     ensures len { vec_len posts.new ≤ vec_len posts.old + 1 }
     ensures capacity { vec_capacity posts.old ≤ vec_capacity posts.new }
 {
@@ -71,7 +80,8 @@ fn claim_one(posts: &mut Vec<Claimed>, event: u64, step: Acting, placed: &Placed
 /// Notes the posts that acts of a step claim.
 fn claim(posts: &mut Vec<Claimed>, event: u64, step: Acting, acts: &[Line2])
     requires { vec_len posts.old + length acts.now ≤ vec_capacity posts.old }
-    ensures { posts.new.items ≡ posts.old.items ++ posts_in event (step_by step) (acts_of acts.now) }
+    ensures { posts.new.items ≡ posts.old.items ++ posts_in event (step_by step)
+        (acts_of acts.now) }
 {
     for line in acts {
         claim_one(posts, event, step, &line.placed);
@@ -89,7 +99,8 @@ fn is_step(e: &Event, acts: &[Line2]) -> bool
 }
 
 impl Claims {
-    /// Makes room for so many lines of an event. The refusal is want of memory; either way the claims are what they were.
+    /// Makes room for so many lines of an event. Fails only if out of memory; either way the claims
+    /// are what they were.
     pub(crate) fn make_room(&mut self, count: usize) -> Result<(), AllocError>
         requires { count ≤ 20000 }
         ensures room { OnOk result (HasRoom count self.new) }
@@ -103,7 +114,8 @@ impl Claims {
     /// Joins a step with the acts of these lines.
     fn join(&mut self, step: Acting, acts: &[Line2])
         requires room { HasRoom (length acts.now) self.old }
-        requires few { vec_len self.old.lines + length acts.now + 1 ≤ self.old.told + self.old.events }
+        requires few { vec_len self.old.lines + length acts.now + 1 ≤ self.old.told
+            + self.old.events }
         ensures { Joins step acts.now self.old self.new }
     {
         self.lines.push_reserved(noted(step, Port(0), None));
@@ -111,12 +123,14 @@ impl Claims {
         claim(&mut self.posts, self.events, step, acts);
     }
 
-    /// Joins the step of an event at which a node acts, if one does, with the acts of these lines; lines of a take only
-    /// where there are some.
+    /// Joins the step of an event at which a node acts, if one does, with the acts of these lines;
+    /// lines of a take only where there are some.
     fn take_step(&mut self, e: &Event, step: Option<Acting>, acts: &[Line2])
         requires room { HasRoom (length acts.now) self.old }
-        requires few { vec_len self.old.lines + length acts.now + 1 ≤ self.old.told + self.old.events }
-        requires step { ActsIn self.old.header (step_at self.old.header self.old.posts.items (up_in self.old.up.items) e.now) step }
+        requires few { vec_len self.old.lines + length acts.now + 1 ≤ self.old.told
+            + self.old.events }
+        requires step { ActsIn self.old.header (step_at self.old.header self.old.posts.items
+            (up_in self.old.up.items) e.now) step }
         ensures { TakesStep e.now acts.now self.old self.new }
     {
         if !is_step(e, acts) {
@@ -134,8 +148,10 @@ impl Claims {
         requires events { self.old.events < 20000 }
         requires lines { self.old.told + length acts.now ≤ 20000 }
         requires room { HasRoom (length acts.now) self.old }
-        requires step { ActsIn self.old.header (step_at self.old.header self.old.posts.items (up_in self.old.up.items) e.now) step }
-        ensures { (header : HeaderValue) (claims : List Claim) → ClaimsStand header claims self.old → ClaimsStand header (claim_of e.now acts.now ∷ claims) self.new }
+        requires step { ActsIn self.old.header (step_at self.old.header self.old.posts.items
+            (up_in self.old.up.items) e.now) step }
+        ensures { (header : HeaderValue) (claims : List Claim) → ClaimsStand header claims self.old
+            → ClaimsStand header (claim_of e.now acts.now ∷ claims) self.new }
     {
         self.events += 1;
         self.told += acts.len() as u64;

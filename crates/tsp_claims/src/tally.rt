@@ -39,8 +39,8 @@ impl Tally {
         self.took = self.took || is_took(act);
     }
 
-    /// Whether an event with these lines lacks what it needs: a boot its Boot, and octets, or a take that has lines, the
-    /// Took.
+    /// Whether an event with these lines lacks what it needs: a boot its Boot, and octets, or a
+    /// take that has lines, the Took.
     pub fn lacks(&self, e: &Event) -> bool
         ensures { result ≡ lacks e.now self.now }
     {

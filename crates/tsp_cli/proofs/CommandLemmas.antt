@@ -2,20 +2,21 @@
 use Rattle.std.specs.Prelude.{◌≡◌, ◌⊎◌, ◌≤◌, ◌<◌, ℕ, ℤ, Bool, true, false, List, [], ◌++◌, length, Option, None, Some, IfSome, IfOk, MatchOption, codes}
 use Rattle.std.specs.declared.result.Result.{Result}
 use Rattle.std.proofs.Common.{sym, ◌∙◌, inl, inr, subst, refl, ap, arith}
-use Rattle.tsp_query.specs.declared.exit.Asking.{Asking}
-use Rattle.tsp_query.specs.declared.exit.Asking.TheVariants.{Answered, NoAnswer as Unanswered, LinkFault as NotAsked, WriteFault as Untold, OutOfMemory as Unasked}
+use Rattle.tsp_query.specs.declared.exit.QueryExit.{QueryExit}
+use Rattle.tsp_query.specs.declared.exit.QueryExit.TheVariants.{Answered, NoAnswer as Unanswered, LinkFault as NotAsked, WriteFault as Untold, OutOfMemory as Unasked}
 use Rattle.tsp_query.specs.Asks.{AsksAs}
+use Rattle.tsp_io.specs.declared.addr.Addr.{Addr}
 use Rattle.tsp_io.specs.Counts.{Rose}
 use Rattle.tsp_lines.proofs.Outputs.{Grows-nil}
 use Rattle.tsp_query.proofs.AskLemmas.{of_some}
 use Rattle.tsp_query.specs.Ends.{Outside}
-use Rattle.tsp_query.specs.Told.{Told, Knows}
+use Rattle.tsp_query.specs.Outside.{Observed, Knows}
 use Rattle.tsp_rules.specs.Guards.{is_clock_value}
 use Rattle.tsp_storm.specs.declared.run.StormEnd.{StormEnd}
 use Rattle.tsp_storm.specs.declared.run.StormEnd.TheVariants.{Done as Summed, Limit as Full, WriteFault as Unsaid, OutOfMemory as Unmade}
 use Rattle.tsp_storm.specs.Answers.{IsAnswer, Agrees, HasRoom, StormsAs}
-use Rattle.tsp_daemon.specs.declared.exit.Served.{Served}
-use Rattle.tsp_daemon.specs.declared.exit.Served.TheVariants.{Done as AllTurns, BadWall, LinkFault as NotHeard, WriteFault as NotShown, OutOfMemory as Unserved}
+use Rattle.tsp_daemon.specs.declared.exit.DaemonExit.{DaemonExit}
+use Rattle.tsp_daemon.specs.declared.exit.DaemonExit.TheVariants.{Done as AllTurns, BadWall, LinkFault as NotHeard, WriteFault as NotShown, OutOfMemory as Unserved}
 use Rattle.tsp_daemon.specs.Serving.{ServesAs}
 use Rattle.tsp_args.specs.Commands.{words_of, IsCommand, IsNoCommand}
 use Rattle.tsp_args.specs.declared.command.Command.{Command}
@@ -43,12 +44,12 @@ Untouched-same (Storm s) source link ticker = (refl, refl, refl)
 Untouched-same Icmp source link ticker = (refl, refl)
 Untouched-same Audit source link ticker = (refl, refl)
 
--- nothing was written of the words of a wrong use, for want of memory
+-- nothing was written of the words of a wrong use, for lack of memory
 pub Says-nothing : (written : Option (List ℕ)) → Says usage_line Usage written written OutOfMemory
 Says-nothing written = inr (inr refl, ([], usage_line, omega arith, refl, Grows-nil written))
 
 -- a daemon's status is never a failed read's
-pub served_unread : (s : Served) → status_of_served s ≡ ReadFault → ⊥
+pub served_unread : (s : DaemonExit) → status_of_served s ≡ ReadFault → ⊥
 served_unread AllTurns e = cc
 served_unread BadWall e = cc
 served_unread NotHeard e = cc
@@ -56,7 +57,7 @@ served_unread NotShown e = cc
 served_unread Unserved e = cc
 
 -- nor a wrong use's
-pub served_used : (s : Served) → status_of_served s ≡ Usage → ⊥
+pub served_used : (s : DaemonExit) → status_of_served s ≡ Usage → ⊥
 served_used AllTurns e = cc
 served_used BadWall e = cc
 served_used NotHeard e = cc
@@ -64,7 +65,7 @@ served_used NotShown e = cc
 served_used Unserved e = cc
 
 -- a daemon ends by its link only where its session did
-pub served_linked : (s : Served) → status_of_served s ≡ LinkFault → s ≡ NotHeard
+pub served_linked : (s : DaemonExit) → status_of_served s ≡ LinkFault → s ≡ NotHeard
 served_linked AllTurns e = cc
 served_linked BadWall e = cc
 served_linked NotHeard e = refl
@@ -72,14 +73,14 @@ served_linked NotShown e = cc
 served_linked Unserved e = cc
 
 -- a daemon ends by a write only where its session did
-pub served_written : (s : Served) → status_of_served s ≡ WriteFault → s ≡ NotShown
+pub served_written : (s : DaemonExit) → status_of_served s ≡ WriteFault → s ≡ NotShown
 served_written AllTurns e = cc
 served_written BadWall e = cc
 served_written NotHeard e = cc
 served_written NotShown e = refl
 served_written Unserved e = cc
 
-served_complete : (s : Served) (links links_now writes writes_now : ℕ) (told : Option ℤ) (wall : ℤ) → (s ≡ BadWall → IfSome told (λ w. is_clock_value w ≡ false)) → (s ≡ NotHeard → Rose links links_now) → (s ≡ NotShown → Rose writes writes_now)
+served_complete : (s : DaemonExit) (links links_now writes writes_now : ℕ) (told : Option ℤ) (wall : ℤ) → (s ≡ BadWall → IfSome told (λ w. is_clock_value w ≡ false)) → (s ≡ NotHeard → Rose links links_now) → (s ≡ NotShown → Rose writes writes_now)
     → told ≡ Some wall → is_clock_value wall ≡ true → ¬ Rose links links_now → ¬ Rose writes writes_now → (status_of_served s ≡ Ok) ⊎ (status_of_served s ≡ OutOfMemory)
 served_complete AllTurns links links_now writes writes_now told wall bad heard shown is within l w = inl refl
 served_complete BadWall links links_now writes writes_now told wall bad heard shown is within l w =
@@ -91,8 +92,8 @@ served_complete NotShown links links_now writes writes_now told wall bad heard s
 served_complete Unserved links links_now writes writes_now told wall bad heard shown is within l w = inr refl
 
 -- from how a daemon ends, to how the program does
-pub RunsDaemon-served : (s : ServeWords) (old new : Told) (links links_now writes writes_now : ℕ) (served : Served) (status : Status) → status ≡ status_of_served served
-    → ((o : Outside) (wall : ℤ) (word : ℕ) (written : List ℕ) → Knows o wall word written old → ServesAs s o wall word written new served)
+pub RunsDaemon-served : (s : ServeWords) (old new : Observed) (links links_now writes writes_now : ℕ) (served : DaemonExit) (status : Status) → status ≡ status_of_served served
+    → ((o : Outside) (wall : ℤ) (word : ℕ) (written : List ℕ) → Knows o wall word written old → ServesAs s o wall word written old new served)
     → (served ≡ BadWall → IfSome old.wall (λ w. is_clock_value w ≡ false)) → (served ≡ NotHeard → Rose links links_now) → (served ≡ NotShown → Rose writes writes_now)
     → RunsDaemon s old new links links_now writes writes_now status
 RunsDaemon-served s old new links links_now writes writes_now served status e serves bad heard shown = record {
@@ -103,7 +104,7 @@ RunsDaemon-served s old new links links_now writes writes_now served status e se
 }
 
 -- a question's status is never a failed read's
-pub asking_unread : (a : Asking) → status_of_asking a ≡ ReadFault → ⊥
+pub asking_unread : (a : QueryExit) → status_of_asking a ≡ ReadFault → ⊥
 asking_unread Answered e = cc
 asking_unread Unanswered e = cc
 asking_unread NotAsked e = cc
@@ -111,7 +112,7 @@ asking_unread Untold e = cc
 asking_unread Unasked e = cc
 
 -- nor a wrong use's
-pub asking_used : (a : Asking) → status_of_asking a ≡ Usage → ⊥
+pub asking_used : (a : QueryExit) → status_of_asking a ≡ Usage → ⊥
 asking_used Answered e = cc
 asking_used Unanswered e = cc
 asking_used NotAsked e = cc
@@ -119,7 +120,7 @@ asking_used Untold e = cc
 asking_used Unasked e = cc
 
 -- a question ends by its link only where asking did
-pub asking_linked : (a : Asking) → status_of_asking a ≡ LinkFault → a ≡ NotAsked
+pub asking_linked : (a : QueryExit) → status_of_asking a ≡ LinkFault → a ≡ NotAsked
 asking_linked Answered e = cc
 asking_linked Unanswered e = cc
 asking_linked NotAsked e = refl
@@ -127,14 +128,14 @@ asking_linked Untold e = cc
 asking_linked Unasked e = cc
 
 -- a question ends by a write only where its line's did
-pub asking_written : (a : Asking) → status_of_asking a ≡ WriteFault → a ≡ Untold
+pub asking_written : (a : QueryExit) → status_of_asking a ≡ WriteFault → a ≡ Untold
 asking_written Answered e = cc
 asking_written Unanswered e = cc
 asking_written NotAsked e = cc
 asking_written Untold e = refl
 asking_written Unasked e = cc
 
-asking_complete : (a : Asking) (links links_now sends sends_now writes writes_now : ℕ) → (a ≡ NotAsked → Rose links links_now ⊎ Rose sends sends_now) → (a ≡ Untold → Rose writes writes_now)
+asking_complete : (a : QueryExit) (links links_now sends sends_now writes writes_now : ℕ) → (a ≡ NotAsked → Rose links links_now ⊎ Rose sends sends_now) → (a ≡ Untold → Rose writes writes_now)
     → ¬ Rose links links_now → ¬ Rose sends sends_now → ¬ Rose writes writes_now → (status_of_asking a ≡ Ok) ⊎ (status_of_asking a ≡ NoAnswer) ⊎ (status_of_asking a ≡ OutOfMemory)
 asking_complete Answered links links_now sends sends_now writes writes_now asked told l s w = inl refl
 asking_complete Unanswered links links_now sends sends_now writes writes_now asked told l s w = inr (inl refl)
@@ -143,11 +144,11 @@ asking_complete Untold links links_now sends sends_now writes writes_now asked t
 asking_complete Unasked links links_now sends sends_now writes writes_now asked told l s w = inr (inr refl)
 
 -- from how a question ends, to how the program does
-pub RunsQuery-asked : (q : Query) (old new : Told) (links links_now sends sends_now writes writes_now : ℕ) (asking : Asking) (status : Status) → status ≡ status_of_asking asking
-    → ((o : Outside) (wall : ℤ) (word : ℕ) (written : List ℕ) → Knows o wall word written old → AsksAs q o wall word written new asking)
+pub RunsQuery-asked : (daemon : Addr) (q : Query) (old new : Observed) (links links_now sends sends_now writes writes_now : ℕ) (asking : QueryExit) (status : Status) → status ≡ status_of_asking asking
+    → ((o : Outside) (wall : ℤ) (word : ℕ) (written : List ℕ) → Knows o wall word written old → AsksAs daemon q o wall word written old new sends sends_now asking)
     → (asking ≡ NotAsked → Rose links links_now ⊎ Rose sends sends_now) → (asking ≡ Untold → Rose writes writes_now)
-    → RunsQuery q old new links links_now sends sends_now writes writes_now status
-RunsQuery-asked q old new links links_now sends sends_now writes writes_now asking status e asks asked told = record {
+    → RunsQuery daemon q old new links links_now sends sends_now writes writes_now status
+RunsQuery-asked daemon q old new links links_now sends sends_now writes writes_now asking status e asks asked told = record {
   asking = asking;
   status_is = e;
   asks = asks;

@@ -1,5 +1,6 @@
 mod ActsFit
 pub mod AuditLemmas
+mod ClaimedEvents
 mod ClaimedPosts
 pub mod CommandLemmas
 mod EachLine
@@ -12,5 +13,4 @@ pub mod RunLemmas
 mod RunLife
 mod RunWords
 pub mod Statuses
-mod Told
 pub mod Verdict

@@ -40,7 +40,7 @@ status_ok NotWritten e = cc
 status_ok Limited e = cc
 status_ok NoMemory e = cc
 
--- a treatment that ends as another, or for want of memory, has that one's status
+-- a treatment that ends as another, or for lack of memory, has that one's status
 pub status_same : (o p : Outcome) → (o ≡ p) ⊎ (o ≡ NoMemory) → (status_of o ≡ status_of p) ⊎ (status_of o ≡ OutOfMemory)
 status_same o p (inl e) = inl (ap status_of e)
 status_same o p (inr e) = inr (ap status_of e)

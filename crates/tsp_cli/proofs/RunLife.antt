@@ -20,7 +20,7 @@ use Rattle.tsp_base.specs.Takings.{posted}
 use Rattle.tsp_base.proofs.PlaceLemmas.{Within-none}
 use Rattle.tsp_claims.specs.declared.claimed.Claimed.{Claimed}
 use Rattle.tsp_claims.specs.ClaimedHistory.{posts_of}
-use Rattle.tsp_cli.specs.Held.{claims_of}
+use Rattle.tsp_cli.specs.AuditedRuns.{claims_of}
 use Rattle.tsp_run.specs.declared.posted.Posted.{Posted}
 use Rattle.tsp_run.specs.Ranges.{Accepted}
 use Rattle.tsp_run.specs.Run.{joins, posted_in, posts, run, step_tick}

@@ -16,7 +16,7 @@ use Rattle.tsp_promises.specs.Safe.{Safe}
 use Rattle.tsp_promises.specs.Setting.{Setting}
 use Rattle.tsp_promises.proofs.WordsProof.{own_words}
 use Rattle.tsp_claims.specs.ClaimedHistory.{Claim, claimed, posts_of}
-use Rattle.tsp_cli.specs.Held.{RunsHold, claims_of}
+use Rattle.tsp_cli.specs.AuditedRuns.{RunsHold, claims_of}
 use Rattle.tsp_run.specs.Ranges.{Accepted}
 use Rattle.tsp_run.specs.Run.{run}
 use Rattle.tsp_run.specs.Setting.{SetBy}
@@ -25,7 +25,7 @@ use Rattle.tsp_cli.proofs.RunClaims.{accepted_before, told_are}
 use Rattle.tsp_cli.proofs.RunHonest.{honest-run}
 use Rattle.tsp_cli.proofs.RunLife.{life-run}
 use Rattle.tsp_cli.proofs.RunWords.{words-run}
-use Rattle.tsp_cli.proofs.Told.{events-claims}
+use Rattle.tsp_cli.proofs.ClaimedEvents.{events-claims}
 
 -- of the premises that a verdict goes by, a history keeps each that they grant
 pub record Granted (premises : Premises) (history : List Line) : Type 0 where

@@ -1,19 +1,20 @@
 -- What each command of the program comes to.
 use Rattle.std.specs.Prelude.{◌≡◌, ◌≢◌, ◌⊎◌, ◌≤◌, ℕ, ℤ, Bool, true, List, length, Option, Some}
-use Rattle.tsp_query.specs.declared.exit.Asking.{Asking}
+use Rattle.tsp_query.specs.declared.exit.QueryExit.{QueryExit}
 use Rattle.tsp_query.specs.Asks.{AsksAs}
 use Rattle.tsp_audit_command.specs.Meaning.{IsAuditText, auditing}
 use Rattle.tsp_io.specs.Counts.{Rose}
+use Rattle.tsp_io.specs.declared.addr.Addr.{Addr}
 use Rattle.tsp_lines.specs.declared.limits.TheConstants.{MOST_INPUT}
 use Rattle.tsp_lines.specs.declared.treat.Outcome.{Outcome}
 use Rattle.tsp_lines.specs.Answers.{Answers, IsAnswer as IsAnswerTo}
 use Rattle.tsp_lines.specs.Gatherings.{ComesGathered, IsGathered}
 use Rattle.tsp_query.specs.Ends.{Outside}
-use Rattle.tsp_query.specs.Told.{Told, Knows}
+use Rattle.tsp_query.specs.Outside.{Observed, Knows}
 use Rattle.tsp_rules.specs.Guards.{is_clock_value}
 use Rattle.tsp_storm.specs.declared.run.StormEnd.{StormEnd}
 use Rattle.tsp_storm.specs.Answers.{IsAnswer, Agrees, HasRoom, StormsAs}
-use Rattle.tsp_daemon.specs.declared.exit.Served.{Served}
+use Rattle.tsp_daemon.specs.declared.exit.DaemonExit.{DaemonExit}
 use Rattle.tsp_daemon.specs.Serving.{ServesAs}
 use Rattle.tsp_args.specs.Commands.{words_of, IsCommand}
 use Rattle.tsp_args.specs.declared.command.Command.{Command}
@@ -30,7 +31,7 @@ use Rattle.tsp_cli.specs.Statuses.{status_of, status_of_served, status_of_asking
 pub record Now : Type 0 where
   pub left : Option (List ℕ)
   pub ended : Bool
-  pub told : Told
+  pub told : Observed
   pub reads : ℕ
   pub writes : ℕ
   pub links : ℕ
@@ -41,22 +42,22 @@ abbrev pub RunsLines : LineCommand → Now → Now → Status → Type 0
 RunsLines c old new status = Runs c old.left new.left old.told.written new.told.written new.ended old.reads new.reads old.writes new.writes status
 
 -- a daemon runs
-pub record RunsDaemon (s : ServeWords) (old new : Told) (links links_now writes writes_now : ℕ) (status : Status) : Type 0 where
+pub record RunsDaemon (s : ServeWords) (old new : Observed) (links links_now writes writes_now : ℕ) (status : Status) : Type 0 where
   -- how it ended
-  pub served : Served
+  pub served : DaemonExit
   pub status_is : status ≡ status_of_served served
   -- where the outside is told: what was sent and written, and what came of the wall clock
-  pub serves : (o : Outside) (wall : ℤ) (word : ℕ) (written : List ℕ) → Knows o wall word written old → ServesAs s o wall word written new served
+  pub serves : (o : Outside) (wall : ℤ) (word : ℕ) (written : List ℕ) → Knows o wall word written old → ServesAs s o wall word written old new served
   -- at a told wall clock in its range, where no count rose but that of failed sends: the status is Ok, or there was no memory
   pub complete : (wall : ℤ) → old.wall ≡ Some wall → is_clock_value wall ≡ true → ¬ Rose links links_now → ¬ Rose writes writes_now → (status ≡ Ok) ⊎ (status ≡ OutOfMemory)
 
 -- a question to a daemon runs
-pub record RunsQuery (q : Query) (old new : Told) (links links_now sends sends_now writes writes_now : ℕ) (status : Status) : Type 0 where
+pub record RunsQuery (daemon : Addr) (q : Query) (old new : Observed) (links links_now sends sends_now writes writes_now : ℕ) (status : Status) : Type 0 where
   -- how it ended
-  pub asking : Asking
+  pub asking : QueryExit
   pub status_is : status ≡ status_of_asking asking
   -- where the outside is told: the one datagram that was sent, the answer among what came, and the line of it
-  pub asks : (o : Outside) (wall : ℤ) (word : ℕ) (written : List ℕ) → Knows o wall word written old → AsksAs q o wall word written new asking
+  pub asks : (o : Outside) (wall : ℤ) (word : ℕ) (written : List ℕ) → Knows o wall word written old → AsksAs daemon q o wall word written old new sends sends_now asking
   -- where no count rose: the status is Ok or NoAnswer, or there was no memory
   pub complete : ¬ Rose links links_now → ¬ Rose sends sends_now → ¬ Rose writes writes_now → (status ≡ Ok) ⊎ (status ≡ NoAnswer) ⊎ (status ≡ OutOfMemory)
 
@@ -67,7 +68,7 @@ pub record RunsStorm (s : StormWords) (written now : Option (List ℕ)) (writes 
   pub status_is : status ≡ status_of_storm end
   -- what was written: the summary of the run, the number of the event for which there was no room, or a part of either
   pub storms : StormsAs s written now end
-  -- end and text are the answer to the words, but for a failed write and want of memory
+  -- end and text are the answer to the words, but for a failed write and lack of memory
   pub answers : (e : StormEnd) (text : List ℕ) → IsAnswer s e text → Agrees e text written now end
   -- where there is room for each event and no write failed: the status is Ok, or there was no memory
   pub complete : HasRoom s → ¬ Rose writes writes_now → (status ≡ Ok) ⊎ (status ≡ OutOfMemory)
@@ -97,7 +98,7 @@ Does Show old new status = RunsLines Shows old new status
 Does Pack old new status = RunsLines Packs old new status
 Does Icmp old new status = RunsLines Averages old new status
 Does (Serve s) old new status = RunsDaemon s old.told new.told old.links new.links old.writes new.writes status
-Does (Ask a q) old new status = RunsQuery q old.told new.told old.links new.links old.sends new.sends old.writes new.writes status
+Does (Ask a q) old new status = RunsQuery a q old.told new.told old.links new.links old.sends new.sends old.writes new.writes status
 Does (Storm s) old new status = RunsStorm s old.told.written new.told.written old.writes new.writes status
 Does Audit old new status = RunsAudit old.left new.left old.told.written new.told.written new.ended old.reads new.reads old.writes new.writes status
 

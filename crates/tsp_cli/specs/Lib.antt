@@ -1,6 +1,6 @@
+pub mod AuditedRuns
 pub mod Commands
 pub mod Headline
-pub mod Held
 pub mod Lines
 pub mod Statuses
 pub mod Usage

@@ -1,15 +1,15 @@
 -- The exit status of each way to end.
 use Rattle.std.specs.Prelude.{ℕ}
-use Rattle.tsp_query.specs.declared.exit.Asking.{Asking}
-use Rattle.tsp_query.specs.declared.exit.Asking.TheVariants.{Answered, NoAnswer as Unanswered, LinkFault as NotAsked, WriteFault as Untold, OutOfMemory as Unasked}
+use Rattle.tsp_query.specs.declared.exit.QueryExit.{QueryExit}
+use Rattle.tsp_query.specs.declared.exit.QueryExit.TheVariants.{Answered, NoAnswer as Unanswered, LinkFault as NotAsked, WriteFault as Untold, OutOfMemory as Unasked}
 use Rattle.tsp_cli.specs.declared.status.Status.{Status}
 use Rattle.tsp_cli.specs.declared.status.Status.TheVariants.{Ok as Done, Usage, Bad, ReadFault, WriteFault, LinkFault, NoAnswer, Limit, OutOfMemory}
 use Rattle.tsp_lines.specs.declared.treat.Outcome.{Outcome}
 use Rattle.tsp_lines.specs.declared.treat.Outcome.TheVariants.{Ok as Treated, Bad as Refused, ReadFault as NotRead, WriteFault as NotWritten, Limit as Limited, OutOfMemory as NoMemory}
 use Rattle.tsp_storm.specs.declared.run.StormEnd.{StormEnd}
 use Rattle.tsp_storm.specs.declared.run.StormEnd.TheVariants.{Done as Summed, Limit as Full, WriteFault as Unsaid, OutOfMemory as Unmade}
-use Rattle.tsp_daemon.specs.declared.exit.Served.{Served}
-use Rattle.tsp_daemon.specs.declared.exit.Served.TheVariants.{Done as AllTurns, BadWall, LinkFault as NotHeard, WriteFault as NotShown, OutOfMemory as Unserved}
+use Rattle.tsp_daemon.specs.declared.exit.DaemonExit.{DaemonExit}
+use Rattle.tsp_daemon.specs.declared.exit.DaemonExit.TheVariants.{Done as AllTurns, BadWall, LinkFault as NotHeard, WriteFault as NotShown, OutOfMemory as Unserved}
 
 -- the exit status
 abbrev pub status_number : Status → ℕ
@@ -33,7 +33,7 @@ status_of Limited = Limit
 status_of NoMemory = OutOfMemory
 
 -- the status of what a daemon comes to
-abbrev pub status_of_served : Served → Status
+abbrev pub status_of_served : DaemonExit → Status
 status_of_served AllTurns = Done
 status_of_served BadWall = Bad
 status_of_served NotHeard = LinkFault
@@ -41,7 +41,7 @@ status_of_served NotShown = WriteFault
 status_of_served Unserved = OutOfMemory
 
 -- the status of what a question comes to
-abbrev pub status_of_asking : Asking → Status
+abbrev pub status_of_asking : QueryExit → Status
 status_of_asking Answered = Done
 status_of_asking Unanswered = NoAnswer
 status_of_asking NotAsked = LinkFault

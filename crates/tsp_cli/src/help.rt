@@ -41,8 +41,11 @@ pub const VERSION: &[u8] = b"tsp 0.1\n";
 
 /// The text that the words ask for: none but where `--help` or `--version` stands alone.
 pub fn asked(words: &[String]) -> Option<&'static [u8]>
-    ensures asked { IfSome result (λ text. (IsAlone words.now (codes "--help") × (text.now ≡ HELP.now)) ⊎ (IsAlone words.now (codes "--version") × (text.now ≡ VERSION.now))) }
-    ensures other { IfNone result ((¬ IsAlone words.now (codes "--help")) × (¬ IsAlone words.now (codes "--version"))) }
+    ensures asked { IfSome result (λ text. (IsAlone words.now (codes "--help")
+        × (text.now ≡ HELP.now)) ⊎ (IsAlone words.now (codes "--version")
+        × (text.now ≡ VERSION.now))) }
+    ensures other { IfNone result ((¬ IsAlone words.now (codes "--help"))
+        × (¬ IsAlone words.now (codes "--version"))) }
 {
     match words {
         [word] => match word.as_str() {

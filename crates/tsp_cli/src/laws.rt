@@ -1,5 +1,5 @@
 //! The laws.
-ghost use Rattle.tsp_cli.specs.Held.{RunsAreClaimed, RunsFitClaims, RunsHold};
+ghost use Rattle.tsp_cli.specs.AuditedRuns.{RunsAreClaimed, RunsFitClaims, RunsHold};
 
 /// The history that is claimed, where each event is claimed to do what the run tells of it, is the run.
 pub fn runs_are_claimed()
@@ -11,7 +11,8 @@ pub fn runs_fit_claims()
     ensures { RunsFitClaims }
 {}
 
-/// The verdict on what the run tells, where it is claimed, is that all parts hold, up to each event; no other verdict is right.
+/// The verdict on what the run tells, where it is claimed, is that all parts hold, up to each
+/// event; no other verdict is right.
 pub fn runs_hold()
     ensures { RunsHold }
 {}

@@ -29,21 +29,3 @@ fn a_65th_node_is_refused(rt: HostRuntime) -> Result<(), AllocError> {
     assert!(rt; ends(alloc, more.as_bytes(), Status::Bad, "bad 67 header\n")?);
     Ok(())
 }
-
-/// A node's rate lies within the drift, and its wall within 10^15.
-#[test]
-fn nodes_out_of_range_are_refused(rt: HostRuntime) -> Result<(), AllocError> {
-    let alloc = rt.alloc();
-    for (node, status, last) in [
-        ("5 1000000000000000", Status::Ok, ""),
-        ("-5 -1000000000000000", Status::Ok, ""),
-        ("6 0", Status::Bad, "bad 3 header\n"),
-        ("-6 0", Status::Bad, "bad 3 header\n"),
-        ("0 1000000000000001", Status::Bad, "bad 3 header\n"),
-        ("0 -1000000000000001", Status::Bad, "bad 3 header\n"),
-    ] {
-        let input = format!(in alloc; "tsp-schedule 1\ndrift 5\nnode a {node} m\nend\n")?;
-        assert!(rt; ends(alloc, input.as_bytes(), status, last)?, "{node}");
-    }
-    Ok(())
-}

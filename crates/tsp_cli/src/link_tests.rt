@@ -47,8 +47,9 @@ enum Wall {
     Late,
 }
 
-/// The words, the calls of the link and the writes that fail, the datagram that comes with its sender, and the wall
-/// clock. A run gives its status, its text, how many sends were tried, and how many readings are left.
+/// The words, the calls of the link and the writes that fail, the datagram that comes with its
+/// sender, and the wall clock. A run gives its status, its text, how many sends were tried, and how
+/// many readings are left.
 #[derive(Drop)]
 struct Row {
     words: &'static [&'static str],
@@ -161,8 +162,9 @@ fn question(
     }
 }
 
-/// A request is answered and nothing shown; a step that turns the trace on is shown. A send that fails is a lost
-/// datagram. A bind or a receive that fails ends the daemon, and so does a write, behind what was written.
+/// A request is answered and nothing shown; a step that turns the trace on is shown. A send that
+/// fails is a lost datagram. A bind or a receive that fails ends the daemon, and so does a write,
+/// behind what was written.
 #[test]
 fn daemons_run(rt: HostRuntime) {
     for row in [
@@ -191,46 +193,6 @@ fn walls_are_in_range(rt: HostRuntime) {
     }
 }
 
-/// Each question has its line, and ends where the link fails.
-#[test]
-fn questions_run(rt: HostRuntime) {
-    let msite = &["msite", "127.0.0.1:525"];
-    let clockdiff = &["clockdiff", "127.0.0.1:525"];
-    for row in [
-        question(msite, &[], Status::Ok, "master a\n", 1, 0),
-        question(msite, &[0], Status::LinkFault, "", 0, 3),
-        question(msite, &[1], Status::LinkFault, "", 1, 1),
-        question(msite, &[2], Status::LinkFault, "", 1, 1),
-        question(clockdiff, &[], Status::NoAnswer, "no answer\n", 1, 0),
-        question(
-            &["trace", "127.0.0.1:525", "on"],
-            &[],
-            Status::Ok,
-            "trace on\n",
-            1,
-            0,
-        ),
-        question(
-            &["trace", "127.0.0.1:525", "off"],
-            &[],
-            Status::Ok,
-            "trace off\n",
-            1,
-            0,
-        ),
-        question(
-            &["election", "127.0.0.1:525"],
-            &[],
-            Status::Ok,
-            "election heard\n",
-            1,
-            0,
-        ),
-    ] {
-        assert!(rt; is_right(rt.alloc(), &row) == Ok(true), "{}", row.text);
-    }
-}
-
 /// A date goes out and is passed on. A storm touches neither link nor ticker.
 #[test]
 fn dates_and_storms_run(rt: HostRuntime) {
@@ -254,11 +216,4 @@ fn dates_and_storms_run(rt: HostRuntime) {
     ] {
         assert!(rt; is_right(rt.alloc(), &row) == Ok(true), "{}", row.text);
     }
-}
-
-/// Other words are no command's, and nothing is touched.
-#[test]
-fn other_words_are_refused(rt: HostRuntime) {
-    let row = question(&["audits"], &[], Status::Usage, "usage\n", 0, 3);
-    assert!(rt; is_right(rt.alloc(), &row) == Ok(true), "{}", row.text);
 }

@@ -1,5 +1,5 @@
-//! Runs of a daemon on two networks over a link and a ticker in memory, whose traces and datagrams were worked out by
-//! hand.
+//! Runs of a daemon on two networks over a link and a ticker in memory, whose traces and datagrams
+//! were worked out by hand.
 use crate::run::run;
 use crate::status::Status;
 use crate::tests::words_of;
@@ -33,8 +33,8 @@ const TICKS: &[u64] = &[
     84000000,
 ];
 
-/// What comes in each turn: the trace is turned on; both networks are silent; each has a master; the one on the second
-/// corrects the clock in vain, and then the one on the first does.
+/// What comes in each turn: the trace is turned on; both networks are silent; each has a master;
+/// the one on the second corrects the clock in vain, and then the one on the first does.
 const COMES: &[Option<(Place, &[u8])>] = &[
     Some((
         Place::Stranger,
@@ -75,8 +75,8 @@ const SHOWN: &str = "\
 6 0 0 84000000 post 5 1 ack 7 g
 ";
 
-/// What is sent: the acknowledgment of the trace, a request to each network for its master, a word to each of the two,
-/// and the acknowledgment of the correction.
+/// What is sent: the acknowledgment of the trace, a request to each network for its master, a word
+/// to each of the two, and the acknowledgment of the correction.
 const SENT: &[(Place, &[u8])] = &[
     (
         Place::Stranger,
@@ -141,20 +141,9 @@ fn is_right(
     Ok(came == status && text && has_sent(&link, sent) && ticker.left() == left)
 }
 
-/// Each peer's datagrams come on the network that has it, and each port's acts are shown with its number: the lowest
-/// port that follows steers the clock.
+/// Each peer's datagrams come on the network that has it, and each port's acts are shown with its
+/// number: the lowest port that follows steers the clock.
 #[test]
 fn two_networks_are_served(rt: HostRuntime) {
     assert!(rt; is_right(rt.alloc(), WORDS, Status::Ok, SHOWN, SENT, 0) == Ok(true));
-}
-
-/// A fifth network is a wrong use, and so is a peer that stands in two networks: nothing is touched.
-#[test]
-fn more_networks_are_refused(rt: HostRuntime) {
-    let local = "127.0.0.1:525";
-    let peer = "127.0.0.1:526";
-    let five = &["serve", local, "g", "m", "1", "+", "+", "+", "+"];
-    assert!(rt; is_right(rt.alloc(), five, Status::Usage, "usage\n", &[], 13) == Ok(true));
-    let twice = &["serve", local, "g", "m", "1", peer, "+", peer];
-    assert!(rt; is_right(rt.alloc(), twice, Status::Usage, "usage\n", &[], 13) == Ok(true));
 }

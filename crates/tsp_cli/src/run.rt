@@ -5,36 +5,38 @@ ghost use Rattle.tsp_args.specs.Commands.{IsCommand, IsNoCommand, words_of};
 ghost use Rattle.tsp_args.specs.Serves.{IsServe};
 ghost use Rattle.tsp_args.specs.Storms.{IsStorm};
 ghost use Rattle.tsp_args.specs.declared.command.Command.{Command};
-ghost use Rattle.tsp_cli.specs.Commands.{Does, DoesOrNot, RunsDaemon, RunsQuery, RunsStorm, Untouched, IsAsk, IsQuestion};
+ghost use Rattle.tsp_cli.specs.Commands.{Does, DoesOrNot, RunsDaemon, RunsQuery, RunsStorm};
+ghost use Rattle.tsp_cli.specs.Commands.{Untouched, IsAsk, IsQuestion};
 ghost use Rattle.tsp_cli.specs.Headline.{PrintsHistory};
 ghost use Rattle.tsp_cli.specs.Lines.{Says};
 ghost use Rattle.tsp_cli.specs.Usage.{usage_line};
 
 use crate::status::Status;
 use std::alloc::Global;
-use tsp_query::command::ask;
+use tsp_args::command::{Command, command_of};
+use tsp_args::query::Query;
+use tsp_args::serve::ServeWords;
+use tsp_args::storm::StormWords;
 use tsp_audit_command::run::check;
 use tsp_convert::run::{pack, show};
+use tsp_daemon::command::serve_words;
+use tsp_icmp_command::average;
 use tsp_io::addr::Addr;
 use tsp_io::link::Link;
 use tsp_io::sink::Sink;
 use tsp_io::source::Source;
 use tsp_io::ticker::Ticker;
 use tsp_lines::output::{Unwritten, write_all};
-use tsp_icmp_command::average;
+use tsp_query::command::ask;
 use tsp_replay::run::replay;
-use tsp_daemon::command::serve_words;
 use tsp_storm::run::storm;
-use tsp_args::command::{Command, command_of};
-use tsp_args::query::Query;
-use tsp_args::serve::ServeWords;
-use tsp_args::storm::StormWords;
 
 /// Writes a text, and then answers with this status; with another one where not all of it was written.
 pub fn say<K: Sink>(sink: &mut K, text: &[u8], status: Status) -> Status
     ensures says { Says text.now status (K.written sink.old) (K.written sink.new) result }
     ensures later { K.faults sink.old ≤ K.faults sink.new }
-    ensures write { result ≡ Status.WriteFault → (status ≡ Status.WriteFault) ⊎ Rose (K.faults sink.old) (K.faults sink.new) }
+    ensures write { result ≡ Status.WriteFault → (status ≡ Status.WriteFault)
+        ⊎ Rose (K.faults sink.old) (K.faults sink.new) }
     ensures still { result ≢ Status.WriteFault → K.faults sink.new ≡ K.faults sink.old }
 {
     match write_all(sink, text) {
@@ -48,15 +50,17 @@ pub fn say<K: Sink>(sink: &mut K, text: &[u8], status: Status) -> Status
 
 /// Does what the words after the program's name ask for.
 ///
-/// `replay`, `show`, `pack`, `icmp` and `audit`, each alone, read the source to its end and write to the sink; link and
-/// ticker are left alone. `serve` runs a daemon over link and ticker, and the questions `msite`, `clockdiff`, `trace`,
-/// `election` and `date` ask one; these leave the source alone. `storm` makes a schedule, runs it and writes a summary; it
-/// touches the sink alone. Any other words are `Usage`, and nothing but the sink is touched.
+/// `replay`, `show`, `pack`, `icmp` and `audit`, each alone, read the source to its end and write
+/// to the sink; link and ticker are left alone. `serve` runs a daemon over link and ticker, and the
+/// questions `msite`, `clockdiff`, `trace`, `election` and `date` ask one; these leave the source
+/// alone. `storm` makes a schedule, runs it and writes a summary; it touches the sink alone. Any
+/// other words are `Usage`, and nothing but the sink is touched.
 ///
-/// Of each command it is said what was read, sent and written with each status (`specs/Commands.antt`). A fault of
-/// reading, of writing or of the link comes only where that object's count rose: for the link the count of failed binds
-/// and receives, or, for a question, that of failed sends. With valid input, where no count rises, a run ends with `Ok`
-/// (a question: with `Ok` or `NoAnswer`), or for want of memory.
+/// Of each command it is said what was read, sent and written with each status
+/// (`specs/Commands.antt`). A fault of reading, of writing or of the link comes only where that
+/// object's count rose: for the link the count of failed binds and receives, or, for a question,
+/// that of failed sends. With valid input, where no count rises, a run ends with `Ok` (a question:
+/// with `Ok` or `NoAnswer`), or for lack of memory.
 pub fn run<S: Source, K: Sink, L: Link, T: Ticker>(
     alloc: Global,
     words: &[String],
@@ -66,16 +70,73 @@ pub fn run<S: Source, K: Sink, L: Link, T: Ticker>(
     ticker: &mut T,
 ) -> Status
     requires open { S.ended source.old ≡ false }
-    ensures does { (command : Command) → IsCommand command → map string_bytes words.now ≡ words_of command → DoesOrNot command (record { left = S.left source.old; ended = S.ended source.old; told = record { arrivals = L.arrivals link.old; tried = L.tried link.old; calls = L.calls link.old; readings = T.readings ticker.old; last = T.last ticker.old; wall = T.wall_is ticker.old; word = T.word_is ticker.old; written = K.written sink.old }; reads = S.faults source.old; writes = K.faults sink.old; links = L.faults link.old; sends = L.send_faults link.old }) (record { left = S.left source.new; ended = S.ended source.new; told = record { arrivals = L.arrivals link.new; tried = L.tried link.new; calls = L.calls link.new; readings = T.readings ticker.new; last = T.last ticker.new; wall = T.wall_is ticker.new; word = T.word_is ticker.new; written = K.written sink.new }; reads = S.faults source.new; writes = K.faults sink.new; links = L.faults link.new; sends = L.send_faults link.new }) result }
-    ensures headline { map string_bytes words.now ≡ codes "replay" ∷ [] → result ≡ Status.Ok → PrintsHistory (S.left source.old) (S.left source.new) (K.written sink.old) (K.written sink.new) }
-    ensures usage { IsNoCommand (map string_bytes words.now) → Says usage_line Status.Usage (K.written sink.old) (K.written sink.new) result × (source.new ≡ source.old) × (link.new ≡ link.old) × (ticker.new ≡ ticker.old) }
+    ensures does { (command : Command) → IsCommand command
+        → map string_bytes words.now ≡ words_of command
+        → DoesOrNot command (record {
+          left = S.left source.old;
+          ended = S.ended source.old;
+          told = record {
+            arrivals = L.arrivals link.old;
+            tried = L.tried link.old;
+            calls = L.calls link.old;
+            readings = T.readings ticker.old;
+            last = T.last ticker.old;
+            wall = T.wall_is ticker.old;
+            word = T.word_is ticker.old;
+            written = K.written sink.old;
+            binds = L.binds link.old;
+            waits = L.waits link.old;
+            left_at_wall = T.left_at_wall ticker.old;
+          };
+          reads = S.faults source.old;
+          writes = K.faults sink.old;
+          links = L.faults link.old;
+          sends = L.send_faults link.old;
+        })
+        (record {
+          left = S.left source.new;
+          ended = S.ended source.new;
+          told = record {
+            arrivals = L.arrivals link.new;
+            tried = L.tried link.new;
+            calls = L.calls link.new;
+            readings = T.readings ticker.new;
+            last = T.last ticker.new;
+            wall = T.wall_is ticker.new;
+            word = T.word_is ticker.new;
+            written = K.written sink.new;
+            binds = L.binds link.new;
+            waits = L.waits link.new;
+            left_at_wall = T.left_at_wall ticker.new;
+          };
+          reads = S.faults source.new;
+          writes = K.faults sink.new;
+          links = L.faults link.new;
+          sends = L.send_faults link.new;
+        }) result }
+    ensures headline { map string_bytes words.now ≡ codes "replay" ∷ [] → result ≡ Status.Ok
+        → PrintsHistory (S.left source.old) (S.left source.new) (K.written sink.old)
+        (K.written sink.new) }
+    ensures usage { IsNoCommand (map string_bytes words.now)
+        → Says usage_line Status.Usage (K.written sink.old) (K.written sink.new) result
+        × (source.new ≡ source.old) × (link.new ≡ link.old) × (ticker.new ≡ ticker.old) }
     ensures exact { result ≡ Status.Usage → IsNoCommand (map string_bytes words.now) }
-    ensures untouched { (command : Command) → IsCommand command → map string_bytes words.now ≡ words_of command → Untouched command source.old source.new link.old link.new ticker.old ticker.new }
-    ensures link { result ≡ Status.LinkFault → Rose (L.faults link.old) (L.faults link.new) ⊎ (IsQuestion (map string_bytes words.now) × Rose (L.send_faults link.old) (L.send_faults link.new)) }
-    ensures later { (S.faults source.old ≤ S.faults source.new) × (K.faults sink.old ≤ K.faults sink.new) × (L.faults link.old ≤ L.faults link.new) × (L.send_faults link.old ≤ L.send_faults link.new) × (T.last ticker.old ≤ T.last ticker.new) }
-    ensures read { result ≡ Status.ReadFault → Rose (S.faults source.old) (S.faults source.new) × (S.ended source.new ≡ false) }
+    ensures untouched { (command : Command) → IsCommand command
+        → map string_bytes words.now ≡ words_of command
+        → Untouched command source.old source.new link.old link.new ticker.old ticker.new }
+    ensures link { result ≡ Status.LinkFault → Rose (L.faults link.old) (L.faults link.new)
+        ⊎ (IsQuestion (map string_bytes words.now)
+        × Rose (L.send_faults link.old) (L.send_faults link.new)) }
+    ensures later { (S.faults source.old ≤ S.faults source.new)
+        × (K.faults sink.old ≤ K.faults sink.new) × (L.faults link.old ≤ L.faults link.new)
+        × (L.send_faults link.old ≤ L.send_faults link.new)
+        × (T.last ticker.old ≤ T.last ticker.new) }
+    ensures read { result ≡ Status.ReadFault → Rose (S.faults source.old) (S.faults source.new)
+        × (S.ended source.new ≡ false) }
     ensures write { result ≡ Status.WriteFault → Rose (K.faults sink.old) (K.faults sink.new) }
-    ensures still { (result ≢ Status.ReadFault → S.faults source.new ≡ S.faults source.old) × (result ≢ Status.WriteFault → K.faults sink.new ≡ K.faults sink.old) × (result ≢ Status.LinkFault → L.faults link.new ≡ L.faults link.old) }
+    ensures still { (result ≢ Status.ReadFault → S.faults source.new ≡ S.faults source.old)
+        × (result ≢ Status.WriteFault → K.faults sink.new ≡ K.faults sink.old)
+        × (result ≢ Status.LinkFault → L.faults link.new ≡ L.faults link.old) }
 {
     match command_of(alloc, words) {
         Ok(Some(command)) => run_command(alloc, &command, source, sink, link, ticker),
@@ -95,14 +156,63 @@ fn run_command<S: Source, K: Sink, L: Link, T: Ticker>(
 ) -> Status
     requires open { S.ended source.old ≡ false }
     requires command { IsCommand command.now }
-    ensures does { Does command.now (record { left = S.left source.old; ended = S.ended source.old; told = record { arrivals = L.arrivals link.old; tried = L.tried link.old; calls = L.calls link.old; readings = T.readings ticker.old; last = T.last ticker.old; wall = T.wall_is ticker.old; word = T.word_is ticker.old; written = K.written sink.old }; reads = S.faults source.old; writes = K.faults sink.old; links = L.faults link.old; sends = L.send_faults link.old }) (record { left = S.left source.new; ended = S.ended source.new; told = record { arrivals = L.arrivals link.new; tried = L.tried link.new; calls = L.calls link.new; readings = T.readings ticker.new; last = T.last ticker.new; wall = T.wall_is ticker.new; word = T.word_is ticker.new; written = K.written sink.new }; reads = S.faults source.new; writes = K.faults sink.new; links = L.faults link.new; sends = L.send_faults link.new }) result }
+    ensures does { Does command.now (record {
+      left = S.left source.old;
+      ended = S.ended source.old;
+      told = record {
+        arrivals = L.arrivals link.old;
+        tried = L.tried link.old;
+        calls = L.calls link.old;
+        readings = T.readings ticker.old;
+        last = T.last ticker.old;
+        wall = T.wall_is ticker.old;
+        word = T.word_is ticker.old;
+        written = K.written sink.old;
+        binds = L.binds link.old;
+        waits = L.waits link.old;
+        left_at_wall = T.left_at_wall ticker.old;
+      };
+      reads = S.faults source.old;
+      writes = K.faults sink.old;
+      links = L.faults link.old;
+      sends = L.send_faults link.old;
+    })
+        (record {
+          left = S.left source.new;
+          ended = S.ended source.new;
+          told = record {
+            arrivals = L.arrivals link.new;
+            tried = L.tried link.new;
+            calls = L.calls link.new;
+            readings = T.readings ticker.new;
+            last = T.last ticker.new;
+            wall = T.wall_is ticker.new;
+            word = T.word_is ticker.new;
+            written = K.written sink.new;
+            binds = L.binds link.new;
+            waits = L.waits link.new;
+            left_at_wall = T.left_at_wall ticker.new;
+          };
+          reads = S.faults source.new;
+          writes = K.faults sink.new;
+          links = L.faults link.new;
+          sends = L.send_faults link.new;
+        }) result }
     ensures used { result ≢ Status.Usage }
-    ensures untouched { Untouched command.now source.old source.new link.old link.new ticker.old ticker.new }
-    ensures link { result ≡ Status.LinkFault → Rose (L.faults link.old) (L.faults link.new) ⊎ (IsAsk command.now × Rose (L.send_faults link.old) (L.send_faults link.new)) }
-    ensures later { (S.faults source.old ≤ S.faults source.new) × (K.faults sink.old ≤ K.faults sink.new) × (L.faults link.old ≤ L.faults link.new) × (L.send_faults link.old ≤ L.send_faults link.new) × (T.last ticker.old ≤ T.last ticker.new) }
-    ensures read { result ≡ Status.ReadFault → Rose (S.faults source.old) (S.faults source.new) × (S.ended source.new ≡ false) }
+    ensures untouched { Untouched command.now source.old source.new link.old link.new ticker.old
+        ticker.new }
+    ensures link { result ≡ Status.LinkFault → Rose (L.faults link.old) (L.faults link.new)
+        ⊎ (IsAsk command.now × Rose (L.send_faults link.old) (L.send_faults link.new)) }
+    ensures later { (S.faults source.old ≤ S.faults source.new)
+        × (K.faults sink.old ≤ K.faults sink.new) × (L.faults link.old ≤ L.faults link.new)
+        × (L.send_faults link.old ≤ L.send_faults link.new)
+        × (T.last ticker.old ≤ T.last ticker.new) }
+    ensures read { result ≡ Status.ReadFault → Rose (S.faults source.old) (S.faults source.new)
+        × (S.ended source.new ≡ false) }
     ensures write { result ≡ Status.WriteFault → Rose (K.faults sink.old) (K.faults sink.new) }
-    ensures still { (result ≢ Status.ReadFault → S.faults source.new ≡ S.faults source.old) × (result ≢ Status.WriteFault → K.faults sink.new ≡ K.faults sink.old) × (result ≢ Status.LinkFault → L.faults link.new ≡ L.faults link.old) }
+    ensures still { (result ≢ Status.ReadFault → S.faults source.new ≡ S.faults source.old)
+        × (result ≢ Status.WriteFault → K.faults sink.new ≡ K.faults sink.old)
+        × (result ≢ Status.LinkFault → L.faults link.new ≡ L.faults link.old) }
 {
     match command {
         Command::Replay => Status::of(replay(alloc, source, sink)),
@@ -125,12 +235,42 @@ fn run_daemon<K: Sink, L: Link, T: Ticker>(
     ticker: &mut T,
 ) -> Status
     requires { IsServe words.now }
-    ensures runs { RunsDaemon words.now (record { arrivals = L.arrivals link.old; tried = L.tried link.old; calls = L.calls link.old; readings = T.readings ticker.old; last = T.last ticker.old; wall = T.wall_is ticker.old; word = T.word_is ticker.old; written = K.written sink.old }) (record { arrivals = L.arrivals link.new; tried = L.tried link.new; calls = L.calls link.new; readings = T.readings ticker.new; last = T.last ticker.new; wall = T.wall_is ticker.new; word = T.word_is ticker.new; written = K.written sink.new }) (L.faults link.old) (L.faults link.new) (K.faults sink.old) (K.faults sink.new) result }
+    ensures runs { RunsDaemon words.now (record {
+      arrivals = L.arrivals link.old;
+      tried = L.tried link.old;
+      calls = L.calls link.old;
+      readings = T.readings ticker.old;
+      last = T.last ticker.old;
+      wall = T.wall_is ticker.old;
+      word = T.word_is ticker.old;
+      written = K.written sink.old;
+      binds = L.binds link.old;
+      waits = L.waits link.old;
+      left_at_wall = T.left_at_wall ticker.old;
+    })
+        (record {
+          arrivals = L.arrivals link.new;
+          tried = L.tried link.new;
+          calls = L.calls link.new;
+          readings = T.readings ticker.new;
+          last = T.last ticker.new;
+          wall = T.wall_is ticker.new;
+          word = T.word_is ticker.new;
+          written = K.written sink.new;
+          binds = L.binds link.new;
+          waits = L.waits link.new;
+          left_at_wall = T.left_at_wall ticker.new;
+        })
+        (L.faults link.old) (L.faults link.new) (K.faults sink.old) (K.faults sink.new) result }
     ensures used { result ≢ Status.Usage }
     ensures link { result ≡ Status.LinkFault → Rose (L.faults link.old) (L.faults link.new) }
-    ensures later { (K.faults sink.old ≤ K.faults sink.new) × (L.faults link.old ≤ L.faults link.new) × (L.send_faults link.old ≤ L.send_faults link.new) × (T.last ticker.old ≤ T.last ticker.new) }
+    ensures later { (K.faults sink.old ≤ K.faults sink.new)
+        × (L.faults link.old ≤ L.faults link.new)
+        × (L.send_faults link.old ≤ L.send_faults link.new)
+        × (T.last ticker.old ≤ T.last ticker.new) }
     ensures write { result ≡ Status.WriteFault → Rose (K.faults sink.old) (K.faults sink.new) }
-    ensures still { (result ≢ Status.WriteFault → K.faults sink.new ≡ K.faults sink.old) × (result ≢ Status.LinkFault → L.faults link.new ≡ L.faults link.old) }
+    ensures still { (result ≢ Status.WriteFault → K.faults sink.new ≡ K.faults sink.old)
+        × (result ≢ Status.LinkFault → L.faults link.new ≡ L.faults link.old) }
     ensures unread { result ≢ Status.ReadFault }
 {
     Status::of_served(serve_words(alloc, words, sink, link, ticker))
@@ -144,12 +284,44 @@ fn run_query<K: Sink, L: Link, T: Ticker>(
     link: &mut L,
     ticker: &mut T,
 ) -> Status
-    ensures runs { RunsQuery query.now (record { arrivals = L.arrivals link.old; tried = L.tried link.old; calls = L.calls link.old; readings = T.readings ticker.old; last = T.last ticker.old; wall = T.wall_is ticker.old; word = T.word_is ticker.old; written = K.written sink.old }) (record { arrivals = L.arrivals link.new; tried = L.tried link.new; calls = L.calls link.new; readings = T.readings ticker.new; last = T.last ticker.new; wall = T.wall_is ticker.new; word = T.word_is ticker.new; written = K.written sink.new }) (L.faults link.old) (L.faults link.new) (L.send_faults link.old) (L.send_faults link.new) (K.faults sink.old) (K.faults sink.new) result }
+    ensures runs { RunsQuery daemon query.now (record {
+      arrivals = L.arrivals link.old;
+      tried = L.tried link.old;
+      calls = L.calls link.old;
+      readings = T.readings ticker.old;
+      last = T.last ticker.old;
+      wall = T.wall_is ticker.old;
+      word = T.word_is ticker.old;
+      written = K.written sink.old;
+      binds = L.binds link.old;
+      waits = L.waits link.old;
+      left_at_wall = T.left_at_wall ticker.old;
+    })
+        (record {
+          arrivals = L.arrivals link.new;
+          tried = L.tried link.new;
+          calls = L.calls link.new;
+          readings = T.readings ticker.new;
+          last = T.last ticker.new;
+          wall = T.wall_is ticker.new;
+          word = T.word_is ticker.new;
+          written = K.written sink.new;
+          binds = L.binds link.new;
+          waits = L.waits link.new;
+          left_at_wall = T.left_at_wall ticker.new;
+        })
+        (L.faults link.old) (L.faults link.new) (L.send_faults link.old) (L.send_faults link.new)
+        (K.faults sink.old) (K.faults sink.new) result }
     ensures used { result ≢ Status.Usage }
-    ensures link { result ≡ Status.LinkFault → Rose (L.faults link.old) (L.faults link.new) ⊎ Rose (L.send_faults link.old) (L.send_faults link.new) }
-    ensures later { (K.faults sink.old ≤ K.faults sink.new) × (L.faults link.old ≤ L.faults link.new) × (L.send_faults link.old ≤ L.send_faults link.new) × (T.last ticker.old ≤ T.last ticker.new) }
+    ensures link { result ≡ Status.LinkFault → Rose (L.faults link.old) (L.faults link.new)
+        ⊎ Rose (L.send_faults link.old) (L.send_faults link.new) }
+    ensures later { (K.faults sink.old ≤ K.faults sink.new)
+        × (L.faults link.old ≤ L.faults link.new)
+        × (L.send_faults link.old ≤ L.send_faults link.new)
+        × (T.last ticker.old ≤ T.last ticker.new) }
     ensures write { result ≡ Status.WriteFault → Rose (K.faults sink.old) (K.faults sink.new) }
-    ensures still { (result ≢ Status.WriteFault → K.faults sink.new ≡ K.faults sink.old) × (result ≢ Status.LinkFault → L.faults link.new ≡ L.faults link.old) }
+    ensures still { (result ≢ Status.WriteFault → K.faults sink.new ≡ K.faults sink.old)
+        × (result ≢ Status.LinkFault → L.faults link.new ≡ L.faults link.old) }
     ensures unread { result ≢ Status.ReadFault }
 {
     Status::of_asking(ask(daemon, query, sink, link, ticker))
@@ -158,7 +330,8 @@ fn run_query<K: Sink, L: Link, T: Ticker>(
 /// Makes a schedule, runs it, and writes the summary of its run.
 fn run_storm<K: Sink>(alloc: Global, words: &StormWords, sink: &mut K) -> Status
     requires { IsStorm words.now }
-    ensures runs { RunsStorm words.now (K.written sink.old) (K.written sink.new) (K.faults sink.old) (K.faults sink.new) result }
+    ensures runs { RunsStorm words.now (K.written sink.old) (K.written sink.new) (K.faults sink.old)
+        (K.faults sink.new) result }
     ensures later { K.faults sink.old ≤ K.faults sink.new }
     ensures write { result ≡ Status.WriteFault → Rose (K.faults sink.old) (K.faults sink.new) }
     ensures still { result ≢ Status.WriteFault → K.faults sink.new ≡ K.faults sink.old }

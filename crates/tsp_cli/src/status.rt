@@ -2,9 +2,9 @@
 ghost use Rattle.std.specs.Prelude.{◌≡◌};
 ghost use Rattle.tsp_cli.specs.Statuses.{status_number, status_of, status_of_served, status_of_asking, status_of_storm};
 
-use tsp_query::exit::Asking;
+use tsp_daemon::exit::DaemonExit;
 use tsp_lines::treat::Outcome;
-use tsp_daemon::exit::Served;
+use tsp_query::exit::QueryExit;
 use tsp_storm::run::StormEnd;
 
 /// What a run comes to; the number is the program's exit status, 0 to 8 in this order.
@@ -52,15 +52,15 @@ impl Status {
     }
 
     /// The status of what a daemon comes to.
-    pub fn of_served(served: Served) -> Status
+    pub fn of_served(served: DaemonExit) -> Status
         ensures { result ≡ status_of_served served }
     {
         match served {
-            Served::Done => Status::Ok,
-            Served::BadWall => Status::Bad,
-            Served::LinkFault => Status::LinkFault,
-            Served::WriteFault => Status::WriteFault,
-            Served::OutOfMemory => Status::OutOfMemory,
+            DaemonExit::Done => Status::Ok,
+            DaemonExit::BadWall => Status::Bad,
+            DaemonExit::LinkFault => Status::LinkFault,
+            DaemonExit::WriteFault => Status::WriteFault,
+            DaemonExit::OutOfMemory => Status::OutOfMemory,
         }
     }
 
@@ -77,15 +77,15 @@ impl Status {
     }
 
     /// The status of what a question to a daemon comes to.
-    pub fn of_asking(asking: Asking) -> Status
+    pub fn of_asking(asking: QueryExit) -> Status
         ensures { result ≡ status_of_asking asking }
     {
         match asking {
-            Asking::Answered => Status::Ok,
-            Asking::NoAnswer => Status::NoAnswer,
-            Asking::LinkFault => Status::LinkFault,
-            Asking::WriteFault => Status::WriteFault,
-            Asking::OutOfMemory => Status::OutOfMemory,
+            QueryExit::Answered => Status::Ok,
+            QueryExit::NoAnswer => Status::NoAnswer,
+            QueryExit::LinkFault => Status::LinkFault,
+            QueryExit::WriteFault => Status::WriteFault,
+            QueryExit::OutOfMemory => Status::OutOfMemory,
         }
     }
 }

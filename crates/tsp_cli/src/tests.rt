@@ -30,7 +30,8 @@ const TRACE: &str = "\
 3 0 0 20 post 0 - reply 5 1 2 1020
 ";
 
-/// A follower that is corrected, hears the correction again, and is corrected too soon, in time and by a step.
+/// A follower that is corrected, hears the correction again, and is corrected too soon, in time and
+/// by a step.
 const CORRECTS: &str = "\
 tsp-schedule 1
 drift 0
@@ -95,7 +96,8 @@ at 160000000 bytes 0 1 0801800000000000000000006200
 end
 ";
 
-/// The trace of that schedule: the second candidate is backed when the hold is over, and none in the quiet time.
+/// The trace of that schedule: the second candidate is backed when the hold is over, and none in
+/// the quiet time.
 const HELD: &str = "\
 1 0 0 0 boot
 1 0 0 0 become starting
@@ -264,8 +266,8 @@ fn follows_and_holds(rt: HostRuntime) {
 /// Words that are no command's, conversions, and calls that fail.
 #[test]
 fn other_runs_end(rt: HostRuntime) {
-    let digits =
-        "0101000700000000000004d2616c7068610000000000000000000000000000000000000000000000000000000000000000000000000000000000000000000000000000000000000000000000\n";
+    let digits = "0101000700000000000004d2616c706861000000000000000000000000000000000000000000\
+            0000000000000000000000000000000000000000000000000000000000000000000000000000\n";
     let exchange =
         "host-1 0d00eb74cb21e91d01dd516e0000000000000000 0e0040c2cb21e91d01dd516e01dd52fc01dd52fc 31282321\n";
     let averaged = "host-1 -3 403\ngroup 2 -3000 3000 -1500\ncorrect host-1 1500\n";

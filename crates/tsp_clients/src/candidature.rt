@@ -27,8 +27,10 @@ pub fn take_test<D: Desk>(
 )
     requires tick { IsTick tick }
     requires room { length station.old.peers + 4 ≤ D.spare desk.old }
-    ensures row { Performs StandsActing StandsActing (tests from number) tick port (station.old, tt) (station.new, tt) (D.acts desk.old) (D.acts desk.new) }
-    ensures room { PutsAtMost (length station.old.peers + 4) (D.spare desk.old) (D.spare desk.new) (D.acts desk.old) (D.acts desk.new) }
+    ensures row { Performs StandsActing StandsActing (tests from number) tick port (station.old, tt)
+        (station.new, tt) (D.acts desk.old) (D.acts desk.new) }
+    ensures room { PutsAtMost (length station.old.peers + 4) (D.spare desk.old) (D.spare desk.new)
+        (D.acts desk.old) (D.acts desk.new) }
     ensures port { IsSamePort station.old station.new }
 {
     match station.role {
@@ -44,8 +46,10 @@ pub fn take_test<D: Desk>(
 fn begin_if_asked<D: Desk>(station: &mut Station, tick: u64, port: Port, desk: &mut D)
     requires tick { IsTick tick }
     requires room { length station.old.peers + 3 ≤ D.spare desk.old }
-    ensures row { Performs StandsActing StandsActing (either_by may_be_asked candidature_row nothing) tick port (station.old, tt) (station.new, tt) (D.acts desk.old) (D.acts desk.new) }
-    ensures room { PutsAtMost (length station.old.peers + 3) (D.spare desk.old) (D.spare desk.new) (D.acts desk.old) (D.acts desk.new) }
+    ensures row { Performs StandsActing StandsActing (either_by may_be_asked candidature_row
+        nothing) tick port (station.old, tt) (station.new, tt) (D.acts desk.old) (D.acts desk.new) }
+    ensures room { PutsAtMost (length station.old.peers + 3) (D.spare desk.old) (D.spare desk.new)
+        (D.acts desk.old) (D.acts desk.new) }
     ensures port { IsSamePort station.old station.new }
 {
     if may_be_asked(station, tick) {
@@ -55,7 +59,8 @@ fn begin_if_asked<D: Desk>(station: &mut Station, tick: u64, port: Port, desk: &
 
 /// Whether the port is Loose or follows, may be master, and the hold lets it stand at this tick.
 fn may_be_asked(station: &Station, tick: u64) -> bool
-    ensures { result ≡ (is_idle station.now.role && (station.now.me.may && may_stand station.now.hold tick station.now.me.own)) }
+    ensures { result ≡ (is_idle station.now.role && (station.now.me.may && may_stand
+        station.now.hold tick station.now.me.own)) }
 {
     matches!(station.role, Role::Loose | Role::Follow(_))
         && (station.me.may && station.hold.may_stand(tick, station.me.own))

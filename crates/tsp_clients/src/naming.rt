@@ -28,8 +28,10 @@ pub fn name_master<D: Desk>(
     desk: &mut D,
 )
     requires room { 1 ≤ D.spare desk.old }
-    ensures row { (x : ℕ) → Performs NamingStands NamingStands (names_master from number) x port (station.now, last.now) (station.now, last.now) (D.acts desk.old) (D.acts desk.new) }
-    ensures room { PutsExactly 1 (D.spare desk.old) (D.spare desk.new) (D.acts desk.old) (D.acts desk.new) }
+    ensures row { (x : ℕ) → Performs NamingStands NamingStands (names_master from number) x port
+        (station.now, last.now) (station.now, last.now) (D.acts desk.old) (D.acts desk.new) }
+    ensures room { PutsExactly 1 (D.spare desk.old) (D.spare desk.new) (D.acts desk.old)
+        (D.acts desk.new) }
 {
     let name = known_master(station, last);
     let message = Message::new(Kind::Ack, number, Body::Nothing, name);
@@ -51,8 +53,10 @@ fn known_master(station: &Station, last: &Last) -> Name
 /// Answers an MSITEREQ by an ACK, where the port leads; else nothing is done. At most one act.
 pub fn say_master<D: Desk>(station: &Station, from: Place, number: u16, port: Port, desk: &mut D)
     requires room { 1 ≤ D.spare desk.old }
-    ensures row { (x : ℕ) → Performs Stands Stands (says_master from number) x port station.now station.now (D.acts desk.old) (D.acts desk.new) }
-    ensures room { PutsAtMost 1 (D.spare desk.old) (D.spare desk.new) (D.acts desk.old) (D.acts desk.new) }
+    ensures row { (x : ℕ) → Performs Stands Stands (says_master from number) x port station.now
+        station.now (D.acts desk.old) (D.acts desk.new) }
+    ensures room { PutsAtMost 1 (D.spare desk.old) (D.spare desk.new) (D.acts desk.old)
+        (D.acts desk.new) }
 {
     match station.role {
         Role::Master => station.post_back(from, Kind::Ack, number, port, desk),

@@ -1,5 +1,7 @@
 //! The corrected clock of a node.
-ghost use Rattle.std.specs.Prelude.{◌≡◌, ◌+◌, ◌%◌, ◌≤◌, ◌<◌, ◌^◌, ℤ, pos, negsuc, nat_abs, ◌+ℤ◌, ◌-ℤ◌, ◌<ℤ◌, ◌≤ℤ◌, true, false, if◌then◌else◌, IfOk, IfErr, [], ◌∷◌};
+ghost use Rattle.std.specs.Prelude.{◌≡◌, ◌+◌, ◌%◌, ◌≤◌, ◌<◌, ◌^◌, ℤ, pos, negsuc, nat_abs, ◌+ℤ◌};
+ghost use Rattle.std.specs.Prelude.{◌-ℤ◌, ◌<ℤ◌, ◌≤ℤ◌, true, false, if◌then◌else◌, IfOk, IfErr, []};
+ghost use Rattle.std.specs.Prelude.{◌∷◌};
 ghost use Rattle.tsp_base.specs.declared.act.Act.TheVariants.{Boot};
 ghost use Rattle.tsp_base.specs.Frames.{IsTick};
 ghost use Rattle.tsp_base.specs.History.{Past, Booted};
@@ -21,8 +23,9 @@ pub enum ClockFault {
     Range,
 }
 
-/// A clock, in microseconds over a node's ticks. A correction moves its target at once; the value that it
-/// shows steps there where the correction is large, and else is slewed by a microsecond for each `SLEW` ticks.
+/// A clock, in microseconds over a node's ticks. A correction moves its target at once; the value
+/// that it shows steps there where the correction is large, and else is slewed by a microsecond for
+/// each `SLEW` ticks.
 #[derive(Drop)]
 pub struct Clock {
     offset: i64,
@@ -38,7 +41,12 @@ impl Model for Clock {
 
     ghost view = { λ c. record { offset = c.offset; rest = c.rest; at = c.at; ticket = c.ticket } };
 
-    ghost invariant = { λ c. IsClock (record { offset = c.offset; rest = c.rest; at = c.at; ticket = c.ticket }) };
+    ghost invariant = { λ c. IsClock (record {
+      offset = c.offset;
+      rest = c.rest;
+      at = c.at;
+      ticket = c.ticket;
+    }) };
 }
 
 impl Clock {
@@ -48,9 +56,16 @@ impl Clock {
     /// doesn't lie strictly between -`LIMIT` and `LIMIT`.
     pub fn boot(tick: u64, wall: i64, word: u64) -> Result<Clock, ClockFault>
         requires tick { IsTick tick }
-        ensures ok { IfOk result (λ c. (is_clock_value wall ≡ true) × (c ≡ record { offset = wall -ℤ pos tick; rest = pos 0; at = tick; ticket = word % 32768 })) }
+        ensures ok { IfOk result (λ c. (is_clock_value wall ≡ true)
+            × (c ≡ record {
+              offset = wall -ℤ pos tick;
+              rest = pos 0;
+              at = tick;
+              ticket = word % 32768;
+            })) }
         ensures err { IfErr result (λ e. is_clock_value wall ≡ false) }
-        ensures stands { IfOk result (λ c. (past : Past) → past.step.cause ≡ Booted word wall → ClockStands (grown tick past (Boot ∷ [])) c) }
+        ensures stands { IfOk result (λ c. (past : Past) → past.step.cause ≡ Booted word wall
+            → ClockStands (grown tick past (Boot ∷ [])) c) }
     {
         if is_clock_value(wall) {
             Ok(Clock {
@@ -109,8 +124,12 @@ impl Clock {
     pub fn adjust(&mut self, tick: u64, amount: i64) -> Result<bool, ClockFault>
         requires tick { IsTick tick }
         requires later { self.old.at ≤ tick }
-        ensures ok { IfOk result (λ stepped. (is_clock_value (target_of self.old tick +ℤ amount) ≡ true) × ((stepped ≡ is_step amount) × (self.new ≡ adjusted self.old tick amount))) }
-        ensures err { IfErr result (λ e. (is_clock_value (target_of self.old tick +ℤ amount) ≡ false) × (self.new ≡ self.old)) }
+        ensures ok { IfOk result
+            (λ stepped. (is_clock_value (target_of self.old tick +ℤ amount) ≡ true)
+            × ((stepped ≡ is_step amount) × (self.new ≡ adjusted self.old tick amount))) }
+        ensures err { IfErr result
+            (λ e. (is_clock_value (target_of self.old tick +ℤ amount) ≡ false)
+            × (self.new ≡ self.old)) }
     {
         match self.target(tick).checked_add(amount) {
             Some(target) if is_clock_value(target) => {
@@ -127,9 +146,11 @@ impl Clock {
         requires tick { IsTick tick }
         requires later { self.now.at ≤ tick }
         requires range { is_clock_value (target_of self.now tick +ℤ amount) ≡ true }
-        ensures value { result ≡ (if is_step amount then pos 0 else rest_of self.now tick +ℤ amount) }
+        ensures value { result ≡ (if is_step amount then pos 0 else rest_of self.now tick +ℤ
+            amount) }
         ensures low { negsuc 2147483647999999 <ℤ ((target_of self.now tick +ℤ amount) -ℤ result) }
-        ensures high { ((target_of self.now tick +ℤ amount) -ℤ result) ≤ℤ pos (2147483648000000 + tick) }
+        ensures high { ((target_of self.now tick +ℤ amount) -ℤ result) ≤ℤ pos
+            (2147483648000000 + tick) }
     {
         if is_step(amount) {
             0
@@ -144,7 +165,12 @@ impl Clock {
         requires target { is_clock_value target ≡ true }
         requires shown_low { negsuc 2147483647999999 <ℤ (target -ℤ rest) }
         requires shown_high { (target -ℤ rest) ≤ℤ pos (2147483648000000 + tick) }
-        ensures { self.new ≡ record { offset = target -ℤ pos tick; rest = rest; at = tick; ticket = (self.old.ticket + 1) % 32768 } }
+        ensures { self.new ≡ record {
+          offset = target -ℤ pos tick;
+          rest = rest;
+          at = tick;
+          ticket = (self.old.ticket + 1) % 32768;
+        } }
     {
         *self = Clock {
             offset: offset_at(target, tick),
@@ -159,7 +185,9 @@ impl Clock {
     pub fn set(&mut self, tick: u64, value: i64) -> Result<i64, ClockFault>
         requires tick { IsTick tick }
         requires later { self.old.at ≤ tick }
-        ensures ok { IfOk result (λ amount. (is_clock_value value ≡ true) × ((amount ≡ value -ℤ target_of self.old tick) × (self.new ≡ set_to self.old tick value))) }
+        ensures ok { IfOk result (λ amount. (is_clock_value value ≡ true)
+            × ((amount ≡ value -ℤ target_of self.old tick)
+            × (self.new ≡ set_to self.old tick value))) }
         ensures err { IfErr result (λ e. (is_clock_value value ≡ false) × (self.new ≡ self.old)) }
     {
         if !is_clock_value(value) {

@@ -31,9 +31,11 @@ impl Clock {
         requires later { self.old.at ≤ tick }
         requires range { is_clock_value (target_of self.old tick +ℤ amount) ≡ true }
         requires room { 1 ≤ D.spare desk.old }
-        ensures row { Performs ClockStands ClockStands (adjusts amount) tick port self.old self.new (D.acts desk.old) (D.acts desk.new) }
+        ensures row { Performs ClockStands ClockStands (adjusts amount) tick port self.old self.new
+            (D.acts desk.old) (D.acts desk.new) }
         ensures clock { self.new ≡ adjusted self.old tick amount }
-        ensures room { PutsExactly 1 (D.spare desk.old) (D.spare desk.new) (D.acts desk.old) (D.acts desk.new) }
+        ensures room { PutsExactly 1 (D.spare desk.old) (D.spare desk.new) (D.acts desk.old)
+            (D.acts desk.new) }
     {
         let stepped = self.adjust_in_range(tick, amount);
         let shown = self.shown(tick);
@@ -53,9 +55,11 @@ impl Clock {
         requires later { self.old.at ≤ tick }
         requires range { is_clock_value value ≡ true }
         requires room { 1 ≤ D.spare desk.old }
-        ensures row { Performs ClockStands ClockStands (sets value) tick port self.old self.new (D.acts desk.old) (D.acts desk.new) }
+        ensures row { Performs ClockStands ClockStands (sets value) tick port self.old self.new
+            (D.acts desk.old) (D.acts desk.new) }
         ensures clock { self.new ≡ set_to self.old tick value }
-        ensures room { PutsExactly 1 (D.spare desk.old) (D.spare desk.new) (D.acts desk.old) (D.acts desk.new) }
+        ensures room { PutsExactly 1 (D.spare desk.old) (D.spare desk.new) (D.acts desk.old)
+            (D.acts desk.new) }
     {
         let amount = self.set_in_range(tick, value);
         desk.put(

@@ -8,13 +8,17 @@ ghost use Rattle.tsp_clock.specs.Clocks.{ClockValue, target_of, shown_of, adjust
 /// ticks a microsecond after the first of them.
 pub fn shown_follows_target()
     ensures rises { (v : ClockValue) (x y : ℕ) → v.at ≤ x → x ≤ y → shown_of v x ≤ℤ shown_of v y }
-    ensures meets { (v : ClockValue) (x : ℕ) → v.at + SLEW * nat_abs v.rest ≤ x → shown_of v x ≡ target_of v x }
+    ensures meets { (v : ClockValue) (x : ℕ) → v.at + SLEW * nat_abs v.rest ≤ x
+        → shown_of v x ≡ target_of v x }
 {}
 
 /// A correction moves the target by its amount at once. The shown value stays at that tick, or steps to the
 /// target.
 pub fn corrections_keep_or_step()
-    ensures moves { (v : ClockValue) (x y : ℕ) (amount : ℤ) → target_of (adjusted v x amount) y ≡ target_of v y +ℤ amount }
-    ensures stays { (v : ClockValue) (x : ℕ) (amount : ℤ) → is_step amount ≡ false → shown_of (adjusted v x amount) x ≡ shown_of v x }
-    ensures steps { (v : ClockValue) (x : ℕ) (amount : ℤ) → is_step amount ≡ true → shown_of (adjusted v x amount) x ≡ target_of (adjusted v x amount) x }
+    ensures moves { (v : ClockValue) (x y : ℕ) (amount : ℤ)
+        → target_of (adjusted v x amount) y ≡ target_of v y +ℤ amount }
+    ensures stays { (v : ClockValue) (x : ℕ) (amount : ℤ) → is_step amount ≡ false
+        → shown_of (adjusted v x amount) x ≡ shown_of v x }
+    ensures steps { (v : ClockValue) (x : ℕ) (amount : ℤ) → is_step amount ≡ true
+        → shown_of (adjusted v x amount) x ≡ target_of (adjusted v x amount) x }
 {}

@@ -38,7 +38,8 @@ fn check_head(octets: &[u8]) -> Result<(), DecodeFault>
 fn message_of(octets: &[u8], kind: Kind) -> Result<Message, DecodeFault>
     requires head { HasHead octets.now }
     requires kind { kind_of (octet_at octets.now 0) ≡ Some kind }
-    ensures { MatchResult result (λ message. SpellsMessage octets.now message) (λ fault. IsFault octets.now fault) }
+    ensures { MatchResult result (λ message. SpellsMessage octets.now message)
+        (λ fault. IsFault octets.now fault) }
 {
     let Some(name) = name_at(octets) else {
         return Err(if octets.len() < NAME_AT + NAME_ROOM {
@@ -56,7 +57,8 @@ fn message_of(octets: &[u8], kind: Kind) -> Result<Message, DecodeFault>
 /// A stamp request.
 fn request_of(octets: &[u8]) -> Result<Stamp, DecodeFault>
     requires { IsStamp octets.now 128 }
-    ensures { MatchResult result (λ stamp. SpellsStamp octets.now stamp) (λ fault. IsFault octets.now fault) }
+    ensures { MatchResult result (λ stamp. SpellsStamp octets.now stamp)
+        (λ fault. IsFault octets.now fault) }
 {
     if u16_at(octets, 2) != 0 || u64_at(octets, 20) != 0 {
         return Err(DecodeFault::Reserved);
@@ -70,7 +72,8 @@ fn request_of(octets: &[u8]) -> Result<Stamp, DecodeFault>
 /// A stamp reply.
 fn reply_of(octets: &[u8]) -> Result<Stamp, DecodeFault>
     requires { IsStamp octets.now 129 }
-    ensures { MatchResult result (λ stamp. SpellsStamp octets.now stamp) (λ fault. IsFault octets.now fault) }
+    ensures { MatchResult result (λ stamp. SpellsStamp octets.now stamp)
+        (λ fault. IsFault octets.now fault) }
 {
     let ticket = u16_at(octets, 2);
     if ticket > LAST_TICKET {
@@ -90,7 +93,8 @@ fn reply_of(octets: &[u8]) -> Result<Stamp, DecodeFault>
 /// The datagram of octets with a head.
 fn datagram_of(octets: &[u8]) -> Result<Datagram, DecodeFault>
     requires { HasHead octets.now }
-    ensures { MatchResult result (λ datagram. Spells octets.now datagram) (λ fault. IsFault octets.now fault) }
+    ensures { MatchResult result (λ datagram. Spells octets.now datagram)
+        (λ fault. IsFault octets.now fault) }
 {
     match (octets[0], Kind::of(octets[0])) {
         (_, Some(kind)) => Ok(Datagram::Message(message_of(octets, kind)?)),
@@ -103,7 +107,8 @@ fn datagram_of(octets: &[u8]) -> Result<Datagram, DecodeFault>
 
 /// The datagram, or the first fault; the clauses of `decode` but for its being the only answer.
 fn first_reading(octets: &[u8]) -> Result<Datagram, DecodeFault>
-    ensures { MatchResult result (λ datagram. Spells octets.now datagram) (λ fault. IsFault octets.now fault) }
+    ensures { MatchResult result (λ datagram. Spells octets.now datagram)
+        (λ fault. IsFault octets.now fault) }
 {
     check_head(octets)?;
     match datagram_of(octets) {
@@ -115,7 +120,8 @@ fn first_reading(octets: &[u8]) -> Result<Datagram, DecodeFault>
 /// The datagram that the octets spell. Where they spell none, the first of their faults, in the order
 /// in which `DecodeFault` lists them.
 pub fn decode(octets: &[u8]) -> Result<Datagram, DecodeFault>
-    ensures reads { MatchResult result (λ datagram. Spells octets.now datagram) (λ fault. IsFault octets.now fault) }
+    ensures reads { MatchResult result (λ datagram. Spells octets.now datagram)
+        (λ fault. IsFault octets.now fault) }
     ensures spelled { (datagram : Datagram) → Spells octets.now datagram → result ≡ Ok datagram }
     ensures faulty { (fault : DecodeFault) → IsFault octets.now fault → result ≡ Err fault }
 {

@@ -5,7 +5,9 @@ ghost use Rattle.arrayvec.specs.ArrayVec.{array_vec_len};
 ghost use Rattle.tsp_base.specs.Names.{IsName};
 ghost use Rattle.tsp_base.specs.Times.{IsMicros};
 ghost use Rattle.tsp_codec.specs.Spelling.{Spells};
-ghost use Rattle.tsp_codec.specs.Canon.{int_octets, time_octets, body_octets, name_octets, room_for, message_octets, stamp_octets, canon, IsWritableBody, IsWritable};
+ghost use Rattle.tsp_codec.specs.Canon.{int_octets, time_octets, body_octets, name_octets};
+ghost use Rattle.tsp_codec.specs.Canon.{room_for, message_octets, stamp_octets, canon};
+ghost use Rattle.tsp_codec.specs.Canon.{IsWritableBody, IsWritable};
 ghost use Rattle.tsp_base.specs.declared.datagram.Datagram.{Datagram};
 
 use crate::layout::{NAME_ROOM, REPLY, REQUEST, SECOND, SHORT_NAME, SHORT_ROOM, VERSION};

@@ -66,7 +66,8 @@ fn time_value(octets: &[u8]) -> i64
 /// The time of octets 4 to 11; None where the microseconds or the value are out of their range.
 fn time_at(octets: &[u8]) -> Option<Micros>
     requires { 12 ≤ length octets.now }
-    ensures { MatchOption result (¬ IsTime octets.now) (λ time. IsTime octets.now × (time ≡ time_field octets.now)) }
+    ensures { MatchOption result (¬ IsTime octets.now) (λ time. IsTime octets.now
+        × (time ≡ time_field octets.now)) }
 {
     let micros = i32_at(octets, 8);
     if micros < -LAST_MICRO || LAST_MICRO < micros {
@@ -117,8 +118,8 @@ fn room_of(octets: &[u8]) -> &[u8]
 
 /// The place of the first NUL.
 fn nul_in(room: &[u8]) -> Option<usize>
-    ensures { MatchOption result (¬ Contains room.now 0)
-        (λ end. (end < length room.now) × ¬ Contains (take end room.now) 0 × (slice_index_or room.now end 0 ≡ 0)) }
+    ensures { MatchOption result (¬ Contains room.now 0) (λ end. (end < length room.now)
+        × ¬ Contains (take end room.now) 0 × (slice_index_or room.now end 0 ≡ 0)) }
 {
     room.iter().position(|octet| *octet == 0)
 }

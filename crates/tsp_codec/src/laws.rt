@@ -20,7 +20,8 @@ pub fn one_fault()
 
 /// What spells a datagram has no fault.
 pub fn spelled_without_fault()
-    ensures { (octets : List ℕ) (d : Datagram) (f : DecodeFault) → Spells octets d → IsFault octets f → ⊥ }
+    ensures { (octets : List ℕ) (d : Datagram) (f : DecodeFault) → Spells octets d
+        → IsFault octets f → ⊥ }
 {}
 
 /// A reader takes one thing from the same octets.

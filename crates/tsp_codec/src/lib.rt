@@ -1,7 +1,8 @@
 //! The octets of the protocol's datagrams: an exact reader and a writer of one spelling.
 //!
-//! Neither call takes memory. Octets that came are read by [`decode`], or by [`read`] where a fault is itself an input; a datagram that is
-//! to go is written by [`encode`]. What was written is read as the same datagram, and of octets that spell none the fault is named:
+//! Neither call takes memory. Octets that came are read by [`decode`], or by [`read`] where a fault
+//! is itself an input; a datagram that is to go is written by [`encode`]. What was written is read
+//! as the same datagram, and of octets that spell none the fault is named:
 //!
 //! ```
 //! let name = Name::new(b"alpha");
@@ -21,6 +22,3 @@ mod layout;
 
 pub use decoding::{decode, read, read_back};
 pub use encoding::encode;
-
-#[cfg(test)]
-mod tests;

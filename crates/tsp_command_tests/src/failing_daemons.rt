@@ -1,13 +1,13 @@
 //! A daemon of two turns, each of whose calls of link and sink fails in turn.
 use std::alloc::{AllocError, Global};
 use std::process::Abort;
+use tsp_args::command::{Command, command_of};
 use tsp_base::place::Place;
+use tsp_daemon::command::serve_words;
+use tsp_daemon::exit::DaemonExit;
 use tsp_io::memory::MemorySink;
 use tsp_io::memory_link::MemoryLink;
 use tsp_io::memory_ticker::MemoryTicker;
-use tsp_daemon::exit::Served;
-use tsp_daemon::command::serve_words;
-use tsp_args::command::{Command, command_of};
 
 /// A stranger's TRACEON with number 2 and the name `x`.
 const TRACE_ON: &[u8] = &[17, 1, 0, 2, 0, 0, 0, 0, 0, 0, 0, 0, b'x', 0];
@@ -29,13 +29,14 @@ const LINES: [&str; 5] = [
 /// How a daemon ended, what it showed, and how many sends it tried.
 #[derive(Drop)]
 struct Ran {
-    end: Served,
+    end: DaemonExit,
     shown: MemorySink,
     tried: usize,
 }
 
-/// Runs a daemon that is told to trace and then asked for a stamp, where these calls of the link and these writes fail.
-/// The link's calls are the bind, and of each turn the receive and the send. None where the words are no daemon's.
+/// Runs a daemon that is told to trace and then asked for a stamp, where these calls of the link
+/// and these writes fail. The link's calls are the bind, and of each turn the receive and the send.
+/// None where the words are no daemon's.
 fn run_daemon(alloc: Global, calls: &[u32], writes: &[u32]) -> Result<Option<Ran>, AllocError> {
     let mut words = Vec::new(alloc);
     for word in ["serve", "127.0.0.1:525", "a", "m", "2"] {
@@ -62,7 +63,7 @@ fn ends(
     alloc: Global,
     calls: &[u32],
     writes: &[u32],
-    end: Served,
+    end: DaemonExit,
     lines: usize,
     tried: usize,
 ) -> Result<bool, AllocError> {
@@ -77,17 +78,17 @@ fn ends(
     Ok(ran.end == end && shown && ran.tried == tried)
 }
 
-/// A bind or a receive that fails ends the daemon, behind what the turns before it sent and showed. A send that fails
-/// is a lost datagram.
+/// A bind or a receive that fails ends the daemon, behind what the turns before it sent and showed.
+/// A send that fails is a lost datagram.
 #[test]
 fn each_call_of_the_link_fails(rt: HostRuntime) {
     for (failing, end, lines, tried) in [
-        (0, Served::LinkFault, 0, 0),
-        (1, Served::LinkFault, 0, 0),
-        (2, Served::Done, 5, 2),
-        (3, Served::LinkFault, 3, 1),
-        (4, Served::Done, 5, 2),
-        (5, Served::Done, 5, 2),
+        (0, DaemonExit::LinkFault, 0, 0),
+        (1, DaemonExit::LinkFault, 0, 0),
+        (2, DaemonExit::Done, 5, 2),
+        (3, DaemonExit::LinkFault, 3, 1),
+        (4, DaemonExit::Done, 5, 2),
+        (5, DaemonExit::Done, 5, 2),
     ] {
         let right = ends(rt.alloc(), &[failing], &[], end, lines, tried);
         assert!(rt; right == Ok(true), "call {failing}");
@@ -98,12 +99,12 @@ fn each_call_of_the_link_fails(rt: HostRuntime) {
 #[test]
 fn each_write_fails(rt: HostRuntime) {
     for (failing, end, lines, tried) in [
-        (0, Served::WriteFault, 0, 1),
-        (1, Served::WriteFault, 1, 1),
-        (2, Served::WriteFault, 2, 1),
-        (3, Served::WriteFault, 3, 2),
-        (4, Served::WriteFault, 4, 2),
-        (5, Served::Done, 5, 2),
+        (0, DaemonExit::WriteFault, 0, 1),
+        (1, DaemonExit::WriteFault, 1, 1),
+        (2, DaemonExit::WriteFault, 2, 1),
+        (3, DaemonExit::WriteFault, 3, 2),
+        (4, DaemonExit::WriteFault, 4, 2),
+        (5, DaemonExit::Done, 5, 2),
     ] {
         let right = ends(rt.alloc(), &[], &[failing], end, lines, tried);
         assert!(rt; right == Ok(true), "write {failing}");

@@ -1,9 +1,9 @@
 //! Inputs that were worked out by hand, or by two other programs.
 use std::alloc::Global;
 use std::process::Abort;
+use tsp_icmp_command::average;
 use tsp_io::memory::{MemorySink, MemorySource};
 use tsp_lines::treat::Outcome;
-use tsp_icmp_command::average;
 
 /// Whether the input comes to this outcome, with this written.
 fn averages(alloc: Global, input: &[u8], outcome: Outcome, written: &[u8]) -> bool {

@@ -27,12 +27,14 @@ pub fn one_datagram_in_words()
 
 /// The same lines have one output of `show`.
 pub fn one_output_of_show()
-    ensures { (lines : List (List ℕ)) (text other : List ℕ) → show_meaning.accepts lines text → show_meaning.accepts lines other → text ≡ other }
+    ensures { (lines : List (List ℕ)) (text other : List ℕ) → show_meaning.accepts lines text
+        → show_meaning.accepts lines other → text ≡ other }
 {}
 
 /// The same lines have one output of `pack`.
 pub fn one_output_of_pack()
-    ensures { (lines : List (List ℕ)) (text other : List ℕ) → pack_meaning.accepts lines text → pack_meaning.accepts lines other → text ≡ other }
+    ensures { (lines : List (List ℕ)) (text other : List ℕ) → pack_meaning.accepts lines text
+        → pack_meaning.accepts lines other → text ≡ other }
 {}
 
 /// At each place of the lines one thing at most may follow, for `show`.
@@ -47,13 +49,15 @@ pub fn definite_pack()
 
 /// What `show` makes of written octets in lower case are lines of which `pack` makes these octets again.
 pub fn packs_what_was_shown()
-    ensures { (lines : List (List ℕ)) (text : List ℕ) → All IsWritten lines → show_meaning.accepts lines text
-        → (back : List (List ℕ)) × All NoFeed back × (text ≡ closed back) × pack_meaning.accepts back (closed lines) }
+    ensures { (lines : List (List ℕ)) (text : List ℕ) → All IsWritten lines
+        → show_meaning.accepts lines text → (back : List (List ℕ)) × All NoFeed back
+        × (text ≡ closed back) × pack_meaning.accepts back (closed lines) }
 {}
 
 /// Where the answer of `show` to written lines in lower case, each with its line feed, is `Ok` with some
 /// output, the answer of `pack` to that output is `Ok` with these lines.
 pub fn answer_to_what_was_shown()
-    ensures { (limit : ℕ) (lines : List (List ℕ)) (output : List ℕ) → All NoFeed lines → All IsWritten lines → IsAnswer show_meaning limit (closed lines) Outcome.Ok output → length output ≤ limit
-        → IsAnswer pack_meaning limit output Outcome.Ok (closed lines) }
+    ensures { (limit : ℕ) (lines : List (List ℕ)) (output : List ℕ) → All NoFeed lines
+        → All IsWritten lines → IsAnswer show_meaning limit (closed lines) Outcome.Ok output
+        → length output ≤ limit → IsAnswer pack_meaning limit output Outcome.Ok (closed lines) }
 {}

@@ -1,7 +1,7 @@
 //! Datagrams as hexadecimal to message lines, and back.
 //!
-//! [`run::show`] reads lines of hexadecimal and writes for each the line of its datagram; [`run::pack`] does the opposite. Both stop at the first
-//! line that they can't read.
+//! [`run::show`] reads lines of hexadecimal and writes for each the line of its datagram;
+//! [`run::pack`] does the opposite. Both stop at the first line that they can't read.
 #![tactic(auto)]
 
 mod hand_over;
@@ -9,5 +9,3 @@ pub mod laws;
 mod pack;
 pub mod run;
 mod show;
-#[cfg(test)]
-mod tests;

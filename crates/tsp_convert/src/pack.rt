@@ -16,12 +16,12 @@ use tsp_lines::output::Output;
 use tsp_lines::treatment::{Stop, Treatment};
 use tsp_script::message_reader::message_of;
 
-/// Writes the octets of the datagram of a message line to the front of a buffer, in hexadecimal and with a line
-/// feed; gives how many octets these are.
+/// Writes the octets of the datagram of a message line to the front of a buffer, in hexadecimal and
+/// with a line feed; gives how many octets these are.
 fn packed(line: &[u8], text: &mut [u8; 1024]) -> Result<usize, Cause>
-    ensures { MatchResult result
-        (λ n. (n ≤ 1024) × ((d : Datagram) × IsLineOf line.now d × (take n text.new ≡ close (encode_lower (canon d)))))
-        (λ cause. RefusesMessage line.now cause) }
+    ensures { MatchResult result (λ n. (n ≤ 1024) × ((d : Datagram) × IsLineOf line.now d
+        × (take n text.new ≡ close (encode_lower (canon d))))) (λ cause. RefusesMessage line.now
+        cause) }
 {
     match message_of(line) {
         Ok(datagram) => Ok(digits_of(encode(&datagram).as_slice(), text)),
@@ -29,7 +29,8 @@ fn packed(line: &[u8], text: &mut [u8; 1024]) -> Result<usize, Cause>
     }
 }
 
-/// Writes octets to the front of a buffer, in hexadecimal and with a line feed; gives how many octets these are.
+/// Writes octets to the front of a buffer, in hexadecimal and with a line feed; gives how many
+/// octets these are.
 fn digits_of(octets: &[u8], text: &mut [u8; 1024]) -> usize
     requires { length octets.now ≤ 268 }
     ensures short { result ≤ 1024 }

@@ -22,16 +22,25 @@ use tsp_lines::treat::{Outcome, treat_all};
 /// Where every line is a datagram's, the answer is `Ok`, if nothing fails and there is memory.
 pub fn show<S: Source, K: Sink>(alloc: Global, source: &mut S, sink: &mut K) -> Outcome
     requires open { S.ended source.old ≡ false }
-    ensures comes { Comes show_meaning MOST_INPUT (S.left source.old) (S.left source.new) (K.written sink.old) (K.written sink.new) result }
-    ensures answers { Answers show_meaning MOST_INPUT (S.left source.old) (K.written sink.old) (K.written sink.new) result }
-    ensures keeps_up { KeepsUp show_meaning MOST_INPUT (S.left source.old) (S.left source.new) (K.written sink.old) (K.written sink.new) }
-    ensures later { (S.faults source.old ≤ S.faults source.new) × (K.faults sink.old ≤ K.faults sink.new) }
-    ensures read { result ≡ Outcome.ReadFault → Rose (S.faults source.old) (S.faults source.new) × (S.ended source.new ≡ false) }
+    ensures comes { Comes show_meaning MOST_INPUT (S.left source.old) (S.left source.new)
+        (K.written sink.old) (K.written sink.new) result }
+    ensures answers { Answers show_meaning MOST_INPUT (S.left source.old) (K.written sink.old)
+        (K.written sink.new) result }
+    ensures keeps_up { KeepsUp show_meaning MOST_INPUT (S.left source.old) (S.left source.new)
+        (K.written sink.old) (K.written sink.new) }
+    ensures later { (S.faults source.old ≤ S.faults source.new)
+        × (K.faults sink.old ≤ K.faults sink.new) }
+    ensures read { result ≡ Outcome.ReadFault → Rose (S.faults source.old) (S.faults source.new)
+        × (S.ended source.new ≡ false) }
     ensures write { result ≡ Outcome.WriteFault → Rose (K.faults sink.old) (K.faults sink.new) }
-    ensures still { (result ≢ Outcome.ReadFault → S.faults source.new ≡ S.faults source.old) × (result ≢ Outcome.WriteFault → K.faults sink.new ≡ K.faults sink.old) }
+    ensures still { (result ≢ Outcome.ReadFault → S.faults source.new ≡ S.faults source.old)
+        × (result ≢ Outcome.WriteFault → K.faults sink.new ≡ K.faults sink.old) }
     ensures ended { result ≡ Outcome.Ok → S.ended source.new ≡ true }
-    ensures complete { (octets : List ℕ) → S.left source.old ≡ Some octets → length octets ≤ MOST_INPUT → AreHexLines octets → ¬ Rose (S.faults source.old) (S.faults source.new) → ¬ Rose (K.faults sink.old) (K.faults sink.new)
-        → (result ≡ Outcome.Ok) ⊎ (result ≡ Outcome.OutOfMemory) }
+    ensures complete { (octets : List ℕ) → S.left source.old ≡ Some octets
+        → length octets ≤ MOST_INPUT → AreHexLines octets
+        → ¬ Rose (S.faults source.old) (S.faults source.new)
+        → ¬ Rose (K.faults sink.old) (K.faults sink.new) → (result ≡ Outcome.Ok)
+        ⊎ (result ≡ Outcome.OutOfMemory) }
 {
     treat_all(alloc, MOST_INPUT, source, sink, &mut Show::new())
 }
@@ -43,16 +52,25 @@ pub fn show<S: Source, K: Sink>(alloc: Global, source: &mut S, sink: &mut K) -> 
 /// nothing fails and there is memory.
 pub fn pack<S: Source, K: Sink>(alloc: Global, source: &mut S, sink: &mut K) -> Outcome
     requires open { S.ended source.old ≡ false }
-    ensures comes { Comes pack_meaning MOST_INPUT (S.left source.old) (S.left source.new) (K.written sink.old) (K.written sink.new) result }
-    ensures answers { Answers pack_meaning MOST_INPUT (S.left source.old) (K.written sink.old) (K.written sink.new) result }
-    ensures keeps_up { KeepsUp pack_meaning MOST_INPUT (S.left source.old) (S.left source.new) (K.written sink.old) (K.written sink.new) }
-    ensures later { (S.faults source.old ≤ S.faults source.new) × (K.faults sink.old ≤ K.faults sink.new) }
-    ensures read { result ≡ Outcome.ReadFault → Rose (S.faults source.old) (S.faults source.new) × (S.ended source.new ≡ false) }
+    ensures comes { Comes pack_meaning MOST_INPUT (S.left source.old) (S.left source.new)
+        (K.written sink.old) (K.written sink.new) result }
+    ensures answers { Answers pack_meaning MOST_INPUT (S.left source.old) (K.written sink.old)
+        (K.written sink.new) result }
+    ensures keeps_up { KeepsUp pack_meaning MOST_INPUT (S.left source.old) (S.left source.new)
+        (K.written sink.old) (K.written sink.new) }
+    ensures later { (S.faults source.old ≤ S.faults source.new)
+        × (K.faults sink.old ≤ K.faults sink.new) }
+    ensures read { result ≡ Outcome.ReadFault → Rose (S.faults source.old) (S.faults source.new)
+        × (S.ended source.new ≡ false) }
     ensures write { result ≡ Outcome.WriteFault → Rose (K.faults sink.old) (K.faults sink.new) }
-    ensures still { (result ≢ Outcome.ReadFault → S.faults source.new ≡ S.faults source.old) × (result ≢ Outcome.WriteFault → K.faults sink.new ≡ K.faults sink.old) }
+    ensures still { (result ≢ Outcome.ReadFault → S.faults source.new ≡ S.faults source.old)
+        × (result ≢ Outcome.WriteFault → K.faults sink.new ≡ K.faults sink.old) }
     ensures ended { result ≡ Outcome.Ok → S.ended source.new ≡ true }
-    ensures complete { (octets : List ℕ) → S.left source.old ≡ Some octets → length octets ≤ MOST_INPUT → AreMessageLines octets → ¬ Rose (S.faults source.old) (S.faults source.new) → ¬ Rose (K.faults sink.old) (K.faults sink.new)
-        → (result ≡ Outcome.Ok) ⊎ (result ≡ Outcome.OutOfMemory) }
+    ensures complete { (octets : List ℕ) → S.left source.old ≡ Some octets
+        → length octets ≤ MOST_INPUT → AreMessageLines octets
+        → ¬ Rose (S.faults source.old) (S.faults source.new)
+        → ¬ Rose (K.faults sink.old) (K.faults sink.new) → (result ≡ Outcome.Ok)
+        ⊎ (result ≡ Outcome.OutOfMemory) }
 {
     treat_all(alloc, MOST_INPUT, source, sink, &mut Pack::new())
 }

@@ -19,8 +19,8 @@ use tsp_script::acts::fault_word;
 use tsp_script::messages::append_datagram;
 use tsp_script::numbers::{append, octets_in};
 
-/// Writes the message line of the datagram whose octets the line has in hexadecimal, with a line feed. Its octets
-/// come into the buffer.
+/// Writes the message line of the datagram whose octets the line has in hexadecimal, with a line
+/// feed. Its octets come into the buffer.
 fn shown(line: &[u8], buffer: &mut [u8; 512], text: &mut ArrayVec<u8, 1024>) -> Result<(), Cause>
     requires { length line.now ≤ 1024 }
     ensures { MatchResult result

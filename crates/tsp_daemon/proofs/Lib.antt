@@ -4,3 +4,4 @@ pub mod SendLemmas
 pub mod ServeLemmas
 pub mod SessionLemmas
 pub mod StrangerLemmas
+pub mod WaitLemmas

@@ -1,7 +1,7 @@
 -- How a turn lengthens a session.
 use Rattle.std.specs.Prelude.{◌≡◌, ◌<◌, ◌+◌, ◌||◌, ℕ, suc, Bool, List, [], ◌∷◌, ◌++◌, length, take, Option, Some, refl}
 use Rattle.std.specs.Option.{option_map}
-use Rattle.std.proofs.Common.{ap, sym, subst, ◌∙◌, append-nil, arith, inl}
+use Rattle.std.proofs.Common.{ap, sym, subst, ◌∙◌, arith, inl, inr}
 use Rattle.tsp_base.specs.declared.act.Placed.{Placed}
 use Rattle.tsp_base.specs.declared.place.Place.TheVariants.{Peer, Stranger}
 use Rattle.tsp_base.specs.History.{Turned, dids}
@@ -18,13 +18,13 @@ use Rattle.tsp_io.specs.Links.{Arrival, Tried, Receives, TakesDatagram, TakesNot
 use Rattle.tsp_io.specs.Streams.{Grows}
 use Rattle.tsp_io.specs.declared.link.Recv.{Recv}
 use Rattle.tsp_io.specs.declared.link.Recv.TheVariants.{Datagram, Nothing, Failed}
-use Rattle.tsp_query.specs.Asked.{next_arrival, rest_of}
+use Rattle.tsp_query.specs.Arrivals.{next_arrival, rest_of}
 use Rattle.tsp_query.specs.Clocks.{reading}
 use Rattle.tsp_query.specs.Ends.{Outside, Tells}
 use Rattle.tsp_rules.specs.GateRows.{NodeGiven, NodeTurn, GotOn, answers_all}
 use Rattle.tsp_rules.specs.NodePerforms.{PerformsAll}
 use Rattle.tsp_rules.specs.NodeRows.{NodePast, PortSetup, spread}
-use Rattle.tsp_daemon.specs.declared.course.Course.{Course}
+use Rattle.tsp_daemon.specs.declared.counters.Counters.{Counters}
 use Rattle.tsp_daemon.specs.declared.end.ServeEnd.{ServeEnd}
 use Rattle.tsp_daemon.specs.declared.end.ServeEnd.TheVariants.{Done, LinkFault, WriteFault, OutOfMemory}
 use Rattle.tsp_daemon.specs.Ends.{given_by, TriesAll, FinishesUntil, Lives, IsAt, EndsTurn, Serves}
@@ -92,12 +92,12 @@ unheard_is o arrivals now_arrivals tried now_tried calls now_calls readings betw
     }
 
 -- what a turn's step has come to
-pub record Steps (s : Session) (next : Gateway) (course : Course) (tick : ℕ) (acts : List Placed) (on : Bool) : Type 0 where
+pub record Steps (s : Session) (next : Gateway) (course : Counters) (tick : ℕ) (acts : List Placed) (on : Bool) : Type 0 where
   pub stands : GatewayStands (past_after s) next
   pub acts_are : acts ≡ acts_in s
   pub text_is : shown_lines on (course.turns + 1) tick course.posts acts ≡ shown s
 
-pub steps_is : (s : Session) (node next : Gateway) (course : Course) (r : Recv) (buf : List ℕ) (tick : ℕ) (acts : List Placed) (arrivals : Option (List Arrival)) (tried : Option (List Tried)) (calls : Option ℕ) (readings : Option (List ℕ)) (last : ℕ) (before after on : Bool) →
+pub steps_is : (s : Session) (node next : Gateway) (course : Counters) (r : Recv) (buf : List ℕ) (tick : ℕ) (acts : List Placed) (arrivals : Option (List Arrival)) (tried : Option (List Tried)) (calls : Option ℕ) (readings : Option (List ℕ)) (last : ℕ) (before after on : Bool) →
     GatewayStands s.past node → course.turns ≡ s.turns → course.posts ≡ s.posts → Waits s.past.ports s.outside r buf tick arrivals tried calls readings last →
     PerformsAll GatewayBegun GatewayStands (answers_all (given_by (setups_in node) r buf)) tick node next [] acts → before ≡ tracing (dids s.past.lines) → ((past : NodePast) → GatewayStands past next → after ≡ tracing (dids past.lines)) → on ≡ (before || after) → Steps s next course tick acts on
 steps_is s node next course r buf tick acts arrivals tried calls readings last before after on stands turns posts w row before_is after_is on_is =
@@ -119,7 +119,7 @@ steps_is s node next course r buf tick acts arrivals tried calls readings last b
     }
 
 -- the session after a whole turn
-pub turned_is : (s : Session) (next : Gateway) (course : Course) (r : Recv) (buf : List ℕ) (tick : ℕ) (acts : List Placed) (arrivals now_arrivals : Option (List Arrival)) (tried now_tried : Option (List Tried)) (calls now_calls : Option ℕ) (readings : Option (List ℕ)) (last : ℕ) (written now : Option (List ℕ)) (turns posts : ℕ) (on : Bool) →
+pub turned_is : (s : Session) (next : Gateway) (course : Counters) (r : Recv) (buf : List ℕ) (tick : ℕ) (acts : List Placed) (arrivals now_arrivals : Option (List Arrival)) (tried now_tried : Option (List Tried)) (calls now_calls : Option ℕ) (readings : Option (List ℕ)) (last : ℕ) (written now : Option (List ℕ)) (turns posts : ℕ) (on : Bool) →
     course.turns ≡ s.turns → course.posts ≡ s.posts → written ≡ Some s.written → Waits s.past.ports s.outside r buf tick arrivals tried calls readings last → Steps s next course tick acts on → now_arrivals ≡ arrivals → now_calls ≡ calls →
     TriesAll (sends_of acts) tried now_tried → Grows written now (shown_lines on (course.turns + 1) tick course.posts acts) →
     turns ≡ course.turns + 1 → posts ≡ course.posts + length (sends_of acts) →
@@ -139,7 +139,7 @@ turned_is s next course r buf tick acts arrivals now_arrivals tried now_tried ca
 }
 
 -- a turn was cut off when its sends or its lines were on their way
-pub ends_is : (s : Session) (next : Gateway) (course : Course) (r : Recv) (buf : List ℕ) (tick : ℕ) (acts : List Placed) (arrivals now_arrivals : Option (List Arrival)) (tried now_tried : Option (List Tried)) (calls now_calls : Option ℕ) (readings : Option (List ℕ)) (last : ℕ) (written now : Option (List ℕ)) (on : Bool) (end : ServeEnd) →
+pub ends_is : (s : Session) (next : Gateway) (course : Counters) (r : Recv) (buf : List ℕ) (tick : ℕ) (acts : List Placed) (arrivals now_arrivals : Option (List Arrival)) (tried now_tried : Option (List Tried)) (calls now_calls : Option ℕ) (readings : Option (List ℕ)) (last : ℕ) (written now : Option (List ℕ)) (on : Bool) (end : ServeEnd) →
     written ≡ Some s.written → Waits s.past.ports s.outside r buf tick arrivals tried calls readings last → Steps s next course tick acts on → now_arrivals ≡ arrivals → now_calls ≡ calls →
     FinishesUntil (sends_of acts) (shown_lines on (course.turns + 1) tick course.posts acts) tried now_tried written now end →
     EndsTurn s now_arrivals now_tried now_calls readings last now end
@@ -155,11 +155,15 @@ ends_is s next course r buf tick acts arrivals now_arrivals tried now_tried call
       by_end Done h = h.1
       by_end LinkFault h = absurd h.1
       by_end WriteFault h = (record { arrivals_are = same ∙ w.tells.arrivals_are; tried_are = h.0; calls_are = counted ∙ w.tells.calls_are; readings_are = w.tells.readings_are; last_is = w.tells.last_is }, h.1)
-      by_end OutOfMemory h = h
+      by_end OutOfMemory h = elim h [
+        | inl some ↦ inr (inl (some.0.0, some.0.1, some.0.2, record { arrivals_are = same ∙ w.tells.arrivals_are; tried_are = some.0.3; calls_are = counted ∙ w.tells.calls_are; readings_are = w.tells.readings_are; last_is = w.tells.last_is }, some.1))
+        | inr all ↦ inr (inr (record { arrivals_are = same ∙ w.tells.arrivals_are; tried_are = all.0; calls_are = counted ∙ w.tells.calls_are; readings_are = w.tells.readings_are; last_is = w.tells.last_is }, all.1))
+      ]
 
--- nothing was sent or written yet
-pub ends_none : (s : Session) (tried : Option (List Tried)) (arrivals : Option (List Arrival)) (calls : Option ℕ) (readings : Option (List ℕ)) (last : ℕ) (written : Option (List ℕ)) → tried ≡ Some s.outside.tried → written ≡ Some s.written → EndsTurn s arrivals tried calls readings last written OutOfMemory
-ends_none s tried arrivals calls readings last written t w = inl (([], sends_of (acts_in s), refl, t ∙ ap (λ (ts : List Tried). Some ts) (sym (append-nil s.outside.tried))), w)
+-- nothing has happened yet
+pub ends_none : (s : Session) (tried : Option (List Tried)) (arrivals : Option (List Arrival)) (calls : Option ℕ) (readings : Option (List ℕ)) (last : ℕ) (written : Option (List ℕ)) →
+    Tells s.outside arrivals tried calls readings last → written ≡ Some s.written → EndsTurn s arrivals tried calls readings last written OutOfMemory
+ends_none s tried arrivals calls readings last written t w = inl (t, w)
 
 -- a node that lives through a step lives
 pub lives_on : (node next : Gateway) (g : NodeGiven) (tick : ℕ) (acts : List Placed) → Lives node → PerformsAll GatewayBegun GatewayStands (answers_all g) tick node next [] acts → Lives next
@@ -191,6 +195,6 @@ serves_until turns i s arrivals tried calls readings last written WriteFault les
 serves_until turns i s arrivals tried calls readings last written OutOfMemory less h = (i, less, h)
 
 -- one turn more
-pub turns_more : (i : ℕ) (s : Session) (node : Gateway) (course : Course) (arrivals : Option (List Arrival)) (tried : Option (List Tried)) (calls : Option ℕ) (readings : Option (List ℕ)) (last : ℕ) (written : Option (List ℕ)) →
+pub turns_more : (i : ℕ) (s : Session) (node : Gateway) (course : Counters) (arrivals : Option (List Arrival)) (tried : Option (List Tried)) (calls : Option ℕ) (readings : Option (List ℕ)) (last : ℕ) (written : Option (List ℕ)) →
     IsAt (turned (after_turns i s)) node course arrivals tried calls readings last written → IsAt (after_turns (i + 1) s) node course arrivals tried calls readings last written
 turns_more i s node course arrivals tried calls readings last written h = let one : suc i ≡ i + 1 = omega arith in subst (λ n. IsAt (after_turns n s) node course arrivals tried calls readings last written) one h

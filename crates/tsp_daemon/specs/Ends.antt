@@ -8,14 +8,14 @@ use Rattle.tsp_io.specs.Links.{Arrival, Tried}
 use Rattle.tsp_io.specs.Streams.{Grows}
 use Rattle.tsp_io.specs.declared.link.Recv.{Recv}
 use Rattle.tsp_io.specs.declared.link.Recv.TheVariants.{Datagram}
-use Rattle.tsp_query.specs.Ends.{Tells}
+use Rattle.tsp_query.specs.Ends.{Outside, Tells}
 use Rattle.tsp_rules.specs.GateRows.{NodeGiven, NodeTurn, GotOn}
 use Rattle.tsp_rules.specs.NodeRows.{NodePast, PortSetup}
-use Rattle.tsp_daemon.specs.declared.course.Course.{Course}
+use Rattle.tsp_daemon.specs.declared.counters.Counters.{Counters}
 use Rattle.tsp_daemon.specs.declared.end.ServeEnd.{ServeEnd}
 use Rattle.tsp_daemon.specs.declared.end.ServeEnd.TheVariants.{Done, LinkFault, WriteFault, OutOfMemory}
 use Rattle.tsp_daemon.specs.Posts.{sends_of}
-use Rattle.tsp_daemon.specs.Sessions.{Session, port_from, acts_in, shown, turned, after_turns, unheard}
+use Rattle.tsp_daemon.specs.Sessions.{Session, port_from, acts_in, shown, turned, after_turns, unheard, waited}
 
 -- what a node with these ports is given by what a receive gave
 abbrev pub given_by : List PortSetup → Recv → List ℕ → NodeGiven
@@ -61,20 +61,32 @@ pub record Lives (node : Gateway) : Type 0 where
   pub stands : GatewayStands past node
 
 -- the node, the course and what is told of the outside are where a session has come to
-pub record IsAt (s : Session) (node : Gateway) (course : Course) (arrivals : Option (List Arrival)) (tried : Option (List Tried)) (calls : Option ℕ) (readings : Option (List ℕ)) (last : ℕ) (written : Option (List ℕ)) : Type 0 where
+pub record IsAt (s : Session) (node : Gateway) (course : Counters) (arrivals : Option (List Arrival)) (tried : Option (List Tried)) (calls : Option ℕ) (readings : Option (List ℕ)) (last : ℕ) (written : Option (List ℕ)) : Type 0 where
   pub stands : GatewayStands s.past node
   pub turns_is : course.turns ≡ s.turns
   pub posts_is : course.posts ≡ s.posts
   pub tells : Tells s.outside arrivals tried calls readings last
   pub written_is : written ≡ Some s.written
 
--- a turn after this session ends the daemon
+-- what a turn has come to whose step's first sends were tried: it has waited, and taken what came
+abbrev pub tried_some : List Tried → Session → Outside
+tried_some part s = record (waited s.outside) { tried = s.outside.tried ++ part }
+
+-- a turn after this session ends the daemon. Where there is no memory for the desk nothing has happened; where there is none for a send, those before it were tried
 abbrev pub EndsTurn : Session → Option (List Arrival) → Option (List Tried) → Option ℕ → Option (List ℕ) → ℕ → Option (List ℕ) → ServeEnd → Type 0
 EndsTurn s arrivals tried calls readings last written Done = ⊥
 EndsTurn s arrivals tried calls readings last written LinkFault = Tells (unheard s.outside) arrivals tried calls readings last × (written ≡ Some s.written)
 EndsTurn s arrivals tried calls readings last written WriteFault = Tells (turned s).outside arrivals tried calls readings last × CutsShort (shown s) (Some s.written) written
 EndsTurn s arrivals tried calls readings last written OutOfMemory =
-    (TriesSome (sends_of (acts_in s)) (Some s.outside.tried) tried × (written ≡ Some s.written)) ⊎ (TriesAll (sends_of (acts_in s)) (Some s.outside.tried) tried × WritesSome (shown s) (Some s.written) written)
+    (Tells s.outside arrivals tried calls readings last × (written ≡ Some s.written))
+    ⊎ ((part : List Tried) × (rest : List Tried) × (sends_of (acts_in s) ≡ part ++ rest) × Tells (tried_some part s) arrivals tried calls readings last × (written ≡ Some s.written))
+    ⊎ (Tells (turned s).outside arrivals tried calls readings last × WritesSome (shown s) (Some s.written) written)
+
+-- how many receives a session makes that ends so at a turn behind so many: none in that turn, where there was no memory for its desk
+abbrev pub IsReceived : ℕ → ℕ → ServeEnd → Type 0
+IsReceived turns received Done = received ≡ turns
+IsReceived turns received OutOfMemory = received ≤ turns
+IsReceived turns received end = (0 < received) × (received ≤ turns)
 
 -- how a session of so many turns ends: all were taken, or one of them ended it
 abbrev pub Serves : ℕ → Session → Option (List Arrival) → Option (List Tried) → Option ℕ → Option (List ℕ) → ℕ → Option (List ℕ) → ServeEnd → Type 0

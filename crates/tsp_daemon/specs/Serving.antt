@@ -1,23 +1,26 @@
 -- What the words behind `serve` come to.
-use Rattle.std.specs.Prelude.{◌≡◌, ◌⊎◌, ℕ, ℤ, true, false, List, Some, codes}
+use Rattle.std.specs.Prelude.{◌≡◌, ◌⊎◌, ℕ, ℤ, true, false, List, ◌∷◌, Option, Some, codes}
 use Rattle.tsp_daemon.specs.declared.end.ServeEnd.{ServeEnd}
 use Rattle.tsp_daemon.specs.declared.end.ServeEnd.TheVariants.{Done as AllTurns, LinkFault as Faulty, WriteFault as Unwritten, OutOfMemory as Refused}
-use Rattle.tsp_daemon.specs.Ends.{Serves}
+use Rattle.tsp_io.specs.Links.{Binding, Notes}
+use Rattle.tsp_args.specs.Ports.{all_peers}
+use Rattle.tsp_daemon.specs.Ends.{IsReceived, Serves}
 use Rattle.tsp_daemon.specs.Sessions.{Session, read_once}
 use Rattle.tsp_query.specs.Ends.{Outside, Tells}
-use Rattle.tsp_query.specs.Told.{Told, bound, Says}
+use Rattle.tsp_query.specs.Outside.{Observed, bound, Says}
 use Rattle.tsp_rules.specs.Guards.{is_clock_value}
 use Rattle.tsp_args.specs.declared.serve.ServeWords.{ServeWords}
-use Rattle.tsp_daemon.specs.declared.exit.Served.{Served}
-use Rattle.tsp_daemon.specs.declared.exit.Served.TheVariants.{Done, BadWall, LinkFault, WriteFault, OutOfMemory}
+use Rattle.tsp_daemon.specs.declared.exit.DaemonExit.{DaemonExit}
+use Rattle.tsp_daemon.specs.declared.exit.DaemonExit.TheVariants.{Done, BadWall, LinkFault, WriteFault, OutOfMemory}
 use Rattle.tsp_daemon.specs.Nodes.{first_past}
+use Rattle.tsp_daemon.specs.Waits.{NotesWaits}
 
 -- what is written where the wall clock is out of its range
 abbrev pub bad_wall : List ℕ
 bad_wall = codes "bad wall\n"
 
 -- how a daemon ends whose session ended so
-abbrev pub served_of : ServeEnd → Served
+abbrev pub served_of : ServeEnd → DaemonExit
 served_of AllTurns = Done
 served_of Faulty = LinkFault
 served_of Unwritten = WriteFault
@@ -33,35 +36,53 @@ first_session s o wall word written = record {
   written = written;
 }
 
--- nothing was sent and nothing written, for want of memory
-pub record IsRefused (o : Outside) (written : List ℕ) (now : Told) (served : Served) : Type 0 where
+-- what the link of a daemon is bound to: its own address is peer 0, and its words' peers stand behind it in their order
+abbrev pub serving_binding : ServeWords → Binding
+serving_binding s = record { local = s.local; peers = s.local ∷ all_peers s.ports }
+
+-- there was no memory, where the outside held this: nothing was sent, awaited or written
+pub record IsRefused (o : Outside) (written : List ℕ) (waits : Option (List ℕ)) (now : Observed) (served : DaemonExit) : Type 0 where
   pub cause : served ≡ OutOfMemory
-  pub tried_are : now.tried ≡ Some o.tried
+  pub tells : Tells o now.arrivals now.tried now.calls now.readings now.last
   pub written_is : now.written ≡ Some written
+  pub unwaited : now.waits ≡ waits
 
 -- the wall clock is out of its range: one reading was taken, nothing was sent, and what was written says so
-pub record HasBadWall (o : Outside) (wall : ℤ) (written : List ℕ) (now : Told) (served : Served) : Type 0 where
+pub record HasBadWall (o : Outside) (wall : ℤ) (written : List ℕ) (waits : Option (List ℕ)) (now : Observed) (served : DaemonExit) : Type 0 where
   pub out : is_clock_value wall ≡ false
   pub tells : Tells (read_once o) now.arrivals now.tried now.calls now.readings now.last
   pub says : Says bad_wall BadWall WriteFault OutOfMemory (Some written) now.written served
+  pub unwaited : now.waits ≡ waits
 
 -- the wall clock is in its range: the daemon ends as its session does
-pub record IsServed (s : ServeWords) (o : Outside) (wall : ℤ) (word : ℕ) (written : List ℕ) (now : Told) (served : Served) : Type 0 where
+pub record IsServed (s : ServeWords) (o : Outside) (wall : ℤ) (word : ℕ) (written : List ℕ) (waits : Option (List ℕ)) (now : Observed) (served : DaemonExit) : Type 0 where
   pub within : is_clock_value wall ≡ true
   pub end : ServeEnd
   pub served_is : served ≡ served_of end
   pub serves : Serves s.turns (first_session s o wall word written) now.arrivals now.tried now.calls now.readings now.last now.written end
+  -- each receive waited as long as its turn says
+  pub received : ℕ
+  pub received_is : IsReceived s.turns received end
+  pub noted : NotesWaits (first_session s o wall word written) received waits now.waits
 
 -- what a daemon comes to whose link is bound, where the outside held this then
-abbrev pub BoundServes : ServeWords → Outside → ℤ → ℕ → List ℕ → Told → Served → Type 0
-BoundServes s o wall word written now served = IsRefused o written now served ⊎ HasBadWall o wall written now served ⊎ IsServed s o wall word written now served
+abbrev pub BoundServes : ServeWords → Outside → ℤ → ℕ → List ℕ → Option (List ℕ) → Observed → DaemonExit → Type 0
+BoundServes s o wall word written waits now served =
+    IsRefused (read_once o) written waits now served ⊎ HasBadWall o wall written waits now served ⊎ IsServed s o wall word written waits now served
 
 -- the bind failed: no reading was taken, nothing sent and nothing written
-pub record IsUnbound (o : Outside) (written : List ℕ) (now : Told) (served : Served) : Type 0 where
+pub record IsUnbound (o : Outside) (written : List ℕ) (waits : Option (List ℕ)) (now : Observed) (served : DaemonExit) : Type 0 where
   pub cause : served ≡ LinkFault
   pub tells : Tells (bound o) now.arrivals now.tried now.calls now.readings now.last
   pub written_is : now.written ≡ Some written
+  pub unwaited : now.waits ≡ waits
 
--- what a daemon comes to, where the outside held this at its beginning
-abbrev pub ServesAs : ServeWords → Outside → ℤ → ℕ → List ℕ → Told → Served → Type 0
-ServesAs s o wall word written now served = IsRefused o written now served ⊎ IsUnbound o written now served ⊎ BoundServes s (bound o) wall word written now served
+-- the link wasn't bound: there was no memory for the addresses, none for the bind, or the bind failed
+abbrev pub ServesUnbound : Outside → List ℕ → Option (List ℕ) → Observed → DaemonExit → Type 0
+ServesUnbound o written waits now served = IsRefused o written waits now served ⊎ IsRefused (bound o) written waits now served ⊎ IsUnbound o written waits now served
+
+-- what a daemon comes to, where the outside held this at its beginning. Once its link is bound, to its own address and its peers, the wall clock is read right after the first tick
+abbrev pub ServesAs : ServeWords → Outside → ℤ → ℕ → List ℕ → Observed → Observed → DaemonExit → Type 0
+ServesAs s o wall word written before now served =
+    ((now.binds ≡ before.binds) × (now.left_at_wall ≡ before.left_at_wall) × ServesUnbound o written before.waits now served)
+    ⊎ (Notes before.binds now.binds (serving_binding s) × (now.left_at_wall ≡ Some (Some (read_once o).readings)) × BoundServes s (bound o) wall word written before.waits now served)

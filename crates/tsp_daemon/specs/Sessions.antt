@@ -11,7 +11,7 @@ use Rattle.tsp_codec.specs.Taken.{taken_of}
 use Rattle.tsp_gateway.specs.PortOf.{port_of}
 use Rattle.tsp_io.specs.Counts.{one_more}
 use Rattle.tsp_io.specs.Links.{Arrival}
-use Rattle.tsp_query.specs.Asked.{next_arrival, rest_of}
+use Rattle.tsp_query.specs.Arrivals.{next_arrival, rest_of}
 use Rattle.tsp_query.specs.Clocks.{reading}
 use Rattle.tsp_query.specs.Ends.{Outside, heard}
 use Rattle.tsp_rules.specs.GateRows.{NodeGiven, NodeTurn, GotOn, answers_all}

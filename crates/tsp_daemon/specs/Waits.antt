@@ -1,6 +1,37 @@
 -- How long a daemon waits for a datagram.
-use Rattle.std.specs.Prelude.{ℕ, ◌-◌, min, max}
+use Rattle.std.specs.Prelude.{◌≡◌, ◌⊎◌, ℕ, zero, suc, ◌-◌, min, max, List, [], ◌∷◌, ◌++◌, Option, None, Some, Result, Err}
+use Rattle.tsp_gateway.specs.Dues.{IsNodeDue}
+use Rattle.tsp_io.specs.Links.{Notes}
+use Rattle.tsp_daemon.specs.declared.end.ServeEnd.{ServeEnd}
+use Rattle.tsp_daemon.specs.declared.end.ServeEnd.TheVariants.{OutOfMemory}
+use Rattle.tsp_daemon.specs.Sessions.{Session, after_turns, read_once}
 
 -- until the node is to be looked at, but no more than a second and no less than a thousandth of one
 abbrev pub wait_until : ℕ → ℕ → ℕ
 wait_until due tick = max (min (due - tick) 1000000) 1000
+
+-- how long the receive of a turn waits: until the node is to be looked at, from the turn's first reading on
+pub record IsWait (s : Session) (wait : ℕ) : Type 0 where
+  pub due : ℕ
+  pub due_is : IsNodeDue s.past due
+  pub is : wait ≡ wait_until due (read_once s.outside).last
+
+-- how long the receives of so many turns wait, one after the other
+abbrev pub AreWaits : Session → ℕ → List ℕ → Type 0
+AreWaits s zero waits = waits ≡ []
+AreWaits s (suc n) waits = (before : List ℕ) × (wait : ℕ) × (waits ≡ before ++ wait ∷ []) × AreWaits s n before × IsWait (after_turns n s) wait
+
+-- the receives of so many turns were noted, where the waits are told before and after
+abbrev pub NotesWaits : Session → ℕ → Option (List ℕ) → Option (List ℕ) → Type 0
+NotesWaits s n waits None = Unit {0}
+NotesWaits s n None (Some now) = ⊥
+NotesWaits s n (Some before) (Some now) = (more : List ℕ) × (now ≡ before ++ more) × AreWaits s n more
+
+-- one receive more was noted, which waits as long as the turn says
+abbrev pub NotesWait : Session → Option (List ℕ) → Option (List ℕ) → Type 0
+NotesWait s waits now = (wait : ℕ) × IsWait s wait × Notes waits now wait
+
+-- what a turn notes that ends so: one receive, but where there was no memory for its desk
+abbrev pub NotesTurn : {A : Type 0} → Session → Option (List ℕ) → Option (List ℕ) → Result A ServeEnd → Type 0
+NotesTurn s waits now (Err OutOfMemory) = (now ≡ waits) ⊎ NotesWait s waits now
+NotesTurn s waits now _ = NotesWait s waits now

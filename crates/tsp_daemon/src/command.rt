@@ -1,35 +1,37 @@
 //! The daemon as a command.
 ghost use Rattle.std.specs.Prelude.{◌≡◌, ◌≢◌, ◌≤◌, ℕ, ℤ, List, length, codes, Some, false, IfSome};
 ghost use Rattle.tsp_io.specs.Counts.{Rose};
+ghost use Rattle.tsp_query.specs.Arrivals.{rest_of};
 ghost use Rattle.tsp_query.specs.Ends.{Outside};
-ghost use Rattle.tsp_query.specs.Told.{Knows, Says};
+ghost use Rattle.tsp_query.specs.Outside.{Knows, Says};
 ghost use Rattle.tsp_rules.specs.Guards.{is_clock_value};
 ghost use Rattle.tsp_args.specs.Serves.{IsServe};
 ghost use Rattle.tsp_daemon.specs.Serving.{bad_wall, BoundServes, ServesAs};
 
-use crate::end::Served;
+use crate::exit::DaemonExit;
 use crate::node::{Unbooted, addrs_of, boot};
-use std::alloc::Global;
 use crate::serve::serve;
+use std::alloc::Global;
+use tsp_args::serve::ServeWords;
 use tsp_io::link::{Bound, Link};
 use tsp_io::sink::Sink;
 use tsp_io::ticker::Ticker;
 use tsp_lines::output::{Unwritten, write_all};
-use tsp_args::serve::ServeWords;
 
 /// Says that the wall clock is out of its range.
-fn say_bad_wall<K: Sink>(sink: &mut K) -> Served
-    ensures says { Says bad_wall Served.BadWall Served.WriteFault Served.OutOfMemory (K.written sink.old) (K.written sink.new) result }
+fn say_bad_wall<K: Sink>(sink: &mut K) -> DaemonExit
+    ensures says { Says bad_wall DaemonExit.BadWall DaemonExit.WriteFault DaemonExit.OutOfMemory
+        (K.written sink.old) (K.written sink.new) result }
     ensures later { K.faults sink.old ≤ K.faults sink.new }
-    ensures write { result ≡ Served.WriteFault → Rose (K.faults sink.old) (K.faults sink.new) }
-    ensures still { result ≢ Served.WriteFault → K.faults sink.new ≡ K.faults sink.old }
-    ensures link { result ≢ Served.LinkFault }
+    ensures write { result ≡ DaemonExit.WriteFault → Rose (K.faults sink.old) (K.faults sink.new) }
+    ensures still { result ≢ DaemonExit.WriteFault → K.faults sink.new ≡ K.faults sink.old }
+    ensures link { result ≢ DaemonExit.LinkFault }
 {
     match write_all(sink, b"bad wall\n") {
-        Ok(()) => Served::BadWall,
+        Ok(()) => DaemonExit::BadWall,
         Err(cut) => match cut.fault {
-            Unwritten::WriteFault => Served::WriteFault,
-            Unwritten::OutOfMemory => Served::OutOfMemory,
+            Unwritten::WriteFault => DaemonExit::WriteFault,
+            Unwritten::OutOfMemory => DaemonExit::OutOfMemory,
         },
     }
 }
@@ -41,58 +43,137 @@ fn serve_bound<K: Sink, L: Link, T: Ticker>(
     sink: &mut K,
     link: &mut L,
     ticker: &mut T,
-) -> Served
+) -> DaemonExit
     requires serve { IsServe words.now }
     ensures serves { (o : Outside) (wall : ℤ) (word : ℕ) (written : List ℕ)
-        → Knows o wall word written (record { arrivals = L.arrivals link.old; tried = L.tried link.old; calls = L.calls link.old; readings = T.readings ticker.old; last = T.last ticker.old; wall = T.wall_is ticker.old; word = T.word_is ticker.old; written = K.written sink.old })
-        → BoundServes words.now o wall word written (record { arrivals = L.arrivals link.new; tried = L.tried link.new; calls = L.calls link.new; readings = T.readings ticker.new; last = T.last ticker.new; wall = T.wall_is ticker.new; word = T.word_is ticker.new; written = K.written sink.new }) result }
-    ensures later { (L.faults link.old ≤ L.faults link.new) × (L.send_faults link.old ≤ L.send_faults link.new) × (K.faults sink.old ≤ K.faults sink.new) × (T.last ticker.old ≤ T.last ticker.new) }
-    ensures wall { result ≡ Served.BadWall → IfSome (T.wall_is ticker.old) (λ wall. is_clock_value wall ≡ false) }
-    ensures link { result ≡ Served.LinkFault → Rose (L.faults link.old) (L.faults link.new) }
-    ensures write { result ≡ Served.WriteFault → Rose (K.faults sink.old) (K.faults sink.new) }
-    ensures still { (result ≢ Served.LinkFault → L.faults link.new ≡ L.faults link.old) × (result ≢ Served.WriteFault → K.faults sink.new ≡ K.faults sink.old) }
+        → Knows o wall word written
+        (record {
+          arrivals = L.arrivals link.old;
+          tried = L.tried link.old;
+          calls = L.calls link.old;
+          readings = T.readings ticker.old;
+          last = T.last ticker.old;
+          wall = T.wall_is ticker.old;
+          word = T.word_is ticker.old;
+          written = K.written sink.old;
+          binds = L.binds link.old;
+          waits = L.waits link.old;
+          left_at_wall = T.left_at_wall ticker.old;
+        })
+        → BoundServes words.now o wall word written (L.waits link.old)
+        (record {
+          arrivals = L.arrivals link.new;
+          tried = L.tried link.new;
+          calls = L.calls link.new;
+          readings = T.readings ticker.new;
+          last = T.last ticker.new;
+          wall = T.wall_is ticker.new;
+          word = T.word_is ticker.new;
+          written = K.written sink.new;
+          binds = L.binds link.new;
+          waits = L.waits link.new;
+          left_at_wall = T.left_at_wall ticker.new;
+        })
+        result }
+    ensures same { L.binds link.new ≡ L.binds link.old }
+    ensures walled { (readings : List ℕ) → T.readings ticker.old ≡ Some readings
+        → T.left_at_wall ticker.new ≡ Some (Some (rest_of readings)) }
+    ensures later { (L.faults link.old ≤ L.faults link.new)
+        × (L.send_faults link.old ≤ L.send_faults link.new)
+        × (K.faults sink.old ≤ K.faults sink.new) × (T.last ticker.old ≤ T.last ticker.new) }
+    ensures wall { result ≡ DaemonExit.BadWall
+        → IfSome (T.wall_is ticker.old) (λ wall. is_clock_value wall ≡ false) }
+    ensures link { result ≡ DaemonExit.LinkFault → Rose (L.faults link.old) (L.faults link.new) }
+    ensures write { result ≡ DaemonExit.WriteFault → Rose (K.faults sink.old) (K.faults sink.new) }
+    ensures still { (result ≢ DaemonExit.LinkFault → L.faults link.new ≡ L.faults link.old)
+        × (result ≢ DaemonExit.WriteFault → K.faults sink.new ≡ K.faults sink.old) }
 {
     let tick = ticker.tick();
     let wall = ticker.wall();
     let word = ticker.word();
     match boot(alloc, words, tick, wall, word) {
-        Ok(node) => Served::of(serve(alloc, node, words.turns, sink, link, ticker)),
+        Ok(node) => DaemonExit::of(serve(alloc, node, words.turns, sink, link, ticker)),
         Err(Unbooted::BadWall) => say_bad_wall(sink),
-        Err(Unbooted::OutOfMemory) => Served::OutOfMemory,
+        Err(Unbooted::OutOfMemory) => DaemonExit::OutOfMemory,
     }
 }
 
 /// Runs the daemon that the words behind `serve` ask for.
 ///
-/// The link is bound with the daemon's own address as peer 0, and then its peers in their order. The ticker's tick, wall
-/// and word are read once each, and the node boots with them; where the wall doesn't lie strictly between -2^31 and 2^31
-/// seconds, `bad wall` is written. Then the session takes its turns, as `tsp_daemon` has them.
+/// The link is bound with the daemon's own address as peer 0, and then its peers in their order.
+/// The ticker's tick, wall and word are read once each, and the node boots with them; where the
+/// wall doesn't lie strictly between -2^31 and 2^31 seconds, `bad wall` is written. Then the
+/// session takes its turns, as `tsp_daemon` has them.
 ///
-/// `LinkFault` comes only where the bind or a receive failed, and their count rose; `WriteFault` only where a write
-/// failed, and the sink's count rose.
+/// `LinkFault` comes only where the bind or a receive failed, and their count rose; `WriteFault`
+/// only where a write failed, and the sink's count rose.
 pub fn serve_words<K: Sink, L: Link, T: Ticker>(
     alloc: Global,
     words: &ServeWords,
     sink: &mut K,
     link: &mut L,
     ticker: &mut T,
-) -> Served
+) -> DaemonExit
     requires { IsServe words.now }
     ensures serves { (o : Outside) (wall : ℤ) (word : ℕ) (written : List ℕ)
-        → Knows o wall word written (record { arrivals = L.arrivals link.old; tried = L.tried link.old; calls = L.calls link.old; readings = T.readings ticker.old; last = T.last ticker.old; wall = T.wall_is ticker.old; word = T.word_is ticker.old; written = K.written sink.old })
-        → ServesAs words.now o wall word written (record { arrivals = L.arrivals link.new; tried = L.tried link.new; calls = L.calls link.new; readings = T.readings ticker.new; last = T.last ticker.new; wall = T.wall_is ticker.new; word = T.word_is ticker.new; written = K.written sink.new }) result }
-    ensures later { (L.faults link.old ≤ L.faults link.new) × (L.send_faults link.old ≤ L.send_faults link.new) × (K.faults sink.old ≤ K.faults sink.new) × (T.last ticker.old ≤ T.last ticker.new) }
-    ensures wall { result ≡ Served.BadWall → IfSome (T.wall_is ticker.old) (λ wall. is_clock_value wall ≡ false) }
-    ensures link { result ≡ Served.LinkFault → Rose (L.faults link.old) (L.faults link.new) }
-    ensures write { result ≡ Served.WriteFault → Rose (K.faults sink.old) (K.faults sink.new) }
-    ensures still { (result ≢ Served.LinkFault → L.faults link.new ≡ L.faults link.old) × (result ≢ Served.WriteFault → K.faults sink.new ≡ K.faults sink.old) }
+        → Knows o wall word written
+        (record {
+          arrivals = L.arrivals link.old;
+          tried = L.tried link.old;
+          calls = L.calls link.old;
+          readings = T.readings ticker.old;
+          last = T.last ticker.old;
+          wall = T.wall_is ticker.old;
+          word = T.word_is ticker.old;
+          written = K.written sink.old;
+          binds = L.binds link.old;
+          waits = L.waits link.old;
+          left_at_wall = T.left_at_wall ticker.old;
+        })
+        → ServesAs words.now o wall word written
+        (record {
+          arrivals = L.arrivals link.old;
+          tried = L.tried link.old;
+          calls = L.calls link.old;
+          readings = T.readings ticker.old;
+          last = T.last ticker.old;
+          wall = T.wall_is ticker.old;
+          word = T.word_is ticker.old;
+          written = K.written sink.old;
+          binds = L.binds link.old;
+          waits = L.waits link.old;
+          left_at_wall = T.left_at_wall ticker.old;
+        })
+        (record {
+          arrivals = L.arrivals link.new;
+          tried = L.tried link.new;
+          calls = L.calls link.new;
+          readings = T.readings ticker.new;
+          last = T.last ticker.new;
+          wall = T.wall_is ticker.new;
+          word = T.word_is ticker.new;
+          written = K.written sink.new;
+          binds = L.binds link.new;
+          waits = L.waits link.new;
+          left_at_wall = T.left_at_wall ticker.new;
+        })
+        result }
+    ensures later { (L.faults link.old ≤ L.faults link.new)
+        × (L.send_faults link.old ≤ L.send_faults link.new)
+        × (K.faults sink.old ≤ K.faults sink.new) × (T.last ticker.old ≤ T.last ticker.new) }
+    ensures wall { result ≡ DaemonExit.BadWall
+        → IfSome (T.wall_is ticker.old) (λ wall. is_clock_value wall ≡ false) }
+    ensures link { result ≡ DaemonExit.LinkFault → Rose (L.faults link.old) (L.faults link.new) }
+    ensures write { result ≡ DaemonExit.WriteFault → Rose (K.faults sink.old) (K.faults sink.new) }
+    ensures still { (result ≢ DaemonExit.LinkFault → L.faults link.new ≡ L.faults link.old)
+        × (result ≢ DaemonExit.WriteFault → K.faults sink.new ≡ K.faults sink.old) }
 {
     let Ok(addrs) = addrs_of(alloc, words) else {
-        return Served::OutOfMemory;
+        return DaemonExit::OutOfMemory;
     };
     match link.bind(words.local, addrs.as_slice()) {
         Bound::Bound => serve_bound(alloc, words, sink, link, ticker),
-        Bound::Failed => Served::LinkFault,
-        Bound::OutOfMemory => Served::OutOfMemory,
+        Bound::Failed => DaemonExit::LinkFault,
+        Bound::OutOfMemory => DaemonExit::OutOfMemory,
     }
 }

@@ -6,7 +6,7 @@ use crate::end::ServeEnd;
 
 /// How a daemon ends as a command.
 #[derive(Clone, Copy, PartialEq, Eq, Debug)]
-pub enum Served {
+pub enum DaemonExit {
     /// All turns were taken.
     Done,
     /// The wall clock doesn't lie strictly between -2^31 and 2^31 seconds, and a line says so.
@@ -19,16 +19,16 @@ pub enum Served {
     OutOfMemory,
 }
 
-impl Served {
+impl DaemonExit {
     /// How a daemon ends whose session ended so.
-    pub(crate) fn of(end: ServeEnd) -> Served
+    pub(crate) fn of(end: ServeEnd) -> DaemonExit
         ensures { result ≡ served_of end }
     {
         match end {
-            ServeEnd::Done => Served::Done,
-            ServeEnd::LinkFault => Served::LinkFault,
-            ServeEnd::WriteFault => Served::WriteFault,
-            ServeEnd::OutOfMemory => Served::OutOfMemory,
+            ServeEnd::Done => DaemonExit::Done,
+            ServeEnd::LinkFault => DaemonExit::LinkFault,
+            ServeEnd::WriteFault => DaemonExit::WriteFault,
+            ServeEnd::OutOfMemory => DaemonExit::OutOfMemory,
         }
     }
 }

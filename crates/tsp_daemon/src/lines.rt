@@ -29,7 +29,8 @@ fn tell_line<K: Sink>(sink: &mut K, line: &[u8]) -> Result<(), ServeEnd>
     ensures ok { OnOk result (Grows (K.written sink.old) (K.written sink.new) line.now) }
     ensures err { IfErr result (TellsUntil line.now (K.written sink.old) (K.written sink.new)) }
     ensures later { K.faults sink.old ≤ K.faults sink.new }
-    ensures cause { result ≡ Err ServeEnd.WriteFault → Rose (K.faults sink.old) (K.faults sink.new) }
+    ensures cause { result ≡ Err ServeEnd.WriteFault
+        → Rose (K.faults sink.old) (K.faults sink.new) }
     ensures still { result ≢ Err ServeEnd.WriteFault → K.faults sink.new ≡ K.faults sink.old }
 {
     match write_all(sink, line) {
@@ -50,10 +51,13 @@ pub(crate) fn tell<K: Sink>(
     acts: &[Placed],
 ) -> Result<(), ServeEnd>
     requires few { first + length acts.now < 2 ^ 64 }
-    ensures ok { OnOk result (Grows (K.written sink.old) (K.written sink.new) (lines_of turn tick first acts.now)) }
-    ensures err { IfErr result (TellsUntil (lines_of turn tick first acts.now) (K.written sink.old) (K.written sink.new)) }
+    ensures ok { OnOk result (Grows (K.written sink.old) (K.written sink.new)
+        (lines_of turn tick first acts.now)) }
+    ensures err { IfErr result (TellsUntil (lines_of turn tick first acts.now) (K.written sink.old)
+        (K.written sink.new)) }
     ensures later { K.faults sink.old ≤ K.faults sink.new }
-    ensures cause { result ≡ Err ServeEnd.WriteFault → Rose (K.faults sink.old) (K.faults sink.new) }
+    ensures cause { result ≡ Err ServeEnd.WriteFault
+        → Rose (K.faults sink.old) (K.faults sink.new) }
     ensures still { result ≢ Err ServeEnd.WriteFault → K.faults sink.new ≡ K.faults sink.old }
 {
     let mut number = first;

@@ -9,13 +9,13 @@ ghost use Rattle.tsp_args.specs.Serves.{IsServe};
 ghost use Rattle.tsp_daemon.specs.Nodes.{port_peers, setup_of, may_be, is_strict, config_of, first_past};
 
 use std::alloc::{AllocError, Global};
+use tsp_args::serve::{Candidacy, ServeWords};
 use tsp_base::desk::Desk;
 use tsp_base::pad::Pad;
 use tsp_base::place::PeerId;
 use tsp_gateway::{GateConfig, Gateway};
 use tsp_io::addr::Addr;
 use tsp_node::BootFault;
-use tsp_args::serve::{Candidacy, ServeWords};
 
 /// Why the node doesn't boot.
 #[derive(Clone, Copy, PartialEq, Eq, Debug)]
@@ -50,11 +50,14 @@ fn port_peers(alloc: Global, done: u32, count: u32) -> Result<Vec<PeerId>, Alloc
     Ok(peers)
 }
 
-/// Gives the node one port more, with so many peers behind those of earlier ports. The refusal is want of memory: a
-/// daemon has 4 ports at the most.
+/// Gives the node one port more, with so many peers behind those of earlier ports. Fails only if
+/// out of memory: a daemon has 4 ports at the most.
 fn join(alloc: Global, config: &mut GateConfig, done: u32, count: u32) -> Result<(), AllocError>
     requires { done + count ≤ 999 }
-    ensures { OnOk result (config.new ≡ record config.old { ports = config.old.ports ++ setup_of done count ∷ [] }) }
+    ensures { OnOk result (config.new ≡ record config.old {
+      ports = config.old.ports ++ setup_of
+          done count ∷ [];
+    }) }
 {
     let peers = port_peers(alloc, done, count)?;
     match config.port(PeerId(0), peers.as_slice()) {
@@ -112,7 +115,8 @@ pub(crate) fn boot(
 ) -> Result<Gateway, Unbooted>
     requires serve { IsServe words.now }
     requires tick { IsTick tick }
-    ensures stands { IfOk result (λ node. GatewayStands (first_past words.now tick wall word) node) }
+    ensures stands { IfOk result (λ node. GatewayStands (first_past words.now tick wall word)
+        node) }
     ensures room { IfOk result (λ node. room_of_ports (ports_in node) ≤ 24 * 1003 + 4 * 256) }
     ensures clock { IfOk result (λ node. clock_at node ≡ tick) }
     ensures wall { IfOk result (λ node. is_clock_value wall ≡ true) }

@@ -9,14 +9,17 @@ use tsp_base::act::{Act, Placed};
 use tsp_codec::encode;
 use tsp_io::link::{Link, Sent};
 
-/// Tries the send of one act, if it posts; a datagram that is lost isn't an error. The refusal is want of memory:
-/// then the send wasn't tried.
+/// Tries the send of one act, if it posts; a datagram that is lost isn't an error. Fails only if
+/// out of memory: then the send wasn't tried.
 fn send_one<L: Link>(link: &mut L, act: &Act) -> Result<(), AllocError>
     requires known { IsKnown (L.stranger link.old) act.now }
     ensures ok { OnOk result (TriesAll (send_of act.now) (L.tried link.old) (L.tried link.new)) }
     ensures err { OnErr result (L.tried link.new ≡ L.tried link.old) }
-    ensures same { (L.arrivals link.new ≡ L.arrivals link.old) × (L.calls link.new ≡ L.calls link.old) × (L.stranger link.new ≡ L.stranger link.old) }
-    ensures later { (L.faults link.new ≡ L.faults link.old) × (L.send_faults link.old ≤ L.send_faults link.new) }
+    ensures same { (L.arrivals link.new ≡ L.arrivals link.old)
+        × (L.calls link.new ≡ L.calls link.old) × (L.stranger link.new ≡ L.stranger link.old)
+        × (L.binds link.new ≡ L.binds link.old) × (L.waits link.new ≡ L.waits link.old) }
+    ensures later { (L.faults link.new ≡ L.faults link.old)
+        × (L.send_faults link.old ≤ L.send_faults link.new) }
 {
     match act {
         Act::Post(to, datagram) => match link.send(*to, encode(datagram).as_slice()) {
@@ -28,14 +31,18 @@ fn send_one<L: Link>(link: &mut L, act: &Act) -> Result<(), AllocError>
     }
 }
 
-/// Tries a send for each act that posts, in order. The refusal is want of memory: then some of the sends were tried,
-/// from the first on.
+/// Tries a send for each act that posts, in order. Fails only if out of memory: then some of the
+/// sends were tried, from the first on.
 pub(crate) fn send_all<L: Link>(link: &mut L, acts: &[Placed]) -> Result<(), AllocError>
     requires known { AreKnown (L.stranger link.old) acts.now }
     ensures ok { OnOk result (TriesAll (sends_of acts.now) (L.tried link.old) (L.tried link.new)) }
-    ensures err { OnErr result (TriesSome (sends_of acts.now) (L.tried link.old) (L.tried link.new)) }
-    ensures same { (L.arrivals link.new ≡ L.arrivals link.old) × (L.calls link.new ≡ L.calls link.old) × (L.stranger link.new ≡ L.stranger link.old) }
-    ensures later { (L.faults link.new ≡ L.faults link.old) × (L.send_faults link.old ≤ L.send_faults link.new) }
+    ensures err { OnErr result (TriesSome (sends_of acts.now) (L.tried link.old)
+        (L.tried link.new)) }
+    ensures same { (L.arrivals link.new ≡ L.arrivals link.old)
+        × (L.calls link.new ≡ L.calls link.old) × (L.stranger link.new ≡ L.stranger link.old)
+        × (L.binds link.new ≡ L.binds link.old) × (L.waits link.new ≡ L.waits link.old) }
+    ensures later { (L.faults link.new ≡ L.faults link.old)
+        × (L.send_faults link.old ≤ L.send_faults link.new) }
 {
     for placed in acts {
         send_one(link, &placed.act)?;

@@ -1,12 +1,13 @@
 //! The daemon's session.
-ghost use Rattle.std.specs.Prelude.{◌≡◌, ◌≢◌, ◌≤◌, ◌<◌, ◌*◌, ◌^◌};
+ghost use Rattle.std.specs.Prelude.{◌≡◌, ◌≢◌, ◌≤◌, ◌<◌, ◌*◌, ◌^◌, ℕ};
 ghost use Rattle.tsp_io.specs.Counts.{Rose};
 ghost use Rattle.tsp_gateway.specs.GatewayStands.{clock_at};
 ghost use Rattle.tsp_gateway.specs.Rooms.{ports_in, room_of_ports};
-ghost use Rattle.tsp_daemon.specs.Ends.{IsAt, Lives, Serves};
+ghost use Rattle.tsp_daemon.specs.Ends.{IsAt, IsReceived, Lives, Serves};
 ghost use Rattle.tsp_daemon.specs.Sessions.{Session};
+ghost use Rattle.tsp_daemon.specs.Waits.{NotesWaits};
 
-use crate::course::Course;
+use crate::counters::Counters;
 use crate::end::ServeEnd;
 use crate::turn::turn;
 use std::alloc::Global;
@@ -18,16 +19,18 @@ use tsp_io::ticker::Ticker;
 
 /// Runs a node over a link for so many turns; the node ends with the call.
 ///
-/// Each turn reads the ticker, receives, reads the ticker again, and lets the node step with the datagram that came, or
-/// with none. A peer's datagram comes on the lowest port that has the peer as another's number, and a stranger's on
-/// port 0. The turn tries one send for each datagram that the step posts, in order; one that fails is a lost datagram.
-/// Where the trace was on before the step or is on after it, the lines of its acts are written then: the turn's number
-/// from 1 stands for the event, the node has number 0, each act its port, and datagrams are numbered from 0 over all
-/// turns. So they reach the sink before the next receive.
+/// Each turn reads the ticker, receives, reads the ticker again, and lets the node step with the
+/// datagram that came, or with none. A peer's datagram comes on the lowest port that has the peer
+/// as another's number, and a stranger's on port 0. The turn tries one send for each datagram that
+/// the step posts, in order; one that fails is a lost datagram. Where the trace was on before the
+/// step or is on after it, the lines of its acts are written then: the turn's number from 1 stands
+/// for the event, the node has number 0, each act its port, and datagrams are numbered from 0 over
+/// all turns. So they reach the sink before the next receive.
 ///
-/// `LinkFault` comes only where a receive failed, and its count rose; `WriteFault` only where a write failed, and the
-/// sink's count rose. The node is one that stands for a past, as each does that `Gateway::boot` gave, and the turns are few
-/// enough that the numbers of their datagrams fit 64 bits.
+/// `LinkFault` comes only where a receive failed, and its count rose; `WriteFault` only where a
+/// write failed, and the sink's count rose. The node is one that stands for a past, as each does
+/// that `Gateway::boot` gave, and the turns are few enough that the numbers of their datagrams fit
+/// 64 bits.
 pub fn serve<K: Sink, L: Link, T: Ticker>(
     alloc: Global,
     mut gateway: Gateway,
@@ -39,15 +42,28 @@ pub fn serve<K: Sink, L: Link, T: Ticker>(
     requires lives { Lives gateway }
     requires later { clock_at gateway ≤ T.last ticker.old }
     requires few { turns * room_of_ports (ports_in gateway) < 2 ^ 64 }
-    ensures serves { (s : Session) → IsAt s gateway (record { turns = 0; posts = 0 }) (L.arrivals link.old) (L.tried link.old) (L.calls link.old) (T.readings ticker.old) (T.last ticker.old) (K.written sink.old) →
-        Serves turns s (L.arrivals link.new) (L.tried link.new) (L.calls link.new) (T.readings ticker.new) (T.last ticker.new) (K.written sink.new) result }
-    ensures later { (L.faults link.old ≤ L.faults link.new) × (L.send_faults link.old ≤ L.send_faults link.new) × (K.faults sink.old ≤ K.faults sink.new) × (T.last ticker.old ≤ T.last ticker.new) }
+    ensures serves { (s : Session)
+        → IsAt s gateway (record { turns = 0; posts = 0 }) (L.arrivals link.old) (L.tried link.old)
+        (L.calls link.old) (T.readings ticker.old) (T.last ticker.old) (K.written sink.old)
+        → Serves turns s (L.arrivals link.new) (L.tried link.new) (L.calls link.new)
+        (T.readings ticker.new) (T.last ticker.new) (K.written sink.new) result }
+    ensures waits { (s : Session)
+        → IsAt s gateway (record { turns = 0; posts = 0 }) (L.arrivals link.old) (L.tried link.old)
+        (L.calls link.old) (T.readings ticker.old) (T.last ticker.old) (K.written sink.old)
+        → (received : ℕ) × IsReceived turns received result
+        × NotesWaits s received (L.waits link.old) (L.waits link.new) }
+    ensures same { (L.binds link.new ≡ L.binds link.old)
+        × (T.left_at_wall ticker.new ≡ T.left_at_wall ticker.old) }
+    ensures later { (L.faults link.old ≤ L.faults link.new)
+        × (L.send_faults link.old ≤ L.send_faults link.new)
+        × (K.faults sink.old ≤ K.faults sink.new) × (T.last ticker.old ≤ T.last ticker.new) }
     ensures link { result ≡ ServeEnd.LinkFault → Rose (L.faults link.old) (L.faults link.new) }
     ensures write { result ≡ ServeEnd.WriteFault → Rose (K.faults sink.old) (K.faults sink.new) }
-    ensures still { (result ≢ ServeEnd.LinkFault → L.faults link.new ≡ L.faults link.old) × (result ≢ ServeEnd.WriteFault → K.faults sink.new ≡ K.faults sink.old) }
+    ensures still { (result ≢ ServeEnd.LinkFault → L.faults link.new ≡ L.faults link.old)
+        × (result ≢ ServeEnd.WriteFault → K.faults sink.new ≡ K.faults sink.old) }
 {
     let mut pad = Pad::new(alloc);
-    let mut course = Course { turns: 0, posts: 0 };
+    let mut course = Counters { turns: 0, posts: 0 };
     for _ in 0..turns {
         if let Err(end) = turn(&mut gateway, &mut pad, &mut course, sink, link, ticker) {
             return end;

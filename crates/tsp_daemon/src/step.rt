@@ -45,7 +45,9 @@ pub(crate) fn step(node: &mut Gateway, tick: u64, received: Recv, octets: &[u8],
     requires room { room_of_ports (ports_in node.old) ≤ spare_of pad.old }
     requires idle { acts_of pad.old ≡ [] }
     requires count { IsCount received (length octets.now) }
-    ensures row { PerformsAll GatewayBegun GatewayStands (answers_all (given_by (setups_in node.old) received octets.now)) tick node.old node.new [] (acts_of pad.new) }
+    ensures row { PerformsAll GatewayBegun GatewayStands
+        (answers_all (given_by (setups_in node.old) received octets.now)) tick node.old node.new []
+        (acts_of pad.new) }
     ensures ports { ports_in node.new ≡ ports_in node.old }
     ensures clock { clock_at node.new ≤ tick }
     ensures few { length (acts_of pad.new) ≤ room_of_ports (ports_in node.old) }

@@ -7,8 +7,9 @@ ghost use Rattle.tsp_gateway.specs.Rooms.{ports_in, room_of_ports};
 ghost use Rattle.tsp_daemon.specs.Ends.{IsAt, Lives, EndsTurn, FinishesUntil, TriesAll};
 ghost use Rattle.tsp_daemon.specs.Posts.{AreKnown, sends_of, shown_lines};
 ghost use Rattle.tsp_daemon.specs.Sessions.{Session, turned};
+ghost use Rattle.tsp_daemon.specs.Waits.{NotesTurn};
 
-use crate::course::Course;
+use crate::counters::Counters;
 use crate::end::ServeEnd;
 use crate::lines::{is_shown, tell};
 use crate::sends::{posts_in, send_all};
@@ -24,7 +25,7 @@ use tsp_io::ticker::Ticker;
 /// Tries the sends of the acts of a turn, and then writes their lines where they are to be shown.
 fn finish<K: Sink, L: Link>(
     shown: bool,
-    course: &Course,
+    course: &Counters,
     tick: u64,
     acts: &[Placed],
     sink: &mut K,
@@ -34,11 +35,19 @@ fn finish<K: Sink, L: Link>(
     requires few { course.now.posts + length acts.now < 2 ^ 64 }
     requires turns { course.now.turns + 1 < 2 ^ 64 }
     ensures ok { OnOk result (TriesAll (sends_of acts.now) (L.tried link.old) (L.tried link.new)
-        × Grows (K.written sink.old) (K.written sink.new) (shown_lines shown (course.now.turns + 1) tick course.now.posts acts.now)) }
-    ensures err { IfErr result (FinishesUntil (sends_of acts.now) (shown_lines shown (course.now.turns + 1) tick course.now.posts acts.now) (L.tried link.old) (L.tried link.new) (K.written sink.old) (K.written sink.new)) }
-    ensures same { (L.arrivals link.new ≡ L.arrivals link.old) × (L.calls link.new ≡ L.calls link.old) }
-    ensures later { (L.faults link.new ≡ L.faults link.old) × (L.send_faults link.old ≤ L.send_faults link.new) × (K.faults sink.old ≤ K.faults sink.new) }
-    ensures cause { result ≡ Err ServeEnd.WriteFault → Rose (K.faults sink.old) (K.faults sink.new) }
+        × Grows (K.written sink.old) (K.written sink.new) (shown_lines shown (course.now.turns + 1)
+        tick course.now.posts acts.now)) }
+    ensures err { IfErr result (FinishesUntil (sends_of acts.now)
+        (shown_lines shown (course.now.turns + 1) tick course.now.posts acts.now) (L.tried link.old)
+        (L.tried link.new) (K.written sink.old) (K.written sink.new)) }
+    ensures same { (L.arrivals link.new ≡ L.arrivals link.old)
+        × (L.calls link.new ≡ L.calls link.old) × (L.binds link.new ≡ L.binds link.old)
+        × (L.waits link.new ≡ L.waits link.old) }
+    ensures later { (L.faults link.new ≡ L.faults link.old)
+        × (L.send_faults link.old ≤ L.send_faults link.new)
+        × (K.faults sink.old ≤ K.faults sink.new) }
+    ensures cause { result ≡ Err ServeEnd.WriteFault
+        → Rose (K.faults sink.old) (K.faults sink.new) }
     ensures still { result ≢ Err ServeEnd.WriteFault → K.faults sink.new ≡ K.faults sink.old }
 {
     if send_all(link, acts).is_err() {
@@ -50,11 +59,12 @@ fn finish<K: Sink, L: Link>(
     Ok(())
 }
 
-/// A turn: a reading, an arrival or nothing, a reading, the node's step, its sends, and the lines of a traced step.
+/// A turn: a reading, an arrival or nothing, a reading, the node's step, its sends, and the lines
+/// of a traced step.
 pub(crate) fn turn<K: Sink, L: Link, T: Ticker>(
     node: &mut Gateway,
     pad: &mut Pad,
-    course: &mut Course,
+    course: &mut Counters,
     sink: &mut K,
     link: &mut L,
     ticker: &mut T,
@@ -63,17 +73,32 @@ pub(crate) fn turn<K: Sink, L: Link, T: Ticker>(
     requires later { clock_at node.old ≤ T.last ticker.old }
     requires few { course.old.posts + room_of_ports (ports_in node.old) < 2 ^ 64 }
     requires turns { course.old.turns + 1 < 2 ^ 64 }
-    ensures turns { (s : Session) → IsAt s node.old course.old (L.arrivals link.old) (L.tried link.old) (L.calls link.old) (T.readings ticker.old) (T.last ticker.old) (K.written sink.old) → MatchResult result
-        (λ _. IsAt (turned s) node.new course.new (L.arrivals link.new) (L.tried link.new) (L.calls link.new) (T.readings ticker.new) (T.last ticker.new) (K.written sink.new))
-        (EndsTurn s (L.arrivals link.new) (L.tried link.new) (L.calls link.new) (T.readings ticker.new) (T.last ticker.new) (K.written sink.new)) }
+    ensures turns { (s : Session)
+        → IsAt s node.old course.old (L.arrivals link.old) (L.tried link.old) (L.calls link.old)
+        (T.readings ticker.old) (T.last ticker.old) (K.written sink.old)
+        → MatchResult result (λ _. IsAt (turned s) node.new course.new (L.arrivals link.new)
+        (L.tried link.new) (L.calls link.new) (T.readings ticker.new) (T.last ticker.new)
+        (K.written sink.new)) (EndsTurn s (L.arrivals link.new) (L.tried link.new)
+        (L.calls link.new) (T.readings ticker.new) (T.last ticker.new) (K.written sink.new)) }
+    ensures waits { (s : Session)
+        → IsAt s node.old course.old (L.arrivals link.old) (L.tried link.old) (L.calls link.old)
+        (T.readings ticker.old) (T.last ticker.old) (K.written sink.old)
+        → NotesTurn s (L.waits link.old) (L.waits link.new) result }
+    ensures same { (L.binds link.new ≡ L.binds link.old)
+        × (T.left_at_wall ticker.new ≡ T.left_at_wall ticker.old) }
     ensures lives { OnOk result (Lives node.new) }
     ensures clock { OnOk result (clock_at node.new ≤ T.last ticker.new) }
-    ensures counts { OnOk result ((course.new.turns ≡ course.old.turns + 1) × (course.new.posts ≤ course.old.posts + room_of_ports (ports_in node.old))) }
+    ensures counts { OnOk result ((course.new.turns ≡ course.old.turns + 1)
+        × (course.new.posts ≤ course.old.posts + room_of_ports (ports_in node.old))) }
     ensures ports { OnOk result (ports_in node.new ≡ ports_in node.old) }
-    ensures later { (L.faults link.old ≤ L.faults link.new) × (L.send_faults link.old ≤ L.send_faults link.new) × (K.faults sink.old ≤ K.faults sink.new) × (T.last ticker.old ≤ T.last ticker.new) }
+    ensures later { (L.faults link.old ≤ L.faults link.new)
+        × (L.send_faults link.old ≤ L.send_faults link.new)
+        × (K.faults sink.old ≤ K.faults sink.new) × (T.last ticker.old ≤ T.last ticker.new) }
     ensures link { result ≡ Err ServeEnd.LinkFault → Rose (L.faults link.old) (L.faults link.new) }
-    ensures write { result ≡ Err ServeEnd.WriteFault → Rose (K.faults sink.old) (K.faults sink.new) }
-    ensures still { (result ≢ Err ServeEnd.LinkFault → L.faults link.new ≡ L.faults link.old) × (result ≢ Err ServeEnd.WriteFault → K.faults sink.new ≡ K.faults sink.old) }
+    ensures write { result ≡ Err ServeEnd.WriteFault
+        → Rose (K.faults sink.old) (K.faults sink.new) }
+    ensures still { (result ≢ Err ServeEnd.LinkFault → L.faults link.new ≡ L.faults link.old)
+        × (result ≢ Err ServeEnd.WriteFault → K.faults sink.new ≡ K.faults sink.old) }
 {
     if make_room(pad, node.room()).is_err() {
         return Err(ServeEnd::OutOfMemory);

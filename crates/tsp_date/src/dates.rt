@@ -1,5 +1,6 @@
 //! What a port remembers of dates.
-ghost use Rattle.std.specs.Prelude.{◌≡◌, ℕ, ◌==◌, true, None, Some, [], ◌∷◌, if◌then◌else◌, length, map, position, slice_set, IfOk};
+ghost use Rattle.std.specs.Prelude.{◌≡◌, ℕ, ◌==◌, true, None, Some, [], ◌∷◌, if◌then◌else◌, length};
+ghost use Rattle.std.specs.Prelude.{map, position, slice_set, IfOk};
 ghost use Rattle.tsp_base.specs.declared.act.Act.TheVariants.{Boot};
 ghost use Rattle.tsp_base.specs.declared.constants.TheConstants.{REUSE};
 ghost use Rattle.tsp_base.specs.declared.place.PeerId.{PeerId};
@@ -77,7 +78,8 @@ impl Dates {
     /// Fails only where memory is refused; no later call takes any.
     pub fn new(alloc: Global, peers: &[PeerId]) -> Result<Dates, AllocError>
         ensures peers { IfOk result (λ d. peers_of d.dated ≡ peers.now) }
-        ensures stands { IfOk result (λ d. (x : ℕ) (past : Past) → past.peers ≡ peers.now → DatesStand (grown x past (Boot ∷ [])) d) }
+        ensures stands { IfOk result (λ d. (x : ℕ) (past : Past) → past.peers ≡ peers.now
+            → DatesStand (grown x past (Boot ∷ [])) d) }
     {
         let dated = idle_peers(alloc, peers)?;
         Ok(Dates { dated, asked: None })
@@ -106,7 +108,9 @@ impl Dates {
     /// Notes that a peer's date was set at a tick, under this number.
     pub(crate) fn set(&mut self, peer: PeerId, tick: u64, number: u16)
         requires { is_among peer (peers_of self.old.dated) ≡ true }
-        ensures last { (q : PeerId) → last_in self.new.dated q ≡ (if peer.0 == q.0 then Some (record { at = tick; number = number }) else last_in self.old.dated q) }
+        ensures last { (q : PeerId)
+            → last_in self.new.dated q ≡ (if peer.0 == q.0 then Some
+            (record { at = tick; number = number }) else last_in self.old.dated q) }
         ensures peers { peers_of self.new.dated ≡ peers_of self.old.dated }
         ensures asked { self.new.asked ≡ self.old.asked }
     {

@@ -40,9 +40,13 @@ pub(crate) fn pass_on<D: Desk>(
     requires tick { IsTick tick }
     requires room { 2 ≤ D.spare desk.old }
     requires peer { Contains station.old.peers master }
-    ensures row { (m : Master) (last : LastValue) (clock : ClockValue) (r : Received) → Performs DateStands DateStands (passes_on from master number time) tick port
-        (dates.old, (m, (station.old, (last, (clock, Some r))))) (dates.new, (m, (station.new, (last, (clock, Some r))))) (D.acts desk.old) (D.acts desk.new) }
-    ensures room { PutsAtMost 2 (D.spare desk.old) (D.spare desk.new) (D.acts desk.old) (D.acts desk.new) }
+    ensures row { (m : Master) (last : LastValue) (clock : ClockValue) (r : Received)
+        → Performs DateStands DateStands (passes_on from master number time) tick port
+        (dates.old, (m, (station.old, (last, (clock, Some r)))))
+        (dates.new, (m, (station.new, (last, (clock, Some r))))) (D.acts desk.old)
+        (D.acts desk.new) }
+    ensures room { PutsAtMost 2 (D.spare desk.old) (D.spare desk.new) (D.acts desk.old)
+        (D.acts desk.new) }
     ensures port { IsSamePort station.old station.new }
     ensures role { station.new.role ≡ station.old.role }
     ensures peers { peers_of dates.new.dated ≡ peers_of dates.old.dated }
@@ -56,7 +60,8 @@ pub(crate) fn pass_on<D: Desk>(
 
 /// Whether the port began to pass no date on for `REUSE` ticks, and no send to its master is open.
 fn may_pass_on(station: &Station, dates: &Dates, master: PeerId, tick: u64) -> bool
-    ensures { (past : Past) → Stands past station.now → DatesStand past dates.now → may_pass_on master tick past ≡ result }
+    ensures { (past : Past) → Stands past station.now → DatesStand past dates.now
+        → may_pass_on master tick past ≡ result }
 {
     dates.is_rested(tick) && station.sends.kind(master).is_none()
 }
@@ -70,9 +75,14 @@ pub(crate) fn hear_end<D: Desk>(
     desk: &mut D,
 )
     requires room { 1 ≤ D.spare desk.old }
-    ensures row { (x : ℕ) (dates : DatesValue) (master : Master) (last : LastValue) (clock : ClockValue) (r : Received) → Performs DateStands DateStands (from_peer from (date_acked m.now)) x port
-        (dates, (master, (station.old, (last, (clock, Some r))))) (dates, (master, (station.new, (last, (clock, Some r))))) (D.acts desk.old) (D.acts desk.new) }
-    ensures room { PutsAtMost 1 (D.spare desk.old) (D.spare desk.new) (D.acts desk.old) (D.acts desk.new) }
+    ensures row { (x : ℕ) (dates : DatesValue) (master : Master) (last : LastValue)
+        (clock : ClockValue) (r : Received)
+        → Performs DateStands DateStands (from_peer from (date_acked m.now)) x port
+        (dates, (master, (station.old, (last, (clock, Some r)))))
+        (dates, (master, (station.new, (last, (clock, Some r))))) (D.acts desk.old)
+        (D.acts desk.new) }
+    ensures room { PutsAtMost 1 (D.spare desk.old) (D.spare desk.new) (D.acts desk.old)
+        (D.acts desk.new) }
     ensures port { IsSamePort station.old station.new }
     ensures role { station.new.role ≡ station.old.role }
 {
@@ -89,9 +99,14 @@ pub(crate) fn hear_end<D: Desk>(
 /// Ends the send that passed a date on to a peer, where this number is its.
 fn end<D: Desk>(station: &mut Station, from: PeerId, m: &Message, port: Port, desk: &mut D)
     requires room { 1 ≤ D.spare desk.old }
-    ensures row { (x : ℕ) (dates : DatesValue) (master : Master) (last : LastValue) (clock : ClockValue) (r : Received) → Performs DateStands DateStands (date_acked m.now from) x port
-        (dates, (master, (station.old, (last, (clock, Some r))))) (dates, (master, (station.new, (last, (clock, Some r))))) (D.acts desk.old) (D.acts desk.new) }
-    ensures room { PutsAtMost 1 (D.spare desk.old) (D.spare desk.new) (D.acts desk.old) (D.acts desk.new) }
+    ensures row { (x : ℕ) (dates : DatesValue) (master : Master) (last : LastValue)
+        (clock : ClockValue) (r : Received)
+        → Performs DateStands DateStands (date_acked m.now from) x port
+        (dates, (master, (station.old, (last, (clock, Some r)))))
+        (dates, (master, (station.new, (last, (clock, Some r))))) (D.acts desk.old)
+        (D.acts desk.new) }
+    ensures room { PutsAtMost 1 (D.spare desk.old) (D.spare desk.new) (D.acts desk.old)
+        (D.acts desk.new) }
     ensures port { IsSamePort station.old station.new }
     ensures role { station.new.role ≡ station.old.role }
 {

@@ -34,9 +34,10 @@ use tsp_base::place::{Place, Port};
 use tsp_clock::clock::{Clock, is_clock_value};
 use tsp_master::master::Master;
 
-/// Sets the date, where a master may set it now, and tells whether it did: the clock is set, the sender is
-/// answered, and each slave leaves and hears that it has to report anew. `corrected` is the tick of the node's
-/// last Correct since its boot. At most twice as many acts as there are peers, and two.
+/// Sets the date, where a master may set it now, and tells whether it did: the clock is set, the
+/// sender is answered, and each slave leaves and hears that it has to report anew. `corrected` is
+/// the tick of the node's last Correct since its boot. At most twice as many acts as there are
+/// peers, and two.
 pub(crate) fn set_date<D: Desk>(
     station: &Station,
     master: &mut Master,
@@ -56,11 +57,18 @@ pub(crate) fn set_date<D: Desk>(
     requires same { slave_peers_of master.old.slaves ≡ station.now.peers }
     requires dates { peers_of dates.old.dated ≡ station.now.peers }
     requires kind { sets_date m.now.kind ≡ true }
-    requires asker { (p : PeerId) → from ≡ Peer p → is_date_request m.now.kind ≡ true → is_among p station.now.peers ≡ true }
-    ensures row { (last : LastValue) (took : Option Received) → last.tick ≡ corrected → took ≡ Some (record { from = from; taken = Good (MessageOf m.now) }) → Performs DateStands DateStands (sets_date_where from m.now.number time) tick port
-        (dates.old, (master.old, (station.now, (last, (clock.old, took))))) (dates.new, (master.new, (station.now, (moved_where result tick last, (clock.new, took))))) (D.acts desk.old) (D.acts desk.new) }
-    ensures sets { (past : Past) → MasterStands past master.old → correct_tick (plain past.seen) ≡ corrected → may_date time tick past ≡ result }
-    ensures room { PutsAtMost (2 * length station.now.peers + 2) (D.spare desk.old) (D.spare desk.new) (D.acts desk.old) (D.acts desk.new) }
+    requires asker { (p : PeerId) → from ≡ Peer p → is_date_request m.now.kind ≡ true
+        → is_among p station.now.peers ≡ true }
+    ensures row { (last : LastValue) (took : Option Received) → last.tick ≡ corrected
+        → took ≡ Some (record { from = from; taken = Good (MessageOf m.now) })
+        → Performs DateStands DateStands (sets_date_where from m.now.number time) tick port
+        (dates.old, (master.old, (station.now, (last, (clock.old, took)))))
+        (dates.new, (master.new, (station.now, (moved_where result tick last, (clock.new, took)))))
+        (D.acts desk.old) (D.acts desk.new) }
+    ensures sets { (past : Past) → MasterStands past master.old
+        → correct_tick (plain past.seen) ≡ corrected → may_date time tick past ≡ result }
+    ensures room { PutsAtMost (2 * length station.now.peers + 2) (D.spare desk.old)
+        (D.spare desk.new) (D.acts desk.old) (D.acts desk.new) }
     ensures slaves { slave_peers_of master.new.slaves ≡ slave_peers_of master.old.slaves }
     ensures peers { peers_of dates.new.dated ≡ peers_of dates.old.dated }
     ensures clock { clock.new.at ≤ tick }
@@ -78,7 +86,8 @@ pub(crate) fn set_date<D: Desk>(
 /// Whether a master may set this date now: the node's last Correct isn't too near, the clock stays in its
 /// range, and to no slave a correction is on its way that it hasn't acknowledged.
 fn may_date(master: &Master, corrected: Option<u64>, time: Micros, tick: u64) -> bool
-    ensures test { (past : Past) → MasterStands past master.now → correct_tick (plain past.seen) ≡ corrected → may_date time tick past ≡ result }
+    ensures test { (past : Past) → MasterStands past master.now
+        → correct_tick (plain past.seen) ≡ corrected → may_date time tick past ≡ result }
     ensures range { result ≡ true → is_clock_value time ≡ true }
 {
     is_past(corrected, GAP, tick) && (is_clock_value(time.get()) && master.settled(tick))
@@ -100,10 +109,16 @@ fn correct<D: Desk>(
     requires range { is_clock_value time ≡ true }
     requires room { 1 ≤ D.spare desk.old }
     requires kind { sets_date m.now.kind ≡ true }
-    requires asker { (p : PeerId) → from ≡ Peer p → is_date_request m.now.kind ≡ true → is_among p (peers_of dates.old.dated) ≡ true }
-    ensures row { (master : Master) (station : Station) (last : LastValue) (took : Option Received) → took ≡ Some (record { from = from; taken = Good (MessageOf m.now) }) → Performs DateStands DateStands (sets time) tick port
-        (dates.old, (master, (station, (last, (clock.old, took))))) (dates.new, (master, (station, (moved_where true tick last, (clock.new, took))))) (D.acts desk.old) (D.acts desk.new) }
-    ensures room { PutsAtMost 1 (D.spare desk.old) (D.spare desk.new) (D.acts desk.old) (D.acts desk.new) }
+    requires asker { (p : PeerId) → from ≡ Peer p → is_date_request m.now.kind ≡ true
+        → is_among p (peers_of dates.old.dated) ≡ true }
+    ensures row { (master : Master) (station : Station) (last : LastValue) (took : Option Received)
+        → took ≡ Some (record { from = from; taken = Good (MessageOf m.now) })
+        → Performs DateStands DateStands (sets time) tick port
+        (dates.old, (master, (station, (last, (clock.old, took)))))
+        (dates.new, (master, (station, (moved_where true tick last, (clock.new, took)))))
+        (D.acts desk.old) (D.acts desk.new) }
+    ensures room { PutsAtMost 1 (D.spare desk.old) (D.spare desk.new) (D.acts desk.old)
+        (D.acts desk.new) }
     ensures peers { peers_of dates.new.dated ≡ peers_of dates.old.dated }
     ensures clock { clock.new.at ≤ tick }
 {
@@ -113,8 +128,11 @@ fn correct<D: Desk>(
 
 /// Notes a date that was set, where a peer passed it on.
 fn note(dates: &mut Dates, tick: u64, from: Place, m: &Message)
-    requires asker { (p : PeerId) → from ≡ Peer p → is_date_request m.now.kind ≡ true → is_among p (peers_of dates.old.dated) ≡ true }
-    ensures last { (q : PeerId) → last_in dates.new.dated q ≡ dating_of q tick (said_by from (Some m.now)) (last_in dates.old.dated q) }
+    requires asker { (p : PeerId) → from ≡ Peer p → is_date_request m.now.kind ≡ true
+        → is_among p (peers_of dates.old.dated) ≡ true }
+    ensures last { (q : PeerId)
+        → last_in dates.new.dated q ≡ dating_of q tick (said_by from (Some m.now))
+        (last_in dates.old.dated q) }
     ensures peers { peers_of dates.new.dated ≡ peers_of dates.old.dated }
     ensures asked { dates.new.asked ≡ dates.old.asked }
 {
@@ -139,8 +157,10 @@ fn is_date_request(kind: Kind) -> bool
 fn dismiss<D: Desk>(station: &Station, master: &mut Master, port: Port, desk: &mut D)
     requires room { length station.now.peers ≤ D.spare desk.old }
     requires same { slave_peers_of master.old.slaves ≡ station.now.peers }
-    ensures row { (x : ℕ) → Performs MasterStands MasterStands leaves_all x port master.old master.new (D.acts desk.old) (D.acts desk.new) }
-    ensures room { PutsAtMost (length station.now.peers) (D.spare desk.old) (D.spare desk.new) (D.acts desk.old) (D.acts desk.new) }
+    ensures row { (x : ℕ) → Performs MasterStands MasterStands leaves_all x port master.old
+        master.new (D.acts desk.old) (D.acts desk.new) }
+    ensures room { PutsAtMost (length station.now.peers) (D.spare desk.old) (D.spare desk.new)
+        (D.acts desk.old) (D.acts desk.new) }
     ensures slaves { slave_peers_of master.new.slaves ≡ slave_peers_of master.old.slaves }
 {
     for p in station.peers() {

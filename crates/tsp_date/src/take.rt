@@ -37,11 +37,11 @@ use tsp_base::role::Role;
 use tsp_clock::clock::Clock;
 use tsp_master::master::Master;
 
-/// Handles a message that sets the date, passes one on or says that one was set, and tells whether the clock
-/// was corrected; `charge` is whether the port is in charge of its node's date, and `corrected` the tick of
-/// the node's last Correct since its boot. In this step the message was taken, not as from the port itself.
-/// The rounds that go on are for the caller to give up after a Correct. At most twice as many acts as there are
-/// peers, and two.
+/// Handles a message that sets the date, passes one on or says that one was set, and tells whether
+/// the clock was corrected; `charge` is whether the port is in charge of its node's date, and
+/// `corrected` the tick of the node's last Correct since its boot. In this step the message was
+/// taken, not as from the port itself. The rounds that go on are for the caller to give up after a
+/// Correct. At most twice as many acts as there are peers, and two.
 pub fn date_take<D: Desk>(
     station: &mut Station,
     master: &mut Master,
@@ -62,10 +62,18 @@ pub fn date_take<D: Desk>(
     requires dates { peers_of dates.old.dated ≡ station.old.peers }
     requires followed { (q : PeerId) → station.old.role ≡ Follow q → Contains station.old.peers q }
     requires kind { is_of_dates m.now.kind ≡ true }
-    ensures row { (last : LastValue) (took : Option Received) → last.tick ≡ corrected → took ≡ Some (record { from = from; taken = Good (MessageOf m.now) }) → Performs DateStands DateStands (handles_kind charge from m.now m.now.kind) tick port
-        (dates.old, (master.old, (station.old, (last, (clock.old, took))))) (dates.new, (master.new, (station.new, (moved_where result tick last, (clock.new, took))))) (D.acts desk.old) (D.acts desk.new) }
-    ensures corrects { (past : Past) (last : LastValue) (took : Option Received) → last.tick ≡ corrected → DateStands past (dates.old, (master.old, (station.old, (last, (clock.old, took))))) → result ≡ corrects (handles_kind charge from m.now m.now.kind tick past) }
-    ensures room { PutsAtMost (2 * length station.old.peers + 2) (D.spare desk.old) (D.spare desk.new) (D.acts desk.old) (D.acts desk.new) }
+    ensures row { (last : LastValue) (took : Option Received) → last.tick ≡ corrected
+        → took ≡ Some (record { from = from; taken = Good (MessageOf m.now) })
+        → Performs DateStands DateStands (handles_kind charge from m.now m.now.kind) tick port
+        (dates.old, (master.old, (station.old, (last, (clock.old, took)))))
+        (dates.new, (master.new, (station.new, (moved_where result tick last, (clock.new, took)))))
+        (D.acts desk.old) (D.acts desk.new) }
+    ensures corrects { (past : Past) (last : LastValue) (took : Option Received)
+        → last.tick ≡ corrected
+        → DateStands past (dates.old, (master.old, (station.old, (last, (clock.old, took)))))
+        → result ≡ corrects (handles_kind charge from m.now m.now.kind tick past) }
+    ensures room { PutsAtMost (2 * length station.old.peers + 2) (D.spare desk.old)
+        (D.spare desk.new) (D.acts desk.old) (D.acts desk.new) }
     ensures port { IsSamePort station.old station.new }
     ensures role { station.new.role ≡ station.old.role }
     ensures slaves { slave_peers_of master.new.slaves ≡ slave_peers_of master.old.slaves }
@@ -117,10 +125,20 @@ fn take_date<D: Desk>(
     requires followed { (q : PeerId) → station.old.role ≡ Follow q → Contains station.old.peers q }
     requires kind { sets_date m.now.kind ≡ true }
     requires client { is_date_request m.now.kind ≡ false }
-    ensures row { (last : LastValue) (took : Option Received) → last.tick ≡ corrected → took ≡ Some (record { from = from; taken = Good (MessageOf m.now) }) → Performs DateStands DateStands (reading role_at (date_in from m.now.number (time_in m.now.body))) tick port
-        (dates.old, (master.old, (station.old, (last, (clock.old, took))))) (dates.new, (master.new, (station.new, (moved_where result tick last, (clock.new, took))))) (D.acts desk.old) (D.acts desk.new) }
-    ensures corrects { (past : Past) (last : LastValue) (took : Option Received) → last.tick ≡ corrected → DateStands past (dates.old, (master.old, (station.old, (last, (clock.old, took))))) → result ≡ corrects (reading role_at (date_in from m.now.number (time_in m.now.body)) tick past) }
-    ensures room { PutsAtMost (2 * length station.old.peers + 2) (D.spare desk.old) (D.spare desk.new) (D.acts desk.old) (D.acts desk.new) }
+    ensures row { (last : LastValue) (took : Option Received) → last.tick ≡ corrected
+        → took ≡ Some (record { from = from; taken = Good (MessageOf m.now) })
+        → Performs DateStands DateStands
+        (reading role_at (date_in from m.now.number (time_in m.now.body))) tick port
+        (dates.old, (master.old, (station.old, (last, (clock.old, took)))))
+        (dates.new, (master.new, (station.new, (moved_where result tick last, (clock.new, took)))))
+        (D.acts desk.old) (D.acts desk.new) }
+    ensures corrects { (past : Past) (last : LastValue) (took : Option Received)
+        → last.tick ≡ corrected
+        → DateStands past (dates.old, (master.old, (station.old, (last, (clock.old, took)))))
+        → result ≡ corrects (reading role_at (date_in from m.now.number (time_in m.now.body)) tick
+        past) }
+    ensures room { PutsAtMost (2 * length station.old.peers + 2) (D.spare desk.old)
+        (D.spare desk.new) (D.acts desk.old) (D.acts desk.new) }
     ensures port { IsSamePort station.old station.new }
     ensures role { station.new.role ≡ station.old.role }
     ensures slaves { slave_peers_of master.new.slaves ≡ slave_peers_of master.old.slaves }
@@ -164,10 +182,18 @@ fn take_request<D: Desk>(
     requires dates { peers_of dates.old.dated ≡ station.old.peers }
     requires kind { is_date_request m.now.kind ≡ true }
     requires peer { is_among p station.old.peers ≡ true }
-    ensures row { (last : LastValue) (took : Option Received) → last.tick ≡ corrected → took ≡ Some (record { from = Peer p; taken = Good (MessageOf m.now) }) → Performs DateStands DateStands (reading role_at (date_request_in charge m.now p)) tick port
-        (dates.old, (master.old, (station.old, (last, (clock.old, took))))) (dates.new, (master.new, (station.new, (moved_where result tick last, (clock.new, took))))) (D.acts desk.old) (D.acts desk.new) }
-    ensures corrects { (past : Past) (last : LastValue) (took : Option Received) → last.tick ≡ corrected → DateStands past (dates.old, (master.old, (station.old, (last, (clock.old, took))))) → result ≡ corrects (reading role_at (date_request_in charge m.now p) tick past) }
-    ensures room { PutsAtMost (2 * length station.old.peers + 2) (D.spare desk.old) (D.spare desk.new) (D.acts desk.old) (D.acts desk.new) }
+    ensures row { (last : LastValue) (took : Option Received) → last.tick ≡ corrected
+        → took ≡ Some (record { from = Peer p; taken = Good (MessageOf m.now) })
+        → Performs DateStands DateStands (reading role_at (date_request_in charge m.now p)) tick
+        port (dates.old, (master.old, (station.old, (last, (clock.old, took)))))
+        (dates.new, (master.new, (station.new, (moved_where result tick last, (clock.new, took)))))
+        (D.acts desk.old) (D.acts desk.new) }
+    ensures corrects { (past : Past) (last : LastValue) (took : Option Received)
+        → last.tick ≡ corrected
+        → DateStands past (dates.old, (master.old, (station.old, (last, (clock.old, took)))))
+        → result ≡ corrects (reading role_at (date_request_in charge m.now p) tick past) }
+    ensures room { PutsAtMost (2 * length station.old.peers + 2) (D.spare desk.old)
+        (D.spare desk.new) (D.acts desk.old) (D.acts desk.new) }
     ensures port { IsSamePort station.old station.new }
     ensures role { station.new.role ≡ station.old.role }
     ensures slaves { slave_peers_of master.new.slaves ≡ slave_peers_of master.old.slaves }

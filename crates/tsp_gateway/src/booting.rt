@@ -49,8 +49,11 @@ impl Gateway {
     ) -> Result<Gateway, BootFault>
         requires ports { 1 ≤ length config.now.ports }
         requires tick { IsTick tick }
-        ensures stands { IfOk result (λ g. (past : NodePast) → UnbootedNode config.now word wall past tt → GatewayStands (spread tick past (record { port = first_port; act = Boot } ∷ [])) g) }
-        ensures ok { IfOk result (λ g. ArePorts config.now.ports × (is_clock_value wall ≡ true) × (ports_in g ≡ peers_of_ports config.now.ports) × (clock_at g ≡ tick)) }
+        ensures stands { IfOk result (λ g. (past : NodePast)
+            → UnbootedNode config.now word wall past tt
+            → GatewayStands (spread tick past (record { port = first_port; act = Boot } ∷ [])) g) }
+        ensures ok { IfOk result (λ g. ArePorts config.now.ports × (is_clock_value wall ≡ true)
+            × (ports_in g ≡ peers_of_ports config.now.ports) × (clock_at g ≡ tick)) }
         ensures err { IfErr result (λ fault. GateBootsNot config.now wall fault) }
     {
         if !config.are_ports() {
@@ -73,10 +76,13 @@ impl Gateway {
     pub(crate) fn begin_all<D: Desk>(&mut self, tick: u64, desk: &mut D)
         requires tick { IsTick tick }
         requires room { 2 * length (ports_in self.old) ≤ D.spare desk.old }
-        ensures row { PerformsAll GatewayStands GatewayStands (reading_all all_ports (for_ports boots_on)) tick self.old self.new (D.acts desk.old) (D.acts desk.new) }
+        ensures row { PerformsAll GatewayStands GatewayStands
+            (reading_all all_ports (for_ports boots_on)) tick self.old self.new (D.acts desk.old)
+            (D.acts desk.new) }
         ensures ports { ports_in self.new ≡ ports_in self.old }
         ensures clock { clock_at self.new ≡ clock_at self.old }
-        ensures room { PutsAtMost (2 * length (ports_in self.old)) (D.spare desk.old) (D.spare desk.new) (D.acts desk.old) (D.acts desk.new) }
+        ensures room { PutsAtMost (2 * length (ports_in self.old)) (D.spare desk.old)
+            (D.spare desk.new) (D.acts desk.old) (D.acts desk.new) }
     {
         for q in 0..self.ports.len() {
             self.begin(q, tick, desk);
@@ -88,10 +94,12 @@ impl Gateway {
         requires port { q < length (ports_in self.old) }
         requires tick { IsTick tick }
         requires room { 2 ≤ D.spare desk.old }
-        ensures row { PerformsAll GatewayStands GatewayStands (boots_on (port_at q)) tick self.old self.new (D.acts desk.old) (D.acts desk.new) }
+        ensures row { PerformsAll GatewayStands GatewayStands (boots_on (port_at q)) tick self.old
+            self.new (D.acts desk.old) (D.acts desk.new) }
         ensures ports { ports_in self.new ≡ ports_in self.old }
         ensures clock { clock_at self.new ≡ clock_at self.old }
-        ensures room { PutsAtMost 2 (D.spare desk.old) (D.spare desk.new) (D.acts desk.old) (D.acts desk.new) }
+        ensures room { PutsAtMost 2 (D.spare desk.old) (D.spare desk.new) (D.acts desk.old)
+            (D.acts desk.new) }
     {
         self.ports[q].begin(tick, port_at(q), desk);
     }

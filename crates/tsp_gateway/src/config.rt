@@ -1,5 +1,6 @@
 //! How a node of several ports is set up.
-ghost use Rattle.std.specs.Prelude.{◌≡◌, ◌<◌, ◌≤◌, ◌↔◌, true, length, [], ◌∷◌, ◌++◌, slice_index_or, IfOk, OnOk, OnErr, IfErr};
+ghost use Rattle.std.specs.Prelude.{◌≡◌, ◌<◌, ◌≤◌, ◌↔◌, true, length, [], ◌∷◌, ◌++◌};
+ghost use Rattle.std.specs.Prelude.{slice_index_or, IfOk, OnOk, OnErr, IfErr};
 ghost use Rattle.tsp_rules.specs.NodeRows.{PortSetup};
 ghost use Rattle.tsp_node.specs.Configs.{IsPortSetup};
 ghost use Rattle.tsp_gateway.specs.GateConfigs.{ArePorts};
@@ -45,7 +46,12 @@ impl Model for GateConfig {
 
     ghost Value = { GateConfigValue };
 
-    ghost view = { λ c. record { name = c.name; may = c.may; strict = c.strict; ports = c.ports.items } };
+    ghost view = { λ c. record {
+      name = c.name;
+      may = c.may;
+      strict = c.strict;
+      ports = c.ports.items;
+    } };
 
     ghost invariant = { λ c. length c.ports.items ≤ 4 };
 }
@@ -53,7 +59,12 @@ impl Model for GateConfig {
 impl GateConfig {
     /// A node that is set up so, as yet without ports. Fails only where memory is refused.
     pub fn new(alloc: Global, name: Name, may: bool, strict: bool) -> Result<GateConfig, AllocError>
-        ensures { IfOk result (λ c. c ≡ record { name = name; may = may; strict = strict; ports = [] }) }
+        ensures { IfOk result (λ c. c ≡ record {
+          name = name;
+          may = may;
+          strict = strict;
+          ports = [];
+        }) }
     {
         let ports = Vec::with_capacity(alloc, 4)?;
         Ok(GateConfig {
@@ -65,11 +76,17 @@ impl GateConfig {
         })
     }
 
-    /// Gives it one port more, with its own number and all peers there; whether a node can have these is known
-    /// at its boot. `Full` exactly where 4 ports are there, else `OutOfMemory` only where memory is refused;
-    /// a refusal changes nothing.
+    /// Gives it one port more, with its own number and all peers there; whether a node can have
+    /// these is known at its boot. `Full` exactly where 4 ports are there, else `OutOfMemory` only
+    /// where memory is refused; a refusal changes nothing.
     pub fn port(&mut self, own: PeerId, peers: &[PeerId]) -> Result<(), PortFault>
-        ensures ok { OnOk result ((length self.old.ports < 4) × (self.new ≡ record self.old { ports = self.old.ports ++ record { own = own; peers = peers.now } ∷ [] })) }
+        ensures ok { OnOk result ((length self.old.ports < 4)
+            × (self.new ≡ record self.old {
+              ports = self.old.ports ++ record {
+                own = own;
+                peers = peers.now;
+              } ∷ [];
+            })) }
         ensures full { IfErr result (λ fault. (fault ≡ Full) ↔ (length self.old.ports ≡ 4)) }
         ensures kept { OnErr result (self.new ≡ self.old) }
     {
@@ -101,8 +118,8 @@ impl GateConfig {
         self.ports[q].peers.as_slice()
     }
 
-    /// Whether a node can have these ports: on each at most 1,000 peers, strictly ascending, its own number among
-    /// them.
+    /// Whether a node can have these ports: on each at most 1,000 peers, strictly ascending, its
+    /// own number among them.
     pub(crate) fn are_ports(&self) -> bool
         ensures value { (result ≡ true) ↔ ArePorts self.now.ports }
         ensures few { length self.now.ports ≤ 4 }
@@ -118,7 +135,14 @@ impl GateConfig {
     /// Who the node is on a port in a life that begins with a word.
     pub(crate) fn me(&self, q: usize, word: u64) -> Me
         requires { q < length self.now.ports }
-        ensures { (d : PortSetup) → result ≡ record { own = (slice_index_or self.now.ports q d).own; name = self.now.name; word = word; may = self.now.may; strict = self.now.strict } }
+        ensures { (d : PortSetup)
+            → result ≡ record {
+              own = (slice_index_or self.now.ports q d).own;
+              name = self.now.name;
+              word = word;
+              may = self.now.may;
+              strict = self.now.strict;
+            } }
     {
         Me {
             own: self.ports[q].own,

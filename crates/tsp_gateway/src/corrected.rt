@@ -18,14 +18,17 @@ fn is_upset(whole: bool, q: usize, r: usize) -> bool
 }
 
 impl Gateway {
-    /// Tells the other ports that this one has corrected the clock at this tick, and gives their rounds up; where
-    /// `whole` is true, its own too.
+    /// Tells the other ports that this one has corrected the clock at this tick, and gives their
+    /// rounds up; where `whole` is true, its own too.
     pub(crate) fn upset<D: Desk>(&mut self, q: usize, whole: bool, tick: u64, desk: &mut D)
         requires room { length (ports_in self.old) ≤ D.spare desk.old }
-        ensures row { (x : ℕ) → PerformsAll (Untold q tick) GatewayStands (reading_all (upset_ports whole (port_at q)) (for_ports abandons_on)) x self.old self.new (D.acts desk.old) (D.acts desk.new) }
+        ensures row { (x : ℕ)
+            → PerformsAll (Untold q tick) GatewayStands (reading_all (upset_ports whole (port_at q))
+            (for_ports abandons_on)) x self.old self.new (D.acts desk.old) (D.acts desk.new) }
         ensures ports { ports_in self.new ≡ ports_in self.old }
         ensures clock { clock_at self.new ≡ clock_at self.old }
-        ensures room { PutsAtMost (length (ports_in self.old)) (D.spare desk.old) (D.spare desk.new) (D.acts desk.old) (D.acts desk.new) }
+        ensures room { PutsAtMost (length (ports_in self.old)) (D.spare desk.old) (D.spare desk.new)
+            (D.acts desk.old) (D.acts desk.new) }
     {
         self.tell(q, tick);
         self.abandon_each(q, whole, desk);
@@ -33,7 +36,8 @@ impl Gateway {
 
     /// Tells the other ports that this one has corrected the clock at this tick.
     fn tell(&mut self, q: usize, tick: u64)
-        ensures stands { (past : NodePast) → Untold q tick past self.old → GatewayStands past self.new }
+        ensures stands { (past : NodePast) → Untold q tick past self.old
+            → GatewayStands past self.new }
         ensures ports { ports_in self.new ≡ ports_in self.old }
         ensures clock { clock_at self.new ≡ clock_at self.old }
     {
@@ -47,10 +51,13 @@ impl Gateway {
     /// Gives up the rounds of the other ports; where `whole` is true, this one's too.
     fn abandon_each<D: Desk>(&mut self, q: usize, whole: bool, desk: &mut D)
         requires room { length (ports_in self.old) ≤ D.spare desk.old }
-        ensures row { (x : ℕ) → PerformsAll GatewayStands GatewayStands (reading_all (upset_ports whole (port_at q)) (for_ports abandons_on)) x self.old self.new (D.acts desk.old) (D.acts desk.new) }
+        ensures row { (x : ℕ)
+            → PerformsAll GatewayStands GatewayStands (reading_all (upset_ports whole (port_at q))
+            (for_ports abandons_on)) x self.old self.new (D.acts desk.old) (D.acts desk.new) }
         ensures ports { ports_in self.new ≡ ports_in self.old }
         ensures clock { clock_at self.new ≡ clock_at self.old }
-        ensures room { PutsAtMost (length (ports_in self.old)) (D.spare desk.old) (D.spare desk.new) (D.acts desk.old) (D.acts desk.new) }
+        ensures room { PutsAtMost (length (ports_in self.old)) (D.spare desk.old) (D.spare desk.new)
+            (D.acts desk.old) (D.acts desk.new) }
     {
         for r in 0..self.ports.len() {
             if is_upset(whole, q, r) {
@@ -63,10 +70,12 @@ impl Gateway {
     fn abandon<D: Desk>(&mut self, r: usize, desk: &mut D)
         requires port { r < length (ports_in self.old) }
         requires room { 1 ≤ D.spare desk.old }
-        ensures row { (x : ℕ) → PerformsAll GatewayStands GatewayStands (abandons_on (port_at r)) x self.old self.new (D.acts desk.old) (D.acts desk.new) }
+        ensures row { (x : ℕ) → PerformsAll GatewayStands GatewayStands (abandons_on (port_at r)) x
+            self.old self.new (D.acts desk.old) (D.acts desk.new) }
         ensures ports { ports_in self.new ≡ ports_in self.old }
         ensures clock { clock_at self.new ≡ clock_at self.old }
-        ensures room { PutsAtMost 1 (D.spare desk.old) (D.spare desk.new) (D.acts desk.old) (D.acts desk.new) }
+        ensures room { PutsAtMost 1 (D.spare desk.old) (D.spare desk.new) (D.acts desk.old)
+            (D.acts desk.new) }
     {
         self.ports[r].abandon(port_at(r), desk);
     }

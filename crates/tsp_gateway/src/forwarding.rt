@@ -30,7 +30,8 @@ impl Gateway {
     /// Whether a port hears this sender: it is another of its peers, and the quiet time is over.
     pub(crate) fn hears(&self, q: usize, from: Place) -> bool
         requires { q < length (ports_in self.now) }
-        ensures { (x : ℕ) (past : NodePast) → GatewayStands past self.now → result ≡ hears_on from (port_at q) x past }
+        ensures { (x : ℕ) (past : NodePast) → GatewayStands past self.now
+            → result ≡ hears_on from (port_at q) x past }
     {
         let station = self.ports[q].station();
         match from {
@@ -46,10 +47,12 @@ impl Gateway {
         requires port { q < length (ports_in self.old) }
         requires room { all_peers (ports_in self.old) + 2 ≤ D.spare desk.old }
         requires tick { IsTick tick }
-        ensures row { PerformsAll GatewayStands GatewayStands (judges (port_at q) m.now) tick self.old self.new (D.acts desk.old) (D.acts desk.new) }
+        ensures row { PerformsAll GatewayStands GatewayStands (judges (port_at q) m.now) tick
+            self.old self.new (D.acts desk.old) (D.acts desk.new) }
         ensures ports { ports_in self.new ≡ ports_in self.old }
         ensures clock { clock_at self.new ≡ clock_at self.old }
-        ensures room { PutsAtMost (all_peers (ports_in self.old) + 2) (D.spare desk.old) (D.spare desk.new) (D.acts desk.old) (D.acts desk.new) }
+        ensures room { PutsAtMost (all_peers (ports_in self.old) + 2) (D.spare desk.old)
+            (D.spare desk.new) (D.acts desk.old) (D.acts desk.new) }
     {
         let own = &self.ports[q].station().me.name;
         match judge(own, self.many(), port_at(q), m) {
@@ -71,10 +74,12 @@ impl Gateway {
         requires port { q < length (ports_in self.old) }
         requires room { 2 ≤ D.spare desk.old }
         requires tick { IsTick tick }
-        ensures row { PerformsAll GatewayStands GatewayStands (on (port_at q) loosens_master) tick self.old self.new (D.acts desk.old) (D.acts desk.new) }
+        ensures row { PerformsAll GatewayStands GatewayStands (on (port_at q) loosens_master) tick
+            self.old self.new (D.acts desk.old) (D.acts desk.new) }
         ensures ports { ports_in self.new ≡ ports_in self.old }
         ensures clock { clock_at self.new ≡ clock_at self.old }
-        ensures room { PutsAtMost 2 (D.spare desk.old) (D.spare desk.new) (D.acts desk.old) (D.acts desk.new) }
+        ensures room { PutsAtMost 2 (D.spare desk.old) (D.spare desk.new) (D.acts desk.old)
+            (D.acts desk.new) }
     {
         self.ports[q].loosen(tick, port_at(q), desk);
     }
@@ -83,8 +88,10 @@ impl Gateway {
     fn forward<D: Desk>(&self, q: usize, m: &Message, desk: &mut D)
         requires kind { m.now.kind ≡ Loop }
         requires room { all_peers (ports_in self.now) ≤ D.spare desk.old }
-        ensures row { (x : ℕ) → PerformsAll GatewayStands GatewayStands (forwards (port_at q) m.now) x self.now self.now (D.acts desk.old) (D.acts desk.new) }
-        ensures room { PutsAtMost (all_peers (ports_in self.now)) (D.spare desk.old) (D.spare desk.new) (D.acts desk.old) (D.acts desk.new) }
+        ensures row { (x : ℕ) → PerformsAll GatewayStands GatewayStands (forwards (port_at q) m.now)
+            x self.now self.now (D.acts desk.old) (D.acts desk.new) }
+        ensures room { PutsAtMost (all_peers (ports_in self.now)) (D.spare desk.old)
+            (D.spare desk.new) (D.acts desk.old) (D.acts desk.new) }
     {
         for r in 0..self.ports.len() {
             if r != q {
@@ -98,8 +105,11 @@ impl Gateway {
         requires kind { m.now.kind ≡ Loop }
         requires port { r < length (ports_in self.now) }
         requires room { peers_at r (ports_in self.now) ≤ D.spare desk.old }
-        ensures row { (x : ℕ) → PerformsAll GatewayStands GatewayStands (reposts_on m.now (port_at r)) x self.now self.now (D.acts desk.old) (D.acts desk.new) }
-        ensures room { PutsAtMost (peers_at r (ports_in self.now)) (D.spare desk.old) (D.spare desk.new) (D.acts desk.old) (D.acts desk.new) }
+        ensures row { (x : ℕ)
+            → PerformsAll GatewayStands GatewayStands (reposts_on m.now (port_at r)) x self.now
+            self.now (D.acts desk.old) (D.acts desk.new) }
+        ensures room { PutsAtMost (peers_at r (ports_in self.now)) (D.spare desk.old)
+            (D.spare desk.new) (D.acts desk.old) (D.acts desk.new) }
     {
         let station = self.ports[r].station();
         if is_awake(station.role) {

@@ -39,10 +39,11 @@ impl Gateway {
     ghost use Rattle.tsp_gateway.specs.GatewayStands.{GatewayStands, clock_at};
     ghost use Rattle.tsp_gateway.specs.Rooms.{ports_in};
 
-    /// Boots a node with a word, at a tick and a wall clock (microseconds): puts Boot, and Become(Starting) and
-    /// Arm(Quiet) on each of its ports. `Peers` exactly where the node can't have one of these ports, else
-    /// `Range` exactly where the wall doesn't lie strictly between -2^31 and 2^31 seconds, else `OutOfMemory`
-    /// only where memory is refused; then nothing is put.
+    /// Boots a node with a word, at a tick and a wall clock (microseconds): puts Boot, and
+    /// Become(Starting) and Arm(Quiet) on each of its ports. `Peers` exactly where the node can't
+    /// have one of these ports, else `Range` exactly where the wall doesn't lie strictly between
+    /// -2^31 and 2^31 seconds, else `OutOfMemory` only where memory is refused; then nothing is
+    /// put.
     pub fn boot<D: Desk>(
         alloc: Global,
         config: &GateConfig,
@@ -54,11 +55,14 @@ impl Gateway {
         requires ports { 1 ≤ length config.now.ports }
         requires room { 3 * length config.now.ports ≤ D.spare desk.old }
         requires tick { IsTick tick }
-        ensures row { IfOk result (λ g. PerformsAll (UnbootedNode config.now word wall) GatewayStands boots_all tick tt g (D.acts desk.old) (D.acts desk.new)) }
-        ensures ok { IfOk result (λ g. ArePorts config.now.ports × (is_clock_value wall ≡ true) × (ports_in g ≡ peers_of_ports config.now.ports) × (clock_at g ≡ tick)) }
+        ensures row { IfOk result (λ g. PerformsAll (UnbootedNode config.now word wall)
+            GatewayStands boots_all tick tt g (D.acts desk.old) (D.acts desk.new)) }
+        ensures ok { IfOk result (λ g. ArePorts config.now.ports × (is_clock_value wall ≡ true)
+            × (ports_in g ≡ peers_of_ports config.now.ports) × (clock_at g ≡ tick)) }
         ensures err { IfErr result (λ fault. GateBootsNot config.now wall fault) }
         ensures refused { OnErr result (D.acts desk.new ≡ D.acts desk.old) }
-        ensures room { PutsAtMost (3 * length config.now.ports) (D.spare desk.old) (D.spare desk.new) (D.acts desk.old) (D.acts desk.new) }
+        ensures room { PutsAtMost (3 * length config.now.ports) (D.spare desk.old)
+            (D.spare desk.new) (D.acts desk.old) (D.acts desk.new) }
     {
         let mut gateway = Gateway::new(alloc, config, tick, wall, word)?;
         desk.put(FIRST, Act::Boot);

@@ -40,7 +40,8 @@ impl Gateway {
     /// Whether what is asked is so of a port.
     pub(crate) fn is(&self, q: usize, asked: Asked) -> bool
         requires { q < length (ports_in self.now) }
-        ensures { (past : NodePast) → GatewayStands past self.now → result ≡ asked_on asked past (port_at q) }
+        ensures { (past : NodePast) → GatewayStands past self.now
+            → result ≡ asked_on asked past (port_at q) }
     {
         let station = self.ports[q].station();
         match asked {
@@ -53,7 +54,8 @@ impl Gateway {
     /// Whether what is asked is so of any port below this one.
     pub(crate) fn any_lower(&self, q: usize, asked: Asked) -> bool
         requires { q ≤ length (ports_in self.now) }
-        ensures { (past : NodePast) → GatewayStands past self.now → result ≡ any_lower asked (port_at q) past }
+        ensures { (past : NodePast) → GatewayStands past self.now
+            → result ≡ any_lower asked (port_at q) past }
     {
         for r in 0..q {
             if self.is(r, asked) {
@@ -66,7 +68,8 @@ impl Gateway {
     /// Whether what is asked is so of any other port.
     pub(crate) fn any_other(&self, q: usize, asked: Asked) -> bool
         requires { q < length (ports_in self.now) }
-        ensures { (past : NodePast) → GatewayStands past self.now → result ≡ any_other asked (port_at q) past }
+        ensures { (past : NodePast) → GatewayStands past self.now
+            → result ≡ any_other asked (port_at q) past }
     {
         for r in 0..self.ports.len() {
             if r != q && self.is(r, asked) {
@@ -79,7 +82,8 @@ impl Gateway {
     /// Whether a port steers the clock: it is the lowest that follows a master.
     pub(crate) fn steers(&self, q: usize) -> bool
         requires { q < length (ports_in self.now) }
-        ensures { (x : ℕ) (past : NodePast) → GatewayStands past self.now → result ≡ steers (port_at q) x past }
+        ensures { (x : ℕ) (past : NodePast) → GatewayStands past self.now
+            → result ≡ steers (port_at q) x past }
     {
         self.is(q, Asked::Follows) && !self.any_lower(q, Asked::Follows)
     }
@@ -87,7 +91,8 @@ impl Gateway {
     /// Whether a close of a port moves the clock: no port follows, and no lower one is a master.
     pub(crate) fn leads_clock(&self, q: usize) -> bool
         requires { q < length (ports_in self.now) }
-        ensures { (x : ℕ) (past : NodePast) → GatewayStands past self.now → result ≡ leads_clock (port_at q) x past }
+        ensures { (x : ℕ) (past : NodePast) → GatewayStands past self.now
+            → result ≡ leads_clock (port_at q) x past }
     {
         !self.any_lower(self.ports.len(), Asked::Follows) && !self.any_lower(q, Asked::Leads)
     }
@@ -95,7 +100,8 @@ impl Gateway {
     /// Whether a port is in charge of the date: it steers the clock or leads it.
     pub(crate) fn in_charge(&self, q: usize) -> bool
         requires { q < length (ports_in self.now) }
-        ensures { (x : ℕ) (past : NodePast) → GatewayStands past self.now → result ≡ in_charge (port_at q) x past }
+        ensures { (x : ℕ) (past : NodePast) → GatewayStands past self.now
+            → result ≡ in_charge (port_at q) x past }
     {
         self.steers(q) || self.leads_clock(q)
     }

@@ -21,8 +21,10 @@ use tsp_base::place::{Place, Port};
 /// Posts a message as it is to each other peer of a port, ascending.
 pub(crate) fn repost<D: Desk>(station: &Station, message: &Message, port: Port, desk: &mut D)
     requires room { length station.now.peers ≤ D.spare desk.old }
-    ensures acts { D.acts desk.new ≡ D.acts desk.old ++ placed port (map (repost message.now) (others station.now.me.own station.now.peers)) }
-    ensures room { PutsAtMost (length station.now.peers) (D.spare desk.old) (D.spare desk.new) (D.acts desk.old) (D.acts desk.new) }
+    ensures acts { D.acts desk.new ≡ D.acts desk.old ++ placed port
+        (map (repost message.now) (others station.now.me.own station.now.peers)) }
+    ensures room { PutsAtMost (length station.now.peers) (D.spare desk.old) (D.spare desk.new)
+        (D.acts desk.old) (D.acts desk.new) }
 {
     for p in station.peers() {
         if p.0 != station.me.own.0 {
@@ -33,12 +35,16 @@ pub(crate) fn repost<D: Desk>(station: &Station, message: &Message, port: Port, 
 }
 
 impl Gateway {
-    /// A LOOP sets out to each other peer of a port, with the port's number, the node's name and all its hops.
+    /// A LOOP sets out to each other peer of a port, with the port's number, the node's name and
+    /// all its hops.
     pub(crate) fn send_loops<D: Desk>(&self, q: usize, desk: &mut D)
         requires port { q < length (ports_in self.now) }
         requires room { peers_at q (ports_in self.now) ≤ D.spare desk.old }
-        ensures row { (x : ℕ) → PerformsAll GatewayStands GatewayStands (on (port_at q) (sends_loops (port_at q))) x self.now self.now (D.acts desk.old) (D.acts desk.new) }
-        ensures room { PutsAtMost (peers_at q (ports_in self.now)) (D.spare desk.old) (D.spare desk.new) (D.acts desk.old) (D.acts desk.new) }
+        ensures row { (x : ℕ)
+            → PerformsAll GatewayStands GatewayStands (on (port_at q) (sends_loops (port_at q))) x
+            self.now self.now (D.acts desk.old) (D.acts desk.new) }
+        ensures room { PutsAtMost (peers_at q (ports_in self.now)) (D.spare desk.old)
+            (D.spare desk.new) (D.acts desk.old) (D.acts desk.new) }
     {
         let station = self.ports[q].station();
         let name = station.me.name.copy();

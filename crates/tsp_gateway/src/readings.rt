@@ -48,7 +48,8 @@ impl Gateway {
     /// Whether its trace is on.
     pub fn tracing(&self) -> bool
         ensures value { result ≡ self.now.tracing }
-        ensures past { (past : NodePast) → GatewayStands past self.now → result ≡ tracing (dids past.lines) }
+        ensures past { (past : NodePast) → GatewayStands past self.now
+            → result ≡ tracing (dids past.lines) }
     {
         self.tracing
     }
@@ -56,7 +57,8 @@ impl Gateway {
     /// The lowest port that has a peer other than as its own number, and port 0 where none has it.
     pub fn port_of(&self, p: PeerId) -> Port
         ensures value { result ≡ port_of p (setups_in self.now) }
-        ensures past { (past : NodePast) → GatewayStands past self.now → result ≡ port_of p past.ports }
+        ensures past { (past : NodePast) → GatewayStands past self.now
+            → result ≡ port_of p past.ports }
         ensures inside { result.0 < length (ports_in self.now) }
     {
         self.place_of(p)

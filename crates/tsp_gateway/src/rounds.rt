@@ -1,5 +1,6 @@
 //! The alarms of a port's round, which other ports of its node feel.
-ghost use Rattle.std.specs.Prelude.{◌≡◌, ℕ, ◌≤◌, ◌<◌, ◌+◌, ◌*◌, ◌&&◌, nat_le, not, true, false, length, Some, is_some, slice_get};
+ghost use Rattle.std.specs.Prelude.{◌≡◌, ℕ, ◌≤◌, ◌<◌, ◌+◌, ◌*◌, ◌&&◌, nat_le, not, true, false};
+ghost use Rattle.std.specs.Prelude.{length, Some, is_some, slice_get};
 ghost use Rattle.tsp_base.specs.declared.alarm.Alarm.TheVariants.{Close, Probe, Round};
 ghost use Rattle.tsp_base.specs.Alarms.{deadline};
 ghost use Rattle.tsp_base.specs.Frames.{IsTick, PutsAtMost};
@@ -20,24 +21,29 @@ use tsp_base::desk::Desk;
 
 /// Whether a round goes on that has no probe more to come.
 fn asks_no_more(alarms: &Alarms) -> bool
-    ensures { result ≡ (is_some (deadline alarms.now Close) && not (is_some (deadline alarms.now Probe))) }
+    ensures { result ≡ (is_some (deadline alarms.now Close) && not
+        (is_some (deadline alarms.now Probe))) }
 {
     alarms.at(Alarm::Close).is_some() && alarms.at(Alarm::Probe).is_none()
 }
 
 impl Gateway {
-    /// Handles a port's Probe where it is due; after the last one of a round a LOOP sets out to each other peer,
-    /// where the node has several ports.
+    /// Handles a port's Probe where it is due; after the last one of a round a LOOP sets out to
+    /// each other peer, where the node has several ports.
     pub(crate) fn probe<D: Desk>(&mut self, q: usize, tick: u64, desk: &mut D)
         requires port { q < length (ports_in self.old) }
         requires room { 3 * peers_at q (ports_in self.old) + 16 ≤ D.spare desk.old }
         requires tick { IsTick tick }
         requires later { clock_at self.old ≤ tick }
-        ensures row { PerformsAll (GatewayTurning (q + 1)) (GatewayTurning (q + 1)) (alarm_on (port_at q) Probe) tick self.old self.new (D.acts desk.old) (D.acts desk.new) }
-        ensures over { (part : Part) → slice_get self.new.ports.items q ≡ Some part → is_over part.station.alarms.probe tick ≡ false }
+        ensures row { PerformsAll (GatewayTurning (q + 1)) (GatewayTurning (q + 1))
+            (alarm_on (port_at q) Probe) tick self.old self.new (D.acts desk.old)
+            (D.acts desk.new) }
+        ensures over { (part : Part) → slice_get self.new.ports.items q ≡ Some part
+            → is_over part.station.alarms.probe tick ≡ false }
         ensures ports { ports_in self.new ≡ ports_in self.old }
         ensures clock { clock_at self.new ≤ tick }
-        ensures room { PutsAtMost (3 * peers_at q (ports_in self.old) + 4) (D.spare desk.old) (D.spare desk.new) (D.acts desk.old) (D.acts desk.new) }
+        ensures room { PutsAtMost (3 * peers_at q (ports_in self.old) + 4) (D.spare desk.old)
+            (D.spare desk.new) (D.acts desk.old) (D.acts desk.new) }
     {
         let rung = self.probe_rings(q, tick);
         self.ring_probe(q, tick, desk);
@@ -49,7 +55,9 @@ impl Gateway {
     /// Whether a port's Probe rings: it is due, and not late.
     fn probe_rings(&self, q: usize, tick: u64) -> bool
         requires { q < length (ports_in self.now) }
-        ensures { (past : NodePast) → GatewayStands past self.now → result ≡ (is_due Probe tick (on_port (port_at q) past) && is_in_time Probe tick (on_port (port_at q) past)) }
+        ensures { (past : NodePast) → GatewayStands past self.now
+            → result ≡ (is_due Probe tick (on_port (port_at q) past) && is_in_time Probe tick
+            (on_port (port_at q) past)) }
     {
         let station = self.ports[q].station();
         station.is_due(Alarm::Probe, tick) && station.is_in_time(Alarm::Probe, tick)
@@ -58,7 +66,8 @@ impl Gateway {
     /// Whether a port's round has no probe more to come, at a node of several ports.
     fn ends_probes(&self, q: usize) -> bool
         requires { q < length (ports_in self.now) }
-        ensures { (past : NodePast) → GatewayStands past self.now → result ≡ (is_last_probe (on_port (port_at q) past) && nat_le 2 (length past.ports)) }
+        ensures { (past : NodePast) → GatewayStands past self.now
+            → result ≡ (is_last_probe (on_port (port_at q) past) && nat_le 2 (length past.ports)) }
     {
         asks_no_more(&self.ports[q].station().alarms) && self.ports.len() >= 2
     }
@@ -69,28 +78,36 @@ impl Gateway {
         requires room { 2 * peers_at q (ports_in self.old) + 16 ≤ D.spare desk.old }
         requires tick { IsTick tick }
         requires later { clock_at self.old ≤ tick }
-        ensures row { PerformsAll (GatewayTurning (q + 1)) (GatewayTurning (q + 1)) (on (port_at q) (rings true false Probe)) tick self.old self.new (D.acts desk.old) (D.acts desk.new) }
-        ensures over { (part : Part) → slice_get self.new.ports.items q ≡ Some part → is_over part.station.alarms.probe tick ≡ false }
+        ensures row { PerformsAll (GatewayTurning (q + 1)) (GatewayTurning (q + 1))
+            (on (port_at q) (rings true false Probe)) tick self.old self.new (D.acts desk.old)
+            (D.acts desk.new) }
+        ensures over { (part : Part) → slice_get self.new.ports.items q ≡ Some part
+            → is_over part.station.alarms.probe tick ≡ false }
         ensures ports { ports_in self.new ≡ ports_in self.old }
         ensures clock { clock_at self.new ≤ tick }
-        ensures room { PutsAtMost (2 * peers_at q (ports_in self.old) + 4) (D.spare desk.old) (D.spare desk.new) (D.acts desk.old) (D.acts desk.new) }
+        ensures room { PutsAtMost (2 * peers_at q (ports_in self.old) + 4) (D.spare desk.old)
+            (D.spare desk.new) (D.acts desk.old) (D.acts desk.new) }
     {
         let clock = &mut self.clock;
         let _ = self.ports[q].ring(clock, Alarm::Probe, true, false, tick, port_at(q), desk);
     }
 
-    /// Handles a port's Close where it is due: it moves the clock where the port leads it, and where it does the
-    /// rounds of the other ports are given up. It comes after the port's Probe.
+    /// Handles a port's Close where it is due: it moves the clock where the port leads it, and
+    /// where it does the rounds of the other ports are given up. It comes after the port's Probe.
     pub(crate) fn close<D: Desk>(&mut self, q: usize, tick: u64, desk: &mut D)
         requires port { q < length (ports_in self.old) }
         requires room { 2 * peers_at q (ports_in self.old) + 16 ≤ D.spare desk.old }
         requires tick { IsTick tick }
         requires later { clock_at self.old ≤ tick }
-        requires order { (part : Part) → slice_get self.old.ports.items q ≡ Some part → is_over part.station.alarms.probe tick ≡ false }
-        ensures row { PerformsAll (GatewayTurning (q + 1)) (GatewayTurning (q + 1)) (alarm_on (port_at q) Close) tick self.old self.new (D.acts desk.old) (D.acts desk.new) }
+        requires order { (part : Part) → slice_get self.old.ports.items q ≡ Some part
+            → is_over part.station.alarms.probe tick ≡ false }
+        ensures row { PerformsAll (GatewayTurning (q + 1)) (GatewayTurning (q + 1))
+            (alarm_on (port_at q) Close) tick self.old self.new (D.acts desk.old)
+            (D.acts desk.new) }
         ensures ports { ports_in self.new ≡ ports_in self.old }
         ensures clock { clock_at self.new ≤ tick }
-        ensures room { PutsAtMost (2 * peers_at q (ports_in self.old) + 8) (D.spare desk.old) (D.spare desk.new) (D.acts desk.old) (D.acts desk.new) }
+        ensures room { PutsAtMost (2 * peers_at q (ports_in self.old) + 8) (D.spare desk.old)
+            (D.spare desk.new) (D.acts desk.old) (D.acts desk.new) }
     {
         let own = self.leads_clock(q);
         let clock = &mut self.clock;
@@ -105,10 +122,13 @@ impl Gateway {
         requires room { 2 * peers_at q (ports_in self.old) + 16 ≤ D.spare desk.old }
         requires tick { IsTick tick }
         requires later { clock_at self.old ≤ tick }
-        ensures row { PerformsAll (GatewayTurning (q + 1)) (GatewayTurning (q + 1)) (alarm_on (port_at q) Round) tick self.old self.new (D.acts desk.old) (D.acts desk.new) }
+        ensures row { PerformsAll (GatewayTurning (q + 1)) (GatewayTurning (q + 1))
+            (alarm_on (port_at q) Round) tick self.old self.new (D.acts desk.old)
+            (D.acts desk.new) }
         ensures ports { ports_in self.new ≡ ports_in self.old }
         ensures clock { clock_at self.new ≤ tick }
-        ensures room { PutsAtMost (2 * peers_at q (ports_in self.old) + 4) (D.spare desk.old) (D.spare desk.new) (D.acts desk.old) (D.acts desk.new) }
+        ensures room { PutsAtMost (2 * peers_at q (ports_in self.old) + 4) (D.spare desk.old)
+            (D.spare desk.new) (D.acts desk.old) (D.acts desk.new) }
     {
         let wait = self.any_other(q, Asked::Goes);
         let clock = &mut self.clock;

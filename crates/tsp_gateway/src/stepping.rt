@@ -16,17 +16,19 @@ impl Gateway {
     ghost use Rattle.tsp_gateway.specs.GatewayStands.{GatewayBegun, GatewayStands, clock_at};
     ghost use Rattle.tsp_gateway.specs.Rooms.{ports_in, room_of_ports};
 
-    /// A step with an input on one of its ports: its timers are looked at, and what octets it brings are read and
-    /// taken.
+    /// A step with an input on one of its ports: its timers are looked at, and what octets it
+    /// brings are read and taken.
     pub fn step<D: Desk>(&mut self, tick: u64, input: &Input, desk: &mut D)
         requires port { ComesOn (length (ports_in self.old)) input.now }
         requires room { room_of_ports (ports_in self.old) ≤ D.spare desk.old }
         requires tick { IsTick tick }
         requires later { clock_at self.old ≤ tick }
-        ensures row { PerformsAll GatewayBegun GatewayStands (answers_all (given_on input.now)) tick self.old self.new (D.acts desk.old) (D.acts desk.new) }
+        ensures row { PerformsAll GatewayBegun GatewayStands (answers_all (given_on input.now)) tick
+            self.old self.new (D.acts desk.old) (D.acts desk.new) }
         ensures ports { ports_in self.new ≡ ports_in self.old }
         ensures clock { clock_at self.new ≤ tick }
-        ensures room { PutsAtMost (room_of_ports (ports_in self.old)) (D.spare desk.old) (D.spare desk.new) (D.acts desk.old) (D.acts desk.new) }
+        ensures room { PutsAtMost (room_of_ports (ports_in self.old)) (D.spare desk.old)
+            (D.spare desk.new) (D.acts desk.old) (D.acts desk.new) }
     {
         match input {
             Input::Turn => self.turn(tick, desk),
@@ -45,10 +47,12 @@ impl Gateway {
         requires room { room_of_ports (ports_in self.old) ≤ D.spare desk.old }
         requires tick { IsTick tick }
         requires later { clock_at self.old ≤ tick }
-        ensures row { PerformsAll GatewayBegun GatewayStands (answers_all NodeTurn) tick self.old self.new (D.acts desk.old) (D.acts desk.new) }
+        ensures row { PerformsAll GatewayBegun GatewayStands (answers_all NodeTurn) tick self.old
+            self.new (D.acts desk.old) (D.acts desk.new) }
         ensures ports { ports_in self.new ≡ ports_in self.old }
         ensures clock { clock_at self.new ≤ tick }
-        ensures room { PutsAtMost (room_of_ports (ports_in self.old)) (D.spare desk.old) (D.spare desk.new) (D.acts desk.old) (D.acts desk.new) }
+        ensures room { PutsAtMost (room_of_ports (ports_in self.old)) (D.spare desk.old)
+            (D.spare desk.new) (D.acts desk.old) (D.acts desk.new) }
     {
         self.turn_ports(tick, desk);
     }
@@ -59,10 +63,13 @@ impl Gateway {
         requires room { room_of_ports (ports_in self.old) ≤ D.spare desk.old }
         requires tick { IsTick tick }
         requires later { clock_at self.old ≤ tick }
-        ensures row { PerformsAll GatewayBegun GatewayStands (answers_all (GotOn port from taken.now)) tick self.old self.new (D.acts desk.old) (D.acts desk.new) }
+        ensures row { PerformsAll GatewayBegun GatewayStands
+            (answers_all (GotOn port from taken.now)) tick self.old self.new (D.acts desk.old)
+            (D.acts desk.new) }
         ensures ports { ports_in self.new ≡ ports_in self.old }
         ensures clock { clock_at self.new ≤ tick }
-        ensures room { PutsAtMost (room_of_ports (ports_in self.old)) (D.spare desk.old) (D.spare desk.new) (D.acts desk.old) (D.acts desk.new) }
+        ensures room { PutsAtMost (room_of_ports (ports_in self.old)) (D.spare desk.old)
+            (D.spare desk.new) (D.acts desk.old) (D.acts desk.new) }
     {
         self.turn_ports(tick, desk);
         self.take_in(tick, port.0 as usize, from, taken, desk);

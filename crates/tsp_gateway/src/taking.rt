@@ -6,7 +6,6 @@ ghost use Rattle.tsp_base.specs.declared.datagram.Taken.TheVariants.{Good};
 ghost use Rattle.tsp_base.specs.declared.kind.Kind.TheVariants.{Loop};
 ghost use Rattle.tsp_base.specs.Frames.{IsTick, PutsAtMost};
 ghost use Rattle.tsp_base.specs.Rows.{puts};
-ghost use Rattle.tsp_base.specs.SendFacts.{sets_date};
 ghost use Rattle.tsp_rules.specs.Answers.{takes};
 ghost use Rattle.tsp_rules.specs.GateRows.{takes_loop, takes_message, takes_on};
 ghost use Rattle.tsp_rules.specs.NodePerforms.{PerformsAll};
@@ -34,13 +33,16 @@ impl Gateway {
         desk: &mut D,
     )
         requires port { q < length (ports_in self.old) }
-        requires room { 2 * peers_at q (ports_in self.old) + all_peers (ports_in self.old) + 24 ≤ D.spare desk.old }
+        requires room { 2 * peers_at q (ports_in self.old) + all_peers
+            (ports_in self.old) + 24 ≤ D.spare desk.old }
         requires tick { IsTick tick }
         requires later { clock_at self.old ≤ tick }
-        ensures row { PerformsAll GatewayStands GatewayStands (takes_on (port_at q) from taken.now) tick self.old self.new (D.acts desk.old) (D.acts desk.new) }
+        ensures row { PerformsAll GatewayStands GatewayStands (takes_on (port_at q) from taken.now)
+            tick self.old self.new (D.acts desk.old) (D.acts desk.new) }
         ensures ports { ports_in self.new ≡ ports_in self.old }
         ensures clock { clock_at self.new ≤ tick }
-        ensures room { PutsAtMost (2 * peers_at q (ports_in self.old) + all_peers (ports_in self.old) + 24) (D.spare desk.old) (D.spare desk.new) (D.acts desk.old) (D.acts desk.new) }
+        ensures room { PutsAtMost (2 * peers_at q (ports_in self.old) + all_peers (ports_in self.old) + 24)
+            (D.spare desk.old) (D.spare desk.new) (D.acts desk.old) (D.acts desk.new) }
     {
         match taken {
             Taken::Good(Datagram::Message(m)) => match m.kind() {
@@ -51,8 +53,8 @@ impl Gateway {
         }
     }
 
-    /// Takes a message that is no LOOP. Where that corrects the clock, the rounds of the other ports are given
-    /// up; where it was a date, the port's own too.
+    /// Takes a message that is no LOOP. Where that corrects the clock, the rounds of the other
+    /// ports are given up; where it was a date, the port's own too.
     fn take_message<D: Desk>(
         &mut self,
         tick: u64,
@@ -67,10 +69,12 @@ impl Gateway {
         requires room { 2 * peers_at q (ports_in self.old) + 24 ≤ D.spare desk.old }
         requires tick { IsTick tick }
         requires later { clock_at self.old ≤ tick }
-        ensures row { PerformsAll GatewayStands GatewayStands (takes_message (port_at q) from m.now) tick self.old self.new (D.acts desk.old) (D.acts desk.new) }
+        ensures row { PerformsAll GatewayStands GatewayStands (takes_message (port_at q) from m.now)
+            tick self.old self.new (D.acts desk.old) (D.acts desk.new) }
         ensures ports { ports_in self.new ≡ ports_in self.old }
         ensures clock { clock_at self.new ≤ tick }
-        ensures room { PutsAtMost (2 * peers_at q (ports_in self.old) + 24) (D.spare desk.old) (D.spare desk.new) (D.acts desk.old) (D.acts desk.new) }
+        ensures room { PutsAtMost (2 * peers_at q (ports_in self.old) + 24) (D.spare desk.old)
+            (D.spare desk.new) (D.acts desk.old) (D.acts desk.new) }
     {
         let steer = self.steers(q);
         let charge = self.in_charge(q);
@@ -87,7 +91,7 @@ impl Gateway {
             port_at(q),
             desk,
         ) {
-            self.upset(q, sets_date(m.kind()), tick, desk);
+            self.upset(q, m.kind().sets_date(), tick, desk);
         }
     }
 
@@ -104,13 +108,16 @@ impl Gateway {
         requires is { taken.now ≡ Good (MessageOf m.now) }
         requires kind { m.now.kind ≡ Loop }
         requires port { q < length (ports_in self.old) }
-        requires room { 2 * peers_at q (ports_in self.old) + all_peers (ports_in self.old) + 24 ≤ D.spare desk.old }
+        requires room { 2 * peers_at q (ports_in self.old) + all_peers
+            (ports_in self.old) + 24 ≤ D.spare desk.old }
         requires tick { IsTick tick }
         requires later { clock_at self.old ≤ tick }
-        ensures row { PerformsAll GatewayStands GatewayStands (takes_loop (port_at q) from m.now) tick self.old self.new (D.acts desk.old) (D.acts desk.new) }
+        ensures row { PerformsAll GatewayStands GatewayStands (takes_loop (port_at q) from m.now)
+            tick self.old self.new (D.acts desk.old) (D.acts desk.new) }
         ensures ports { ports_in self.new ≡ ports_in self.old }
         ensures clock { clock_at self.new ≤ tick }
-        ensures room { PutsAtMost (2 * peers_at q (ports_in self.old) + all_peers (ports_in self.old) + 24) (D.spare desk.old) (D.spare desk.new) (D.acts desk.old) (D.acts desk.new) }
+        ensures room { PutsAtMost (2 * peers_at q (ports_in self.old) + all_peers (ports_in self.old) + 24)
+            (D.spare desk.old) (D.spare desk.new) (D.acts desk.old) (D.acts desk.new) }
     {
         self.note(tick, q, from, taken, desk);
         if self.hears(q, from) {
@@ -122,10 +129,13 @@ impl Gateway {
     fn note<D: Desk>(&mut self, tick: u64, q: usize, from: Place, taken: &Taken, desk: &mut D)
         requires port { q < length (ports_in self.old) }
         requires room { 1 ≤ D.spare desk.old }
-        ensures row { PerformsAll GatewayStands GatewayStands (on (port_at q) (puts (Took from taken.now))) tick self.old self.new (D.acts desk.old) (D.acts desk.new) }
+        ensures row { PerformsAll GatewayStands GatewayStands
+            (on (port_at q) (puts (Took from taken.now))) tick self.old self.new (D.acts desk.old)
+            (D.acts desk.new) }
         ensures ports { ports_in self.new ≡ ports_in self.old }
         ensures clock { clock_at self.new ≡ clock_at self.old }
-        ensures room { PutsAtMost 1 (D.spare desk.old) (D.spare desk.new) (D.acts desk.old) (D.acts desk.new) }
+        ensures room { PutsAtMost 1 (D.spare desk.old) (D.spare desk.new) (D.acts desk.old)
+            (D.acts desk.new) }
     {
         desk.put(port_at(q), Act::Took(from, taken.copy()));
     }
@@ -137,10 +147,13 @@ impl Gateway {
         requires room { 2 * peers_at q (ports_in self.old) + 24 ≤ D.spare desk.old }
         requires tick { IsTick tick }
         requires later { clock_at self.old ≤ tick }
-        ensures row { PerformsAll GatewayStands GatewayStands (on (port_at q) (takes true true from taken.now)) tick self.old self.new (D.acts desk.old) (D.acts desk.new) }
+        ensures row { PerformsAll GatewayStands GatewayStands
+            (on (port_at q) (takes true true from taken.now)) tick self.old self.new
+            (D.acts desk.old) (D.acts desk.new) }
         ensures ports { ports_in self.new ≡ ports_in self.old }
         ensures clock { clock_at self.new ≤ tick }
-        ensures room { PutsAtMost (2 * peers_at q (ports_in self.old) + 24) (D.spare desk.old) (D.spare desk.new) (D.acts desk.old) (D.acts desk.new) }
+        ensures room { PutsAtMost (2 * peers_at q (ports_in self.old) + 24) (D.spare desk.old)
+            (D.spare desk.new) (D.acts desk.old) (D.acts desk.new) }
     {
         let clock = &mut self.clock;
         let tracing = &mut self.tracing;
@@ -156,14 +169,4 @@ impl Gateway {
             desk,
         );
     }
-}
-
-/// Whether messages of this kind set a date.
-fn sets_date(kind: Kind) -> bool
-    ensures { result ≡ sets_date kind }
-{
-    matches!(
-        kind,
-        Kind::Date | Kind::SetDate | Kind::DateReq | Kind::SetDateReq
-    )
 }

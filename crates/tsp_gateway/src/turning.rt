@@ -19,10 +19,13 @@ impl Gateway {
         requires room { room_of_ports (ports_in self.old) ≤ D.spare desk.old }
         requires tick { IsTick tick }
         requires later { clock_at self.old ≤ tick }
-        ensures row { PerformsAll GatewayBegun GatewayStands (reading_all all_ports (for_ports turns_on)) tick self.old self.new (D.acts desk.old) (D.acts desk.new) }
+        ensures row { PerformsAll GatewayBegun GatewayStands
+            (reading_all all_ports (for_ports turns_on)) tick self.old self.new (D.acts desk.old)
+            (D.acts desk.new) }
         ensures ports { ports_in self.new ≡ ports_in self.old }
         ensures clock { clock_at self.new ≤ tick }
-        ensures room { PutsAtMost (turns_room (ports_in self.old)) (D.spare desk.old) (D.spare desk.new) (D.acts desk.old) (D.acts desk.new) }
+        ensures room { PutsAtMost (turns_room (ports_in self.old)) (D.spare desk.old)
+            (D.spare desk.new) (D.acts desk.old) (D.acts desk.new) }
     {
         for q in 0..self.ports.len() {
             self.turn_port(q, tick, desk);
@@ -35,10 +38,12 @@ impl Gateway {
         requires room { turn_room (peers_at q (ports_in self.old)) ≤ D.spare desk.old }
         requires tick { IsTick tick }
         requires later { clock_at self.old ≤ tick }
-        ensures row { PerformsAll (GatewayTurning q) (GatewayTurning (q + 1)) (turns_on (port_at q)) tick self.old self.new (D.acts desk.old) (D.acts desk.new) }
+        ensures row { PerformsAll (GatewayTurning q) (GatewayTurning (q + 1)) (turns_on (port_at q))
+            tick self.old self.new (D.acts desk.old) (D.acts desk.new) }
         ensures ports { ports_in self.new ≡ ports_in self.old }
         ensures clock { clock_at self.new ≤ tick }
-        ensures room { PutsAtMost (turn_room (peers_at q (ports_in self.old))) (D.spare desk.old) (D.spare desk.new) (D.acts desk.old) (D.acts desk.new) }
+        ensures room { PutsAtMost (turn_room (peers_at q (ports_in self.old))) (D.spare desk.old)
+            (D.spare desk.new) (D.acts desk.old) (D.acts desk.new) }
     {
         self.send(q, tick, desk);
         self.ring(q, Alarm::Quiet, tick, desk);
@@ -56,10 +61,12 @@ impl Gateway {
         requires port { q < length (ports_in self.old) }
         requires room { 2 * peers_at q (ports_in self.old) + 16 ≤ D.spare desk.old }
         requires tick { IsTick tick }
-        ensures row { PerformsAll (GatewayTurning q) (GatewayTurning (q + 1)) (on (port_at q) due_sends) tick self.old self.new (D.acts desk.old) (D.acts desk.new) }
+        ensures row { PerformsAll (GatewayTurning q) (GatewayTurning (q + 1))
+            (on (port_at q) due_sends) tick self.old self.new (D.acts desk.old) (D.acts desk.new) }
         ensures ports { ports_in self.new ≡ ports_in self.old }
         ensures clock { clock_at self.new ≡ clock_at self.old }
-        ensures room { PutsAtMost (2 * peers_at q (ports_in self.old)) (D.spare desk.old) (D.spare desk.new) (D.acts desk.old) (D.acts desk.new) }
+        ensures room { PutsAtMost (2 * peers_at q (ports_in self.old)) (D.spare desk.old)
+            (D.spare desk.new) (D.acts desk.old) (D.acts desk.new) }
     {
         self.ports[q].sends(tick, port_at(q), desk);
     }
@@ -71,10 +78,13 @@ impl Gateway {
         requires room { 2 * peers_at q (ports_in self.old) + 16 ≤ D.spare desk.old }
         requires tick { IsTick tick }
         requires later { clock_at self.old ≤ tick }
-        ensures row { PerformsAll (GatewayTurning (q + 1)) (GatewayTurning (q + 1)) (alarm_on (port_at q) alarm) tick self.old self.new (D.acts desk.old) (D.acts desk.new) }
+        ensures row { PerformsAll (GatewayTurning (q + 1)) (GatewayTurning (q + 1))
+            (alarm_on (port_at q) alarm) tick self.old self.new (D.acts desk.old)
+            (D.acts desk.new) }
         ensures ports { ports_in self.new ≡ ports_in self.old }
         ensures clock { clock_at self.new ≤ tick }
-        ensures room { PutsAtMost (2 * peers_at q (ports_in self.old) + 4) (D.spare desk.old) (D.spare desk.new) (D.acts desk.old) (D.acts desk.new) }
+        ensures room { PutsAtMost (2 * peers_at q (ports_in self.old) + 4) (D.spare desk.old)
+            (D.spare desk.new) (D.acts desk.old) (D.acts desk.new) }
     {
         let _ = self.ports[q].ring(&mut self.clock, alarm, true, false, tick, port_at(q), desk);
     }

@@ -1,7 +1,8 @@
 //! The averaging: a largest set of clocks that agree, and its mean.
 //!
-//! A caller adds each clock's difference to [`Values`], its own 0 among them, asks for the [`largest`] group within a span, and then for its
-//! [`mean`] and each clock's [`correction`]. All are microseconds:
+//! A caller adds each clock's difference to [`Values`], its own 0 among them, asks for the
+//! [`largest`] group within a span, and then for its [`mean`] and each clock's [`correction`]. All
+//! are microseconds:
 //!
 //! ```
 //! let mut values = Values::new(alloc, 4)?;
@@ -18,8 +19,6 @@
 
 mod group;
 mod sweep;
-#[cfg(test)]
-mod tests;
 mod values;
 mod window;
 

@@ -1,5 +1,6 @@
 //! The largest group of values, by a sort and one sweep.
-ghost use Rattle.std.specs.Prelude.{◌≡◌, pos, ◌+ℤ◌, ◌-ℤ◌, ◌≤ℤ◌, ◌<ℤ◌, ◌+◌, ◌-◌, ◌*◌, ◌^◌, ◌≤◌, ◌<◌, length, min, slice_index_or};
+ghost use Rattle.std.specs.Prelude.{◌≡◌, pos, ◌+ℤ◌, ◌-ℤ◌, ◌≤ℤ◌, ◌<ℤ◌, ◌+◌, ◌-◌, ◌*◌, ◌^◌, ◌≤◌, ◌<◌};
+ghost use Rattle.std.specs.Prelude.{length, min, slice_index_or};
 ghost use Rattle.std.specs.List.{All};
 ghost use Rattle.std.specs.List.Sorted.{IsPermutation};
 ghost use Rattle.tsp_group.specs.Groups.{group_of, mean_of, HasMean, IsLargest, FollowsMajority};
@@ -21,10 +22,12 @@ fn advance(window: &mut Window, values: &mut Values, span: u64, best: Group) -> 
     requires small { length values.old.items < 2 ^ 32 }
     requires ascending { IsAscending values.old.items }
     requires span { span ≤ 2 ^ 31 }
-    requires best { IsBest span values.old.items (window.old.end - window.old.first) window.old.end best }
+    requires best { IsBest span values.old.items (window.old.end - window.old.first) window.old.end
+        best }
     ensures window { IsWindow values.new.items window.new }
     ensures end { window.new.end ≡ window.old.end + 1 }
-    ensures best { IsBest span values.new.items (window.new.end - window.new.first) window.new.end result }
+    ensures best { IsBest span values.new.items (window.new.end - window.new.first) window.new.end
+        result }
     ensures items { values.new.items ≡ values.old.items }
     ensures room { values.new.room ≡ values.old.room }
     ensures looks { values.new.looks + window.old.first ≤ values.old.looks + window.new.first + 1 }

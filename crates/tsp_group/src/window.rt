@@ -45,7 +45,8 @@ impl Window {
         requires lo { IsNear self.now.lo }
         requires value { IsNear value }
         requires span { span ≤ 2 ^ 31 }
-        ensures { MatchBool result (value ≤ℤ (self.now.lo +ℤ pos span)) ((self.now.lo +ℤ pos span) <ℤ value) }
+        ensures { MatchBool result (value ≤ℤ (self.now.lo +ℤ pos span))
+            ((self.now.lo +ℤ pos span) <ℤ value) }
     {
         value - self.lo <= span as i64
     }
@@ -54,7 +55,11 @@ impl Window {
     fn admit(&mut self, value: i64)
         requires fits { IsSmallSum self.old.sum }
         requires small { self.old.end < 2 ^ 32 }
-        ensures { self.new ≡ record self.old { end = self.old.end + 1; sum = self.old.sum +ℤ value } }
+        ensures { self.new ≡ record self.old {
+          end = self.old.end + 1;
+          sum = self.old.sum +ℤ
+              value;
+        } }
     {
         self.end += 1;
         self.sum += i128::from(value);
@@ -66,7 +71,12 @@ impl Window {
         requires small { self.old.first < 2 ^ 32 }
         requires fits { IsSmallSum self.old.sum }
         requires lo { IsNear self.old.lo }
-        ensures window { self.new ≡ record self.old { first = self.old.first + 1; lo = slice_index_or values.old.items (self.old.first + 1) (pos 0); sum = self.old.sum -ℤ self.old.lo } }
+        ensures window { self.new ≡ record self.old {
+          first = self.old.first + 1;
+          lo = slice_index_or values.old.items (self.old.first + 1) (pos 0);
+          sum = self.old.sum -ℤ
+              self.old.lo;
+        } }
         ensures items { values.new.items ≡ values.old.items }
         ensures room { values.new.room ≡ values.old.room }
         ensures looks { values.new.looks ≤ values.old.looks + 1 }
@@ -107,7 +117,12 @@ impl Window {
         requires lo { IsNear self.now.lo }
         requires value { IsNear value }
         requires small { (self.now.first ≤ self.now.end) × (self.now.end < 2 ^ 32) }
-        ensures { result ≡ record { lo = self.now.lo; width = value -ℤ self.now.lo; count = self.now.end - self.now.first; sum = self.now.sum } }
+        ensures { result ≡ record {
+          lo = self.now.lo;
+          width = value -ℤ self.now.lo;
+          count = self.now.end - self.now.first;
+          sum = self.now.sum;
+        } }
     {
         Group {
             lo: self.lo,

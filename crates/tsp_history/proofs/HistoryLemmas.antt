@@ -11,12 +11,12 @@ use Rattle.tsp_promises.specs.Everywhere.{Everywhere}
 use Rattle.tsp_base.specs.History.{Acts, Line}
 use Rattle.tsp_base.specs.Places.{Within}
 use Rattle.tsp_base.proofs.PlaceLemmas.{Within-all}
-use Rattle.tsp_history.specs.declared.noted.Noted.{Noted}
+use Rattle.tsp_history.specs.declared.line.HistoryLine.{HistoryLine}
 use Rattle.tsp_history.specs.Histories.{line_of, noted_after, history_of}
 use Rattle.tsp_history.specs.Holding.{Apart}
 
 -- what holds at every place of a longer history holds at every place of a shorter one
-pub Everywhere-before : (P : Line → List Line → Type 0) (h : List Line) (ns : List Noted) → Everywhere P (noted_after h ns) → Everywhere P h
+pub Everywhere-before : (P : Line → List Line → Type 0) (h : List Line) (ns : List HistoryLine) → Everywhere P (noted_after h ns) → Everywhere P h
 Everywhere-before P h [] e = e
 Everywhere-before P h (n ∷ rest) e = (Everywhere-before P (line_of n ∷ h) rest e).1
 
@@ -28,34 +28,34 @@ not_apart n q x p c l node port deed other near apart = by_case (apart c node po
   by_case (inr le) = omega (arith, near, le)
 
 -- a place of a history is a place of a longer one
-pub Within-after : (s h : List Line) (ns : List Noted) → Within s h → Within s (noted_after h ns)
+pub Within-after : (s h : List Line) (ns : List HistoryLine) → Within s h → Within s (noted_after h ns)
 Within-after s h [] w = w
 Within-after s h (n ∷ rest) w = Within-after s (line_of n ∷ h) rest (inr w)
 
 -- lines, and then more lines
-pub noted-append : (h : List Line) (ns ms : List Noted) → noted_after h (ns ++ ms) ≡ noted_after (noted_after h ns) ms
+pub noted-append : (h : List Line) (ns ms : List HistoryLine) → noted_after h (ns ++ ms) ≡ noted_after (noted_after h ns) ms
 noted-append h [] ms = refl
 noted-append h (n ∷ rest) ms = noted-append (line_of n ∷ h) rest ms
 
 -- one line more
-pub history-more : (ns : List Noted) (i : ℕ) (n : Noted) → i < length ns → get_or ns i n ≡ n → history_of (take (i + 1) ns) ≡ (line_of n ∷ history_of (take i ns))
+pub history-more : (ns : List HistoryLine) (i : ℕ) (n : HistoryLine) → i < length ns → get_or ns i n ≡ n → history_of (take (i + 1) ns) ≡ (line_of n ∷ history_of (take i ns))
 history-more ns i n below is =
     ap (λ ms. history_of ms) (take_more ns i n below) ∙ noted-append [] (take i ns) (get_or ns i n ∷ []) ∙ ap (λ m. line_of m ∷ history_of (take i ns)) is
 
 -- a line among others stands after those before it
-pub Within-noted : (ns : List Noted) (i : ℕ) (n : Noted) → i < length ns → get_or ns i n ≡ n → Within (line_of n ∷ history_of (take i ns)) (history_of ns)
+pub Within-noted : (ns : List HistoryLine) (i : ℕ) (n : HistoryLine) → i < length ns → get_or ns i n ≡ n → Within (line_of n ∷ history_of (take i ns)) (history_of ns)
 Within-noted ns i n below is = within [] ns i below is where
-  within : (h : List Line) (ms : List Noted) (j : ℕ) → j < length ms → get_or ms j n ≡ n → Within (line_of n ∷ noted_after h (take j ms)) (noted_after h ms)
+  within : (h : List Line) (ms : List HistoryLine) (j : ℕ) → j < length ms → get_or ms j n ≡ n → Within (line_of n ∷ noted_after h (take j ms)) (noted_after h ms)
   within h [] j lt e = let bad : ⊥ = omega (arith, lt) in absurd bad
   within h (m ∷ rest) zero lt e = Within-after (line_of n ∷ h) (line_of m ∷ h) rest (subst (λ k. Within (line_of n ∷ h) (line_of k ∷ h)) (sym e) (Within-all (line_of n ∷ h)))
   within h (m ∷ rest) (suc j) lt e = within (line_of m ∷ h) rest j (omega (arith, lt)) e
 
 -- the lines that are left, one step on
-pub noted-next : (h : List Line) (ns : List Noted) (i : ℕ) (n : Noted) → i < length ns → get_or ns i n ≡ n → noted_after (line_of n ∷ h) (drop (i + 1) ns) ≡ noted_after h (drop i ns)
+pub noted-next : (h : List Line) (ns : List HistoryLine) (i : ℕ) (n : HistoryLine) → i < length ns → get_or ns i n ≡ n → noted_after (line_of n ∷ h) (drop (i + 1) ns) ≡ noted_after h (drop i ns)
 noted-next h ns i n below is = sym (ap (λ ms. noted_after h ms) (drop_more ns i n below) ∙ ap (λ m. noted_after (line_of m ∷ h) (drop (i + 1) ns)) is)
 
 -- none is left at the end
-pub noted-end : (h : List Line) (ns : List Noted) (i : ℕ) → length ns ≤ i → noted_after h (drop i ns) ≡ h
+pub noted-end : (h : List Line) (ns : List HistoryLine) (i : ℕ) → length ns ≤ i → noted_after h (drop i ns) ≡ h
 noted-end h ns i past = at_drop_all (λ ms. noted_after h ms) ns i past
 
 -- a Back for another candidate is apart exactly where it is far enough before

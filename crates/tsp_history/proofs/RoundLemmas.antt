@@ -13,7 +13,7 @@ use Rattle.tsp_base.specs.NodeFacts.{target}
 use Rattle.tsp_base.specs.RoundFacts.{Sampled, best, best_after, better, exchange, target_there}
 use Rattle.tsp_base.proofs.ViewPlaces.{port-same}
 use Rattle.tsp_base.proofs.Views.{plain_view}
-use Rattle.tsp_history.specs.declared.noted.Noted.{Noted}
+use Rattle.tsp_history.specs.declared.line.HistoryLine.{HistoryLine}
 use Rattle.tsp_history.specs.declared.rounds.Best.{Best}
 use Rattle.tsp_history.specs.Histories.{line_of, history_of}
 use Rattle.tsp_history.specs.Rounds.{Asked, AskedAt, BestAt, Bests, better_of, LineAt, SeenAt, start_of, trip_after, trip_at}
@@ -21,7 +21,7 @@ use Rattle.tsp_history.proofs.HistoryLemmas.{Within-noted}
 use Rattle.tsp_history.proofs.SendLemmas.{view-here}
 
 -- a line among others, by its index
-pub line-at : (ns : List Noted) (i : ℕ) (n : Noted) → i < length ns → get_or ns i n ≡ n → LineAt ns i n
+pub line-at : (ns : List HistoryLine) (i : ℕ) (n : HistoryLine) → i < length ns → get_or ns i n ≡ n → LineAt ns i n
 line-at ns i n below is = record { below = below; noted_is = is; within = Within-noted ns i n below is }
 
 exchange-here : (p r : PeerId) (c counter word : ℕ) (d : Did) (s : List Seen) → d.deed ≡ Acts (Post (Peer r) (Stamp (Request word counter))) → (r.0 == p.0) ≡ true → (counter == c) ≡ true → exchange p c (Here d ∷ s) ≡ (Here d ∷ s)
@@ -47,21 +47,21 @@ best-sample : (p : PeerId) (counter : ℕ) (diff err : ℤ) (ticket : ℕ) (d : 
 best-sample p counter diff err ticket d s deed = let same : (p.0 == p.0) ≡ true = eq-eqb p.0 p.0 refl in ap (λ a. best_after p a (Here d ∷ s) s (best p s)) deed ∙ (rw same refl)
 
 -- a sample is told by this
-record TellsOf (ns : List Noted) (n : ℕ) (q : Port) (x : Sampled) (b : Best) : Type 0 where
+record TellsOf (ns : List HistoryLine) (n : ℕ) (q : Port) (x : Sampled) (b : Best) : Type 0 where
   diff_is : x.diff ≡ b.diff
   err_is : x.err ≡ b.err
   trip_is : x.trip ≡ b.trip
   place : SeenAt ns n q x.place b.index
 
-pick : (ns : List Noted) (n : ℕ) (q : Port) (t : Bool) (x y : Sampled) (u v : Best) → TellsOf ns n q x u → TellsOf ns n q y v → TellsOf ns n q (if t then x else y) (if t then u else v)
+pick : (ns : List HistoryLine) (n : ℕ) (q : Port) (t : Bool) (x y : Sampled) (u v : Best) → TellsOf ns n q x u → TellsOf ns n q y v → TellsOf ns n q (if t then x else y) (if t then u else v)
 pick ns n q true x y u v a b = a
 pick ns n q false x y u v a b = b
 
-tells-best : (ns : List Noted) (n : ℕ) (q : Port) (o : Option Sampled) (x : Sampled) (b : Best) → o ≡ Some x → TellsOf ns n q x b → BestAt ns n q o b
+tells-best : (ns : List HistoryLine) (n : ℕ) (q : Port) (o : Option Sampled) (x : Sampled) (b : Best) → o ≡ Some x → TellsOf ns n q x b → BestAt ns n q o b
 tells-best ns n q o x b is told = record { sampled = x; is = is; diff_is = told.diff_is; err_is = told.err_is; trip_is = told.trip_is; place = told.place }
 
 -- the better of what was seen and a new sample
-better-told : (ns : List Noted) (n : ℕ) (q : Port) (o : Option Sampled) (keep : Option Best) (late : Sampled) (new : Best) → Bests ns n q o keep → TellsOf ns n q late new → BestAt ns n q (Some (better o late)) (better_of keep new)
+better-told : (ns : List HistoryLine) (n : ℕ) (q : Port) (o : Option Sampled) (keep : Option Best) (late : Sampled) (new : Best) → Bests ns n q o keep → TellsOf ns n q late new → BestAt ns n q (Some (better o late)) (better_of keep new)
 better-told ns n q o None late new none told = tells-best ns n q (Some (better o late)) late new (ap (λ k. Some (better k late)) none) told
 better-told ns n q o (Some b) late new is told =
     let early : TellsOf ns n q is.sampled b = record { diff_is = is.diff_is; err_is = is.err_is; trip_is = is.trip_is; place = is.place } in
@@ -73,7 +73,7 @@ peer-same : (p r : PeerId) → p.0 ≡ r.0 → p ≡ r
 peer-same p r e = ap (λ n. let o : PeerId = record { 0 = n } in o) e
 
 -- a sample is taken
-pub best-here : (ns : List Noted) (n : ℕ) (q : Port) (p r : PeerId) (counter : ℕ) (diff err : ℤ) (ticket : ℕ) (noted : Noted) (i : ℕ) (h : List Line) (keep : Option Best) (trip : ℤ) →
+pub best-here : (ns : List HistoryLine) (n : ℕ) (q : Port) (p r : PeerId) (counter : ℕ) (diff err : ℤ) (ticket : ℕ) (noted : HistoryLine) (i : ℕ) (h : List Line) (keep : Option Best) (trip : ℤ) →
     LineAt ns i noted → h ≡ history_of (take i ns) → noted.node ≡ n → noted.port.0 ≡ q.0 → (line_of noted).did.deed ≡ Acts (Sample r counter diff err ticket) → r.0 ≡ p.0 → trip ≡ trip_at (line_of noted) h →
     Bests ns n q (best p (view q (of n h))) keep → BestAt ns n q (best p (view q (of n (line_of noted ∷ h)))) (better_of keep (record { index = i; diff = diff; err = err; trip = trip }))
 best-here ns n q p r counter diff err ticket noted i h keep trip at past node port0 deed to trips best_is =

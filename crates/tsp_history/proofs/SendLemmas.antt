@@ -15,7 +15,7 @@ use Rattle.tsp_base.specs.Takings.{posted, posted_after}
 use Rattle.tsp_base.proofs.ViewPlaces.{sees-own, port-same}
 use Rattle.tsp_history.specs.declared.sends.Sight.{Sight}
 use Rattle.tsp_history.specs.Sends.{Sees}
-use Rattle.tsp_history.specs.Told.{Told}
+use Rattle.tsp_history.specs.PostedPlaces.{IsPlaceOf}
 use Rattle.tsp_history.proofs.SpacingLemmas.{of-own}
 
 -- a port's own line, as it sees it
@@ -50,5 +50,5 @@ begins n q p c m l h s node port0 deed to numbered begin sees =
     acts : acting (view q (of n h)) ≡ true
     acts = sym sees.acting_is ∙ begin
 
-    told : (seen : List Seen) → seen ≡ (Here l.did ∷ view q (of n h)) → Told n q (l ∷ h) seen (Some s.posted)
+    told : (seen : List Seen) → seen ≡ (Here l.did ∷ view q (of n h)) → IsPlaceOf n q (l ∷ h) seen (Some s.posted)
     told seen e = record { line = l; before = h; within = inl refl; node = node; port = port; is = e; to = Peer c; datagram = Message m; deed = deed; number = sym sees.posted_is }

@@ -2,9 +2,9 @@
 use Rattle.std.specs.Prelude.{List, [], ◌∷◌, Option, None, Some}
 use Rattle.tsp_base.specs.declared.act.Act.{Act}
 use Rattle.tsp_base.specs.History.{Cause, Booted, Turned, Came, Handed, Deed, Begins, Acts, Line}
-use Rattle.tsp_history.specs.declared.noted.Noted.{Noted}
-use Rattle.tsp_history.specs.declared.noted.Why.{Why}
-use Rattle.tsp_history.specs.declared.noted.Why.TheVariants.{Booted as ByBoot, Turned as ByTurn, Came as ByPost, Handed as ByHand}
+use Rattle.tsp_history.specs.declared.line.HistoryLine.{HistoryLine}
+use Rattle.tsp_history.specs.declared.line.Why.{Why}
+use Rattle.tsp_history.specs.declared.line.Why.TheVariants.{Booted as ByBoot, Turned as ByTurn, Came as ByPost, Handed as ByHand}
 
 -- why a step happens, as a cause of the history
 abbrev pub cause_of : Why → Cause
@@ -19,14 +19,14 @@ deed_of None = Begins
 deed_of (Some a) = Acts a
 
 -- a noted line as a line of a history
-abbrev pub line_of : Noted → Line
+abbrev pub line_of : HistoryLine → Line
 line_of n = record { port = n.port; did = record { step = record { at = n.at; node = n.node; cause = cause_of n.why }; tick = n.tick; deed = deed_of n.act } }
 
 -- a history, and then these lines, oldest first
-abbrev pub noted_after : List Line → List Noted → List Line
+abbrev pub noted_after : List Line → List HistoryLine → List Line
 noted_after h [] = h
 noted_after h (n ∷ rest) = noted_after (line_of n ∷ h) rest
 
 -- the history of these lines, oldest first
-abbrev pub history_of : List Noted → List Line
+abbrev pub history_of : List HistoryLine → List Line
 history_of ns = noted_after [] ns

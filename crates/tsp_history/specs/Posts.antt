@@ -6,18 +6,18 @@ use Rattle.tsp_base.specs.declared.place.Place.{Place}
 use Rattle.tsp_base.specs.History.{dids}
 use Rattle.tsp_base.specs.Places.{Within}
 use Rattle.tsp_base.specs.Takings.{posted}
-use Rattle.tsp_history.specs.declared.noted.Noted.{Noted}
+use Rattle.tsp_history.specs.declared.line.HistoryLine.{HistoryLine}
 use Rattle.tsp_history.specs.Histories.{line_of, history_of}
 
 -- a line posts something
-pub record IsPost (noted : Noted) : Type 0 where
+pub record IsPost (noted : HistoryLine) : Type 0 where
   pub to : Place
   pub datagram : Datagram
   pub act : noted.act ≡ Some (Post to datagram)
 
 -- the line at index i, of these lines, posts datagram k
-pub record PostsAt (ns : List Noted) (k i : ℕ) : Type 0 where
-  pub noted : Noted
+pub record PostsAt (ns : List HistoryLine) (k i : ℕ) : Type 0 where
+  pub noted : HistoryLine
   pub below : i < length ns
   pub noted_is : get_or ns i noted ≡ noted
   pub within : Within (line_of noted ∷ history_of (take i ns)) (history_of ns)

@@ -7,7 +7,7 @@ use Rattle.tsp_base.specs.History.{Deed, Acts, Did, Line, Seen, Here, of, plain,
 use Rattle.tsp_base.specs.NodeFacts.{target}
 use Rattle.tsp_base.specs.Places.{Within}
 use Rattle.tsp_base.specs.RoundFacts.{Sampled, exchange, target_there}
-use Rattle.tsp_history.specs.declared.noted.Noted.{Noted}
+use Rattle.tsp_history.specs.declared.line.HistoryLine.{HistoryLine}
 use Rattle.tsp_history.specs.declared.rounds.Best.{Best}
 use Rattle.tsp_history.specs.Histories.{line_of, history_of}
 
@@ -38,26 +38,26 @@ abbrev pub trip_at : Line → List Line → ℤ
 trip_at l h = trip_after l.did.deed l.did (view l.port (of (node_of l) h))
 
 -- the line at index i, of these lines, is this one
-pub record LineAt (ns : List Noted) (i : ℕ) (noted : Noted) : Type 0 where
+pub record LineAt (ns : List HistoryLine) (i : ℕ) (noted : HistoryLine) : Type 0 where
   pub below : i < length ns
   pub noted_is : get_or ns i noted ≡ noted
   pub within : Within (line_of noted ∷ history_of (take i ns)) (history_of ns)
 
 -- a place of what port q of node n sees is that of the line at index i
-pub record SeenAt (ns : List Noted) (n : ℕ) (q : Port) (seen : List Seen) (i : ℕ) : Type 0 where
-  pub noted : Noted
+pub record SeenAt (ns : List HistoryLine) (n : ℕ) (q : Port) (seen : List Seen) (i : ℕ) : Type 0 where
+  pub noted : HistoryLine
   pub at : LineAt ns i noted
   pub node : noted.node ≡ n
   pub port : noted.port ≡ q
   pub is : seen ≡ Here (line_of noted).did ∷ view q (of n (history_of (take i ns)))
 
 -- the index of its line tells a place; none tells the empty one
-abbrev pub SeenBy : List Noted → ℕ → Port → List Seen → Option ℕ → Type 0
+abbrev pub SeenBy : List HistoryLine → ℕ → Port → List Seen → Option ℕ → Type 0
 SeenBy ns n q seen None = seen ≡ []
 SeenBy ns n q seen (Some i) = SeenAt ns n q seen i
 
 -- the best sample of a peer, by the index of its line and what it says
-pub record BestAt (ns : List Noted) (n : ℕ) (q : Port) (sample : Option Sampled) (b : Best) : Type 0 where
+pub record BestAt (ns : List HistoryLine) (n : ℕ) (q : Port) (sample : Option Sampled) (b : Best) : Type 0 where
   pub sampled : Sampled
   pub is : sample ≡ Some sampled
   pub diff_is : sampled.diff ≡ b.diff
@@ -71,6 +71,6 @@ better_of None late = late
 better_of (Some early) late = if int_lt late.trip early.trip then late else early
 
 -- the best sample, if there is one
-abbrev pub Bests : List Noted → ℕ → Port → Option Sampled → Option Best → Type 0
+abbrev pub Bests : List HistoryLine → ℕ → Port → Option Sampled → Option Best → Type 0
 Bests ns n q sample None = sample ≡ None
 Bests ns n q sample (Some b) = BestAt ns n q sample b

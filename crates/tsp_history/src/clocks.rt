@@ -1,12 +1,13 @@
 //! Facts of a node's clock, by one scan each.
-ghost use Rattle.std.specs.Prelude.{◌≡◌, ◌<◌, ◌≤◌, ◌+◌, ◌^◌, ℕ, [], pos, neg_ℤ, ◌-ℤ◌, ◌+ℤ◌, ◌≤ℤ◌, List, ◌∷◌, length, MatchBool};
+ghost use Rattle.std.specs.Prelude.{◌≡◌, ◌<◌, ◌≤◌, ◌+◌, ◌^◌, ℕ, [], pos, neg_ℤ, ◌-ℤ◌, ◌+ℤ◌, ◌≤ℤ◌};
+ghost use Rattle.std.specs.Prelude.{List, ◌∷◌, length, MatchBool};
 ghost use Rattle.tsp_base.specs.History.{Line, of, dids};
 ghost use Rattle.tsp_base.specs.NodeFacts.{moved, target};
 ghost use Rattle.tsp_history.specs.Clocks.{IsSmall, IsSumOf, Keeps};
 ghost use Rattle.tsp_history.specs.Histories.{line_of, history_of};
 ghost use Rattle.tsp_history.specs.Spacing.{Spaced};
 
-use crate::noted::{Noted, Why};
+use crate::line::{HistoryLine, Why};
 use crate::ticks::is_far;
 use tsp_base::act::Act;
 use tsp_base::constants::GAP;
@@ -46,7 +47,8 @@ impl Clock {
     /// Its target at a tick, in microseconds.
     pub(crate) fn target(&self, tick: u64) -> i128
         requires { IsSumOf 4294967295 self.now.moved }
-        ensures target { result ≡ ((self.now.wall -ℤ pos self.now.boot_tick) +ℤ self.now.moved) +ℤ pos tick }
+        ensures target { result ≡ ((self.now.wall -ℤ pos self.now.boot_tick) +ℤ self.now.moved) +ℤ
+            pos tick }
         ensures small { IsSmall result }
     {
         let moved = self.base() + self.moved;
@@ -54,11 +56,13 @@ impl Clock {
     }
 }
 
-/// Whether all corrections of a node's life stand GAP ticks before this one, after a line, where `keep` says so
-/// before it.
-fn is_spaced_after(line: &Noted, node: u32, tick: u64, keep: bool) -> bool
-    ensures { (before : List Line) → MatchBool keep (Spaced node tick before) (Spaced node tick before → ⊥)
-        → MatchBool result (Spaced node tick (line_of line.now ∷ before)) (Spaced node tick (line_of line.now ∷ before) → ⊥) }
+/// Whether all corrections of a node's life stand GAP ticks before this one, after a line, where
+/// `keep` says so before it.
+fn is_spaced_after(line: &HistoryLine, node: u32, tick: u64, keep: bool) -> bool
+    ensures { (before : List Line)
+        → MatchBool keep (Spaced node tick before) (Spaced node tick before → ⊥)
+        → MatchBool result (Spaced node tick (line_of line.now ∷ before))
+        (Spaced node tick (line_of line.now ∷ before) → ⊥) }
 {
     if line.node != node {
         return keep;
@@ -74,8 +78,9 @@ fn is_spaced_after(line: &Noted, node: u32, tick: u64, keep: bool) -> bool
 }
 
 /// Whether a correction of a node at this tick stands GAP ticks after each before it in the same life.
-pub fn is_spaced(lines: &[Noted], node: u32, tick: u64) -> bool
-    ensures { MatchBool result (Spaced node tick (history_of lines.now)) (Spaced node tick (history_of lines.now) → ⊥) }
+pub fn is_spaced(lines: &[HistoryLine], node: u32, tick: u64) -> bool
+    ensures { MatchBool result (Spaced node tick (history_of lines.now))
+        (Spaced node tick (history_of lines.now) → ⊥) }
 {
     let mut is_spaced = true;
     for line in lines {
@@ -85,9 +90,10 @@ pub fn is_spaced(lines: &[Noted], node: u32, tick: u64) -> bool
 }
 
 /// What is seen of a clock after a line.
-pub(crate) fn clock_after(line: &Noted, node: u32, keep: Clock) -> Clock
+pub(crate) fn clock_after(line: &HistoryLine, node: u32, keep: Clock) -> Clock
     requires { IsSumOf 4294967295 keep.moved }
-    ensures keeps { (before : List Line) → Keeps node before keep → Keeps node (line_of line.now ∷ before) result }
+    ensures keeps { (before : List Line) → Keeps node before keep
+        → Keeps node (line_of line.now ∷ before) result }
     ensures bounded { (count : ℕ) → IsSumOf count keep.moved → IsSumOf (count + 1) result.moved }
 {
     if line.node != node {
@@ -111,7 +117,7 @@ pub(crate) fn clock_after(line: &Noted, node: u32, keep: Clock) -> Clock
 }
 
 /// What a node's clock shows at tick 0 when it boots, and how it was moved since.
-fn clock_at(lines: &[Noted], node: u32) -> Clock
+fn clock_at(lines: &[HistoryLine], node: u32) -> Clock
     requires { length lines.now < 2 ^ 32 }
     ensures keeps { Keeps node (history_of lines.now) result }
     ensures bounded { IsSumOf (length lines.now) result.moved }
@@ -124,7 +130,7 @@ fn clock_at(lines: &[Noted], node: u32) -> Clock
 }
 
 /// The amounts of a node's corrections since its boot, in microseconds.
-pub fn moved_at(lines: &[Noted], node: u32) -> i128
+pub fn moved_at(lines: &[HistoryLine], node: u32) -> i128
     requires { length lines.now < 2 ^ 32 }
     ensures moved { result ≡ moved (dids (of node (history_of lines.now))) }
     ensures bounded { IsSumOf (length lines.now) result }
@@ -133,7 +139,7 @@ pub fn moved_at(lines: &[Noted], node: u32) -> i128
 }
 
 /// The target of a node's clock at a tick, in microseconds.
-pub fn target_at(lines: &[Noted], node: u32, tick: u64) -> i128
+pub fn target_at(lines: &[HistoryLine], node: u32, tick: u64) -> i128
     requires { length lines.now < 2 ^ 32 }
     ensures target { result ≡ target (dids (of node (history_of lines.now))) tick }
     ensures small { IsSmall result }

@@ -2,7 +2,7 @@
 #![tactic(auto)]
 
 pub mod clocks;
-pub mod noted;
+pub mod line;
 pub mod posts;
 pub mod rounds;
 pub mod scans;

@@ -9,7 +9,7 @@ ghost use Rattle.tsp_history.specs.Histories.{line_of, history_of};
 ghost use Rattle.tsp_history.specs.Rounds.{Asked, Bests, better_of, LineAt, SeenBy, start_of, trip_at};
 
 use crate::clocks::{Clock, clock_after, target_at};
-use crate::noted::Noted;
+use crate::line::HistoryLine;
 use tsp_base::act::Act;
 use tsp_base::alarm::Alarm;
 use tsp_base::datagram::Datagram;
@@ -30,8 +30,9 @@ pub struct Best {
 }
 
 /// Whether a port's round goes on after a line, where `keep` says so before it.
-fn is_going_after(line: &Noted, node: u32, port: Port, keep: bool) -> bool
-    ensures { (before : List Line) → keep ≡ is_going (view port (of node before)) → result ≡ is_going (view port (of node (line_of line.now ∷ before))) }
+fn is_going_after(line: &HistoryLine, node: u32, port: Port, keep: bool) -> bool
+    ensures { (before : List Line) → keep ≡ is_going (view port (of node before))
+        → result ≡ is_going (view port (of node (line_of line.now ∷ before))) }
 {
     if line.node != node {
         return keep;
@@ -46,7 +47,7 @@ fn is_going_after(line: &Noted, node: u32, port: Port, keep: bool) -> bool
 }
 
 /// Whether a round of a node's port goes on.
-pub fn is_going(lines: &[Noted], node: u32, port: Port) -> bool
+pub fn is_going(lines: &[HistoryLine], node: u32, port: Port) -> bool
     ensures { result ≡ is_going (view port (of node (history_of lines.now))) }
 {
     let mut is_going = false;
@@ -56,15 +57,18 @@ pub fn is_going(lines: &[Noted], node: u32, port: Port) -> bool
     is_going
 }
 
-/// The index of the last Close of a port's step after the line with this index, where `keep` is that before it.
+/// The index of the last Close of a port's step after the line with this index, where `keep` is
+/// that before it.
 fn closed_after(
-    line: &Noted,
+    line: &HistoryLine,
     index: usize,
     node: u32,
     port: Port,
     keep: Option<usize>,
 ) -> Option<usize>
-    ensures { (ns : List Noted) (before : List Line) → LineAt ns index line.now → before ≡ history_of (take index ns) → SeenBy ns node port (closed (view port (of node before))) keep
+    ensures { (ns : List HistoryLine) (before : List Line) → LineAt ns index line.now
+        → before ≡ history_of (take index ns)
+        → SeenBy ns node port (closed (view port (of node before))) keep
         → SeenBy ns node port (closed (view port (of node (line_of line.now ∷ before)))) result }
 {
     if line.node != node {
@@ -84,8 +88,9 @@ fn closed_after(
 }
 
 /// The index of the last Close in the step that a node's port is in, if there is one.
-pub fn closed_at(lines: &[Noted], node: u32, port: Port) -> Option<usize>
-    ensures { SeenBy lines.now node port (closed (view port (of node (history_of lines.now)))) result }
+pub fn closed_at(lines: &[HistoryLine], node: u32, port: Port) -> Option<usize>
+    ensures { SeenBy lines.now node port (closed (view port (of node (history_of lines.now))))
+        result }
 {
     let mut closed = None;
     for (index, line) in lines.iter().enumerate() {
@@ -94,18 +99,21 @@ pub fn closed_at(lines: &[Noted], node: u32, port: Port) -> Option<usize>
     closed
 }
 
-/// The clock's target at the open request to a peer under this counter after a line of the node, at which the target is
-/// `now`, where `keep` is that before it.
+/// The clock's target at the open request to a peer under this counter after a line of the node, at
+/// which the target is `now`, where `keep` is that before it.
 fn asked_then(
-    line: &Noted,
+    line: &HistoryLine,
     port: Port,
     p: PeerId,
     counter: u64,
     now: i128,
     keep: Option<i128>,
 ) -> Option<i128>
-    ensures asked { (before : List Line) → now ≡ target (dids (of line.now.node before)) line.now.tick → Asked (exchange p counter (view port (of line.now.node before))) keep
-        → Asked (exchange p counter (view port (of line.now.node (line_of line.now ∷ before)))) result }
+    ensures asked { (before : List Line)
+        → now ≡ target (dids (of line.now.node before)) line.now.tick
+        → Asked (exchange p counter (view port (of line.now.node before))) keep
+        → Asked (exchange p counter (view port (of line.now.node (line_of line.now ∷ before))))
+        result }
     ensures small { IsSmall now → IfSome keep IsSmall → IfSome result IsSmall }
 {
     if let Some(Act::Boot) = &line.act {
@@ -148,7 +156,7 @@ fn asked_then(
 
 /// The same after a line of any node, where its clock is this one before it.
 fn asked_after(
-    line: &Noted,
+    line: &HistoryLine,
     node: u32,
     port: Port,
     p: PeerId,
@@ -157,7 +165,8 @@ fn asked_after(
     keep: Option<i128>,
 ) -> Option<i128>
     requires { IsSumOf 4294967295 clock.moved }
-    ensures asked { (before : List Line) → Keeps node before clock → Asked (exchange p counter (view port (of node before))) keep
+    ensures asked { (before : List Line) → Keeps node before clock
+        → Asked (exchange p counter (view port (of node before))) keep
         → Asked (exchange p counter (view port (of node (line_of line.now ∷ before)))) result }
     ensures small { IfSome keep IsSmall → IfSome result IsSmall }
 {
@@ -167,9 +176,15 @@ fn asked_after(
     asked_then(line, port, p, counter, clock.target(line.tick), keep)
 }
 
-/// The clock's target, in microseconds, at the last request of a node's port to a peer under this counter, as long as
-/// that exchange is open.
-pub fn asked_at(lines: &[Noted], node: u32, port: Port, p: PeerId, counter: u64) -> Option<i128>
+/// The clock's target, in microseconds, at the last request of a node's port to a peer under this
+/// counter, as long as that exchange is open.
+pub fn asked_at(
+    lines: &[HistoryLine],
+    node: u32,
+    port: Port,
+    p: PeerId,
+    counter: u64,
+) -> Option<i128>
     requires { length lines.now < 2 ^ 32 }
     ensures asked { Asked (exchange p counter (view port (of node (history_of lines.now)))) result }
     ensures small { IfSome result IsSmall }
@@ -197,7 +212,7 @@ fn since(now: i128, start: Option<i128>) -> i128
 }
 
 /// The round trip of a Sample that stands after these lines, in microseconds; 0 at another line.
-pub fn trip_of(lines: &[Noted], line: &Noted) -> i128
+pub fn trip_of(lines: &[HistoryLine], line: &HistoryLine) -> i128
     requires { length lines.now < 2 ^ 32 }
     ensures trip { result ≡ trip_at (line_of line.now) (history_of lines.now) }
     ensures small { IsTrip result }
@@ -213,7 +228,7 @@ pub fn trip_of(lines: &[Noted], line: &Noted) -> i128
 
 /// The best sample of a peer after the line with this index and round trip, where `keep` is that before it.
 pub fn best_after(
-    line: &Noted,
+    line: &HistoryLine,
     index: usize,
     trip: i128,
     node: u32,
@@ -221,8 +236,10 @@ pub fn best_after(
     p: PeerId,
     keep: Option<Best>,
 ) -> Option<Best>
-    ensures { (ns : List Noted) (before : List Line) → LineAt ns index line.now → before ≡ history_of (take index ns) → trip ≡ trip_at (line_of line.now) before →
-        Bests ns node port (best p (view port (of node before))) keep → Bests ns node port (best p (view port (of node (line_of line.now ∷ before)))) result }
+    ensures { (ns : List HistoryLine) (before : List Line) → LineAt ns index line.now
+        → before ≡ history_of (take index ns) → trip ≡ trip_at (line_of line.now) before
+        → Bests ns node port (best p (view port (of node before))) keep
+        → Bests ns node port (best p (view port (of node (line_of line.now ∷ before)))) result }
 {
     if line.node != node {
         return keep;

@@ -6,7 +6,7 @@ ghost use Rattle.tsp_promises.specs.Everywhere.{Everywhere};
 ghost use Rattle.tsp_history.specs.Histories.{line_of, history_of};
 ghost use Rattle.tsp_history.specs.Holding.{Apart};
 
-use crate::noted::Noted;
+use crate::line::HistoryLine;
 use crate::ticks::is_far;
 use tsp_base::act::Act;
 use tsp_base::constants::HOLD;
@@ -14,8 +14,9 @@ use tsp_base::place::{PeerId, Port};
 use tsp_base::role::Role;
 
 /// The role of a node's port after a line, where it was `keep` before.
-fn role_after(line: &Noted, node: u32, port: Port, keep: Role) -> Role
-    ensures { (before : List Line) → keep ≡ role (view port (of node before)) → result ≡ role (view port (of node (line_of line.now ∷ before))) }
+fn role_after(line: &HistoryLine, node: u32, port: Port, keep: Role) -> Role
+    ensures { (before : List Line) → keep ≡ role (view port (of node before))
+        → result ≡ role (view port (of node (line_of line.now ∷ before))) }
 {
     if line.node != node {
         return keep;
@@ -28,7 +29,7 @@ fn role_after(line: &Noted, node: u32, port: Port, keep: Role) -> Role
 }
 
 /// The role of a node's port.
-pub fn role_at(lines: &[Noted], node: u32, port: Port) -> Role
+pub fn role_at(lines: &[HistoryLine], node: u32, port: Port) -> Role
     ensures { result ≡ role (view port (of node (history_of lines.now))) }
 {
     let mut role = Role::Starting;
@@ -39,8 +40,9 @@ pub fn role_at(lines: &[Noted], node: u32, port: Port) -> Role
 }
 
 /// Whether a line is no Back for another candidate that is too near.
-fn is_apart(line: &Noted, node: u32, port: Port, tick: u64, p: PeerId) -> bool
-    ensures { MatchBool result (Apart node port tick p (line_of line.now)) (Apart node port tick p (line_of line.now) → ⊥) }
+fn is_apart(line: &HistoryLine, node: u32, port: Port, tick: u64, p: PeerId) -> bool
+    ensures { MatchBool result (Apart node port tick p (line_of line.now))
+        (Apart node port tick p (line_of line.now) → ⊥) }
 {
     if line.node != node || line.port != port {
         return true;
@@ -52,8 +54,10 @@ fn is_apart(line: &Noted, node: u32, port: Port, tick: u64, p: PeerId) -> bool
 }
 
 /// Whether a Back of p at this tick keeps the hold.
-pub fn is_held(lines: &[Noted], node: u32, port: Port, tick: u64, p: PeerId) -> bool
-    ensures { MatchBool result (Everywhere (λ other older. Apart node port tick p other) (history_of lines.now)) (Everywhere (λ other older. Apart node port tick p other) (history_of lines.now) → ⊥) }
+pub fn is_held(lines: &[HistoryLine], node: u32, port: Port, tick: u64, p: PeerId) -> bool
+    ensures { MatchBool result (Everywhere (λ other older. Apart node port tick p other)
+        (history_of lines.now)) (Everywhere (λ other older. Apart node port tick p other)
+        (history_of lines.now) → ⊥) }
 {
     for line in lines {
         if !is_apart(line, node, port, tick, p) {

@@ -4,12 +4,11 @@ ghost use Rattle.tsp_base.specs.History.{Line, of, view};
 ghost use Rattle.tsp_base.specs.SendFacts.{begun_to, is_numbered, open_to};
 ghost use Rattle.tsp_history.specs.Histories.{line_of, history_of};
 ghost use Rattle.tsp_history.specs.Sends.{Sees};
-ghost use Rattle.tsp_history.specs.Told.{Told};
+ghost use Rattle.tsp_history.specs.PostedPlaces.{IsPlaceOf};
 
-use crate::noted::Noted;
+use crate::line::HistoryLine;
 use tsp_base::act::Act;
 use tsp_base::datagram::Datagram;
-use tsp_base::kind::Kind;
 use tsp_base::place::{PeerId, Place, Port};
 
 /// What a scan for the sends of a node's port to a peer has seen so far.
@@ -25,25 +24,11 @@ struct Sight {
     open: Option<u64>,
 }
 
-/// Whether messages of this kind are numbered sends.
-fn is_numbered(kind: Kind) -> bool
-    ensures { result ≡ is_numbered kind }
-{
-    matches!(
-        kind,
-        Kind::AdjTime
-            | Kind::SetTime
-            | Kind::Election
-            | Kind::Conflict
-            | Kind::Quit
-            | Kind::SetDateReq
-    )
-}
-
 /// What is seen after a line.
-fn sight_after(line: &Noted, node: u32, port: Port, p: PeerId, keep: Sight) -> Sight
+fn sight_after(line: &HistoryLine, node: u32, port: Port, p: PeerId, keep: Sight) -> Sight
     requires { keep.posted + 1 < 2 ^ 64 }
-    ensures sees { (before : List Line) → Sees node port p before keep → Sees node port p (line_of line.now ∷ before) result }
+    ensures sees { (before : List Line) → Sees node port p before keep
+        → Sees node port p (line_of line.now ∷ before) result }
     ensures posted { result.posted ≤ keep.posted + 1 }
 {
     let posted = match &line.act {
@@ -77,7 +62,7 @@ fn sight_after(line: &Noted, node: u32, port: Port, p: PeerId, keep: Sight) -> S
             ..keep
         },
         Some(Act::Post(Place::Peer(c), Datagram::Message(m))) => {
-            if here && c.0 == p.0 && is_numbered(m.kind()) && keep.acting {
+            if here && c.0 == p.0 && m.kind().is_numbered() && keep.acting {
                 Sight {
                     posted: keep.posted + 1,
                     acting: true,
@@ -93,7 +78,7 @@ fn sight_after(line: &Noted, node: u32, port: Port, p: PeerId, keep: Sight) -> S
 }
 
 /// What is seen of the sends of a node's port to a peer.
-fn sight_at(lines: &[Noted], node: u32, port: Port, p: PeerId) -> Sight
+fn sight_at(lines: &[HistoryLine], node: u32, port: Port, p: PeerId) -> Sight
     requires { length lines.now < 2 ^ 32 }
     ensures { Sees node port p (history_of lines.now) result }
 {
@@ -110,17 +95,19 @@ fn sight_at(lines: &[Noted], node: u32, port: Port, p: PeerId) -> Sight
 }
 
 /// The number of the datagram with which the last send of a node's port to a peer began since the boot.
-pub fn begun_to(lines: &[Noted], node: u32, port: Port, p: PeerId) -> Option<u64>
+pub fn begun_to(lines: &[HistoryLine], node: u32, port: Port, p: PeerId) -> Option<u64>
     requires { length lines.now < 2 ^ 32 }
-    ensures { Told node port (history_of lines.now) (begun_to p (view port (of node (history_of lines.now)))) result }
+    ensures { IsPlaceOf node port (history_of lines.now)
+        (begun_to p (view port (of node (history_of lines.now)))) result }
 {
     sight_at(lines, node, port, p).begun
 }
 
 /// The number of the datagram with which the open send of a node's port to a peer began, if one is open.
-pub fn open_to(lines: &[Noted], node: u32, port: Port, p: PeerId) -> Option<u64>
+pub fn open_to(lines: &[HistoryLine], node: u32, port: Port, p: PeerId) -> Option<u64>
     requires { length lines.now < 2 ^ 32 }
-    ensures { Told node port (history_of lines.now) (open_to p (view port (of node (history_of lines.now)))) result }
+    ensures { IsPlaceOf node port (history_of lines.now)
+        (open_to p (view port (of node (history_of lines.now)))) result }
 {
     sight_at(lines, node, port, p).open
 }

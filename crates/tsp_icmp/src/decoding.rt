@@ -16,7 +16,8 @@ const SIZE: usize = 20;
 /// The number of the two octets at a place.
 fn u16_at(octets: &[u8], place: usize) -> u16
     requires { place + 2 ≤ length octets.now }
-    ensures { result ≡ from_be_bytes w16 (octet octets.now place ∷ octet octets.now (place + 1) ∷ []) }
+    ensures { result ≡ from_be_bytes w16 (octet octets.now place ∷ octet octets.now
+        (place + 1) ∷ []) }
 {
     u16::from_be_bytes([octets[place], octets[place + 1]])
 }
@@ -24,7 +25,8 @@ fn u16_at(octets: &[u8], place: usize) -> u16
 /// The number of the four octets at a place.
 fn u32_at(octets: &[u8], place: usize) -> u32
     requires { place + 4 ≤ length octets.now }
-    ensures { result ≡ from_be_bytes w32 (octet octets.now place ∷ octet octets.now (place + 1) ∷ octet octets.now (place + 2) ∷ octet octets.now (place + 3) ∷ []) }
+    ensures { result ≡ from_be_bytes w32 (octet octets.now place ∷ octet octets.now
+        (place + 1) ∷ octet octets.now (place + 2) ∷ octet octets.now (place + 3) ∷ []) }
 {
     u32::from_be_bytes([
         octets[place],
@@ -48,7 +50,8 @@ fn right_checksum(octets: &[u8]) -> u16
 
 /// The message, or the first fault; the clauses of `icmp_decode` but for its being the only answer.
 fn first_reading(octets: &[u8]) -> Result<Timestamp, IcmpFault>
-    ensures { MatchResult result (λ t. IsTimestamp t × (octets.now ≡ icmp_octets t)) (λ fault. IsFault octets.now fault) }
+    ensures { MatchResult result (λ t. IsTimestamp t × (octets.now ≡ icmp_octets t))
+        (λ fault. IsFault octets.now fault) }
 {
     if octets.len() != SIZE {
         return Err(IcmpFault::Length);
@@ -77,7 +80,8 @@ fn first_reading(octets: &[u8]) -> Result<Timestamp, IcmpFault>
 /// The message that the octets are. Where they are none, the first of their faults, in the order in
 /// which `IcmpFault` lists them.
 pub fn icmp_decode(octets: &[u8]) -> Result<Timestamp, IcmpFault>
-    ensures reads { MatchResult result (λ t. IsTimestamp t × (octets.now ≡ icmp_octets t)) (λ fault. IsFault octets.now fault) }
+    ensures reads { MatchResult result (λ t. IsTimestamp t × (octets.now ≡ icmp_octets t))
+        (λ fault. IsFault octets.now fault) }
     ensures spelled { (t : Timestamp) → IsTimestamp t → octets.now ≡ icmp_octets t → result ≡ Ok t }
     ensures faulty { (fault : IcmpFault) → IsFault octets.now fault → result ≡ Err fault }
 {

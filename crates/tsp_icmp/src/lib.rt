@@ -13,6 +13,3 @@ pub use decoding::icmp_decode;
 pub use encoding::icmp_encode;
 pub use exchange::{difference, standard, trip};
 pub use timestamp::{IcmpFault, Timestamp};
-
-#[cfg(test)]
-mod tests;

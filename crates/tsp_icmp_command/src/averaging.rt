@@ -68,11 +68,14 @@ impl Averaging {
         requires room { 0 < self.old.tally.left }
         requires arrival { exchange.arrival < 86400000 }
         ensures taken { OnOk result (self.new.tally ≡ taken self.old.tally exchange) }
-        ensures ok { OnOk result (Hands (K.written sink.old) output.old (K.written sink.new) output.new (close (exchange_line exchange))) }
-        ensures err { OnErr result (Hands (K.written sink.old) output.old (K.written sink.new) output.new []) }
+        ensures ok { OnOk result (Hands (K.written sink.old) output.old (K.written sink.new)
+            output.new (close (exchange_line exchange))) }
+        ensures err { OnErr result (Hands (K.written sink.old) output.old (K.written sink.new)
+            output.new []) }
         ensures stop { IfErr result (λ stop. (fault : Unwritten) × (stop ≡ stop_of fault)) }
         ensures later { K.faults sink.old ≤ K.faults sink.new }
-        ensures cause { result ≡ Err Stop.WriteFault → Rose (K.faults sink.old) (K.faults sink.new) × (0 < length output.new) }
+        ensures cause { result ≡ Err Stop.WriteFault → Rose (K.faults sink.old) (K.faults sink.new)
+            × (0 < length output.new) }
         ensures still { result ≢ Err Stop.WriteFault → K.faults sink.new ≡ K.faults sink.old }
     {
         let finding = finding_of(&exchange);

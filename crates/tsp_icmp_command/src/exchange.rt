@@ -37,7 +37,8 @@ fn cause_of(part: &[u8], fault: IcmpFault) -> Cause
 /// `request` or `reply` with the fault of the first of these that isn't what it should be.
 pub(crate) fn exchange_of(line: &[u8]) -> Result<Exchange, Cause>
     requires { length line.now ≤ 1024 }
-    ensures { MatchResult result (λ e. IsExchange line.now e) (λ cause. RefusesRecord line.now cause) }
+    ensures { MatchResult result (λ e. IsExchange line.now e) (λ cause. RefusesRecord line.now
+        cause) }
 {
     let Some(record) = record_of(line) else {
         return Err(Cause::of(b"record"));

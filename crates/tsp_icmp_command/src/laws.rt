@@ -14,7 +14,8 @@ pub fn one_exchange_of_a_line()
 
 /// No line that is an exchange is refused.
 pub fn an_exchange_is_not_refused()
-    ensures { (line cause : List ℕ) (e : Exchange) → IsExchange line e → RefusesRecord line cause → ⊥ }
+    ensures { (line cause : List ℕ) (e : Exchange) → IsExchange line e → RefusesRecord line cause
+        → ⊥ }
 {}
 
 /// At each place of the lines one thing at most may follow.

@@ -1,6 +1,7 @@
 //! Records of ICMP Timestamp exchanges to differences of clocks, their group and its corrections.
 //!
-//! [`average`] reads a line for each exchange, and writes each host's difference, then the group and the corrections.
+//! [`average`] reads a line for each exchange, and writes each host's difference, then the group
+//! and the corrections.
 #![tactic(auto)]
 
 mod apart;

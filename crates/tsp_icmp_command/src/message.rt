@@ -12,7 +12,8 @@ use tsp_script::numbers::octets_of;
 /// none for a fault. None where the word isn't pairs of hexadecimal digits, at least one.
 pub(crate) fn message_in(word: &[u8]) -> Option<Result<Timestamp, IcmpFault>>
     requires { length word.now ≤ 1024 }
-    ensures { MatchOption result ((message : Result Timestamp IcmpFault) → SaysInHex word.now message → ⊥) (λ message. SaysInHex word.now message) }
+    ensures { MatchOption result ((message : Result Timestamp IcmpFault)
+        → SaysInHex word.now message → ⊥) (λ message. SaysInHex word.now message) }
 {
     let octets = octets_of(word)?;
     if octets.is_empty() {

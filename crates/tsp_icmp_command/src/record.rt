@@ -26,7 +26,8 @@ pub struct Record {
 
 /// The time of the day that a word is the decimal text of.
 fn arrival_of(word: &[u8]) -> Option<u32>
-    ensures { MatchOption result ((n : ℕ) → n < 86400000 → word.now ≡ decimal n → ⊥) (λ n. (n < 86400000) × (word.now ≡ decimal n)) }
+    ensures { MatchOption result ((n : ℕ) → n < 86400000 → word.now ≡ decimal n
+        → ⊥) (λ n. (n < 86400000) × (word.now ≡ decimal n)) }
 {
     let number = number_of(word)?;
     let arrival = u32::try_from(number).ok()?;
@@ -40,7 +41,8 @@ fn arrival_of(word: &[u8]) -> Option<u32>
 /// What a line says; None where it isn't in the grammar.
 pub(crate) fn record_of(line: &[u8]) -> Option<Record>
     requires { length line.now ≤ 1024 }
-    ensures { MatchOption result ((r : Record) → IsRecord line.now r → ⊥) (λ r. IsRecord line.now r) }
+    ensures { MatchOption result ((r : Record) → IsRecord line.now r
+        → ⊥) (λ r. IsRecord line.now r) }
 {
     let (name, rest) = cut(line);
     let (request, rest) = cut(rest);

@@ -23,16 +23,25 @@ use tsp_lines::treat::{Outcome, treat_all};
 /// every line is an exchange, the answer is `Ok`, if nothing fails and there is memory.
 pub fn average<S: Source, K: Sink>(alloc: Global, source: &mut S, sink: &mut K) -> Outcome
     requires open { S.ended source.old ≡ false }
-    ensures comes { Comes averaging MOST_INPUT (S.left source.old) (S.left source.new) (K.written sink.old) (K.written sink.new) result }
-    ensures answers { Answers averaging MOST_INPUT (S.left source.old) (K.written sink.old) (K.written sink.new) result }
-    ensures keeps_up { KeepsUp averaging MOST_INPUT (S.left source.old) (S.left source.new) (K.written sink.old) (K.written sink.new) }
-    ensures later { (S.faults source.old ≤ S.faults source.new) × (K.faults sink.old ≤ K.faults sink.new) }
-    ensures read { result ≡ Outcome.ReadFault → Rose (S.faults source.old) (S.faults source.new) × (S.ended source.new ≡ false) }
+    ensures comes { Comes averaging MOST_INPUT (S.left source.old) (S.left source.new)
+        (K.written sink.old) (K.written sink.new) result }
+    ensures answers { Answers averaging MOST_INPUT (S.left source.old) (K.written sink.old)
+        (K.written sink.new) result }
+    ensures keeps_up { KeepsUp averaging MOST_INPUT (S.left source.old) (S.left source.new)
+        (K.written sink.old) (K.written sink.new) }
+    ensures later { (S.faults source.old ≤ S.faults source.new)
+        × (K.faults sink.old ≤ K.faults sink.new) }
+    ensures read { result ≡ Outcome.ReadFault → Rose (S.faults source.old) (S.faults source.new)
+        × (S.ended source.new ≡ false) }
     ensures write { result ≡ Outcome.WriteFault → Rose (K.faults sink.old) (K.faults sink.new) }
-    ensures still { (result ≢ Outcome.ReadFault → S.faults source.new ≡ S.faults source.old) × (result ≢ Outcome.WriteFault → K.faults sink.new ≡ K.faults sink.old) }
+    ensures still { (result ≢ Outcome.ReadFault → S.faults source.new ≡ S.faults source.old)
+        × (result ≢ Outcome.WriteFault → K.faults sink.new ≡ K.faults sink.old) }
     ensures ended { result ≡ Outcome.Ok → S.ended source.new ≡ true }
-    ensures complete { (octets : List ℕ) → S.left source.old ≡ Some octets → length octets ≤ MOST_INPUT → AreExchangeLines octets → ¬ Rose (S.faults source.old) (S.faults source.new) → ¬ Rose (K.faults sink.old) (K.faults sink.new)
-        → (result ≡ Outcome.Ok) ⊎ (result ≡ Outcome.OutOfMemory) }
+    ensures complete { (octets : List ℕ) → S.left source.old ≡ Some octets
+        → length octets ≤ MOST_INPUT → AreExchangeLines octets
+        → ¬ Rose (S.faults source.old) (S.faults source.new)
+        → ¬ Rose (K.faults sink.old) (K.faults sink.new) → (result ≡ Outcome.Ok)
+        ⊎ (result ≡ Outcome.OutOfMemory) }
 {
     treat_all(alloc, MOST_INPUT, source, sink, &mut Averaging::new(alloc))
 }

@@ -53,10 +53,14 @@ fn tell_corrections<K: Sink>(
     sink: &mut K,
 ) -> Result<(), Unwritten>
     requires { IsNear mean }
-    ensures ok { OnOk result (Hands (K.written sink.old) output.old (K.written sink.new) output.new (corrections mean bests.now)) }
-    ensures err { OnErr result ((part : List ℕ) × (rest : List ℕ) × (corrections mean bests.now ≡ part ++ rest) × Hands (K.written sink.old) output.old (K.written sink.new) output.new part) }
+    ensures ok { OnOk result (Hands (K.written sink.old) output.old (K.written sink.new) output.new
+        (corrections mean bests.now)) }
+    ensures err { OnErr result ((part : List ℕ) × (rest : List ℕ)
+        × (corrections mean bests.now ≡ part ++ rest) × Hands (K.written sink.old) output.old
+        (K.written sink.new) output.new part) }
     ensures later { K.faults sink.old ≤ K.faults sink.new }
-    ensures cause { result ≡ Err Unwritten.WriteFault → Rose (K.faults sink.old) (K.faults sink.new) × (0 < length output.new) }
+    ensures cause { result ≡ Err Unwritten.WriteFault → Rose (K.faults sink.old) (K.faults sink.new)
+        × (0 < length output.new) }
     ensures still { result ≢ Err Unwritten.WriteFault → K.faults sink.new ≡ K.faults sink.old }
 {
     for best in bests {
@@ -74,10 +78,14 @@ pub(crate) fn tell_summary<K: Sink>(
 ) -> Result<(), Unwritten>
     requires mean { HasMean group.now }
     requires near { IsNear (mean_of group.now) }
-    ensures ok { OnOk result (Hands (K.written sink.old) output.old (K.written sink.new) output.new (summary_of group.now bests.now)) }
-    ensures err { OnErr result ((part : List ℕ) × (rest : List ℕ) × (summary_of group.now bests.now ≡ part ++ rest) × Hands (K.written sink.old) output.old (K.written sink.new) output.new part) }
+    ensures ok { OnOk result (Hands (K.written sink.old) output.old (K.written sink.new) output.new
+        (summary_of group.now bests.now)) }
+    ensures err { OnErr result ((part : List ℕ) × (rest : List ℕ)
+        × (summary_of group.now bests.now ≡ part ++ rest) × Hands (K.written sink.old) output.old
+        (K.written sink.new) output.new part) }
     ensures later { K.faults sink.old ≤ K.faults sink.new }
-    ensures cause { result ≡ Err Unwritten.WriteFault → Rose (K.faults sink.old) (K.faults sink.new) × (0 < length output.new) }
+    ensures cause { result ≡ Err Unwritten.WriteFault → Rose (K.faults sink.old) (K.faults sink.new)
+        × (0 < length output.new) }
     ensures still { result ≢ Err Unwritten.WriteFault → K.faults sink.new ≡ K.faults sink.old }
 {
     let mean = mean(group);

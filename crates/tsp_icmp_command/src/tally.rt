@@ -83,7 +83,11 @@ impl Tally {
     /// Fails only where memory is refused.
     pub(crate) fn take(&mut self, difference: Option<Best>) -> Result<(), AllocError>
         requires { 0 < self.old.left }
-        ensures { OnOk result (self.new ≡ record { bests = with_difference self.old.bests difference; left = self.old.left - 1 }) }
+        ensures { OnOk result
+            (self.new ≡ record {
+              bests = with_difference self.old.bests difference;
+              left = self.old.left - 1;
+            }) }
     {
         self.left -= 1;
         if let Some(later) = difference {

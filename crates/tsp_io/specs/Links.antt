@@ -3,6 +3,9 @@ use Rattle.std.specs.Prelude.{◌≡◌, ℕ, ◌≤◌, List, [], ◌∷◌, �
 use Rattle.std.specs.Option.{option_map}
 use Rattle.tsp_base.specs.declared.place.Place.{Place}
 use Rattle.tsp_base.specs.declared.place.Place.TheVariants.{Peer, Stranger}
+use Rattle.tsp_io.specs.declared.addr.Addr.{Addr}
+use Rattle.tsp_io.specs.declared.link.Bound.{Bound}
+use Rattle.tsp_io.specs.declared.link.Bound.TheVariants.{Bound as Made}
 use Rattle.tsp_io.specs.declared.link.Recv.{Recv}
 use Rattle.tsp_io.specs.declared.link.Recv.TheVariants.{Datagram, Nothing, Failed}
 use Rattle.tsp_io.specs.declared.link.Sent.{Sent}
@@ -15,6 +18,11 @@ Arrival = Option (Place × List ℕ)
 -- a send that was tried: to whom, and the octets
 abbrev pub Tried : Type 0
 Tried = Place × List ℕ
+
+-- what a link was bound to: an address of this machine, and the peers' addresses in their order
+pub record Binding : Type 0 where
+  pub local : Addr
+  pub peers : List Addr
 
 -- whether a datagram came from an address that is no peer's
 abbrev pub is_stranger : Place → Bool
@@ -47,3 +55,14 @@ abbrev pub Sends : Option (List Tried) → Option (List Tried) → Sent → Trie
 Sends tried more Went t = Adds tried more t
 Sends tried more Lost t = Adds tried more t
 Sends tried more OutOfMemory t = more ≡ tried
+
+-- one more of what is noted call by call; what isn't told before isn't told after, and what was told may be told no more
+abbrev pub Notes : {A : Type 0} → Option (List A) → Option (List A) → A → Type 0
+Notes noted None x = Unit {0}
+Notes None (Some now) x = ⊥
+Notes (Some before) (Some now) x = now ≡ before ++ x ∷ []
+
+-- a bind that is made is noted; one that isn't leaves what was noted
+abbrev pub NotesBind : Option (List Binding) → Option (List Binding) → Bound → Binding → Type 0
+NotesBind noted now Made b = Notes noted now b
+NotesBind noted now _ b = now ≡ noted

@@ -1,8 +1,9 @@
 -- What a link in memory holds.
 use Rattle.std.specs.Prelude.{Some, None}
-use Rattle.tsp_io.specs.Links.{Arrival, Tried}
+use Rattle.tsp_io.specs.Links.{Arrival, Binding, Tried}
 use Rattle.tsp_io.specs.declared.arrivals.Coming.{Coming}
 use Rattle.tsp_io.specs.declared.arrivals.Coming.TheVariants.{Datagram, Nothing}
+use Rattle.tsp_io.specs.declared.noted_calls.NotedBind.{NotedBind}
 use Rattle.tsp_io.specs.declared.tried_sends.TriedSend.{TriedSend}
 
 -- what comes, without where it lies in memory
@@ -13,3 +14,7 @@ arrival_of Nothing = None
 -- a send that was tried, without where it lies in memory
 abbrev pub tried_of : TriedSend → Tried
 tried_of t = (t.to, t.octets.items)
+
+-- a bind, without where it lies in memory
+abbrev pub binding_of : NotedBind → Binding
+binding_of b = record { local = b.local; peers = b.peers.items }

@@ -1,5 +1,6 @@
 //! What is to come over a link in memory.
-ghost use Rattle.std.specs.Prelude.{◌≡◌, ◌≤◌, List, [], ◌∷◌, ◌++◌, length, drop, map, take, vec_len, Some, MatchOption, MatchResult};
+ghost use Rattle.std.specs.Prelude.{◌≡◌, ◌≤◌, List, [], ◌∷◌, ◌++◌, length, drop, map, take};
+ghost use Rattle.std.specs.Prelude.{vec_len, Some, MatchOption, MatchResult};
 ghost use Rattle.tsp_io.specs.Links.{Arrival, TakesDatagram, TakesNothing};
 ghost use Rattle.tsp_io.specs.MemoryLinks.{arrival_of};
 
@@ -44,7 +45,8 @@ impl Arrivals {
 
     /// One more is to come, behind the others.
     pub(crate) fn push(&mut self, coming: Coming) -> Result<(), AllocError>
-        ensures { MatchResult result (λ _. self.new ≡ self.old ++ arrival_of coming ∷ []) (λ _. self.new ≡ self.old) }
+        ensures { MatchResult result (λ _. self.new ≡ self.old ++ arrival_of coming ∷ [])
+            (λ _. self.new ≡ self.old) }
     {
         self.coming.push(coming)?;
         Ok(())
@@ -53,7 +55,9 @@ impl Arrivals {
     /// Takes the next arrival. A datagram is copied to the front of the buffer, as much of it as fits there.
     pub(crate) fn take(&mut self, buf: &mut [u8]) -> Option<(Place, usize)>
         requires { length buf.old ≡ 512 }
-        ensures { MatchOption result (TakesNothing (Some self.old) (Some self.new)) (λ r. (r.1 ≤ 512) × TakesDatagram (Some self.old) (Some self.new) r.0 (take r.1 buf.new)) }
+        ensures { MatchOption result (TakesNothing (Some self.old) (Some self.new))
+            (λ r. (r.1 ≤ 512) × TakesDatagram (Some self.old) (Some self.new) r.0
+            (take r.1 buf.new)) }
     {
         if self.at >= self.coming.len() {
             return None;

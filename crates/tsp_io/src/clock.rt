@@ -11,10 +11,12 @@ const LAST_TICK: u64 = 1 << 61;
 /// The last time of the wall clock: 2^62 microseconds.
 const LAST_WALL: u64 = 1 << 62;
 
-/// The machine's monotonic clock as a tick counter, and its wall clock. They tell nothing of what they will answer.
+/// The machine's monotonic clock as a tick counter, and its wall clock. They tell nothing of what
+/// they will answer.
 ///
-/// The counter begins at 0 with its first reading. The wall clock is read once; that reading is the word too. Where
-/// the machine gives no reading, the counter answers its last one, and wall and word are 0.
+/// The counter begins at 0 with its first reading. The wall clock is read once; that reading is the
+/// word too. Where the machine gives no reading, the counter answers its last one, and wall and
+/// word are 0.
 #[derive(Drop)]
 pub struct MachineTicker<R> {
     rt: R,
@@ -71,6 +73,8 @@ impl<R: Clock> Ticker for MachineTicker<R> {
     ghost wall_is = { λ _. None };
 
     ghost word_is = { λ _. None };
+
+    ghost left_at_wall = { λ _. None };
 
     ghost last = { λ s. s.last };
 

@@ -1,5 +1,7 @@
 //! A source and a sink in memory, whose calls fail where that is asked for.
-ghost use Rattle.std.specs.Prelude.{◌≡◌, ◌≢◌, ◌↔◌, ◌⊎◌, ℕ, ◌≤◌, ◌<◌, ◌+◌, ◌-◌, ◌^◌, [], ◌++◌, length, drop, None, Some, false, IfOk, IsTrue, Contains, true, vec_len, min, take};
+ghost use Rattle.std.specs.Prelude.{◌≡◌, ◌≢◌, ◌↔◌, ◌⊎◌, ℕ, ◌≤◌, ◌<◌, ◌+◌, ◌-◌, ◌^◌, [], ◌++◌};
+ghost use Rattle.std.specs.Prelude.{length, drop, None, Some, false, IfOk, IsTrue, Contains, true};
+ghost use Rattle.std.specs.Prelude.{vec_len, min, take};
 ghost use Rattle.tsp_io.specs.Counts.{Rose};
 ghost use Rattle.tsp_io.specs.FailingCalls.{FailsNext, CountsCall};
 ghost use Rattle.tsp_io.specs.Streams.{Reads, Writes};
@@ -37,8 +39,10 @@ impl MemorySource {
     /// A source of these octets. The reads whose numbers are listed fail; they are counted from 0.
     pub fn new(alloc: Global, octets: &[u8], failing: &[u32]) -> Result<MemorySource, AllocError>
         ensures left { IfOk result (λ s. drop s.at s.octets.items ≡ octets.now) }
-        ensures calls { IfOk result (λ s. (s.failing.calls.items ≡ failing.now) × (s.failing.next ≡ 0)) }
-        ensures rest { IfOk result (λ s. (s.ended ≡ false) × (s.faults ≡ 0) × (s.most ≡ 2 ^ 64 - 1)) }
+        ensures calls { IfOk result (λ s. (s.failing.calls.items ≡ failing.now)
+            × (s.failing.next ≡ 0)) }
+        ensures rest { IfOk result (λ s. (s.ended ≡ false) × (s.faults ≡ 0)
+            × (s.most ≡ 2 ^ 64 - 1)) }
     {
         Ok(MemorySource {
             octets: Vec::from_slice(alloc, octets)?,
@@ -54,7 +58,8 @@ impl MemorySource {
     pub fn in_pieces(mut self, most: usize) -> MemorySource
         requires { 0 < most }
         ensures most { result.most ≡ most }
-        ensures octets { (result.octets ≡ self.octets) × (result.at ≡ self.at) × (result.ended ≡ self.ended) }
+        ensures octets { (result.octets ≡ self.octets) × (result.at ≡ self.at)
+            × (result.ended ≡ self.ended) }
         ensures calls { (result.failing ≡ self.failing) × (result.faults ≡ self.faults) }
     {
         self.most = most;
@@ -71,13 +76,18 @@ impl Source for MemorySource {
 
     fn read(&mut self, buf: &mut [u8]) -> Got
         requires { 0 < length buf.old }
-        ensures reads { Reads (Some (drop self.old.at self.old.octets.items)) (Some (drop self.new.at self.new.octets.items)) self.old.ended self.new.ended result buf.new }
+        ensures reads { Reads (Some (drop self.old.at self.old.octets.items))
+            (Some (drop self.new.at self.new.octets.items)) self.old.ended self.new.ended result
+            buf.new }
         ensures later { self.old.faults ≤ self.new.faults }
         ensures cause { result ≡ Got.Failed → Rose self.old.faults self.new.faults }
         ensures still { result ≢ Got.Failed → self.new.faults ≡ self.old.faults }
         ensures fails { FailsNext self.old.failing → result ≡ Got.Failed }
-        ensures gives { ¬ FailsNext self.old.failing → result ≡ Got.Got (min (length (drop self.old.at self.old.octets.items)) (min (length buf.old) self.old.most)) }
-        ensures counted { CountsCall self.old.failing self.new.failing × (self.new.most ≡ self.old.most) }
+        ensures gives { ¬ FailsNext self.old.failing
+            → result ≡ Got.Got (min (length (drop self.old.at self.old.octets.items))
+            (min (length buf.old) self.old.most)) }
+        ensures counted { CountsCall self.old.failing self.new.failing
+            × (self.new.most ≡ self.old.most) }
     {
         if self.failing.fails() {
             self.faults = self.faults.saturating_add(1);
@@ -103,7 +113,8 @@ pub struct MemorySink {
 impl MemorySink {
     /// A sink with nothing written. The writes whose numbers are listed fail; they are counted from 0.
     pub fn new(alloc: Global, failing: &[u32]) -> Result<MemorySink, AllocError>
-        ensures { IfOk result (λ s. (s.octets.items ≡ []) × (s.failing.calls.items ≡ failing.now) × (s.failing.next ≡ 0) × (s.faults ≡ 0)) }
+        ensures { IfOk result (λ s. (s.octets.items ≡ []) × (s.failing.calls.items ≡ failing.now)
+            × (s.failing.next ≡ 0) × (s.faults ≡ 0)) }
     {
         Ok(MemorySink {
             octets: Vec::new(alloc),
@@ -127,12 +138,14 @@ impl Sink for MemorySink {
 
     fn write(&mut self, piece: &[u8]) -> Wrote
         requires { 0 < length piece.now }
-        ensures writes { Writes (Some self.old.octets.items) (Some self.new.octets.items) result piece.now }
+        ensures writes { Writes (Some self.old.octets.items) (Some self.new.octets.items) result
+            piece.now }
         ensures later { self.old.faults ≤ self.new.faults }
         ensures cause { result ≡ Wrote.Failed → Rose self.old.faults self.new.faults }
         ensures still { result ≢ Wrote.Failed → self.new.faults ≡ self.old.faults }
         ensures fails { (result ≡ Wrote.Failed) ↔ FailsNext self.old.failing }
-        ensures whole { result ≡ Wrote.Failed ⊎ (result ≡ Wrote.OutOfMemory ⊎ result ≡ Wrote.Took (length piece.now)) }
+        ensures whole { result ≡ Wrote.Failed
+            ⊎ (result ≡ Wrote.OutOfMemory ⊎ result ≡ Wrote.Took (length piece.now)) }
         ensures counted { CountsCall self.old.failing self.new.failing }
     {
         if self.failing.fails() {

@@ -1,14 +1,16 @@
 //! A link in memory, whose calls fail where that is asked for.
-ghost use Rattle.std.specs.Prelude.{◌≡◌, ◌≢◌, ◌↔◌, ◌≤◌, ◌<◌, [], ◌++◌, ◌∷◌, length, Some, None, IfOk, MatchResult, false, true, slice_get};
+ghost use Rattle.std.specs.Prelude.{◌≡◌, ◌≢◌, ◌↔◌, ◌≤◌, ◌<◌, [], ◌++◌, ◌∷◌, length, Some, None};
+ghost use Rattle.std.specs.Prelude.{IfOk, MatchResult, false, true, slice_get};
 ghost use Rattle.std.specs.Option.{option_map};
 ghost use Rattle.tsp_io.specs.Counts.{Rose, one_more};
 ghost use Rattle.tsp_io.specs.FailingCalls.{FailsNext, CountsCall};
-ghost use Rattle.tsp_io.specs.Links.{is_stranger, Receives, Sends};
+ghost use Rattle.tsp_io.specs.Links.{is_stranger, Notes, NotesBind, Receives, Sends};
 
 use crate::addr::Addr;
 use crate::arrivals::{Arrivals, Coming};
 use crate::failing::Failing;
 use crate::link::{Bound, Link, Recv, Sent};
+use crate::noted_calls::{NotedBinds, NotedWaits};
 use crate::tried_sends::TriedSends;
 use std::alloc::{AllocError, Global};
 use tsp_base::place::Place;
@@ -19,6 +21,8 @@ pub struct MemoryLink {
     alloc: Global,
     arrivals: Arrivals,
     tried: TriedSends,
+    binds: NotedBinds,
+    waits: NotedWaits,
     failing: Failing,
     calls: u64,
     stranger: bool,
@@ -27,17 +31,22 @@ pub struct MemoryLink {
 }
 
 impl MemoryLink {
-    /// A link over which nothing comes, until `arrive` or `nothing` is called. The calls whose numbers are listed
-    /// fail; they are counted from 0, over binds, receives and sends.
+    /// A link over which nothing comes, until `arrive` or `nothing` is called. The calls whose
+    /// numbers are listed fail; they are counted from 0, over binds, receives and sends.
     pub fn new(alloc: Global, failing: &[u32]) -> Result<MemoryLink, AllocError>
         ensures lists { IfOk result (λ s. (s.arrivals ≡ []) × (s.tried ≡ [])) }
-        ensures calls { IfOk result (λ s. (s.failing.calls.items ≡ failing.now) × (s.failing.next ≡ 0)) }
-        ensures rest { IfOk result (λ s. (s.calls ≡ 0) × (s.stranger ≡ false) × (s.faults ≡ 0) × (s.send_faults ≡ 0)) }
+        ensures notes { IfOk result (λ s. (s.binds ≡ Some []) × (s.waits ≡ Some [])) }
+        ensures calls { IfOk result (λ s. (s.failing.calls.items ≡ failing.now)
+            × (s.failing.next ≡ 0)) }
+        ensures rest { IfOk result (λ s. (s.calls ≡ 0) × (s.stranger ≡ false) × (s.faults ≡ 0)
+            × (s.send_faults ≡ 0)) }
     {
         Ok(MemoryLink {
             alloc,
             arrivals: Arrivals::new(alloc),
             tried: TriedSends::new(alloc),
+            binds: NotedBinds::new(alloc),
+            waits: NotedWaits::new(alloc),
             failing: Failing::new(alloc, failing)?,
             calls: 0,
             stranger: false,
@@ -48,7 +57,9 @@ impl MemoryLink {
 
     /// A datagram is to come, behind what comes already. Where memory is refused, nothing changes.
     pub fn arrive(&mut self, from: Place, octets: &[u8]) -> Result<(), AllocError>
-        ensures { MatchResult result (λ _. self.new ≡ record self.old { arrivals = self.old.arrivals ++ Some (from, octets.now) ∷ [] }) (λ _. self.new ≡ self.old) }
+        ensures { MatchResult result (λ _. self.new ≡ record self.old
+            { arrivals = self.old.arrivals ++ Some (from, octets.now) ∷ [] })
+            (λ _. self.new ≡ self.old) }
     {
         let octets = Vec::from_slice(self.alloc, octets)?;
         self.arrivals.push(Coming::Datagram(from, octets))?;
@@ -57,10 +68,18 @@ impl MemoryLink {
 
     /// One receive is to wait in vain, behind what comes already. Where memory is refused, nothing changes.
     pub fn nothing(&mut self) -> Result<(), AllocError>
-        ensures { MatchResult result (λ _. self.new ≡ record self.old { arrivals = self.old.arrivals ++ None ∷ [] }) (λ _. self.new ≡ self.old) }
+        ensures { MatchResult result (λ _. self.new ≡ record self.old
+            { arrivals = self.old.arrivals ++ None ∷ [] }) (λ _. self.new ≡ self.old) }
     {
         self.arrivals.push(Coming::Nothing)?;
         Ok(())
+    }
+
+    /// How many microseconds each receive was to wait; None once memory to note one was refused.
+    pub fn waits(&self) -> Option<&[u64]>
+        ensures { option_map (λ waits. waits.now) result ≡ self.now.waits }
+    {
+        self.waits.all()
     }
 
     /// How many sends were tried.
@@ -92,6 +111,10 @@ impl Link for MemoryLink {
 
     ghost tried = { λ s. Some s.tried };
 
+    ghost binds = { λ s. s.binds };
+
+    ghost waits = { λ s. s.waits };
+
     ghost calls = { λ s. Some s.calls };
 
     ghost stranger = { λ s. s.stranger };
@@ -100,33 +123,44 @@ impl Link for MemoryLink {
 
     ghost send_faults = { λ s. s.send_faults };
 
-    fn bind(&mut self, _local: Addr, _peers: &[Addr]) -> Bound
-        ensures same { (self.new.arrivals ≡ self.old.arrivals) × (self.new.tried ≡ self.old.tried) × (self.new.stranger ≡ self.old.stranger) }
-        ensures counted { (self.new.calls ≡ one_more self.old.calls) × CountsCall self.old.failing self.new.failing }
-        ensures later { (self.old.faults ≤ self.new.faults) × (self.new.send_faults ≡ self.old.send_faults) }
+    fn bind(&mut self, local: Addr, peers: &[Addr]) -> Bound
+        ensures binds { NotesBind self.old.binds self.new.binds result
+            (record { local = local; peers = peers.now }) }
+        ensures same { (self.new.arrivals ≡ self.old.arrivals) × (self.new.tried ≡ self.old.tried)
+            × (self.new.waits ≡ self.old.waits) × (self.new.stranger ≡ self.old.stranger) }
+        ensures counted { (self.new.calls ≡ one_more self.old.calls)
+            × CountsCall self.old.failing self.new.failing }
+        ensures later { (self.old.faults ≤ self.new.faults)
+            × (self.new.send_faults ≡ self.old.send_faults) }
         ensures cause { result ≡ Bound.Failed → Rose self.old.faults self.new.faults }
         ensures still { result ≢ Bound.Failed → self.new.faults ≡ self.old.faults }
         ensures fails { FailsNext self.old.failing → result ≡ Bound.Failed }
-        ensures binds { ¬ FailsNext self.old.failing → result ≡ Bound.Bound }
+        ensures goes { ¬ FailsNext self.old.failing → result ≡ Bound.Bound }
     {
         self.calls = self.calls.saturating_add(1);
         if self.failing.fails() {
             self.faults = self.faults.saturating_add(1);
             return Bound::Failed;
         }
+        self.binds.note(local, peers);
         Bound::Bound
     }
 
-    fn recv(&mut self, buf: &mut [u8], _wait: u64) -> Recv
+    fn recv(&mut self, buf: &mut [u8], wait: u64) -> Recv
         requires { length buf.old ≡ 512 }
-        ensures receives { Receives (Some self.old.arrivals) (Some self.new.arrivals) self.old.stranger self.new.stranger result buf.new }
-        ensures same { self.new.tried ≡ self.old.tried }
-        ensures counted { (self.new.calls ≡ one_more self.old.calls) × CountsCall self.old.failing self.new.failing }
-        ensures later { (self.old.faults ≤ self.new.faults) × (self.new.send_faults ≡ self.old.send_faults) }
+        ensures receives { Receives (Some self.old.arrivals) (Some self.new.arrivals)
+            self.old.stranger self.new.stranger result buf.new }
+        ensures waits { Notes self.old.waits self.new.waits wait }
+        ensures same { (self.new.tried ≡ self.old.tried) × (self.new.binds ≡ self.old.binds) }
+        ensures counted { (self.new.calls ≡ one_more self.old.calls)
+            × CountsCall self.old.failing self.new.failing }
+        ensures later { (self.old.faults ≤ self.new.faults)
+            × (self.new.send_faults ≡ self.old.send_faults) }
         ensures cause { result ≡ Recv.Failed → Rose self.old.faults self.new.faults }
         ensures still { result ≢ Recv.Failed → self.new.faults ≡ self.old.faults }
         ensures fails { (result ≡ Recv.Failed) ↔ FailsNext self.old.failing }
     {
+        self.waits.note(wait);
         self.calls = self.calls.saturating_add(1);
         if self.failing.fails() {
             self.faults = self.faults.saturating_add(1);
@@ -144,9 +178,12 @@ impl Link for MemoryLink {
     fn send(&mut self, to: Place, octets: &[u8]) -> Sent
         requires { to ≡ Place.Stranger → self.old.stranger ≡ true }
         ensures sends { Sends (Some self.old.tried) (Some self.new.tried) result (to, octets.now) }
-        ensures same { (self.new.arrivals ≡ self.old.arrivals) × (self.new.calls ≡ self.old.calls) × (self.new.stranger ≡ self.old.stranger) }
+        ensures same { (self.new.arrivals ≡ self.old.arrivals) × (self.new.calls ≡ self.old.calls)
+            × (self.new.binds ≡ self.old.binds) × (self.new.waits ≡ self.old.waits)
+            × (self.new.stranger ≡ self.old.stranger) }
         ensures counted { CountsCall self.old.failing self.new.failing }
-        ensures later { (self.new.faults ≡ self.old.faults) × (self.old.send_faults ≤ self.new.send_faults) }
+        ensures later { (self.new.faults ≡ self.old.faults)
+            × (self.old.send_faults ≤ self.new.send_faults) }
         ensures cause { result ≡ Sent.Failed → Rose self.old.send_faults self.new.send_faults }
         ensures still { result ≢ Sent.Failed → self.new.send_faults ≡ self.old.send_faults }
         ensures fails { result ≡ Sent.Failed → FailsNext self.old.failing }

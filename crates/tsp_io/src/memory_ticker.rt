@@ -1,5 +1,6 @@
 //! A tick counter in memory.
-ghost use Rattle.std.specs.Prelude.{◌≡◌, ℕ, ◌≤◌, ◌<◌, ◌^◌, length, true, drop, IfOk, Some, vec_len};
+ghost use Rattle.std.specs.Prelude.{◌≡◌, ℕ, ◌≤◌, ◌<◌, ◌^◌, length, true, drop, IfOk, None, Some, vec_len};
+ghost use Rattle.std.specs.Option.{option_map};
 ghost use Rattle.tsp_io.specs.Clocks.{climbs, IsWall};
 
 use crate::ticker::Ticker;
@@ -13,6 +14,7 @@ pub struct MemoryTicker {
     wall: i64,
     word: u64,
     last: u64,
+    wall_at: Option<usize>,
     ghost within: { at ≤ vec_len ticks },
     ghost climbs: { climbs last (drop at ticks.items) ≡ true },
     ghost last_small: { last ≤ 2 ^ 61 },
@@ -31,7 +33,8 @@ impl MemoryTicker {
         requires climbs { climbs 0 ticks.now ≡ true }
         requires wall { IsWall wall }
         ensures readings { IfOk result (λ s. drop s.at s.ticks.items ≡ ticks.now) }
-        ensures rest { IfOk result (λ s. (s.wall ≡ wall) × (s.word ≡ word) × (s.last ≡ 0)) }
+        ensures rest { IfOk result (λ s. (s.wall ≡ wall) × (s.word ≡ word) × (s.last ≡ 0)
+            × (s.wall_at ≡ None)) }
     {
         Ok(MemoryTicker {
             ticks: Vec::from_slice(alloc, ticks)?,
@@ -39,6 +42,7 @@ impl MemoryTicker {
             wall,
             word,
             last: 0,
+            wall_at: None,
         })
     }
 
@@ -57,6 +61,8 @@ impl Ticker for MemoryTicker {
 
     ghost word_is = { λ s. Some s.word };
 
+    ghost left_at_wall = { λ s. Some (option_map (λ k. drop k s.ticks.items) s.wall_at) };
+
     ghost last = { λ s. s.last };
 
     fn tick(&mut self) -> u64 {
@@ -69,6 +75,7 @@ impl Ticker for MemoryTicker {
     }
 
     fn wall(&mut self) -> i64 {
+        self.wall_at = Some(self.at);
         self.wall
     }
 

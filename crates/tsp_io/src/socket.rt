@@ -58,8 +58,8 @@ impl Socket {
     }
 }
 
-/// Whether a receive that ends so has only had no datagram: the wait was over, a signal came, or the network told
-/// that an earlier datagram of this socket couldn't be delivered.
+/// Whether a receive that ends so has only had no datagram: the wait was over, a signal came, or
+/// the network told that an earlier datagram of this socket couldn't be delivered.
 fn is_no_datagram(kind: ErrorKind) -> bool {
     matches!(
         kind,

@@ -1,5 +1,6 @@
 //! A machine's tick counter, and the wall clock and the word that a node is handed at its boot.
-ghost use Rattle.std.specs.Prelude.{◌≡◌, ℕ, ℤ, ◌≤◌, ◌^◌, List, IfSome, Option};
+ghost use Rattle.std.specs.Prelude.{◌≡◌, ℕ, ℤ, ◌≤◌, ◌^◌, List, IfSome, Option, Some};
+ghost use Rattle.std.specs.Option.{option_map};
 ghost use Rattle.tsp_io.specs.Clocks.{TakesReading, IsWall};
 
 /// Something that ticks. It refuses nothing.
@@ -13,6 +14,10 @@ pub trait Ticker {
     /// What `word` answers, where the implementation tells it.
     ghost word_is: { Self → Option ℕ };
 
+    /// The readings that `tick` had left when the wall clock was last read, where the implementation
+    /// tells them; None where it wasn't read.
+    ghost left_at_wall: { Self → Option (Option (List ℕ)) };
+
     /// The last answer of `tick`; 0 before one.
     ghost last: { Self → ℕ };
 
@@ -21,17 +26,26 @@ pub trait Ticker {
         ensures low { last self.old ≤ result }
         ensures high { result ≤ 2 ^ 61 }
         ensures last { last self.new ≡ result }
-        ensures takes { TakesReading (readings self.old) (readings self.new) (last self.old) result }
-        ensures same { (wall_is self.new ≡ wall_is self.old) × (word_is self.new ≡ word_is self.old) };
+        ensures takes { TakesReading (readings self.old) (readings self.new) (last self.old)
+            result }
+        ensures same { (wall_is self.new ≡ wall_is self.old)
+            × (word_is self.new ≡ word_is self.old)
+            × (left_at_wall self.new ≡ left_at_wall self.old) };
 
     /// The wall clock, in microseconds since 1970, from -2^62 to 2^62.
     fn wall(&mut self) -> i64
         ensures answers { IfSome (wall_is self.old) (λ wall. result ≡ wall) }
         ensures range { IsWall result }
-        ensures same { (readings self.new ≡ readings self.old) × (wall_is self.new ≡ wall_is self.old) × (word_is self.new ≡ word_is self.old) × (last self.new ≡ last self.old) };
+        ensures reads { left_at_wall self.new ≡ option_map Some (readings self.old) }
+        ensures same { (readings self.new ≡ readings self.old)
+            × (wall_is self.new ≡ wall_is self.old) × (word_is self.new ≡ word_is self.old)
+            × (last self.new ≡ last self.old) };
 
     /// A word that is to differ from boot to boot.
     fn word(&mut self) -> u64
         ensures answers { IfSome (word_is self.old) (λ word. result ≡ word) }
-        ensures same { (readings self.new ≡ readings self.old) × (wall_is self.new ≡ wall_is self.old) × (word_is self.new ≡ word_is self.old) × (last self.new ≡ last self.old) };
+        ensures same { (readings self.new ≡ readings self.old)
+            × (wall_is self.new ≡ wall_is self.old) × (word_is self.new ≡ word_is self.old)
+            × (left_at_wall self.new ≡ left_at_wall self.old)
+            × (last self.new ≡ last self.old) };
 }

@@ -39,7 +39,8 @@ impl TriedSends {
 
     /// Adds a send.
     pub(crate) fn push(&mut self, alloc: Global, to: Place, octets: &[u8]) -> Result<(), AllocError>
-        ensures { MatchResult result (λ _. self.new ≡ self.old ++ (to, octets.now) ∷ []) (λ _. self.new ≡ self.old) }
+        ensures { MatchResult result (λ _. self.new ≡ self.old ++ (to, octets.now) ∷ [])
+            (λ _. self.new ≡ self.old) }
     {
         let octets = Vec::from_slice(alloc, octets)?;
         self.sends.push(TriedSend { to, octets })?;

@@ -10,8 +10,8 @@ use tsp_base::place::{PeerId, Place};
 
 /// A UDP socket and the addresses of its peers. It tells neither what comes nor what was sent.
 ///
-/// A receive that only reports that an earlier datagram couldn't be delivered is `Nothing`, and no fault: a peer whose
-/// port is closed doesn't end a daemon.
+/// A receive that only reports that an earlier datagram couldn't be delivered is `Nothing`, and no
+/// fault: a peer whose port is closed doesn't end a daemon.
 #[derive(Drop)]
 pub struct UdpLink<R> {
     rt: R,
@@ -27,7 +27,8 @@ pub struct UdpLink<R> {
 impl<R: Net> UdpLink<R> {
     /// A link that isn't bound yet: until it is, each receive and each send fails.
     pub fn new(rt: R, alloc: Global) -> UdpLink<R>
-        ensures { (result.socket ≡ None) × (result.peers.items ≡ []) × (result.last ≡ None) × (result.stranger ≡ false) × (result.faults ≡ 0) × (result.send_faults ≡ 0) }
+        ensures { (result.socket ≡ None) × (result.peers.items ≡ []) × (result.last ≡ None)
+            × (result.stranger ≡ false) × (result.faults ≡ 0) × (result.send_faults ≡ 0) }
     {
         UdpLink {
             rt,
@@ -69,6 +70,10 @@ impl<R: Net> Link for UdpLink<R> {
     ghost arrivals = { λ _. None };
 
     ghost tried = { λ _. None };
+
+    ghost binds = { λ _. None };
+
+    ghost waits = { λ _. None };
 
     ghost calls = { λ _. None };
 

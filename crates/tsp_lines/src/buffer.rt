@@ -1,5 +1,6 @@
 //! A buffer that is read into.
-ghost use Rattle.std.specs.Prelude.{◌≡◌, ◌≢◌, ℕ, List, ◌≤◌, ◌<◌, ◌+◌, ◌-◌, ◌++◌, length, take, slice_range, true, if◌then◌else◌};
+ghost use Rattle.std.specs.Prelude.{◌≡◌, ◌≢◌, ℕ, List, ◌≤◌, ◌<◌, ◌+◌, ◌-◌, ◌++◌, length, take};
+ghost use Rattle.std.specs.Prelude.{slice_range, true, if◌then◌else◌};
 ghost use Rattle.tsp_io.specs.Counts.{Rose};
 ghost use Rattle.tsp_io.specs.Streams.{Gives};
 ghost use Rattle.tsp_lines.specs.Lines.{IsOver};
@@ -20,7 +21,8 @@ fn move_front(buf: &mut [u8], from: usize, to: usize)
 fn read_behind<S: Source>(source: &mut S, buf: &mut [u8], held: usize, most: usize) -> Got
     requires some { 0 < most }
     requires room { held + most ≤ length buf.old }
-    ensures read { Gives (S.left source.old) (S.left source.new) (slice_range buf.new held (held + count_of result)) }
+    ensures read { Gives (S.left source.old) (S.left source.new)
+        (slice_range buf.new held (held + count_of result)) }
     ensures held { take held buf.new ≡ take held buf.old }
     ensures most { count_of result ≤ most }
     ensures later { S.faults source.old ≤ S.faults source.new }
@@ -44,7 +46,9 @@ pub(crate) fn refill<S: Source>(
     requires within { to ≤ length buf.old }
     requires some { 0 < most }
     requires room { to - from + most ≤ length buf.old }
-    ensures read { (octets : List ℕ) × Gives (S.left source.old) (S.left source.new) octets × (length octets ≡ count_of result) × (take (to - from + count_of result) buf.new ≡ slice_range buf.old from to ++ octets) }
+    ensures read { (octets : List ℕ) × Gives (S.left source.old) (S.left source.new) octets
+        × (length octets ≡ count_of result)
+        × (take (to - from + count_of result) buf.new ≡ slice_range buf.old from to ++ octets) }
     ensures most { count_of result ≤ most }
     ensures later { S.faults source.old ≤ S.faults source.new }
     ensures cause { result ≡ Got.Failed → Rose (S.faults source.old) (S.faults source.new) }

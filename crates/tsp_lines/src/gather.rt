@@ -34,10 +34,13 @@ fn read_more<S: Source>(octets: &mut Vec<u8>, buf: &mut [u8], most: usize, sourc
     requires some { 0 < most }
     requires room { most ≤ length buf.old }
     requires open { S.ended source.old ≡ false }
-    ensures adds { Adds most (S.left source.old) (S.left source.new) (S.ended source.new) octets.old.items octets.new.items result }
+    ensures adds { Adds most (S.left source.old) (S.left source.new) (S.ended source.new)
+        octets.old.items octets.new.items result }
     ensures later { S.faults source.old ≤ S.faults source.new }
-    ensures cause { result ≡ Added.Fault Ungathered.ReadFault → Rose (S.faults source.old) (S.faults source.new) }
-    ensures still { result ≢ Added.Fault Ungathered.ReadFault → S.faults source.new ≡ S.faults source.old }
+    ensures cause { result ≡ Added.Fault Ungathered.ReadFault
+        → Rose (S.faults source.old) (S.faults source.new) }
+    ensures still { result ≢ Added.Fault Ungathered.ReadFault
+        → S.faults source.new ≡ S.faults source.old }
 {
     match source.read(&mut buf[..most]) {
         Got::Got(0) => Added::End,
@@ -59,10 +62,13 @@ fn gather_by<S: Source>(
     requires open { S.ended source.old ≡ false }
     requires limit { limit < 2 ^ 63 }
     requires room { 0 < length buf.old }
-    ensures gathers { IfOk result (λ g. GathersAs limit (S.left source.old) (S.left source.new) (S.ended source.new) g) }
-    ensures unread { result ≡ Err Ungathered.ReadFault → ReadsPart limit (S.left source.old) (S.left source.new) × (S.ended source.new ≡ false) }
+    ensures gathers { IfOk result (λ g. GathersAs limit (S.left source.old) (S.left source.new)
+        (S.ended source.new) g) }
+    ensures unread { result ≡ Err Ungathered.ReadFault
+        → ReadsPart limit (S.left source.old) (S.left source.new) × (S.ended source.new ≡ false) }
     ensures later { S.faults source.old ≤ S.faults source.new }
-    ensures cause { result ≡ Err Ungathered.ReadFault → Rose (S.faults source.old) (S.faults source.new) }
+    ensures cause { result ≡ Err Ungathered.ReadFault
+        → Rose (S.faults source.old) (S.faults source.new) }
     ensures still { result ≢ Err Ungathered.ReadFault → S.faults source.new ≡ S.faults source.old }
 {
     let mut octets = Vec::new(alloc);
@@ -85,10 +91,13 @@ pub(crate) fn gather<S: Source>(
 ) -> Result<Gathered, Ungathered>
     requires open { S.ended source.old ≡ false }
     requires limit { limit < 2 ^ 63 }
-    ensures gathers { IfOk result (λ g. GathersAs limit (S.left source.old) (S.left source.new) (S.ended source.new) g) }
-    ensures unread { result ≡ Err Ungathered.ReadFault → ReadsPart limit (S.left source.old) (S.left source.new) × (S.ended source.new ≡ false) }
+    ensures gathers { IfOk result (λ g. GathersAs limit (S.left source.old) (S.left source.new)
+        (S.ended source.new) g) }
+    ensures unread { result ≡ Err Ungathered.ReadFault
+        → ReadsPart limit (S.left source.old) (S.left source.new) × (S.ended source.new ≡ false) }
     ensures later { S.faults source.old ≤ S.faults source.new }
-    ensures cause { result ≡ Err Ungathered.ReadFault → Rose (S.faults source.old) (S.faults source.new) }
+    ensures cause { result ≡ Err Ungathered.ReadFault
+        → Rose (S.faults source.old) (S.faults source.new) }
     ensures still { result ≢ Err Ungathered.ReadFault → S.faults source.new ≡ S.faults source.old }
 {
     let Ok(mut buf) = buffer(alloc) else {

@@ -9,8 +9,9 @@ use crate::treatment::Treatment;
 
 /// An input has one answer at most: one outcome, and one output.
 pub fn one_answer<T: Treatment>()
-    ensures { IsDefinite T.meaning → (limit : ℕ) (octets : List ℕ) (outcome another : Outcome) (output other : List ℕ)
-        → IsAnswer T.meaning limit octets outcome output → IsAnswer T.meaning limit octets another other → (outcome ≡ another) × (output ≡ other) }
+    ensures { IsDefinite T.meaning → (limit : ℕ) (octets : List ℕ) (outcome another : Outcome)
+        (output other : List ℕ) → IsAnswer T.meaning limit octets outcome output
+        → IsAnswer T.meaning limit octets another other → (outcome ≡ another) × (output ≡ other) }
 {}
 
 /// An input has at most 64 MiB.

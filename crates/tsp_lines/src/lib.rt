@@ -1,8 +1,9 @@
 //! Lines as a stream: each line is treated as soon as its line feed was got, and its output is written
 //! before more of the input is read.
 //!
-//! Whoever has a command of lines makes a [`treatment::Treatment`] with its meaning, and calls [`treat::treat_all`]; the limit of octets, long lines, refusals, write
-//! faults and want of memory are dealt with here, alike for all commands.
+//! Whoever has a command of lines makes a [`treatment::Treatment`] with its meaning, and calls
+//! [`treat::treat_all`]; the limit of octets, long lines, refusals, write faults and lack of memory
+//! are dealt with here, alike for all commands.
 #![tactic(auto)]
 
 mod buffer;

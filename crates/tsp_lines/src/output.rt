@@ -1,5 +1,6 @@
 //! Output that is gathered before it is written.
-ghost use Rattle.std.specs.Prelude.{◌≡◌, ◌≢◌, ℕ, ◌≤◌, ◌<◌, [], length, take, drop, vec_len, IfOk, IfErr, OnOk, OnErr, MatchResult};
+ghost use Rattle.std.specs.Prelude.{◌≡◌, ◌≢◌, ℕ, ◌≤◌, ◌<◌, [], length, take, drop, vec_len, IfOk};
+ghost use Rattle.std.specs.Prelude.{IfErr, OnOk, OnErr, MatchResult};
 ghost use Rattle.tsp_io.specs.Counts.{Rose};
 ghost use Rattle.tsp_io.specs.Streams.{Grows};
 ghost use Rattle.tsp_lines.specs.Outputs.{Hands};
@@ -32,10 +33,13 @@ pub struct Cut {
 /// Writes the octets whole, or up to the place of a fault, with no buffer between.
 pub fn write_all<K: Sink>(sink: &mut K, octets: &[u8]) -> Result<(), Cut>
     ensures ok { OnOk result (Grows (K.written sink.old) (K.written sink.new) octets.now) }
-    ensures cut { IfErr result (λ cut. (cut.at < length octets.now) × Grows (K.written sink.old) (K.written sink.new) (take cut.at octets.now)) }
+    ensures cut { IfErr result (λ cut. (cut.at < length octets.now)
+        × Grows (K.written sink.old) (K.written sink.new) (take cut.at octets.now)) }
     ensures later { K.faults sink.old ≤ K.faults sink.new }
-    ensures cause { IfErr result (λ cut. cut.fault ≡ Unwritten.WriteFault → Rose (K.faults sink.old) (K.faults sink.new)) }
-    ensures still { MatchResult result (λ _. K.faults sink.new ≡ K.faults sink.old) (λ cut. cut.fault ≢ Unwritten.WriteFault → K.faults sink.new ≡ K.faults sink.old) }
+    ensures cause { IfErr result (λ cut. cut.fault ≡ Unwritten.WriteFault
+        → Rose (K.faults sink.old) (K.faults sink.new)) }
+    ensures still { MatchResult result (λ _. K.faults sink.new ≡ K.faults sink.old)
+        (λ cut. cut.fault ≢ Unwritten.WriteFault → K.faults sink.new ≡ K.faults sink.old) }
 {
     let mut at = 0;
     while at < octets.len() {
@@ -93,10 +97,13 @@ impl Output {
     /// Where it fails nothing of the piece is handed over.
     pub fn put<K: Sink>(&mut self, sink: &mut K, piece: &[u8]) -> Result<(), Unwritten>
         requires { length piece.now ≤ 65536 }
-        ensures ok { OnOk result (Hands (K.written sink.old) self.old (K.written sink.new) self.new piece.now) }
-        ensures err { OnErr result (Hands (K.written sink.old) self.old (K.written sink.new) self.new []) }
+        ensures ok { OnOk result (Hands (K.written sink.old) self.old (K.written sink.new) self.new
+            piece.now) }
+        ensures err { OnErr result (Hands (K.written sink.old) self.old (K.written sink.new)
+            self.new []) }
         ensures later { K.faults sink.old ≤ K.faults sink.new }
-        ensures cause { result ≡ Err Unwritten.WriteFault → Rose (K.faults sink.old) (K.faults sink.new) × (0 < length self.new) }
+        ensures cause { result ≡ Err Unwritten.WriteFault
+            → Rose (K.faults sink.old) (K.faults sink.new) × (0 < length self.new) }
         ensures still { result ≢ Err Unwritten.WriteFault → K.faults sink.new ≡ K.faults sink.old }
     {
         if self.octets.len() + piece.len() > ROOM {
@@ -115,7 +122,8 @@ impl Output {
         ensures ok { OnOk result (self.new ≡ []) }
         ensures hands { Hands (K.written sink.old) self.old (K.written sink.new) self.new [] }
         ensures later { K.faults sink.old ≤ K.faults sink.new }
-        ensures cause { result ≡ Err Unwritten.WriteFault → Rose (K.faults sink.old) (K.faults sink.new) × (0 < length self.new) }
+        ensures cause { result ≡ Err Unwritten.WriteFault
+            → Rose (K.faults sink.old) (K.faults sink.new) × (0 < length self.new) }
         ensures still { result ≢ Err Unwritten.WriteFault → K.faults sink.new ≡ K.faults sink.old }
     {
         match write_all(sink, &self.octets) {

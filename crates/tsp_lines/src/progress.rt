@@ -1,5 +1,7 @@
 //! How far a treatment has come, and how it ends.
-ghost use Rattle.std.specs.Prelude.{◌≡◌, ◌≢◌, ℕ, List, ◌≤◌, ◌<◌, ◌+◌, ◌-◌, ◌^◌, [], ◌++◌, ◌⊎◌, length, take, true, false, IfOk, IfErr, OnOk, OnErr, IfSome, MatchOption, MatchResult};
+ghost use Rattle.std.specs.Prelude.{◌≡◌, ◌≢◌, ℕ, List, ◌≤◌, ◌<◌, ◌+◌, ◌-◌, ◌^◌, [], ◌++◌, ◌⊎◌};
+ghost use Rattle.std.specs.Prelude.{length, take, true, false, IfOk, IfErr, OnOk, OnErr, IfSome};
+ghost use Rattle.std.specs.Prelude.{MatchOption, MatchResult};
 ghost use Rattle.std.specs.declared.option.Option.{Option};
 ghost use Rattle.tsp_io.specs.Counts.{Rose};
 ghost use Rattle.tsp_io.specs.Streams.{Gives};
@@ -22,10 +24,13 @@ use tsp_io::source::Source;
 /// Hands words over and writes all that is held.
 fn say<K: Sink>(output: &mut Output, sink: &mut K, words: &[u8]) -> Result<(), Unwritten>
     requires { length words.now ≤ 65536 }
-    ensures ok { OnOk result (Hands (K.written sink.old) output.old (K.written sink.new) [] words.now) }
-    ensures err { OnErr result (Breaks (λ w. w ≡ words.now) (K.written sink.old) output.old (K.written sink.new) output.new) }
+    ensures ok { OnOk result (Hands (K.written sink.old) output.old (K.written sink.new) []
+        words.now) }
+    ensures err { OnErr result (Breaks (λ w. w ≡ words.now) (K.written sink.old) output.old
+        (K.written sink.new) output.new) }
     ensures later { K.faults sink.old ≤ K.faults sink.new }
-    ensures cause { result ≡ Err Unwritten.WriteFault → Rose (K.faults sink.old) (K.faults sink.new) × (0 < length output.new) }
+    ensures cause { result ≡ Err Unwritten.WriteFault → Rose (K.faults sink.old) (K.faults sink.new)
+        × (0 < length output.new) }
     ensures still { result ≢ Err Unwritten.WriteFault → K.faults sink.new ≡ K.faults sink.old }
 {
     output.put(sink, words)?;
@@ -35,7 +40,8 @@ fn say<K: Sink>(output: &mut Output, sink: &mut K, words: &[u8]) -> Result<(), U
 /// Says that the input is refused.
 fn refuse<K: Sink>(output: &mut Output, sink: &mut K, words: &[u8]) -> Outcome
     requires { length words.now ≤ 65536 }
-    ensures ends { Ends (only_bad words.now) (K.written sink.old) output.old (K.written sink.new) result }
+    ensures ends { Ends (only_bad words.now) (K.written sink.old) output.old (K.written sink.new)
+        result }
     ensures later { K.faults sink.old ≤ K.faults sink.new }
     ensures cause { result ≡ Outcome.WriteFault → Rose (K.faults sink.old) (K.faults sink.new) }
     ensures still { result ≢ Outcome.WriteFault → K.faults sink.new ≡ K.faults sink.old }
@@ -51,7 +57,8 @@ fn refuse<K: Sink>(output: &mut Output, sink: &mut K, words: &[u8]) -> Outcome
 /// Says that a limit is passed.
 fn refuse_limit<K: Sink>(output: &mut Output, sink: &mut K, words: &[u8]) -> Outcome
     requires { length words.now ≤ 65536 }
-    ensures ends { Ends (only_limited words.now) (K.written sink.old) output.old (K.written sink.new) result }
+    ensures ends { Ends (only_limited words.now) (K.written sink.old) output.old
+        (K.written sink.new) result }
     ensures later { K.faults sink.old ≤ K.faults sink.new }
     ensures cause { result ≡ Outcome.WriteFault → Rose (K.faults sink.old) (K.faults sink.new) }
     ensures still { result ≢ Outcome.WriteFault → K.faults sink.new ≡ K.faults sink.old }
@@ -87,16 +94,25 @@ impl Progress {
     /// The next line. What is held is written before more of the input is read.
     fn next<S: Source, K: Sink>(&mut self, source: &mut S, sink: &mut K) -> Result<Next, Unwritten>
         requires open { S.ended source.old ≡ false }
-        ensures next { IfOk result (λ next. (octets : List ℕ) × Gives (S.left source.old) (S.left source.new) octets × (self.new.reader.got ≡ self.old.reader.got + length octets) × IsNext self.new.reader (self.old.reader.held ++ octets) next) }
-        ensures hands { Hands (K.written sink.old) self.old.output (K.written sink.new) self.new.output [] }
+        ensures next { IfOk result (λ next. (octets : List ℕ)
+            × Gives (S.left source.old) (S.left source.new) octets
+            × (self.new.reader.got ≡ self.old.reader.got + length octets)
+            × IsNext self.new.reader (self.old.reader.held ++ octets) next) }
+        ensures hands { Hands (K.written sink.old) self.old.output (K.written sink.new)
+            self.new.output [] }
         ensures flushed { (source.new ≡ source.old) ⊎ (self.new.output ≡ []) }
         ensures kept { IfErr result (λ _. source.new ≡ source.old) }
         ensures failed { result ≡ Ok Next.Failed → self.new.output ≡ [] }
-        ensures same { (self.new.number ≡ self.old.number) × (self.new.reader.limit ≡ self.old.reader.limit) × (self.new.reader.got ≤ self.new.reader.limit + 1) }
-        ensures later { (S.faults source.old ≤ S.faults source.new) × (K.faults sink.old ≤ K.faults sink.new) }
+        ensures same { (self.new.number ≡ self.old.number)
+            × (self.new.reader.limit ≡ self.old.reader.limit)
+            × (self.new.reader.got ≤ self.new.reader.limit + 1) }
+        ensures later { (S.faults source.old ≤ S.faults source.new)
+            × (K.faults sink.old ≤ K.faults sink.new) }
         ensures read { result ≡ Ok Next.Failed → Rose (S.faults source.old) (S.faults source.new) }
-        ensures write { result ≡ Err Unwritten.WriteFault → Rose (K.faults sink.old) (K.faults sink.new) × (0 < length self.new.output) }
-        ensures still { (result ≢ Ok Next.Failed → S.faults source.new ≡ S.faults source.old) × (result ≢ Err Unwritten.WriteFault → K.faults sink.new ≡ K.faults sink.old) }
+        ensures write { result ≡ Err Unwritten.WriteFault
+            → Rose (K.faults sink.old) (K.faults sink.new) × (0 < length self.new.output) }
+        ensures still { (result ≢ Ok Next.Failed → S.faults source.new ≡ S.faults source.old)
+            × (result ≢ Err Unwritten.WriteFault → K.faults sink.new ≡ K.faults sink.old) }
         ensures over { IfOk result (λ next. is_over next ≡ true → IsOver (S.left source.new)) }
         ensures ended { IfOk result (λ next. S.ended source.new ≡ is_over next) }
     {
@@ -109,9 +125,11 @@ impl Progress {
 
     /// Says what stopped the treatment.
     fn stop<K: Sink>(&mut self, sink: &mut K, stop: Stop) -> Outcome
-        ensures stops { Stopped self.old.number (K.written sink.old) self.old.output (K.written sink.new) self.new.output stop result }
+        ensures stops { Stopped self.old.number (K.written sink.old) self.old.output
+            (K.written sink.new) self.new.output stop result }
         ensures later { K.faults sink.old ≤ K.faults sink.new }
-        ensures cause { result ≡ Outcome.WriteFault → Rose (K.faults sink.old) (K.faults sink.new) ⊎ (stop ≡ Stop.WriteFault) }
+        ensures cause { result ≡ Outcome.WriteFault → Rose (K.faults sink.old) (K.faults sink.new)
+            ⊎ (stop ≡ Stop.WriteFault) }
         ensures still { result ≢ Outcome.WriteFault → K.faults sink.new ≡ K.faults sink.old }
         ensures kind { (result ≢ Outcome.ReadFault) × (result ≢ Outcome.Ok) }
         ensures same { (self.new.reader ≡ self.old.reader) × (self.new.number ≡ self.old.number) }
@@ -135,14 +153,20 @@ impl Progress {
         requires short { length self.old.reader.line ≤ 1024 }
         requires feedless { NoFeed self.old.reader.line }
         requires counted { self.old.number < 2 ^ 64 - 1 }
-        ensures treats { (lines : List (List ℕ)) → (text : List ℕ) → T.stands treatment.old lines → T.meaning.accepts lines text → ¬ T.meaning.full lines → MatchOption result
-            (Goes T.meaning (T.stands treatment.new) lines text self.old.reader.line (K.written sink.old) self.old.output (K.written sink.new) self.new.output)
-            (λ outcome. Ends (line_sayings T.meaning lines text self.old.number self.old.reader.line) (K.written sink.old) self.old.output (K.written sink.new) outcome) }
+        ensures treats { (lines : List (List ℕ)) → (text : List ℕ) → T.stands treatment.old lines
+            → T.meaning.accepts lines text → ¬ T.meaning.full lines
+            → MatchOption result (Goes T.meaning (T.stands treatment.new) lines text
+            self.old.reader.line (K.written sink.old) self.old.output (K.written sink.new)
+            self.new.output) (λ outcome. Ends (line_sayings T.meaning lines text self.old.number
+            self.old.reader.line) (K.written sink.old) self.old.output (K.written sink.new)
+            outcome) }
         ensures number { result ≡ None → self.new.number ≡ self.old.number + 1 }
         ensures same { self.new.reader ≡ self.old.reader }
         ensures later { K.faults sink.old ≤ K.faults sink.new }
-        ensures cause { result ≡ Some Outcome.WriteFault → Rose (K.faults sink.old) (K.faults sink.new) }
-        ensures still { MatchOption result (K.faults sink.new ≡ K.faults sink.old) (λ outcome. outcome ≢ Outcome.WriteFault → K.faults sink.new ≡ K.faults sink.old) }
+        ensures cause { result ≡ Some Outcome.WriteFault
+            → Rose (K.faults sink.old) (K.faults sink.new) }
+        ensures still { MatchOption result (K.faults sink.new ≡ K.faults sink.old)
+            (λ outcome. outcome ≢ Outcome.WriteFault → K.faults sink.new ≡ K.faults sink.old) }
         ensures kind { (result ≢ Some Outcome.ReadFault) × (result ≢ Some Outcome.Ok) }
     {
         match treatment.treat(self.reader.line(), &mut self.output, sink) {
@@ -156,8 +180,11 @@ impl Progress {
 
     /// Refuses a line of more than 1,024 octets.
     fn refuse_long<K: Sink, T: Treatment>(&mut self, sink: &mut K, treatment: &mut T) -> Outcome
-        ensures ends { (lines : List (List ℕ)) → (text : List ℕ) → (line : List ℕ) → T.stands treatment.old lines → T.meaning.accepts lines text → ¬ T.meaning.full lines → NoFeed line → 1024 < length line → self.old.reader.start ≡ take 8 line
-            → Ends (line_sayings T.meaning lines text self.old.number line) (K.written sink.old) self.old.output (K.written sink.new) result }
+        ensures ends { (lines : List (List ℕ)) → (text : List ℕ) → (line : List ℕ)
+            → T.stands treatment.old lines → T.meaning.accepts lines text → ¬ T.meaning.full lines
+            → NoFeed line → 1024 < length line → self.old.reader.start ≡ take 8 line
+            → Ends (line_sayings T.meaning lines text self.old.number line) (K.written sink.old)
+            self.old.output (K.written sink.new) result }
         ensures same { self.new.reader ≡ self.old.reader }
         ensures later { K.faults sink.old ≤ K.faults sink.new }
         ensures cause { result ≡ Outcome.WriteFault → Rose (K.faults sink.old) (K.faults sink.new) }
@@ -171,7 +198,8 @@ impl Progress {
 
     /// Refuses the line in which the first octet past the limit stands.
     fn refuse_past<K: Sink>(&mut self, sink: &mut K) -> Outcome
-        ensures ends { Ends (only_limited (limit_line self.old.number)) (K.written sink.old) self.old.output (K.written sink.new) result }
+        ensures ends { Ends (only_limited (limit_line self.old.number)) (K.written sink.old)
+            self.old.output (K.written sink.new) result }
         ensures same { self.new.reader ≡ self.old.reader }
         ensures later { K.faults sink.old ≤ K.faults sink.new }
         ensures cause { result ≡ Outcome.WriteFault → Rose (K.faults sink.old) (K.faults sink.new) }
@@ -184,7 +212,10 @@ impl Progress {
 
     /// Ends the treatment where the input ends.
     fn finish<K: Sink, T: Treatment>(&mut self, sink: &mut K, treatment: &mut T) -> Outcome
-        ensures ends { (lines : List (List ℕ)) → (text : List ℕ) → T.stands treatment.old lines → T.meaning.accepts lines text → Ends (end_sayings T.meaning lines self.old.number) (K.written sink.old) self.old.output (K.written sink.new) result }
+        ensures ends { (lines : List (List ℕ)) → (text : List ℕ) → T.stands treatment.old lines
+            → T.meaning.accepts lines text
+            → Ends (end_sayings T.meaning lines self.old.number) (K.written sink.old)
+            self.old.output (K.written sink.new) result }
         ensures same { self.new.reader ≡ self.old.reader }
         ensures later { K.faults sink.old ≤ K.faults sink.new }
         ensures cause { result ≡ Outcome.WriteFault → Rose (K.faults sink.old) (K.faults sink.new) }
@@ -204,16 +235,26 @@ impl Progress {
     /// Whether the input goes on. What is held is written before more of the input is read.
     fn peek<S: Source, K: Sink>(&mut self, source: &mut S, sink: &mut K) -> Result<Fill, Unwritten>
         requires open { S.ended source.old ≡ false }
-        ensures fills { IfOk result (λ fill. ((octets : List ℕ) × Gives (S.left source.old) (S.left source.new) octets × (self.new.reader.held ≡ self.old.reader.held ++ octets) × (self.new.reader.got ≡ self.old.reader.got + length octets)) × IsFill fill self.new.reader.held) }
-        ensures fits { IfOk result (λ _. (self.new.reader.got ≤ self.new.reader.limit + 1) × (length self.new.reader.held ≤ 65536)) }
+        ensures fills { IfOk result (λ fill. ((octets : List ℕ)
+            × Gives (S.left source.old) (S.left source.new) octets
+            × (self.new.reader.held ≡ self.old.reader.held ++ octets)
+            × (self.new.reader.got ≡ self.old.reader.got + length octets))
+            × IsFill fill self.new.reader.held) }
+        ensures fits { IfOk result (λ _. (self.new.reader.got ≤ self.new.reader.limit + 1)
+            × (length self.new.reader.held ≤ 65536)) }
         ensures kept { IfErr result (λ _. source.new ≡ source.old) }
-        ensures hands { Hands (K.written sink.old) self.old.output (K.written sink.new) self.new.output [] }
+        ensures hands { Hands (K.written sink.old) self.old.output (K.written sink.new)
+            self.new.output [] }
         ensures flushed { IfOk result (λ _. self.new.output ≡ []) }
-        ensures same { (self.new.number ≡ self.old.number) × (self.new.reader.limit ≡ self.old.reader.limit) }
-        ensures later { (S.faults source.old ≤ S.faults source.new) × (K.faults sink.old ≤ K.faults sink.new) }
+        ensures same { (self.new.number ≡ self.old.number)
+            × (self.new.reader.limit ≡ self.old.reader.limit) }
+        ensures later { (S.faults source.old ≤ S.faults source.new)
+            × (K.faults sink.old ≤ K.faults sink.new) }
         ensures read { result ≡ Ok Fill.NotRead → Rose (S.faults source.old) (S.faults source.new) }
-        ensures write { result ≡ Err Unwritten.WriteFault → Rose (K.faults sink.old) (K.faults sink.new) × (0 < length self.new.output) }
-        ensures still { (result ≢ Ok Fill.NotRead → S.faults source.new ≡ S.faults source.old) × (result ≢ Err Unwritten.WriteFault → K.faults sink.new ≡ K.faults sink.old) }
+        ensures write { result ≡ Err Unwritten.WriteFault
+            → Rose (K.faults sink.old) (K.faults sink.new) × (0 < length self.new.output) }
+        ensures still { (result ≢ Ok Fill.NotRead → S.faults source.new ≡ S.faults source.old)
+            × (result ≢ Err Unwritten.WriteFault → K.faults sink.new ≡ K.faults sink.old) }
         ensures over { result ≡ Ok Fill.Over → IsOver (S.left source.new) }
         ensures ended { IfOk result (λ fill. S.ended source.new ≡ meets_end fill) }
     {
@@ -231,15 +272,28 @@ impl Progress {
         treatment: &mut T,
     ) -> Outcome
         requires open { S.ended source.old ≡ false }
-        requires full { (lines : List (List ℕ)) → T.stands treatment.old lines → T.meaning.full lines }
-        ensures closes { (input : Option (List ℕ)) → (written : Option (List ℕ)) → (lines : List (List ℕ)) → (text : List ℕ) → IsAt T.meaning (T.stands treatment.old) input (S.left source.old) written (K.written sink.old) self.old.reader self.old.output self.old.number lines text
-            → Comes T.meaning self.old.reader.limit input (S.left source.new) written (K.written sink.new) result }
-        ensures keeps_up { (input : Option (List ℕ)) → (written : Option (List ℕ)) → (lines : List (List ℕ)) → (text : List ℕ) → IsAt T.meaning (T.stands treatment.old) input (S.left source.old) written (K.written sink.old) self.old.reader self.old.output self.old.number lines text
-            → KeepsUp T.meaning self.old.reader.limit input (S.left source.old) written (K.written sink.old) → KeepsUp T.meaning self.old.reader.limit input (S.left source.new) written (K.written sink.new) }
-        ensures later { (S.faults source.old ≤ S.faults source.new) × (K.faults sink.old ≤ K.faults sink.new) }
-        ensures read { result ≡ Outcome.ReadFault → Rose (S.faults source.old) (S.faults source.new) × (S.ended source.new ≡ false) }
+        requires full { (lines : List (List ℕ)) → T.stands treatment.old lines
+            → T.meaning.full lines }
+        ensures closes { (input : Option (List ℕ)) → (written : Option (List ℕ))
+            → (lines : List (List ℕ)) → (text : List ℕ)
+            → IsAt T.meaning (T.stands treatment.old) input (S.left source.old) written
+            (K.written sink.old) self.old.reader self.old.output self.old.number lines text
+            → Comes T.meaning self.old.reader.limit input (S.left source.new) written
+            (K.written sink.new) result }
+        ensures keeps_up { (input : Option (List ℕ)) → (written : Option (List ℕ))
+            → (lines : List (List ℕ)) → (text : List ℕ)
+            → IsAt T.meaning (T.stands treatment.old) input (S.left source.old) written
+            (K.written sink.old) self.old.reader self.old.output self.old.number lines text
+            → KeepsUp T.meaning self.old.reader.limit input (S.left source.old) written
+            (K.written sink.old) → KeepsUp T.meaning self.old.reader.limit input (S.left source.new)
+            written (K.written sink.new) }
+        ensures later { (S.faults source.old ≤ S.faults source.new)
+            × (K.faults sink.old ≤ K.faults sink.new) }
+        ensures read { result ≡ Outcome.ReadFault → Rose (S.faults source.old) (S.faults source.new)
+            × (S.ended source.new ≡ false) }
         ensures write { result ≡ Outcome.WriteFault → Rose (K.faults sink.old) (K.faults sink.new) }
-        ensures still { (result ≢ Outcome.ReadFault → S.faults source.new ≡ S.faults source.old) × (result ≢ Outcome.WriteFault → K.faults sink.new ≡ K.faults sink.old) }
+        ensures still { (result ≢ Outcome.ReadFault → S.faults source.new ≡ S.faults source.old)
+            × (result ≢ Outcome.WriteFault → K.faults sink.new ≡ K.faults sink.old) }
         ensures ended { result ≡ Outcome.Ok → S.ended source.new ≡ true }
     {
         match self.peek(source, sink) {
@@ -261,21 +315,41 @@ impl Progress {
         requires open { S.ended source.old ≡ false }
         requires counted { self.old.number + length self.old.reader.held ≤ self.old.reader.got + 1 }
         requires limit { self.old.reader.limit < 2 ^ 63 }
-        requires room { (lines : List (List ℕ)) → T.stands treatment.old lines → ¬ T.meaning.full lines }
-        ensures turns { (input : Option (List ℕ)) → (written : Option (List ℕ)) → (lines : List (List ℕ)) → (text : List ℕ) → IsAt T.meaning (T.stands treatment.old) input (S.left source.old) written (K.written sink.old) self.old.reader self.old.output self.old.number lines text → MatchOption result
-            ((more : List (List ℕ)) × (longer : List ℕ) × IsAt T.meaning (T.stands treatment.new) input (S.left source.new) written (K.written sink.new) self.new.reader self.new.output self.new.number more longer)
-            (Comes T.meaning self.old.reader.limit input (S.left source.new) written (K.written sink.new)) }
-        ensures keeps_up { (input : Option (List ℕ)) → (written : Option (List ℕ)) → (lines : List (List ℕ)) → (text : List ℕ) → IsAt T.meaning (T.stands treatment.old) input (S.left source.old) written (K.written sink.old) self.old.reader self.old.output self.old.number lines text
-            → KeepsUp T.meaning self.old.reader.limit input (S.left source.old) written (K.written sink.old) → KeepsUp T.meaning self.old.reader.limit input (S.left source.new) written (K.written sink.new) }
+        requires room { (lines : List (List ℕ)) → T.stands treatment.old lines
+            → ¬ T.meaning.full lines }
+        ensures turns { (input : Option (List ℕ)) → (written : Option (List ℕ))
+            → (lines : List (List ℕ)) → (text : List ℕ)
+            → IsAt T.meaning (T.stands treatment.old) input (S.left source.old) written
+            (K.written sink.old) self.old.reader self.old.output self.old.number lines text
+            → MatchOption result ((more : List (List ℕ)) × (longer : List ℕ)
+            × IsAt T.meaning (T.stands treatment.new) input (S.left source.new) written
+            (K.written sink.new) self.new.reader self.new.output self.new.number more longer)
+            (Comes T.meaning self.old.reader.limit input (S.left source.new) written
+            (K.written sink.new)) }
+        ensures keeps_up { (input : Option (List ℕ)) → (written : Option (List ℕ))
+            → (lines : List (List ℕ)) → (text : List ℕ)
+            → IsAt T.meaning (T.stands treatment.old) input (S.left source.old) written
+            (K.written sink.old) self.old.reader self.old.output self.old.number lines text
+            → KeepsUp T.meaning self.old.reader.limit input (S.left source.old) written
+            (K.written sink.old) → KeepsUp T.meaning self.old.reader.limit input (S.left source.new)
+            written (K.written sink.new) }
         ensures open { result ≡ None → S.ended source.new ≡ false }
-        ensures counted { result ≡ None → self.new.number + length self.new.reader.held ≤ self.new.reader.got + 1 }
-        ensures smaller { result ≡ None → self.new.reader.limit + 1 - self.new.reader.got + length self.new.reader.held < self.old.reader.limit + 1 - self.old.reader.got + length self.old.reader.held }
+        ensures counted { result ≡ None
+            → self.new.number + length self.new.reader.held ≤ self.new.reader.got + 1 }
+        ensures smaller { result ≡ None → self.new.reader.limit + 1 - self.new.reader.got + length
+            self.new.reader.held < self.old.reader.limit + 1 - self.old.reader.got + length
+            self.old.reader.held }
         ensures limit { self.new.reader.limit ≡ self.old.reader.limit }
-        ensures later { (S.faults source.old ≤ S.faults source.new) × (K.faults sink.old ≤ K.faults sink.new) }
-        ensures read { result ≡ Some Outcome.ReadFault → Rose (S.faults source.old) (S.faults source.new) × (S.ended source.new ≡ false) }
-        ensures write { result ≡ Some Outcome.WriteFault → Rose (K.faults sink.old) (K.faults sink.new) }
-        ensures still { MatchOption result ((S.faults source.new ≡ S.faults source.old) × (K.faults sink.new ≡ K.faults sink.old))
-            (λ outcome. (outcome ≢ Outcome.ReadFault → S.faults source.new ≡ S.faults source.old) × (outcome ≢ Outcome.WriteFault → K.faults sink.new ≡ K.faults sink.old)) }
+        ensures later { (S.faults source.old ≤ S.faults source.new)
+            × (K.faults sink.old ≤ K.faults sink.new) }
+        ensures read { result ≡ Some Outcome.ReadFault
+            → Rose (S.faults source.old) (S.faults source.new) × (S.ended source.new ≡ false) }
+        ensures write { result ≡ Some Outcome.WriteFault
+            → Rose (K.faults sink.old) (K.faults sink.new) }
+        ensures still { MatchOption result ((S.faults source.new ≡ S.faults source.old)
+            × (K.faults sink.new ≡ K.faults sink.old)) (λ outcome. (outcome ≢ Outcome.ReadFault
+            → S.faults source.new ≡ S.faults source.old) × (outcome ≢ Outcome.WriteFault
+            → K.faults sink.new ≡ K.faults sink.old)) }
         ensures ended { result ≡ Some Outcome.Ok → S.ended source.new ≡ true }
     {
         let next = match self.next(source, sink) {

@@ -1,5 +1,7 @@
 //! A reader of lines.
-ghost use Rattle.std.specs.Prelude.{◌≡◌, ◌≢◌, ℕ, List, ◌≤◌, ◌<◌, ◌+◌, ◌-◌, ◌^◌, [], ◌++◌, length, take, drop, slice_range, true, false, if◌then◌else◌, IfOk, IfSome, MatchOption};
+ghost use Rattle.std.specs.Prelude.{◌≡◌, ◌≢◌, ℕ, List, ◌≤◌, ◌<◌, ◌+◌, ◌-◌, ◌^◌, [], ◌++◌, length};
+ghost use Rattle.std.specs.Prelude.{take, drop, slice_range, true, false, if◌then◌else◌, IfOk};
+ghost use Rattle.std.specs.Prelude.{IfSome, MatchOption};
 ghost use Rattle.tsp_io.specs.Counts.{Rose};
 ghost use Rattle.tsp_io.specs.Streams.{Gives};
 ghost use Rattle.tsp_lines.specs.Lines.{NoFeed, close, IsOver};
@@ -52,16 +54,30 @@ impl Model for LineReader {
 
     ghost Value = { ReaderValue };
 
-    ghost view = { λ r. record { line = slice_range r.buf.items r.from r.to; start = r.start.items; held = slice_range r.buf.items r.at r.end; got = r.got; limit = r.limit } };
+    ghost view = { λ r. record {
+      line = slice_range r.buf.items r.from r.to;
+      start = r.start.items;
+      held = slice_range r.buf.items r.at r.end;
+      got = r.got;
+      limit = r.limit;
+    } };
 
-    ghost invariant = { λ r. (vec_len r.buf ≡ 65536) × (r.from ≤ r.to) × (r.to ≤ 65536) × (r.at ≤ r.end) × (r.end ≤ 65536) × (r.got ≤ r.limit + 1) × (r.limit < r.got → r.at < r.end) × (r.limit < 2 ^ 63) };
+    ghost invariant = { λ r. (vec_len r.buf ≡ 65536) × (r.from ≤ r.to) × (r.to ≤ 65536)
+        × (r.at ≤ r.end) × (r.end ≤ 65536) × (r.got ≤ r.limit + 1) × (r.limit < r.got
+        → r.at < r.end) × (r.limit < 2 ^ 63) };
 }
 
 impl LineReader {
     /// A reader that has read nothing, and reads no octet behind the first one past the limit.
     pub fn new(alloc: Global, limit: u64) -> Result<LineReader, AllocError>
         requires { limit < 2 ^ 63 }
-        ensures { IfOk result (λ r. r ≡ record { line = []; start = []; held = []; got = 0; limit = limit }) }
+        ensures { IfOk result (λ r. r ≡ record {
+          line = [];
+          start = [];
+          held = [];
+          got = 0;
+          limit = limit;
+        }) }
     {
         Ok(LineReader {
             buf: vec![in alloc; 0; ROOM]?,
@@ -108,7 +124,10 @@ impl LineReader {
 
     /// The place of the first line feed that is held.
     fn feed(&self) -> Option<usize>
-        ensures first { MatchOption result (NoFeed self.now.held) (λ place. NoFeed (take place self.now.held) × (self.now.held ≡ close (take place self.now.held) ++ drop (place + 1) self.now.held)) }
+        ensures first { MatchOption result (NoFeed self.now.held)
+            (λ place. NoFeed (take place self.now.held)
+            × (self.now.held ≡ close (take place self.now.held) ++ drop (place + 1)
+            self.now.held)) }
         ensures within { IfSome result (λ place. place < length self.now.held) }
     {
         memchr(b'\n', &self.buf[self.at..self.end])
@@ -118,7 +137,10 @@ impl LineReader {
     fn take_line(&mut self, place: usize)
         requires within { place < length self.old.held }
         requires before { self.old.limit < self.old.got → place + 1 < length self.old.held }
-        ensures { self.new ≡ record self.old { line = take place self.old.held; held = drop (place + 1) self.old.held } }
+        ensures { self.new ≡ record self.old {
+          line = take place self.old.held;
+          held = drop (place + 1) self.old.held;
+        } }
     {
         self.from = self.at;
         self.to = self.at + place;
@@ -129,11 +151,13 @@ impl LineReader {
     fn give(&mut self, place: usize) -> Next
         requires within { place < length self.old.held }
         requires line { NoFeed (take place self.old.held) }
-        requires feed { self.old.held ≡ close (take place self.old.held) ++ drop (place + 1) self.old.held }
+        requires feed { self.old.held ≡ close (take place self.old.held) ++ drop (place + 1)
+            self.old.held }
         requires before { self.old.limit < self.old.got → place + 1 < length self.old.held }
         requires most { (self.old.got ≤ self.old.limit + 1) × (length self.old.held ≤ 65536) }
         ensures next { IsNext self.new self.old.held result }
-        ensures same { (self.new.got ≡ self.old.got) × (self.new.limit ≡ self.old.limit) × (is_over result ≡ false) × (result ≢ Next.Failed) }
+        ensures same { (self.new.got ≡ self.old.got) × (self.new.limit ≡ self.old.limit)
+            × (is_over result ≡ false) × (result ≢ Next.Failed) }
     {
         if place > LONGEST {
             let start = self.start_of_held();
@@ -147,8 +171,11 @@ impl LineReader {
 
     /// The next line, or the limit's, where its end is held; none where more has to be read first.
     pub fn next_held(&mut self) -> Option<Next>
-        ensures next { MatchOption result (NoFeed self.old.held × (self.new.held ≡ self.old.held) × (self.new.got ≤ self.new.limit)) (λ next. IsNext self.new self.old.held next × (is_over next ≡ false) × (next ≢ Next.Failed)) }
-        ensures same { (self.new.got ≡ self.old.got) × (self.new.limit ≡ self.old.limit) × (self.new.got ≤ self.new.limit + 1) }
+        ensures next { MatchOption result (NoFeed self.old.held × (self.new.held ≡ self.old.held)
+            × (self.new.got ≤ self.new.limit)) (λ next. IsNext self.new self.old.held next
+            × (is_over next ≡ false) × (next ≢ Next.Failed)) }
+        ensures same { (self.new.got ≡ self.old.got) × (self.new.limit ≡ self.old.limit)
+            × (self.new.got ≤ self.new.limit + 1) }
     {
         let Some(place) = self.feed() else {
             return if self.got > self.limit {
@@ -167,13 +194,17 @@ impl LineReader {
     fn fill<S: Source>(&mut self, source: &mut S) -> Fill
         requires room { length self.old.held ≤ 1024 }
         requires within { self.old.got ≤ self.old.limit }
-        ensures fills { (octets : List ℕ) × Gives (S.left source.old) (S.left source.new) octets × (self.new.held ≡ self.old.held ++ octets) × (self.new.got ≡ self.old.got + length octets) × IsFill result octets }
-        ensures limit { (self.new.limit ≡ self.old.limit) × (self.new.got ≤ self.new.limit + 1) × (length self.new.held ≤ 65536) }
+        ensures fills { (octets : List ℕ) × Gives (S.left source.old) (S.left source.new) octets
+            × (self.new.held ≡ self.old.held ++ octets)
+            × (self.new.got ≡ self.old.got + length octets) × IsFill result octets }
+        ensures limit { (self.new.limit ≡ self.old.limit) × (self.new.got ≤ self.new.limit + 1)
+            × (length self.new.held ≤ 65536) }
         ensures later { S.faults source.old ≤ S.faults source.new }
         ensures cause { result ≡ Fill.NotRead → Rose (S.faults source.old) (S.faults source.new) }
         ensures still { result ≢ Fill.NotRead → S.faults source.new ≡ S.faults source.old }
         ensures over { result ≡ Fill.Over → IsOver (S.left source.new) }
-        ensures ended { S.ended source.new ≡ (if meets_end result then true else S.ended source.old) }
+        ensures ended { S.ended source.new ≡ (if meets_end result then true else S.ended
+            source.old) }
     {
         let (from, to) = (self.at, self.end);
         let room = (ROOM - (to - from)) as u64;
@@ -199,7 +230,8 @@ impl LineReader {
         requires short { length self.old.held ≤ 1024 }
         requires within { self.old.got ≤ self.old.limit }
         ensures next { IsNext self.new self.old.held result }
-        ensures same { (self.new.got ≡ self.old.got) × (self.new.limit ≡ self.old.limit) × (is_over result ≡ true) }
+        ensures same { (self.new.got ≡ self.old.got) × (self.new.limit ≡ self.old.limit)
+            × (is_over result ≡ true) }
     {
         self.from = self.at;
         self.to = self.end;
@@ -230,13 +262,19 @@ impl LineReader {
     fn pass<S: Source>(&mut self, source: &mut S) -> Option<Next>
         requires within { self.old.got ≤ self.old.limit }
         requires open { S.ended source.old ≡ false }
-        ensures passes { (octets : List ℕ) × Gives (S.left source.old) (S.left source.new) octets × (self.new.got ≡ self.old.got + length octets) × MatchOption result (NoFeed octets × (0 < length octets) × (self.new.got ≤ self.new.limit)) (λ next. IsPassed self.new octets next) }
+        ensures passes { (octets : List ℕ) × Gives (S.left source.old) (S.left source.new) octets
+            × (self.new.got ≡ self.old.got + length octets) × MatchOption result (NoFeed octets
+            × (0 < length octets) × (self.new.got ≤ self.new.limit))
+            (λ next. IsPassed self.new octets next) }
         ensures limit { (self.new.limit ≡ self.old.limit) × (self.new.got ≤ self.new.limit + 1) }
         ensures later { S.faults source.old ≤ S.faults source.new }
-        ensures cause { result ≡ Some Next.Failed → Rose (S.faults source.old) (S.faults source.new) }
-        ensures still { MatchOption result (S.faults source.new ≡ S.faults source.old) (λ next. next ≢ Next.Failed → S.faults source.new ≡ S.faults source.old) }
+        ensures cause { result ≡ Some Next.Failed
+            → Rose (S.faults source.old) (S.faults source.new) }
+        ensures still { MatchOption result (S.faults source.new ≡ S.faults source.old)
+            (λ next. next ≢ Next.Failed → S.faults source.new ≡ S.faults source.old) }
         ensures over { IfSome result (λ next. is_over next ≡ true → IsOver (S.left source.new)) }
-        ensures ended { MatchOption result (S.ended source.new ≡ false) (λ next. S.ended source.new ≡ is_over next) }
+        ensures ended { MatchOption result (S.ended source.new ≡ false)
+            (λ next. S.ended source.new ≡ is_over next) }
     {
         self.forget();
         match self.fill(source) {
@@ -256,7 +294,9 @@ impl LineReader {
         requires long { 1024 < length self.old.held }
         requires within { self.old.got ≤ self.old.limit }
         requires open { S.ended source.old ≡ false }
-        ensures next { (octets : List ℕ) × Gives (S.left source.old) (S.left source.new) octets × (self.new.got ≡ self.old.got + length octets) × IsNext self.new (self.old.held ++ octets) result }
+        ensures next { (octets : List ℕ) × Gives (S.left source.old) (S.left source.new) octets
+            × (self.new.got ≡ self.old.got + length octets)
+            × IsNext self.new (self.old.held ++ octets) result }
         ensures limit { (self.new.limit ≡ self.old.limit) × (self.new.got ≤ self.new.limit + 1) }
         ensures later { S.faults source.old ≤ S.faults source.new }
         ensures cause { result ≡ Next.Failed → Rose (S.faults source.old) (S.faults source.new) }
@@ -276,9 +316,12 @@ impl LineReader {
     /// Whether an octet is there that isn't used yet. Reads where none is held.
     pub fn peek<S: Source>(&mut self, source: &mut S) -> Fill
         requires open { S.ended source.old ≡ false }
-        ensures fills { (octets : List ℕ) × Gives (S.left source.old) (S.left source.new) octets × (self.new.held ≡ self.old.held ++ octets) × (self.new.got ≡ self.old.got + length octets) }
+        ensures fills { (octets : List ℕ) × Gives (S.left source.old) (S.left source.new) octets
+            × (self.new.held ≡ self.old.held ++ octets)
+            × (self.new.got ≡ self.old.got + length octets) }
         ensures there { IsFill result self.new.held }
-        ensures limit { (self.new.limit ≡ self.old.limit) × (self.new.got ≤ self.new.limit + 1) × (length self.new.held ≤ 65536) }
+        ensures limit { (self.new.limit ≡ self.old.limit) × (self.new.got ≤ self.new.limit + 1)
+            × (length self.new.held ≤ 65536) }
         ensures later { S.faults source.old ≤ S.faults source.new }
         ensures cause { result ≡ Fill.NotRead → Rose (S.faults source.old) (S.faults source.new) }
         ensures still { result ≢ Fill.NotRead → S.faults source.new ≡ S.faults source.old }
@@ -294,7 +337,9 @@ impl LineReader {
     /// The next line, which may need reads.
     pub fn next<S: Source>(&mut self, source: &mut S) -> Next
         requires open { S.ended source.old ≡ false }
-        ensures next { (octets : List ℕ) × Gives (S.left source.old) (S.left source.new) octets × (self.new.got ≡ self.old.got + length octets) × IsNext self.new (self.old.held ++ octets) result }
+        ensures next { (octets : List ℕ) × Gives (S.left source.old) (S.left source.new) octets
+            × (self.new.got ≡ self.old.got + length octets)
+            × IsNext self.new (self.old.held ++ octets) result }
         ensures limit { (self.new.limit ≡ self.old.limit) × (self.new.got ≤ self.new.limit + 1) }
         ensures later { S.faults source.old ≤ S.faults source.new }
         ensures cause { result ≡ Next.Failed → Rose (S.faults source.old) (S.faults source.new) }

@@ -37,7 +37,7 @@ pub enum Outcome {
 /// An input of more octets than the limit is treated up to the line in which the first octet past the
 /// limit stands, and no octet behind that one is read. `ReadFault` and `WriteFault` come only where the
 /// source's or the sink's count of faults rose in this call, and a count that rose ends it so. With any
-/// other outcome, or with a part of its output and want of memory, the input's answer was written.
+/// other outcome, or with a part of its output and lack of memory, the input's answer was written.
 pub fn treat_all<S: Source, K: Sink, T: Treatment>(
     alloc: Global,
     limit: u64,
@@ -49,13 +49,20 @@ pub fn treat_all<S: Source, K: Sink, T: Treatment>(
     requires limit { limit < 2 ^ 63 }
     requires begin { T.stands treatment.old [] }
     requires nothing { T.meaning.accepts [] [] }
-    ensures comes { Comes T.meaning limit (S.left source.old) (S.left source.new) (K.written sink.old) (K.written sink.new) result }
-    ensures answers { IsDefinite T.meaning → Answers T.meaning limit (S.left source.old) (K.written sink.old) (K.written sink.new) result }
-    ensures keeps_up { KeepsUp T.meaning limit (S.left source.old) (S.left source.new) (K.written sink.old) (K.written sink.new) }
-    ensures later { (S.faults source.old ≤ S.faults source.new) × (K.faults sink.old ≤ K.faults sink.new) }
-    ensures read { result ≡ Outcome.ReadFault → Rose (S.faults source.old) (S.faults source.new) × (S.ended source.new ≡ false) }
+    ensures comes { Comes T.meaning limit (S.left source.old) (S.left source.new)
+        (K.written sink.old) (K.written sink.new) result }
+    ensures answers { IsDefinite T.meaning
+        → Answers T.meaning limit (S.left source.old) (K.written sink.old) (K.written sink.new)
+        result }
+    ensures keeps_up { KeepsUp T.meaning limit (S.left source.old) (S.left source.new)
+        (K.written sink.old) (K.written sink.new) }
+    ensures later { (S.faults source.old ≤ S.faults source.new)
+        × (K.faults sink.old ≤ K.faults sink.new) }
+    ensures read { result ≡ Outcome.ReadFault → Rose (S.faults source.old) (S.faults source.new)
+        × (S.ended source.new ≡ false) }
     ensures write { result ≡ Outcome.WriteFault → Rose (K.faults sink.old) (K.faults sink.new) }
-    ensures still { (result ≢ Outcome.ReadFault → S.faults source.new ≡ S.faults source.old) × (result ≢ Outcome.WriteFault → K.faults sink.new ≡ K.faults sink.old) }
+    ensures still { (result ≢ Outcome.ReadFault → S.faults source.new ≡ S.faults source.old)
+        × (result ≢ Outcome.WriteFault → K.faults sink.new ≡ K.faults sink.old) }
     ensures ended { result ≡ Outcome.Ok → S.ended source.new ≡ true }
 {
     let (Ok(reader), Ok(output)) = (LineReader::new(alloc, limit), Output::new(alloc)) else {

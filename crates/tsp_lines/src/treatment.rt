@@ -43,7 +43,8 @@ pub trait Treatment {
     /// Whether no line may follow. It is asked before each line; where it is so, the first octet of
     /// another line passes a limit.
     fn is_full(&self) -> bool
-        ensures { (lines : List (List ℕ)) → stands self.now lines → MatchBool result (meaning.full lines) (¬ meaning.full lines) };
+        ensures { (lines : List (List ℕ)) → stands self.now lines
+            → MatchBool result (meaning.full lines) (¬ meaning.full lines) };
 
     /// Treats a line, which is given without its line feed: hands its output over, or says why not.
     ///
@@ -52,24 +53,35 @@ pub trait Treatment {
     fn treat<K: Sink>(&mut self, line: &[u8], output: &mut Output, sink: &mut K) -> Result<(), Stop>
         requires short { length line.now ≤ 1024 }
         requires feedless { NoFeed line.now }
-        ensures treats { (lines : List (List ℕ)) → (text : List ℕ) → stands self.old lines → meaning.accepts lines text → ¬ meaning.full lines → MatchResult result
-            (λ _. Goes meaning (stands self.new) lines text line.now (K.written sink.old) output.old (K.written sink.new) output.new)
-            (λ stop. StopsAt meaning lines text line.now (K.written sink.old) output.old (K.written sink.new) output.new stop) }
+        ensures treats { (lines : List (List ℕ)) → (text : List ℕ) → stands self.old lines
+            → meaning.accepts lines text → ¬ meaning.full lines
+            → MatchResult result (λ _. Goes meaning (stands self.new) lines text line.now
+            (K.written sink.old) output.old (K.written sink.new) output.new)
+            (λ stop. StopsAt meaning lines text line.now (K.written sink.old) output.old
+            (K.written sink.new) output.new stop) }
         ensures later { K.faults sink.old ≤ K.faults sink.new }
-        ensures cause { result ≡ Err Stop.WriteFault → Rose (K.faults sink.old) (K.faults sink.new) × (0 < length output.new) }
+        ensures cause { result ≡ Err Stop.WriteFault → Rose (K.faults sink.old) (K.faults sink.new)
+            × (0 < length output.new) }
         ensures still { result ≢ Err Stop.WriteFault → K.faults sink.new ≡ K.faults sink.old };
 
-    /// The cause for which a line of more than 1,024 octets is refused, of which only the first 8 octets are given.
+    /// The cause for which a line of more than 1,024 octets is refused, of which only the first 8
+    /// octets are given.
     fn refuse_long(&mut self, start: &[u8]) -> Cause
-        ensures { (lines : List (List ℕ)) → (text : List ℕ) → (line : List ℕ) → stands self.old lines → meaning.accepts lines text → ¬ meaning.full lines → NoFeed line → 1024 < length line → start.now ≡ take 8 line → meaning.refuses lines line result };
+        ensures { (lines : List (List ℕ)) → (text : List ℕ) → (line : List ℕ)
+            → stands self.old lines → meaning.accepts lines text → ¬ meaning.full lines
+            → NoFeed line → 1024 < length line → start.now ≡ take 8 line
+            → meaning.refuses lines line result };
 
     /// Says whether the input may end here, and hands over the output of its end. A write that fails ends
     /// the call.
     fn end<K: Sink>(&mut self, output: &mut Output, sink: &mut K) -> Result<(), Stop>
-        ensures ends { (lines : List (List ℕ)) → (text : List ℕ) → stands self.old lines → meaning.accepts lines text → MatchResult result
-            (λ _. Closes meaning lines (K.written sink.old) output.old (K.written sink.new) output.new)
-            (λ stop. StopsAtEnd meaning lines (K.written sink.old) output.old (K.written sink.new) output.new stop) }
+        ensures ends { (lines : List (List ℕ)) → (text : List ℕ) → stands self.old lines
+            → meaning.accepts lines text
+            → MatchResult result (λ _. Closes meaning lines (K.written sink.old) output.old
+            (K.written sink.new) output.new) (λ stop. StopsAtEnd meaning lines (K.written sink.old)
+            output.old (K.written sink.new) output.new stop) }
         ensures later { K.faults sink.old ≤ K.faults sink.new }
-        ensures cause { result ≡ Err Stop.WriteFault → Rose (K.faults sink.old) (K.faults sink.new) × (0 < length output.new) }
+        ensures cause { result ≡ Err Stop.WriteFault → Rose (K.faults sink.old) (K.faults sink.new)
+            × (0 < length output.new) }
         ensures still { result ≢ Err Stop.WriteFault → K.faults sink.new ≡ K.faults sink.old };
 }

@@ -4,7 +4,5 @@
 #![tactic(auto)]
 
 mod step;
-#[cfg(test)]
-mod tests;
 
 pub use step::{LoopStep, judge};

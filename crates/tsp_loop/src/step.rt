@@ -20,9 +20,10 @@ pub enum LoopStep {
     Forward(Message),
 }
 
-/// What a node of this name and with so many ports does with a LOOP that a port took. Its own that came back on a
-/// higher port than it set out from makes it give up; another node's that has 1 to `HOPS` hops goes on with one
-/// less; every other is passed over, and so is any where there is one port.
+/// What a node of this name and with so many ports does with a LOOP that a port took. Its own that
+/// came back on a higher port than it set out from makes it give up; another node's that has 1 to
+/// `HOPS` hops goes on with one less; every other is passed over, and so is any where there is one
+/// port.
 pub fn judge(own: &Name, ports: u8, port: Port, m: &Message) -> LoopStep
     requires { m.now.kind ≡ Loop }
     ensures { step_of result ≡ judge own.now ports port m.now }
@@ -60,7 +61,8 @@ fn is_same(name: &Name, own: &Name) -> bool
 /// The same LOOP with one hop less; None where it has none, or more than `HOPS`.
 fn one_hop_less(m: &Message) -> Option<Message>
     requires { m.now.kind ≡ Loop }
-    ensures { MatchOption result (has_hops m.now ≡ false) (λ next. (has_hops m.now ≡ true) × (next ≡ one_hop_less m.now)) }
+    ensures { MatchOption result (has_hops m.now ≡ false) (λ next. (has_hops m.now ≡ true)
+        × (next ≡ one_hop_less m.now)) }
 {
     let Body::Hops(hops) = m.body() else {
         return None;

@@ -44,11 +44,16 @@ impl Master {
         requires peer { Contains (peers_of self.old.slaves) peer }
         requires few { begun (measured_with self.old.rounds peer) ≤ self.old.rounds.probes }
         requires counted { IsCounted self.old.rounds (1000 * self.old.rounds.probes + 999) }
-        ensures acts { D.acts desk.new ≡ D.acts desk.old ++ placed port (Post (Peer peer) (StampOf (Stamp.Request station.now.me.word self.old.rounds.asked)) ∷ []) }
-        ensures starts { Starts peer station.now.me.word (target_of clock.now tick) self.old.rounds self.new.rounds }
-        ensures counted { (most : ℕ) → most < 4000 → IsCounted self.old.rounds most → IsCounted self.new.rounds (most + 1) }
+        ensures acts { D.acts desk.new ≡ D.acts desk.old ++ placed port
+            (Post (Peer peer) (StampOf (Stamp.Request station.now.me.word self.old.rounds.asked))
+            ∷ []) }
+        ensures starts { Starts peer station.now.me.word (target_of clock.now tick) self.old.rounds
+            self.new.rounds }
+        ensures counted { (most : ℕ) → most < 4000 → IsCounted self.old.rounds most
+            → IsCounted self.new.rounds (most + 1) }
         ensures slaves { self.new.slaves ≡ self.old.slaves }
-        ensures room { PutsAtMost 1 (D.spare desk.old) (D.spare desk.new) (D.acts desk.old) (D.acts desk.new) }
+        ensures room { PutsAtMost 1 (D.spare desk.old) (D.spare desk.new) (D.acts desk.old)
+            (D.acts desk.new) }
     {
         let word = station.me.word;
         let counter = self.rounds.start(peer, word, clock.target(tick));
@@ -69,10 +74,14 @@ impl Master {
         requires later { clock.now.at ≤ tick }
         requires room { length (peers_of self.old.slaves) ≤ D.spare desk.old }
         requires three { self.old.rounds.probes ≤ 3 }
-        requires few { (p : PeerId) → begun (measured_with self.old.rounds p) ≤ self.old.rounds.probes }
+        requires few { (p : PeerId)
+            → begun (measured_with self.old.rounds p) ≤ self.old.rounds.probes }
         requires counted { IsCounted self.old.rounds (1000 * self.old.rounds.probes) }
-        ensures row { Performs (ProbesStands tick) (ProbesStands tick) asks_measured tick port (self.old, ((station.now, tt), clock.now)) (self.new, ((station.now, tt), clock.now)) (D.acts desk.old) (D.acts desk.new) }
-        ensures room { PutsAtMost (length (peers_of self.old.slaves)) (D.spare desk.old) (D.spare desk.new) (D.acts desk.old) (D.acts desk.new) }
+        ensures row { Performs (ProbesStands tick) (ProbesStands tick) asks_measured tick port
+            (self.old, ((station.now, tt), clock.now)) (self.new, ((station.now, tt), clock.now))
+            (D.acts desk.old) (D.acts desk.new) }
+        ensures room { PutsAtMost (length (peers_of self.old.slaves)) (D.spare desk.old)
+            (D.spare desk.new) (D.acts desk.old) (D.acts desk.new) }
         ensures slaves { self.new.slaves ≡ self.old.slaves }
         ensures probes { self.new.rounds.probes ≡ self.old.rounds.probes }
     {
@@ -100,12 +109,17 @@ impl Master {
         requires peer { Contains (peers_of self.old.slaves) peer }
         requires few { begun (measured_with self.old.rounds peer) ≤ self.old.rounds.probes }
         requires counted { IsCounted self.old.rounds (1000 * self.old.rounds.probes + 999) }
-        ensures acts { D.acts desk.new ≡ D.acts desk.old ++ placed port (Post (Peer peer) (StampOf (Stamp.Request station.now.me.word self.old.rounds.asked)) ∷ []) }
-        ensures starts { Starts peer station.now.me.word (target_of clock.now tick) self.old.rounds self.new.rounds }
-        ensures counted { (most : ℕ) → most < 4000 → IsCounted self.old.rounds most → IsCounted self.new.rounds (most + 1) }
+        ensures acts { D.acts desk.new ≡ D.acts desk.old ++ placed port
+            (Post (Peer peer) (StampOf (Stamp.Request station.now.me.word self.old.rounds.asked))
+            ∷ []) }
+        ensures starts { Starts peer station.now.me.word (target_of clock.now tick) self.old.rounds
+            self.new.rounds }
+        ensures counted { (most : ℕ) → most < 4000 → IsCounted self.old.rounds most
+            → IsCounted self.new.rounds (most + 1) }
         ensures slaves { Changes peer measures self.old.slaves self.new.slaves }
         ensures peers { peers_of self.new.slaves ≡ peers_of self.old.slaves }
-        ensures room { PutsAtMost 1 (D.spare desk.old) (D.spare desk.new) (D.acts desk.old) (D.acts desk.new) }
+        ensures room { PutsAtMost 1 (D.spare desk.old) (D.spare desk.new) (D.acts desk.old)
+            (D.acts desk.new) }
     {
         self.slaves.measure(peer);
         self.ask(station, clock, tick, peer, port, desk);
@@ -124,10 +138,14 @@ impl Master {
         requires later { clock.now.at ≤ tick }
         requires room { length (peers_of self.old.slaves) ≤ D.spare desk.old }
         requires three { self.old.rounds.probes ≤ 3 }
-        requires few { (p : PeerId) → begun (measured_with self.old.rounds p) ≤ self.old.rounds.probes }
+        requires few { (p : PeerId)
+            → begun (measured_with self.old.rounds p) ≤ self.old.rounds.probes }
         requires counted { IsCounted self.old.rounds (1000 * self.old.rounds.probes) }
-        ensures row { Performs StartsStands StartsStands asks_slaves tick port (self.old, ((station.now, tt), clock.now)) (self.new, ((station.now, tt), clock.now)) (D.acts desk.old) (D.acts desk.new) }
-        ensures room { PutsAtMost (length (peers_of self.old.slaves)) (D.spare desk.old) (D.spare desk.new) (D.acts desk.old) (D.acts desk.new) }
+        ensures row { Performs StartsStands StartsStands asks_slaves tick port
+            (self.old, ((station.now, tt), clock.now)) (self.new, ((station.now, tt), clock.now))
+            (D.acts desk.old) (D.acts desk.new) }
+        ensures room { PutsAtMost (length (peers_of self.old.slaves)) (D.spare desk.old)
+            (D.spare desk.new) (D.acts desk.old) (D.acts desk.new) }
         ensures peers { peers_of self.new.slaves ≡ peers_of self.old.slaves }
     {
         for place in 0..self.slaves.len() {

@@ -29,8 +29,8 @@ use tsp_clock::clock::Clock;
 use tsp_group::correction;
 
 impl Master {
-    /// Handles a Close that is due, after its Probe was: where it is in time the round closes, else it is given
-    /// up. The answer is whether the clock was corrected.
+    /// Handles a Close that is due, after its Probe was: where it is in time the round closes, else
+    /// it is given up. The answer is whether the clock was corrected.
     pub(crate) fn ring_close<D: Desk>(
         &mut self,
         station: &mut Station,
@@ -46,9 +46,13 @@ impl Master {
         requires order { is_over station.old.alarms.probe tick ≡ false }
         requires room { length (peers_of self.old.slaves) + 3 ≤ D.spare desk.old }
         requires same { peers_of self.old.slaves ≡ station.old.peers }
-        ensures row { Performs RingStands LeadStands (close_rings own) tick port (self.old, (station.old, clock.old)) (self.new, ((station.new, tt), clock.new)) (D.acts desk.old) (D.acts desk.new) }
-        ensures corrects { (past : Past) → RingStands past (self.old, (station.old, clock.old)) → result ≡ corrects (close_rings own tick past) }
-        ensures room { PutsAtMost (length (peers_of self.old.slaves) + 3) (D.spare desk.old) (D.spare desk.new) (D.acts desk.old) (D.acts desk.new) }
+        ensures row { Performs RingStands LeadStands (close_rings own) tick port
+            (self.old, (station.old, clock.old)) (self.new, ((station.new, tt), clock.new))
+            (D.acts desk.old) (D.acts desk.new) }
+        ensures corrects { (past : Past) → RingStands past (self.old, (station.old, clock.old))
+            → result ≡ corrects (close_rings own tick past) }
+        ensures room { PutsAtMost (length (peers_of self.old.slaves) + 3) (D.spare desk.old)
+            (D.spare desk.new) (D.acts desk.old) (D.acts desk.new) }
         ensures port { IsSamePort station.old station.new }
         ensures peers { peers_of self.new.slaves ≡ peers_of self.old.slaves }
         ensures clock { clock.new.at ≤ tick }
@@ -62,8 +66,9 @@ impl Master {
         self.close(station, clock, own, tick, port, desk)
     }
 
-    /// Closes a round with the largest group: the own clock is moved by the mean where this port leads it, and
-    /// then each measured peer is corrected. Where the clock would leave its range the round is given up.
+    /// Closes a round with the largest group: the own clock is moved by the mean where this port
+    /// leads it, and then each measured peer is corrected. Where the clock would leave its range
+    /// the round is given up.
     fn close<D: Desk>(
         &mut self,
         station: &mut Station,
@@ -77,9 +82,14 @@ impl Master {
         requires later { clock.old.at ≤ tick }
         requires room { length (peers_of self.old.slaves) + 2 ≤ D.spare desk.old }
         requires same { peers_of self.old.slaves ≡ station.old.peers }
-        ensures row { Performs LeadStands LeadStands (closes_here own self.old) tick port (self.old, ((station.old, tt), clock.old)) (self.new, ((station.new, tt), clock.new)) (D.acts desk.old) (D.acts desk.new) }
-        ensures corrects { (past : Past) → LeadStands past (self.old, ((station.old, tt), clock.old)) → result ≡ corrects (closes_here own self.old tick past) }
-        ensures room { PutsAtMost (length (peers_of self.old.slaves) + 2) (D.spare desk.old) (D.spare desk.new) (D.acts desk.old) (D.acts desk.new) }
+        ensures row { Performs LeadStands LeadStands (closes_here own self.old) tick port
+            (self.old, ((station.old, tt), clock.old)) (self.new, ((station.new, tt), clock.new))
+            (D.acts desk.old) (D.acts desk.new) }
+        ensures corrects { (past : Past)
+            → LeadStands past (self.old, ((station.old, tt), clock.old))
+            → result ≡ corrects (closes_here own self.old tick past) }
+        ensures room { PutsAtMost (length (peers_of self.old.slaves) + 2) (D.spare desk.old)
+            (D.spare desk.new) (D.acts desk.old) (D.acts desk.new) }
         ensures port { IsSamePort station.old station.new }
         ensures peers { peers_of self.new.slaves ≡ peers_of self.old.slaves }
         ensures clock { clock.new.at ≤ tick }
@@ -119,8 +129,12 @@ impl Master {
         requires near { IsNear mean }
         requires room { length (peers_of self.old.slaves) ≤ D.spare desk.old }
         requires same { peers_of self.old.slaves ≡ station.old.peers }
-        ensures row { Performs LeadStands LeadStands (for_each (corrects_peer mean) (round_of self.old.slaves self.old.rounds)) tick port (self.old, ((station.old, tt), clock.now)) (self.new, ((station.new, tt), clock.now)) (D.acts desk.old) (D.acts desk.new) }
-        ensures room { PutsAtMost (length (peers_of self.old.slaves)) (D.spare desk.old) (D.spare desk.new) (D.acts desk.old) (D.acts desk.new) }
+        ensures row { Performs LeadStands LeadStands
+            (for_each (corrects_peer mean) (round_of self.old.slaves self.old.rounds)) tick port
+            (self.old, ((station.old, tt), clock.now)) (self.new, ((station.new, tt), clock.now))
+            (D.acts desk.old) (D.acts desk.new) }
+        ensures room { PutsAtMost (length (peers_of self.old.slaves)) (D.spare desk.old)
+            (D.spare desk.new) (D.acts desk.old) (D.acts desk.new) }
         ensures port { IsSamePort station.old station.new }
         ensures peers { peers_of self.new.slaves ≡ peers_of self.old.slaves }
     {
@@ -149,12 +163,17 @@ impl Master {
         requires room { 1 ≤ D.spare desk.old }
         requires same { peers_of self.old.slaves ≡ station.old.peers }
         requires peer { Contains station.old.peers peer }
-        ensures row { Performs LeadStands LeadStands (corrects_peer mean (standing_with self.old.rounds peer)) tick port (self.old, ((station.old, tt), clock.now)) (self.new, ((station.new, tt), clock.now)) (D.acts desk.old) (D.acts desk.new) }
-        ensures room { PutsAtMost 1 (D.spare desk.old) (D.spare desk.new) (D.acts desk.old) (D.acts desk.new) }
+        ensures row { Performs LeadStands LeadStands
+            (corrects_peer mean (standing_with self.old.rounds peer)) tick port
+            (self.old, ((station.old, tt), clock.now)) (self.new, ((station.new, tt), clock.now))
+            (D.acts desk.old) (D.acts desk.new) }
+        ensures room { PutsAtMost 1 (D.spare desk.old) (D.spare desk.new) (D.acts desk.old)
+            (D.acts desk.new) }
         ensures port { IsSamePort station.old station.new }
         ensures peers { peers_of self.new.slaves ≡ peers_of self.old.slaves }
         ensures rounds { self.new.rounds ≡ self.old.rounds }
-        ensures others { (q : PeerId) → (q.0 ≡ peer.0 → ⊥) → entry_of self.new.slaves q ≡ entry_of self.old.slaves q }
+        ensures others { (q : PeerId) → (q.0 ≡ peer.0 → ⊥)
+            → entry_of self.new.slaves q ≡ entry_of self.old.slaves q }
     {
         match self.rounds.best(peer) {
             None => {
@@ -191,8 +210,12 @@ fn move_own<D: Desk>(clock: &mut Clock, own: bool, mean: i64, tick: u64, port: P
     requires later { clock.old.at ≤ tick }
     requires range { is_clock_value (target_of clock.old tick +ℤ mean) ≡ true }
     requires room { 1 ≤ D.spare desk.old }
-    ensures row { (master : Master) (station : Station) → Performs LeadStands LeadStands (moves own mean) tick port (master, ((station, tt), clock.old)) (master, ((station, tt), clock.new)) (D.acts desk.old) (D.acts desk.new) }
-    ensures room { PutsAtMost 1 (D.spare desk.old) (D.spare desk.new) (D.acts desk.old) (D.acts desk.new) }
+    ensures row { (master : Master) (station : Station)
+        → Performs LeadStands LeadStands (moves own mean) tick port
+        (master, ((station, tt), clock.old)) (master, ((station, tt), clock.new)) (D.acts desk.old)
+        (D.acts desk.new) }
+    ensures room { PutsAtMost 1 (D.spare desk.old) (D.spare desk.new) (D.acts desk.old)
+        (D.acts desk.new) }
     ensures clock { clock.new.at ≤ tick }
 {
     if own {

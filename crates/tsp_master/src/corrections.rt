@@ -36,12 +36,16 @@ impl Master {
         requires room { 1 ≤ D.spare desk.old }
         requires same { peers_of self.old.slaves ≡ station.old.peers }
         requires peer { Contains station.old.peers peer }
-        ensures row { Performs LeadStands LeadStands (begins_adjtime peer number amount) tick port (self.old, ((station.old, tt), clock.now)) (self.new, ((station.new, tt), clock.now)) (D.acts desk.old) (D.acts desk.new) }
-        ensures room { PutsAtMost 1 (D.spare desk.old) (D.spare desk.new) (D.acts desk.old) (D.acts desk.new) }
+        ensures row { Performs LeadStands LeadStands (begins_adjtime peer number amount) tick port
+            (self.old, ((station.old, tt), clock.now)) (self.new, ((station.new, tt), clock.now))
+            (D.acts desk.old) (D.acts desk.new) }
+        ensures room { PutsAtMost 1 (D.spare desk.old) (D.spare desk.new) (D.acts desk.old)
+            (D.acts desk.new) }
         ensures port { IsSamePort station.old station.new }
         ensures peers { peers_of self.new.slaves ≡ peers_of self.old.slaves }
         ensures rounds { self.new.rounds ≡ self.old.rounds }
-        ensures others { (q : PeerId) → (q.0 ≡ peer.0 → ⊥) → entry_of self.new.slaves q ≡ entry_of self.old.slaves q }
+        ensures others { (q : PeerId) → (q.0 ≡ peer.0 → ⊥)
+            → entry_of self.new.slaves q ≡ entry_of self.old.slaves q }
     {
         if self.slaves.of(peer).may_correct(number, tick) {
             station.begin_correction(Kind::AdjTime, peer, number, amount, tick, port, desk);
@@ -49,8 +53,8 @@ impl Master {
         }
     }
 
-    /// Begins a SETTIME with this number and the clock's target to a peer, where a correction may begin and the
-    /// target is in its range.
+    /// Begins a SETTIME with this number and the clock's target to a peer, where a correction may
+    /// begin and the target is in its range.
     pub(crate) fn begin_settime<D: Desk>(
         &mut self,
         station: &mut Station,
@@ -66,12 +70,16 @@ impl Master {
         requires room { 1 ≤ D.spare desk.old }
         requires same { peers_of self.old.slaves ≡ station.old.peers }
         requires peer { Contains station.old.peers peer }
-        ensures row { Performs LeadStands LeadStands (begins_settime peer number) tick port (self.old, ((station.old, tt), clock.now)) (self.new, ((station.new, tt), clock.now)) (D.acts desk.old) (D.acts desk.new) }
-        ensures room { PutsAtMost 1 (D.spare desk.old) (D.spare desk.new) (D.acts desk.old) (D.acts desk.new) }
+        ensures row { Performs LeadStands LeadStands (begins_settime peer number) tick port
+            (self.old, ((station.old, tt), clock.now)) (self.new, ((station.new, tt), clock.now))
+            (D.acts desk.old) (D.acts desk.new) }
+        ensures room { PutsAtMost 1 (D.spare desk.old) (D.spare desk.new) (D.acts desk.old)
+            (D.acts desk.new) }
         ensures port { IsSamePort station.old station.new }
         ensures peers { peers_of self.new.slaves ≡ peers_of self.old.slaves }
         ensures rounds { self.new.rounds ≡ self.old.rounds }
-        ensures others { (q : PeerId) → (q.0 ≡ peer.0 → ⊥) → entry_of self.new.slaves q ≡ entry_of self.old.slaves q }
+        ensures others { (q : PeerId) → (q.0 ≡ peer.0 → ⊥)
+            → entry_of self.new.slaves q ≡ entry_of self.old.slaves q }
     {
         match settable(clock, tick) {
             None => {}

@@ -25,7 +25,8 @@ impl Master {
 
     /// Lists the differences that are averaged: none for the own clock, and those of the best samples.
     fn gather(&mut self)
-        ensures items { self.new.values.items ≡ estimates (round_of self.old.slaves self.old.rounds) }
+        ensures items { self.new.values.items ≡ estimates
+            (round_of self.old.slaves self.old.rounds) }
         ensures slaves { self.new.slaves ≡ self.old.slaves }
         ensures rounds { self.new.rounds ≡ self.old.rounds }
     {
@@ -42,7 +43,8 @@ impl Master {
     /// Adds the difference of a peer's best sample, where it has one that is averaged.
     fn add_estimate(&mut self, peer: PeerId)
         requires { length self.old.values.items < self.old.values.room }
-        ensures items { self.new.values.items ≡ self.old.values.items ++ diff_before (estimate_with self.old.rounds peer) [] }
+        ensures items { self.new.values.items ≡ self.old.values.items ++ diff_before
+            (estimate_with self.old.rounds peer) [] }
         ensures room { self.new.values.room ≡ self.old.values.room }
         ensures slaves { self.new.slaves ≡ self.old.slaves }
         ensures rounds { self.new.rounds ≡ self.old.rounds }

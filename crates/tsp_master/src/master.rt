@@ -47,7 +47,8 @@ impl Master {
     pub fn new(alloc: Global, peers: &[PeerId]) -> Result<Master, AllocError>
         requires { IsPeers peers.now }
         ensures peers { IfOk result (λ m. peers_of m.slaves ≡ peers.now) }
-        ensures stands { IfOk result (λ m. (x : ℕ) (past : Past) → past.peers ≡ peers.now → MasterStands (grown x past (Boot ∷ [])) m) }
+        ensures stands { IfOk result (λ m. (x : ℕ) (past : Past) → past.peers ≡ peers.now
+            → MasterStands (grown x past (Boot ∷ [])) m) }
     {
         let slaves = Slaves::new(alloc, peers)?;
         let rounds = Rounds::new(alloc, peers)?;
@@ -65,7 +66,9 @@ impl Master {
         ensures slaves { Changes peer (posts_at tick) self.old.slaves self.new.slaves }
         ensures peers { peers_of self.new.slaves ≡ peers_of self.old.slaves }
         ensures rounds { self.new.rounds ≡ self.old.rounds }
-        ensures stands { (past : Past) (m : MessageValue) → is_correction m.kind ≡ true → acting past.seen ≡ false → MasterStands past self.old → MasterStands (grown tick past (Post (Peer peer) (Message m) ∷ [])) self.new }
+        ensures stands { (past : Past) (m : MessageValue) → is_correction m.kind ≡ true
+            → acting past.seen ≡ false → MasterStands past self.old
+            → MasterStands (grown tick past (Post (Peer peer) (Message m) ∷ [])) self.new }
     {
         self.slaves.repeat(peer, tick);
     }
@@ -78,8 +81,10 @@ impl Master {
         ensures same { result ≡ false → self.new ≡ self.old }
         ensures peers { peers_of self.new.slaves ≡ peers_of self.old.slaves }
         ensures rounds { self.new.rounds ≡ self.old.rounds }
-        ensures table { (past : Past) → MasterStands past self.old → in_table peer past.seen ≡ result }
-        ensures stands { result ≡ true → (x : ℕ) (past : Past) → MasterStands past self.old → MasterStands (grown x past (Leave peer ∷ [])) self.new }
+        ensures table { (past : Past) → MasterStands past self.old
+            → in_table peer past.seen ≡ result }
+        ensures stands { result ≡ true → (x : ℕ) (past : Past) → MasterStands past self.old
+            → MasterStands (grown x past (Leave peer ∷ [])) self.new }
     {
         let joined = self.slaves.of(peer).joined;
         if joined {
@@ -91,7 +96,9 @@ impl Master {
     /// Ends the going round, if there is one, and tells whether there was: no more probes, and no close.
     pub fn abandon(&mut self, station: &mut Station) -> bool
         ensures going { (past : Past) → Stands past station.old → is_going past.seen ≡ result }
-        ensures stands { result ≡ true → (x : ℕ) (past : Past) → Beside MasterStands Stands past (self.old, station.old) → Beside MasterStands Stands (grown x past (Abandon ∷ [])) (self.new, station.new) }
+        ensures stands { result ≡ true → (x : ℕ) (past : Past)
+            → Beside MasterStands Stands past (self.old, station.old)
+            → Beside MasterStands Stands (grown x past (Abandon ∷ [])) (self.new, station.new) }
         ensures same { result ≡ false → (self.new ≡ self.old) × (station.new ≡ station.old) }
         ensures port { IsSamePort station.old station.new }
         ensures peers { peers_of self.new.slaves ≡ peers_of self.old.slaves }
@@ -117,7 +124,8 @@ impl Master {
         ensures slaves { ChangesAll leaves self.old.slaves self.new.slaves }
         ensures peers { peers_of self.new.slaves ≡ peers_of self.old.slaves }
         ensures rounds { self.new.rounds ≡ self.old.rounds }
-        ensures stands { (x : ℕ) (past : Past) (role : Role) → MasterStands past self.old → MasterStands (grown x past (Become role ∷ [])) self.new }
+        ensures stands { (x : ℕ) (past : Past) (role : Role) → MasterStands past self.old
+            → MasterStands (grown x past (Become role ∷ [])) self.new }
     {
         self.slaves.leave_all();
     }

@@ -35,8 +35,11 @@ impl Master {
         requires tick { IsTick tick }
         requires later { clock.now.at ≤ tick }
         requires room { 1 ≤ D.spare desk.old }
-        ensures row { Performs LeadStands LeadStands (samples_of from s.now) tick port (self.old, ((station.now, tt), clock.now)) (self.new, ((station.now, tt), clock.now)) (D.acts desk.old) (D.acts desk.new) }
-        ensures room { PutsAtMost 1 (D.spare desk.old) (D.spare desk.new) (D.acts desk.old) (D.acts desk.new) }
+        ensures row { Performs LeadStands LeadStands (samples_of from s.now) tick port
+            (self.old, ((station.now, tt), clock.now)) (self.new, ((station.now, tt), clock.now))
+            (D.acts desk.old) (D.acts desk.new) }
+        ensures room { PutsAtMost 1 (D.spare desk.old) (D.spare desk.new) (D.acts desk.old)
+            (D.acts desk.new) }
         ensures peers { peers_of self.new.slaves ≡ peers_of self.old.slaves }
     {
         match s {
@@ -62,8 +65,11 @@ impl Master {
         requires tick { IsTick tick }
         requires later { clock.now.at ≤ tick }
         requires room { 1 ≤ D.spare desk.old }
-        ensures row { (station : Station) → Performs GoingStands LeadStands (samples peer reply.now) tick port (self.old, ((station, tt), clock.now)) (self.new, ((station, tt), clock.now)) (D.acts desk.old) (D.acts desk.new) }
-        ensures room { PutsAtMost 1 (D.spare desk.old) (D.spare desk.new) (D.acts desk.old) (D.acts desk.new) }
+        ensures row { (station : Station) → Performs GoingStands LeadStands (samples peer reply.now)
+            tick port (self.old, ((station, tt), clock.now)) (self.new, ((station, tt), clock.now))
+            (D.acts desk.old) (D.acts desk.new) }
+        ensures room { PutsAtMost 1 (D.spare desk.old) (D.spare desk.new) (D.acts desk.old)
+            (D.acts desk.new) }
         ensures peers { peers_of self.new.slaves ≡ peers_of self.old.slaves }
     {
         let target = clock.target(tick);

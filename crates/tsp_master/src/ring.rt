@@ -53,11 +53,18 @@ impl Master {
         requires order { alarm ≡ CloseAlarm → is_over station.old.alarms.probe tick ≡ false }
         requires room { 2 * length (peers_of self.old.slaves) + 4 ≤ D.spare desk.old }
         requires same { peers_of self.old.slaves ≡ station.old.peers }
-        ensures row { Performs RingStands RingStands (master_rings group_mean alarm) tick port (self.old, (station.old, clock.old)) (self.new, (station.new, clock.new)) (D.acts desk.old) (D.acts desk.new) }
-        ensures corrects { (past : Past) → RingStands past (self.old, (station.old, clock.old)) → result ≡ corrects (master_rings group_mean alarm tick past) }
-        ensures recent { alarm ≡ CloseAlarm → (past : Past) → RingStands past (self.old, (station.old, clock.old)) → IsLeftAlone past.seen → (p : PeerId) (s : Sampled) → best p past.seen ≡ Some s → IsSinceCorrect p s past.seen }
+        ensures row { Performs RingStands RingStands (master_rings group_mean alarm) tick port
+            (self.old, (station.old, clock.old)) (self.new, (station.new, clock.new))
+            (D.acts desk.old) (D.acts desk.new) }
+        ensures corrects { (past : Past) → RingStands past (self.old, (station.old, clock.old))
+            → result ≡ corrects (master_rings group_mean alarm tick past) }
+        ensures recent { alarm ≡ CloseAlarm → (past : Past)
+            → RingStands past (self.old, (station.old, clock.old)) → IsLeftAlone past.seen
+            → (p : PeerId) (s : Sampled) → best p past.seen ≡ Some s
+            → IsSinceCorrect p s past.seen }
         ensures over { alarm ≡ ProbeAlarm → is_over station.new.alarms.probe tick ≡ false }
-        ensures room { PutsAtMost (2 * length (peers_of self.old.slaves) + 4) (D.spare desk.old) (D.spare desk.new) (D.acts desk.old) (D.acts desk.new) }
+        ensures room { PutsAtMost (2 * length (peers_of self.old.slaves) + 4) (D.spare desk.old)
+            (D.spare desk.new) (D.acts desk.old) (D.acts desk.new) }
         ensures port { IsSamePort station.old station.new }
         ensures peers { peers_of self.new.slaves ≡ peers_of self.old.slaves }
         ensures clock { clock.new.at ≤ tick }
@@ -76,7 +83,8 @@ impl Master {
         }
     }
 
-    /// Handles a Round that is due: where it is in time a round begins, and the next one is put off in any case.
+    /// Handles a Round that is due: where it is in time a round begins, and the next one is put off
+    /// in any case.
     pub(crate) fn ring_round<D: Desk>(
         &mut self,
         station: &mut Station,
@@ -89,8 +97,11 @@ impl Master {
         requires later { clock.now.at ≤ tick }
         requires room { 2 * length (peers_of self.old.slaves) + 4 ≤ D.spare desk.old }
         requires same { peers_of self.old.slaves ≡ station.old.peers }
-        ensures row { Performs RingStands LeadStands (round_rings false) tick port (self.old, (station.old, clock.now)) (self.new, ((station.new, tt), clock.now)) (D.acts desk.old) (D.acts desk.new) }
-        ensures room { PutsAtMost (2 * length (peers_of self.old.slaves) + 4) (D.spare desk.old) (D.spare desk.new) (D.acts desk.old) (D.acts desk.new) }
+        ensures row { Performs RingStands LeadStands (round_rings false) tick port
+            (self.old, (station.old, clock.now)) (self.new, ((station.new, tt), clock.now))
+            (D.acts desk.old) (D.acts desk.new) }
+        ensures room { PutsAtMost (2 * length (peers_of self.old.slaves) + 4) (D.spare desk.old)
+            (D.spare desk.new) (D.acts desk.old) (D.acts desk.new) }
         ensures port { IsSamePort station.old station.new }
         ensures peers { peers_of self.new.slaves ≡ peers_of self.old.slaves }
     {
@@ -117,8 +128,11 @@ impl Master {
         requires later { clock.now.at ≤ tick }
         requires room { 2 * length (peers_of self.old.slaves) + 3 ≤ D.spare desk.old }
         requires same { peers_of self.old.slaves ≡ station.old.peers }
-        ensures row { Performs LeadStands LeadStands round_begins tick port (self.old, ((station.old, tt), clock.now)) (self.new, ((station.new, tt), clock.now)) (D.acts desk.old) (D.acts desk.new) }
-        ensures room { PutsAtMost (2 * length (peers_of self.old.slaves) + 3) (D.spare desk.old) (D.spare desk.new) (D.acts desk.old) (D.acts desk.new) }
+        ensures row { Performs LeadStands LeadStands round_begins tick port
+            (self.old, ((station.old, tt), clock.now)) (self.new, ((station.new, tt), clock.now))
+            (D.acts desk.old) (D.acts desk.new) }
+        ensures room { PutsAtMost (2 * length (peers_of self.old.slaves) + 3) (D.spare desk.old)
+            (D.spare desk.new) (D.acts desk.old) (D.acts desk.new) }
         ensures port { IsSamePort station.old station.new }
         ensures peers { peers_of self.new.slaves ≡ peers_of self.old.slaves }
     {
@@ -132,8 +146,12 @@ impl Master {
     fn arm_round<D: Desk>(&mut self, station: &mut Station, tick: u64, port: Port, desk: &mut D)
         requires tick { IsTick tick }
         requires room { 2 ≤ D.spare desk.old }
-        ensures row { (clock : ClockValue) → Performs LeadStands StartsStands (arms ProbeAlarm PROBE followed_by arms CloseAlarm CLOSE) tick port (self.old, ((station.old, tt), clock)) (self.new, ((station.new, tt), clock)) (D.acts desk.old) (D.acts desk.new) }
-        ensures room { PutsAtMost 2 (D.spare desk.old) (D.spare desk.new) (D.acts desk.old) (D.acts desk.new) }
+        ensures row { (clock : ClockValue)
+            → Performs LeadStands StartsStands (arms ProbeAlarm PROBE followed_by arms CloseAlarm
+            CLOSE) tick port (self.old, ((station.old, tt), clock))
+            (self.new, ((station.new, tt), clock)) (D.acts desk.old) (D.acts desk.new) }
+        ensures room { PutsAtMost 2 (D.spare desk.old) (D.spare desk.new) (D.acts desk.old)
+            (D.acts desk.new) }
         ensures port { IsSamePort station.old station.new }
         ensures peers { peers_of self.new.slaves ≡ peers_of self.old.slaves }
         ensures probes { self.new.rounds.probes ≡ 0 }
@@ -146,8 +164,8 @@ impl Master {
         self.rounds.begin();
     }
 
-    /// Handles a Probe that is due: where it is in time the measured peers are asked again, and a further probe
-    /// is put off unless this was the third; else the round is given up.
+    /// Handles a Probe that is due: where it is in time the measured peers are asked again, and a
+    /// further probe is put off unless this was the third; else the round is given up.
     pub(crate) fn ring_probe<D: Desk>(
         &mut self,
         station: &mut Station,
@@ -161,8 +179,11 @@ impl Master {
         requires due { is_over station.old.alarms.probe tick ≡ true }
         requires room { length (peers_of self.old.slaves) + 2 ≤ D.spare desk.old }
         requires same { peers_of self.old.slaves ≡ station.old.peers }
-        ensures row { Performs RingStands LeadStands probe_rings tick port (self.old, (station.old, clock.now)) (self.new, ((station.new, tt), clock.now)) (D.acts desk.old) (D.acts desk.new) }
-        ensures room { PutsAtMost (length (peers_of self.old.slaves) + 2) (D.spare desk.old) (D.spare desk.new) (D.acts desk.old) (D.acts desk.new) }
+        ensures row { Performs RingStands LeadStands probe_rings tick port
+            (self.old, (station.old, clock.now)) (self.new, ((station.new, tt), clock.now))
+            (D.acts desk.old) (D.acts desk.new) }
+        ensures room { PutsAtMost (length (peers_of self.old.slaves) + 2) (D.spare desk.old)
+            (D.spare desk.new) (D.acts desk.old) (D.acts desk.new) }
         ensures port { IsSamePort station.old station.new }
         ensures peers { peers_of self.new.slaves ≡ peers_of self.old.slaves }
         ensures over { is_over station.new.alarms.probe tick ≡ false }
@@ -184,8 +205,12 @@ impl Master {
         requires tick { IsTick tick }
         requires room { 1 ≤ D.spare desk.old }
         requires off { is_over station.old.alarms.probe tick ≡ false }
-        ensures row { (clock : ClockValue) → Performs (ProbesStands tick) LeadStands arms_next tick port (self.now, ((station.old, tt), clock)) (self.now, ((station.new, tt), clock)) (D.acts desk.old) (D.acts desk.new) }
-        ensures room { PutsAtMost 1 (D.spare desk.old) (D.spare desk.new) (D.acts desk.old) (D.acts desk.new) }
+        ensures row { (clock : ClockValue)
+            → Performs (ProbesStands tick) LeadStands arms_next tick port
+            (self.now, ((station.old, tt), clock)) (self.now, ((station.new, tt), clock))
+            (D.acts desk.old) (D.acts desk.new) }
+        ensures room { PutsAtMost 1 (D.spare desk.old) (D.spare desk.new) (D.acts desk.old)
+            (D.acts desk.new) }
         ensures port { IsSamePort station.old station.new }
         ensures over { is_over station.new.alarms.probe tick ≡ false }
     {

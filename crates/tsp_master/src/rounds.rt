@@ -31,7 +31,11 @@ impl Model for Rounds {
 
     ghost view = { λ r. record { exchanges = r.exchanges; asked = r.asked; probes = r.probes } };
 
-    ghost invariant = { λ r. IsRounds (record { exchanges = r.exchanges; asked = r.asked; probes = r.probes }) };
+    ghost invariant = { λ r. IsRounds (record {
+      exchanges = r.exchanges;
+      asked = r.asked;
+      probes = r.probes;
+    }) };
 }
 
 impl Rounds {
@@ -70,12 +74,15 @@ impl Rounds {
         self.probes = 0;
     }
 
-    /// Counts a probe of the going round; false where it has probed [`PROBES`] times, and then nothing changes.
+    /// Counts a probe of the going round; false where it has probed [`PROBES`] times, and then
+    /// nothing changes.
     pub(crate) fn count_probe(&mut self) -> bool
-        ensures counts { MatchBool result (self.new ≡ record self.old { probes = self.old.probes + 1 }) (self.new ≡ self.old) }
+        ensures counts { MatchBool result (self.new ≡ record self.old { probes = self.old.probes + 1 })
+            (self.new ≡ self.old) }
         ensures more { result ≡ true → self.old.probes < 3 }
         ensures less { result ≡ false → 3 ≤ self.old.probes }
-        ensures few { result ≡ true → (p : ℕ) → begun (with_peer self.new.exchanges p) ≤ self.new.probes }
+        ensures few { result ≡ true → (p : ℕ)
+            → begun (with_peer self.new.exchanges p) ≤ self.new.probes }
         ensures counted { result ≡ true → IsCounted self.new (1000 * self.new.probes) }
     {
         let more = self.probes < PROBES;
@@ -85,8 +92,8 @@ impl Rounds {
         more
     }
 
-    /// Begins an exchange: a request of this word goes off at `a`, in microseconds by the own clock. The answer
-    /// is the request's counter.
+    /// Begins an exchange: a request of this word goes off at `a`, in microseconds by the own
+    /// clock. The answer is the request's counter.
     pub(crate) fn start(&mut self, peer: PeerId, word: u64, a: i64) -> u64
         requires peer { Contains self.old.exchanges.peers peer.0 }
         requires few { begun (measured_with self.old peer) ≤ self.old.probes }
@@ -94,7 +101,8 @@ impl Rounds {
         requires reading { IsReading a }
         ensures counter { result ≡ self.old.asked }
         ensures starts { Starts peer word a self.old self.new }
-        ensures counted { (most : ℕ) → most < 4000 → IsCounted self.old most → IsCounted self.new (most + 1) }
+        ensures counted { (most : ℕ) → most < 4000 → IsCounted self.old most
+            → IsCounted self.new (most + 1) }
     {
         let counter = self.asked;
         self.exchanges.start(peer, word, counter, a);
@@ -118,15 +126,18 @@ impl Rounds {
         ensures probes { self.new.probes ≡ self.old.probes }
         ensures peers { self.new.exchanges.peers ≡ self.old.exchanges.peers }
         ensures apart { AreApart (measured_with self.old peer).pending }
-        ensures replies { Replies word counter ticket s d (measured_with self.old peer) (measured_with self.new peer) result }
-        ensures others { (q : PeerId) → (q.0 ≡ peer.0 → ⊥) → measured_with self.new q ≡ measured_with self.old q }
+        ensures replies { Replies word counter ticket s d (measured_with self.old peer)
+            (measured_with self.new peer) result }
+        ensures others { (q : PeerId) → (q.0 ≡ peer.0 → ⊥)
+            → measured_with self.new q ≡ measured_with self.old q }
     {
         self.exchanges.reply(peer, word, counter, ticket, s, d)
     }
 
     /// The first of a peer's samples of least round trip; none where it has none.
     pub(crate) fn best(&self, peer: PeerId) -> Option<Sample>
-        ensures { result ≡ option_map (λ t. t.sample) (best_of (measured_with self.now peer).samples) }
+        ensures { result ≡ option_map (λ t. t.sample)
+            (best_of (measured_with self.now peer).samples) }
     {
         self.exchanges.best(peer)
     }

@@ -4,7 +4,9 @@ ghost use Rattle.std.specs.List.{Contains};
 ghost use Rattle.tsp_base.specs.declared.place.PeerId.{PeerId};
 ghost use Rattle.tsp_acks.specs.Peers.{IsPeers};
 ghost use Rattle.tsp_master.specs.declared.entry.Entry.{Entry};
-ghost use Rattle.tsp_master.specs.Slaves.{peers_of, idle_entry, entry_of, Changes, ChangesAll, joins, leaves, measures, unmeasures, posts_at, begins_at, acks, are_settled_by, IsPlaceOf};
+ghost use Rattle.tsp_master.specs.Slaves.{peers_of, idle_entry, entry_of, Changes, ChangesAll};
+ghost use Rattle.tsp_master.specs.Slaves.{joins, leaves, measures, unmeasures, posts_at, begins_at};
+ghost use Rattle.tsp_master.specs.Slaves.{acks, are_settled_by, IsPlaceOf};
 
 use crate::entry::Entry;
 use std::alloc::{AllocError, Global};

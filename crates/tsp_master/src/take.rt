@@ -44,8 +44,11 @@ impl Master {
         requires same { peers_of self.old.slaves ≡ station.old.peers }
         requires peer { Contains station.old.peers from }
         requires role { station.old.role ≡ MasterRole }
-        ensures row { Performs LeadStands LeadStands (master_takes_here from m.now) tick port (self.old, ((station.old, tt), clock.now)) (self.new, ((station.new, tt), clock.now)) (D.acts desk.old) (D.acts desk.new) }
-        ensures room { PutsAtMost 2 (D.spare desk.old) (D.spare desk.new) (D.acts desk.old) (D.acts desk.new) }
+        ensures row { Performs LeadStands LeadStands (master_takes_here from m.now) tick port
+            (self.old, ((station.old, tt), clock.now)) (self.new, ((station.new, tt), clock.now))
+            (D.acts desk.old) (D.acts desk.new) }
+        ensures room { PutsAtMost 2 (D.spare desk.old) (D.spare desk.new) (D.acts desk.old)
+            (D.acts desk.new) }
         ensures port { IsSamePort station.old station.new }
         ensures peers { peers_of self.new.slaves ≡ peers_of self.old.slaves }
     {
@@ -76,8 +79,11 @@ impl Master {
         requires same { peers_of self.old.slaves ≡ station.old.peers }
         requires peer { Contains station.old.peers peer }
         requires role { station.old.role ≡ MasterRole }
-        ensures row { Performs LeadStands LeadStands (joins peer number) tick port (self.old, ((station.old, tt), clock.now)) (self.new, ((station.new, tt), clock.now)) (D.acts desk.old) (D.acts desk.new) }
-        ensures room { PutsAtMost 2 (D.spare desk.old) (D.spare desk.new) (D.acts desk.old) (D.acts desk.new) }
+        ensures row { Performs LeadStands LeadStands (joins peer number) tick port
+            (self.old, ((station.old, tt), clock.now)) (self.new, ((station.new, tt), clock.now))
+            (D.acts desk.old) (D.acts desk.new) }
+        ensures room { PutsAtMost 2 (D.spare desk.old) (D.spare desk.new) (D.acts desk.old)
+            (D.acts desk.new) }
         ensures port { IsSamePort station.old station.new }
         ensures peers { peers_of self.new.slaves ≡ peers_of self.old.slaves }
     {
@@ -108,8 +114,11 @@ impl Master {
         requires room { 1 ≤ D.spare desk.old }
         requires same { peers_of self.old.slaves ≡ station.old.peers }
         requires peer { Contains station.old.peers from }
-        ensures row { (x : ℕ) → Performs (Beside MasterStands Stands) (Beside MasterStands Stands) (acknowledges from number) x port (self.old, station.old) (self.new, station.new) (D.acts desk.old) (D.acts desk.new) }
-        ensures room { PutsAtMost 1 (D.spare desk.old) (D.spare desk.new) (D.acts desk.old) (D.acts desk.new) }
+        ensures row { (x : ℕ) → Performs (Beside MasterStands Stands) (Beside MasterStands Stands)
+            (acknowledges from number) x port (self.old, station.old) (self.new, station.new)
+            (D.acts desk.old) (D.acts desk.new) }
+        ensures room { PutsAtMost 1 (D.spare desk.old) (D.spare desk.new) (D.acts desk.old)
+            (D.acts desk.new) }
         ensures port { IsSamePort station.old station.new }
         ensures peers { peers_of self.new.slaves ≡ peers_of self.old.slaves }
     {
@@ -121,7 +130,8 @@ impl Master {
     /// Notes that a peer acknowledged the last correction, where a send was ended that corrects.
     fn note_ack(&mut self, ended: bool, corrects: bool, peer: PeerId)
         requires { Contains (peers_of self.old.slaves) peer }
-        ensures entries { Changes peer (acks_where (ended && corrects)) self.old.slaves self.new.slaves }
+        ensures entries { Changes peer (acks_where (ended && corrects)) self.old.slaves
+            self.new.slaves }
         ensures peers { peers_of self.new.slaves ≡ peers_of self.old.slaves }
         ensures rounds { self.new.rounds ≡ self.old.rounds }
     {
@@ -136,8 +146,10 @@ fn send_away<D: Desk>(station: &mut Station, tick: u64, peer: PeerId, port: Port
     requires tick { IsTick tick }
     requires room { 1 ≤ D.spare desk.old }
     requires peer { Contains station.old.peers peer }
-    ensures row { Performs StandsActing StandsActing (sends_away peer) tick port (station.old, tt) (station.new, tt) (D.acts desk.old) (D.acts desk.new) }
-    ensures room { PutsAtMost 1 (D.spare desk.old) (D.spare desk.new) (D.acts desk.old) (D.acts desk.new) }
+    ensures row { Performs StandsActing StandsActing (sends_away peer) tick port (station.old, tt)
+        (station.new, tt) (D.acts desk.old) (D.acts desk.new) }
+    ensures room { PutsAtMost 1 (D.spare desk.old) (D.spare desk.new) (D.acts desk.old)
+        (D.acts desk.new) }
     ensures port { IsSamePort station.old station.new }
 {
     if !is_quit(station.sends.kind(peer)) {

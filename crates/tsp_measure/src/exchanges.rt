@@ -2,7 +2,8 @@
 ghost use Rattle.std.specs.Prelude.{◌≡◌, ◌≢◌, ℕ, ◌+◌, ◌<◌, [], ◌∷◌, ◌++◌, map, length, slice_index, IfOk, MatchOption};
 ghost use Rattle.std.specs.List.{Contains};
 ghost use Rattle.std.specs.Option.{option_map};
-ghost use Rattle.tsp_measure.specs.Measures.{IsReading, IsStamp, IsNewCounter, IsBestOf, Replies, nothing_measured, begun, best_of};
+ghost use Rattle.tsp_measure.specs.Measures.{IsReading, IsStamp, IsNewCounter, IsBestOf, Replies};
+ghost use Rattle.tsp_measure.specs.Measures.{nothing_measured, begun, best_of};
 ghost use Rattle.tsp_measure.specs.Peers.{IsAscending, with_peer};
 
 use crate::exchange::Exchange;
@@ -27,7 +28,8 @@ impl Model for Exchanges {
 
     ghost view = { λ e. record { peers = e.peers.items; measured = e.measured.items } };
 
-    ghost invariant = { λ e. IsAscending e.peers.items × (length e.measured.items ≡ length e.peers.items) };
+    ghost invariant = { λ e. IsAscending e.peers.items
+        × (length e.measured.items ≡ length e.peers.items) };
 }
 
 /// The peers' numbers.
@@ -40,7 +42,8 @@ fn numbers_of(alloc: Global, peers: &[PeerId]) -> Result<Vec<u32>, AllocError>
 /// The place of a number in an ascending list.
 fn place_of(peers: &[u32], peer: u32) -> Option<usize>
     requires { IsAscending peers.now }
-    ensures { MatchOption result (Contains peers.now peer → ⊥) (λ i. (i < length peers.now) × (slice_index peers.now i ≡ peer)) }
+    ensures { MatchOption result (Contains peers.now peer → ⊥) (λ i. (i < length peers.now)
+        × (slice_index peers.now i ≡ peer)) }
 {
     peers.binary_search(&peer).ok()
 }
@@ -73,7 +76,13 @@ impl Exchanges {
         requires counter { IsNewCounter counter (with_peer self.old peer.0) }
         requires reading { IsReading a }
         ensures peers { self.new.peers ≡ self.old.peers }
-        ensures started { with_peer self.new peer.0 ≡ record (with_peer self.old peer.0) { pending = (with_peer self.old peer.0).pending ++ record { word = word; counter = counter; a = a } ∷ [] } }
+        ensures started { with_peer self.new peer.0 ≡ record (with_peer self.old peer.0) {
+          pending = (with_peer self.old peer.0).pending ++ record {
+            word = word;
+            counter = counter;
+            a = a;
+          } ∷ [];
+        } }
         ensures others { (q : ℕ) → q ≢ peer.0 → with_peer self.new q ≡ with_peer self.old q }
     {
         match place_of(self.peers.as_slice(), peer.0) {
@@ -98,7 +107,8 @@ impl Exchanges {
         requires s { IsStamp s }
         requires d { IsReading d }
         ensures peers { self.new.peers ≡ self.old.peers }
-        ensures replies { Replies word counter ticket s d (with_peer self.old peer.0) (with_peer self.new peer.0) result }
+        ensures replies { Replies word counter ticket s d (with_peer self.old peer.0)
+            (with_peer self.new peer.0) result }
         ensures others { (q : ℕ) → q ≢ peer.0 → with_peer self.new q ≡ with_peer self.old q }
     {
         match place_of(self.peers.as_slice(), peer.0) {
@@ -109,8 +119,10 @@ impl Exchanges {
 
     /// The first of a peer's samples of least round trip; none where it has none.
     pub fn best(&self, peer: PeerId) -> Option<Sample>
-        ensures value { result ≡ option_map (λ t. t.sample) (best_of (with_peer self.now peer.0).samples) }
-        ensures first { IsBestOf (with_peer self.now peer.0).samples (best_of (with_peer self.now peer.0).samples) }
+        ensures value { result ≡ option_map (λ t. t.sample)
+            (best_of (with_peer self.now peer.0).samples) }
+        ensures first { IsBestOf (with_peer self.now peer.0).samples
+            (best_of (with_peer self.now peer.0).samples) }
     {
         match place_of(self.peers.as_slice(), peer.0) {
             Some(place) => self.measured[place].best(),

@@ -25,12 +25,14 @@ impl Model for PeerExchanges {
 
     ghost view = { λ e. record { pending = e.pending.items; samples = e.samples.items } };
 
-    ghost invariant = { λ e. (length e.pending.items + length e.samples.items ≤ 4) × AllReadings e.pending.items };
+    ghost invariant = { λ e. (length e.pending.items + length e.samples.items ≤ 4)
+        × AllReadings e.pending.items };
 }
 
 /// The place of the exchange of this word and counter.
 fn place_of(pending: &[Exchange], word: u64, counter: u64) -> Option<usize>
-    ensures { MatchOption result (All (λ e. asks word counter e ≡ false) pending.now) (λ i. (i < length pending.now) × HoldsAt (λ e. asks word counter e ≡ true) pending.now i) }
+    ensures { MatchOption result (All (λ e. asks word counter e ≡ false) pending.now)
+        (λ i. (i < length pending.now) × HoldsAt (λ e. asks word counter e ≡ true) pending.now i) }
 {
     pending.iter().position(|exchange| exchange.word == word && exchange.counter == counter)
 }

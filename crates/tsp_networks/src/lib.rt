@@ -1,8 +1,9 @@
 //! Which networks the nodes of a schedule are on, and by which ports.
 //!
-//! A header names its networks, or has one of all its nodes: [`networks_of`] gives them, over [`all_nodes`] where it names none. Where a datagram
-//! goes that a port posts, [`address_of`] says, and how many acts a node's step may put [`room_of`]. [`refusals`] has the causes for which an event
-//! of the schedule is refused by its time, by what it names and by who is up.
+//! A header names its networks, or has one of all its nodes: [`networks_of`] gives them, over
+//! [`all_nodes`] where it names none. Where a datagram goes that a port posts, [`address_of`] says,
+//! and how many acts a node's step may put [`room_of`]. [`refusals`] has the causes for which an
+//! event of the schedule is refused by its time, by what it names and by who is up.
 #![tactic(auto)]
 
 ghost use Rattle.std.specs.Prelude.{◌≡◌, ◌≤◌, [], ◌∷◌, length, IfOk};
@@ -17,10 +18,8 @@ use tsp_rules::room::room_for;
 use tsp_run::address::Address;
 
 pub mod refusals;
-#[cfg(test)]
-mod tests;
 
-/// The network of so many nodes. The refusal is want of memory.
+/// The network of so many nodes. Fails only if out of memory.
 pub fn all_nodes(alloc: Global, count: u32) -> Result<Vec<Members>, AllocError>
     requires { count ≤ 64 }
     ensures { IfOk result (λ v. v.items ≡ numbers_below count ∷ []) }

@@ -1,6 +1,8 @@
-//! The causes for which an event is refused by what is there: the last event's time, the nodes, their networks, and who is up.
+//! The causes for which an event is refused by what is there: the last event's time, the nodes,
+//! their networks, and who is up.
 ghost use Rattle.std.specs.Prelude.{◌≡◌, ◌≤◌, length};
-ghost use Rattle.tsp_run.specs.Refusals.{Scene, down_at, first_of, lacks_port, no_node, time_back, unknown, unknown_place};
+ghost use Rattle.tsp_run.specs.Refusals.{Scene, down_at, first_of, lacks_port, no_node, time_back};
+ghost use Rattle.tsp_run.specs.Refusals.{unknown, unknown_place};
 ghost use Rattle.tsp_run.specs.Run.{event_at};
 
 use crate::port_count;
@@ -30,7 +32,8 @@ pub fn time_of(e: &Event) -> u64
     }
 }
 
-/// `TimeBack` with both times, in microseconds, exactly where that of the event lies before that of the last one.
+/// `TimeBack` with both times, in microseconds, exactly where that of the event lies before that of
+/// the last one.
 pub fn time_back(at: u64, last: u64) -> Option<EventFault>
     ensures { result ≡ time_back at last }
 {
@@ -74,8 +77,9 @@ fn lacks_port(nodes: u32, nets: &[Members], n: u32, port: Port) -> Option<EventF
     }
 }
 
-/// `NoNode` exactly where an event names a node that isn't there, a port that its node lacks on these networks, or a sender that is no
-/// node; with the first number of them that is wrong, of a port its node's, and how many nodes there are. A take names none.
+/// `NoNode` exactly where an event names a node that isn't there, a port that its node lacks on
+/// these networks, or a sender that is no node; with the first number of them that is wrong, of a
+/// port its node's, and how many nodes there are. A take names none.
 pub fn no_node(nodes: u32, nets: &[Members], e: &Event) -> Option<EventFault>
     requires { length nets.now ≤ 64 }
     ensures { (s : Scene) → s.nodes ≡ nodes → s.networks ≡ nets.now → result ≡ no_node s e.now }

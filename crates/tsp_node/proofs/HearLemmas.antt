@@ -40,8 +40,8 @@ use Rattle.tsp_master.specs.MasterTakes.{master_takes_kind_here}
 use Rattle.tsp_master.proofs.TableLemmas.{MasterStands_quiet}
 use Rattle.tsp_master.proofs.TurnLemmas.{MasterStands_idle, MasterStands_unheld}
 use Rattle.tsp_node.specs.declared.part.Part.{Part}
-use Rattle.tsp_node.specs.declared.matter.Matter.TheVariants.{OfClients, OfNode, OfRoles}
-use Rattle.tsp_node.specs.Matters.{matter_of}
+use Rattle.tsp_node.specs.declared.audience.Audience.TheVariants.{OfClients, OfNode, OfRoles}
+use Rattle.tsp_node.specs.Audiences.{audience_of}
 use Rattle.tsp_node.specs.NodeStands.{PartStands, PartTook, TakeStands, TookStands}
 use Rattle.tsp_node.proofs.EmitsRoles.{calm_sorts, emits_candidate, emits_yields}
 use Rattle.tsp_node.proofs.NodeLemmas.{Performs_pass, took_pass}
@@ -192,38 +192,38 @@ pub Performs_role : {t : Received} {x : ℕ} {port : Port} {before after : Part 
     Performs (PartTook t) PartStands (says_in p m is) x port before after old new
 Performs_role p m is r e d = rw e d
 
--- whose matter a message is, as the rows have it
-pub matter_node : (charge : Bool) (from : Place) (m : MessageValue) (k : Kind) → matter_of k ≡ OfNode → handles_kind charge from m k ≡ nothing
+-- Who answers a message, as the rows have it
+pub audience_node : (charge : Bool) (from : Place) (m : MessageValue) (k : Kind) → audience_of k ≡ OfNode → handles_kind charge from m k ≡ nothing
 unfolding handles_kind
-matter_node charge from m Loop e = refl
-matter_node charge from m Msite e = let bad : ⊥ = cc in absurd bad
-matter_node charge from m MsiteReq e = let bad : ⊥ = cc in absurd bad
-matter_node charge from m TraceOn e = let bad : ⊥ = cc in absurd bad
-matter_node charge from m TraceOff e = let bad : ⊥ = cc in absurd bad
-matter_node charge from m Test e = let bad : ⊥ = cc in absurd bad
-matter_node charge from m Date e = let bad : ⊥ = cc in absurd bad
-matter_node charge from m SetDate e = let bad : ⊥ = cc in absurd bad
-matter_node charge from m DateReq e = let bad : ⊥ = cc in absurd bad
-matter_node charge from m SetDateReq e = let bad : ⊥ = cc in absurd bad
-matter_node charge from m DateAck e = let bad : ⊥ = cc in absurd bad
-matter_node charge from m _ e = let bad : ⊥ = cc in absurd bad
+audience_node charge from m Loop e = refl
+audience_node charge from m Msite e = let bad : ⊥ = cc in absurd bad
+audience_node charge from m MsiteReq e = let bad : ⊥ = cc in absurd bad
+audience_node charge from m TraceOn e = let bad : ⊥ = cc in absurd bad
+audience_node charge from m TraceOff e = let bad : ⊥ = cc in absurd bad
+audience_node charge from m Test e = let bad : ⊥ = cc in absurd bad
+audience_node charge from m Date e = let bad : ⊥ = cc in absurd bad
+audience_node charge from m SetDate e = let bad : ⊥ = cc in absurd bad
+audience_node charge from m DateReq e = let bad : ⊥ = cc in absurd bad
+audience_node charge from m SetDateReq e = let bad : ⊥ = cc in absurd bad
+audience_node charge from m DateAck e = let bad : ⊥ = cc in absurd bad
+audience_node charge from m _ e = let bad : ⊥ = cc in absurd bad
 
-pub matter_roles : (charge : Bool) (from : Place) (m : MessageValue) (k : Kind) → matter_of k ≡ OfRoles → handles_kind charge from m k ≡ from_peer from (peer_says m)
+pub audience_roles : (charge : Bool) (from : Place) (m : MessageValue) (k : Kind) → audience_of k ≡ OfRoles → handles_kind charge from m k ≡ from_peer from (peer_says m)
 unfolding handles_kind
-matter_roles charge from m Msite e = let bad : ⊥ = cc in absurd bad
-matter_roles charge from m MsiteReq e = let bad : ⊥ = cc in absurd bad
-matter_roles charge from m TraceOn e = let bad : ⊥ = cc in absurd bad
-matter_roles charge from m TraceOff e = let bad : ⊥ = cc in absurd bad
-matter_roles charge from m Test e = let bad : ⊥ = cc in absurd bad
-matter_roles charge from m Date e = let bad : ⊥ = cc in absurd bad
-matter_roles charge from m SetDate e = let bad : ⊥ = cc in absurd bad
-matter_roles charge from m DateReq e = let bad : ⊥ = cc in absurd bad
-matter_roles charge from m SetDateReq e = let bad : ⊥ = cc in absurd bad
-matter_roles charge from m DateAck e = let bad : ⊥ = cc in absurd bad
-matter_roles charge from m Loop e = let bad : ⊥ = cc in absurd bad
-matter_roles charge from m _ e = refl
+audience_roles charge from m Msite e = let bad : ⊥ = cc in absurd bad
+audience_roles charge from m MsiteReq e = let bad : ⊥ = cc in absurd bad
+audience_roles charge from m TraceOn e = let bad : ⊥ = cc in absurd bad
+audience_roles charge from m TraceOff e = let bad : ⊥ = cc in absurd bad
+audience_roles charge from m Test e = let bad : ⊥ = cc in absurd bad
+audience_roles charge from m Date e = let bad : ⊥ = cc in absurd bad
+audience_roles charge from m SetDate e = let bad : ⊥ = cc in absurd bad
+audience_roles charge from m DateReq e = let bad : ⊥ = cc in absurd bad
+audience_roles charge from m SetDateReq e = let bad : ⊥ = cc in absurd bad
+audience_roles charge from m DateAck e = let bad : ⊥ = cc in absurd bad
+audience_roles charge from m Loop e = let bad : ⊥ = cc in absurd bad
+audience_roles charge from m _ e = refl
 
-pub roles_date : (k : Kind) → matter_of k ≡ OfRoles → is_date_request k ≡ false
+pub roles_date : (k : Kind) → audience_of k ≡ OfRoles → is_date_request k ≡ false
 roles_date Date e = refl
 roles_date SetDate e = refl
 roles_date DateReq e = let bad : ⊥ = cc in absurd bad
@@ -231,19 +231,19 @@ roles_date SetDateReq e = let bad : ⊥ = cc in absurd bad
 roles_date _ e = refl
 
 -- the clients' last kind
-pub matter_test : (k : Kind) → matter_of k ≡ OfClients → k ≢ Msite → k ≢ MsiteReq → k ≢ TraceOn → k ≢ TraceOff → k ≡ Test
-matter_test Test e a b c d = refl
-matter_test Msite e a b c d = absurd (a refl)
-matter_test MsiteReq e a b c d = absurd (b refl)
-matter_test TraceOn e a b c d = absurd (c refl)
-matter_test TraceOff e a b c d = absurd (d refl)
-matter_test Date e a b c d = let bad : ⊥ = cc in absurd bad
-matter_test SetDate e a b c d = let bad : ⊥ = cc in absurd bad
-matter_test DateReq e a b c d = let bad : ⊥ = cc in absurd bad
-matter_test SetDateReq e a b c d = let bad : ⊥ = cc in absurd bad
-matter_test DateAck e a b c d = let bad : ⊥ = cc in absurd bad
-matter_test Loop e a b c d = let bad : ⊥ = cc in absurd bad
-matter_test _ e a b c d = let bad : ⊥ = cc in absurd bad
+pub audience_test : (k : Kind) → audience_of k ≡ OfClients → k ≢ Msite → k ≢ MsiteReq → k ≢ TraceOn → k ≢ TraceOff → k ≡ Test
+audience_test Test e a b c d = refl
+audience_test Msite e a b c d = absurd (a refl)
+audience_test MsiteReq e a b c d = absurd (b refl)
+audience_test TraceOn e a b c d = absurd (c refl)
+audience_test TraceOff e a b c d = absurd (d refl)
+audience_test Date e a b c d = let bad : ⊥ = cc in absurd bad
+audience_test SetDate e a b c d = let bad : ⊥ = cc in absurd bad
+audience_test DateReq e a b c d = let bad : ⊥ = cc in absurd bad
+audience_test SetDateReq e a b c d = let bad : ⊥ = cc in absurd bad
+audience_test DateAck e a b c d = let bad : ⊥ = cc in absurd bad
+audience_test Loop e a b c d = let bad : ⊥ = cc in absurd bad
+audience_test _ e a b c d = let bad : ⊥ = cc in absurd bad
 
 -- a master's rows, and the clients', by the kind
 pub master_quit : (p : PeerId) (m : MessageValue) → m.kind ≡ Quit → master_takes p m ≡ quits p m.number

@@ -26,8 +26,8 @@ use Rattle.tsp_rules.proofs.EmitsCandidate.{candidate_sorts, emits_candidate_tak
 use Rattle.tsp_rules.proofs.EmitsClients.{client_sorts, date_sorts, emits_date_acked, emits_date_of, emits_date_request_of, emits_names_master, emits_says_master, emits_tests, emits_traces}
 use Rattle.tsp_rules.proofs.EmitsMaster.{emits_master_takes, emits_resolve_rings, master_sorts, resolve_sorts}
 use Rattle.tsp_rules.proofs.EmitsRounds.{emits_close_rings, emits_probe_rings, emits_round_rings, emits_samples, round_sorts}
-use Rattle.tsp_node.specs.declared.matter.Matter.TheVariants.{OfDates}
-use Rattle.tsp_node.specs.Matters.{matter_of}
+use Rattle.tsp_node.specs.declared.audience.Audience.TheVariants.{OfDates}
+use Rattle.tsp_node.specs.Audiences.{audience_of}
 use Rattle.tsp_rules.proofs.EmitsSlave.{emits_elect_rings, emits_quiet, emits_search, emits_slave_takes, slave_sorts}
 
 -- all sorts but Boot, Took and Trace
@@ -88,7 +88,7 @@ unfolding replies posts_reply
 emits_reply from word counter = Emits_either is_in_range (posts_reply from word counter) nothing (record { only = λ x past. (refl, tt) }) Emits_nothing
 
 -- dates
-pub emits_dates : (charge : Bool) (from : Place) (m : MessageValue) (k : Kind) → matter_of k ≡ OfDates → Emits date_sorts (handles_kind charge from m k)
+pub emits_dates : (charge : Bool) (from : Place) (m : MessageValue) (k : Kind) → audience_of k ≡ OfDates → Emits date_sorts (handles_kind charge from m k)
 unfolding handles_kind
 emits_dates charge from m Date e = emits_date_of charge from m
 emits_dates charge from m SetDate e = emits_date_of charge from m

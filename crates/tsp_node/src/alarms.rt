@@ -23,9 +23,10 @@ use tsp_clock::clock::Clock;
 impl Part {
     ghost use Rattle.tsp_node.specs.NodeStands.{PartUntaken};
 
-    /// Handles one alarm where it is due. Where this port doesn't lead its node's clock (`group_mean` is
-    /// false), a close uses the mean 0 and leaves the clock; where `wait` is true, a round that is in time is
-    /// put off for `WAIT` ticks. A Close comes after its Probe. The answer is whether the clock was corrected.
+    /// Handles one alarm where it is due. Where this port doesn't lead its node's clock
+    /// (`group_mean` is false), a close uses the mean 0 and leaves the clock; where `wait` is true,
+    /// a round that is in time is put off for `WAIT` ticks. A Close comes after its Probe. The
+    /// answer is whether the clock was corrected.
     pub fn ring<D: Desk>(
         &mut self,
         clock: &mut Clock,
@@ -40,12 +41,15 @@ impl Part {
         requires later { clock.old.at ≤ tick }
         requires order { alarm ≡ Close → is_over self.old.station.alarms.probe tick ≡ false }
         requires room { 2 * length self.old.station.peers + 16 ≤ D.spare desk.old }
-        ensures row { Performs PartUntaken PartUntaken (rings group_mean wait alarm) tick port (self.old, clock.old) (self.new, clock.new) (D.acts desk.old) (D.acts desk.new) }
-        ensures corrects { (past : Past) → PartUntaken past (self.old, clock.old) → result ≡ corrects (rings group_mean wait alarm tick past) }
+        ensures row { Performs PartUntaken PartUntaken (rings group_mean wait alarm) tick port
+            (self.old, clock.old) (self.new, clock.new) (D.acts desk.old) (D.acts desk.new) }
+        ensures corrects { (past : Past) → PartUntaken past (self.old, clock.old)
+            → result ≡ corrects (rings group_mean wait alarm tick past) }
         ensures over { alarm ≡ Probe → is_over self.new.station.alarms.probe tick ≡ false }
         ensures clock { clock.new.at ≤ tick }
         ensures peers { self.new.station.peers ≡ self.old.station.peers }
-        ensures room { PutsAtMost (2 * length self.old.station.peers + 4) (D.spare desk.old) (D.spare desk.new) (D.acts desk.old) (D.acts desk.new) }
+        ensures room { PutsAtMost (2 * length self.old.station.peers + 4) (D.spare desk.old)
+            (D.spare desk.new) (D.acts desk.old) (D.acts desk.new) }
     {
         if !self.station.is_due(alarm, tick) {
             return false;
@@ -69,12 +73,15 @@ impl Part {
         requires due { is_over (deadline self.old.station.alarms alarm) tick ≡ true }
         requires order { alarm ≡ Close → is_over self.old.station.alarms.probe tick ≡ false }
         requires room { 2 * length self.old.station.peers + 4 ≤ D.spare desk.old }
-        ensures row { Performs PartUntaken PartUntaken (alarm_rings group_mean wait alarm) tick port (self.old, clock.old) (self.new, clock.new) (D.acts desk.old) (D.acts desk.new) }
-        ensures corrects { (past : Past) → PartUntaken past (self.old, clock.old) → result ≡ corrects (alarm_rings group_mean wait alarm tick past) }
+        ensures row { Performs PartUntaken PartUntaken (alarm_rings group_mean wait alarm) tick port
+            (self.old, clock.old) (self.new, clock.new) (D.acts desk.old) (D.acts desk.new) }
+        ensures corrects { (past : Past) → PartUntaken past (self.old, clock.old)
+            → result ≡ corrects (alarm_rings group_mean wait alarm tick past) }
         ensures over { alarm ≡ Probe → is_over self.new.station.alarms.probe tick ≡ false }
         ensures clock { clock.new.at ≤ tick }
         ensures peers { self.new.station.peers ≡ self.old.station.peers }
-        ensures room { PutsAtMost (2 * length self.old.station.peers + 4) (D.spare desk.old) (D.spare desk.new) (D.acts desk.old) (D.acts desk.new) }
+        ensures room { PutsAtMost (2 * length self.old.station.peers + 4) (D.spare desk.old)
+            (D.spare desk.new) (D.acts desk.old) (D.acts desk.new) }
     {
         match alarm {
             Alarm::Probe => self.ring_round(clock, alarm, group_mean, tick, port, desk),
@@ -119,12 +126,15 @@ impl Part {
         requires due { is_over (deadline self.old.station.alarms alarm) tick ≡ true }
         requires order { alarm ≡ Close → is_over self.old.station.alarms.probe tick ≡ false }
         requires room { 2 * length self.old.station.peers + 4 ≤ D.spare desk.old }
-        ensures row { Performs PartUntaken PartUntaken (master_rings group_mean alarm) tick port (self.old, clock.old) (self.new, clock.new) (D.acts desk.old) (D.acts desk.new) }
-        ensures corrects { (past : Past) → PartUntaken past (self.old, clock.old) → result ≡ corrects (master_rings group_mean alarm tick past) }
+        ensures row { Performs PartUntaken PartUntaken (master_rings group_mean alarm) tick port
+            (self.old, clock.old) (self.new, clock.new) (D.acts desk.old) (D.acts desk.new) }
+        ensures corrects { (past : Past) → PartUntaken past (self.old, clock.old)
+            → result ≡ corrects (master_rings group_mean alarm tick past) }
         ensures over { alarm ≡ Probe → is_over self.new.station.alarms.probe tick ≡ false }
         ensures clock { clock.new.at ≤ tick }
         ensures peers { self.new.station.peers ≡ self.old.station.peers }
-        ensures room { PutsAtMost (2 * length self.old.station.peers + 4) (D.spare desk.old) (D.spare desk.new) (D.acts desk.old) (D.acts desk.new) }
+        ensures room { PutsAtMost (2 * length self.old.station.peers + 4) (D.spare desk.old)
+            (D.spare desk.new) (D.acts desk.old) (D.acts desk.new) }
     {
         let station = &mut self.station;
         let corrected = self
@@ -141,9 +151,12 @@ impl Part {
         requires alarm { is_of_slave alarm ≡ true }
         requires tick { IsTick tick }
         requires room { length self.old.station.peers + 4 ≤ D.spare desk.old }
-        ensures row { (own wait : Bool) (clock : ClockValue) → Performs PartUntaken PartUntaken (alarm_rings own wait alarm) tick port (self.old, clock) (self.new, clock) (D.acts desk.old) (D.acts desk.new) }
+        ensures row { (own wait : Bool) (clock : ClockValue)
+            → Performs PartUntaken PartUntaken (alarm_rings own wait alarm) tick port
+            (self.old, clock) (self.new, clock) (D.acts desk.old) (D.acts desk.new) }
         ensures peers { self.new.station.peers ≡ self.old.station.peers }
-        ensures room { PutsAtMost (length self.old.station.peers + 4) (D.spare desk.old) (D.spare desk.new) (D.acts desk.old) (D.acts desk.new) }
+        ensures room { PutsAtMost (length self.old.station.peers + 4) (D.spare desk.old)
+            (D.spare desk.new) (D.acts desk.old) (D.acts desk.new) }
     {
         let led = self.leads();
         ring_slave(&mut self.station, alarm, tick, port, desk);

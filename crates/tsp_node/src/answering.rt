@@ -8,8 +8,8 @@ ghost use Rattle.tsp_base.specs.PortFacts.{Received};
 ghost use Rattle.tsp_rules.specs.Answers.{handles_kind};
 ghost use Rattle.tsp_rules.specs.CommonRows.{tests};
 ghost use Rattle.tsp_clock.specs.Clocks.{ClockValue};
-ghost use Rattle.tsp_node.specs.declared.matter.Matter.TheVariants.{OfClients};
-ghost use Rattle.tsp_node.specs.Matters.{matter_of};
+ghost use Rattle.tsp_node.specs.declared.audience.Audience.TheVariants.{OfClients};
+ghost use Rattle.tsp_node.specs.Audiences.{audience_of};
 ghost use Rattle.tsp_node.specs.NodeStands.{PartStands, PartTook, TakeStands, TookStands};
 
 use crate::part::Part;
@@ -22,7 +22,8 @@ use tsp_clients::naming::{name_master, say_master};
 use tsp_clients::tracing::turn_trace;
 
 impl Part {
-    /// Answers a client: who is master, whether the port leads, that the trace is turned on or off, and a test.
+    /// Answers a client: who is master, whether the port leads, that the trace is turned on or off,
+    /// and a test.
     pub(crate) fn answer<D: Desk>(
         &mut self,
         tracing: &mut bool,
@@ -34,10 +35,16 @@ impl Part {
     )
         requires room { length self.old.station.peers + 4 ≤ D.spare desk.old }
         requires tick { IsTick tick }
-        requires matter { matter_of m.now.kind ≡ OfClients }
-        ensures row { (charge : Bool) (clock : ClockValue) → Performs (TookStands (record { from = from; taken = Good (MessageOf m.now) })) TakeStands (handles_kind charge from m.now m.now.kind) tick port ((self.old, clock), tracing.old) ((self.new, clock), tracing.new) (D.acts desk.old) (D.acts desk.new) }
+        requires audience { audience_of m.now.kind ≡ OfClients }
+        ensures row { (charge : Bool) (clock : ClockValue)
+            → Performs (TookStands (record { from = from; taken = Good (MessageOf m.now) }))
+            TakeStands (handles_kind charge from m.now m.now.kind) tick port (
+              (self.old, clock),
+              tracing.old,
+            ) ((self.new, clock), tracing.new) (D.acts desk.old) (D.acts desk.new) }
         ensures peers { self.new.station.peers ≡ self.old.station.peers }
-        ensures room { PutsAtMost (length self.old.station.peers + 4) (D.spare desk.old) (D.spare desk.new) (D.acts desk.old) (D.acts desk.new) }
+        ensures room { PutsAtMost (length self.old.station.peers + 4) (D.spare desk.old)
+            (D.spare desk.new) (D.acts desk.old) (D.acts desk.new) }
     {
         let number = m.number();
         match m.kind() {
@@ -53,9 +60,12 @@ impl Part {
     fn test<D: Desk>(&mut self, tick: u64, from: Place, number: u16, port: Port, desk: &mut D)
         requires room { length self.old.station.peers + 4 ≤ D.spare desk.old }
         requires tick { IsTick tick }
-        ensures row { (r : Received) (clock : ClockValue) → Performs (PartTook r) PartStands (tests from number) tick port (self.old, clock) (self.new, clock) (D.acts desk.old) (D.acts desk.new) }
+        ensures row { (r : Received) (clock : ClockValue)
+            → Performs (PartTook r) PartStands (tests from number) tick port (self.old, clock)
+            (self.new, clock) (D.acts desk.old) (D.acts desk.new) }
         ensures peers { self.new.station.peers ≡ self.old.station.peers }
-        ensures room { PutsAtMost (length self.old.station.peers + 4) (D.spare desk.old) (D.spare desk.new) (D.acts desk.old) (D.acts desk.new) }
+        ensures room { PutsAtMost (length self.old.station.peers + 4) (D.spare desk.old)
+            (D.spare desk.new) (D.acts desk.old) (D.acts desk.new) }
     {
         let led = self.leads();
         take_test(&mut self.station, tick, from, number, port, desk);

@@ -25,7 +25,13 @@ impl Model for Config {
 
     ghost Value = { ConfigValue };
 
-    ghost view = { λ c. record { name = c.name; own = c.own; peers = c.peers.items; may = c.may; strict = c.strict } };
+    ghost view = { λ c. record {
+      name = c.name;
+      own = c.own;
+      peers = c.peers.items;
+      may = c.may;
+      strict = c.strict;
+    } };
 }
 
 impl Config {
@@ -39,7 +45,13 @@ impl Config {
         may: bool,
         strict: bool,
     ) -> Result<Config, AllocError>
-        ensures { IfOk result (λ c. c ≡ record { name = name; own = own; peers = peers.now; may = may; strict = strict }) }
+        ensures { IfOk result (λ c. c ≡ record {
+          name = name;
+          own = own;
+          peers = peers.now;
+          may = may;
+          strict = strict;
+        }) }
     {
         let peers = Vec::from_slice(alloc, peers)?;
         Ok(Config {
@@ -67,7 +79,13 @@ impl Config {
 
     /// Who the node is in a life that begins with a word.
     pub(crate) fn me(&self, word: u64) -> Me
-        ensures { result ≡ record { own = self.now.own; name = self.now.name; word = word; may = self.now.may; strict = self.now.strict } }
+        ensures { result ≡ record {
+          own = self.now.own;
+          name = self.now.name;
+          word = word;
+          may = self.now.may;
+          strict = self.now.strict;
+        } }
     {
         Me {
             own: self.own,

@@ -17,13 +17,12 @@ ghost use Rattle.tsp_rules.specs.Answers.{from_peer, is_left, peer_replies, peer
 ghost use Rattle.tsp_rules.specs.CommonRows.{quits};
 ghost use Rattle.tsp_rules.specs.MasterRows.{master_takes};
 ghost use Rattle.tsp_rules.specs.Guards.{is_follow};
-ghost use Rattle.tsp_node.specs.declared.matter.Matter.TheVariants.{OfDates, OfRoles};
-ghost use Rattle.tsp_node.specs.Matters.{matter_of};
+ghost use Rattle.tsp_node.specs.declared.audience.Audience.TheVariants.{OfDates, OfRoles};
+ghost use Rattle.tsp_node.specs.Audiences.{audience_of};
 ghost use Rattle.tsp_node.specs.NodeStands.{PartStands, PartTook, TakeStands, TookStands};
 
-use crate::matter::{Matter, matter_of};
+use crate::audience::{Audience, audience_of};
 use crate::part::Part;
-use crate::sends::corrects;
 use tsp_base::desk::Desk;
 use tsp_base::kind::Kind;
 use tsp_base::message::Message;
@@ -54,19 +53,25 @@ impl Part {
         requires room { 2 * length self.old.station.peers + 10 ≤ D.spare desk.old }
         requires tick { IsTick tick }
         requires later { clock.old.at ≤ tick }
-        ensures row { Performs (TookStands (record { from = from; taken = Good (MessageOf m.now) })) TakeStands (either_by (is_left steer m.now.kind) nothing (handles_kind charge from m.now m.now.kind)) tick port ((self.old, clock.old), tracing.old) ((self.new, clock.new), tracing.new) (D.acts desk.old) (D.acts desk.new) }
+        ensures row { Performs (TookStands (record { from = from; taken = Good (MessageOf m.now) }))
+            TakeStands (either_by (is_left steer m.now.kind) nothing (handles_kind charge from m.now
+            m.now.kind)) tick port ((self.old, clock.old), tracing.old) (
+              (self.new, clock.new),
+              tracing.new,
+            ) (D.acts desk.old) (D.acts desk.new) }
         ensures peers { self.new.station.peers ≡ self.old.station.peers }
         ensures clock { clock.new.at ≤ tick }
-        ensures room { PutsAtMost (2 * length self.old.station.peers + 10) (D.spare desk.old) (D.spare desk.new) (D.acts desk.old) (D.acts desk.new) }
+        ensures room { PutsAtMost (2 * length self.old.station.peers + 10) (D.spare desk.old)
+            (D.spare desk.new) (D.acts desk.old) (D.acts desk.new) }
     {
         if leaves(self.station.role, steer, m.kind()) {
             return;
         }
-        match matter_of(m.kind()) {
-            Matter::OfClients => self.answer(tracing, tick, from, m, port, desk),
-            Matter::OfDates => self.hear_date(clock, charge, tick, from, m, port, desk),
-            Matter::OfNode => {}
-            Matter::OfRoles => self.hear_peer(clock, tick, from, m, port, desk),
+        match audience_of(m.kind()) {
+            Audience::OfClients => self.answer(tracing, tick, from, m, port, desk),
+            Audience::OfDates => self.hear_date(clock, charge, tick, from, m, port, desk),
+            Audience::OfNode => {}
+            Audience::OfRoles => self.hear_peer(clock, tick, from, m, port, desk),
         }
     }
 
@@ -84,11 +89,14 @@ impl Part {
         requires room { 2 * length self.old.station.peers + 2 ≤ D.spare desk.old }
         requires tick { IsTick tick }
         requires later { clock.old.at ≤ tick }
-        requires matter { matter_of m.now.kind ≡ OfDates }
-        ensures row { Performs (PartTook (record { from = from; taken = Good (MessageOf m.now) })) PartStands (handles_kind charge from m.now m.now.kind) tick port (self.old, clock.old) (self.new, clock.new) (D.acts desk.old) (D.acts desk.new) }
+        requires audience { audience_of m.now.kind ≡ OfDates }
+        ensures row { Performs (PartTook (record { from = from; taken = Good (MessageOf m.now) }))
+            PartStands (handles_kind charge from m.now m.now.kind) tick port (self.old, clock.old)
+            (self.new, clock.new) (D.acts desk.old) (D.acts desk.new) }
         ensures peers { self.new.station.peers ≡ self.old.station.peers }
         ensures clock { clock.new.at ≤ tick }
-        ensures room { PutsAtMost (2 * length self.old.station.peers + 2) (D.spare desk.old) (D.spare desk.new) (D.acts desk.old) (D.acts desk.new) }
+        ensures room { PutsAtMost (2 * length self.old.station.peers + 2) (D.spare desk.old)
+            (D.spare desk.new) (D.acts desk.old) (D.acts desk.new) }
     {
         let corrected = date_take(
             &mut self.station,
@@ -122,11 +130,14 @@ impl Part {
         requires room { 2 * length self.old.station.peers + 5 ≤ D.spare desk.old }
         requires tick { IsTick tick }
         requires later { clock.old.at ≤ tick }
-        requires matter { matter_of m.now.kind ≡ OfRoles }
-        ensures row { Performs (PartTook (record { from = from; taken = Good (MessageOf m.now) })) PartStands (from_peer from (peer_says m.now)) tick port (self.old, clock.old) (self.new, clock.new) (D.acts desk.old) (D.acts desk.new) }
+        requires audience { audience_of m.now.kind ≡ OfRoles }
+        ensures row { Performs (PartTook (record { from = from; taken = Good (MessageOf m.now) }))
+            PartStands (from_peer from (peer_says m.now)) tick port (self.old, clock.old)
+            (self.new, clock.new) (D.acts desk.old) (D.acts desk.new) }
         ensures peers { self.new.station.peers ≡ self.old.station.peers }
         ensures clock { clock.new.at ≤ tick }
-        ensures room { PutsAtMost (2 * length self.old.station.peers + 5) (D.spare desk.old) (D.spare desk.new) (D.acts desk.old) (D.acts desk.new) }
+        ensures room { PutsAtMost (2 * length self.old.station.peers + 5) (D.spare desk.old)
+            (D.spare desk.new) (D.acts desk.old) (D.acts desk.new) }
     {
         let Place::Peer(p) = from else {
             return;
@@ -158,11 +169,14 @@ impl Part {
         requires later { clock.old.at ≤ tick }
         requires peer { Contains self.old.station.peers p }
         requires other { m.now.kind ≢ Ack }
-        requires matter { matter_of m.now.kind ≡ OfRoles }
-        ensures row { Performs (PartTook (record { from = Peer p; taken = Good (MessageOf m.now) })) PartStands (says_in p m.now self.old.station.role) tick port (self.old, clock.old) (self.new, clock.new) (D.acts desk.old) (D.acts desk.new) }
+        requires audience { audience_of m.now.kind ≡ OfRoles }
+        ensures row { Performs (PartTook (record { from = Peer p; taken = Good (MessageOf m.now) }))
+            PartStands (says_in p m.now self.old.station.role) tick port (self.old, clock.old)
+            (self.new, clock.new) (D.acts desk.old) (D.acts desk.new) }
         ensures peers { self.new.station.peers ≡ self.old.station.peers }
         ensures clock { clock.new.at ≤ tick }
-        ensures room { PutsAtMost (2 * length self.old.station.peers + 5) (D.spare desk.old) (D.spare desk.new) (D.acts desk.old) (D.acts desk.new) }
+        ensures room { PutsAtMost (2 * length self.old.station.peers + 5) (D.spare desk.old)
+            (D.spare desk.new) (D.acts desk.old) (D.acts desk.new) }
     {
         match self.station.role {
             Role::Starting => {}
@@ -195,10 +209,13 @@ impl Part {
         requires peer { Contains self.old.station.peers p }
         requires role { self.old.station.role ≡ Master }
         requires other { m.now.kind ≢ Ack }
-        requires matter { matter_of m.now.kind ≡ OfRoles }
-        ensures row { Performs (PartTook (record { from = Peer p; taken = Good (MessageOf m.now) })) PartStands (master_takes p m.now) tick port (self.old, clock.now) (self.new, clock.now) (D.acts desk.old) (D.acts desk.new) }
+        requires audience { audience_of m.now.kind ≡ OfRoles }
+        ensures row { Performs (PartTook (record { from = Peer p; taken = Good (MessageOf m.now) }))
+            PartStands (master_takes p m.now) tick port (self.old, clock.now) (self.new, clock.now)
+            (D.acts desk.old) (D.acts desk.new) }
         ensures peers { self.new.station.peers ≡ self.old.station.peers }
-        ensures room { PutsAtMost (2 * length self.old.station.peers + 5) (D.spare desk.old) (D.spare desk.new) (D.acts desk.old) (D.acts desk.new) }
+        ensures room { PutsAtMost (2 * length self.old.station.peers + 5) (D.spare desk.old)
+            (D.spare desk.new) (D.acts desk.old) (D.acts desk.new) }
     {
         match m.kind() {
             Kind::Quit => self.take_quit(clock, tick, p, m, port, desk),
@@ -229,10 +246,13 @@ impl Part {
         requires tick { IsTick tick }
         requires peer { Contains self.old.station.peers p }
         requires role { self.old.station.role ≡ Master }
-        requires matter { matter_of m.now.kind ≡ OfRoles }
-        ensures row { Performs (PartTook (record { from = Peer p; taken = Good (MessageOf m.now) })) PartStands (quits p m.now.number) tick port (self.old, clock.now) (self.new, clock.now) (D.acts desk.old) (D.acts desk.new) }
+        requires audience { audience_of m.now.kind ≡ OfRoles }
+        ensures row { Performs (PartTook (record { from = Peer p; taken = Good (MessageOf m.now) }))
+            PartStands (quits p m.now.number) tick port (self.old, clock.now) (self.new, clock.now)
+            (D.acts desk.old) (D.acts desk.new) }
         ensures peers { self.new.station.peers ≡ self.old.station.peers }
-        ensures room { PutsAtMost 5 (D.spare desk.old) (D.spare desk.new) (D.acts desk.old) (D.acts desk.new) }
+        ensures room { PutsAtMost 5 (D.spare desk.old) (D.spare desk.new) (D.acts desk.old)
+            (D.acts desk.new) }
     {
         take_quit(
             &mut self.station,
@@ -261,9 +281,12 @@ impl Part {
         requires room { 1 ≤ D.spare desk.old }
         requires tick { IsTick tick }
         requires later { clock.now.at ≤ tick }
-        ensures row { (took : Received) (r : ReplyValue) → stamp.now ≡ Reply r → Performs (PartTook took) PartStands (from_peer from (peer_replies r)) tick port (self.old, clock.now) (self.new, clock.now) (D.acts desk.old) (D.acts desk.new) }
+        ensures row { (took : Received) (r : ReplyValue) → stamp.now ≡ Reply r
+            → Performs (PartTook took) PartStands (from_peer from (peer_replies r)) tick port
+            (self.old, clock.now) (self.new, clock.now) (D.acts desk.old) (D.acts desk.new) }
         ensures peers { self.new.station.peers ≡ self.old.station.peers }
-        ensures room { PutsAtMost 1 (D.spare desk.old) (D.spare desk.new) (D.acts desk.old) (D.acts desk.new) }
+        ensures room { PutsAtMost 1 (D.spare desk.old) (D.spare desk.new) (D.acts desk.old)
+            (D.acts desk.new) }
     {
         let Place::Peer(p) = from else {
             return;
@@ -283,5 +306,5 @@ impl Part {
 fn leaves(role: Role, steer: bool, kind: Kind) -> bool
     ensures { result ≡ (not steer && (is_correction kind && is_follow role)) }
 {
-    !steer && corrects(kind) && matches!(role, Role::Follow(_))
+    !steer && kind.is_correction() && matches!(role, Role::Follow(_))
 }

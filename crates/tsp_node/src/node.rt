@@ -46,11 +46,14 @@ impl Node {
     ) -> Result<Node, BootFault>
         requires room { 3 ≤ D.spare desk.old }
         requires tick { IsTick tick }
-        ensures row { IfOk result (λ node. Performs (Unbooted config.now word wall) NodeStands boots tick (record { 0 = 0 }) tt node (D.acts desk.old) (D.acts desk.new)) }
-        ensures ok { IfOk result (λ node. IsPort config.now × (is_clock_value wall ≡ true) × (peers_in node ≡ config.now.peers) × (clock_at node ≡ tick)) }
+        ensures row { IfOk result (λ node. Performs (Unbooted config.now word wall) NodeStands boots
+            tick (record { 0 = 0 }) tt node (D.acts desk.old) (D.acts desk.new)) }
+        ensures ok { IfOk result (λ node. IsPort config.now × (is_clock_value wall ≡ true)
+            × (peers_in node ≡ config.now.peers) × (clock_at node ≡ tick)) }
         ensures err { IfErr result (λ fault. BootsNot config.now wall fault) }
         ensures refused { OnErr result (D.acts desk.new ≡ D.acts desk.old) }
-        ensures room { PutsAtMost 3 (D.spare desk.old) (D.spare desk.new) (D.acts desk.old) (D.acts desk.new) }
+        ensures room { PutsAtMost 3 (D.spare desk.old) (D.spare desk.new) (D.acts desk.old)
+            (D.acts desk.new) }
     {
         let mut node = Node::new(alloc, config, tick, wall, word)?;
         desk.put(PORT, Act::Boot);
@@ -67,8 +70,10 @@ impl Node {
         word: u64,
     ) -> Result<Node, BootFault>
         requires { IsTick tick }
-        ensures stands { IfOk result (λ node. (past : Past) → Unbooted config.now word wall past tt → NodeStands (grown tick past (Boot ∷ [])) node) }
-        ensures ok { IfOk result (λ node. IsPort config.now × (is_clock_value wall ≡ true) × (peers_in node ≡ config.now.peers) × (clock_at node ≡ tick)) }
+        ensures stands { IfOk result (λ node. (past : Past) → Unbooted config.now word wall past tt
+            → NodeStands (grown tick past (Boot ∷ [])) node) }
+        ensures ok { IfOk result (λ node. IsPort config.now × (is_clock_value wall ≡ true)
+            × (peers_in node ≡ config.now.peers) × (clock_at node ≡ tick)) }
         ensures err { IfErr result (λ fault. BootsNot config.now wall fault) }
     {
         if !config.is_port() {

@@ -56,8 +56,10 @@ impl Part {
     pub fn new(alloc: Global, me: Me, peers: &[PeerId], tick: u64) -> Result<Part, AllocError>
         requires { IsPeers peers.now }
         ensures peers { IfOk result (λ part. part.station.peers ≡ peers.now) }
-        ensures stands { IfOk result (λ part. (past : Past) (wall : ℤ) (clock : ClockValue) → IsPortOf me peers.now past → past.step.cause ≡ Booted me.word wall →
-            ClockStands (grown tick past (Boot ∷ [])) clock → PartStands (grown tick past (Boot ∷ [])) (part, clock)) }
+        ensures stands { IfOk result (λ part. (past : Past) (wall : ℤ) (clock : ClockValue)
+            → IsPortOf me peers.now past → past.step.cause ≡ Booted me.word wall
+            → ClockStands (grown tick past (Boot ∷ [])) clock
+            → PartStands (grown tick past (Boot ∷ [])) (part, clock)) }
     {
         let station = Station::new(alloc, me, peers, tick)?;
         let master = Master::new(alloc, peers)?;
@@ -76,9 +78,12 @@ impl Part {
     pub fn begin<D: Desk>(&mut self, tick: u64, port: Port, desk: &mut D)
         requires room { 2 ≤ D.spare desk.old }
         requires tick { IsTick tick }
-        ensures row { (clock : ClockValue) → Performs PartStands PartStands (puts (Become Starting) followed_by arms Quiet QUIET) tick port (self.old, clock) (self.new, clock) (D.acts desk.old) (D.acts desk.new) }
+        ensures row { (clock : ClockValue)
+            → Performs PartStands PartStands (puts (Become Starting) followed_by arms Quiet QUIET)
+            tick port (self.old, clock) (self.new, clock) (D.acts desk.old) (D.acts desk.new) }
         ensures peers { self.new.station.peers ≡ self.old.station.peers }
-        ensures room { PutsExactly 2 (D.spare desk.old) (D.spare desk.new) (D.acts desk.old) (D.acts desk.new) }
+        ensures room { PutsExactly 2 (D.spare desk.old) (D.spare desk.new) (D.acts desk.old)
+            (D.acts desk.new) }
     {
         self.station.become_role(Role::Starting, port, desk);
         self.station.arm(Alarm::Quiet, tick, QUIET, port, desk);
@@ -88,10 +93,17 @@ impl Part {
 
     /// Notes a correction that another port of its node made.
     pub fn moved(&mut self, tick: u64)
-        ensures stands { (past : Past) (step : Step) (amount shown : ℤ) (stepped : Bool) (before after : ClockValue) → PartStands past (self.old, before) →
-            ClockStands (corrected_elsewhere step tick amount stepped shown past) after → PartStands (corrected_elsewhere step tick amount stepped shown past) (self.new, after) }
+        ensures stands { (past : Past) (step : Step) (amount shown : ℤ) (stepped : Bool)
+            (before after : ClockValue) → PartStands past (self.old, before)
+            → ClockStands (corrected_elsewhere step tick amount stepped shown past) after
+            → PartStands (corrected_elsewhere step tick amount stepped shown past)
+            (self.new, after) }
         ensures station { self.new.station ≡ self.old.station }
-        ensures last { self.new.last ≡ record { tick = Some tick; taken = None; name = self.old.last.name } }
+        ensures last { self.new.last ≡ record {
+          tick = Some tick;
+          taken = None;
+          name = self.old.last.name;
+        } }
         ensures master { self.new.master ≡ self.old.master }
         ensures resolve { self.new.resolve ≡ self.old.resolve }
         ensures dates { self.new.dates ≡ self.old.dates }
@@ -102,22 +114,28 @@ impl Part {
     /// Gives up the round that goes on, if there is one. At most one act.
     pub fn abandon<D: Desk>(&mut self, port: Port, desk: &mut D)
         requires room { 1 ≤ D.spare desk.old }
-        ensures row { (x : ℕ) (clock : ClockValue) → Performs PartStands PartStands abandons_going x port (self.old, clock) (self.new, clock) (D.acts desk.old) (D.acts desk.new) }
+        ensures row { (x : ℕ) (clock : ClockValue)
+            → Performs PartStands PartStands abandons_going x port (self.old, clock)
+            (self.new, clock) (D.acts desk.old) (D.acts desk.new) }
         ensures peers { self.new.station.peers ≡ self.old.station.peers }
-        ensures room { PutsAtMost 1 (D.spare desk.old) (D.spare desk.new) (D.acts desk.old) (D.acts desk.new) }
+        ensures room { PutsAtMost 1 (D.spare desk.old) (D.spare desk.new) (D.acts desk.old)
+            (D.acts desk.new) }
     {
         if self.master.abandon(&mut self.station) {
             desk.put(port, Act::Abandon);
         }
     }
 
-    /// Gives its lead up where it leads: the port follows nobody, and waits for a master anew. At most two acts.
+    /// Gives its lead up where it leads: the port follows nobody, and waits for a master anew. At
+    /// most two acts.
     pub fn loosen<D: Desk>(&mut self, tick: u64, port: Port, desk: &mut D)
         requires room { 2 ≤ D.spare desk.old }
         requires tick { IsTick tick }
-        ensures row { (clock : ClockValue) → Performs PartStands PartStands loosens_master tick port (self.old, clock) (self.new, clock) (D.acts desk.old) (D.acts desk.new) }
+        ensures row { (clock : ClockValue) → Performs PartStands PartStands loosens_master tick port
+            (self.old, clock) (self.new, clock) (D.acts desk.old) (D.acts desk.new) }
         ensures peers { self.new.station.peers ≡ self.old.station.peers }
-        ensures room { PutsAtMost 2 (D.spare desk.old) (D.spare desk.new) (D.acts desk.old) (D.acts desk.new) }
+        ensures room { PutsAtMost 2 (D.spare desk.old) (D.spare desk.new) (D.acts desk.old)
+            (D.acts desk.new) }
     {
         if self.leads() {
             self.station.become_role(Role::Loose, port, desk);
@@ -135,8 +153,10 @@ impl Part {
 
     /// Forgets its slaves and rivals where it led before and leads no more.
     pub(crate) fn part_from(&mut self, led: bool)
-        ensures slaves { Clears (led && not (is_master self.old.station.role)) self.old.master self.new.master }
-        ensures rivals { Unmarks (led && not (is_master self.old.station.role)) self.old.resolve self.new.resolve }
+        ensures slaves { Clears (led && not (is_master self.old.station.role)) self.old.master
+            self.new.master }
+        ensures rivals { Unmarks (led && not (is_master self.old.station.role)) self.old.resolve
+            self.new.resolve }
         ensures station { self.new.station ≡ self.old.station }
         ensures last { self.new.last ≡ self.old.last }
         ensures dates { self.new.dates ≡ self.old.dates }

@@ -20,8 +20,11 @@ impl Node {
     /// When it is to be looked at next, in its own ticks: the earliest deadline of an armed alarm or an open
     /// send, which may lie in the past; `u64::MAX` where there is none.
     pub fn due(&self) -> u64
-        ensures value { (o : Option ℕ) × IsEarliest (sending_to self.now.part.station.sends) o × (result ≡ due_of (earlier (least_deadline self.now.part.station.alarms) o)) }
-        ensures past { (past : Past) → NodeStands past self.now → (o : Option ℕ) × IsEarliest (λ p. open_send p past.seen) o × (result ≡ due_of (earlier (least_deadline (armed past.seen)) o)) }
+        ensures value { (o : Option ℕ) × IsEarliest (sending_to self.now.part.station.sends) o
+            × (result ≡ due_of (earlier (least_deadline self.now.part.station.alarms) o)) }
+        ensures past { (past : Past) → NodeStands past self.now
+            → (o : Option ℕ) × IsEarliest (λ p. open_send p past.seen) o
+            × (result ≡ due_of (earlier (least_deadline (armed past.seen)) o)) }
     {
         let station = self.part.station();
         match earlier(station.alarms.least(), station.sends.least()) {
@@ -41,7 +44,8 @@ impl Node {
     /// Whether its trace is on.
     pub fn tracing(&self) -> bool
         ensures value { result ≡ self.now.tracing }
-        ensures past { (past : Past) → NodeStands past self.now → result ≡ tracing (plain past.seen) }
+        ensures past { (past : Past) → NodeStands past self.now
+            → result ≡ tracing (plain past.seen) }
     {
         self.tracing
     }
@@ -51,7 +55,8 @@ impl Node {
         requires tick { IsTick tick }
         requires later { clock_at self.now ≤ tick }
         ensures value { result ≡ shown_of self.now.clock tick }
-        ensures past { (past : Past) → NodeStands past self.now → result ≡ shown (plain past.seen) tick }
+        ensures past { (past : Past) → NodeStands past self.now
+            → result ≡ shown (plain past.seen) tick }
     {
         self.clock.shown(tick)
     }

@@ -28,8 +28,10 @@ pub(crate) fn reply<D: Desk>(
     requires room { 1 ≤ D.spare desk.old }
     requires tick { IsTick tick }
     requires later { clock.now.at ≤ tick }
-    ensures row { (part : Part) → Performs PartStands PartStands (replies from word counter) tick port (part, clock.now) (part, clock.now) (D.acts desk.old) (D.acts desk.new) }
-    ensures room { PutsAtMost 1 (D.spare desk.old) (D.spare desk.new) (D.acts desk.old) (D.acts desk.new) }
+    ensures row { (part : Part) → Performs PartStands PartStands (replies from word counter) tick
+        port (part, clock.now) (part, clock.now) (D.acts desk.old) (D.acts desk.new) }
+    ensures room { PutsAtMost 1 (D.spare desk.old) (D.spare desk.new) (D.acts desk.old)
+        (D.acts desk.new) }
 {
     match stamp_at(clock, tick, word, counter) {
         Some(stamp) => desk.put(port, Act::Post(from, Datagram::Stamp(stamp))),
@@ -41,7 +43,13 @@ pub(crate) fn reply<D: Desk>(
 fn stamp_at(clock: &Clock, tick: u64, word: u64, counter: u64) -> Option<Stamp>
     requires tick { IsTick tick }
     requires later { clock.now.at ≤ tick }
-    ensures there { IfSome result (λ s. (is_clock_value (target_of clock.now tick) ≡ true) × (s ≡ Stamp.Reply (record { ticket = clock.now.ticket; word = word; counter = counter; reading = target_of clock.now tick }))) }
+    ensures there { IfSome result (λ s. (is_clock_value (target_of clock.now tick) ≡ true)
+        × (s ≡ Stamp.Reply (record {
+          ticket = clock.now.ticket;
+          word = word;
+          counter = counter;
+          reading = target_of clock.now tick;
+        }))) }
     ensures none { IfNone result (is_clock_value (target_of clock.now tick) ≡ false) }
 {
     let target = clock.target(tick);

@@ -28,8 +28,10 @@ pub(crate) fn ring_slave<D: Desk>(
     requires alarm { is_of_slave alarm ≡ true }
     requires tick { IsTick tick }
     requires room { length station.old.peers + 4 ≤ D.spare desk.old }
-    ensures row { (own wait : Bool) → Performs Stands Stands (alarm_rings own wait alarm) tick port station.old station.new (D.acts desk.old) (D.acts desk.new) }
-    ensures room { PutsAtMost (length station.old.peers + 4) (D.spare desk.old) (D.spare desk.new) (D.acts desk.old) (D.acts desk.new) }
+    ensures row { (own wait : Bool) → Performs Stands Stands (alarm_rings own wait alarm) tick port
+        station.old station.new (D.acts desk.old) (D.acts desk.new) }
+    ensures room { PutsAtMost (length station.old.peers + 4) (D.spare desk.old) (D.spare desk.new)
+        (D.acts desk.old) (D.acts desk.new) }
     ensures port { IsSamePort station.old station.new }
 {
     match alarm {
@@ -42,8 +44,10 @@ pub(crate) fn ring_slave<D: Desk>(
 fn ring_elect<D: Desk>(station: &mut Station, tick: u64, port: Port, desk: &mut D)
     requires tick { IsTick tick }
     requires room { length station.old.peers + 4 ≤ D.spare desk.old }
-    ensures row { Performs Stands Stands elect_rings tick port station.old station.new (D.acts desk.old) (D.acts desk.new) }
-    ensures room { PutsAtMost (length station.old.peers + 4) (D.spare desk.old) (D.spare desk.new) (D.acts desk.old) (D.acts desk.new) }
+    ensures row { Performs Stands Stands elect_rings tick port station.old station.new
+        (D.acts desk.old) (D.acts desk.new) }
+    ensures room { PutsAtMost (length station.old.peers + 4) (D.spare desk.old) (D.spare desk.new)
+        (D.acts desk.old) (D.acts desk.new) }
     ensures port { IsSamePort station.old station.new }
 {
     if becomes_candidate(station, tick) {
@@ -58,8 +62,10 @@ fn ring_elect<D: Desk>(station: &mut Station, tick: u64, port: Port, desk: &mut 
 pub(crate) fn wait_round<D: Desk>(station: &mut Station, tick: u64, port: Port, desk: &mut D)
     requires tick { IsTick tick }
     requires room { 2 ≤ D.spare desk.old }
-    ensures row { Performs Stands Stands (round_rings true) tick port station.old station.new (D.acts desk.old) (D.acts desk.new) }
-    ensures room { PutsAtMost 2 (D.spare desk.old) (D.spare desk.new) (D.acts desk.old) (D.acts desk.new) }
+    ensures row { Performs Stands Stands (round_rings true) tick port station.old station.new
+        (D.acts desk.old) (D.acts desk.new) }
+    ensures room { PutsAtMost 2 (D.spare desk.old) (D.spare desk.new) (D.acts desk.old)
+        (D.acts desk.new) }
     ensures port { IsSamePort station.old station.new }
 {
     if station.is_in_time(Alarm::Round, tick) {

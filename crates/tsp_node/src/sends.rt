@@ -10,7 +10,6 @@ ghost use Rattle.tsp_base.specs.Messages.{MessageValue};
 ghost use Rattle.tsp_base.specs.Performs.{Performs};
 ghost use Rattle.tsp_base.specs.PortFacts.{acting};
 ghost use Rattle.tsp_base.specs.Rows.{grown};
-ghost use Rattle.tsp_base.specs.SendFacts.{is_correction};
 ghost use Rattle.tsp_rules.specs.SendRows.{due_send, due_sends, leaves_after};
 ghost use Rattle.tsp_sends.specs.Repeating.{IsAfter, RepeatsNext, peer_of};
 ghost use Rattle.tsp_clock.specs.Clocks.{ClockValue};
@@ -31,9 +30,12 @@ impl Part {
     pub fn sends<D: Desk>(&mut self, tick: u64, port: Port, desk: &mut D)
         requires tick { IsTick tick }
         requires room { 2 * length self.old.station.peers + 16 ≤ D.spare desk.old }
-        ensures row { (clock : ClockValue) → Performs PartBegun PartBegun due_sends tick port (self.old, clock) (self.new, clock) (D.acts desk.old) (D.acts desk.new) }
+        ensures row { (clock : ClockValue)
+            → Performs PartBegun PartBegun due_sends tick port (self.old, clock) (self.new, clock)
+            (D.acts desk.old) (D.acts desk.new) }
         ensures peers { self.new.station.peers ≡ self.old.station.peers }
-        ensures room { PutsAtMost (2 * length self.old.station.peers) (D.spare desk.old) (D.spare desk.new) (D.acts desk.old) (D.acts desk.new) }
+        ensures room { PutsAtMost (2 * length self.old.station.peers) (D.spare desk.old)
+            (D.spare desk.new) (D.acts desk.old) (D.acts desk.new) }
     {
         let mut after = None;
         // Each peer has one open send at most, so this many rounds are enough.
@@ -55,12 +57,17 @@ impl Part {
     ) -> Option<Due>
         requires room { 2 ≤ D.spare desk.old }
         requires tick { IsTick tick }
-        ensures next { IfSome result (λ due. Contains self.old.station.peers (peer_of due) × IsAfter after (peer_of due)) }
-        ensures sends { RepeatsNext after tick self.old.station.sends self.new.station.sends result }
-        ensures row { IfSome result (λ due. (clock : ClockValue) → Performs PartBegun PartBegun (due_send (peer_of due)) tick port (self.old, clock) (self.new, clock) (D.acts desk.old) (D.acts desk.new)) }
+        ensures next { IfSome result (λ due. Contains self.old.station.peers (peer_of due)
+            × IsAfter after (peer_of due)) }
+        ensures sends { RepeatsNext after tick self.old.station.sends self.new.station.sends
+            result }
+        ensures row { IfSome result (λ due. (clock : ClockValue)
+            → Performs PartBegun PartBegun (due_send (peer_of due)) tick port (self.old, clock)
+            (self.new, clock) (D.acts desk.old) (D.acts desk.new)) }
         ensures same { IfNone result ((self.new ≡ self.old) × (desk.new ≡ desk.old)) }
         ensures peers { self.new.station.peers ≡ self.old.station.peers }
-        ensures room { PutsAtMost 2 (D.spare desk.old) (D.spare desk.new) (D.acts desk.old) (D.acts desk.new) }
+        ensures room { PutsAtMost 2 (D.spare desk.old) (D.spare desk.new) (D.acts desk.old)
+            (D.acts desk.new) }
     {
         let due = self.station.repeat_next(after, tick, port, desk)?;
         match due {
@@ -78,13 +85,15 @@ impl Part {
     /// Notes that a message of this kind was posted again to a peer.
     fn repeat(&mut self, peer: PeerId, kind: Kind, tick: u64)
         requires peer { Contains self.old.station.peers peer }
-        ensures stands { (past : Past) (m : MessageValue) → m.kind ≡ kind → acting past.seen ≡ false → MasterStands past self.old.master → MasterStands (grown tick past (Post (Peer peer) (Message m) ∷ [])) self.new.master }
+        ensures stands { (past : Past) (m : MessageValue) → m.kind ≡ kind → acting past.seen ≡ false
+            → MasterStands past self.old.master
+            → MasterStands (grown tick past (Post (Peer peer) (Message m) ∷ [])) self.new.master }
         ensures station { self.new.station ≡ self.old.station }
         ensures last { self.new.last ≡ self.old.last }
         ensures resolve { self.new.resolve ≡ self.old.resolve }
         ensures dates { self.new.dates ≡ self.old.dates }
     {
-        if corrects(kind) {
+        if kind.is_correction() {
             self.master.again(peer, tick);
         }
     }
@@ -92,25 +101,20 @@ impl Part {
     /// Lets a slave leave that didn't acknowledge a send of this kind, if that was a correction.
     fn give_up<D: Desk>(&mut self, peer: PeerId, kind: Kind, port: Port, desk: &mut D)
         requires room { 1 ≤ D.spare desk.old }
-        ensures row { (x : ℕ) → Performs MasterStands MasterStands (leaves_after peer kind) x port self.old.master self.new.master (D.acts desk.old) (D.acts desk.new) }
+        ensures row { (x : ℕ) → Performs MasterStands MasterStands (leaves_after peer kind) x port
+            self.old.master self.new.master (D.acts desk.old) (D.acts desk.new) }
         ensures station { self.new.station ≡ self.old.station }
         ensures last { self.new.last ≡ self.old.last }
         ensures resolve { self.new.resolve ≡ self.old.resolve }
         ensures dates { self.new.dates ≡ self.old.dates }
-        ensures room { PutsAtMost 1 (D.spare desk.old) (D.spare desk.new) (D.acts desk.old) (D.acts desk.new) }
+        ensures room { PutsAtMost 1 (D.spare desk.old) (D.spare desk.new) (D.acts desk.old)
+            (D.acts desk.new) }
     {
-        if !corrects(kind) {
+        if !kind.is_correction() {
             return;
         }
         if self.master.leave(peer) {
             desk.put(port, Act::Leave(peer));
         }
     }
-}
-
-/// Whether messages of this kind correct a clock.
-pub(crate) fn corrects(kind: Kind) -> bool
-    ensures { result ≡ is_correction kind }
-{
-    matches!(kind, Kind::AdjTime | Kind::SetTime)
 }

@@ -33,10 +33,12 @@ impl Node {
         requires room { room_for (length (peers_in self.old)) ≤ D.spare desk.old }
         requires tick { IsTick tick }
         requires later { clock_at self.old ≤ tick }
-        ensures row { Performs Begun NodeStands (answers (given input.now)) tick (record { 0 = 0 }) self.old self.new (D.acts desk.old) (D.acts desk.new) }
+        ensures row { Performs Begun NodeStands (answers (given input.now)) tick (record { 0 = 0 })
+            self.old self.new (D.acts desk.old) (D.acts desk.new) }
         ensures peers { peers_in self.new ≡ peers_in self.old }
         ensures clock { clock_at self.new ≤ tick }
-        ensures room { PutsAtMost (room_for (length (peers_in self.old))) (D.spare desk.old) (D.spare desk.new) (D.acts desk.old) (D.acts desk.new) }
+        ensures room { PutsAtMost (room_for (length (peers_in self.old))) (D.spare desk.old)
+            (D.spare desk.new) (D.acts desk.old) (D.acts desk.new) }
     {
         match input {
             Input::Turn => self.turn(tick, desk),
@@ -49,10 +51,12 @@ impl Node {
         requires room { room_for (length (peers_in self.old)) ≤ D.spare desk.old }
         requires tick { IsTick tick }
         requires later { clock_at self.old ≤ tick }
-        ensures row { Performs Begun NodeStands (answers Turn) tick (record { 0 = 0 }) self.old self.new (D.acts desk.old) (D.acts desk.new) }
+        ensures row { Performs Begun NodeStands (answers Turn) tick (record { 0 = 0 }) self.old
+            self.new (D.acts desk.old) (D.acts desk.new) }
         ensures peers { peers_in self.new ≡ peers_in self.old }
         ensures clock { clock_at self.new ≤ tick }
-        ensures room { PutsAtMost (room_for (length (peers_in self.old))) (D.spare desk.old) (D.spare desk.new) (D.acts desk.old) (D.acts desk.new) }
+        ensures room { PutsAtMost (room_for (length (peers_in self.old))) (D.spare desk.old)
+            (D.spare desk.new) (D.acts desk.old) (D.acts desk.new) }
     {
         self.part.sends(tick, PORT, desk);
         self.ring_alarms(tick, desk);
@@ -63,10 +67,12 @@ impl Node {
         requires room { room_for (length (peers_in self.old)) ≤ D.spare desk.old }
         requires tick { IsTick tick }
         requires later { clock_at self.old ≤ tick }
-        ensures row { Performs Begun NodeStands (answers (Got from taken.now)) tick (record { 0 = 0 }) self.old self.new (D.acts desk.old) (D.acts desk.new) }
+        ensures row { Performs Begun NodeStands (answers (Got from taken.now)) tick
+            (record { 0 = 0 }) self.old self.new (D.acts desk.old) (D.acts desk.new) }
         ensures peers { peers_in self.new ≡ peers_in self.old }
         ensures clock { clock_at self.new ≤ tick }
-        ensures room { PutsAtMost (room_for (length (peers_in self.old))) (D.spare desk.old) (D.spare desk.new) (D.acts desk.old) (D.acts desk.new) }
+        ensures room { PutsAtMost (room_for (length (peers_in self.old))) (D.spare desk.old)
+            (D.spare desk.new) (D.acts desk.old) (D.acts desk.new) }
     {
         self.part.sends(tick, PORT, desk);
         self.ring_alarms(tick, desk);
@@ -79,10 +85,12 @@ impl Node {
         requires tick { IsTick tick }
         requires later { clock_at self.old ≤ tick }
         requires room { 2 * length (peers_in self.old) + 17 ≤ D.spare desk.old }
-        ensures row { Performs NodeUntaken NodeStands (upsetting (takes true true from taken.now)) tick (record { 0 = 0 }) self.old self.new (D.acts desk.old) (D.acts desk.new) }
+        ensures row { Performs NodeUntaken NodeStands (upsetting (takes true true from taken.now))
+            tick (record { 0 = 0 }) self.old self.new (D.acts desk.old) (D.acts desk.new) }
         ensures peers { peers_in self.new ≡ peers_in self.old }
         ensures clock { clock_at self.new ≤ tick }
-        ensures room { PutsAtMost (2 * length (peers_in self.old) + 17) (D.spare desk.old) (D.spare desk.new) (D.acts desk.old) (D.acts desk.new) }
+        ensures room { PutsAtMost (2 * length (peers_in self.old) + 17) (D.spare desk.old)
+            (D.spare desk.new) (D.acts desk.old) (D.acts desk.new) }
     {
         let clock = &mut self.clock;
         let tracing = &mut self.tracing;
@@ -99,10 +107,12 @@ impl Node {
         requires tick { IsTick tick }
         requires later { clock_at self.old ≤ tick }
         requires room { 20 * length (peers_in self.old) + 64 ≤ D.spare desk.old }
-        ensures row { Performs NodeUntaken NodeUntaken due_alarms tick (record { 0 = 0 }) self.old self.new (D.acts desk.old) (D.acts desk.new) }
+        ensures row { Performs NodeUntaken NodeUntaken due_alarms tick (record { 0 = 0 }) self.old
+            self.new (D.acts desk.old) (D.acts desk.new) }
         ensures peers { peers_in self.new ≡ peers_in self.old }
         ensures clock { clock_at self.new ≤ tick }
-        ensures room { PutsAtMost (16 * length (peers_in self.old) + 32) (D.spare desk.old) (D.spare desk.new) (D.acts desk.old) (D.acts desk.new) }
+        ensures room { PutsAtMost (16 * length (peers_in self.old) + 32) (D.spare desk.old)
+            (D.spare desk.new) (D.acts desk.old) (D.acts desk.new) }
     {
         self.ring(Alarm::Quiet, tick, desk);
         self.ring(Alarm::Search, tick, desk);
@@ -120,11 +130,13 @@ impl Node {
         requires later { clock_at self.old ≤ tick }
         requires order { alarm ≡ Close → is_over self.old.part.station.alarms.probe tick ≡ false }
         requires room { 2 * length (peers_in self.old) + 16 ≤ D.spare desk.old }
-        ensures row { Performs NodeUntaken NodeUntaken (rings_alone alarm) tick (record { 0 = 0 }) self.old self.new (D.acts desk.old) (D.acts desk.new) }
+        ensures row { Performs NodeUntaken NodeUntaken (rings_alone alarm) tick (record { 0 = 0 })
+            self.old self.new (D.acts desk.old) (D.acts desk.new) }
         ensures over { alarm ≡ Probe → is_over self.new.part.station.alarms.probe tick ≡ false }
         ensures peers { peers_in self.new ≡ peers_in self.old }
         ensures clock { clock_at self.new ≤ tick }
-        ensures room { PutsAtMost (2 * length (peers_in self.old) + 4) (D.spare desk.old) (D.spare desk.new) (D.acts desk.old) (D.acts desk.new) }
+        ensures room { PutsAtMost (2 * length (peers_in self.old) + 4) (D.spare desk.old)
+            (D.spare desk.new) (D.acts desk.old) (D.acts desk.new) }
     {
         let _ = self
             .part

@@ -37,11 +37,15 @@ impl Part {
         requires room { 2 * length self.old.station.peers + 16 ≤ D.spare desk.old }
         requires tick { IsTick tick }
         requires later { clock.old.at ≤ tick }
-        ensures row { Performs TakeStands TakeStands (takes steer charge from taken.now) tick port ((self.old, clock.old), tracing.old) ((self.new, clock.new), tracing.new) (D.acts desk.old) (D.acts desk.new) }
-        ensures corrects { (past : Past) → TakeStands past ((self.old, clock.old), tracing.old) → result ≡ corrects (takes steer charge from taken.now tick past) }
+        ensures row { Performs TakeStands TakeStands (takes steer charge from taken.now) tick port
+            ((self.old, clock.old), tracing.old) ((self.new, clock.new), tracing.new)
+            (D.acts desk.old) (D.acts desk.new) }
+        ensures corrects { (past : Past) → TakeStands past ((self.old, clock.old), tracing.old)
+            → result ≡ corrects (takes steer charge from taken.now tick past) }
         ensures peers { self.new.station.peers ≡ self.old.station.peers }
         ensures clock { clock.new.at ≤ tick }
-        ensures room { PutsAtMost (2 * length self.old.station.peers + 16) (D.spare desk.old) (D.spare desk.new) (D.acts desk.old) (D.acts desk.new) }
+        ensures room { PutsAtMost (2 * length self.old.station.peers + 16) (D.spare desk.old)
+            (D.spare desk.new) (D.acts desk.old) (D.acts desk.new) }
     {
         let ticket = clock.ticket();
         // At most 1,000 peers: so few acts don't bring the ticket round to what it was.
@@ -68,10 +72,14 @@ impl Part {
         requires room { 2 * length self.old.station.peers + 10 ≤ D.spare desk.old }
         requires tick { IsTick tick }
         requires later { clock.old.at ≤ tick }
-        ensures row { Performs (TookStands (record { from = from; taken = taken.now })) TakeStands (either_by (is_own from) nothing (handles steer charge from taken.now)) tick port ((self.old, clock.old), tracing.old) ((self.new, clock.new), tracing.new) (D.acts desk.old) (D.acts desk.new) }
+        ensures row { Performs (TookStands (record { from = from; taken = taken.now })) TakeStands
+            (either_by (is_own from) nothing (handles steer charge from taken.now)) tick port
+            ((self.old, clock.old), tracing.old) ((self.new, clock.new), tracing.new)
+            (D.acts desk.old) (D.acts desk.new) }
         ensures peers { self.new.station.peers ≡ self.old.station.peers }
         ensures clock { clock.new.at ≤ tick }
-        ensures room { PutsAtMost (2 * length self.old.station.peers + 10) (D.spare desk.old) (D.spare desk.new) (D.acts desk.old) (D.acts desk.new) }
+        ensures room { PutsAtMost (2 * length self.old.station.peers + 10) (D.spare desk.old)
+            (D.spare desk.new) (D.acts desk.old) (D.acts desk.new) }
     {
         if is_own(from, self.station.me.own) {
             return;

@@ -1,15 +1,15 @@
-//! What is promised of the network's date in any history that fits: of any number of nodes, and of any number of ports
-//! of a node. Nothing here runs. The function's contract is a theorem; whoever keeps what each deed owes to its past
-//! keeps the promise.
+//! What is promised of the network's date in any history that fits: of any number of nodes, and of
+//! any number of ports of a node. Nothing here runs. The function's contract is a theorem; whoever
+//! keeps what each deed owes to its past keeps the promise.
 ghost use Rattle.std.specs.Prelude.{List};
 ghost use Rattle.tsp_promises.specs.Fits.{Fits};
 ghost use Rattle.tsp_base.specs.History.{Line};
 ghost use Rattle.tsp_promises.specs.Setting.{Setting};
 ghost use Rattle.tsp_promises.specs.Dated.{Dated};
 
-/// A date is set at a master alone, to the time that was taken. A date that was passed on and acknowledged was set, if no
-/// peer's datagram is forged, no datagram outlives `LIFE`, and no port begins 32,768 sends with own numbers in one life
-/// of its node.
+/// A date is set at a master alone, to the time that was taken. A date that was passed on and
+/// acknowledged was set, if no peer's datagram is forged, no datagram outlives `LIFE`, and no port
+/// begins 32,768 sends with own numbers in one life of its node.
 pub fn dated()
     ensures { (setting : Setting) (world : List Line) → Fits setting world → Dated setting world }
 {}

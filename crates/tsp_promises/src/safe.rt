@@ -1,6 +1,7 @@
-//! The promises of the protocol, each proved of every history that fits: of any number of nodes, and of any
-//! number of ports of a node. Nothing here runs. Each function's contract is a theorem about the definitions of
-//! `tsp_base`; whoever keeps what each deed owes to its past keeps the promises.
+//! The promises of the protocol, each proved of every history that fits: of any number of nodes,
+//! and of any number of ports of a node. Nothing here runs. Each function's contract is a theorem
+//! about the definitions of `specs/`; whoever keeps what each deed owes to its past keeps the
+//! promises.
 ghost use Rattle.std.specs.Prelude.{◌≡◌, ◌≤◌, ◌⊎◌, ◌+◌, nat_abs, true, ℕ, ℤ, List};
 ghost use Rattle.tsp_base.specs.History.{Line};
 ghost use Rattle.tsp_base.specs.Ticks.{tick_at, width};
@@ -43,16 +44,18 @@ ghost use Rattle.tsp_promises.specs.EstimatesUse.{EstimatesUse};
 
 /// All promises of a history that ends with a step, each under the premises that it needs.
 pub fn safe()
-    ensures { (setting : Setting) (world : List Line) → Fits setting world → Finished world → Safe setting world }
+    ensures { (setting : Setting) (world : List Line) → Fits setting world → Finished world
+        → Safe setting world }
 {}
 
 /// No node backs two candidates within the hold, forged datagrams or not.
 pub fn one_back()
-    ensures { (setting : Setting) (world : List Line) → Fits setting world → Finished world → OneBack world }
+    ensures { (setting : Setting) (world : List Line) → Fits setting world → Finished world
+        → OneBack world }
 {}
 
-/// For `QUIET` ticks after a boot a node posts replies to stamp requests and acknowledgments of MSITE, TRACEON and TRACEOFF
-/// alone, and doesn't correct its clock.
+/// For `QUIET` ticks after a boot a node posts replies to stamp requests and acknowledgments of
+/// MSITE, TRACEON and TRACEOFF alone, and doesn't correct its clock.
 pub fn silent_after_boot()
     ensures { (setting : Setting) (world : List Line) → Fits setting world → Silent world }
 {}
@@ -64,124 +67,152 @@ pub fn only_master()
 
 /// Two corrections of one clock stand apart, in one life of the node and over lives.
 pub fn once_spaced()
-    ensures one_life { (setting : Setting) (world : List Line) → Fits setting world → OnceSpaced world }
-    ensures over_lives { (setting : Setting) (world : List Line) → Fits setting world → OnceSpacedOverLives world }
+    ensures one_life { (setting : Setting) (world : List Line) → Fits setting world
+        → OnceSpaced world }
+    ensures over_lives { (setting : Setting) (world : List Line) → Fits setting world
+        → OnceSpacedOverLives world }
 {}
 
 /// A follower's clock is moved only as its master says, if no peer's datagram is forged.
 pub fn once_obeyed()
-    ensures { (setting : Setting) (world : List Line) → Fits setting world → Honest world → OnceObeyed setting world }
+    ensures { (setting : Setting) (world : List Line) → Fits setting world → Honest world
+        → OnceObeyed setting world }
 {}
 
-/// No two corrections of clocks take posts of one ADJTIME or SETTIME, if no datagram outlives `LIFE`; forged datagrams
-/// don't matter.
+/// No two corrections of clocks take posts of one ADJTIME or SETTIME, if no datagram outlives
+/// `LIFE`; forged datagrams don't matter.
 pub fn once_corrected()
-    ensures { (setting : Setting) (world : List Line) → Fits setting world → Life world → OnceCorrected world }
+    ensures { (setting : Setting) (world : List Line) → Fits setting world → Life world
+        → OnceCorrected world }
 {}
 
-/// No two corrections of clocks take posts of one send, whether that corrects a clock or passes a date on, if no
-/// datagram outlives `LIFE` and no peer's datagram is forged.
+/// No two corrections of clocks take posts of one send, whether that corrects a clock or passes a
+/// date on, if no datagram outlives `LIFE` and no peer's datagram is forged.
 pub fn once_taken()
-    ensures { (setting : Setting) (world : List Line) → Fits setting world → Honest world → Life world → OnceTaken world }
+    ensures { (setting : Setting) (world : List Line) → Fits setting world → Honest world
+        → Life world → OnceTaken world }
 {}
 
-/// A correction that was acknowledged was taken, if no peer's datagram is forged and none outlives `LIFE`. Boots may have
-/// equal words, here and wherever clocks are compared.
+/// A correction that was acknowledged was taken, if no peer's datagram is forged and none outlives
+/// `LIFE`. Boots may have equal words, here and wherever clocks are compared.
 pub fn once_confirmed()
-    ensures { (setting : Setting) (world : List Line) → Fits setting world → Honest world → Life world → OnceConfirmed world }
+    ensures { (setting : Setting) (world : List Line) → Fits setting world → Honest world
+        → Life world → OnceConfirmed world }
 {}
 
-/// A measurement ends an open exchange of the going round, and the error that it states is half that round trip,
-/// rounded up.
+/// A measurement ends an open exchange of the going round, and the error that it states is half
+/// that round trip, rounded up.
 pub fn measured_trips()
     ensures { (setting : Setting) (world : List Line) → Fits setting world → Trips world }
 {}
 
-/// A measurement rests on a reply that its peer posted, and errs by at most the error that it states, if no peer's
-/// datagram is forged, and none outlives `LIFE` or no two boots of one node have one word.
+/// A measurement rests on a reply that its peer posted, and errs by at most the error that it
+/// states, if no peer's datagram is forged, and none outlives `LIFE` or no two boots of one node
+/// have one word.
 pub fn measured()
-    ensures { (setting : Setting) (world : List Line) → Fits setting world → Honest world → Life world ⊎ OwnWords world → Measured setting world }
+    ensures { (setting : Setting) (world : List Line) → Fits setting world → Honest world
+        → Life world ⊎ OwnWords world → Measured setting world }
 {}
 
-/// An ADJTIME that a Close begins rests on a sample, and clocks that one Close corrected agree with one another and with
-/// the master's: at each act, and from there on as long as nothing more happens.
+/// An ADJTIME that a Close begins rests on a sample, and clocks that one Close corrected agree with
+/// one another and with the master's: at each act, and from there on as long as nothing more
+/// happens.
 pub fn agreed()
-    ensures at { (setting : Setting) (world : List Line) → Fits setting world → Honest world → Life world → Agreed setting world }
-    ensures stay { (setting : Setting) (world : List Line) → Fits setting world → Honest world → Life world → StayAgreed setting world }
+    ensures at { (setting : Setting) (world : List Line) → Fits setting world → Honest world
+        → Life world → Agreed setting world }
+    ensures stay { (setting : Setting) (world : List Line) → Fits setting world → Honest world
+        → Life world → StayAgreed setting world }
 {}
 
-/// A round's estimates tell of the clocks: any two differ by no more than the clocks do at its Close, their errors and drift;
-/// and the master's clock, once it moved by the mean, stands apart from a clock that nobody has corrected since by what the
-/// estimate of that stands apart from the mean, its error and drift.
+/// A round's estimates tell of the clocks: any two differ by no more than the clocks do at its
+/// Close, their errors and drift; and the master's clock, once it moved by the mean, stands apart
+/// from a clock that nobody has corrected since by what the estimate of that stands apart from the
+/// mean, its error and drift.
 pub fn estimates_hold()
-    ensures { (setting : Setting) (world : List Line) → Fits setting world → Honest world → Life world → EstimatesHold setting world }
+    ensures { (setting : Setting) (world : List Line) → Fits setting world → Honest world
+        → Life world → EstimatesHold setting world }
 {}
 
-/// The error on which an ADJTIME rests is at most 4.5 s, half of the longest round, whatever is delivered.
+/// The error on which an ADJTIME rests is at most 4.5 s, half of the longest round, whatever is
+/// delivered.
 pub fn errs_bounded()
     ensures { (setting : Setting) (world : List Line) → Fits setting world → ErrsBounded world }
 {}
 
-/// A round's bound never lapses: with what the two nodes were moved by since taken back, the clock of a node that a Close
-/// corrected and that of the master agree as they did, until either boots; so the clocks differ by at most that besides.
+/// A round's bound never lapses: with what the two nodes were moved by since taken back, the clock
+/// of a node that a Close corrected and that of the master agree as they did, until either boots;
+/// so the clocks differ by at most that besides.
 pub fn throughout()
-    ensures { (setting : Setting) (world : List Line) → Fits setting world → Honest world → Life world → Throughout setting world }
+    ensures { (setting : Setting) (world : List Line) → Fits setting world → Honest world
+        → Life world → Throughout setting world }
 {}
 
-/// No error is corrected twice: from the reading, or the SLAVEUP, on which a correction rests to the Correct that takes it the
-/// node neither boots nor corrects its clock, whichever masters there are, if no peer's datagram is forged and none
-/// outlives `LIFE`.
+/// No error is corrected twice: from the reading, or the SLAVEUP, on which a correction rests to
+/// the Correct that takes it the node neither boots nor corrects its clock, whichever masters there
+/// are, if no peer's datagram is forged and none outlives `LIFE`.
 pub fn one_error()
-    ensures { (setting : Setting) (world : List Line) → Fits setting world → Honest world → Life world → OneError world }
+    ensures { (setting : Setting) (world : List Line) → Fits setting world → Honest world
+        → Life world → OneError world }
 {}
 
-/// After a SETTIME a clock is behind its master's by the time that the datagram took since it was first posted, and drift;
-/// forged datagrams or not. If no datagram outlives `LIFE` that is at most 34 s and drift.
+/// After a SETTIME a clock is behind its master's by the time that the datagram took since it was
+/// first posted, and drift; forged datagrams or not. If no datagram outlives `LIFE` that is at most
+/// 34 s and drift.
 pub fn first_set()
-    ensures at { (setting : Setting) (world : List Line) → Fits setting world → FirstSet setting world }
-    ensures soon { (setting : Setting) (world : List Line) → Fits setting world → Life world → FirstSetSoon setting world }
+    ensures at { (setting : Setting) (world : List Line) → Fits setting world
+        → FirstSet setting world }
+    ensures soon { (setting : Setting) (world : List Line) → Fits setting world → Life world
+        → FirstSetSoon setting world }
 {}
 
-/// Clocks along chains of corrections agree: with the first master's, with those along another chain of the same Close, and,
-/// in a tree of gateways, any two of them. They differ by at most the errors of the readings on the path and drift.
+/// Clocks along chains of corrections agree: with the first master's, with those along another
+/// chain of the same Close, and, in a tree of gateways, any two of them. They differ by at most the
+/// errors of the readings on the path and drift.
 pub fn chained()
-    ensures { (setting : Setting) (world : List Line) → Fits setting world → Honest world → Life world → Chained setting world }
+    ensures { (setting : Setting) (world : List Line) → Fits setting world → Honest world
+        → Life world → Chained setting world }
 {}
 
-/// A clock that a corrected master corrected agrees with the first master's, at each line and from there on.
+/// A clock that a corrected master corrected agrees with the first master's, at each line and from
+/// there on.
 pub fn relayed()
-    ensures { (setting : Setting) (world : List Line) → Fits setting world → Honest world → Life world → Relayed setting world }
+    ensures { (setting : Setting) (world : List Line) → Fits setting world → Honest world
+        → Life world → Relayed setting world }
 {}
 
-/// The clock that users read never falls between steps and boots, and is off in rate by at most one in two hundred, beside
-/// its node's drift; forged datagrams or not.
+/// The clock that users read never falls between steps and boots, and is off in rate by at most one
+/// in two hundred, beside its node's drift; forged datagrams or not.
 pub fn runs_steadily()
     ensures { (setting : Setting) (world : List Line) → Fits setting world → Steady setting world }
 {}
 
-/// It meets its target: what is left to slew is less by a microsecond each 200 ticks. No deed can break this; it is how
-/// the shown value is defined.
+/// It meets its target: what is left to slew is less by a microsecond each 200 ticks. No deed can
+/// break this; it is how the shown value is defined.
 pub fn meets_target()
     ensures { (world : List Line) → Meets world }
 {}
 
-/// What users read of clocks agrees as the clocks do, wherever a Close or a chain bounds them: within the same errors and
-/// drift, and what is still to be slewed on each. Whatever else bounds the clocks of two nodes that have booted bounds what
-/// they show likewise, and as closely once both have met their targets; forged datagrams or not.
+/// What users read of clocks agrees as the clocks do, wherever a Close or a chain bounds them:
+/// within the same errors and drift, and what is still to be slewed on each. Whatever else bounds
+/// the clocks of two nodes that have booted bounds what they show likewise, and as closely once
+/// both have met their targets; forged datagrams or not.
 pub fn agreed_shown()
-    ensures clocks { (setting : Setting) (world : List Line) → Fits setting world → Honest world → Life world → AgreedShown setting world }
-    ensures near { (setting : Setting) (world : List Line) → Fits setting world → ShownNear setting world }
+    ensures clocks { (setting : Setting) (world : List Line) → Fits setting world → Honest world
+        → Life world → AgreedShown setting world }
+    ensures near { (setting : Setting) (world : List Line) → Fits setting world
+        → ShownNear setting world }
 {}
 
-/// Whoever waits for longer than his clock and another's may be apart knows that what the other shows then is later than
-/// what his own showed before.
+/// Whoever waits for longer than his clock and another's may be apart knows that what the other
+/// shows then is later than what his own showed before.
 pub fn stamps_in_order()
     ensures { (setting : Setting) (world : List Line) → Fits setting world → Waited setting world }
 {}
 
 /// A master that takes a QUIT follows its sender at the end of that step.
 pub fn resolved_yields()
-    ensures { (setting : Setting) (world : List Line) → Fits setting world → Finished world → Yields world }
+    ensures { (setting : Setting) (world : List Line) → Fits setting world → Finished world
+        → Yields world }
 {}
 
 /// It comes to follow by a change of its role in that step, after the QUIT.
@@ -194,97 +225,107 @@ pub fn resolved_stays_quiet()
     ensures { (setting : Setting) (world : List Line) → Fits setting world → StaysQuiet world }
 {}
 
-/// At the end of the step in which the last rival takes its QUIT no rival is a master, if no datagram outlives `LIFE`.
+/// At the end of the step in which the last rival takes its QUIT no rival is a master, if no
+/// datagram outlives `LIFE`.
 pub fn resolved_stops()
-    ensures { (setting : Setting) (world : List Line) → Fits setting world → Finished world → Life world → StopsLeading world }
+    ensures { (setting : Setting) (world : List Line) → Fits setting world → Finished world
+        → Life world → StopsLeading world }
 {}
 
-/// In strict elections two wins of different nodes on one network stand more than 50 s apart, if no peer's datagram is
-/// forged, no datagram outlives `LIFE`, and no port begins 32,768 sends with own numbers in one life of its node.
+/// In strict elections two wins of different nodes on one network stand more than 50 s apart, if no
+/// peer's datagram is forged, no datagram outlives `LIFE`, and no port begins 32,768 sends with own
+/// numbers in one life of its node.
 pub fn one_winner()
-    ensures { (setting : Setting) (world : List Line) → setting.strict ≡ true → Fits setting world → Honest world → Life world → Few world → OneWinner setting world }
+    ensures { (setting : Setting) (world : List Line) → setting.strict ≡ true → Fits setting world
+        → Honest world → Life world → Few world → OneWinner setting world }
 {}
 
 /// Over some span of true time a tick counter advances by that span, give or take the width.
 pub fn ticks_keep_width()
-    ensures { (rate : ℤ) (drift start span : ℕ) → nat_abs rate ≤ drift → drift ≤ 1000 →
-        (tick_at rate (start + span) ≤ tick_at rate start + span + width drift span) × (tick_at rate start + span ≤ tick_at rate (start + span) + width drift span) }
+    ensures { (rate : ℤ) (drift start span : ℕ) → nat_abs rate ≤ drift → drift ≤ 1000
+        → (tick_at rate (start + span) ≤ tick_at rate start + span + width drift span)
+        × (tick_at rate start + span ≤ tick_at rate (start + span) + width drift span) }
 {}
 
-/// No promise is empty: a history that fits and keeps every premise sees three nodes boot, one of them win an election,
-/// the others take a SETTIME each and acknowledge it, and a whole round that corrects both.
+/// No promise is empty: a history that fits and keeps every premise sees three nodes boot, one of
+/// them win an election, the others take a SETTIME each and acknowledge it, and a whole round that
+/// corrects both.
 pub fn ordinary_use()
     ensures { OrdinaryUse }
 {}
 
-/// Nor are those of gateways: a history that fits sees a node of two ports that is corrected by one of them and corrects
-/// a third node by the other.
+/// Nor are those of gateways: a history that fits sees a node of two ports that is corrected by one
+/// of them and corrects a third node by the other.
 pub fn relayed_use()
     ensures { Relays }
 {}
 
-/// Nor are those of chains: a history that fits sees a master correct a gateway, that one a second one, and that one a last
-/// node.
+/// Nor are those of chains: a history that fits sees a master correct a gateway, that one a second
+/// one, and that one a last node.
 pub fn chain_use()
     ensures { ChainUse }
 {}
 
-/// Nor is the promise that a round's bound never lapses: a history that fits sees a second round move both clocks of the first.
+/// Nor is the promise that a round's bound never lapses: a history that fits sees a second round
+/// move both clocks of the first.
 pub fn rounds_use()
     ensures { RoundsUse }
 {}
 
-/// Nor is what estimates tell: a history that fits sees a round that estimates two nodes, which nobody corrects until after its
-/// Close.
+/// Nor is what estimates tell: a history that fits sees a round that estimates two nodes, which
+/// nobody corrects until after its Close.
 pub fn estimates_use()
     ensures { EstimatesUse }
 {}
 
-/// Nor are those of first settings and of single corrections: a history that fits sees a clock set by the answer to a SLAVEUP,
-/// and corrected by an ADJTIME that rests on a reading.
+/// Nor are those of first settings and of single corrections: a history that fits sees a clock set
+/// by the answer to a SLAVEUP, and corrected by an ADJTIME that rests on a reading.
 pub fn set_use()
     ensures { SetUse }
 {}
 
-/// Nor are those of what users read: a history that fits sees a clock slewed until it meets its target, and a wait that is
-/// long enough.
+/// Nor are those of what users read: a history that fits sees a clock slewed until it meets its
+/// target, and a wait that is long enough.
 pub fn shown_use()
     ensures { ShownUse }
 {}
 
-/// Nor is the promise of silence after a boot: a history that fits sees a node answer a stranger in its quiet time.
+/// Nor is the promise of silence after a boot: a history that fits sees a node answer a stranger in
+/// its quiet time.
 pub fn quiet_use()
     ensures { QuietUse }
 {}
 
-/// Nor are the promises of backings and of resolutions empty: a history that fits sees a node back two candidates, and
-/// a rival take the QUIT of a resolution and lead again after the least election delay.
+/// Nor are the promises of backings and of resolutions empty: a history that fits sees a node back
+/// two candidates, and a rival take the QUIT of a resolution and lead again after the least
+/// election delay.
 pub fn rivals_meet()
     ensures { RivalsMeet }
 {}
 
-/// Nor is the promise of strict elections empty: a history that fits sees two nodes win, one long after the other.
+/// Nor is the promise of strict elections empty: a history that fits sees two nodes win, one long
+/// after the other.
 pub fn strict_elections()
     ensures { StrictElections }
 {}
 
-/// A history that fits sees dates passed on and set, in two lives of a master. Where forged octets come between, one
-/// date is set twice, so `once_taken` needs its premise.
+/// A history that fits sees dates passed on and set, in two lives of a master. Where forged octets
+/// come between, one date is set twice, so `once_taken` needs its premise.
 pub fn dates_pass()
     ensures used { DateUse }
     ensures forged { ForgedDate }
 {}
 
-/// Boots may have one word: a history that fits sees a master boot again with its old word and close a round in each of its
-/// lives, each of which corrects a node. Where a datagram outlives `LIFE` besides, a measurement goes wrong, so `measured`
-/// needs one of both.
+/// Boots may have one word: a history that fits sees a master boot again with its old word and
+/// close a round in each of its lives, each of which corrects a node. Where a datagram outlives
+/// `LIFE` besides, a measurement goes wrong, so `measured` needs one of both.
 pub fn words_repeat()
     ensures used { SameWords }
     ensures late { MeasuresWrongly }
 {}
 
-/// A history that fits may bring a reply to a request of an earlier life; it ends no exchange, and so a Sample of it
-/// would break a promise.
+/// A history that fits may bring a reply to a request of an earlier life; it ends no exchange, and
+/// so a Sample of it would break a promise.
 pub fn late_reply()
     ensures { LateReply }
 {}

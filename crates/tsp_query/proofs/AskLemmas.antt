@@ -1,44 +1,28 @@
 -- Laws of asking.
-use Rattle.std.proofs.Common.{◌≡◌, ℕ, ◌<◌, ◌≤◌, ◌+◌, ◌-◌, List, [], ◌∷◌, zero, suc, refl, ap, ◌∙◌, arith, Option, Some, None, IfSome, subst}
+use Rattle.std.proofs.Common.{◌≡◌, ℕ, ◌<◌, ◌≤◌, ◌+◌, ◌-◌, List, [], ◌∷◌, ◌++◌, zero, suc, refl, ap, ◌∙◌, sym, inr, arith, append_assoc, append-nil, Option, Some, None, IfSome, subst}
+use Rattle.std.proofs.lemmas.List.Elements.{All-nil, All-push}
 use Rattle.tsp_base.specs.declared.datagram.Datagram.{Datagram}
-use Rattle.tsp_io.specs.Counts.{one_more}
-use Rattle.tsp_io.specs.Links.{Arrival, Tried}
-use Rattle.tsp_query.specs.Asked.{answer_in, next_arrival, rest_of, or_later, asked_from}
+use Rattle.tsp_io.specs.Links.{Arrival, Tried, Notes}
+use Rattle.tsp_query.specs.Arrivals.{answer_in, next_arrival, rest_of, or_later, asked_from}
 use Rattle.tsp_query.specs.Clocks.{reading}
-use Rattle.tsp_query.specs.Ends.{Outside, heard, counted, receives, Listens, sent, Asks}
-use Rattle.tsp_query.specs.declared.ask.Asked.{Asked}
-use Rattle.tsp_query.specs.declared.ask.Asked.TheVariants.{Answer, NoAnswer, LinkFault, OutOfMemory}
+use Rattle.tsp_query.specs.Ends.{Outside, Tells, heard, heard_times, receives, Listens, sent, Asks, WaitsSeconds}
+use Rattle.tsp_query.specs.declared.ask.AskEnd.{AskEnd}
+use Rattle.tsp_query.specs.declared.ask.AskEnd.TheVariants.{Answer, NoAnswer, LinkFault, OutOfMemory}
 use Rattle.tsp_query.specs.declared.question.Question.{Question}
-
--- what is held after so many waits
-abbrev pub after : ℕ → Outside → Outside
-after zero o = o
-after (suc n) o = heard (after n o)
-
-pub after-calls : (n : ℕ) (o : Outside) → (after n o).calls ≡ counted n o.calls
-after-calls zero o = refl
-after-calls (suc n) o = ap (λ c. one_more c) (after-calls n o)
-
-pub after-tried : (n : ℕ) (o : Outside) → (after n o).tried ≡ o.tried
-after-tried zero o = refl
-after-tried (suc n) o = after-tried n o
 
 next_reading : (last : ℕ) (rs : List ℕ) (k : ℕ) → reading (reading last rs 0) (rest_of rs) k ≡ reading last rs (suc k)
 next_reading last [] k = refl
 next_reading last (x ∷ rs) k = refl
 
-pub after-reading : (n : ℕ) (o : Outside) (k : ℕ) → reading (after n o).last (after n o).readings k ≡ reading o.last o.readings (n + k)
+pub after-reading : (n : ℕ) (o : Outside) (k : ℕ) → reading (heard_times n o).last (heard_times n o).readings k ≡ reading o.last o.readings (n + k)
 after-reading zero o k = ap (λ i. reading o.last o.readings i) (omega arith)
 after-reading (suc n) o k =
     let i : n + suc k ≡ suc n + k = omega arith in
-    next_reading (after n o).last (after n o).readings k ∙ (after-reading n o (suc k) ∙ ap (λ j. reading o.last o.readings j) i)
+    next_reading (heard_times n o).last (heard_times n o).readings k ∙ (after-reading n o (suc k) ∙ ap (λ j. reading o.last o.readings j) i)
 
 -- one wait more
-pub after-next : (n : ℕ) (o : Outside) → after (n + 1) o ≡ heard (after n o)
+pub after-next : (n : ℕ) (o : Outside) → heard_times (n + 1) o ≡ heard (heard_times n o)
 after-next n o = let e : n + 1 ≡ suc n = omega arith in rw e refl
-
-pub calls-next : (n : ℕ) (o : Outside) → one_more (after n o).calls ≡ counted (n + 1) o.calls
-calls-next n o = let e : n + 1 ≡ suc n = omega arith in rw e (ap (λ c. one_more c) (after-calls n o))
 
 -- a wait without an answer leaves the others
 pub asked-step : (q : Question) (i : ℕ) (a : List Arrival) → i < 8 → answer_in q (next_arrival a) ≡ None → asked_from q i (8 - i) a ≡ asked_from q (i + 1) (8 - (i + 1)) (rest_of a)
@@ -78,11 +62,29 @@ pub receives-least : (q : Question) (i : ℕ) (a : List Arrival) → i < 8 → i
 receives-least q i a h = receives_cases (asked_from q i (8 - i) a) i h (λ r e. asked-later q (8 - i) i a r e)
 
 -- what eight receives come to is what asking does, once the request was sent
-pub asks-listens : (request : Datagram) (q : Question) (o : Outside) (tried : Option (List Tried)) (calls : Option ℕ) (end : Asked) → Listens q (sent request o) tried calls end → Asks request q o tried calls end
-asks-listens request q o tried calls (Answer d tick) h = h
-asks-listens request q o tried calls NoAnswer h = h
-asks-listens request q o tried calls LinkFault h = h
-asks-listens request q o tried calls OutOfMemory h = absurd h
+pub asks-listens : (request : Datagram) (q : Question) (o : Outside) (arrivals : Option (List Arrival)) (tried : Option (List Tried)) (calls : Option ℕ) (readings : Option (List ℕ)) (last sends sends_now : ℕ) (end : AskEnd) → sends_now ≡ sends →
+    Listens q (sent request o) arrivals tried calls readings last end → Asks request q o arrivals tried calls readings last sends sends_now end
+asks-listens request q o arrivals tried calls readings last sends sends_now (Answer d tick) same h = h
+asks-listens request q o arrivals tried calls readings last sends sends_now NoAnswer same h = h
+asks-listens request q o arrivals tried calls readings last sends sends_now LinkFault same h = inr (h, same)
+asks-listens request q o arrivals tried calls readings last sends sends_now OutOfMemory same h = absurd h
+
+-- no receive was made
+pub no-wait : (waits : Option (List ℕ)) → WaitsSeconds waits waits
+no-wait None = tt
+no-wait (Some ws) = ([], sym (append-nil ws), All-nil (λ wait. wait ≡ 1000000))
+
+-- one receive more
+pub one-wait : (waits between now : Option (List ℕ)) → WaitsSeconds waits between → Notes between now 1000000 → WaitsSeconds waits now
+one-wait waits between None w n = tt
+one-wait waits None (Some now) w n = absurd n
+one-wait None (Some between) (Some now) w n = absurd w
+one-wait (Some before) (Some between) (Some now) w n = (w.0 ++ 1000000 ∷ [], n ∙ (ap (λ (ws : List ℕ). ws ++ 1000000 ∷ []) w.1 ∙ append_assoc before w.0 (1000000 ∷ [])), All-push (λ wait. wait ≡ 1000000) w.0 1000000 w.2 refl)
+
+-- what is told after all eight waits
+pub tells-all : (n : ℕ) (o : Outside) (arrivals : Option (List Arrival)) (tried : Option (List Tried)) (calls : Option ℕ) (readings : Option (List ℕ)) (last : ℕ) → n ≡ 8 →
+    Tells (heard_times n o) arrivals tried calls readings last → Tells (heard_times 8 o) arrivals tried calls readings last
+tells-all n o arrivals tried calls readings last e t = subst (λ k. Tells (heard_times k o) arrivals tried calls readings last) e t
 
 -- what is said of a value that is there
 pub of_some : {A : Type 0} (P : A → Type 0) (r : Option A) (v : A) → IfSome r P → r ≡ Some v → P v

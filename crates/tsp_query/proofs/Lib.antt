@@ -1,5 +1,5 @@
 pub mod AskLemmas
 pub mod LineLemmas
+pub mod OutsideLemmas
 pub mod QueryLemmas
 pub mod SampleLemmas
-pub mod ToldLemmas

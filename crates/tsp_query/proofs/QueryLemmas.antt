@@ -10,12 +10,12 @@ use Rattle.tsp_base.specs.declared.kind.Kind.TheVariants.{Msite, SetDate, Test}
 use Rattle.tsp_base.specs.declared.message.Body.{Body}
 use Rattle.tsp_base.specs.declared.message.Body.TheVariants.{Nothing, Time}
 use Rattle.tsp_io.specs.Links.{Arrival, Tried}
-use Rattle.tsp_query.specs.Asked.{rest_of}
+use Rattle.tsp_query.specs.Arrivals.{rest_of}
 use Rattle.tsp_query.specs.Clocks.{reading}
 use Rattle.tsp_query.specs.Ends.{Outside, Tells, Asks}
 use Rattle.tsp_query.specs.Queries.{read_twice, trace_kind, message_with, question_of, stamp, diff_in, end_of, QueryEnds, master_in, heard_in, date_in}
-use Rattle.tsp_query.specs.declared.ask.Asked.{Asked}
-use Rattle.tsp_query.specs.declared.ask.Asked.TheVariants.{Answer, NoAnswer, LinkFault, OutOfMemory}
+use Rattle.tsp_query.specs.declared.ask.AskEnd.{AskEnd}
+use Rattle.tsp_query.specs.declared.ask.AskEnd.TheVariants.{Answer, NoAnswer, LinkFault, OutOfMemory}
 use Rattle.tsp_query.specs.declared.question.Question.{Question}
 use Rattle.tsp_query.specs.declared.question.Question.TheVariants.{OfWord}
 use Rattle.tsp_query.specs.declared.query.QueryEnd.{QueryEnd}
@@ -39,37 +39,37 @@ unfolding body_fits carries_time
 fits-date time = refl
 
 -- asking by a message of equal parts is asking by the query's message
-pub asks-message : (kind : Kind) (body : Body) (dates : Bool) (w word : ℕ) (name : List ℕ) (m : MessageValue) (q : Question) (o : Outside) (tried : Option (List Tried)) (calls : Option ℕ) (end : Asked)
+pub asks-message : (kind : Kind) (body : Body) (dates : Bool) (w word : ℕ) (name : List ℕ) (m : MessageValue) (q : Question) (o : Outside) (arrivals : Option (List Arrival)) (tried : Option (List Tried)) (calls : Option ℕ) (readings : Option (List ℕ)) (last sends sends_now : ℕ) (end : AskEnd)
     → m ≡ record { kind = kind; number = w % 65536; body = body; name = name } → name ≡ codes "timedc" → q ≡ question_of dates (w % 65536) → w ≡ word
-    → Asks (Message m) q o tried calls end → Asks (message_with kind body word) (question_of dates (word % 65536)) o tried calls end
-asks-message kind body dates w word name m q o tried calls end e f t s h =
-    let O : Question → Type 0 = λ (x : Question). Asks (Message m) x o tried calls end in
-    let P : MessageValue → Type 0 = λ (x : MessageValue). Asks (Message x) (question_of dates (w % 65536)) o tried calls end in
-    let Q : List ℕ → Type 0 = λ (n : List ℕ). Asks (Message (record { kind = kind; number = w % 65536; body = body; name = n })) (question_of dates (w % 65536)) o tried calls end in
-    let R : ℕ → Type 0 = λ (v : ℕ). Asks (message_with kind body v) (question_of dates (v % 65536)) o tried calls end in
+    → Asks (Message m) q o arrivals tried calls readings last sends sends_now end → Asks (message_with kind body word) (question_of dates (word % 65536)) o arrivals tried calls readings last sends sends_now end
+asks-message kind body dates w word name m q o arrivals tried calls readings last sends sends_now end e f t s h =
+    let O : Question → Type 0 = λ (x : Question). Asks (Message m) x o arrivals tried calls readings last sends sends_now end in
+    let P : MessageValue → Type 0 = λ (x : MessageValue). Asks (Message x) (question_of dates (w % 65536)) o arrivals tried calls readings last sends sends_now end in
+    let Q : List ℕ → Type 0 = λ (n : List ℕ). Asks (Message (record { kind = kind; number = w % 65536; body = body; name = n })) (question_of dates (w % 65536)) o arrivals tried calls readings last sends sends_now end in
+    let R : ℕ → Type 0 = λ (v : ℕ). Asks (message_with kind body v) (question_of dates (v % 65536)) o arrivals tried calls readings last sends sends_now end in
     subst R s (subst Q f (subst P e (subst O t h)))
 
 -- asking in the words of the queries that a message asks
-pub ends-master : (request : Datagram) (q : Question) (o : Outside) (tried : Option (List Tried)) (calls : Option ℕ) (asked : Asked)
-    → Asks request q (read_twice o) tried calls asked → QueryEnds request q master_in o tried calls (end_of master_in asked)
-ends-master request q o tried calls (Answer d tick) h = (d, tick, h, refl)
-ends-master request q o tried calls NoAnswer h = h
-ends-master request q o tried calls LinkFault h = h
-ends-master request q o tried calls OutOfMemory h = h
+pub ends-master : (request : Datagram) (q : Question) (o : Outside) (arrivals : Option (List Arrival)) (tried : Option (List Tried)) (calls : Option ℕ) (readings : Option (List ℕ)) (last sends sends_now : ℕ) (asked : AskEnd)
+    → Asks request q (read_twice o) arrivals tried calls readings last sends sends_now asked → QueryEnds request q master_in o arrivals tried calls readings last sends sends_now (end_of master_in asked)
+ends-master request q o arrivals tried calls readings last sends sends_now (Answer d tick) h = (d, tick, h, refl)
+ends-master request q o arrivals tried calls readings last sends sends_now NoAnswer h = h
+ends-master request q o arrivals tried calls readings last sends sends_now LinkFault h = h
+ends-master request q o arrivals tried calls readings last sends sends_now OutOfMemory h = h
 
-pub ends-heard : (request : Datagram) (q : Question) (o : Outside) (tried : Option (List Tried)) (calls : Option ℕ) (asked : Asked)
-    → Asks request q (read_twice o) tried calls asked → QueryEnds request q heard_in o tried calls (end_of heard_in asked)
-ends-heard request q o tried calls (Answer d tick) h = (d, tick, h, refl)
-ends-heard request q o tried calls NoAnswer h = h
-ends-heard request q o tried calls LinkFault h = h
-ends-heard request q o tried calls OutOfMemory h = h
+pub ends-heard : (request : Datagram) (q : Question) (o : Outside) (arrivals : Option (List Arrival)) (tried : Option (List Tried)) (calls : Option ℕ) (readings : Option (List ℕ)) (last sends sends_now : ℕ) (asked : AskEnd)
+    → Asks request q (read_twice o) arrivals tried calls readings last sends sends_now asked → QueryEnds request q heard_in o arrivals tried calls readings last sends sends_now (end_of heard_in asked)
+ends-heard request q o arrivals tried calls readings last sends sends_now (Answer d tick) h = (d, tick, h, refl)
+ends-heard request q o arrivals tried calls readings last sends sends_now NoAnswer h = h
+ends-heard request q o arrivals tried calls readings last sends sends_now LinkFault h = h
+ends-heard request q o arrivals tried calls readings last sends sends_now OutOfMemory h = h
 
-pub ends-date : (request : Datagram) (q : Question) (o : Outside) (tried : Option (List Tried)) (calls : Option ℕ) (asked : Asked)
-    → Asks request q (read_twice o) tried calls asked → QueryEnds request q date_in o tried calls (end_of date_in asked)
-ends-date request q o tried calls (Answer d tick) h = (d, tick, h, refl)
-ends-date request q o tried calls NoAnswer h = h
-ends-date request q o tried calls LinkFault h = h
-ends-date request q o tried calls OutOfMemory h = h
+pub ends-date : (request : Datagram) (q : Question) (o : Outside) (arrivals : Option (List Arrival)) (tried : Option (List Tried)) (calls : Option ℕ) (readings : Option (List ℕ)) (last sends sends_now : ℕ) (asked : AskEnd)
+    → Asks request q (read_twice o) arrivals tried calls readings last sends sends_now asked → QueryEnds request q date_in o arrivals tried calls readings last sends sends_now (end_of date_in asked)
+ends-date request q o arrivals tried calls readings last sends sends_now (Answer d tick) h = (d, tick, h, refl)
+ends-date request q o arrivals tried calls readings last sends sends_now NoAnswer h = h
+ends-date request q o arrivals tried calls readings last sends sends_now LinkFault h = h
+ends-date request q o arrivals tried calls readings last sends sends_now OutOfMemory h = h
 
 -- what is told once the tick counter was read twice
 pub tells-twice : (o : Outside) (arrivals : Option (List Arrival)) (tried : Option (List Tried)) (calls : Option ℕ) (readings now : Option (List ℕ)) (last sent : ℕ) (later : ℕ)
@@ -83,14 +83,14 @@ tells-twice o arrivals tried calls readings now last sent later t s r l = record
 }
 
 -- asking by a stamp of the same word
-pub asks-stamp : (w word : ℕ) (o : Outside) (tried : Option (List Tried)) (calls : Option ℕ) (end : Asked) → w ≡ word → Asks (stamp w) (OfWord w) o tried calls end → Asks (stamp word) (OfWord word) o tried calls end
-asks-stamp w word o tried calls end e h = let P : ℕ → Type 0 = λ (v : ℕ). Asks (stamp v) (OfWord v) o tried calls end in subst P e h
+pub asks-stamp : (w word : ℕ) (o : Outside) (arrivals : Option (List Arrival)) (tried : Option (List Tried)) (calls : Option ℕ) (readings : Option (List ℕ)) (last sends sends_now : ℕ) (end : AskEnd) → w ≡ word → Asks (stamp w) (OfWord w) o arrivals tried calls readings last sends sends_now end → Asks (stamp word) (OfWord word) o arrivals tried calls readings last sends sends_now end
+asks-stamp w word o arrivals tried calls readings last sends sends_now end e h = let P : ℕ → Type 0 = λ (v : ℕ). Asks (stamp v) (OfWord v) o arrivals tried calls readings last sends sends_now end in subst P e h
 
 -- a sample of equal parts
 diff_in-parts : (wall wall' : ℤ) (f f' s s' : ℕ) (d : Datagram) (came : ℕ) → wall ≡ wall' → f ≡ f' → s ≡ s' → diff_in wall f s d came ≡ diff_in wall' f' s' d came
 diff_in-parts wall wall' f f' s s' d came w g t = rw (w, g, t) refl
 
 -- asking in the words of the query that a stamp asks
-pub ends-diff : (request : Datagram) (q : Question) (wall wall' : ℤ) (f f' s s' : ℕ) (o : Outside) (tried : Option (List Tried)) (calls : Option ℕ) (end : QueryEnd) (d : Datagram) (tick : ℕ)
-    → end ≡ diff_in wall f s d tick → wall ≡ wall' → f ≡ f' → s ≡ s' → Asks request q (read_twice o) tried calls (Answer d tick) → QueryEnds request q (diff_in wall' f' s') o tried calls end
-ends-diff request q wall wall' f f' s s' o tried calls end d tick e w g t h = rw e (d, tick, h, diff_in-parts wall wall' f f' s s' d tick w g t)
+pub ends-diff : (request : Datagram) (q : Question) (wall wall' : ℤ) (f f' s s' : ℕ) (o : Outside) (arrivals : Option (List Arrival)) (tried : Option (List Tried)) (calls : Option ℕ) (readings : Option (List ℕ)) (last sends sends_now : ℕ) (end : QueryEnd) (d : Datagram) (tick : ℕ)
+    → end ≡ diff_in wall f s d tick → wall ≡ wall' → f ≡ f' → s ≡ s' → Asks request q (read_twice o) arrivals tried calls readings last sends sends_now (Answer d tick) → QueryEnds request q (diff_in wall' f' s') o arrivals tried calls readings last sends sends_now end
+ends-diff request q wall wall' f f' s s' o arrivals tried calls readings last sends sends_now end d tick e w g t h = rw e (d, tick, h, diff_in-parts wall wall' f f' s s' d tick w g t)

@@ -1,22 +1,24 @@
 -- What a question comes to as a command.
-use Rattle.std.specs.Prelude.{◌≡◌, ◌⊎◌, ℕ, ℤ, ◌%◌, List, Option, Some}
+use Rattle.std.specs.Prelude.{◌≡◌, ◌⊎◌, ℕ, ℤ, ◌%◌, List, [], ◌∷◌, Option, Some}
 use Rattle.tsp_base.specs.declared.kind.Kind.TheVariants.{Msite as MsiteKind, Test}
-use Rattle.tsp_io.specs.Links.{Tried}
+use Rattle.tsp_io.specs.declared.addr.Addr.{Addr}
+use Rattle.tsp_io.specs.Links.{Arrival, Binding, Notes, Tried}
+use Rattle.tsp_query.specs.Arrivals.{rest_of}
 use Rattle.tsp_query.specs.Clocks.{reading}
-use Rattle.tsp_query.specs.Ends.{Outside, Tells}
+use Rattle.tsp_query.specs.Ends.{Outside, Tells, WaitsSeconds}
 use Rattle.tsp_query.specs.Queries.{message, stamp, trace_kind, date_message, QueryEnds, master_in, heard_in, date_in, diff_in}
-use Rattle.tsp_query.specs.Told.{Told, bound, Says}
+use Rattle.tsp_query.specs.Outside.{Observed, bound, Says}
 use Rattle.tsp_query.specs.declared.query.QueryEnd.{QueryEnd}
 use Rattle.tsp_query.specs.declared.query.QueryEnd.TheVariants.{Master, Diff, Heard, Date as Dated, NoAnswer as Unanswered, LinkFault as Faulty, OutOfMemory as Refused}
 use Rattle.tsp_query.specs.declared.question.Question.TheVariants.{OfNumber, OfDate, OfWord}
 use Rattle.tsp_args.specs.declared.query.Query.{Query}
 use Rattle.tsp_args.specs.declared.query.Query.TheVariants.{Msite, ClockDiff, Trace, Election, Date}
-use Rattle.tsp_query.specs.declared.exit.Asking.{Asking}
-use Rattle.tsp_query.specs.declared.exit.Asking.TheVariants.{Answered, NoAnswer, LinkFault, WriteFault, OutOfMemory}
+use Rattle.tsp_query.specs.declared.exit.QueryExit.{QueryExit}
+use Rattle.tsp_query.specs.declared.exit.QueryExit.TheVariants.{Answered, NoAnswer, LinkFault, WriteFault, OutOfMemory}
 use Rattle.tsp_query.specs.Lines.{end_line}
 
 -- how a question ends whose line is written whole
-abbrev pub asking_of : QueryEnd → Asking
+abbrev pub asking_of : QueryEnd → QueryExit
 asking_of (Master name) = Answered
 asking_of (Diff diff err) = Answered
 asking_of Heard = Answered
@@ -26,25 +28,41 @@ asking_of Faulty = LinkFault
 asking_of Refused = OutOfMemory
 
 -- a question comes to this: the wall clock and the word are read, and a request goes out that the word numbers
-abbrev pub QueryComes : Query → ℤ → ℕ → Outside → Option (List Tried) → Option ℕ → QueryEnd → Type 0
-QueryComes Msite wall word o tried calls end = QueryEnds (message MsiteKind word) (OfNumber (word % 65536)) master_in o tried calls end
-QueryComes ClockDiff wall word o tried calls end = QueryEnds (stamp word) (OfWord word) (diff_in wall (reading o.last o.readings 0) (reading o.last o.readings 1)) o tried calls end
-QueryComes (Trace on) wall word o tried calls end = QueryEnds (message (trace_kind on) word) (OfNumber (word % 65536)) heard_in o tried calls end
-QueryComes Election wall word o tried calls end = QueryEnds (message Test word) (OfNumber (word % 65536)) heard_in o tried calls end
-QueryComes (Date time) wall word o tried calls end = QueryEnds (date_message time word) (OfDate (word % 65536)) date_in o tried calls end
+abbrev pub QueryComes : Query → ℤ → ℕ → Outside → Option (List Arrival) → Option (List Tried) → Option ℕ → Option (List ℕ) → ℕ → ℕ → ℕ → QueryEnd → Type 0
+QueryComes Msite wall word o arrivals tried calls readings last sends sends_now end = QueryEnds (message MsiteKind word) (OfNumber (word % 65536)) master_in o arrivals tried calls readings last sends sends_now end
+QueryComes ClockDiff wall word o arrivals tried calls readings last sends sends_now end = QueryEnds (stamp word) (OfWord word) (diff_in wall (reading o.last o.readings 0) (reading o.last o.readings 1)) o arrivals tried calls readings last sends sends_now end
+QueryComes (Trace on) wall word o arrivals tried calls readings last sends sends_now end = QueryEnds (message (trace_kind on) word) (OfNumber (word % 65536)) heard_in o arrivals tried calls readings last sends sends_now end
+QueryComes Election wall word o arrivals tried calls readings last sends sends_now end = QueryEnds (message Test word) (OfNumber (word % 65536)) heard_in o arrivals tried calls readings last sends sends_now end
+QueryComes (Date time) wall word o arrivals tried calls readings last sends sends_now end = QueryEnds (date_message time word) (OfDate (word % 65536)) date_in o arrivals tried calls readings last sends sends_now end
+
+-- where a question comes from: any address of this machine, and a port that the system chooses
+abbrev pub anywhere : Addr
+anywhere = record { ip = 0 ∷ 0 ∷ 0 ∷ 0 ∷ []; port = 0 }
+
+-- what the link of a question is bound to: the daemon is its only peer
+abbrev pub asking_binding : Addr → Binding
+asking_binding daemon = record { local = anywhere; peers = daemon ∷ [] }
 
 -- the bind was in vain: nothing was read of the ticker, nothing sent and nothing written
-pub record IsUnbound (o : Outside) (written : List ℕ) (now : Told) (asking : Asking) : Type 0 where
+pub record IsUnbound (o : Outside) (written : List ℕ) (before now : Observed) (asking : QueryExit) : Type 0 where
   pub cause : (asking ≡ LinkFault) ⊎ (asking ≡ OutOfMemory)
   pub tells : Tells (bound o) now.arrivals now.tried now.calls now.readings now.last
   pub written_is : now.written ≡ Some written
+  pub unbound : now.binds ≡ before.binds
+  pub unwaited : now.waits ≡ before.waits
+  pub unread : now.left_at_wall ≡ before.left_at_wall
 
--- the question was asked once the link was bound, and the line of what came of it written, or a part of it
-pub record IsAsked (query : Query) (o : Outside) (wall : ℤ) (word : ℕ) (written : List ℕ) (now : Told) (asking : Asking) : Type 0 where
+-- the question was asked once the link was bound, and the line of what came of it written, or a part of it; so many sends had failed before, and have now
+pub record IsAsked (daemon : Addr) (query : Query) (o : Outside) (wall : ℤ) (word : ℕ) (written : List ℕ) (before now : Observed) (sends sends_now : ℕ) (asking : QueryExit) : Type 0 where
   pub end : QueryEnd
-  pub comes : QueryComes query wall word (bound o) now.tried now.calls end
+  pub comes : QueryComes query wall word (bound o) now.arrivals now.tried now.calls now.readings now.last sends sends_now end
   pub says : Says (end_line query end) (asking_of end) WriteFault OutOfMemory (Some written) now.written asking
+  -- the link was bound to any address and to the daemon alone
+  pub bound_to : Notes before.binds now.binds (asking_binding daemon)
+  pub waits : WaitsSeconds before.waits now.waits
+  -- the wall clock was read between the first two ticks
+  pub walled : now.left_at_wall ≡ Some (Some (rest_of o.readings))
 
 -- what a question comes to as a command, where the outside held this at its beginning
-abbrev pub AsksAs : Query → Outside → ℤ → ℕ → List ℕ → Told → Asking → Type 0
-AsksAs query o wall word written now asking = IsUnbound o written now asking ⊎ IsAsked query o wall word written now asking
+abbrev pub AsksAs : Addr → Query → Outside → ℤ → ℕ → List ℕ → Observed → Observed → ℕ → ℕ → QueryExit → Type 0
+AsksAs daemon query o wall word written before now sends sends_now asking = IsUnbound o written before now asking ⊎ IsAsked daemon query o wall word written before now sends sends_now asking

@@ -1,16 +1,16 @@
 -- What asking a daemon comes to.
-use Rattle.std.specs.Prelude.{◌≡◌, ℕ, ◌+◌, ◌≤◌, ◌^◌, true, List, [], ◌∷◌, ◌++◌, Option, Some, None, zero, suc}
+use Rattle.std.specs.Prelude.{◌≡◌, ◌⊎◌, ℕ, ◌+◌, ◌<◌, ◌≤◌, ◌^◌, true, List, [], ◌∷◌, ◌++◌, All, Option, Some, None, zero, suc}
 use Rattle.tsp_base.specs.declared.datagram.Datagram.{Datagram}
 use Rattle.tsp_base.specs.declared.place.Place.TheVariants.{Peer}
 use Rattle.tsp_codec.specs.Canon.{canon}
-use Rattle.tsp_io.specs.Counts.{one_more}
+use Rattle.tsp_io.specs.Counts.{Rose, one_more}
 use Rattle.tsp_io.specs.Links.{Arrival, Tried}
-use Rattle.tsp_query.specs.Asked.{answers, answer_in, next_arrival, rest_of, asked}
+use Rattle.tsp_query.specs.Arrivals.{answers, answer_in, next_arrival, rest_of, asked}
 use Rattle.tsp_query.specs.Clocks.{reading}
-use Rattle.tsp_query.specs.declared.ask.Asked.{Asked}
-use Rattle.tsp_query.specs.declared.ask.Asked.TheVariants.{Answer, NoAnswer, LinkFault, OutOfMemory}
+use Rattle.tsp_query.specs.declared.ask.AskEnd.{AskEnd}
+use Rattle.tsp_query.specs.declared.ask.AskEnd.TheVariants.{Answer, NoAnswer, LinkFault, OutOfMemory}
 use Rattle.tsp_query.specs.declared.ask.Heard.{Heard}
-use Rattle.tsp_query.specs.declared.ask.Heard.TheVariants.{Answer as Told, Other, Failed}
+use Rattle.tsp_query.specs.declared.ask.Heard.TheVariants.{Answer as HeardAnswer, Other, Failed}
 use Rattle.tsp_query.specs.declared.question.Question.{Question}
 
 -- what a link and a ticker hold, where they tell it
@@ -29,14 +29,18 @@ pub record Tells (o : Outside) (arrivals : Option (List Arrival)) (tried : Optio
   pub readings_are : readings ≡ Some o.readings
   pub last_is : last ≡ o.last
 
--- a count of calls, so many calls later
-abbrev pub counted : ℕ → ℕ → ℕ
-counted zero calls = calls
-counted (suc n) calls = one_more (counted n calls)
-
 -- what is held once a wait is over, and the tick read right after it, if it was
 abbrev pub heard : Outside → Outside
 heard o = record { arrivals = rest_of o.arrivals; tried = o.tried; calls = one_more o.calls; readings = rest_of o.readings; last = reading o.last o.readings 0 }
+
+-- what is held after so many waits
+abbrev pub heard_times : ℕ → Outside → Outside
+heard_times zero o = o
+heard_times (suc n) o = heard (heard_times n o)
+
+-- what is held once a receive failed: it was called, and nothing else happened
+abbrev pub failed : Outside → Outside
+failed o = record o { calls = one_more o.calls }
 
 -- the receives until an answer; eight where there is none
 abbrev pub receives : Option (ℕ × Datagram) → ℕ
@@ -45,32 +49,40 @@ receives (Some r) = r.0 + 1
 
 -- what one receive comes to
 abbrev pub Hears : Question → Outside → Option (List Arrival) → Option (List Tried) → Option ℕ → Option (List ℕ) → ℕ → Heard → Type 0
-Hears q o arrivals tried calls readings last (Told d tick) = Tells (heard o) arrivals tried calls readings last × (answer_in q (next_arrival o.arrivals) ≡ Some d) × (tick ≡ last)
+Hears q o arrivals tried calls readings last (HeardAnswer d tick) = Tells (heard o) arrivals tried calls readings last × (answer_in q (next_arrival o.arrivals) ≡ Some d) × (tick ≡ last)
 Hears q o arrivals tried calls readings last Other = Tells (heard o) arrivals tried calls readings last × (answer_in q (next_arrival o.arrivals) ≡ None)
-Hears q o arrivals tried calls readings last Failed = (tried ≡ Some o.tried) × (calls ≡ Some (one_more o.calls))
+Hears q o arrivals tried calls readings last Failed = Tells (failed o) arrivals tried calls readings last
 
 -- a heard answer is one, and its tick isn't below the last one nor above 2 ^ 61
 abbrev pub HearsWell : Question → ℕ → Heard → Type 0
-HearsWell q last (Told d tick) = (answers q d ≡ true) × (last ≤ tick) × (tick ≤ 2 ^ 61)
+HearsWell q last (HeardAnswer d tick) = (answers q d ≡ true) × (last ≤ tick) × (tick ≤ 2 ^ 61)
 HearsWell q last _ = Unit {0}
 
--- what eight receives come to: the first answer among them, unless one fails before
-abbrev pub Listens : Question → Outside → Option (List Tried) → Option ℕ → Asked → Type 0
-Listens q o tried calls (Answer d tick) = (i : ℕ) × (asked q o.arrivals ≡ Some (i, d)) × (tick ≡ reading o.last o.readings i) × (calls ≡ Some (counted (i + 1) o.calls)) × (tried ≡ Some o.tried)
-Listens q o tried calls NoAnswer = (asked q o.arrivals ≡ None) × (calls ≡ Some (counted 8 o.calls)) × (tried ≡ Some o.tried)
-Listens q o tried calls LinkFault = (n : ℕ) × (n ≤ receives (asked q o.arrivals)) × (calls ≡ Some (counted n o.calls)) × (tried ≡ Some o.tried)
-Listens q o tried calls OutOfMemory = ⊥
+-- what eight receives come to: the first answer among them, unless one fails before; nothing happens after either
+abbrev pub Listens : Question → Outside → Option (List Arrival) → Option (List Tried) → Option ℕ → Option (List ℕ) → ℕ → AskEnd → Type 0
+Listens q o arrivals tried calls readings last (Answer d tick) = (i : ℕ) × (asked q o.arrivals ≡ Some (i, d)) × (tick ≡ reading o.last o.readings i) × Tells (heard_times (i + 1) o) arrivals tried calls readings last
+Listens q o arrivals tried calls readings last NoAnswer = (asked q o.arrivals ≡ None) × Tells (heard_times 8 o) arrivals tried calls readings last
+Listens q o arrivals tried calls readings last LinkFault = (n : ℕ) × (n < receives (asked q o.arrivals)) × Tells (failed (heard_times n o)) arrivals tried calls readings last
+Listens q o arrivals tried calls readings last OutOfMemory = ⊥
 
 -- one datagram more was sent to the daemon
 abbrev pub sent : Datagram → Outside → Outside
 sent request o = record o { tried = o.tried ++ (Peer (record { 0 = 0 }), canon request) ∷ [] }
 
--- what asking comes to: the one datagram was tried, unless there was no memory for it
-abbrev pub Asks : Datagram → Question → Outside → Option (List Tried) → Option ℕ → Asked → Type 0
-Asks request q o tried calls OutOfMemory = (tried ≡ Some o.tried) × (calls ≡ Some o.calls)
-Asks request q o tried calls end = Listens q (sent request o) tried calls end
+-- what asking comes to, where so many sends had failed before and have now: the one datagram was tried, unless there was no memory for it; where the send failed, nothing more happened
+abbrev pub Asks : Datagram → Question → Outside → Option (List Arrival) → Option (List Tried) → Option ℕ → Option (List ℕ) → ℕ → ℕ → ℕ → AskEnd → Type 0
+Asks request q o arrivals tried calls readings last sends sends_now OutOfMemory = Tells o arrivals tried calls readings last
+Asks request q o arrivals tried calls readings last sends sends_now LinkFault =
+    (Tells (sent request o) arrivals tried calls readings last × Rose sends sends_now) ⊎ (Listens q (sent request o) arrivals tried calls readings last LinkFault × (sends_now ≡ sends))
+Asks request q o arrivals tried calls readings last sends sends_now end = Listens q (sent request o) arrivals tried calls readings last end
+
+-- each receive waited a second, where the waits are told before and after
+abbrev pub WaitsSeconds : Option (List ℕ) → Option (List ℕ) → Type 0
+WaitsSeconds waits None = Unit {0}
+WaitsSeconds None (Some now) = ⊥
+WaitsSeconds (Some before) (Some now) = (more : List ℕ) × (now ≡ before ++ more) × All (λ wait. wait ≡ 1000000) more
 
 -- an answer is one, and its tick isn't below the last one nor above 2 ^ 61
-abbrev pub AsksWell : Question → ℕ → Asked → Type 0
+abbrev pub AsksWell : Question → ℕ → AskEnd → Type 0
 AsksWell q last (Answer d tick) = (answers q d ≡ true) × (last ≤ tick) × (tick ≤ 2 ^ 61)
 AsksWell q last _ = Unit {0}

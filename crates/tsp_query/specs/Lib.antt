@@ -1,7 +1,7 @@
-pub mod Asked
+pub mod Arrivals
 pub mod Asks
 pub mod Clocks
 pub mod Ends
 pub mod Lines
+pub mod Outside
 pub mod Queries
-pub mod Told

@@ -8,12 +8,12 @@ use Rattle.tsp_base.specs.declared.kind.Kind.TheVariants.{TraceOn, TraceOff, Set
 use Rattle.tsp_base.specs.declared.message.Body.{Body}
 use Rattle.tsp_base.specs.declared.message.Body.TheVariants.{Nothing, Time}
 use Rattle.tsp_base.specs.declared.stamp.Stamp.TheVariants.{Request, Reply}
-use Rattle.tsp_io.specs.Links.{Tried}
-use Rattle.tsp_query.specs.Asked.{rest_of}
+use Rattle.tsp_io.specs.Links.{Arrival, Tried}
+use Rattle.tsp_query.specs.Arrivals.{rest_of}
 use Rattle.tsp_query.specs.Clocks.{reading, own_clock}
 use Rattle.tsp_query.specs.Ends.{Outside, Asks}
-use Rattle.tsp_query.specs.declared.ask.Asked.{Asked}
-use Rattle.tsp_query.specs.declared.ask.Asked.TheVariants.{Answer, NoAnswer as Unanswered, LinkFault as Faulty, OutOfMemory as Refused}
+use Rattle.tsp_query.specs.declared.ask.AskEnd.{AskEnd}
+use Rattle.tsp_query.specs.declared.ask.AskEnd.TheVariants.{Answer, NoAnswer as Unanswered, LinkFault as Faulty, OutOfMemory as Refused}
 use Rattle.tsp_query.specs.declared.question.Question.{Question}
 use Rattle.tsp_query.specs.declared.question.Question.TheVariants.{OfNumber, OfDate}
 use Rattle.tsp_query.specs.declared.query.QueryEnd.{QueryEnd}
@@ -50,18 +50,18 @@ abbrev pub stamp : ℕ → Datagram
 stamp word = StampOf (Request word 0)
 
 -- what asking comes to in a query's words, which reads its answer so
-abbrev pub end_of : (Datagram → ℕ → QueryEnd) → Asked → QueryEnd
+abbrev pub end_of : (Datagram → ℕ → QueryEnd) → AskEnd → QueryEnd
 end_of answer (Answer d tick) = answer d tick
 end_of answer Unanswered = NoAnswer
 end_of answer Faulty = LinkFault
 end_of answer Refused = OutOfMemory
 
 -- what a query comes to that asks so, and reads its answer so
-abbrev pub QueryEnds : Datagram → Question → (Datagram → ℕ → QueryEnd) → Outside → Option (List Tried) → Option ℕ → QueryEnd → Type 0
-QueryEnds request q answer o tried calls NoAnswer = Asks request q (read_twice o) tried calls Unanswered
-QueryEnds request q answer o tried calls LinkFault = Asks request q (read_twice o) tried calls Faulty
-QueryEnds request q answer o tried calls OutOfMemory = Asks request q (read_twice o) tried calls Refused
-QueryEnds request q answer o tried calls end = (d : Datagram) × (tick : ℕ) × Asks request q (read_twice o) tried calls (Answer d tick) × (end ≡ answer d tick)
+abbrev pub QueryEnds : Datagram → Question → (Datagram → ℕ → QueryEnd) → Outside → Option (List Arrival) → Option (List Tried) → Option ℕ → Option (List ℕ) → ℕ → ℕ → ℕ → QueryEnd → Type 0
+QueryEnds request q answer o arrivals tried calls readings last sends sends_now NoAnswer = Asks request q (read_twice o) arrivals tried calls readings last sends sends_now Unanswered
+QueryEnds request q answer o arrivals tried calls readings last sends sends_now LinkFault = Asks request q (read_twice o) arrivals tried calls readings last sends sends_now Faulty
+QueryEnds request q answer o arrivals tried calls readings last sends sends_now OutOfMemory = Asks request q (read_twice o) arrivals tried calls readings last sends sends_now Refused
+QueryEnds request q answer o arrivals tried calls readings last sends sends_now end = (d : Datagram) × (tick : ℕ) × Asks request q (read_twice o) arrivals tried calls readings last sends sends_now (Answer d tick) × (end ≡ answer d tick)
 
 -- the name of whoever acknowledges
 abbrev pub name_in : Datagram → List ℕ

@@ -1,9 +1,11 @@
-//! Asking: one datagram out, and the first answer among eight receives.
+//! A question is asked: one datagram out, and the first answer among eight receives.
 ghost use Rattle.std.specs.Prelude.{◌≡◌, ◌≢◌, ◌⊎◌, ◌≤◌, None, true, IfSome, if◌then◌else◌};
 ghost use Rattle.tsp_codec.specs.Taken.{taken_of};
 ghost use Rattle.tsp_io.specs.Counts.{Rose};
-ghost use Rattle.tsp_query.specs.Asked.{answers, answer_of, is_daemon};
-ghost use Rattle.tsp_query.specs.Ends.{Outside, Tells, Hears, HearsWell, Listens, Asks, AsksWell};
+ghost use Rattle.tsp_io.specs.Links.{Notes};
+ghost use Rattle.tsp_query.specs.Arrivals.{answers, answer_of, is_daemon};
+ghost use Rattle.tsp_query.specs.Ends.{Outside, Tells, Hears, HearsWell, Listens, WaitsSeconds};
+ghost use Rattle.tsp_query.specs.Ends.{Asks, AsksWell};
 
 use crate::question::{Question, answer_of};
 use tsp_base::datagram::Datagram;
@@ -20,7 +22,7 @@ const RECEIVES: usize = 8;
 
 /// What asking comes to.
 #[derive(Drop)]
-pub enum Asked {
+pub enum AskEnd {
     /// The answer, and the tick right after it came.
     Answer(Datagram, u64),
     /// None of eight receives gave one.
@@ -44,10 +46,18 @@ pub(crate) enum Heard {
 
 /// Waits for a datagram, and reads the tick right after the wait.
 fn hear<L: Link, T: Ticker>(link: &mut L, ticker: &mut T, question: Question) -> Heard
-    ensures hears { (o : Outside) → Tells o (L.arrivals link.old) (L.tried link.old) (L.calls link.old) (T.readings ticker.old) (T.last ticker.old)
-        → Hears question o (L.arrivals link.new) (L.tried link.new) (L.calls link.new) (T.readings ticker.new) (T.last ticker.new) result }
+    ensures hears { (o : Outside)
+        → Tells o (L.arrivals link.old) (L.tried link.old) (L.calls link.old)
+        (T.readings ticker.old) (T.last ticker.old)
+        → Hears question o (L.arrivals link.new) (L.tried link.new) (L.calls link.new)
+        (T.readings ticker.new) (T.last ticker.new) result }
+    ensures waits { Notes (L.waits link.old) (L.waits link.new) 1000000 }
+    ensures same { (L.binds link.new ≡ L.binds link.old)
+        × (T.left_at_wall ticker.new ≡ T.left_at_wall ticker.old) }
     ensures well { HearsWell question (T.last ticker.old) result }
-    ensures later { (L.faults link.old ≤ L.faults link.new) × (L.send_faults link.new ≡ L.send_faults link.old) × (T.last ticker.old ≤ T.last ticker.new) }
+    ensures later { (L.faults link.old ≤ L.faults link.new)
+        × (L.send_faults link.new ≡ L.send_faults link.old)
+        × (T.last ticker.old ≤ T.last ticker.new) }
     ensures cause { result ≡ Heard.Failed → Rose (L.faults link.old) (L.faults link.new) }
     ensures still { result ≢ Heard.Failed → L.faults link.new ≡ L.faults link.old }
 {
@@ -70,7 +80,8 @@ fn hear<L: Link, T: Ticker>(link: &mut L, ticker: &mut T, question: Question) ->
 
 /// The datagram that octets from there spell, where it is an answer of the daemon's.
 fn answer_from(question: Question, from: Place, octets: &[u8]) -> Option<Datagram>
-    ensures answer { result ≡ (if is_daemon from then answer_of question (taken_of octets.now) else None) }
+    ensures answer { result ≡ (if is_daemon from then answer_of question (taken_of octets.now) else
+        None) }
     ensures well { IfSome result (λ d. answers question d ≡ true) }
 {
     match from {
@@ -80,23 +91,31 @@ fn answer_from(question: Question, from: Place, octets: &[u8]) -> Option<Datagra
 }
 
 /// Receives up to eight times, until an answer comes or a receive fails.
-fn listen<L: Link, T: Ticker>(link: &mut L, ticker: &mut T, question: Question) -> Asked
-    ensures listens { (o : Outside) → Tells o (L.arrivals link.old) (L.tried link.old) (L.calls link.old) (T.readings ticker.old) (T.last ticker.old)
-        → Listens question o (L.tried link.new) (L.calls link.new) result }
+fn listen<L: Link, T: Ticker>(link: &mut L, ticker: &mut T, question: Question) -> AskEnd
+    ensures listens { (o : Outside)
+        → Tells o (L.arrivals link.old) (L.tried link.old) (L.calls link.old)
+        (T.readings ticker.old) (T.last ticker.old)
+        → Listens question o (L.arrivals link.new) (L.tried link.new) (L.calls link.new)
+        (T.readings ticker.new) (T.last ticker.new) result }
+    ensures waits { WaitsSeconds (L.waits link.old) (L.waits link.new) }
+    ensures same { (L.binds link.new ≡ L.binds link.old)
+        × (T.left_at_wall ticker.new ≡ T.left_at_wall ticker.old) }
     ensures well { AsksWell question (T.last ticker.old) result }
-    ensures later { (L.faults link.old ≤ L.faults link.new) × (L.send_faults link.new ≡ L.send_faults link.old) × (T.last ticker.old ≤ T.last ticker.new) }
-    ensures cause { result ≡ Asked.LinkFault → Rose (L.faults link.old) (L.faults link.new) }
-    ensures still { result ≢ Asked.LinkFault → L.faults link.new ≡ L.faults link.old }
-    ensures memory { result ≢ Asked.OutOfMemory }
+    ensures later { (L.faults link.old ≤ L.faults link.new)
+        × (L.send_faults link.new ≡ L.send_faults link.old)
+        × (T.last ticker.old ≤ T.last ticker.new) }
+    ensures cause { result ≡ AskEnd.LinkFault → Rose (L.faults link.old) (L.faults link.new) }
+    ensures still { result ≢ AskEnd.LinkFault → L.faults link.new ≡ L.faults link.old }
+    ensures memory { result ≢ AskEnd.OutOfMemory }
 {
     for _ in 0..RECEIVES {
         match hear(link, ticker, question) {
-            Heard::Answer(answer, tick) => return Asked::Answer(answer, tick),
+            Heard::Answer(answer, tick) => return AskEnd::Answer(answer, tick),
             Heard::Other => {}
-            Heard::Failed => return Asked::LinkFault,
+            Heard::Failed => return AskEnd::LinkFault,
         }
     }
-    Asked::NoAnswer
+    AskEnd::NoAnswer
 }
 
 /// Sends the request to the daemon, which is peer 0, and listens for the answer.
@@ -105,17 +124,28 @@ pub(crate) fn ask<L: Link, T: Ticker>(
     ticker: &mut T,
     request: &Datagram,
     question: Question,
-) -> Asked
-    ensures asks { (o : Outside) → Tells o (L.arrivals link.old) (L.tried link.old) (L.calls link.old) (T.readings ticker.old) (T.last ticker.old)
-        → Asks request.now question o (L.tried link.new) (L.calls link.new) result }
+) -> AskEnd
+    ensures asks { (o : Outside)
+        → Tells o (L.arrivals link.old) (L.tried link.old) (L.calls link.old)
+        (T.readings ticker.old) (T.last ticker.old)
+        → Asks request.now question o (L.arrivals link.new) (L.tried link.new) (L.calls link.new)
+        (T.readings ticker.new) (T.last ticker.new) (L.send_faults link.old) (L.send_faults link.new)
+        result }
+    ensures waits { WaitsSeconds (L.waits link.old) (L.waits link.new) }
+    ensures same { (L.binds link.new ≡ L.binds link.old)
+        × (T.left_at_wall ticker.new ≡ T.left_at_wall ticker.old) }
     ensures well { AsksWell question (T.last ticker.old) result }
-    ensures later { (L.faults link.old ≤ L.faults link.new) × (L.send_faults link.old ≤ L.send_faults link.new) × (T.last ticker.old ≤ T.last ticker.new) }
-    ensures cause { result ≡ Asked.LinkFault → Rose (L.faults link.old) (L.faults link.new) ⊎ Rose (L.send_faults link.old) (L.send_faults link.new) }
-    ensures still { result ≢ Asked.LinkFault → (L.faults link.new ≡ L.faults link.old) × (L.send_faults link.new ≡ L.send_faults link.old) }
+    ensures later { (L.faults link.old ≤ L.faults link.new)
+        × (L.send_faults link.old ≤ L.send_faults link.new)
+        × (T.last ticker.old ≤ T.last ticker.new) }
+    ensures cause { result ≡ AskEnd.LinkFault → Rose (L.faults link.old) (L.faults link.new)
+        ⊎ Rose (L.send_faults link.old) (L.send_faults link.new) }
+    ensures still { result ≢ AskEnd.LinkFault → (L.faults link.new ≡ L.faults link.old)
+        × (L.send_faults link.new ≡ L.send_faults link.old) }
 {
     match link.send(Place::Peer(PeerId(0)), encode(request).as_slice()) {
         Sent::Sent => listen(link, ticker, question),
-        Sent::Failed => Asked::LinkFault,
-        Sent::OutOfMemory => Asked::OutOfMemory,
+        Sent::Failed => AskEnd::LinkFault,
+        Sent::OutOfMemory => AskEnd::OutOfMemory,
     }
 }

@@ -1,20 +1,21 @@
-//! Asking as a command.
+//! A question as a command.
 ghost use Rattle.std.specs.Prelude.{◌≡◌, ◌≢◌, ◌⊎◌, ◌≤◌, ℕ, ℤ, List, Some};
 ghost use Rattle.tsp_io.specs.Counts.{Rose};
-ghost use Rattle.tsp_query.specs.Ends.{Outside, Tells};
-ghost use Rattle.tsp_query.specs.Told.{Knows, Says};
+ghost use Rattle.tsp_query.specs.Arrivals.{rest_of};
+ghost use Rattle.tsp_query.specs.Ends.{Outside, Tells, WaitsSeconds};
+ghost use Rattle.tsp_query.specs.Outside.{Knows, Says};
 ghost use Rattle.tsp_query.specs.Asks.{asking_of, QueryComes, AsksAs};
 ghost use Rattle.tsp_query.specs.Lines.{end_line};
 
-use crate::end::Asking;
+use crate::exit::QueryExit;
 use crate::line::line_of;
+use crate::query::{QueryEnd, clockdiff, election, msite, setdate, trace};
+use tsp_args::query::Query;
 use tsp_io::addr::Addr;
 use tsp_io::link::{Bound, Link};
 use tsp_io::sink::Sink;
 use tsp_io::ticker::Ticker;
 use tsp_lines::output::{Unwritten, write_all};
-use crate::query::{QueryEnd, clockdiff, election, msite, setdate, trace};
-use tsp_args::query::Query;
 
 /// Any address of this machine, and a port that the system chooses.
 const ANYWHERE: Addr = Addr {
@@ -24,11 +25,24 @@ const ANYWHERE: Addr = Addr {
 
 /// Asks over a link that is bound.
 fn ask_bound<L: Link, T: Ticker>(query: &Query, link: &mut L, ticker: &mut T) -> QueryEnd
-    ensures comes { (o : Outside) (wall : ℤ) (word : ℕ) → Tells o (L.arrivals link.old) (L.tried link.old) (L.calls link.old) (T.readings ticker.old) (T.last ticker.old) → T.wall_is ticker.old ≡ Some wall → T.word_is ticker.old ≡ Some word
-        → QueryComes query.now wall word o (L.tried link.new) (L.calls link.new) result }
-    ensures later { (L.faults link.old ≤ L.faults link.new) × (L.send_faults link.old ≤ L.send_faults link.new) × (T.last ticker.old ≤ T.last ticker.new) }
-    ensures cause { result ≡ QueryEnd.LinkFault → Rose (L.faults link.old) (L.faults link.new) ⊎ Rose (L.send_faults link.old) (L.send_faults link.new) }
-    ensures still { result ≢ QueryEnd.LinkFault → (L.faults link.new ≡ L.faults link.old) × (L.send_faults link.new ≡ L.send_faults link.old) }
+    ensures comes { (o : Outside) (wall : ℤ) (word : ℕ)
+        → Tells o (L.arrivals link.old) (L.tried link.old) (L.calls link.old)
+        (T.readings ticker.old) (T.last ticker.old) → T.wall_is ticker.old ≡ Some wall
+        → T.word_is ticker.old ≡ Some word
+        → QueryComes query.now wall word o (L.arrivals link.new) (L.tried link.new)
+        (L.calls link.new) (T.readings ticker.new) (T.last ticker.new) (L.send_faults link.old)
+        (L.send_faults link.new) result }
+    ensures waits { WaitsSeconds (L.waits link.old) (L.waits link.new) }
+    ensures same { L.binds link.new ≡ L.binds link.old }
+    ensures walled { (readings : List ℕ) → T.readings ticker.old ≡ Some readings
+        → T.left_at_wall ticker.new ≡ Some (Some (rest_of readings)) }
+    ensures later { (L.faults link.old ≤ L.faults link.new)
+        × (L.send_faults link.old ≤ L.send_faults link.new)
+        × (T.last ticker.old ≤ T.last ticker.new) }
+    ensures cause { result ≡ QueryEnd.LinkFault → Rose (L.faults link.old) (L.faults link.new)
+        ⊎ Rose (L.send_faults link.old) (L.send_faults link.new) }
+    ensures still { result ≢ QueryEnd.LinkFault → (L.faults link.new ≡ L.faults link.old)
+        × (L.send_faults link.new ≡ L.send_faults link.old) }
 {
     match query {
         Query::Msite => msite(link, ticker),
@@ -40,52 +54,97 @@ fn ask_bound<L: Link, T: Ticker>(query: &Query, link: &mut L, ticker: &mut T) ->
 }
 
 /// Writes the line of what came of a question.
-fn tell<K: Sink>(query: &Query, end: &QueryEnd, sink: &mut K) -> Asking
-    ensures says { Says (end_line query.now end.now) (asking_of end.now) Asking.WriteFault Asking.OutOfMemory (K.written sink.old) (K.written sink.new) result }
+fn tell<K: Sink>(query: &Query, end: &QueryEnd, sink: &mut K) -> QueryExit
+    ensures says { Says (end_line query.now end.now) (asking_of end.now) QueryExit.WriteFault
+        QueryExit.OutOfMemory (K.written sink.old) (K.written sink.new) result }
     ensures later { K.faults sink.old ≤ K.faults sink.new }
-    ensures write { result ≡ Asking.WriteFault → Rose (K.faults sink.old) (K.faults sink.new) }
-    ensures still { result ≢ Asking.WriteFault → K.faults sink.new ≡ K.faults sink.old }
-    ensures link { result ≡ Asking.LinkFault → end.now ≡ QueryEnd.LinkFault }
-    ensures linked { end.now ≡ QueryEnd.LinkFault → result ≡ Asking.LinkFault }
+    ensures write { result ≡ QueryExit.WriteFault → Rose (K.faults sink.old) (K.faults sink.new) }
+    ensures still { result ≢ QueryExit.WriteFault → K.faults sink.new ≡ K.faults sink.old }
+    ensures link { result ≡ QueryExit.LinkFault → end.now ≡ QueryEnd.LinkFault }
+    ensures linked { end.now ≡ QueryEnd.LinkFault → result ≡ QueryExit.LinkFault }
 {
     match write_all(sink, line_of(query, end).as_slice()) {
-        Ok(()) => Asking::of(end),
+        Ok(()) => QueryExit::of(end),
         Err(cut) => match cut.fault {
-            Unwritten::WriteFault => Asking::WriteFault,
-            Unwritten::OutOfMemory => Asking::OutOfMemory,
+            Unwritten::WriteFault => QueryExit::WriteFault,
+            Unwritten::OutOfMemory => QueryExit::OutOfMemory,
         },
     }
 }
 
 /// Asks the daemon at an address, and writes what came of it as one line.
 ///
-/// The link is bound at any address, with the daemon as peer 0. The lines are `master NAME`, or `no master` for the
-/// empty name; `clockdiff DIFF ERR` in microseconds; `trace on` or `trace off`; `election heard`; `date set` or
-/// `date forwarded`; and `no answer`.
-/// `LinkFault` comes only where one of the link's counts of faults rose, and `WriteFault` only where the sink's did;
-/// where the link failed, nothing is written.
+/// The link is bound at any address, with the daemon as peer 0. The lines are `master NAME`, or `no
+/// master` for the empty name; `clockdiff DIFF ERR` in microseconds; `trace on` or `trace off`;
+/// `election heard`; `date set` or `date forwarded`; and `no answer`. `LinkFault` comes only where
+/// one of the link's counts of faults rose, and `WriteFault` only where the sink's did; where the
+/// link failed, nothing is written.
 pub fn ask<K: Sink, L: Link, T: Ticker>(
     daemon: Addr,
     query: &Query,
     sink: &mut K,
     link: &mut L,
     ticker: &mut T,
-) -> Asking
+) -> QueryExit
     ensures asks { (o : Outside) (wall : ℤ) (word : ℕ) (written : List ℕ)
-        → Knows o wall word written (record { arrivals = L.arrivals link.old; tried = L.tried link.old; calls = L.calls link.old; readings = T.readings ticker.old; last = T.last ticker.old; wall = T.wall_is ticker.old; word = T.word_is ticker.old; written = K.written sink.old })
-        → AsksAs query.now o wall word written (record { arrivals = L.arrivals link.new; tried = L.tried link.new; calls = L.calls link.new; readings = T.readings ticker.new; last = T.last ticker.new; wall = T.wall_is ticker.new; word = T.word_is ticker.new; written = K.written sink.new }) result }
-    ensures later { (L.faults link.old ≤ L.faults link.new) × (L.send_faults link.old ≤ L.send_faults link.new) × (K.faults sink.old ≤ K.faults sink.new) × (T.last ticker.old ≤ T.last ticker.new) }
-    ensures link { result ≡ Asking.LinkFault → Rose (L.faults link.old) (L.faults link.new) ⊎ Rose (L.send_faults link.old) (L.send_faults link.new) }
-    ensures write { result ≡ Asking.WriteFault → Rose (K.faults sink.old) (K.faults sink.new) }
-    ensures still { result ≢ Asking.WriteFault → K.faults sink.new ≡ K.faults sink.old }
-    ensures linked { result ≢ Asking.LinkFault → (L.faults link.new ≡ L.faults link.old) × (L.send_faults link.new ≡ L.send_faults link.old) }
+        → Knows o wall word written
+        (record {
+          arrivals = L.arrivals link.old;
+          tried = L.tried link.old;
+          calls = L.calls link.old;
+          readings = T.readings ticker.old;
+          last = T.last ticker.old;
+          wall = T.wall_is ticker.old;
+          word = T.word_is ticker.old;
+          written = K.written sink.old;
+          binds = L.binds link.old;
+          waits = L.waits link.old;
+          left_at_wall = T.left_at_wall ticker.old;
+        })
+        → AsksAs daemon query.now o wall word written
+        (record {
+          arrivals = L.arrivals link.old;
+          tried = L.tried link.old;
+          calls = L.calls link.old;
+          readings = T.readings ticker.old;
+          last = T.last ticker.old;
+          wall = T.wall_is ticker.old;
+          word = T.word_is ticker.old;
+          written = K.written sink.old;
+          binds = L.binds link.old;
+          waits = L.waits link.old;
+          left_at_wall = T.left_at_wall ticker.old;
+        })
+        (record {
+          arrivals = L.arrivals link.new;
+          tried = L.tried link.new;
+          calls = L.calls link.new;
+          readings = T.readings ticker.new;
+          last = T.last ticker.new;
+          wall = T.wall_is ticker.new;
+          word = T.word_is ticker.new;
+          written = K.written sink.new;
+          binds = L.binds link.new;
+          waits = L.waits link.new;
+          left_at_wall = T.left_at_wall ticker.new;
+        })
+        (L.send_faults link.old) (L.send_faults link.new) result }
+    ensures later { (L.faults link.old ≤ L.faults link.new)
+        × (L.send_faults link.old ≤ L.send_faults link.new)
+        × (K.faults sink.old ≤ K.faults sink.new) × (T.last ticker.old ≤ T.last ticker.new) }
+    ensures link { result ≡ QueryExit.LinkFault → Rose (L.faults link.old) (L.faults link.new)
+        ⊎ Rose (L.send_faults link.old) (L.send_faults link.new) }
+    ensures write { result ≡ QueryExit.WriteFault → Rose (K.faults sink.old) (K.faults sink.new) }
+    ensures still { result ≢ QueryExit.WriteFault → K.faults sink.new ≡ K.faults sink.old }
+    ensures linked { result ≢ QueryExit.LinkFault → (L.faults link.new ≡ L.faults link.old)
+        × (L.send_faults link.new ≡ L.send_faults link.old) }
 {
     match link.bind(ANYWHERE, &[daemon]) {
         Bound::Bound => {
             let end = ask_bound(query, link, ticker);
             tell(query, &end, sink)
         }
-        Bound::Failed => Asking::LinkFault,
-        Bound::OutOfMemory => Asking::OutOfMemory,
+        Bound::Failed => QueryExit::LinkFault,
+        Bound::OutOfMemory => QueryExit::OutOfMemory,
     }
 }

@@ -6,7 +6,7 @@ use crate::query::QueryEnd;
 
 /// How a question ends as a command.
 #[derive(Clone, Copy, PartialEq, Eq, Debug)]
-pub enum Asking {
+pub enum QueryExit {
     /// It was answered, and the answer's line is written.
     Answered,
     /// None of eight receives gave an answer, and a line says so.
@@ -19,19 +19,19 @@ pub enum Asking {
     OutOfMemory,
 }
 
-impl Asking {
+impl QueryExit {
     /// How a question ends whose line is written whole.
-    pub(crate) fn of(end: &QueryEnd) -> Asking
+    pub(crate) fn of(end: &QueryEnd) -> QueryExit
         ensures { result ≡ asking_of end.now }
     {
         match end {
-            QueryEnd::Master(_) => Asking::Answered,
-            QueryEnd::Diff(..) => Asking::Answered,
-            QueryEnd::Heard => Asking::Answered,
-            QueryEnd::Date(_) => Asking::Answered,
-            QueryEnd::NoAnswer => Asking::NoAnswer,
-            QueryEnd::LinkFault => Asking::LinkFault,
-            QueryEnd::OutOfMemory => Asking::OutOfMemory,
+            QueryEnd::Master(_) => QueryExit::Answered,
+            QueryEnd::Diff(..) => QueryExit::Answered,
+            QueryEnd::Heard => QueryExit::Answered,
+            QueryEnd::Date(_) => QueryExit::Answered,
+            QueryEnd::NoAnswer => QueryExit::NoAnswer,
+            QueryEnd::LinkFault => QueryExit::LinkFault,
+            QueryEnd::OutOfMemory => QueryExit::OutOfMemory,
         }
     }
 }

@@ -1,16 +1,14 @@
-//! The questions to a running daemon: one datagram goes out, and the first answer among eight receives comes back.
+//! The questions to a running daemon: one datagram goes out, and the first answer among eight
+//! receives comes back.
 //!
-//! Each call of [`query`] is a question, over a link that is bound with the daemon as its only peer. [`command::ask`] is a question as a
-//! command: it binds the link, asks once, and writes the answer's line, which `specs/Lines.antt` lays down.
+//! Each call of [`query`] is a question, over a link that is bound with the daemon as its only
+//! peer. [`command::ask`] is a question as a command: it binds the link, asks once, and writes the
+//! answer's line, which `specs/Lines.antt` lays down.
 #![tactic(auto)]
 
 pub mod ask;
 pub mod command;
-#[cfg(test)]
-mod command_tests;
 pub mod exit;
 mod line;
 pub mod query;
 pub mod question;
-#[cfg(test)]
-mod tests;

@@ -2,12 +2,12 @@
 ghost use Rattle.std.specs.Prelude.{◌≡◌, ◌≤◌, length};
 ghost use Rattle.tsp_query.specs.Lines.{master_line, diff_line, heard_line, date_line, end_line};
 
-use arrayvec::ArrayVec;
-use tsp_base::name::Name;
 use crate::query::QueryEnd;
+use arrayvec::ArrayVec;
+use tsp_args::query::Query;
+use tsp_base::name::Name;
 use tsp_script::names::append_name;
 use tsp_script::numbers::{append, append_next_signed, append_signed};
-use tsp_args::query::Query;
 
 /// A text of its own.
 fn text_of(text: &[u8]) -> ArrayVec<u8, 1024>

@@ -1,16 +1,20 @@
 //! The queries of a running daemon.
-ghost use Rattle.std.specs.Prelude.{◌≡◌, ◌≢◌, ◌⊎◌, ◌≤◌, ◌^◌, ◌%◌, ℕ, ℤ, List, Some, IfSome, codes, true, pos, negsuc, ◌<ℤ◌};
+ghost use Rattle.std.specs.Prelude.{◌≡◌, ◌≢◌, ◌⊎◌, ◌≤◌, ◌^◌, ◌%◌, ℕ, ℤ, List, Some, IfSome, codes};
+ghost use Rattle.std.specs.Prelude.{true, pos, negsuc, ◌<ℤ◌};
 ghost use Rattle.tsp_base.specs.Messages.{body_fits};
 ghost use Rattle.tsp_base.specs.declared.kind.Kind.{Kind};
 ghost use Rattle.tsp_base.specs.declared.message.Body.{Body};
 ghost use Rattle.tsp_io.specs.Clocks.{IsWall};
 ghost use Rattle.tsp_io.specs.Counts.{Rose};
-ghost use Rattle.tsp_query.specs.Asked.{rest_of};
+ghost use Rattle.tsp_query.specs.Arrivals.{rest_of};
 ghost use Rattle.tsp_query.specs.Clocks.{reading};
-ghost use Rattle.tsp_query.specs.Ends.{Outside, Tells, Asks};
-ghost use Rattle.tsp_query.specs.Queries.{read_twice, message, message_with, date_message, question_of, stamp, QueryEnds, end_of, trace_kind, name_in, master_in, heard_in, says_set, date_in, reading_in, IsReplied, diff_in};
+ghost use Rattle.tsp_query.specs.Ends.{Outside, Tells, Asks, WaitsSeconds};
+ghost use Rattle.tsp_query.specs.Queries.{read_twice, message, message_with, date_message};
+ghost use Rattle.tsp_query.specs.Queries.{question_of, stamp, QueryEnds, end_of, trace_kind};
+ghost use Rattle.tsp_query.specs.Queries.{name_in, master_in, heard_in, says_set, date_in};
+ghost use Rattle.tsp_query.specs.Queries.{reading_in, IsReplied, diff_in};
 
-use crate::ask::{Asked, ask};
+use crate::ask::{AskEnd, ask};
 use crate::question::Question;
 use tsp_base::datagram::Datagram;
 use tsp_base::kind::Kind;
@@ -56,12 +60,17 @@ struct Start {
 /// Reads the tick counter, the wall clock and the word, and the counter again.
 fn begin<T: Ticker>(ticker: &mut T) -> Start
     ensures readings { (readings : List ℕ) → T.readings ticker.old ≡ Some readings
-        → (result.first ≡ reading (T.last ticker.old) readings 0) × (result.sent ≡ reading (T.last ticker.old) readings 1) × (T.readings ticker.new ≡ Some (rest_of (rest_of readings))) }
+        → (result.first ≡ reading (T.last ticker.old) readings 0)
+        × (result.sent ≡ reading (T.last ticker.old) readings 1)
+        × (T.readings ticker.new ≡ Some (rest_of (rest_of readings))) }
     ensures wall { IfSome (T.wall_is ticker.old) (λ wall. result.wall ≡ wall) }
     ensures word { IfSome (T.word_is ticker.old) (λ word. result.word ≡ word) }
     ensures range { IsWall result.wall }
-    ensures climbs { (T.last ticker.old ≤ result.first) × (result.first ≤ result.sent) × (result.sent ≤ 2 ^ 61) }
+    ensures climbs { (T.last ticker.old ≤ result.first) × (result.first ≤ result.sent)
+        × (result.sent ≤ 2 ^ 61) }
     ensures last { T.last ticker.new ≡ result.sent }
+    ensures walled { (readings : List ℕ) → T.readings ticker.old ≡ Some readings
+        → T.left_at_wall ticker.new ≡ Some (Some (rest_of readings)) }
 {
     let first = ticker.tick();
     let wall = ticker.wall();
@@ -103,13 +112,26 @@ fn ask_by_message<L: Link, T: Ticker>(
     kind: Kind,
     body: Body,
     dates: bool,
-) -> Asked
+) -> AskEnd
     requires { body_fits kind body ≡ true }
-    ensures asks { (o : Outside) (word : ℕ) → Tells o (L.arrivals link.old) (L.tried link.old) (L.calls link.old) (T.readings ticker.old) (T.last ticker.old) → T.word_is ticker.old ≡ Some word
-        → Asks (message_with kind body word) (question_of dates (word % 65536)) (read_twice o) (L.tried link.new) (L.calls link.new) result }
-    ensures later { (L.faults link.old ≤ L.faults link.new) × (L.send_faults link.old ≤ L.send_faults link.new) × (T.last ticker.old ≤ T.last ticker.new) }
-    ensures cause { result ≡ Asked.LinkFault → Rose (L.faults link.old) (L.faults link.new) ⊎ Rose (L.send_faults link.old) (L.send_faults link.new) }
-    ensures still { result ≢ Asked.LinkFault → (L.faults link.new ≡ L.faults link.old) × (L.send_faults link.new ≡ L.send_faults link.old) }
+    ensures asks { (o : Outside) (word : ℕ)
+        → Tells o (L.arrivals link.old) (L.tried link.old) (L.calls link.old)
+        (T.readings ticker.old) (T.last ticker.old) → T.word_is ticker.old ≡ Some word
+        → Asks (message_with kind body word) (question_of dates (word % 65536)) (read_twice o)
+        (L.arrivals link.new) (L.tried link.new) (L.calls link.new)
+        (T.readings ticker.new) (T.last ticker.new) (L.send_faults link.old) (L.send_faults link.new)
+        result }
+    ensures waits { WaitsSeconds (L.waits link.old) (L.waits link.new) }
+    ensures same { L.binds link.new ≡ L.binds link.old }
+    ensures walled { (readings : List ℕ) → T.readings ticker.old ≡ Some readings
+        → T.left_at_wall ticker.new ≡ Some (Some (rest_of readings)) }
+    ensures later { (L.faults link.old ≤ L.faults link.new)
+        × (L.send_faults link.old ≤ L.send_faults link.new)
+        × (T.last ticker.old ≤ T.last ticker.new) }
+    ensures cause { result ≡ AskEnd.LinkFault → Rose (L.faults link.old) (L.faults link.new)
+        ⊎ Rose (L.send_faults link.old) (L.send_faults link.new) }
+    ensures still { result ≢ AskEnd.LinkFault → (L.faults link.new ≡ L.faults link.old)
+        × (L.send_faults link.new ≡ L.send_faults link.old) }
 {
     let start = begin(ticker);
     let number = (start.word % 65536) as u16;
@@ -118,51 +140,77 @@ fn ask_by_message<L: Link, T: Ticker>(
 }
 
 /// What asking comes to where each answer says the same: that the daemon hears.
-fn heard_end(asked: Asked) -> QueryEnd
+fn heard_end(asked: AskEnd) -> QueryEnd
     ensures { result ≡ end_of heard_in asked }
 {
     match asked {
-        Asked::Answer(..) => QueryEnd::Heard,
-        Asked::NoAnswer => QueryEnd::NoAnswer,
-        Asked::LinkFault => QueryEnd::LinkFault,
-        Asked::OutOfMemory => QueryEnd::OutOfMemory,
+        AskEnd::Answer(..) => QueryEnd::Heard,
+        AskEnd::NoAnswer => QueryEnd::NoAnswer,
+        AskEnd::LinkFault => QueryEnd::LinkFault,
+        AskEnd::OutOfMemory => QueryEnd::OutOfMemory,
     }
 }
 
 /// What asking comes to where the answer's name is the master's.
-fn master_end(asked: Asked) -> QueryEnd
+fn master_end(asked: AskEnd) -> QueryEnd
     ensures { result ≡ end_of master_in asked }
 {
     match asked {
-        Asked::Answer(Datagram::Message(message), _) => QueryEnd::Master(message.name().copy()),
-        Asked::Answer(Datagram::Stamp(_), _) => QueryEnd::Master(Name::empty()),
-        Asked::NoAnswer => QueryEnd::NoAnswer,
-        Asked::LinkFault => QueryEnd::LinkFault,
-        Asked::OutOfMemory => QueryEnd::OutOfMemory,
+        AskEnd::Answer(Datagram::Message(message), _) => QueryEnd::Master(message.name().copy()),
+        AskEnd::Answer(Datagram::Stamp(_), _) => QueryEnd::Master(Name::empty()),
+        AskEnd::NoAnswer => QueryEnd::NoAnswer,
+        AskEnd::LinkFault => QueryEnd::LinkFault,
+        AskEnd::OutOfMemory => QueryEnd::OutOfMemory,
     }
 }
 
 /// Asks who is master.
 ///
-/// The link is bound with the daemon as peer 0, here and in the other queries. `LinkFault` comes only where one of the
-/// link's counts of faults rose in this call.
+/// The link is bound with the daemon as peer 0, here and in the other queries. `LinkFault` comes
+/// only where one of the link's counts of faults rose in this call.
 pub fn msite<L: Link, T: Ticker>(link: &mut L, ticker: &mut T) -> QueryEnd
-    ensures asks { (o : Outside) (word : ℕ) → Tells o (L.arrivals link.old) (L.tried link.old) (L.calls link.old) (T.readings ticker.old) (T.last ticker.old) → T.word_is ticker.old ≡ Some word
-        → QueryEnds (message Kind.Msite word) (Question.OfNumber (word % 65536)) master_in o (L.tried link.new) (L.calls link.new) result }
-    ensures later { (L.faults link.old ≤ L.faults link.new) × (L.send_faults link.old ≤ L.send_faults link.new) × (T.last ticker.old ≤ T.last ticker.new) }
-    ensures cause { result ≡ QueryEnd.LinkFault → Rose (L.faults link.old) (L.faults link.new) ⊎ Rose (L.send_faults link.old) (L.send_faults link.new) }
-    ensures still { result ≢ QueryEnd.LinkFault → (L.faults link.new ≡ L.faults link.old) × (L.send_faults link.new ≡ L.send_faults link.old) }
+    ensures asks { (o : Outside) (word : ℕ)
+        → Tells o (L.arrivals link.old) (L.tried link.old) (L.calls link.old)
+        (T.readings ticker.old) (T.last ticker.old) → T.word_is ticker.old ≡ Some word
+        → QueryEnds (message Kind.Msite word) (Question.OfNumber (word % 65536)) master_in o
+        (L.arrivals link.new) (L.tried link.new) (L.calls link.new)
+        (T.readings ticker.new) (T.last ticker.new) (L.send_faults link.old) (L.send_faults link.new)
+        result }
+    ensures waits { WaitsSeconds (L.waits link.old) (L.waits link.new) }
+    ensures same { L.binds link.new ≡ L.binds link.old }
+    ensures walled { (readings : List ℕ) → T.readings ticker.old ≡ Some readings
+        → T.left_at_wall ticker.new ≡ Some (Some (rest_of readings)) }
+    ensures later { (L.faults link.old ≤ L.faults link.new)
+        × (L.send_faults link.old ≤ L.send_faults link.new)
+        × (T.last ticker.old ≤ T.last ticker.new) }
+    ensures cause { result ≡ QueryEnd.LinkFault → Rose (L.faults link.old) (L.faults link.new)
+        ⊎ Rose (L.send_faults link.old) (L.send_faults link.new) }
+    ensures still { result ≢ QueryEnd.LinkFault → (L.faults link.new ≡ L.faults link.old)
+        × (L.send_faults link.new ≡ L.send_faults link.old) }
 {
     master_end(ask_by_message(link, ticker, Kind::Msite, Body::Nothing, false))
 }
 
 /// Asks whether the daemon hears.
 pub fn election<L: Link, T: Ticker>(link: &mut L, ticker: &mut T) -> QueryEnd
-    ensures asks { (o : Outside) (word : ℕ) → Tells o (L.arrivals link.old) (L.tried link.old) (L.calls link.old) (T.readings ticker.old) (T.last ticker.old) → T.word_is ticker.old ≡ Some word
-        → QueryEnds (message Kind.Test word) (Question.OfNumber (word % 65536)) heard_in o (L.tried link.new) (L.calls link.new) result }
-    ensures later { (L.faults link.old ≤ L.faults link.new) × (L.send_faults link.old ≤ L.send_faults link.new) × (T.last ticker.old ≤ T.last ticker.new) }
-    ensures cause { result ≡ QueryEnd.LinkFault → Rose (L.faults link.old) (L.faults link.new) ⊎ Rose (L.send_faults link.old) (L.send_faults link.new) }
-    ensures still { result ≢ QueryEnd.LinkFault → (L.faults link.new ≡ L.faults link.old) × (L.send_faults link.new ≡ L.send_faults link.old) }
+    ensures asks { (o : Outside) (word : ℕ)
+        → Tells o (L.arrivals link.old) (L.tried link.old) (L.calls link.old)
+        (T.readings ticker.old) (T.last ticker.old) → T.word_is ticker.old ≡ Some word
+        → QueryEnds (message Kind.Test word) (Question.OfNumber (word % 65536)) heard_in o
+        (L.arrivals link.new) (L.tried link.new) (L.calls link.new)
+        (T.readings ticker.new) (T.last ticker.new) (L.send_faults link.old) (L.send_faults link.new)
+        result }
+    ensures waits { WaitsSeconds (L.waits link.old) (L.waits link.new) }
+    ensures same { L.binds link.new ≡ L.binds link.old }
+    ensures walled { (readings : List ℕ) → T.readings ticker.old ≡ Some readings
+        → T.left_at_wall ticker.new ≡ Some (Some (rest_of readings)) }
+    ensures later { (L.faults link.old ≤ L.faults link.new)
+        × (L.send_faults link.old ≤ L.send_faults link.new)
+        × (T.last ticker.old ≤ T.last ticker.new) }
+    ensures cause { result ≡ QueryEnd.LinkFault → Rose (L.faults link.old) (L.faults link.new)
+        ⊎ Rose (L.send_faults link.old) (L.send_faults link.new) }
+    ensures still { result ≢ QueryEnd.LinkFault → (L.faults link.new ≡ L.faults link.old)
+        × (L.send_faults link.new ≡ L.send_faults link.old) }
 {
     heard_end(ask_by_message(link, ticker, Kind::Test, Body::Nothing, false))
 }
@@ -176,38 +224,65 @@ fn trace_kind(on: bool) -> Kind
 
 /// Switches the daemon's trace on or off.
 pub fn trace<L: Link, T: Ticker>(on: bool, link: &mut L, ticker: &mut T) -> QueryEnd
-    ensures asks { (o : Outside) (word : ℕ) → Tells o (L.arrivals link.old) (L.tried link.old) (L.calls link.old) (T.readings ticker.old) (T.last ticker.old) → T.word_is ticker.old ≡ Some word
-        → QueryEnds (message (trace_kind on) word) (Question.OfNumber (word % 65536)) heard_in o (L.tried link.new) (L.calls link.new) result }
-    ensures later { (L.faults link.old ≤ L.faults link.new) × (L.send_faults link.old ≤ L.send_faults link.new) × (T.last ticker.old ≤ T.last ticker.new) }
-    ensures cause { result ≡ QueryEnd.LinkFault → Rose (L.faults link.old) (L.faults link.new) ⊎ Rose (L.send_faults link.old) (L.send_faults link.new) }
-    ensures still { result ≢ QueryEnd.LinkFault → (L.faults link.new ≡ L.faults link.old) × (L.send_faults link.new ≡ L.send_faults link.old) }
+    ensures asks { (o : Outside) (word : ℕ)
+        → Tells o (L.arrivals link.old) (L.tried link.old) (L.calls link.old)
+        (T.readings ticker.old) (T.last ticker.old) → T.word_is ticker.old ≡ Some word
+        → QueryEnds (message (trace_kind on) word) (Question.OfNumber (word % 65536)) heard_in o
+        (L.arrivals link.new) (L.tried link.new) (L.calls link.new)
+        (T.readings ticker.new) (T.last ticker.new) (L.send_faults link.old) (L.send_faults link.new)
+        result }
+    ensures waits { WaitsSeconds (L.waits link.old) (L.waits link.new) }
+    ensures same { L.binds link.new ≡ L.binds link.old }
+    ensures walled { (readings : List ℕ) → T.readings ticker.old ≡ Some readings
+        → T.left_at_wall ticker.new ≡ Some (Some (rest_of readings)) }
+    ensures later { (L.faults link.old ≤ L.faults link.new)
+        × (L.send_faults link.old ≤ L.send_faults link.new)
+        × (T.last ticker.old ≤ T.last ticker.new) }
+    ensures cause { result ≡ QueryEnd.LinkFault → Rose (L.faults link.old) (L.faults link.new)
+        ⊎ Rose (L.send_faults link.old) (L.send_faults link.new) }
+    ensures still { result ≢ QueryEnd.LinkFault → (L.faults link.new ≡ L.faults link.old)
+        × (L.send_faults link.new ≡ L.send_faults link.old) }
 {
     let kind = trace_kind(on);
     heard_end(ask_by_message(link, ticker, kind, Body::Nothing, false))
 }
 
 /// What asking comes to where the answer says whether the date was set.
-fn date_end(asked: Asked) -> QueryEnd
+fn date_end(asked: AskEnd) -> QueryEnd
     ensures { result ≡ end_of date_in asked }
 {
     match asked {
-        Asked::Answer(Datagram::Message(message), _) => {
+        AskEnd::Answer(Datagram::Message(message), _) => {
             QueryEnd::Date(matches!(message.kind(), Kind::DateAck))
         }
-        Asked::Answer(Datagram::Stamp(_), _) => QueryEnd::Date(false),
-        Asked::NoAnswer => QueryEnd::NoAnswer,
-        Asked::LinkFault => QueryEnd::LinkFault,
-        Asked::OutOfMemory => QueryEnd::OutOfMemory,
+        AskEnd::Answer(Datagram::Stamp(_), _) => QueryEnd::Date(false),
+        AskEnd::NoAnswer => QueryEnd::NoAnswer,
+        AskEnd::LinkFault => QueryEnd::LinkFault,
+        AskEnd::OutOfMemory => QueryEnd::OutOfMemory,
     }
 }
 
-/// Sets the network's date, in microseconds. A daemon that leads sets it, one that follows passes it on to its master.
+/// Sets the network's date, in microseconds. A daemon that leads sets it, one that follows passes
+/// it on to its master.
 pub fn setdate<L: Link, T: Ticker>(time: Micros, link: &mut L, ticker: &mut T) -> QueryEnd
-    ensures asks { (o : Outside) (word : ℕ) → Tells o (L.arrivals link.old) (L.tried link.old) (L.calls link.old) (T.readings ticker.old) (T.last ticker.old) → T.word_is ticker.old ≡ Some word
-        → QueryEnds (date_message time word) (Question.OfDate (word % 65536)) date_in o (L.tried link.new) (L.calls link.new) result }
-    ensures later { (L.faults link.old ≤ L.faults link.new) × (L.send_faults link.old ≤ L.send_faults link.new) × (T.last ticker.old ≤ T.last ticker.new) }
-    ensures cause { result ≡ QueryEnd.LinkFault → Rose (L.faults link.old) (L.faults link.new) ⊎ Rose (L.send_faults link.old) (L.send_faults link.new) }
-    ensures still { result ≢ QueryEnd.LinkFault → (L.faults link.new ≡ L.faults link.old) × (L.send_faults link.new ≡ L.send_faults link.old) }
+    ensures asks { (o : Outside) (word : ℕ)
+        → Tells o (L.arrivals link.old) (L.tried link.old) (L.calls link.old)
+        (T.readings ticker.old) (T.last ticker.old) → T.word_is ticker.old ≡ Some word
+        → QueryEnds (date_message time word) (Question.OfDate (word % 65536)) date_in o
+        (L.arrivals link.new) (L.tried link.new) (L.calls link.new)
+        (T.readings ticker.new) (T.last ticker.new) (L.send_faults link.old) (L.send_faults link.new)
+        result }
+    ensures waits { WaitsSeconds (L.waits link.old) (L.waits link.new) }
+    ensures same { L.binds link.new ≡ L.binds link.old }
+    ensures walled { (readings : List ℕ) → T.readings ticker.old ≡ Some readings
+        → T.left_at_wall ticker.new ≡ Some (Some (rest_of readings)) }
+    ensures later { (L.faults link.old ≤ L.faults link.new)
+        × (L.send_faults link.old ≤ L.send_faults link.new)
+        × (T.last ticker.old ≤ T.last ticker.new) }
+    ensures cause { result ≡ QueryEnd.LinkFault → Rose (L.faults link.old) (L.faults link.new)
+        ⊎ Rose (L.send_faults link.old) (L.send_faults link.new) }
+    ensures still { result ≢ QueryEnd.LinkFault → (L.faults link.new ≡ L.faults link.old)
+        × (L.send_faults link.new ≡ L.send_faults link.old) }
 {
     date_end(ask_by_message(link, ticker, Kind::SetDate, Body::Time(time), true))
 }
@@ -245,11 +320,25 @@ fn sample(start: &Start, reply: &Datagram, came: u64) -> QueryEnd
 
 /// Asks how far the daemon's clock is from this machine's.
 pub fn clockdiff<L: Link, T: Ticker>(link: &mut L, ticker: &mut T) -> QueryEnd
-    ensures asks { (o : Outside) (word : ℕ) (wall : ℤ) → Tells o (L.arrivals link.old) (L.tried link.old) (L.calls link.old) (T.readings ticker.old) (T.last ticker.old) → T.word_is ticker.old ≡ Some word → T.wall_is ticker.old ≡ Some wall
-        → QueryEnds (stamp word) (Question.OfWord word) (diff_in wall (reading o.last o.readings 0) (reading o.last o.readings 1)) o (L.tried link.new) (L.calls link.new) result }
-    ensures later { (L.faults link.old ≤ L.faults link.new) × (L.send_faults link.old ≤ L.send_faults link.new) × (T.last ticker.old ≤ T.last ticker.new) }
-    ensures cause { result ≡ QueryEnd.LinkFault → Rose (L.faults link.old) (L.faults link.new) ⊎ Rose (L.send_faults link.old) (L.send_faults link.new) }
-    ensures still { result ≢ QueryEnd.LinkFault → (L.faults link.new ≡ L.faults link.old) × (L.send_faults link.new ≡ L.send_faults link.old) }
+    ensures asks { (o : Outside) (word : ℕ) (wall : ℤ)
+        → Tells o (L.arrivals link.old) (L.tried link.old) (L.calls link.old)
+        (T.readings ticker.old) (T.last ticker.old) → T.word_is ticker.old ≡ Some word
+        → T.wall_is ticker.old ≡ Some wall
+        → QueryEnds (stamp word) (Question.OfWord word) (diff_in wall (reading o.last o.readings 0)
+        (reading o.last o.readings 1)) o (L.arrivals link.new) (L.tried link.new) (L.calls link.new)
+        (T.readings ticker.new) (T.last ticker.new) (L.send_faults link.old) (L.send_faults link.new)
+        result }
+    ensures waits { WaitsSeconds (L.waits link.old) (L.waits link.new) }
+    ensures same { L.binds link.new ≡ L.binds link.old }
+    ensures walled { (readings : List ℕ) → T.readings ticker.old ≡ Some readings
+        → T.left_at_wall ticker.new ≡ Some (Some (rest_of readings)) }
+    ensures later { (L.faults link.old ≤ L.faults link.new)
+        × (L.send_faults link.old ≤ L.send_faults link.new)
+        × (T.last ticker.old ≤ T.last ticker.new) }
+    ensures cause { result ≡ QueryEnd.LinkFault → Rose (L.faults link.old) (L.faults link.new)
+        ⊎ Rose (L.send_faults link.old) (L.send_faults link.new) }
+    ensures still { result ≢ QueryEnd.LinkFault → (L.faults link.new ≡ L.faults link.old)
+        × (L.send_faults link.new ≡ L.send_faults link.old) }
 {
     let start = begin(ticker);
     let request = Datagram::Stamp(Stamp::Request {
@@ -257,9 +346,9 @@ pub fn clockdiff<L: Link, T: Ticker>(link: &mut L, ticker: &mut T) -> QueryEnd
         counter: 0,
     });
     match ask(link, ticker, &request, Question::OfWord(start.word)) {
-        Asked::Answer(answer, came) => sample(&start, &answer, came),
-        Asked::NoAnswer => QueryEnd::NoAnswer,
-        Asked::LinkFault => QueryEnd::LinkFault,
-        Asked::OutOfMemory => QueryEnd::OutOfMemory,
+        AskEnd::Answer(answer, came) => sample(&start, &answer, came),
+        AskEnd::NoAnswer => QueryEnd::NoAnswer,
+        AskEnd::LinkFault => QueryEnd::LinkFault,
+        AskEnd::OutOfMemory => QueryEnd::OutOfMemory,
     }
 }

@@ -1,7 +1,7 @@
 //! Questions, and what answers them.
 ghost use Rattle.std.specs.Prelude.{◌≡◌};
 ghost use Rattle.tsp_codec.specs.Taken.{taken_of};
-ghost use Rattle.tsp_query.specs.Asked.{answers, answer_of};
+ghost use Rattle.tsp_query.specs.Arrivals.{answers, answer_of};
 
 use tsp_base::datagram::{Datagram, Taken};
 use tsp_base::kind::Kind;

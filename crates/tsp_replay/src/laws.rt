@@ -9,13 +9,15 @@ ghost use Rattle.tsp_replay.specs.Schedules.{Reaches};
 
 /// A text is one schedule's at most.
 pub fn one_schedule_of_a_text()
-    ensures { (octets : List ℕ) (header other : HeaderValue) (events others : List Event) → IsSchedule octets header events → IsSchedule octets other others
+    ensures { (octets : List ℕ) (header other : HeaderValue) (events others : List Event)
+        → IsSchedule octets header events → IsSchedule octets other others
         → (header ≡ other) × (events ≡ others) }
 {}
 
 /// The header of a schedule's text keeps its ranges.
 pub fn header_of_a_text()
-    ensures { (octets : List ℕ) (header : HeaderValue) (events : List Event) → IsSchedule octets header events → IsHeader header }
+    ensures { (octets : List ℕ) (header : HeaderValue) (events : List Event)
+        → IsSchedule octets header events → IsHeader header }
 {}
 
 /// Lines bring a schedule to one place at most. They stand with the newest first.

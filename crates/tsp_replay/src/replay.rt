@@ -4,11 +4,11 @@ ghost use Rattle.std.specs.Prelude.{◌≡◌};
 use crate::replayed::Replayed;
 use crate::tell::tell_stage;
 use std::alloc::Global;
-use tsp_schedule::stage::Stage;
 use tsp_io::sink::Sink;
 use tsp_lines::cause::Cause;
 use tsp_lines::output::Output;
 use tsp_lines::treatment::{Stop, Treatment};
+use tsp_schedule::stage::Stage;
 
 /// Takes a schedule's lines, and hands the trace of its run over.
 #[derive(Drop)]

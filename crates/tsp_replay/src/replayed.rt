@@ -3,7 +3,7 @@
 use std::alloc::{AllocError, Global};
 use tsp_base::event::{Event, EventFault};
 use tsp_base::header::Header;
-use tsp_schedule::course::Course;
+use tsp_schedule::handler::EventHandler;
 use tsp_world::world::World;
 
 /// The world of a replay.
@@ -13,7 +13,7 @@ pub struct Replayed {
     pub world: World,
 }
 
-impl Course for Replayed {
+impl EventHandler for Replayed {
     ghost use Rattle.tsp_replay.specs.Schedules.{refused};
     ghost use Rattle.tsp_replay.specs.Stages.{stands};
 

@@ -7,12 +7,12 @@ ghost use Rattle.tsp_replay.specs.Traces.{line_text, lines_text, number_in};
 
 use crate::replayed::Replayed;
 use arrayvec::ArrayVec;
-use tsp_schedule::run::Run;
-use tsp_schedule::stage::Stage;
 use tsp_io::sink::Sink;
 use tsp_lines::output::{Output, Unwritten};
 use tsp_lines::treatment::Stop;
 use tsp_run::line::Line;
+use tsp_schedule::run::Run;
+use tsp_schedule::stage::Stage;
 use tsp_script::trace::append_placed;
 
 /// The lines of the last event's acts; none where the last line was no event.
@@ -41,10 +41,13 @@ pub(crate) fn tell_stage<K: Sink>(
     output: &mut Output,
     sink: &mut K,
 ) -> Result<(), Stop>
-    ensures tells { MatchResult result (λ _. Hands (K.written sink.old) output.old (K.written sink.new) output.new (lines_text (told_at stage.now)))
-        (Untold (lines_text (told_at stage.now)) (K.written sink.old) output.old (K.written sink.new) output.new) }
+    ensures tells { MatchResult result (λ _. Hands (K.written sink.old) output.old
+        (K.written sink.new) output.new (lines_text (told_at stage.now)))
+        (Untold (lines_text (told_at stage.now)) (K.written sink.old) output.old
+        (K.written sink.new) output.new) }
     ensures later { K.faults sink.old ≤ K.faults sink.new }
-    ensures cause { result ≡ Err Stop.WriteFault → Rose (K.faults sink.old) (K.faults sink.new) × (0 < length output.new) }
+    ensures cause { result ≡ Err Stop.WriteFault → Rose (K.faults sink.old) (K.faults sink.new)
+        × (0 < length output.new) }
     ensures still { result ≢ Err Stop.WriteFault → K.faults sink.new ≡ K.faults sink.old }
 {
     match tell(told(stage), output, sink) {
@@ -56,10 +59,14 @@ pub(crate) fn tell_stage<K: Sink>(
 
 /// Hands lines of the trace over; where it fails, a part of them.
 fn tell<K: Sink>(lines: &[Line], output: &mut Output, sink: &mut K) -> Result<(), Unwritten>
-    ensures ok { OnOk result (Hands (K.written sink.old) output.old (K.written sink.new) output.new (lines_text lines.now)) }
-    ensures err { OnErr result ((part : List ℕ) × (rest : List ℕ) × (lines_text lines.now ≡ part ++ rest) × Hands (K.written sink.old) output.old (K.written sink.new) output.new part) }
+    ensures ok { OnOk result (Hands (K.written sink.old) output.old (K.written sink.new) output.new
+        (lines_text lines.now)) }
+    ensures err { OnErr result ((part : List ℕ) × (rest : List ℕ)
+        × (lines_text lines.now ≡ part ++ rest) × Hands (K.written sink.old) output.old
+        (K.written sink.new) output.new part) }
     ensures later { K.faults sink.old ≤ K.faults sink.new }
-    ensures cause { result ≡ Err Unwritten.WriteFault → Rose (K.faults sink.old) (K.faults sink.new) × (0 < length output.new) }
+    ensures cause { result ≡ Err Unwritten.WriteFault → Rose (K.faults sink.old) (K.faults sink.new)
+        × (0 < length output.new) }
     ensures still { result ≢ Err Unwritten.WriteFault → K.faults sink.new ≡ K.faults sink.old }
 {
     for line in lines {
@@ -70,10 +77,14 @@ fn tell<K: Sink>(lines: &[Line], output: &mut Output, sink: &mut K) -> Result<()
 
 /// Hands a line of the trace over; where it fails, a part of it.
 fn tell_one<K: Sink>(line: &Line, output: &mut Output, sink: &mut K) -> Result<(), Unwritten>
-    ensures ok { OnOk result (Hands (K.written sink.old) output.old (K.written sink.new) output.new (line_text line.now)) }
-    ensures err { OnErr result ((part : List ℕ) × (rest : List ℕ) × (line_text line.now ≡ part ++ rest) × Hands (K.written sink.old) output.old (K.written sink.new) output.new part) }
+    ensures ok { OnOk result (Hands (K.written sink.old) output.old (K.written sink.new) output.new
+        (line_text line.now)) }
+    ensures err { OnErr result ((part : List ℕ) × (rest : List ℕ)
+        × (line_text line.now ≡ part ++ rest) × Hands (K.written sink.old) output.old
+        (K.written sink.new) output.new part) }
     ensures later { K.faults sink.old ≤ K.faults sink.new }
-    ensures cause { result ≡ Err Unwritten.WriteFault → Rose (K.faults sink.old) (K.faults sink.new) × (0 < length output.new) }
+    ensures cause { result ≡ Err Unwritten.WriteFault → Rose (K.faults sink.old) (K.faults sink.new)
+        × (0 < length output.new) }
     ensures still { result ≢ Err Unwritten.WriteFault → K.faults sink.new ≡ K.faults sink.old }
 {
     let number = number_in(line.number);

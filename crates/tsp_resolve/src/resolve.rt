@@ -1,5 +1,6 @@
 //! The rivals of a master: which of its peers say that they are masters too.
-ghost use Rattle.std.specs.Prelude.{◌≡◌, ℕ, ◌+◌, ◌≤◌, ◌<◌, ◌==◌, ◌||◌, not, List, [], ◌∷◌, length, slice_index_or, IfOk, IsSomeAnd};
+ghost use Rattle.std.specs.Prelude.{◌≡◌, ℕ, ◌+◌, ◌≤◌, ◌<◌, ◌==◌, ◌||◌, not, List, [], ◌∷◌, length};
+ghost use Rattle.std.specs.Prelude.{slice_index_or, IfOk, IsSomeAnd};
 ghost use Rattle.std.specs.List.{Contains};
 ghost use Rattle.tsp_base.specs.declared.act.Act.TheVariants.{Boot, Become};
 ghost use Rattle.tsp_base.specs.declared.place.PeerId.{PeerId};
@@ -39,7 +40,8 @@ impl Resolve {
     /// Fails only where memory is refused; no later call takes any.
     pub fn new(alloc: Global, peers: &[PeerId]) -> Result<Resolve, AllocError>
         ensures many { IfOk result (λ r. length r.marks ≡ length peers.now) }
-        ensures stands { IfOk result (λ r. (x : ℕ) (past : Past) → past.peers ≡ peers.now → ResolveStands (grown x past (Boot ∷ [])) r) }
+        ensures stands { IfOk result (λ r. (x : ℕ) (past : Past) → past.peers ≡ peers.now
+            → ResolveStands (grown x past (Boot ∷ [])) r) }
     {
         let marks = Marks::new(alloc, peers.len())?;
         Ok(Resolve { marks })
@@ -50,9 +52,11 @@ impl Resolve {
     pub fn start<D: Desk>(&mut self, station: &mut Station, tick: u64, port: Port, desk: &mut D)
         requires tick { IsTick tick }
         requires room { length station.old.peers + 1 ≤ D.spare desk.old }
-        ensures row { Performs ResolvingStands ResolvingStands resolves tick port (self.old, station.old) (self.new, station.new) (D.acts desk.old) (D.acts desk.new) }
+        ensures row { Performs ResolvingStands ResolvingStands resolves tick port
+            (self.old, station.old) (self.new, station.new) (D.acts desk.old) (D.acts desk.new) }
         ensures same { self.new ≡ self.old }
-        ensures room { PutsAtMost (length station.old.peers + 1) (D.spare desk.old) (D.spare desk.new) (D.acts desk.old) (D.acts desk.new) }
+        ensures room { PutsAtMost (length station.old.peers + 1) (D.spare desk.old)
+            (D.spare desk.new) (D.acts desk.old) (D.acts desk.new) }
         ensures port { IsSamePort station.old station.new }
     {
         match station.alarms.at(Alarm::Resolve) {
@@ -71,9 +75,11 @@ impl Resolve {
         requires many { length self.old.marks ≡ length station.now.peers }
         requires peer { Contains station.now.peers from }
         requires role { station.now.role ≡ Master }
-        ensures row { (x : ℕ) → Performs ResolvingStands ResolvingStands (finds_rival from) x port (self.old, station.now) (self.new, station.now) (D.acts desk.old) (D.acts desk.new) }
+        ensures row { (x : ℕ) → Performs ResolvingStands ResolvingStands (finds_rival from) x port
+            (self.old, station.now) (self.new, station.now) (D.acts desk.old) (D.acts desk.new) }
         ensures many { length self.new.marks ≡ length self.old.marks }
-        ensures room { PutsAtMost 1 (D.spare desk.old) (D.spare desk.new) (D.acts desk.old) (D.acts desk.new) }
+        ensures room { PutsAtMost 1 (D.spare desk.old) (D.spare desk.new) (D.acts desk.old)
+            (D.acts desk.new) }
     {
         match station.alarms.at(Alarm::Resolve) {
             None => {}
@@ -91,7 +97,9 @@ impl Resolve {
         requires many { length self.old.marks ≡ length peers.now }
         requires peer { Contains peers.now p }
         ensures found { result ≡ not (is_among p (marked peers.now self.old.marks)) }
-        ensures marks { (q : PeerId) → is_among q (marked peers.now self.new.marks) ≡ ((p.0 == q.0) || is_among q (marked peers.now self.old.marks)) }
+        ensures marks { (q : PeerId)
+            → is_among q (marked peers.now self.new.marks) ≡ ((p.0 == q.0) || is_among q
+            (marked peers.now self.old.marks)) }
         ensures many { length self.new.marks ≡ length self.old.marks }
     {
         let Some(place) = place_of(peers, p) else {
@@ -108,9 +116,11 @@ impl Resolve {
         requires tick { IsTick tick }
         requires room { length station.old.peers + 1 ≤ D.spare desk.old }
         requires many { length self.old.marks ≡ length station.old.peers }
-        ensures row { Performs ResolvingStands ResolvingStands resolve_rings tick port (self.old, station.old) (self.new, station.new) (D.acts desk.old) (D.acts desk.new) }
+        ensures row { Performs ResolvingStands ResolvingStands resolve_rings tick port
+            (self.old, station.old) (self.new, station.new) (D.acts desk.old) (D.acts desk.new) }
         ensures same { self.new ≡ self.old }
-        ensures room { PutsAtMost (length station.old.peers + 1) (D.spare desk.old) (D.spare desk.new) (D.acts desk.old) (D.acts desk.new) }
+        ensures room { PutsAtMost (length station.old.peers + 1) (D.spare desk.old)
+            (D.spare desk.new) (D.acts desk.old) (D.acts desk.new) }
         ensures port { IsSamePort station.old station.new }
     {
         if station.is_in_time(Alarm::Resolve, tick) {
@@ -126,8 +136,11 @@ impl Resolve {
         requires tick { IsTick tick }
         requires room { length station.old.peers ≤ D.spare desk.old }
         requires many { length self.now.marks ≡ length station.old.peers }
-        ensures row { Performs ResolvingActs ResolvingActs quits_rivals tick port (self.now, (station.old, tt)) (self.now, (station.new, tt)) (D.acts desk.old) (D.acts desk.new) }
-        ensures room { PutsAtMost (length station.old.peers) (D.spare desk.old) (D.spare desk.new) (D.acts desk.old) (D.acts desk.new) }
+        ensures row { Performs ResolvingActs ResolvingActs quits_rivals tick port
+            (self.now, (station.old, tt)) (self.now, (station.new, tt)) (D.acts desk.old)
+            (D.acts desk.new) }
+        ensures room { PutsAtMost (length station.old.peers) (D.spare desk.old) (D.spare desk.new)
+            (D.acts desk.old) (D.acts desk.new) }
         ensures port { IsSamePort station.old station.new }
     {
         for place in 0..station.peers().len() {
@@ -142,7 +155,8 @@ impl Resolve {
     pub fn clear(&mut self)
         ensures none { (peers : List PeerId) → marked peers self.new.marks ≡ [] }
         ensures many { length self.new.marks ≡ length self.old.marks }
-        ensures stands { (x : ℕ) (past : Past) (role : Role) → ResolveStands past self.old → ResolveStands (grown x past (Become role ∷ [])) self.new }
+        ensures stands { (x : ℕ) (past : Past) (role : Role) → ResolveStands past self.old
+            → ResolveStands (grown x past (Become role ∷ [])) self.new }
     {
         self.marks.clear();
     }
@@ -152,7 +166,8 @@ impl Resolve {
 fn place_of(peers: &[PeerId], p: PeerId) -> Option<usize>
     requires peers { IsPeers peers.now }
     requires peer { Contains peers.now p }
-    ensures { IsSomeAnd result (λ i. (i < length peers.now) × ((d : PeerId) → slice_index_or peers.now i d ≡ p)) }
+    ensures { IsSomeAnd result (λ i. (i < length peers.now) × ((d : PeerId)
+        → slice_index_or peers.now i d ≡ p)) }
 {
     match peers.binary_search_by_key(&p.0, |q| q.0) {
         Ok(place) => Some(place),

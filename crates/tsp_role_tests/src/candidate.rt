@@ -80,7 +80,8 @@ fn goes(node: &mut Node, tick: u32, step: Step) -> Result<(), AllocError> {
     Ok(())
 }
 
-/// Goes through steps one after the other. The index of the first row that tells something else than its step does.
+/// Goes through steps one after the other. The index of the first row that tells something else
+/// than its step does.
 fn first_wrong(node: &mut Node, rows: &[Row]) -> Result<Option<usize>, AllocError> {
     for (i, (tick, step, acts)) in rows.iter().enumerate() {
         goes(node, *tick, *step)?;

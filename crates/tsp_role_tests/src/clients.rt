@@ -78,7 +78,8 @@ fn goes(node: &mut Node, tracing: &mut bool, step: Step) -> Result<(), AllocErro
     Ok(())
 }
 
-/// Goes through steps one after the other. The index of the first row that tells something else than its step does.
+/// Goes through steps one after the other. The index of the first row that tells something else
+/// than its step does.
 fn first_wrong(
     node: &mut Node,
     tracing: &mut bool,

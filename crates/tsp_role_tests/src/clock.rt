@@ -45,20 +45,3 @@ fn slews_small_amounts(rt: HostRuntime) -> Result<(), Fail> {
     assert_eq!(rt; clock.shown(4_000_000_000), LIMIT + 3_979_999_999);
     Ok(())
 }
-
-#[test]
-fn tells_its_corrections(rt: HostRuntime) -> Result<(), Fail> {
-    let mut pad = Pad::new(rt.alloc());
-    let Ok(mut clock) = Clock::boot(0, 0, 7) else {
-        panic!(rt; "the wall is in range");
-    };
-    pad.reserve(2)?;
-    if clock.can_adjust(100, 10_000) {
-        clock.correct_by(100, 10_000, Port(0), &mut pad);
-    }
-    assert_eq!(rt; clock.shown(100), 100);
-    clock.correct_to(1_000_100, 5, Port(0), &mut pad);
-    assert_eq!(rt; clock.shown(1_000_100), 5);
-    assert_eq!(rt; pad.acts().len(), 2);
-    Ok(())
-}

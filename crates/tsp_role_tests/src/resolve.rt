@@ -59,8 +59,8 @@ fn goes(node: &mut Node, resolve: &mut Resolve, step: Step) -> Result<(), AllocE
     Ok(())
 }
 
-/// Lets peer 2 of three go through steps one after the other. The index of the first row that tells something else than
-/// its step does.
+/// Lets peer 2 of three go through steps one after the other. The index of the first row that tells
+/// something else than its step does.
 fn first_wrong(alloc: Global, rows: &[Row]) -> Result<Option<usize>, Fail> {
     let mut node = Node::new(alloc, PeerId(2), &[PeerId(1), PeerId(2), PeerId(4)])?;
     let mut resolve = Resolve::new(alloc, node.station.peers())?;

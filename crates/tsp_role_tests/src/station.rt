@@ -30,43 +30,6 @@ fn station(alloc: Global) -> Result<Station, AllocError>
 }
 
 #[test]
-fn changes_by_acts(rt: HostRuntime) -> Result<(), Fail> {
-    let mut pad = Pad::new(rt.alloc());
-    pad.reserve(14)?;
-    let mut station = station(rt.alloc())?;
-    let port = Port(0);
-    assert!(rt; station.role == Role::Starting && !station.hears(PeerId(1)));
-    station.become_role(Role::Loose, port, &mut pad);
-    assert!(rt; station.hears(PeerId(4)) && !station.hears(PeerId(3)));
-    station.arm(Alarm::Search, 10, 5, port, &mut pad);
-    assert!(rt; station.is_due(Alarm::Search, 15) && !station.is_due(Alarm::Search, 14));
-    assert!(rt;
-        station.is_in_time(Alarm::Search, 1_000_015)
-            && !station.is_in_time(Alarm::Search, 1_000_016)
-    );
-    station.ring(Alarm::Search, port, &mut pad);
-    station.late(Alarm::Probe, port, &mut pad);
-    station.abandon(port, &mut pad);
-    station.arm_elect(20, port, &mut pad);
-    assert!(rt; station.alarms.at(Alarm::Elect) == Some(300_000_027));
-    assert!(rt; station.alarms.at(Alarm::Search) == None);
-    station.back(PeerId(4), 30, port, &mut pad);
-    assert!(rt;
-        !station.hold.may_back(60_000_029, PeerId(1))
-            && station.hold.may_back(60_000_030, PeerId(1))
-    );
-    station.count_backer(PeerId(4), port, &mut pad);
-    assert_eq!(rt; station.backers, 1);
-    station.quit(PeerId(4), 40, port, &mut pad);
-    station.post(PeerId(4), Kind::Ack, 7, port, &mut pad);
-    station.post_back(Place::Stranger, Kind::Ack, 7, port, &mut pad);
-    station.post_to_others(Kind::MasterReq, 0, port, &mut pad);
-    assert_eq!(rt; pad.acts().len(), 13);
-    assert_eq!(rt; station.peers().len(), 3);
-    Ok(())
-}
-
-#[test]
 fn sends_until_answered(rt: HostRuntime) -> Result<(), Fail> {
     let mut pad = Pad::new(rt.alloc());
     pad.reserve(20)?;

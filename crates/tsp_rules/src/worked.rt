@@ -17,7 +17,8 @@ pub fn ordinary_use()
     ensures { OrdinaryUse }
 {}
 
-/// A node holds the first of two candidates, backs the second when the hold is over, and forgets all at a boot.
+/// A node holds the first of two candidates, backs the second when the hold is over, and forgets
+/// all at a boot.
 pub fn holds_one()
     ensures { HoldsOne }
 {}
@@ -52,7 +53,8 @@ pub fn resolves_once()
     ensures { ResolvesOnce }
 {}
 
-/// Rounds that end with a reply too many, too late, out of reach, without a sample, or at the edge of a clock.
+/// Rounds that end with a reply too many, too late, out of reach, without a sample, or at the edge
+/// of a clock.
 pub fn closes_otherwise()
     ensures { ClosesOtherwise }
 {}
@@ -67,7 +69,8 @@ pub fn wins_by_majority()
     ensures { WinsByMajority }
 {}
 
-/// A node with two ports follows on both and is corrected on the lower one; LOOPs are passed on with one hop less.
+/// A node with two ports follows on both and is corrected on the lower one; LOOPs are passed on
+/// with one hop less.
 pub fn joins_networks()
     ensures { JoinsNetworks }
 {}

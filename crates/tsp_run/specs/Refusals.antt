@@ -127,7 +127,7 @@ abbrev pub Valid : HeaderValue → List Event → Type 0
 Valid header [] = Unit {0}
 Valid header (e ∷ before) = (refusal (scene header before) e ≡ None) × Valid header before
 
--- this is the cause of a refusal; want of memory comes last, where there is no other
+-- this is the cause of a refusal; lack of memory comes last, where there is no other
 abbrev pub IsRefusal : Option EventFault → EventFault → Type 0
 IsRefusal cause fault = (cause ≡ Some fault) ⊎ ((cause ≡ None) × (fault ≡ OutOfMemory))
 

@@ -1,7 +1,7 @@
 //! The reading of a schedule, line by line, whatever its events meet.
 #![tactic(auto)]
 
-pub mod course;
 mod faults;
+pub mod handler;
 pub mod run;
 pub mod stage;

@@ -1,13 +1,14 @@
 //! What the events of a schedule met.
-ghost use Rattle.std.specs.Prelude.{◌≡◌, ◌≢◌, ◌≤◌, ◌<◌, ℕ, List, [], ◌∷◌, length, true, false, IfOk, MatchOption, MatchResult, None, Err};
+ghost use Rattle.std.specs.Prelude.{◌≡◌, ◌≢◌, ◌≤◌, ◌<◌, ℕ, List, [], ◌∷◌, length, true, false};
+ghost use Rattle.std.specs.Prelude.{IfOk, MatchOption, MatchResult, None, Err};
 ghost use Rattle.tsp_base.specs.Headers.{HeaderValue, is_whole};
 ghost use Rattle.tsp_base.specs.declared.event.Event.{Event};
 ghost use Rattle.tsp_schedule.specs.Schedules.{IsEnded, Lacks, Progress, Refuses, Running};
 ghost use Rattle.tsp_schedule.specs.Stages.{Halts, HaltsEvent, RunAdvances, RunStands};
 ghost use Rattle.tsp_script.specs.Schedules.{IsEvent};
 
-use crate::course::Course;
 use crate::faults::stop_of;
+use crate::handler::EventHandler;
 use std::alloc::{AllocError, Global};
 use tsp_base::event::Event;
 use tsp_base::header::Header;
@@ -24,7 +25,7 @@ pub struct Run<C> {
     pub over: bool,
 }
 
-impl<C: Course> Run<C> {
+impl<C: EventHandler> Run<C> {
     /// No line behind the header was read.
     pub(crate) fn begin(alloc: Global, header: Header) -> Result<Run<C>, AllocError>
         requires some { 1 ≤ length header.nodes }
@@ -42,7 +43,9 @@ impl<C: Course> Run<C> {
 
     /// Reads a line behind the header: an event, or the last line.
     pub(crate) fn advance(&mut self, line: &[u8]) -> Result<(), Stop>
-        ensures next { (p : Progress) → RunStands C.stands p self.old → MatchResult result (λ _. RunAdvances C.refused C.stands p line.now self.new) (Halts C.refused p line.now) }
+        ensures next { (p : Progress) → RunStands C.stands p self.old
+            → MatchResult result (λ _. RunAdvances C.refused C.stands p line.now self.new)
+            (Halts C.refused p line.now) }
         ensures kind { result ≢ Err Stop.WriteFault }
     {
         if self.over {
@@ -53,7 +56,8 @@ impl<C: Course> Run<C> {
 
     /// For what cause a line of more than 1,024 octets is refused.
     pub(crate) fn refuse_long(&self) -> Cause
-        ensures { (p : Progress) → RunStands C.stands p self.now → (line : List ℕ) → 1024 < length line → Refuses C.refused p line result }
+        ensures { (p : Progress) → RunStands C.stands p self.now → (line : List ℕ)
+            → 1024 < length line → Refuses C.refused p line result }
     {
         if self.over {
             return Cause::of(b"after-end");
@@ -63,7 +67,8 @@ impl<C: Course> Run<C> {
 
     /// Whether the input may end, and else for what cause it may not.
     pub(crate) fn lacks(&self) -> Option<Cause>
-        ensures { (p : Progress) → RunStands C.stands p self.now → MatchOption result (IsEnded p) (Lacks p) }
+        ensures { (p : Progress) → RunStands C.stands p self.now
+            → MatchOption result (IsEnded p) (Lacks p) }
     {
         if self.over {
             return None;
@@ -74,7 +79,10 @@ impl<C: Course> Run<C> {
     /// Reads a line before the last one was read.
     fn go_on(&mut self, line: &[u8]) -> Result<(), Stop>
         requires { self.old.over ≡ false }
-        ensures next { (header : HeaderValue) (events : List Event) → C.stands header events self.old.course → MatchResult result (λ _. RunAdvances C.refused C.stands (Running header events) line.now self.new) (Halts C.refused (Running header events) line.now) }
+        ensures next { (header : HeaderValue) (events : List Event)
+            → C.stands header events self.old.course
+            → MatchResult result (λ _. RunAdvances C.refused C.stands (Running header events)
+            line.now self.new) (Halts C.refused (Running header events) line.now) }
         ensures kind { result ≢ Err Stop.WriteFault }
     {
         match event_line(line) {
@@ -90,8 +98,11 @@ impl<C: Course> Run<C> {
     /// Lets an event happen.
     fn happen(&mut self, e: &Event) -> Result<(), Stop>
         requires { IsEvent e.now }
-        ensures next { (header : HeaderValue) (events : List Event) → C.stands header events self.old.course → MatchResult result
-            (λ _. (C.refused header events e.now ≡ None) × C.stands header (e.now ∷ events) self.new.course) (HaltsEvent C.refused header events e.now) }
+        ensures next { (header : HeaderValue) (events : List Event)
+            → C.stands header events self.old.course
+            → MatchResult result (λ _. (C.refused header events e.now ≡ None)
+            × C.stands header (e.now ∷ events) self.new.course) (HaltsEvent C.refused header events
+            e.now) }
         ensures over { self.new.over ≡ self.old.over }
         ensures kind { result ≢ Err Stop.WriteFault }
     {

@@ -1,9 +1,12 @@
 //! How far the reading of a schedule has come.
-ghost use Rattle.std.specs.Prelude.{◌≡◌, ◌≢◌, ◌<◌, ◌≤◌, ℕ, true, List, [], ◌∷◌, ◌++◌, length, take, MatchBool, MatchResult, MatchOption, Err, codes};
-ghost use Rattle.tsp_schedule.specs.Schedules.{Progress, Untitled, Titled, Drifted, Heading, Running, Takes, TakesNet, IsComplete, next_place, drifted, new_header, Lacks, IsEnded, Refuses};
+ghost use Rattle.std.specs.Prelude.{◌≡◌, ◌≢◌, ◌<◌, ◌≤◌, ℕ, true, List, [], ◌∷◌, ◌++◌, length, take};
+ghost use Rattle.std.specs.Prelude.{MatchBool, MatchResult, MatchOption, Err, codes};
+ghost use Rattle.tsp_schedule.specs.Schedules.{Progress, Untitled, Titled, Drifted, Heading};
+ghost use Rattle.tsp_schedule.specs.Schedules.{Running, Takes, TakesNet, IsComplete, next_place};
+ghost use Rattle.tsp_schedule.specs.Schedules.{drifted, new_header, Lacks, IsEnded, Refuses};
 ghost use Rattle.tsp_schedule.specs.Stages.{StageStands, RunStands, Advances, Halts, HaltsNode, HaltsNet, HaltsFirst};
 
-use crate::course::Course;
+use crate::handler::EventHandler;
 use crate::run::Run;
 use std::alloc::Global;
 use std::mem;
@@ -37,14 +40,16 @@ fn bad_header() -> Stop
 
 /// Whether a line with this beginning is a node's.
 fn is_node(start: &[u8]) -> bool
-    ensures { MatchBool result ((rest : List ℕ) × (start.now ≡ codes "node " ++ rest)) ((rest : List ℕ) → start.now ≡ codes "node " ++ rest → ⊥) }
+    ensures { MatchBool result ((rest : List ℕ) × (start.now ≡ codes "node " ++ rest))
+        ((rest : List ℕ) → start.now ≡ codes "node " ++ rest → ⊥) }
 {
     matches!(start, [b'n', b'o', b'd', b'e', b' ', ..])
 }
 
 /// Whether a line with this beginning is a network's.
 fn is_net(start: &[u8]) -> bool
-    ensures { MatchBool result ((rest : List ℕ) × (start.now ≡ codes "net " ++ rest)) ((rest : List ℕ) → start.now ≡ codes "net " ++ rest → ⊥) }
+    ensures { MatchBool result ((rest : List ℕ) × (start.now ≡ codes "net " ++ rest))
+        ((rest : List ℕ) → start.now ≡ codes "net " ++ rest → ⊥) }
 {
     matches!(start, [b'n', b'e', b't', b' ', ..])
 }
@@ -67,10 +72,12 @@ fn is_complete(header: &Header) -> bool
     !header.nodes().is_empty() && header.whole()
 }
 
-impl<C: Course> Stage<C> {
+impl<C: EventHandler> Stage<C> {
     /// Reads one line more, or says why it may not follow; after that none is to be read.
     pub fn advance(&mut self, alloc: Global, line: &[u8]) -> Result<(), Stop>
-        ensures next { (p : Progress) → StageStands C.stands p self.old → MatchResult result (λ _. Advances C.refused C.stands p line.now self.new) (Halts C.refused p line.now) }
+        ensures next { (p : Progress) → StageStands C.stands p self.old
+            → MatchResult result (λ _. Advances C.refused C.stands p line.now self.new)
+            (Halts C.refused p line.now) }
         ensures kind { result ≢ Err Stop.WriteFault }
     {
         if let Stage::Running(run) = self {
@@ -87,7 +94,9 @@ impl<C: Course> Stage<C> {
 
     /// The stage after one line more, or why the line may not follow.
     fn next(self, alloc: Global, line: &[u8]) -> Result<Stage<C>, Stop>
-        ensures next { (p : Progress) → StageStands C.stands p self → MatchResult result (Advances C.refused C.stands p line.now) (Halts C.refused p line.now) }
+        ensures next { (p : Progress) → StageStands C.stands p self
+            → MatchResult result (Advances C.refused C.stands p line.now)
+            (Halts C.refused p line.now) }
         ensures kind { result ≢ Err Stop.WriteFault }
     {
         match self {
@@ -101,7 +110,8 @@ impl<C: Course> Stage<C> {
 
     /// Reads the title.
     fn title(line: &[u8]) -> Result<Stage<C>, Stop>
-        ensures next { MatchResult result (Advances C.refused C.stands Untitled line.now) (Halts C.refused Untitled line.now) }
+        ensures next { MatchResult result (Advances C.refused C.stands Untitled line.now)
+            (Halts C.refused Untitled line.now) }
         ensures kind { result ≢ Err Stop.WriteFault }
     {
         match head_line(line, 1) {
@@ -113,7 +123,8 @@ impl<C: Course> Stage<C> {
 
     /// Reads the drift behind the title of a version.
     fn drift(alloc: Global, version: u32, line: &[u8]) -> Result<Stage<C>, Stop>
-        ensures next { MatchResult result (Advances C.refused C.stands (Titled version) line.now) (Halts C.refused (Titled version) line.now) }
+        ensures next { MatchResult result (Advances C.refused C.stands (Titled version) line.now)
+            (Halts C.refused (Titled version) line.now) }
         ensures kind { result ≢ Err Stop.WriteFault }
     {
         match head_line(line, 2) {
@@ -139,7 +150,9 @@ impl<C: Course> Stage<C> {
 
     /// Reads `strict`, as the header says already.
     fn strict(header: Header, line: &[u8]) -> Result<Stage<C>, Stop>
-        ensures next { (drift : ℕ) → header ≡ new_header drift true → MatchResult result (Advances C.refused C.stands (Drifted drift) line.now) (Halts C.refused (Drifted drift) line.now) }
+        ensures next { (drift : ℕ) → header ≡ new_header drift true
+            → MatchResult result (Advances C.refused C.stands (Drifted drift) line.now)
+            (Halts C.refused (Drifted drift) line.now) }
         ensures kind { result ≢ Err Stop.WriteFault }
     {
         match head_line(line, 3) {
@@ -149,10 +162,11 @@ impl<C: Course> Stage<C> {
         }
     }
 
-    /// Reads a line where a node or a network is expected. `strict` stands before the nodes, and nodes stand before
-    /// networks.
+    /// Reads a line where a node or a network is expected. `strict` stands before the nodes, and
+    /// nodes stand before networks.
     fn head(alloc: Global, header: Header, line: &[u8]) -> Result<Stage<C>, Stop>
-        ensures next { MatchResult result (Advances C.refused C.stands (Heading header) line.now) (Halts C.refused (Heading header) line.now) }
+        ensures next { MatchResult result (Advances C.refused C.stands (Heading header) line.now)
+            (Halts C.refused (Heading header) line.now) }
         ensures kind { result ≢ Err Stop.WriteFault }
     {
         match head_line(line, next_place(&header)) {
@@ -167,7 +181,9 @@ impl<C: Course> Stage<C> {
 
     /// Adds a node to the header.
     fn node(mut header: Header, node: NodeLine) -> Result<Stage<C>, Stop>
-        ensures next { MatchResult result (λ next. Takes header node × (next ≡ Stage.Heading (record header { nodes = header.nodes ++ node ∷ [] }))) (HaltsNode header node) }
+        ensures next { MatchResult result (λ next. Takes header node
+            × (next ≡ Stage.Heading (record header { nodes = header.nodes ++ node ∷ [] })))
+            (HaltsNode header node) }
         ensures kind { result ≢ Err Stop.WriteFault }
     {
         if !header.nets().is_empty() {
@@ -182,7 +198,9 @@ impl<C: Course> Stage<C> {
 
     /// Adds a network to the header.
     fn net(mut header: Header, members: &Members) -> Result<Stage<C>, Stop>
-        ensures next { MatchResult result (λ next. TakesNet header members.now × (next ≡ Stage.Heading (record header { nets = header.nets ++ members.now ∷ [] }))) (HaltsNet header members.now) }
+        ensures next { MatchResult result (λ next. TakesNet header members.now
+            × (next ≡ Stage.Heading (record header { nets = header.nets ++ members.now ∷ [] })))
+            (HaltsNet header members.now) }
         ensures kind { result ≢ Err Stop.WriteFault }
     {
         match header.net(members.numbers()) {
@@ -194,7 +212,9 @@ impl<C: Course> Stage<C> {
 
     /// Reads the first line behind the header, which may end where it has a node and is whole.
     fn first(alloc: Global, header: Header, line: &[u8]) -> Result<Stage<C>, Stop>
-        ensures next { MatchResult result (λ next. IsComplete header × Advances C.refused C.stands (Running header []) line.now next) (HaltsFirst C.refused header line.now) }
+        ensures next { MatchResult result (λ next. IsComplete header
+            × Advances C.refused C.stands (Running header []) line.now next)
+            (HaltsFirst C.refused header line.now) }
         ensures kind { result ≢ Err Stop.WriteFault }
     {
         if !is_complete(&header) {
@@ -208,7 +228,9 @@ impl<C: Course> Stage<C> {
 
     /// Reads a line behind the header.
     fn behind(mut run: Run<C>, line: &[u8]) -> Result<Stage<C>, Stop>
-        ensures next { (p : Progress) → RunStands C.stands p run → MatchResult result (Advances C.refused C.stands p line.now) (Halts C.refused p line.now) }
+        ensures next { (p : Progress) → RunStands C.stands p run
+            → MatchResult result (Advances C.refused C.stands p line.now)
+            (Halts C.refused p line.now) }
         ensures kind { result ≢ Err Stop.WriteFault }
     {
         match run.advance(line) {
@@ -219,7 +241,8 @@ impl<C: Course> Stage<C> {
 
     /// For what cause a line of more than 1,024 octets is refused, of which these are the first 8.
     pub fn refuse_long(&self, start: &[u8]) -> Cause
-        ensures { (p : Progress) → StageStands C.stands p self.now → (line : List ℕ) → 1024 < length line → start.now ≡ take 8 line → Refuses C.refused p line result }
+        ensures { (p : Progress) → StageStands C.stands p self.now → (line : List ℕ)
+            → 1024 < length line → start.now ≡ take 8 line → Refuses C.refused p line result }
     {
         match self {
             Stage::Untitled => Cause::of(b"header"),
@@ -232,7 +255,8 @@ impl<C: Course> Stage<C> {
 
     /// For what cause a long line is refused where a node or a network is expected.
     fn head_refuses_long(header: &Header, start: &[u8]) -> Cause
-        ensures { (line : List ℕ) → 1024 < length line → start.now ≡ take 8 line → Refuses C.refused (Heading header.now) line result }
+        ensures { (line : List ℕ) → 1024 < length line → start.now ≡ take 8 line
+            → Refuses C.refused (Heading header.now) line result }
     {
         if is_node(start) {
             return Cause::of(b"header");
@@ -248,7 +272,8 @@ impl<C: Course> Stage<C> {
 
     /// Whether the input may end, and else for what cause it may not.
     pub fn lacks(&self) -> Option<Cause>
-        ensures { (p : Progress) → StageStands C.stands p self.now → MatchOption result (IsEnded p) (Lacks p) }
+        ensures { (p : Progress) → StageStands C.stands p self.now
+            → MatchOption result (IsEnded p) (Lacks p) }
     {
         match self {
             Stage::Untitled => Some(Cause::of(b"header")),

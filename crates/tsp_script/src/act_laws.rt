@@ -127,7 +127,9 @@ pub fn act_comes_back(line: &Line2) -> Result<Line2, LineFault>
 pub fn one_line_one_act(one: &Line2, other: &Line2)
     requires one { IsNumberOf one.now.placed.act one.now.number }
     requires other { IsNumberOf other.now.placed.act other.now.number }
-    requires same { trace_text one.now.event one.now.node one.now.tick one.now.number one.now.placed ≡ trace_text other.now.event other.now.node other.now.tick other.now.number other.now.placed }
+    requires same { trace_text one.now.event one.now.node one.now.tick one.now.number
+        one.now.placed ≡ trace_text other.now.event other.now.node other.now.tick other.now.number
+        other.now.placed }
     ensures { one.now ≡ other.now }
 {
     line_in_range(one);

@@ -2,7 +2,8 @@
 //!
 //! Each function here reads at least every text that is written; a text may be read too that no act is
 //! written as. `act_of` writes what was read again and compares, so that it reads no other spelling.
-ghost use Rattle.std.specs.Prelude.{◌≡◌, ◌≢◌, ℕ, ◌^◌, ◌<◌, ◌++◌, ◌∷◌, ℤ, Bool, true, false, decimal, Some, IfSome, IsSomeAnd};
+ghost use Rattle.std.specs.Prelude.{◌≡◌, ◌≢◌, ℕ, ◌^◌, ◌<◌, ◌++◌, ◌∷◌, ℤ, Bool, true, false};
+ghost use Rattle.std.specs.Prelude.{decimal, Some, IfSome, IsSomeAnd};
 ghost use Rattle.std.specs.Fmt.{signed_decimal};
 ghost use Rattle.std.specs.Int.{w64};
 ghost use Rattle.std.specs.Int.RustNames.{FitsSigned};
@@ -58,7 +59,8 @@ fn taken_of(text: &[u8]) -> Option<Taken>
 
 /// What follows `took`.
 pub(crate) fn read_took(text: &[u8]) -> Option<Act>
-    ensures reads { (from : Place) (t : Taken) → IsPlace from → IsTaken t → text.now ≡ place_text from ++ 32 ∷ taken_text t → result ≡ Some (Act.Took from t) }
+    ensures reads { (from : Place) (t : Taken) → IsPlace from → IsTaken t
+        → text.now ≡ place_text from ++ 32 ∷ taken_text t → result ≡ Some (Act.Took from t) }
     ensures range { IfSome result IsSilent }
 {
     let (from, rest) = cut(text);
@@ -69,7 +71,8 @@ pub(crate) fn read_took(text: &[u8]) -> Option<Act>
 
 /// What follows `post`: the datagram's number, and the act.
 pub(crate) fn read_post(text: &[u8]) -> Option<(u64, Act)>
-    ensures reads { (number : ℕ) (to : Place) (d : Datagram) → number < 2 ^ 64 → IsPlace to → IsDatagram d → text.now ≡ decimal number ++ 32 ∷ (place_text to ++ 32 ∷ message_text d)
+    ensures reads { (number : ℕ) (to : Place) (d : Datagram) → number < 2 ^ 64 → IsPlace to
+        → IsDatagram d → text.now ≡ decimal number ++ 32 ∷ (place_text to ++ 32 ∷ message_text d)
         → IsSomeAnd result (λ r. (r.0 ≡ number) × (r.1 ≡ Act.Post to d)) }
     ensures range { IfSome result (λ r. (r.0 < 2 ^ 64) × IsAct r.1 × IsNumberOf r.1 r.0) }
 {
@@ -113,7 +116,8 @@ pub(crate) fn read_become(text: &[u8]) -> Option<Act>
 
 /// What follows `arm`.
 pub(crate) fn read_arm(text: &[u8]) -> Option<Act>
-    ensures reads { (a : Alarm) (at : ℕ) → at < 2 ^ 64 → text.now ≡ alarm_word a ++ 32 ∷ decimal at → result ≡ Some (Act.Arm a at) }
+    ensures reads { (a : Alarm) (at : ℕ) → at < 2 ^ 64 → text.now ≡ alarm_word a ++ 32 ∷ decimal at
+        → result ≡ Some (Act.Arm a at) }
     ensures range { IfSome result IsSilent }
 {
     let (alarm, rest) = cut(text);
@@ -124,8 +128,11 @@ pub(crate) fn read_arm(text: &[u8]) -> Option<Act>
 
 /// What follows `sample`.
 pub(crate) fn read_sample(text: &[u8]) -> Option<Act>
-    ensures reads { (p : PeerId) (counter : ℕ) (diff err : ℤ) (ticket : ℕ) → p.0 < 2 ^ 32 → counter < 2 ^ 64 → FitsSigned w64 diff → FitsSigned w64 err → ticket < 2 ^ 16
-        → text.now ≡ decimal p.0 ++ 32 ∷ (decimal counter ++ 32 ∷ (signed_decimal diff ++ 32 ∷ (signed_decimal err ++ 32 ∷ decimal ticket)))
+    ensures reads { (p : PeerId) (counter : ℕ) (diff err : ℤ) (ticket : ℕ) → p.0 < 2 ^ 32
+        → counter < 2 ^ 64 → FitsSigned w64 diff → FitsSigned w64 err → ticket < 2 ^ 16
+        → text.now ≡ decimal
+        p.0 ++ 32 ∷ (decimal counter ++ 32 ∷ (signed_decimal
+        diff ++ 32 ∷ (signed_decimal err ++ 32 ∷ decimal ticket)))
         → result ≡ Some (Act.Sample p counter diff err ticket) }
     ensures range { IfSome result IsSilent }
 {
@@ -147,8 +154,10 @@ pub(crate) fn read_sample(text: &[u8]) -> Option<Act>
 
 /// What follows `close`.
 pub(crate) fn read_close(text: &[u8]) -> Option<Act>
-    ensures reads { (count : ℕ) (lo width mean : ℤ) → count < 2 ^ 32 → FitsSigned w64 lo → FitsSigned w64 width → FitsSigned w64 mean
-        → text.now ≡ decimal count ++ 32 ∷ (signed_decimal lo ++ 32 ∷ (signed_decimal width ++ 32 ∷ signed_decimal mean))
+    ensures reads { (count : ℕ) (lo width mean : ℤ) → count < 2 ^ 32 → FitsSigned w64 lo
+        → FitsSigned w64 width → FitsSigned w64 mean
+        → text.now ≡ decimal
+        count ++ 32 ∷ (signed_decimal lo ++ 32 ∷ (signed_decimal width ++ 32 ∷ signed_decimal mean))
         → result ≡ Some (Act.Close count lo width mean) }
     ensures range { IfSome result IsSilent }
 {
@@ -182,7 +191,9 @@ fn choice_of(word: &[u8], yes: &[u8], no: &[u8]) -> Option<bool>
 
 /// What follows `correct`.
 pub(crate) fn read_correct(text: &[u8]) -> Option<Act>
-    ensures reads { (amount : ℤ) (stepped : Bool) (shown : ℤ) → FitsSigned w64 amount → FitsSigned w64 shown → text.now ≡ signed_decimal amount ++ 32 ∷ (way_text stepped ++ 32 ∷ signed_decimal shown)
+    ensures reads { (amount : ℤ) (stepped : Bool) (shown : ℤ) → FitsSigned w64 amount
+        → FitsSigned w64 shown
+        → text.now ≡ signed_decimal amount ++ 32 ∷ (way_text stepped ++ 32 ∷ signed_decimal shown)
         → result ≡ Some (Act.Correct amount stepped shown) }
     ensures range { IfSome result IsSilent }
 {

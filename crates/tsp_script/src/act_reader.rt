@@ -40,7 +40,8 @@ fn peer_act(verb: Verb, peer: PeerId) -> Option<Act>
 
 /// The act that posts nothing, whose text begins so and goes on so.
 fn read_silent(verb: Verb, rest: &[u8]) -> Option<Act>
-    ensures reads { (a : Act) → IsAct a → verb ≢ Verb.Post → verb ≡ verb_of a → rest.now ≡ rest_of_act 0 a → result ≡ Some a }
+    ensures reads { (a : Act) → IsAct a → verb ≢ Verb.Post → verb ≡ verb_of a
+        → rest.now ≡ rest_of_act 0 a → result ≡ Some a }
     ensures range { IfSome result IsSilent }
 {
     match verb {
@@ -62,7 +63,8 @@ fn read_silent(verb: Verb, rest: &[u8]) -> Option<Act>
 
 /// The number of a post's datagram, or 0, and the act whose text this is.
 fn read_act(text: &[u8]) -> Option<(u64, Act)>
-    ensures reads { (number : ℕ) (a : Act) → IsAct a → IsNumberOf a number → text.now ≡ act_text number a → IsSomeAnd result (λ r. (r.0 ≡ number) × (r.1 ≡ a)) }
+    ensures reads { (number : ℕ) (a : Act) → IsAct a → IsNumberOf a number
+        → text.now ≡ act_text number a → IsSomeAnd result (λ r. (r.0 ≡ number) × (r.1 ≡ a)) }
     ensures range { IfSome result (λ r. IsAct r.1 × IsNumberOf r.1 r.0) }
 {
     let (word, rest) = cut(text);

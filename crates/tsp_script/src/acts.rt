@@ -3,7 +3,8 @@ ghost use Rattle.std.specs.Prelude.{◌≡◌, ℕ, ◌+◌, ◌≤◌, ◌++◌
 ghost use Rattle.std.specs.Fmt.{signed_decimal};
 ghost use Rattle.arrayvec.specs.ArrayVec.{array_vec_len};
 ghost use Rattle.tsp_script.specs.Texts.{space, message_text};
-ghost use Rattle.tsp_script.specs.Traces.{alarm_word, fault_word, role_text, place_text, taken_text, way_word, act_text, is_measured};
+ghost use Rattle.tsp_script.specs.Traces.{alarm_word, fault_word, role_text, place_text};
+ghost use Rattle.tsp_script.specs.Traces.{taken_text, way_word, act_text, is_measured};
 
 use crate::messages::append_datagram;
 use crate::numbers::{
@@ -79,7 +80,8 @@ pub fn append_place(out: &mut ArrayVec<u8, 1024>, place: Place)
 
 fn append_taken(out: &mut ArrayVec<u8, 1024>, from: Place, taken: &Taken)
     requires { array_vec_len out.old + 844 ≤ 1024 }
-    ensures { out.new.items ≡ out.old.items ++ (codes "took " ++ place_text from ++ space ++ taken_text taken.now) }
+    ensures { out.new.items ≡ out.old.items ++ (codes "took " ++ place_text
+        from ++ space ++ taken_text taken.now) }
 {
     append(out, b"took ");
     append_place(out, from);
@@ -95,7 +97,8 @@ fn append_taken(out: &mut ArrayVec<u8, 1024>, from: Place, taken: &Taken)
 
 fn append_post(out: &mut ArrayVec<u8, 1024>, number: u64, to: Place, datagram: &Datagram)
     requires { array_vec_len out.old + 865 ≤ 1024 }
-    ensures { out.new.items ≡ out.old.items ++ (codes "post " ++ decimal number ++ space ++ place_text to ++ space ++ message_text datagram.now) }
+    ensures { out.new.items ≡ out.old.items ++ (codes "post " ++ decimal
+        number ++ space ++ place_text to ++ space ++ message_text datagram.now) }
 {
     append(out, b"post ");
     append_number(out, number);
@@ -127,7 +130,8 @@ fn append_alarm(out: &mut ArrayVec<u8, 1024>, word: &[u8], alarm: Alarm)
 
 fn append_arm(out: &mut ArrayVec<u8, 1024>, alarm: Alarm, at: u64)
     requires { array_vec_len out.old + 40 ≤ 1024 }
-    ensures { out.new.items ≡ out.old.items ++ (codes "arm " ++ alarm_word alarm ++ space ++ decimal at) }
+    ensures { out.new.items ≡ out.old.items ++ (codes "arm " ++ alarm_word alarm ++ space ++ decimal
+        at) }
 {
     append_alarm(out, b"arm ", alarm);
     append_next_number(out, at);
@@ -142,7 +146,9 @@ fn append_sample(
     ticket: u16,
 )
     requires { array_vec_len out.old + 111 ≤ 1024 }
-    ensures { out.new.items ≡ out.old.items ++ (codes "sample " ++ decimal peer.0 ++ space ++ decimal counter ++ space ++ signed_decimal diff ++ space ++ signed_decimal err ++ space ++ decimal ticket) }
+    ensures { out.new.items ≡ out.old.items ++ (codes "sample " ++ decimal
+        peer.0 ++ space ++ decimal counter ++ space ++ signed_decimal
+        diff ++ space ++ signed_decimal err ++ space ++ decimal ticket) }
 {
     append_peer(out, b"sample ", peer);
     append_next_number(out, counter);
@@ -153,7 +159,9 @@ fn append_sample(
 
 fn append_close(out: &mut ArrayVec<u8, 1024>, count: u32, lo: i64, width: i64, mean: i64)
     requires { array_vec_len out.old + 89 ≤ 1024 }
-    ensures { out.new.items ≡ out.old.items ++ (codes "close " ++ decimal count ++ space ++ signed_decimal lo ++ space ++ signed_decimal width ++ space ++ signed_decimal mean) }
+    ensures { out.new.items ≡ out.old.items ++ (codes "close " ++ decimal
+        count ++ space ++ signed_decimal lo ++ space ++ signed_decimal
+        width ++ space ++ signed_decimal mean) }
 {
     append(out, b"close ");
     append_number(out, count as u64);
@@ -164,7 +172,8 @@ fn append_close(out: &mut ArrayVec<u8, 1024>, count: u32, lo: i64, width: i64, m
 
 fn append_correct(out: &mut ArrayVec<u8, 1024>, amount: i64, stepped: bool, shown: i64)
     requires { array_vec_len out.old + 54 ≤ 1024 }
-    ensures { out.new.items ≡ out.old.items ++ (codes "correct " ++ signed_decimal amount ++ way_word stepped ++ signed_decimal shown) }
+    ensures { out.new.items ≡ out.old.items ++ (codes "correct " ++ signed_decimal
+        amount ++ way_word stepped ++ signed_decimal shown) }
 {
     append(out, b"correct ");
     append_signed(out, amount);

@@ -1,12 +1,14 @@
 //! The lines of a schedule behind its header.
-ghost use Rattle.std.specs.Prelude.{◌≡◌, ◌≢◌, ℕ, ◌^◌, ◌<◌, ◌≤◌, ◌+◌, ◌++◌, ◌∷◌, List, [], length, decimal, codes, IfSome, IsSomeAnd};
+ghost use Rattle.std.specs.Prelude.{◌≡◌, ◌≢◌, ℕ, ◌^◌, ◌<◌, ◌≤◌, ◌+◌, ◌++◌, ◌∷◌, List, [], length};
+ghost use Rattle.std.specs.Prelude.{decimal, codes, IfSome, IsSomeAnd};
 ghost use Rattle.arrayvec.specs.ArrayVec.{array_vec_len};
 ghost use Rattle.hex.specs.Hex.{decode_of};
 ghost use Rattle.tsp_base.specs.declared.event.Event.{Event};
 ghost use Rattle.tsp_base.specs.declared.place.Place.{Place};
 ghost use Rattle.tsp_base.specs.declared.place.Port.{Port};
 ghost use Rattle.tsp_script.specs.declared.event_line.EventItem.{EventItem};
-ghost use Rattle.tsp_script.specs.Schedules.{event_text, port_text, NamesPort, IsHexOf, IsPlace, IsEvent, SpellsEvent, SpellsRest, ReadsEvent};
+ghost use Rattle.tsp_script.specs.Schedules.{event_text, port_text, NamesPort, IsHexOf, IsPlace};
+ghost use Rattle.tsp_script.specs.Schedules.{IsEvent, SpellsEvent, SpellsRest, ReadsEvent};
 ghost use Rattle.tsp_script.specs.Traces.{place_text};
 
 use crate::acts::append_place;
@@ -66,7 +68,8 @@ fn event_text(event: &Event, hex: &[u8]) -> ArrayVec<u8, 1024>
 /// Writes an event's time, a word between spaces and a number.
 fn append_at(out: &mut ArrayVec<u8, 1024>, at: u64, verb: &[u8], number: u64)
     requires { array_vec_len out.old + length verb.now + 43 ≤ 1024 }
-    ensures text { out.new.items ≡ out.old.items ++ (codes "at " ++ decimal at ++ verb.now ++ decimal number) }
+    ensures text { out.new.items ≡ out.old.items ++ (codes "at " ++ decimal at ++ verb.now ++ decimal
+        number) }
     ensures short { array_vec_len out.new ≤ array_vec_len out.old + length verb.now + 43 }
 {
     append(out, b"at ");
@@ -90,7 +93,8 @@ fn append_port(out: &mut ArrayVec<u8, 1024>, port: Port)
 /// The node and its port that a word names: `N` is port 0, `N/Q` port Q. A word that ends with a stroke
 /// may be read too.
 fn node_of(word: &[u8]) -> Option<(u32, Port)>
-    ensures reads { (node : ℕ) (port : Port) → node < 2 ^ 32 → port.0 < 2 ^ 8 → word.now ≡ decimal node ++ port_text port
+    ensures reads { (node : ℕ) (port : Port) → node < 2 ^ 32 → port.0 < 2 ^ 8
+        → word.now ≡ decimal node ++ port_text port
         → IsSomeAnd result (λ r. (r.0 ≡ node) × (r.1 ≡ port)) }
     ensures range { IfSome result (λ r. (r.0 < 2 ^ 32) × (r.1.0 < 2 ^ 8)) }
 {
@@ -130,8 +134,8 @@ pub(crate) fn place_of(word: &[u8]) -> Option<Place>
 /// Reads what follows `boot`.
 fn read_boot(at: u64, line: &[u8]) -> Option<Event>
     requires { at ≤ 1000000000000000 }
-    ensures reads { (node word : ℕ) → node < 2 ^ 32 → word < 2 ^ 64 → line.now ≡ decimal node ++ 32 ∷ decimal word
-        → result ≡ Some (Event.Boot at node word) }
+    ensures reads { (node word : ℕ) → node < 2 ^ 32 → word < 2 ^ 64
+        → line.now ≡ decimal node ++ 32 ∷ decimal word → result ≡ Some (Event.Boot at node word) }
     ensures range { IfSome result (λ e. IsEvent e × IsHexOf [] e) }
 {
     let (node, line) = next_number(line)?;
@@ -143,7 +147,8 @@ fn read_boot(at: u64, line: &[u8]) -> Option<Event>
 /// Reads what follows `turn`.
 fn read_turn(at: u64, line: &[u8]) -> Option<Event>
     requires { at ≤ 1000000000000000 }
-    ensures reads { (node : ℕ) → node < 2 ^ 32 → line.now ≡ decimal node → result ≡ Some (Event.Turn at node) }
+    ensures reads { (node : ℕ) → node < 2 ^ 32 → line.now ≡ decimal node
+        → result ≡ Some (Event.Turn at node) }
     ensures range { IfSome result (λ e. IsEvent e × IsHexOf [] e) }
     ensures spells { IfSome result (λ e. SpellsRest at (codes "turn") line.now e) }
 {
@@ -155,7 +160,8 @@ fn read_turn(at: u64, line: &[u8]) -> Option<Event>
 /// Reads what follows `take`.
 fn read_take(at: u64, line: &[u8]) -> Option<Event>
     requires { at ≤ 1000000000000000 }
-    ensures reads { (datagram : ℕ) → datagram < 2 ^ 64 → line.now ≡ decimal datagram → result ≡ Some (Event.Take at datagram) }
+    ensures reads { (datagram : ℕ) → datagram < 2 ^ 64 → line.now ≡ decimal datagram
+        → result ≡ Some (Event.Take at datagram) }
     ensures range { IfSome result (λ e. IsEvent e × IsHexOf [] e) }
     ensures spells { IfSome result (λ e. SpellsRest at (codes "take") line.now e) }
 {
@@ -166,11 +172,13 @@ fn read_take(at: u64, line: &[u8]) -> Option<Event>
 /// Reads what follows `bytes`, and gives the hexadecimal too.
 fn read_bytes(at: u64, line: &[u8]) -> Option<(Event, &[u8])>
     requires { at ≤ 1000000000000000 }
-    ensures reads { (node : ℕ) (port : Port) (from : Place) (octets hex : List ℕ) → node < 2 ^ 32 → port.0 < 2 ^ 8 → IsPlace from
-        → 1 ≤ length octets → length octets ≤ 300 → decode_of hex ≡ Ok octets
+    ensures reads { (node : ℕ) (port : Port) (from : Place) (octets hex : List ℕ) → node < 2 ^ 32
+        → port.0 < 2 ^ 8 → IsPlace from → 1 ≤ length octets → length octets ≤ 300
+        → decode_of hex ≡ Ok octets
         → line.now ≡ (decimal node ++ port_text port) ++ 32 ∷ (place_text from ++ 32 ∷ hex)
         → IsSomeAnd result (λ r. (r.0 ≡ Event.Bytes at node port from octets) × (r.1.now ≡ hex)) }
-    ensures range { IfSome result (λ r. IsEvent r.0 × IsHexOf r.1.now r.0 × (length r.1.now ≤ 600)) }
+    ensures range { IfSome result (λ r. IsEvent r.0 × IsHexOf r.1.now r.0
+        × (length r.1.now ≤ 600)) }
 {
     let (node, line) = cut(line);
     let (node, port) = node_of(node)?;
@@ -191,8 +199,10 @@ fn read_bytes(at: u64, line: &[u8]) -> Option<(Event, &[u8])>
 
 /// The 1 to 300 octets that hexadecimal spells, in either case; None where it spells no so many.
 fn handed_of(hex: &[u8]) -> Option<Octets>
-    ensures found { IfSome result (λ octets. (decode_of hex.now ≡ Ok octets) × (1 ≤ length octets) × (length octets ≤ 300) × (length hex.now ≤ 600)) }
-    ensures reads { (octets : List ℕ) → 1 ≤ length octets → length octets ≤ 300 → decode_of hex.now ≡ Ok octets → result ≡ Some octets }
+    ensures found { IfSome result (λ octets. (decode_of hex.now ≡ Ok octets) × (1 ≤ length octets)
+        × (length octets ≤ 300) × (length hex.now ≤ 600)) }
+    ensures reads { (octets : List ℕ) → 1 ≤ length octets → length octets ≤ 300
+        → decode_of hex.now ≡ Ok octets → result ≡ Some octets }
 {
     if hex.len() > 600 {
         return None;
@@ -207,9 +217,10 @@ fn handed_of(hex: &[u8]) -> Option<Octets>
 
 /// Reads an event's line, and gives its hexadecimal too: none but for `bytes`.
 fn read_event(line: &[u8]) -> Option<(Event, &[u8])>
-    ensures reads { (e : Event) (hex : List ℕ) → IsEvent e → IsHexOf hex e → line.now ≡ event_text e hex
-        → IsSomeAnd result (λ r. (r.0 ≡ e) × (r.1.now ≡ hex)) }
-    ensures range { IfSome result (λ r. IsEvent r.0 × IsHexOf r.1.now r.0 × (length r.1.now ≤ 600)) }
+    ensures reads { (e : Event) (hex : List ℕ) → IsEvent e → IsHexOf hex e
+        → line.now ≡ event_text e hex → IsSomeAnd result (λ r. (r.0 ≡ e) × (r.1.now ≡ hex)) }
+    ensures range { IfSome result (λ r. IsEvent r.0 × IsHexOf r.1.now r.0
+        × (length r.1.now ≤ 600)) }
 {
     let (_, line) = cut(line);
     let (at, line) = next_number(line)?;
@@ -252,7 +263,8 @@ pub fn event_line(line: &[u8]) -> Result<EventItem, LineFault>
     }
 }
 
-/// The event of a line as most are: a turn, a take, or octets on port 0. None too where the line is another event's.
+/// The event of a line as most are: a turn, a take, or octets on port 0. None too where the line is
+/// another event's.
 fn common_event(line: &[u8]) -> Option<Event>
     ensures { IfSome result (λ e. SpellsEvent line.now (EventItem.Event e)) }
 {
@@ -274,7 +286,8 @@ fn common_event(line: &[u8]) -> Option<Event>
 /// Reads what follows `bytes`, of octets on port 0.
 fn common_bytes(at: u64, line: &[u8]) -> Option<Event>
     requires { at ≤ 1000000000000000 }
-    ensures { IfSome result (λ e. IsEvent e × ((hex : List ℕ) × IsHexOf hex e × (codes "at " ++ (decimal at ++ 32 ∷ (codes "bytes " ++ line.now)) ≡ event_text e hex))) }
+    ensures { IfSome result (λ e. IsEvent e × ((hex : List ℕ) × IsHexOf hex e
+        × (codes "at " ++ (decimal at ++ 32 ∷ (codes "bytes " ++ line.now)) ≡ event_text e hex))) }
 {
     let (node, line) = front_number(line)?;
     let node = long_of(node)?;

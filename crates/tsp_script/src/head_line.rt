@@ -1,5 +1,6 @@
 //! The lines of a schedule's header.
-ghost use Rattle.std.specs.Prelude.{Bool, ◌≡◌, ℕ, ℤ, ◌^◌, ◌<◌, ◌≤◌, ◌+◌, ◌++◌, ◌∷◌, List, length, decimal, codes, nat_abs, IfSome, MatchOption, IsTrue, ◌↔◌};
+ghost use Rattle.std.specs.Prelude.{Bool, ◌≡◌, ℕ, ℤ, ◌^◌, ◌<◌, ◌≤◌, ◌+◌, ◌++◌, ◌∷◌, List, length};
+ghost use Rattle.std.specs.Prelude.{decimal, codes, nat_abs, IfSome, MatchOption, IsTrue, ◌↔◌};
 ghost use Rattle.std.specs.Fmt.{signed_decimal};
 ghost use Rattle.std.specs.List.{AllPass};
 ghost use Rattle.arrayvec.specs.ArrayVec.{array_vec_len};
@@ -79,8 +80,8 @@ fn flag_of(word: &[u8]) -> Option<bool>
 /// Reads what follows `node`.
 fn read_node(line: &[u8]) -> Option<NodeLine>
     ensures reads { (n : NodeLine) → IsNodeLine n
-        → line.now ≡ n.name ++ 32 ∷ (signed_decimal n.rate ++ 32 ∷ (signed_decimal n.wall ++ 32 ∷ flag_text n.may))
-        → result ≡ Some n }
+        → line.now ≡ n.name ++ 32 ∷ (signed_decimal
+        n.rate ++ 32 ∷ (signed_decimal n.wall ++ 32 ∷ flag_text n.may)) → result ≡ Some n }
     ensures range { IfSome result IsNodeLine }
 {
     let (name, line) = cut(line);
@@ -124,7 +125,8 @@ fn node_text(node: &NodeLine) -> ArrayVec<u8, 1024>
 
 /// What follows this beginning in a line that has it.
 pub(crate) fn after<'a>(line: &'a [u8], front: &[u8]) -> Option<&'a [u8]>
-    ensures { MatchOption result ((rest : List ℕ) → line.now ≡ front.now ++ rest → ⊥) (λ r. line.now ≡ front.now ++ r.now) }
+    ensures { MatchOption result ((rest : List ℕ) → line.now ≡ front.now ++ rest
+        → ⊥) (λ r. line.now ≡ front.now ++ r.now) }
 {
     if line.len() < front.len() {
         return None;

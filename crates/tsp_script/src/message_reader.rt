@@ -21,8 +21,10 @@ use tsp_base::stamp::Stamp;
 
 /// Reads what follows `request`.
 fn read_request(line: &[u8]) -> Option<Datagram>
-    ensures found { IfSome result (λ d. IsDatagram d × (0 < length line.now) × (codes "request" ++ 32 ∷ line.now ≡ message_text d)) }
-    ensures reads { (word counter : ℕ) → word < 2 ^ 64 → counter < 2 ^ 64 → line.now ≡ decimal word ++ 32 ∷ decimal counter
+    ensures found { IfSome result (λ d. IsDatagram d × (0 < length line.now)
+        × (codes "request" ++ 32 ∷ line.now ≡ message_text d)) }
+    ensures reads { (word counter : ℕ) → word < 2 ^ 64 → counter < 2 ^ 64
+        → line.now ≡ decimal word ++ 32 ∷ decimal counter
         → result ≡ Some (Datagram.Stamp (Stamp.Request word counter)) }
 {
     let (word, line) = next_number(line)?;
@@ -32,10 +34,13 @@ fn read_request(line: &[u8]) -> Option<Datagram>
 
 /// Reads what follows `reply`.
 fn read_reply(line: &[u8]) -> Option<Datagram>
-    ensures found { IfSome result (λ d. IsDatagram d × (0 < length line.now) × (codes "reply" ++ 32 ∷ line.now ≡ message_text d)) }
-    ensures reads { (r : ReplyValue) → r.word < 2 ^ 64 → r.counter < 2 ^ 64 → IsReply r.ticket r.reading
-        → line.now ≡ decimal r.ticket ++ 32 ∷ (decimal r.word ++ 32 ∷ (decimal r.counter ++ 32 ∷ signed_decimal r.reading))
-        → result ≡ Some (Datagram.Stamp (Stamp.Reply r)) }
+    ensures found { IfSome result (λ d. IsDatagram d × (0 < length line.now)
+        × (codes "reply" ++ 32 ∷ line.now ≡ message_text d)) }
+    ensures reads { (r : ReplyValue) → r.word < 2 ^ 64 → r.counter < 2 ^ 64
+        → IsReply r.ticket r.reading
+        → line.now ≡ decimal
+        r.ticket ++ 32 ∷ (decimal r.word ++ 32 ∷ (decimal r.counter ++ 32 ∷ signed_decimal
+        r.reading)) → result ≡ Some (Datagram.Stamp (Stamp.Reply r)) }
 {
     let (ticket, line) = next_number(line)?;
     let (word, line) = next_number(line)?;
@@ -46,8 +51,23 @@ fn read_reply(line: &[u8]) -> Option<Datagram>
 
 /// The reply of these values.
 fn reply_of(ticket: u64, word: u64, counter: u64, reading: i64) -> Option<Datagram>
-    ensures found { IfSome result (λ d. IsReply ticket reading × (d ≡ Datagram.Stamp (Stamp.Reply (record { ticket = ticket; word = word; counter = counter; reading = reading })))) }
-    ensures reads { IsReply ticket reading → result ≡ Some (Datagram.Stamp (Stamp.Reply (record { ticket = ticket; word = word; counter = counter; reading = reading }))) }
+    ensures found { IfSome result (λ d. IsReply ticket reading
+        × (d ≡ Datagram.Stamp
+        (Stamp.Reply (record {
+          ticket = ticket;
+          word = word;
+          counter = counter;
+          reading = reading;
+        })))) }
+    ensures reads { IsReply ticket reading
+        → result ≡ Some
+        (Datagram.Stamp
+        (Stamp.Reply (record {
+          ticket = ticket;
+          word = word;
+          counter = counter;
+          reading = reading;
+        }))) }
 {
     let ticket = short_of(ticket)?;
     let stamp = Stamp::reply(ticket, word, counter, reading)?;
@@ -56,8 +76,10 @@ fn reply_of(ticket: u64, word: u64, counter: u64, reading: i64) -> Option<Datagr
 
 /// Reads what stands between a message's number and its name, and gives what follows.
 fn next_body(kind: Kind, line: &[u8]) -> Option<(Body, &[u8])>
-    ensures found { IfSome result (λ r. IsBody r.0 × (body_fits kind r.0 ≡ true) × (0 < length r.1.now → line.now ≡ body_text r.0 ++ r.1.now)) }
-    ensures reads { (body : Body) (rest : List ℕ) → IsBody body → body_fits kind body ≡ true → line.now ≡ body_text body ++ rest
+    ensures found { IfSome result (λ r. IsBody r.0 × (body_fits kind r.0 ≡ true)
+        × (0 < length r.1.now → line.now ≡ body_text r.0 ++ r.1.now)) }
+    ensures reads { (body : Body) (rest : List ℕ) → IsBody body → body_fits kind body ≡ true
+        → line.now ≡ body_text body ++ rest
         → IsSomeAnd result (λ r. (r.0 ≡ body) × (r.1.now ≡ rest)) }
 {
     if kind.carries_time() {
@@ -71,8 +93,10 @@ fn next_body(kind: Kind, line: &[u8]) -> Option<(Body, &[u8])>
 
 /// Reads a time, and gives what follows.
 fn next_time(line: &[u8]) -> Option<(Body, &[u8])>
-    ensures found { IfSome result (λ r. IsBody r.0 × IsTimeBody r.0 × (0 < length r.1.now → line.now ≡ body_text r.0 ++ r.1.now)) }
-    ensures reads { (body : Body) (rest : List ℕ) → IsBody body → IsTimeBody body → line.now ≡ body_text body ++ rest
+    ensures found { IfSome result (λ r. IsBody r.0 × IsTimeBody r.0 × (0 < length r.1.now
+        → line.now ≡ body_text r.0 ++ r.1.now)) }
+    ensures reads { (body : Body) (rest : List ℕ) → IsBody body → IsTimeBody body
+        → line.now ≡ body_text body ++ rest
         → IsSomeAnd result (λ r. (r.0 ≡ body) × (r.1.now ≡ rest)) }
 {
     let (time, rest) = next_signed(line)?;
@@ -82,8 +106,10 @@ fn next_time(line: &[u8]) -> Option<(Body, &[u8])>
 
 /// Reads a hop count, and gives what follows.
 fn next_hops(line: &[u8]) -> Option<(Body, &[u8])>
-    ensures found { IfSome result (λ r. IsBody r.0 × IsHopsBody r.0 × (0 < length r.1.now → line.now ≡ body_text r.0 ++ r.1.now)) }
-    ensures reads { (body : Body) (rest : List ℕ) → IsBody body → IsHopsBody body → line.now ≡ body_text body ++ rest
+    ensures found { IfSome result (λ r. IsBody r.0 × IsHopsBody r.0 × (0 < length r.1.now
+        → line.now ≡ body_text r.0 ++ r.1.now)) }
+    ensures reads { (body : Body) (rest : List ℕ) → IsBody body → IsHopsBody body
+        → line.now ≡ body_text body ++ rest
         → IsSomeAnd result (λ r. (r.0 ≡ body) × (r.1.now ≡ rest)) }
 {
     let (hops, rest) = next_number(line)?;
@@ -93,7 +119,8 @@ fn next_hops(line: &[u8]) -> Option<(Body, &[u8])>
 
 /// Reads what follows a message's word.
 fn read_plain(word: &[u8], line: &[u8]) -> Option<Datagram>
-    ensures found { IfSome result (λ d. IsDatagram d × (0 < length line.now) × (word.now ++ 32 ∷ line.now ≡ message_text d)) }
+    ensures found { IfSome result (λ d. IsDatagram d × (0 < length line.now)
+        × (word.now ++ 32 ∷ line.now ≡ message_text d)) }
     ensures reads { (m : MessageValue) → IsMessage m → word.now ≡ kind_word m.kind
         → line.now ≡ decimal m.number ++ 32 ∷ (body_text m.body ++ name_text m.name)
         → result ≡ Some (Datagram.Message m) }

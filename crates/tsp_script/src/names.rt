@@ -1,5 +1,6 @@
 //! Name texts.
-ghost use Rattle.std.specs.Prelude.{◌≡◌, ◌≢◌, ℕ, ◌+◌, ◌*◌, ◌^◌, ◌≤◌, ◌<◌, ◌++◌, [], ◌∷◌, List, length, flat_map, IfSome, IsSomeAnd, codes, MatchBool};
+ghost use Rattle.std.specs.Prelude.{◌≡◌, ◌≢◌, ℕ, ◌+◌, ◌*◌, ◌^◌, ◌≤◌, ◌<◌, ◌++◌, [], ◌∷◌, List};
+ghost use Rattle.std.specs.Prelude.{length, flat_map, IfSome, IsSomeAnd, codes, MatchBool};
 ghost use Rattle.std.specs.List.{AllPass};
 ghost use Rattle.arrayvec.specs.ArrayVec.{array_vec_len};
 ghost use Rattle.hex.specs.Hex.{encode_lower, IsBytes};
@@ -94,7 +95,8 @@ fn octet_of(pair: &[u8]) -> Option<u8>
 
 /// Whether these are the two digits of an octet, in lower case.
 fn is_pair_of(pair: &[u8], octet: u8) -> bool
-    ensures { MatchBool result (pair.now ≡ encode_lower (octet ∷ [])) (pair.now ≡ encode_lower (octet ∷ []) → ⊥) }
+    ensures { MatchBool result (pair.now ≡ encode_lower (octet ∷ []))
+        (pair.now ≡ encode_lower (octet ∷ []) → ⊥) }
 {
     let mut digits = [0u8; 2];
     let _ = hex::encode_to_slice([octet], &mut digits);
@@ -104,7 +106,8 @@ fn is_pair_of(pair: &[u8], octet: u8) -> bool
 /// The octet whose text stands first, and what follows that text.
 fn first_octet(text: &[u8]) -> Option<(u8, &[u8])>
     ensures found { IfSome result (λ r. (r.0 < 2 ^ 8) × (text.now ≡ escaped r.0 ++ r.1.now)) }
-    ensures reads { (c : ℕ) (rest : List ℕ) → c < 2 ^ 8 → text.now ≡ escaped c ++ rest → IsSomeAnd result (λ r. (r.0 ≡ c) × (r.1.now ≡ rest)) }
+    ensures reads { (c : ℕ) (rest : List ℕ) → c < 2 ^ 8 → text.now ≡ escaped c ++ rest
+        → IsSomeAnd result (λ r. (r.0 ≡ c) × (r.1.now ≡ rest)) }
     ensures shorter { IfSome result (λ r. length r.1.now < length text.now) }
 {
     let (first, rest) = text.split_first()?;
@@ -127,8 +130,10 @@ fn first_octet(text: &[u8]) -> Option<(u8, &[u8])>
 
 /// The name that has this text; None exactly where no name has it.
 pub(crate) fn name_of(text: &[u8]) -> Option<Name>
-    ensures found { IfSome result (λ name. IsName name × IsBytes name × (text.now ≡ name_text name)) }
-    ensures reads { (name : List ℕ) → IsName name → IsBytes name → text.now ≡ name_text name → result ≡ Some name }
+    ensures found { IfSome result (λ name. IsName name × IsBytes name
+        × (text.now ≡ name_text name)) }
+    ensures reads { (name : List ℕ) → IsName name → IsBytes name → text.now ≡ name_text name
+        → result ≡ Some name }
 {
     if is_same(text, b"%") {
         return Some(Name::empty());
@@ -146,8 +151,10 @@ pub(crate) fn name_of(text: &[u8]) -> Option<Name>
 fn unescaped(text: &[u8]) -> Option<Name>
     requires some { 0 < length text.now }
     requires not_empty { text.now ≢ codes "%" }
-    ensures found { IfSome result (λ name. IsName name × IsBytes name × (text.now ≡ name_text name)) }
-    ensures reads { (name : List ℕ) → IsName name → IsBytes name → text.now ≡ name_text name → result ≡ Some name }
+    ensures found { IfSome result (λ name. IsName name × IsBytes name
+        × (text.now ≡ name_text name)) }
+    ensures reads { (name : List ℕ) → IsName name → IsBytes name → text.now ≡ name_text name
+        → result ≡ Some name }
 {
     let mut octets = ArrayVec::<u8, 255>::new();
     let mut rest = text;

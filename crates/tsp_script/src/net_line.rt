@@ -15,7 +15,8 @@ use tsp_base::members::{Members, is_ascending};
 /// read too.
 fn next_member(text: &[u8]) -> Option<(u32, &[u8])>
     requires { 0 < length text.now }
-    ensures reads { (n : ℕ) (ns : List ℕ) → n < 2 ^ 32 → text.now ≡ joined_text (n ∷ ns) → IsSomeAnd result (λ r. (r.0 ≡ n) × (r.1.now ≡ joined_text ns)) }
+    ensures reads { (n : ℕ) (ns : List ℕ) → n < 2 ^ 32 → text.now ≡ joined_text (n ∷ ns)
+        → IsSomeAnd result (λ r. (r.0 ≡ n) × (r.1.now ≡ joined_text ns)) }
     ensures small { IfSome result (λ r. r.0 < 2 ^ 32) }
     ensures shorter { IfSome result (λ r. length r.1.now < length text.now) }
 {
@@ -27,7 +28,8 @@ fn next_member(text: &[u8]) -> Option<(u32, &[u8])>
 
 /// At most 64 numbers of which a text tells. A text of no numbers may be read too.
 fn numbers_in(text: &[u8]) -> Option<ArrayVec<u32, 64>>
-    ensures reads { (ns : List ℕ) → IsNetLine ns → text.now ≡ joined_text ns → IsSomeAnd result (λ r. r.items ≡ ns) }
+    ensures reads { (ns : List ℕ) → IsNetLine ns → text.now ≡ joined_text ns
+        → IsSomeAnd result (λ r. r.items ≡ ns) }
     ensures small { IfSome result (λ r. All (λ n. n < 2 ^ 32) r.items) }
 {
     let mut numbers = ArrayVec::new();
@@ -44,7 +46,8 @@ fn numbers_in(text: &[u8]) -> Option<ArrayVec<u32, 64>>
 
 /// Reads what follows `net`.
 fn read_net(text: &[u8]) -> Option<Members>
-    ensures reads { (members : List ℕ) → IsNetLine members → text.now ≡ joined_text members → result ≡ Some members }
+    ensures reads { (members : List ℕ) → IsNetLine members → text.now ≡ joined_text members
+        → result ≡ Some members }
     ensures range { IfSome result IsNetLine }
 {
     let numbers = numbers_in(text)?;

@@ -1,5 +1,6 @@
 //! Numbers and octets as text.
-ghost use Rattle.std.specs.Prelude.{◌≡◌, ℕ, ◌+◌, ◌*◌, ◌^◌, ◌≤◌, ◌<◌, ◌++◌, length, take, decimal, IfSome, IfNone, Ok, MatchBool, IsErr, ℤ, List, IsSomeAnd, ◌∷◌};
+ghost use Rattle.std.specs.Prelude.{◌≡◌, ℕ, ◌+◌, ◌*◌, ◌^◌, ◌≤◌, ◌<◌, ◌++◌, length, take, decimal};
+ghost use Rattle.std.specs.Prelude.{IfSome, IfNone, Ok, MatchBool, IsErr, ℤ, List, IsSomeAnd, ◌∷◌};
 ghost use Rattle.std.specs.Int.{w64};
 ghost use Rattle.std.specs.Int.RustNames.{FitsSigned};
 ghost use Rattle.std.specs.Fmt.{signed_decimal};
@@ -175,7 +176,8 @@ pub fn signed_of(word: &[u8]) -> Option<i64>
 
 /// Whether the word is the text of the number with a sign.
 fn is_signed_text_of(word: &[u8], number: i64) -> bool
-    ensures { MatchBool result (word.now ≡ signed_decimal number) (word.now ≡ signed_decimal number → ⊥) }
+    ensures { MatchBool result (word.now ≡ signed_decimal number) (word.now ≡ signed_decimal number
+        → ⊥) }
 {
     let mut buffer = Buffer::new();
     let text = buffer.format(number).as_bytes();
@@ -212,8 +214,10 @@ pub fn octets_in(line: &[u8], buffer: &mut [u8; 512]) -> Option<usize>
 /// The number that stands before the first space, and what follows the space. A line without a space
 /// may be read too.
 pub(crate) fn next_number(line: &[u8]) -> Option<(u64, &[u8])>
-    ensures found { IfSome result (λ r. (r.0 < 2 ^ 64) × (0 < length r.1.now → line.now ≡ decimal r.0 ++ 32 ∷ r.1.now)) }
-    ensures reads { (n : ℕ) (rest : List ℕ) → n < 2 ^ 64 → line.now ≡ decimal n ++ 32 ∷ rest → IsSomeAnd result (λ r. (r.0 ≡ n) × (r.1.now ≡ rest)) }
+    ensures found { IfSome result (λ r. (r.0 < 2 ^ 64) × (0 < length r.1.now
+        → line.now ≡ decimal r.0 ++ 32 ∷ r.1.now)) }
+    ensures reads { (n : ℕ) (rest : List ℕ) → n < 2 ^ 64 → line.now ≡ decimal n ++ 32 ∷ rest
+        → IsSomeAnd result (λ r. (r.0 ≡ n) × (r.1.now ≡ rest)) }
 {
     let (word, rest) = cut(line);
     let number = number_of(word)?;
@@ -233,8 +237,11 @@ pub(crate) fn front_number(line: &[u8]) -> Option<(u64, &[u8])>
 /// The number with its sign that stands before the first space, and what follows the space. A line
 /// without a space may be read too.
 pub(crate) fn next_signed(line: &[u8]) -> Option<(i64, &[u8])>
-    ensures found { IfSome result (λ r. 0 < length r.1.now → line.now ≡ signed_decimal r.0 ++ 32 ∷ r.1.now) }
-    ensures reads { (n : ℤ) (rest : List ℕ) → FitsSigned w64 n → line.now ≡ signed_decimal n ++ 32 ∷ rest → IsSomeAnd result (λ r. (r.0 ≡ n) × (r.1.now ≡ rest)) }
+    ensures found { IfSome result (λ r. 0 < length r.1.now
+        → line.now ≡ signed_decimal r.0 ++ 32 ∷ r.1.now) }
+    ensures reads { (n : ℤ) (rest : List ℕ) → FitsSigned w64 n
+        → line.now ≡ signed_decimal n ++ 32 ∷ rest
+        → IsSomeAnd result (λ r. (r.0 ≡ n) × (r.1.now ≡ rest)) }
 {
     let (word, rest) = cut(line);
     let number = signed_of(word)?;

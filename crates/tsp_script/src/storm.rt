@@ -44,14 +44,30 @@ impl Model for Storm {
 
     ghost Value = { StormValue };
 
-    ghost view = { λ s. record { state = s.state; nodes = s.nodes; named = s.named; given = s.given; at = s.at; asked = s.asked } };
+    ghost view = { λ s. record {
+      state = s.state;
+      nodes = s.nodes;
+      named = s.named;
+      given = s.given;
+      at = s.at;
+      asked = s.asked;
+    } };
 
-    ghost invariant = { λ s. IsStorm (record { state = s.state; nodes = s.nodes; named = s.named; given = s.given; at = s.at; asked = s.asked }) };
+    ghost invariant = { λ s. IsStorm (record {
+      state = s.state;
+      nodes = s.nodes;
+      named = s.named;
+      given = s.given;
+      at = s.at;
+      asked = s.asked;
+    }) };
 }
 
 impl Storm {
     ghost use Rattle.std.specs.Prelude.{None, pos, ◌-ℤ◌};
-    ghost use Rattle.tsp_script.specs.Storms.{storm_begins, moved, drawn, storm_line, storm_named, gave, boots_next, turns_one, asks_one, asks_or_turns, storm_draw, storm_take, storm_next, IsDraw};
+    ghost use Rattle.tsp_script.specs.Storms.{storm_begins, moved, drawn, storm_line, storm_named};
+    ghost use Rattle.tsp_script.specs.Storms.{gave, boots_next, turns_one, asks_one, asks_or_turns};
+    ghost use Rattle.tsp_script.specs.Storms.{storm_draw, storm_take, storm_next, IsDraw};
 
     /// The generator that begins with this number, for 1 to 64 nodes.
     pub fn new(seed: u64, nodes: u32) -> Storm

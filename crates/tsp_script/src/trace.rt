@@ -25,7 +25,8 @@ pub struct Line2 {
 
 /// The trace's line of an act, without a line end, in at most 1,024 octets.
 pub fn act_text(line: &Line2) -> ArrayVec<u8, 1024>
-    ensures { result.items ≡ trace_text line.now.event line.now.node line.now.tick line.now.number line.now.placed }
+    ensures { result.items ≡ trace_text line.now.event line.now.node line.now.tick line.now.number
+        line.now.placed }
 {
     placed_text(line.event, line.node, line.tick, line.number, &line.placed)
 }
@@ -45,8 +46,8 @@ pub fn placed_text(
     out
 }
 
-/// Writes the trace's line of an act, without a line end, in at most 949 octets. The number is read for a post
-/// alone.
+/// Writes the trace's line of an act, without a line end, in at most 949 octets. The number is read
+/// for a post alone.
 pub fn append_placed(
     out: &mut ArrayVec<u8, 1024>,
     event: u64,

@@ -1,11 +1,12 @@
 //! Words of a line.
-ghost use Rattle.std.specs.Prelude.{◌≡◌, ℕ, ◌<◌, ◌++◌, ◌∷◌, length, take, Contains, MatchBool, MatchOption, slice_index_or};
+ghost use Rattle.std.specs.Prelude.{◌≡◌, ℕ, ◌<◌, ◌++◌, ◌∷◌, length, take, Contains, MatchBool};
+ghost use Rattle.std.specs.Prelude.{MatchOption, slice_index_or};
 ghost use Rattle.tsp_script.specs.Words.{before_mark, after_mark, first_word, after_word};
 
 /// The place of the first octet of this value.
 pub(crate) fn mark_at(line: &[u8], mark: u8) -> Option<usize>
-    ensures { MatchOption result (¬ Contains line.now mark)
-        (λ i. (i < length line.now) × ¬ Contains (take i line.now) mark × (slice_index_or line.now i 0 ≡ mark)) }
+    ensures { MatchOption result (¬ Contains line.now mark) (λ i. (i < length line.now)
+        × ¬ Contains (take i line.now) mark × (slice_index_or line.now i 0 ≡ mark)) }
 {
     let mut i = 0;
     for octet in line {

@@ -55,7 +55,8 @@ impl Sends {
     pub fn begin(&mut self, peer: PeerId, m: Message, tick: u64)
         requires peer { Contains (peers_of self.old) peer }
         requires tick { tick ≤ 2 ^ 61 }
-        ensures sends { SetsOnly peer (Some (record { began = tick; posts = 1; message = m })) self.old self.new }
+        ensures sends { SetsOnly peer (Some (record { began = tick; posts = 1; message = m }))
+            self.old self.new }
         ensures peers { peers_of self.new ≡ peers_of self.old }
     {
         if let Ok(place) = place_of(&self.slots, peer) {
@@ -76,7 +77,8 @@ impl Sends {
     /// Ends the open send to a peer where its number is this one, and tells whether it is.
     pub fn ack(&mut self, peer: PeerId, number: u16) -> bool
         ensures ends { result ≡ has_number number (sending_to self.old peer) }
-        ensures sends { MatchBool result (SetsOnly peer None self.old self.new) (self.new ≡ self.old) }
+        ensures sends { MatchBool result (SetsOnly peer None self.old self.new)
+            (self.new ≡ self.old) }
         ensures peers { peers_of self.new ≡ peers_of self.old }
     {
         let Ok(place) = place_of(&self.slots, peer) else {
@@ -123,7 +125,9 @@ impl Sends {
     /// Gives a slot another send, or none.
     fn fill(&mut self, place: usize, sending: Option<Sending>)
         requires { place < length self.old }
-        ensures { (d : Slot) → self.new ≡ slice_set self.old place (record (slice_index_or self.old place d) { sending = sending }) }
+        ensures { (d : Slot)
+            → self.new ≡ slice_set self.old place (record (slice_index_or self.old place d)
+            { sending = sending }) }
     {
         let slot = &mut self.slots[place];
         slot.sending = sending;

@@ -1,5 +1,6 @@
 //! A tree of least deadlines over numbered places.
-ghost use Rattle.std.specs.Prelude.{◌≡◌, ℕ, ◌+◌, ◌*◌, ◌^◌, ◌≤◌, ◌<◌, length, drop, replicate, slice_set, IfOk, IfSome, true};
+ghost use Rattle.std.specs.Prelude.{◌≡◌, ℕ, ◌+◌, ◌*◌, ◌^◌, ◌≤◌, ◌<◌, length, drop, replicate};
+ghost use Rattle.std.specs.Prelude.{slice_set, IfOk, IfSome, true};
 ghost use Rattle.tsp_sends.specs.Deadlines.{is_due, deadline_at, IsFirstDueAt, IsFirstDue, IsLeast};
 ghost use Rattle.tsp_sends.specs.Trees.{HoldsEarlier};
 
@@ -25,7 +26,10 @@ impl Model for Tree {
 
     ghost Value = { TreeValue };
 
-    ghost view = { λ t. record { deadlines = take t.places (drop (2 ^ t.levels) t.store.nodes); looks = t.store.looks } };
+    ghost view = { λ t. record {
+      deadlines = take t.places (drop (2 ^ t.levels) t.store.nodes);
+      looks = t.store.looks;
+    } };
 
     ghost invariant = { λ t. IsTree t.store.nodes t.places t.levels };
 }
@@ -57,7 +61,8 @@ impl Tree {
     pub fn put(&mut self, i: usize, at: Option<u64>)
         requires { i < length self.old.deadlines }
         ensures deadlines { self.new.deadlines ≡ slice_set self.old.deadlines i at }
-        ensures looks { (k : ℕ) → length self.old.deadlines ≤ 2 ^ k → self.new.looks ≤ self.old.looks + (2 * k + 2) }
+        ensures looks { (k : ℕ) → length self.old.deadlines ≤ 2 ^ k
+            → self.new.looks ≤ self.old.looks + (2 * k + 2) }
     {
         set_leaf(&mut self.store, (1 << self.levels) + i, self.levels, at);
     }
@@ -66,7 +71,8 @@ impl Tree {
     pub fn first_due(&mut self, from: usize, tick: u64) -> Option<usize>
         ensures place { IsFirstDue from tick self.old.deadlines result }
         ensures deadlines { self.new.deadlines ≡ self.old.deadlines }
-        ensures looks { (k : ℕ) → length self.old.deadlines ≤ 2 ^ k → self.new.looks ≤ self.old.looks + (2 * k + 2) }
+        ensures looks { (k : ℕ) → length self.old.deadlines ≤ 2 ^ k
+            → self.new.looks ≤ self.old.looks + (2 * k + 2) }
     {
         if from >= self.places {
             return None;
@@ -86,7 +92,8 @@ impl Tree {
 
 /// The least height of a tree with a leaf for each place; None for more places than memory could hold.
 fn levels_for(places: usize) -> Option<u32>
-    ensures { IfSome result (λ k. (k ≤ 60) × (places ≤ 2 ^ k) × ((j : ℕ) → places ≤ 2 ^ j → k ≤ j)) }
+    ensures { IfSome result (λ k. (k ≤ 60) × (places ≤ 2 ^ k) × ((j : ℕ) → places ≤ 2 ^ j
+        → k ≤ j)) }
 {
     for levels in 0..61 {
         if places <= 1 << levels {
@@ -113,7 +120,8 @@ fn set_leaf(store: &mut Store, leaf: usize, levels: u32, at: Option<u64>)
     requires earlier { HoldsEarlier 0 store.old.nodes }
     ensures earlier { HoldsEarlier 0 store.new.nodes }
     ensures size { length store.new.nodes ≡ length store.old.nodes }
-    ensures leaves { drop (2 ^ levels) store.new.nodes ≡ drop (2 ^ levels) (slice_set store.old.nodes leaf at) }
+    ensures leaves { drop (2 ^ levels) store.new.nodes ≡ drop (2 ^ levels)
+        (slice_set store.old.nodes leaf at) }
     ensures looks { store.new.looks ≤ store.old.looks + 2 * levels }
 {
     store.write(leaf, at);

@@ -23,8 +23,10 @@ pub(crate) fn report_conflict<D: Desk>(
     requires tick { IsTick tick }
     requires room { 1 ≤ D.spare desk.old }
     requires peer { Contains station.old.peers master }
-    ensures row { Performs StandsActing StandsActing (reports_conflict master) tick port (station.old, tt) (station.new, tt) (D.acts desk.old) (D.acts desk.new) }
-    ensures room { PutsAtMost 1 (D.spare desk.old) (D.spare desk.new) (D.acts desk.old) (D.acts desk.new) }
+    ensures row { Performs StandsActing StandsActing (reports_conflict master) tick port
+        (station.old, tt) (station.new, tt) (D.acts desk.old) (D.acts desk.new) }
+    ensures room { PutsAtMost 1 (D.spare desk.old) (D.spare desk.new) (D.acts desk.old)
+        (D.acts desk.new) }
     ensures port { IsSamePort station.old station.new }
 {
     match station.sends.kind(master) {

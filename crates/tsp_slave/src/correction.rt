@@ -38,9 +38,13 @@ pub(crate) fn correct<D: Desk>(
     requires tick { IsTick tick }
     requires later { clock.old.at ≤ tick }
     requires room { 3 ≤ D.spare desk.old }
-    ensures row { (took : Option Received) → correcting_of (said took) ≡ Some (record { from = from; number = number }) → Performs SlaveStands SlaveStands (correction_of from number change) tick port
-        (station.old, (last.old, (clock.old, took))) (station.new, (last.new, (clock.new, took))) (D.acts desk.old) (D.acts desk.new) }
-    ensures room { PutsAtMost 3 (D.spare desk.old) (D.spare desk.new) (D.acts desk.old) (D.acts desk.new) }
+    ensures row { (took : Option Received)
+        → correcting_of (said took) ≡ Some (record { from = from; number = number })
+        → Performs SlaveStands SlaveStands (correction_of from number change) tick port
+        (station.old, (last.old, (clock.old, took))) (station.new, (last.new, (clock.new, took)))
+        (D.acts desk.old) (D.acts desk.new) }
+    ensures room { PutsAtMost 3 (D.spare desk.old) (D.spare desk.new) (D.acts desk.old)
+        (D.acts desk.new) }
     ensures port { IsSamePort station.old station.new }
     ensures clock { clock.new.at ≤ tick }
 {
@@ -57,7 +61,8 @@ pub(crate) fn correct<D: Desk>(
 fn acts_now(last: &Last, clock: &Clock, tick: u64, number: u16, change: Change) -> bool
     requires tick { IsTick tick }
     requires later { clock.now.at ≤ tick }
-    ensures { result ≡ (((number == clock.now.ticket) && is_past last.now.tick GAP tick) && fits clock.now tick change) }
+    ensures { result ≡ (((number == clock.now.ticket) && is_past last.now.tick GAP tick) && fits
+        clock.now tick change) }
 {
     number == clock.ticket() && last.is_rested(tick) && change.fits(clock, tick)
 }
@@ -77,9 +82,13 @@ fn change_clock<D: Desk>(
     requires later { clock.old.at ≤ tick }
     requires range { fits clock.old tick change ≡ true }
     requires room { 1 ≤ D.spare desk.old }
-    ensures row { (station : Station) (took : Option Received) → correcting_of (said took) ≡ Some (record { from = from; number = number }) → Performs SlaveStands SlaveStands (changes_clock change) tick port
-        (station, (last.old, (clock.old, took))) (station, (last.new, (clock.new, took))) (D.acts desk.old) (D.acts desk.new) }
-    ensures room { PutsExactly 1 (D.spare desk.old) (D.spare desk.new) (D.acts desk.old) (D.acts desk.new) }
+    ensures row { (station : Station) (took : Option Received)
+        → correcting_of (said took) ≡ Some (record { from = from; number = number })
+        → Performs SlaveStands SlaveStands (changes_clock change) tick port
+        (station, (last.old, (clock.old, took))) (station, (last.new, (clock.new, took)))
+        (D.acts desk.old) (D.acts desk.new) }
+    ensures room { PutsExactly 1 (D.spare desk.old) (D.spare desk.new) (D.acts desk.old)
+        (D.acts desk.new) }
     ensures clock { clock.new.at ≤ tick }
 {
     last.took(tick, from, number);
@@ -100,8 +109,10 @@ fn confirm<D: Desk>(
 )
     requires tick { IsTick tick }
     requires room { 2 ≤ D.spare desk.old }
-    ensures row { Performs Stands Stands (confirms from number) tick port station.old station.new (D.acts desk.old) (D.acts desk.new) }
-    ensures room { PutsExactly 2 (D.spare desk.old) (D.spare desk.new) (D.acts desk.old) (D.acts desk.new) }
+    ensures row { Performs Stands Stands (confirms from number) tick port station.old station.new
+        (D.acts desk.old) (D.acts desk.new) }
+    ensures room { PutsExactly 2 (D.spare desk.old) (D.spare desk.new) (D.acts desk.old)
+        (D.acts desk.new) }
     ensures port { IsSamePort station.old station.new }
 {
     station.arm_elect(tick, port, desk);
@@ -118,9 +129,12 @@ fn ack_repeat<D: Desk>(
     desk: &mut D,
 )
     requires room { 1 ≤ D.spare desk.old }
-    ensures row { (x : ℕ) (clock : ClockValue) (took : Option Received) → Performs SlaveStands SlaveStands (acks_repeat from number) x port
-        (station.now, (last.now, (clock, took))) (station.now, (last.now, (clock, took))) (D.acts desk.old) (D.acts desk.new) }
-    ensures room { PutsAtMost 1 (D.spare desk.old) (D.spare desk.new) (D.acts desk.old) (D.acts desk.new) }
+    ensures row { (x : ℕ) (clock : ClockValue) (took : Option Received)
+        → Performs SlaveStands SlaveStands (acks_repeat from number) x port
+        (station.now, (last.now, (clock, took))) (station.now, (last.now, (clock, took)))
+        (D.acts desk.old) (D.acts desk.new) }
+    ensures room { PutsAtMost 1 (D.spare desk.old) (D.spare desk.new) (D.acts desk.old)
+        (D.acts desk.new) }
 {
     if last.is_repeat(from, number) {
         station.post(from, Kind::Ack, number, port, desk);

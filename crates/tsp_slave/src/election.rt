@@ -23,8 +23,10 @@ pub(crate) fn answer_candidate<D: Desk>(
 )
     requires tick { IsTick tick }
     requires room { 3 ≤ D.spare desk.old }
-    ensures row { Performs Stands Stands (election_of from number) tick port station.old station.new (D.acts desk.old) (D.acts desk.new) }
-    ensures room { PutsAtMost 3 (D.spare desk.old) (D.spare desk.new) (D.acts desk.old) (D.acts desk.new) }
+    ensures row { Performs Stands Stands (election_of from number) tick port station.old station.new
+        (D.acts desk.old) (D.acts desk.new) }
+    ensures room { PutsAtMost 3 (D.spare desk.old) (D.spare desk.new) (D.acts desk.old)
+        (D.acts desk.new) }
     ensures port { IsSamePort station.old station.new }
 {
     if station.hold.may_back(tick, from) {

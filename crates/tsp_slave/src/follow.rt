@@ -23,7 +23,8 @@ use tsp_base::place::{PeerId, Port};
 use tsp_base::role::Role;
 use tsp_clock::clock::Clock;
 
-/// Follows one of the peers as a master, keeps the name in the message that was taken of it, and tells it the ticket.
+/// Follows one of the peers as a master, keeps the name in the message that was taken of it, and
+/// tells it the ticket.
 pub fn follow<D: Desk>(
     station: &mut Station,
     last: &mut Last,
@@ -37,17 +38,21 @@ pub fn follow<D: Desk>(
     requires tick { IsTick tick }
     requires room { 3 ≤ D.spare desk.old }
     requires peer { Contains station.old.peers p }
-    ensures row { (took : Option Received) → name_in took ≡ name.now → Performs SlaveStands SlaveStands (follow_row p) tick port
-        (station.old, (last.old, (clock.now, took))) (station.new, (last.new, (clock.now, took))) (D.acts desk.old) (D.acts desk.new) }
+    ensures row { (took : Option Received) → name_in took ≡ name.now
+        → Performs SlaveStands SlaveStands (follow_row p) tick port
+        (station.old, (last.old, (clock.now, took))) (station.new, (last.new, (clock.now, took)))
+        (D.acts desk.old) (D.acts desk.new) }
     ensures me { station.new.me ≡ station.old.me }
     ensures role { station.new.role ≡ Follow p }
     ensures hold { station.new.hold ≡ station.old.hold }
     ensures sends { (q : PeerId) → sending_to station.new.sends q ≡ None }
-    ensures alarms { station.new.alarms ≡ with_deadline none_armed Elect (Some (tick + delay station.old.me.word)) }
+    ensures alarms { station.new.alarms ≡ with_deadline none_armed Elect
+        (Some (tick + delay station.old.me.word)) }
     ensures begun { station.new.begun ≡ station.old.begun }
     ensures peers { station.new.peers ≡ station.old.peers }
     ensures last { last.new ≡ record last.old { name = name.now } }
-    ensures room { PutsExactly 3 (D.spare desk.old) (D.spare desk.new) (D.acts desk.old) (D.acts desk.new) }
+    ensures room { PutsExactly 3 (D.spare desk.old) (D.spare desk.new) (D.acts desk.old)
+        (D.acts desk.new) }
 {
     station.become_role(Role::Follow(p), port, desk);
     last.keep_name(name);
@@ -64,9 +69,12 @@ pub(crate) fn tell_ticket<D: Desk>(
     desk: &mut D,
 )
     requires room { 1 ≤ D.spare desk.old }
-    ensures row { (x : ℕ) (last : LastValue) (took : Option Received) → Performs SlaveStands SlaveStands (tells_ticket p) x port
-        (station.now, (last, (clock.now, took))) (station.now, (last, (clock.now, took))) (D.acts desk.old) (D.acts desk.new) }
-    ensures room { PutsExactly 1 (D.spare desk.old) (D.spare desk.new) (D.acts desk.old) (D.acts desk.new) }
+    ensures row { (x : ℕ) (last : LastValue) (took : Option Received)
+        → Performs SlaveStands SlaveStands (tells_ticket p) x port
+        (station.now, (last, (clock.now, took))) (station.now, (last, (clock.now, took)))
+        (D.acts desk.old) (D.acts desk.new) }
+    ensures room { PutsExactly 1 (D.spare desk.old) (D.spare desk.new) (D.acts desk.old)
+        (D.acts desk.new) }
 {
     station.post(p, Kind::SlaveUp, clock.ticket(), port, desk);
 }

@@ -77,7 +77,11 @@ impl Last {
 
     /// Notes a Correct that a master's message made.
     pub(crate) fn took(&mut self, tick: u64, from: PeerId, number: u16)
-        ensures { self.new ≡ record { tick = Some tick; taken = Some (record { from = from; number = number }); name = self.old.name } }
+        ensures { self.new ≡ record {
+          tick = Some tick;
+          taken = Some (record { from = from; number = number });
+          name = self.old.name;
+        } }
     {
         self.tick = Some(tick);
         self.taken = Some(Correction { from, number });

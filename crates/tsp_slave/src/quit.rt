@@ -37,9 +37,12 @@ pub fn take_quit<D: Desk>(
     requires tick { IsTick tick }
     requires room { 5 ≤ D.spare desk.old }
     requires peer { Contains station.old.peers from }
-    ensures row { (took : Option Received) → name_in took ≡ name.now → Performs SlaveStands SlaveStands (quits from number) tick port
-        (station.old, (last.old, (clock.now, took))) (station.new, (last.new, (clock.now, took))) (D.acts desk.old) (D.acts desk.new) }
-    ensures room { PutsAtMost 5 (D.spare desk.old) (D.spare desk.new) (D.acts desk.old) (D.acts desk.new) }
+    ensures row { (took : Option Received) → name_in took ≡ name.now
+        → Performs SlaveStands SlaveStands (quits from number) tick port
+        (station.old, (last.old, (clock.now, took))) (station.new, (last.new, (clock.now, took)))
+        (D.acts desk.old) (D.acts desk.new) }
+    ensures room { PutsAtMost 5 (D.spare desk.old) (D.spare desk.new) (D.acts desk.old)
+        (D.acts desk.new) }
     ensures port { IsSamePort station.old station.new }
 {
     station.quit(from, tick, port, desk);
@@ -61,9 +64,12 @@ fn follow_unless_following<D: Desk>(
     requires tick { IsTick tick }
     requires room { 3 ≤ D.spare desk.old }
     requires peer { Contains station.old.peers p }
-    ensures row { (took : Option Received) → name_in took ≡ name.now → Performs SlaveStands SlaveStands (reading role_at (follows_unless p)) tick port
-        (station.old, (last.old, (clock.now, took))) (station.new, (last.new, (clock.now, took))) (D.acts desk.old) (D.acts desk.new) }
-    ensures room { PutsAtMost 3 (D.spare desk.old) (D.spare desk.new) (D.acts desk.old) (D.acts desk.new) }
+    ensures row { (took : Option Received) → name_in took ≡ name.now
+        → Performs SlaveStands SlaveStands (reading role_at (follows_unless p)) tick port
+        (station.old, (last.old, (clock.now, took))) (station.new, (last.new, (clock.now, took)))
+        (D.acts desk.old) (D.acts desk.new) }
+    ensures room { PutsAtMost 3 (D.spare desk.old) (D.spare desk.new) (D.acts desk.old)
+        (D.acts desk.new) }
     ensures port { IsSamePort station.old station.new }
 {
     match station.role {

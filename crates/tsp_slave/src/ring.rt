@@ -32,8 +32,10 @@ pub fn slave_ring<D: Desk>(station: &mut Station, alarm: Alarm, tick: u64, port:
     requires tick { IsTick tick }
     requires stays { alarm ≡ Elect → is_to_be_candidate tick station.old ≡ false }
     requires room { length station.old.peers + 3 ≤ D.spare desk.old }
-    ensures row { Performs Stands Stands (slave_rings alarm) tick port station.old station.new (D.acts desk.old) (D.acts desk.new) }
-    ensures room { PutsAtMost (length station.old.peers + 3) (D.spare desk.old) (D.spare desk.new) (D.acts desk.old) (D.acts desk.new) }
+    ensures row { Performs Stands Stands (slave_rings alarm) tick port station.old station.new
+        (D.acts desk.old) (D.acts desk.new) }
+    ensures room { PutsAtMost (length station.old.peers + 3) (D.spare desk.old) (D.spare desk.new)
+        (D.acts desk.old) (D.acts desk.new) }
     ensures port { IsSamePort station.old station.new }
 {
     match alarm {
@@ -48,8 +50,10 @@ pub fn slave_ring<D: Desk>(station: &mut Station, alarm: Alarm, tick: u64, port:
 fn end_quiet<D: Desk>(station: &mut Station, tick: u64, port: Port, desk: &mut D)
     requires tick { IsTick tick }
     requires room { length station.old.peers + 3 ≤ D.spare desk.old }
-    ensures row { Performs Stands Stands quiet_rings tick port station.old station.new (D.acts desk.old) (D.acts desk.new) }
-    ensures room { PutsAtMost (length station.old.peers + 3) (D.spare desk.old) (D.spare desk.new) (D.acts desk.old) (D.acts desk.new) }
+    ensures row { Performs Stands Stands quiet_rings tick port station.old station.new
+        (D.acts desk.old) (D.acts desk.new) }
+    ensures room { PutsAtMost (length station.old.peers + 3) (D.spare desk.old) (D.spare desk.new)
+        (D.acts desk.old) (D.acts desk.new) }
     ensures port { IsSamePort station.old station.new }
 {
     station.ring(Alarm::Quiet, port, desk);
@@ -61,8 +65,10 @@ fn end_quiet<D: Desk>(station: &mut Station, tick: u64, port: Port, desk: &mut D
 fn end_search<D: Desk>(station: &mut Station, tick: u64, port: Port, desk: &mut D)
     requires tick { IsTick tick }
     requires room { 2 ≤ D.spare desk.old }
-    ensures row { Performs Stands Stands search_rings tick port station.old station.new (D.acts desk.old) (D.acts desk.new) }
-    ensures room { PutsExactly 2 (D.spare desk.old) (D.spare desk.new) (D.acts desk.old) (D.acts desk.new) }
+    ensures row { Performs Stands Stands search_rings tick port station.old station.new
+        (D.acts desk.old) (D.acts desk.new) }
+    ensures room { PutsExactly 2 (D.spare desk.old) (D.spare desk.new) (D.acts desk.old)
+        (D.acts desk.new) }
     ensures port { IsSamePort station.old station.new }
 {
     ring_or_late(station, Alarm::Search, tick, port, desk);
@@ -74,8 +80,10 @@ fn miss_master<D: Desk>(station: &mut Station, tick: u64, port: Port, desk: &mut
     requires tick { IsTick tick }
     requires stays { is_to_be_candidate tick station.old ≡ false }
     requires room { length station.old.peers + 3 ≤ D.spare desk.old }
-    ensures row { Performs Stands Stands elect_rings tick port station.old station.new (D.acts desk.old) (D.acts desk.new) }
-    ensures room { PutsAtMost (length station.old.peers + 3) (D.spare desk.old) (D.spare desk.new) (D.acts desk.old) (D.acts desk.new) }
+    ensures row { Performs Stands Stands elect_rings tick port station.old station.new
+        (D.acts desk.old) (D.acts desk.new) }
+    ensures room { PutsAtMost (length station.old.peers + 3) (D.spare desk.old) (D.spare desk.new)
+        (D.acts desk.old) (D.acts desk.new) }
     ensures port { IsSamePort station.old station.new }
 {
     if station.is_in_time(Alarm::Elect, tick) {
@@ -91,8 +99,10 @@ fn miss_master<D: Desk>(station: &mut Station, tick: u64, port: Port, desk: &mut
 /// Rings an alarm that is in time; else says that it is late.
 fn ring_or_late<D: Desk>(station: &mut Station, alarm: Alarm, tick: u64, port: Port, desk: &mut D)
     requires room { 1 ≤ D.spare desk.old }
-    ensures row { Performs Stands Stands (rings_or_late alarm) tick port station.old station.new (D.acts desk.old) (D.acts desk.new) }
-    ensures room { PutsExactly 1 (D.spare desk.old) (D.spare desk.new) (D.acts desk.old) (D.acts desk.new) }
+    ensures row { Performs Stands Stands (rings_or_late alarm) tick port station.old station.new
+        (D.acts desk.old) (D.acts desk.new) }
+    ensures room { PutsExactly 1 (D.spare desk.old) (D.spare desk.new) (D.acts desk.old)
+        (D.acts desk.new) }
     ensures port { IsSamePort station.old station.new }
 {
     if station.is_in_time(alarm, tick) {
@@ -105,8 +115,10 @@ fn ring_or_late<D: Desk>(station: &mut Station, alarm: Alarm, tick: u64, port: P
 /// Gives up the master that is followed, if one is.
 fn loosen<D: Desk>(station: &mut Station, port: Port, desk: &mut D)
     requires room { 1 ≤ D.spare desk.old }
-    ensures row { (x : ℕ) → Performs Stands Stands loosens x port station.old station.new (D.acts desk.old) (D.acts desk.new) }
-    ensures room { PutsAtMost 1 (D.spare desk.old) (D.spare desk.new) (D.acts desk.old) (D.acts desk.new) }
+    ensures row { (x : ℕ) → Performs Stands Stands loosens x port station.old station.new
+        (D.acts desk.old) (D.acts desk.new) }
+    ensures room { PutsAtMost 1 (D.spare desk.old) (D.spare desk.new) (D.acts desk.old)
+        (D.acts desk.new) }
     ensures port { IsSamePort station.old station.new }
 {
     match station.role {
@@ -119,8 +131,10 @@ fn loosen<D: Desk>(station: &mut Station, port: Port, desk: &mut D)
 fn search<D: Desk>(station: &mut Station, tick: u64, port: Port, desk: &mut D)
     requires tick { IsTick tick }
     requires room { length station.old.peers + 1 ≤ D.spare desk.old }
-    ensures row { Performs Stands Stands searches tick port station.old station.new (D.acts desk.old) (D.acts desk.new) }
-    ensures room { PutsAtMost (length station.old.peers + 1) (D.spare desk.old) (D.spare desk.new) (D.acts desk.old) (D.acts desk.new) }
+    ensures row { Performs Stands Stands searches tick port station.old station.new
+        (D.acts desk.old) (D.acts desk.new) }
+    ensures room { PutsAtMost (length station.old.peers + 1) (D.spare desk.old) (D.spare desk.new)
+        (D.acts desk.old) (D.acts desk.new) }
     ensures port { IsSamePort station.old station.new }
 {
     station.arm(Alarm::Search, tick, WINDOW, port, desk);

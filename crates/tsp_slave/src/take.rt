@@ -44,9 +44,12 @@ pub fn slave_take<D: Desk>(
     requires later { clock.old.at ≤ tick }
     requires room { 5 ≤ D.spare desk.old }
     requires peer { Contains station.old.peers from }
-    ensures row { (took : Option Received) → IsMessage from m.now took → Performs SlaveStands SlaveStands (slave_takes from m.now) tick port
-        (station.old, (last.old, (clock.old, took))) (station.new, (last.new, (clock.new, took))) (D.acts desk.old) (D.acts desk.new) }
-    ensures room { PutsAtMost 5 (D.spare desk.old) (D.spare desk.new) (D.acts desk.old) (D.acts desk.new) }
+    ensures row { (took : Option Received) → IsMessage from m.now took
+        → Performs SlaveStands SlaveStands (slave_takes from m.now) tick port
+        (station.old, (last.old, (clock.old, took))) (station.new, (last.new, (clock.new, took)))
+        (D.acts desk.old) (D.acts desk.new) }
+    ensures room { PutsAtMost 5 (D.spare desk.old) (D.spare desk.new) (D.acts desk.old)
+        (D.acts desk.new) }
     ensures port { IsSamePort station.old station.new }
     ensures clock { clock.new.at ≤ tick }
 {
@@ -91,9 +94,12 @@ fn hear_master<D: Desk>(
     requires tick { IsTick tick }
     requires room { 3 ≤ D.spare desk.old }
     requires peer { Contains station.old.peers from }
-    ensures row { (took : Option Received) → IsMessage from m.now took → Performs SlaveStands SlaveStands (reading role_at (masterup_in from)) tick port
-        (station.old, (last.old, (clock.now, took))) (station.new, (last.new, (clock.now, took))) (D.acts desk.old) (D.acts desk.new) }
-    ensures room { PutsAtMost 3 (D.spare desk.old) (D.spare desk.new) (D.acts desk.old) (D.acts desk.new) }
+    ensures row { (took : Option Received) → IsMessage from m.now took
+        → Performs SlaveStands SlaveStands (reading role_at (masterup_in from)) tick port
+        (station.old, (last.old, (clock.now, took))) (station.new, (last.new, (clock.now, took)))
+        (D.acts desk.old) (D.acts desk.new) }
+    ensures room { PutsAtMost 3 (D.spare desk.old) (D.spare desk.new) (D.acts desk.old)
+        (D.acts desk.new) }
     ensures port { IsSamePort station.old station.new }
 {
     match station.role {
@@ -124,9 +130,12 @@ fn find_master<D: Desk>(
     requires tick { IsTick tick }
     requires room { 3 ≤ D.spare desk.old }
     requires peer { Contains station.old.peers from }
-    ensures row { (took : Option Received) → IsMessage from m.now took → Performs SlaveStands SlaveStands (reading role_at (masterack_in from)) tick port
-        (station.old, (last.old, (clock.now, took))) (station.new, (last.new, (clock.now, took))) (D.acts desk.old) (D.acts desk.new) }
-    ensures room { PutsAtMost 3 (D.spare desk.old) (D.spare desk.new) (D.acts desk.old) (D.acts desk.new) }
+    ensures row { (took : Option Received) → IsMessage from m.now took
+        → Performs SlaveStands SlaveStands (reading role_at (masterack_in from)) tick port
+        (station.old, (last.old, (clock.now, took))) (station.new, (last.new, (clock.now, took)))
+        (D.acts desk.old) (D.acts desk.new) }
+    ensures room { PutsAtMost 3 (D.spare desk.old) (D.spare desk.new) (D.acts desk.old)
+        (D.acts desk.new) }
     ensures port { IsSamePort station.old station.new }
 {
     match station.role {
@@ -158,9 +167,14 @@ fn take_correction<D: Desk>(
     requires tick { IsTick tick }
     requires later { clock.old.at ≤ tick }
     requires room { 3 ≤ D.spare desk.old }
-    ensures row { (took : Option Received) → correcting_of (said took) ≡ Some (record { from = from; number = m.now.number }) → Performs SlaveStands SlaveStands (reading role_at (from_master from (correction_of from m.now.number (change_in m.now)))) tick port
-        (station.old, (last.old, (clock.old, took))) (station.new, (last.new, (clock.new, took))) (D.acts desk.old) (D.acts desk.new) }
-    ensures room { PutsAtMost 3 (D.spare desk.old) (D.spare desk.new) (D.acts desk.old) (D.acts desk.new) }
+    ensures row { (took : Option Received)
+        → correcting_of (said took) ≡ Some (record { from = from; number = m.now.number })
+        → Performs SlaveStands SlaveStands
+        (reading role_at (from_master from (correction_of from m.now.number (change_in m.now))))
+        tick port (station.old, (last.old, (clock.old, took)))
+        (station.new, (last.new, (clock.new, took))) (D.acts desk.old) (D.acts desk.new) }
+    ensures room { PutsAtMost 3 (D.spare desk.old) (D.spare desk.new) (D.acts desk.old)
+        (D.acts desk.new) }
     ensures port { IsSamePort station.old station.new }
     ensures clock { clock.new.at ≤ tick }
 {

@@ -64,7 +64,7 @@ no_other n cause OutOfMemory only is limit memory = memory refl
 only_now : (s : StormWords) (m : Making) (e : Event) (w : StormValue) → MakingStands s m → ComesNext s m e w → OnlyLimit (length (events_of s m.storm.given)) (refusal (scene (header_of s) (events_of s m.storm.given)) e)
 only_now s m e w st is = only_limit (header_of s) (events_of s m.storm.given) m.storm e (made_now s m st) (moves_now s m e w st is).next
 
--- nothing but a limit and want of memory refuses the event
+-- nothing but a limit and lack of memory refuses the event
 pub no_other_now : (s : StormWords) (m : Making) (e : Event) (w : StormValue) (f : EventFault) → MakingStands s m → ComesNext s m e w → IsRefusal (refusal (scene (header_of s) (events_of s m.storm.given)) e) f →
     ((a b : ℕ) → f ≡ Limit a b → ⊥) → (f ≢ OutOfMemory) → ⊥
 no_other_now s m e w f st is refused limit memory = no_other (length (events_of s m.storm.given)) (refusal (scene (header_of s) (events_of s m.storm.given)) e) f (only_now s m e w st is) refused limit memory

@@ -37,8 +37,10 @@ impl Counts {
         requires corrects { self.old.corrects + 1 < 2 ^ 128 }
         requires masters { self.old.masters + 1 < 2 ^ 128 }
         ensures took { self.new.took ≡ self.old.took + (if is_took act.now then 1 else 0) }
-        ensures corrects { self.new.corrects ≡ self.old.corrects + (if is_correct act.now then 1 else 0) }
-        ensures masters { self.new.masters ≡ self.old.masters + (if is_mastership act.now then 1 else 0) }
+        ensures corrects { self.new.corrects ≡ self.old.corrects + (if is_correct act.now then 1
+            else 0) }
+        ensures masters { self.new.masters ≡ self.old.masters + (if is_mastership act.now then 1
+            else 0) }
     {
         match act {
             Act::Took(_, _) => self.took += 1,

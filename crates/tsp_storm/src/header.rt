@@ -4,9 +4,9 @@ ghost use Rattle.tsp_storm.specs.Schedules.{header_of, made};
 ghost use Rattle.tsp_args.specs.Storms.{IsStorm};
 
 use std::alloc::{AllocError, Global};
+use tsp_args::storm::StormWords;
 use tsp_base::header::{Header, HeaderFault};
 use tsp_script::storm::Storm;
-use tsp_args::storm::StormWords;
 
 /// The drift of the schedules that are made, in parts in a million.
 const DRIFT: u32 = 100;
@@ -20,7 +20,7 @@ pub struct Begun {
     pub storm: Storm,
 }
 
-/// Makes the header of a schedule. The refusal is want of memory.
+/// Makes the header of a schedule. Fails only if out of memory.
 pub fn begin(alloc: Global, words: &StormWords) -> Result<Begun, AllocError>
     requires { IsStorm words.now }
     ensures header { IfOk result (λ b. b.header ≡ header_of words.now) }

@@ -6,5 +6,6 @@ ghost use Rattle.tsp_args.specs.declared.storm.StormWords.{StormWords};
 
 /// Words have one answer at most.
 pub fn one_answer_of_words()
-    ensures { (s : StormWords) (end other : StormEnd) (text more : List ℕ) → IsAnswer s end text → IsAnswer s other more → (end ≡ other) × (text ≡ more) }
+    ensures { (s : StormWords) (end other : StormEnd) (text more : List ℕ) → IsAnswer s end text
+        → IsAnswer s other more → (end ≡ other) × (text ≡ more) }
 {}

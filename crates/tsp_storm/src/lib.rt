@@ -1,6 +1,7 @@
 //! The generator's command: makes a schedule from a number, runs it, and writes what came of it in one line.
 //!
-//! [`run::storm`] is the whole command; [`making::Making`] makes the events one by one, each after the run of those before it.
+//! [`run::storm`] is the whole command; [`making::Making`] makes the events one by one, each after
+//! the run of those before it.
 #![tactic(auto)]
 
 pub mod counts;

@@ -11,10 +11,10 @@ ghost use Rattle.tsp_world.specs.WorldStands.{WorldStands};
 
 use crate::header::begin;
 use std::alloc::{AllocError, Global};
+use tsp_args::storm::StormWords;
 use tsp_base::event::{Event, EventFault};
 use tsp_run::line::Line;
 use tsp_script::storm::{Draw, Storm};
-use tsp_args::storm::StormWords;
 use tsp_world::world::World;
 
 /// Why no event more was made.
@@ -39,7 +39,9 @@ fn draw(storm: &mut Storm, world: &World) -> Event
     requires named { storm.old.named ≡ storm.old.nodes }
     requires few { storm.old.given < 200000 }
     requires quiet { storm.old.asked ≡ None }
-    ensures next { (header : HeaderValue) (events : List Event) → WorldStands header events world.now → (result, storm.new) ≡ next_event header events storm.old }
+    ensures next { (header : HeaderValue) (events : List Event)
+        → WorldStands header events world.now
+        → (result, storm.new) ≡ next_event header events storm.old }
     ensures range { IsEvent result }
 {
     let posted = world.posted();
@@ -67,8 +69,8 @@ fn answer(storm: &mut Storm, posted: u64, k: u64, time: u64) -> Event
 }
 
 impl Making {
-    /// A schedule without events: a node for each of the words' nodes, and none is up. The refusal is want
-    /// of memory.
+    /// A schedule without events: a node for each of the words' nodes, and none is up. Fails only
+    /// if out of memory.
     pub fn begin(alloc: Global, words: &StormWords) -> Result<Making, AllocError>
         requires { IsStorm words.now }
         ensures stands { IfOk result (λ m. MakingStands words.now m) }

@@ -10,10 +10,10 @@ use crate::counts::Counts;
 use crate::making::{Making, Stopped};
 use crate::summary::Summary;
 use std::alloc::Global;
+use tsp_args::storm::StormWords;
 use tsp_io::sink::Sink;
 use tsp_lines::output::{Unwritten, write_all};
 use tsp_lines::refusal::limit_line;
-use tsp_args::storm::StormWords;
 
 /// How a storm ends.
 #[derive(Clone, Copy, PartialEq, Eq, Debug)]
@@ -54,7 +54,8 @@ fn run(alloc: Global, words: &StormWords) -> Result<Summary, Stopped>
 fn say<K: Sink>(sink: &mut K, text: &[u8], end: StormEnd) -> StormEnd
     ensures says { Says text.now end (K.written sink.old) (K.written sink.new) result }
     ensures later { K.faults sink.old ≤ K.faults sink.new }
-    ensures write { result ≡ StormEnd.WriteFault → (end ≡ StormEnd.WriteFault) ⊎ Rose (K.faults sink.old) (K.faults sink.new) }
+    ensures write { result ≡ StormEnd.WriteFault → (end ≡ StormEnd.WriteFault)
+        ⊎ Rose (K.faults sink.old) (K.faults sink.new) }
     ensures still { result ≢ StormEnd.WriteFault → K.faults sink.new ≡ K.faults sink.old }
 {
     match write_all(sink, text) {
@@ -73,8 +74,10 @@ fn say<K: Sink>(sink: &mut K, text: &[u8], end: StormEnd) -> StormEnd
 pub fn storm<K: Sink>(alloc: Global, words: &StormWords, sink: &mut K) -> StormEnd
     requires { IsStorm words.now }
     ensures ends { StormsAs words.now (K.written sink.old) (K.written sink.new) result }
-    ensures answers { (end : StormEnd) (text : List ℕ) → IsAnswer words.now end text → Agrees end text (K.written sink.old) (K.written sink.new) result }
-    ensures complete { HasRoom words.now → ¬ Rose (K.faults sink.old) (K.faults sink.new) → (result ≡ StormEnd.Done) ⊎ (result ≡ StormEnd.OutOfMemory) }
+    ensures answers { (end : StormEnd) (text : List ℕ) → IsAnswer words.now end text
+        → Agrees end text (K.written sink.old) (K.written sink.new) result }
+    ensures complete { HasRoom words.now → ¬ Rose (K.faults sink.old) (K.faults sink.new)
+        → (result ≡ StormEnd.Done) ⊎ (result ≡ StormEnd.OutOfMemory) }
     ensures later { K.faults sink.old ≤ K.faults sink.new }
     ensures write { result ≡ StormEnd.WriteFault → Rose (K.faults sink.old) (K.faults sink.new) }
     ensures still { result ≢ StormEnd.WriteFault → K.faults sink.new ≡ K.faults sink.old }

@@ -34,7 +34,8 @@ fn append_count(out: &mut ArrayVec<u8, 1024>, words: &[u8], number: u128)
 impl Summary {
     /// The words of the summary, with their line feed.
     pub fn text(&self) -> ArrayVec<u8, 1024>
-        ensures { result.items ≡ summary_text self.now.events self.now.posted self.now.counts.took self.now.counts.corrects self.now.counts.masters }
+        ensures { result.items ≡ summary_text self.now.events self.now.posted self.now.counts.took
+            self.now.counts.corrects self.now.counts.masters }
     {
         let mut out = ArrayVec::new();
         append_count(&mut out, b"events ", self.events as u128);

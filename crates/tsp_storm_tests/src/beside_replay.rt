@@ -5,6 +5,7 @@ ghost use Rattle.std.specs.Prelude.{length};
 
 use arrayvec::ArrayVec;
 use std::alloc::{AllocError, Global};
+use tsp_args::storm::StormWords;
 use tsp_base::event::Event;
 use tsp_base::header::NodeLine;
 use tsp_io::memory::{MemorySink, MemorySource};
@@ -14,7 +15,6 @@ use tsp_script::numbers::append_hex;
 use tsp_storm::header::begin;
 use tsp_storm::making::Making;
 use tsp_storm::run::{StormEnd, storm};
-use tsp_args::storm::StormWords;
 
 /// Writes a node's line.
 fn push_node(alloc: Global, text: &mut Vec<u8>, node: &NodeLine) -> Result<(), AllocError> {
@@ -120,18 +120,6 @@ fn a_storm_is_counted_again_from_its_trace(rt: HostRuntime) -> Result<(), AllocE
         seed: 7,
         nodes: 3,
         events: 60000,
-    };
-    assert!(rt; agrees(rt.alloc(), &words)?);
-    Ok(())
-}
-
-/// Many nodes.
-#[test]
-fn a_storm_of_many_nodes_is_counted_again(rt: HostRuntime) -> Result<(), AllocError> {
-    let words = StormWords {
-        seed: 3,
-        nodes: 64,
-        events: 4000,
     };
     assert!(rt; agrees(rt.alloc(), &words)?);
     Ok(())

@@ -2,9 +2,9 @@
 ghost use Rattle.tsp_args.specs.Storms.{IsStorm};
 
 use std::alloc::{AllocError, Global};
+use tsp_args::storm::StormWords;
 use tsp_io::memory::MemorySink;
 use tsp_storm::run::{StormEnd, storm};
-use tsp_args::storm::StormWords;
 
 /// How a storm ends, where its writes with these numbers fail, and whether it writes this line.
 fn ends(

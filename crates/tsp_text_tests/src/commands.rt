@@ -1,10 +1,10 @@
 //! Words that are commands, and words that are none.
 use std::alloc::{AllocError, Global};
-use tsp_base::micros::Micros;
-use tsp_io::addr::Addr;
 use tsp_args::command::{Command, command_of};
 use tsp_args::query::Query;
 use tsp_args::serve::Candidacy;
+use tsp_base::micros::Micros;
+use tsp_io::addr::Addr;
 
 /// What some words ask for.
 fn read(alloc: Global, words: &[&str]) -> Result<Option<Command>, AllocError> {

@@ -6,7 +6,11 @@
 #[cfg(test)]
 mod acts;
 #[cfg(test)]
+mod codec;
+#[cfg(test)]
 mod commands;
+#[cfg(test)]
+mod conversions;
 #[cfg(test)]
 mod gathered;
 #[cfg(test)]
@@ -14,4 +18,8 @@ mod lines;
 #[cfg(test)]
 mod messages;
 #[cfg(test)]
+mod outside;
+#[cfg(test)]
 mod schedules;
+#[cfg(test)]
+mod values;

@@ -10,7 +10,8 @@ use tsp_lines::output::Output;
 use tsp_lines::treat::{Outcome, treat_all};
 use tsp_lines::treatment::{Stop, Treatment};
 
-/// Gives up to three lines back; refuses the line `!`, a long line and an empty input, and passes a limit at `#`.
+/// Gives up to three lines back; refuses the line `!`, a long line and an empty input, and passes a
+/// limit at `#`.
 #[derive(Drop)]
 pub(crate) struct Echo {
     pub(crate) lines: u32,

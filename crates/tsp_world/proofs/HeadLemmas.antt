@@ -5,8 +5,8 @@ use Rattle.std.proofs.lemmas.List.{drop-append-le, take-append-le, map_push}
 use Rattle.std.proofs.lemmas.List.Elements.{All-head, All-tail}
 use Rattle.tsp_base.specs.declared.datagram.Datagram.{Datagram}
 use Rattle.tsp_world.specs.declared.head.Head.{Head}
-use Rattle.tsp_world.specs.declared.head.Held.{Held}
-use Rattle.tsp_world.specs.declared.head.Held.TheVariants.{Message, Stamp}
+use Rattle.tsp_world.specs.declared.head.StoredDatagram.{StoredDatagram}
+use Rattle.tsp_world.specs.declared.head.StoredDatagram.TheVariants.{Message, Stamp}
 use Rattle.tsp_world.specs.Heads.{HeadStands, HeldStands, datagram_in, post_in}
 use Rattle.tsp_world.specs.Posts.{posted_on}
 
@@ -16,7 +16,7 @@ range-append names more start end ordered inside =
     ap (λ l. take (end - start) l) (drop-append-le start names more (omega (arith, ordered, inside)))
     ∙ take-append-le (end - start) (drop start names) more (omega (arith, left, ordered, inside))
 
-datagram_in-append : (names more : List ℕ) (held : Held) → HeldStands names held → datagram_in (names ++ more) held ≡ datagram_in names held
+datagram_in-append : (names more : List ℕ) (held : StoredDatagram) → HeldStands names held → datagram_in (names ++ more) held ≡ datagram_in names held
 datagram_in-append names more (Message kind number body start end) h = rw (range-append names more start end h.ordered h.inside) refl
 datagram_in-append names more (Stamp s) h = refl
 

@@ -9,8 +9,8 @@ use Rattle.tsp_base.specs.Messages.{body_fits}
 use Rattle.tsp_base.specs.Names.{IsName}
 use Rattle.tsp_run.specs.declared.posted.Posted.{Posted}
 use Rattle.tsp_world.specs.declared.head.Head.{Head}
-use Rattle.tsp_world.specs.declared.head.Held.{Held}
-use Rattle.tsp_world.specs.declared.head.Held.TheVariants.{Message as HeldMessage, Stamp as HeldStamp}
+use Rattle.tsp_world.specs.declared.head.StoredDatagram.{StoredDatagram}
+use Rattle.tsp_world.specs.declared.head.StoredDatagram.TheVariants.{Message as HeldMessage, Stamp as HeldStamp}
 use Rattle.tsp_world.specs.Posts.{posted_on}
 
 -- the octets that a datagram puts behind those of the others: its name, if it has one
@@ -19,7 +19,7 @@ name_in (Message m) = m.name
 name_in (Stamp s) = []
 
 -- the datagram of which this is held, with its name among these octets
-abbrev pub datagram_in : List ℕ → Held → Datagram
+abbrev pub datagram_in : List ℕ → StoredDatagram → Datagram
 datagram_in names (HeldMessage kind number body start end) = Message (record { kind = kind; number = number; body = body; name = slice_range names start end })
 datagram_in names (HeldStamp s) = Stamp s
 
@@ -35,7 +35,7 @@ pub record MessageStands (names : List ℕ) (kind : Kind) (body : Body) (start e
   pub body_is : body_fits kind body ≡ true
 
 -- what is held of a message has its name among these octets; of a stamp nothing is asked
-abbrev pub HeldStands : List ℕ → Held → Type 0
+abbrev pub HeldStands : List ℕ → StoredDatagram → Type 0
 HeldStands names (HeldMessage kind number body start end) = MessageStands names kind body start end
 HeldStands names (HeldStamp s) = Unit {0}
 

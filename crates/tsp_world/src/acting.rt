@@ -50,14 +50,15 @@ impl World {
         tick_at(self.line(node).rate, at)
     }
 
-    /// A node boots. The refusal is want of memory, and the world still stands for what it stood for.
+    /// A node boots. Fails only if out of memory, and the world still stands for what it stood for.
     pub(crate) fn boot(&mut self, at: u64, node: u32, word: u64) -> Result<(), AllocError>
         requires ready { IsReady (room (ports_on node (networks self.old.header))) self.old }
         requires time { at ≤ 1000000000000000 }
         requires order { self.old.last ≤ at }
         requires node { node < vec_len self.old.nodes }
         requires events { self.old.events < 200000 }
-        requires posts { length self.old.sent.items + room (ports_on node (networks self.old.header)) ≤ 1000000 }
+        requires posts { length self.old.sent.items + room
+            (ports_on node (networks self.old.header)) ≤ 1000000 }
         ensures happens { OnOk result (Happens (Event.Boot at node word) self.old self.new) }
         ensures kept { OnErr result (Stays self.old self.new) }
     {
@@ -84,7 +85,8 @@ impl World {
         requires order { self.old.last ≤ at }
         requires node { node < vec_len self.old.nodes }
         requires events { self.old.events < 200000 }
-        requires posts { length self.old.sent.items + room (ports_on node (networks self.old.header)) ≤ 1000000 }
+        requires posts { length self.old.sent.items + room
+            (ports_on node (networks self.old.header)) ≤ 1000000 }
         ensures { Happens (Event.Turn at node) self.old self.new }
     {
         let tick = self.tick(node, at);
@@ -96,7 +98,8 @@ impl World {
 
     /// A posted datagram reaches its addressee, or nobody.
     pub(crate) fn take(&mut self, at: u64, k: u64)
-        requires ready { IsReady (wanted self.old.header (actor (scene_of self.old) (Event.Take at k))) self.old }
+        requires ready { IsReady (wanted self.old.header (actor (scene_of self.old) (Event.Take at k)))
+            self.old }
         requires time { at ≤ 1000000000000000 }
         requires order { self.old.last ≤ at }
         requires allowed { Allowed (scene_of self.old) (Event.Take at k) }
@@ -111,11 +114,19 @@ impl World {
         }
     }
 
-    /// What the datagram with this number brings to where it goes. A reader takes from its written spelling what
-    /// was posted, so nothing needs to be written or read.
+    /// What the datagram with this number brings to where it goes. A reader takes from its written
+    /// spelling what was posted, so nothing needs to be written or read.
     fn arrival(&self, k: u64, address: Address) -> Arrival
-        requires { goes_to (networks self.now.header) (slice_get self.now.sent.items k) ≡ Some address }
-        ensures { (p : Posted) → slice_get self.now.sent.items k ≡ Some p → result ≡ record { node = address.node; port = address.port; from = Place.Peer (record { 0 = p.from }); taken = Taken.Good p.datagram } }
+        requires { goes_to (networks self.now.header) (slice_get self.now.sent.items k) ≡ Some
+            address }
+        ensures { (p : Posted) → slice_get self.now.sent.items k ≡ Some p
+            → result ≡ record {
+              node = address.node;
+              port = address.port;
+              from = Place.Peer
+                  (record { 0 = p.from });
+              taken = Taken.Good p.datagram;
+            } }
     {
         let Some(way) = self.sent.way(k) else {
             unreachable!()
@@ -135,9 +146,11 @@ impl World {
         requires order { self.old.last ≤ at }
         requires node { node < vec_len self.old.nodes }
         requires events { self.old.events < 200000 }
-        requires posts { length self.old.sent.items + room (ports_on node (networks self.old.header)) ≤ 1000000 }
+        requires posts { length self.old.sent.items + room
+            (ports_on node (networks self.old.header)) ≤ 1000000 }
         requires port { port.0 < length (ports_on node (networks self.old.header)) }
-        ensures happens { HappensBy (answers_all (GotOn port from (taken_of octets.now))) at node self.old self.new }
+        ensures happens { HappensBy (answers_all (GotOn port from (taken_of octets.now))) at node
+            self.old self.new }
         ensures range { (i : ℕ) → octet_at octets.now i < 256 }
     {
         let taken = read(octets);
@@ -151,7 +164,8 @@ impl World {
         requires order { self.old.last ≤ at }
         requires node { node < vec_len self.old.nodes }
         requires events { self.old.events < 200000 }
-        requires posts { length self.old.sent.items + room (ports_on node (networks self.old.header)) ≤ 1000000 }
+        requires posts { length self.old.sent.items + room
+            (ports_on node (networks self.old.header)) ≤ 1000000 }
         requires port { port.0 < length (ports_on node (networks self.old.header)) }
         ensures { HappensBy (answers_all (GotOn port from taken.now)) at node self.old self.new }
     {
@@ -176,7 +190,8 @@ impl World {
     /// Notes an event of a node whose acts are on the desk. Its time is the last event's already.
     fn note(&mut self, node: u32, tick: u64)
         requires { CanNote self.old }
-        ensures { Notes self.old.last node tick self.old.header self.old.nodes.items self.old.events self.old.sent.items self.old.desk.placed.items self.new }
+        ensures { Notes self.old.last node tick self.old.header self.old.nodes.items self.old.events
+            self.old.sent.items self.old.desk.placed.items self.new }
     {
         let first = self.posted();
         self.events += 1;

@@ -12,7 +12,7 @@ use tsp_base::stamp::Stamp;
 
 /// What a datagram carries beside the octets of its name.
 #[derive(Clone, Copy)]
-pub(crate) enum Held {
+pub(crate) enum StoredDatagram {
     /// A message. Its name begins at one place among the octets of all names, and ends before another.
     Message {
         kind: Kind,
@@ -29,7 +29,7 @@ pub(crate) enum Held {
 #[derive(Clone, Copy)]
 pub(crate) struct Head {
     pub(crate) way: Way,
-    pub(crate) held: Held,
+    pub(crate) held: StoredDatagram,
 }
 
 /// Puts octets behind the others, where there is room.
@@ -46,7 +46,7 @@ fn append(names: &mut Vec<u8>, octets: &[u8])
 }
 
 /// Puts the name of a message behind the others, and gives the rest of it.
-fn hold_message(names: &mut Vec<u8>, message: &Message) -> Held
+fn hold_message(names: &mut Vec<u8>, message: &Message) -> StoredDatagram
     requires room { vec_len names.old + 255 ≤ vec_capacity names.old }
     ensures items { names.new.items ≡ names.old.items ++ message.now.name }
     ensures few { vec_len names.new ≤ vec_len names.old + 255 }
@@ -56,7 +56,7 @@ fn hold_message(names: &mut Vec<u8>, message: &Message) -> Held
 {
     let start = names.len();
     append(names, message.name().octets());
-    Held::Message {
+    StoredDatagram::Message {
         kind: message.kind(),
         number: message.number(),
         body: message.body(),
@@ -66,7 +66,7 @@ fn hold_message(names: &mut Vec<u8>, message: &Message) -> Held
 }
 
 /// Puts the name of a datagram behind the others, and gives the rest of it.
-pub(crate) fn hold(names: &mut Vec<u8>, datagram: &Datagram) -> Held
+pub(crate) fn hold(names: &mut Vec<u8>, datagram: &Datagram) -> StoredDatagram
     requires room { vec_len names.old + 255 ≤ vec_capacity names.old }
     ensures items { names.new.items ≡ names.old.items ++ name_in datagram.now }
     ensures few { vec_len names.new ≤ vec_len names.old + 255 }
@@ -76,17 +76,17 @@ pub(crate) fn hold(names: &mut Vec<u8>, datagram: &Datagram) -> Held
 {
     match datagram {
         Datagram::Message(message) => hold_message(names, message),
-        Datagram::Stamp(stamp) => Held::Stamp(*stamp),
+        Datagram::Stamp(stamp) => StoredDatagram::Stamp(*stamp),
     }
 }
 
 /// The datagram of which this is kept, with its name among these octets.
-pub(crate) fn datagram_of(names: &[u8], held: &Held) -> Datagram
+pub(crate) fn datagram_of(names: &[u8], held: &StoredDatagram) -> Datagram
     requires { HeldStands names.now held.now }
     ensures { result ≡ datagram_in names.now held.now }
 {
     match held {
-        Held::Message {
+        StoredDatagram::Message {
             kind,
             number,
             body,
@@ -96,6 +96,6 @@ pub(crate) fn datagram_of(names: &[u8], held: &Held) -> Datagram
             let name = Name::new(&names[*start..*end]);
             Datagram::Message(Message::new(*kind, *number, *body, name))
         }
-        Held::Stamp(stamp) => Datagram::Stamp(*stamp),
+        StoredDatagram::Stamp(stamp) => Datagram::Stamp(*stamp),
     }
 }

@@ -11,8 +11,8 @@ use tsp_base::datagram::Datagram;
 /// The most octets of a name.
 const LONGEST: usize = 255;
 
-/// Posted datagrams under numbers from 0, and room for more. Its room is counted apart, since a vector may hold more than was asked
-/// for.
+/// Posted datagrams under numbers from 0, and room for more. Its room is counted apart, since a
+/// vector may hold more than was asked for.
 #[derive(Drop)]
 pub struct Posts {
     /// The posts without the octets of their names.
@@ -30,7 +30,10 @@ impl Model for Posts {
 
     ghost Value = { PostsValue };
 
-    ghost view = { λ p. record { items = map (post_in p.names.items) p.heads.items; spare = p.spare } };
+    ghost view = { λ p. record {
+      items = map (post_in p.names.items) p.heads.items;
+      spare = p.spare;
+    } };
 
     ghost invariant = { λ p. ArePosts p.names p.heads p.spare };
 }
@@ -58,7 +61,8 @@ impl Posts {
         self.heads.len()
     }
 
-    /// When the datagram with this number was posted, by whom and for whom; None exactly where no datagram has it.
+    /// When the datagram with this number was posted, by whom and for whom; None exactly where no
+    /// datagram has it.
     pub fn way(&self, k: u64) -> Option<Way>
         ensures { result ≡ option_map way_of (slice_get self.now.items k) }
     {
@@ -76,8 +80,8 @@ impl Posts {
         datagram_of(self.names.as_slice(), &self.heads[k as usize].held)
     }
 
-    /// Makes room for at least `n` more, whatever their names; the posts stay. The refusal is want of memory, and leaves the room as
-    /// it was.
+    /// Makes room for at least `n` more, whatever their names; the posts stay. Fails only if out of
+    /// memory, and then leaves the room as it was.
     pub fn reserve(&mut self, n: usize) -> Result<(), AllocError>
         ensures items { self.new.items ≡ self.old.items }
         ensures room { OnOk result (n ≤ self.new.spare) }

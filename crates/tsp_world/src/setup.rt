@@ -9,7 +9,7 @@ use tsp_base::members::Members;
 use tsp_base::place::PeerId;
 use tsp_gateway::GateConfig;
 
-/// What each node of a header is set up with, in order, on these networks. The refusal is want of memory.
+/// What each node of a header is set up with, in order, on these networks. Fails only if out of memory.
 pub(crate) fn configs_of(
     alloc: Global,
     header: &Header,
@@ -26,7 +26,7 @@ pub(crate) fn configs_of(
     Ok(configs)
 }
 
-/// What a node is set up with on these networks. The refusal is want of memory.
+/// What a node is set up with on these networks. Fails only if out of memory.
 fn config_of(
     alloc: Global,
     line: &NodeLine,
@@ -34,7 +34,12 @@ fn config_of(
     number: u32,
     nets: &[Members],
 ) -> Result<GateConfig, AllocError>
-    ensures { IfOk result (λ c. c ≡ record { name = line.now.name; may = line.now.may; strict = strict; ports = ports_on number nets.now }) }
+    ensures { IfOk result (λ c. c ≡ record {
+      name = line.now.name;
+      may = line.now.may;
+      strict = strict;
+      ports = ports_on number nets.now;
+    }) }
 {
     let mut config = GateConfig::new(alloc, line.name.copy(), line.may, strict)?;
     for net in nets {
@@ -43,15 +48,18 @@ fn config_of(
     Ok(config)
 }
 
-/// Gives a node a port on a network, where it is on it. The refusal is want of memory: a node is on 4 networks at
-/// the most.
+/// Gives a node a port on a network, where it is on it. Fails only if out of memory: a node is on 4
+/// networks at the most.
 fn join(
     alloc: Global,
     config: &mut GateConfig,
     number: u32,
     net: &Members,
 ) -> Result<(), AllocError>
-    ensures { OnOk result (config.new ≡ record config.old { ports = config.old.ports ++ ports_on number (net.now ∷ []) }) }
+    ensures { OnOk result (config.new ≡ record config.old {
+      ports = config.old.ports ++ ports_on
+          number (net.now ∷ []);
+    }) }
 {
     if !net.numbers().contains(&number) {
         return Ok(());
@@ -63,7 +71,7 @@ fn join(
     }
 }
 
-/// The members of a network, as its ports have them as peers. The refusal is want of memory.
+/// The members of a network, as its ports have them as peers. Fails only if out of memory.
 fn peers_of(alloc: Global, net: &Members) -> Result<Vec<PeerId>, AllocError>
     ensures { IfOk result (λ v. v.items ≡ peers_on net.now) }
 {

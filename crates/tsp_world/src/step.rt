@@ -19,9 +19,12 @@ use tsp_gateway::Gateway;
 pub(crate) fn turn(place: &mut Option<Gateway>, tick: u64, desk: &mut Pad)
     requires tick { tick ≤ 2 ^ 61 }
     requires able { CanAct desk.old.spare tick place.old }
-    ensures row { PerformsAll UpBegun UpStands (answers_all NodeTurn) tick place.old place.new desk.old.placed.items desk.new.placed.items }
-    ensures ready { (ports : List PortSetup) → PlaceReady ports tick place.old → PlaceReady ports tick place.new }
-    ensures few { (ports : List PortSetup) → PlaceReady ports tick place.old → length desk.new.placed.items ≤ length desk.old.placed.items + room ports }
+    ensures row { PerformsAll UpBegun UpStands (answers_all NodeTurn) tick place.old place.new
+        desk.old.placed.items desk.new.placed.items }
+    ensures ready { (ports : List PortSetup) → PlaceReady ports tick place.old
+        → PlaceReady ports tick place.new }
+    ensures few { (ports : List PortSetup) → PlaceReady ports tick place.old
+        → length desk.new.placed.items ≤ length desk.old.placed.items + room ports }
 {
     if let Some(node) = place {
         node.turn(tick, desk);
@@ -39,9 +42,12 @@ pub(crate) fn take(
 )
     requires tick { tick ≤ 2 ^ 61 }
     requires able { CanTake desk.old.spare tick port place.old }
-    ensures row { PerformsAll UpBegun UpStands (answers_all (GotOn port from taken.now)) tick place.old place.new desk.old.placed.items desk.new.placed.items }
-    ensures ready { (ports : List PortSetup) → PlaceReady ports tick place.old → PlaceReady ports tick place.new }
-    ensures few { (ports : List PortSetup) → PlaceReady ports tick place.old → length desk.new.placed.items ≤ length desk.old.placed.items + room ports }
+    ensures row { PerformsAll UpBegun UpStands (answers_all (GotOn port from taken.now)) tick
+        place.old place.new desk.old.placed.items desk.new.placed.items }
+    ensures ready { (ports : List PortSetup) → PlaceReady ports tick place.old
+        → PlaceReady ports tick place.new }
+    ensures few { (ports : List PortSetup) → PlaceReady ports tick place.old
+        → length desk.new.placed.items ≤ length desk.old.placed.items + room ports }
 {
     if let Some(node) = place {
         node.take(tick, port, from, taken, desk);

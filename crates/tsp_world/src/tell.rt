@@ -2,10 +2,10 @@
 ghost use Rattle.std.specs.Prelude.{◌≡◌, ◌≤◌, ◌<◌, ◌^◌, ◌+◌, ◌++◌, [], ◌∷◌, ℕ, length, vec_len, vec_capacity};
 ghost use Rattle.tsp_run.specs.Run.{told_from, told_line, posts_by, number_of, posts_from, posted_by};
 
-use tsp_base::act::{Act, Placed};
-use tsp_base::place::Port;
 use crate::posts::Posts;
 use crate::way::Way;
+use tsp_base::act::{Act, Placed};
+use tsp_base::place::Port;
 use tsp_run::line::Line;
 
 /// Tells acts of an event as lines; the first post among them gets the number `first`.
@@ -39,7 +39,8 @@ fn tell_one(
 ) -> u64
     requires room { vec_len lines.old < vec_capacity lines.old }
     requires number { next + 1 < 2 ^ 64 }
-    ensures line { lines.new.items ≡ lines.old.items ++ told_line event node tick next placed.now ∷ [] }
+    ensures line { lines.new.items ≡ lines.old.items ++ told_line event node tick next
+        placed.now ∷ [] }
     ensures len { vec_len lines.new ≡ vec_len lines.old + 1 }
     ensures capacity { vec_capacity lines.old ≤ vec_capacity lines.new }
     ensures next { result ≡ next + posts_by placed.now.act }

@@ -1,8 +1,10 @@
 //! All nodes of a schedule and all datagrams that they posted.
-ghost use Rattle.std.specs.Prelude.{◌≡◌, ◌≤◌, [], ◌∷◌, List, true, length, vec_len, IfOk, OnOk, OnErr, MatchResult, slice_get, None};
+ghost use Rattle.std.specs.Prelude.{◌≡◌, ◌≤◌, [], ◌∷◌, List, true, length, vec_len, IfOk, OnOk};
+ghost use Rattle.std.specs.Prelude.{OnErr, MatchResult, slice_get, None};
 ghost use Rattle.tsp_base.specs.Headers.{is_whole};
 ghost use Rattle.tsp_world.specs.NodesReady.{NodesReady};
 
+use crate::posts::Posts;
 use crate::setup::configs_of;
 use std::alloc::{AllocError, Global};
 use tsp_base::desk::Desk;
@@ -12,7 +14,6 @@ use tsp_base::members::Members;
 use tsp_base::pad::Pad;
 use tsp_gateway::{GateConfig, Gateway};
 use tsp_networks::{all_nodes, networks_of};
-use crate::posts::Posts;
 use tsp_run::line::Line;
 
 /// The nodes and the posted datagrams; the lines of the last event.
@@ -55,8 +56,8 @@ impl World {
     ghost use Rattle.tsp_world.specs.NodesReady.{wanted};
     ghost use Rattle.tsp_world.specs.WorldStands.{WorldStands, scene_of, IsReady, Happens, Stays};
 
-    /// No event has happened. Takes memory for the nodes and for what they are set up with; the refusal is
-    /// want of memory, and drops the header.
+    /// No event has happened. Takes memory for the nodes and for what they are set up with; fails
+    /// only if out of memory, and drops the header.
     pub fn new(alloc: Global, header: Header) -> Result<World, AllocError>
         requires some { 1 ≤ length header.nodes }
         requires whole { is_whole header ≡ true }
@@ -113,17 +114,27 @@ impl World {
         }
     }
 
-    /// Lets an event happen, or says for which first cause it can't: `TimeBack` where its time is below the
-    /// last one's, `NoNode` for a number that no node has or a port that its node lacks, `NoDatagram` for one that was never posted,
-    /// `NotUp` where the node that would act hasn't booted, `Limit` where 200,000 events are there or the
-    /// node's posts might pass 1,000,000. A refusal leaves the world as it was, want of memory too. The history
-    /// of the events accepted so far keeps the promises.
+    /// Lets an event happen, or says for which first cause it can't: `TimeBack` where its time is
+    /// below the last one's, `NoNode` for a number that no node has or a port that its node lacks,
+    /// `NoDatagram` for one that was never posted, `NotUp` where the node that would act hasn't
+    /// booted, `Limit` where 200,000 events are there or the node's posts might pass 1,000,000. A
+    /// refusal leaves the world as it was, lack of memory too. The history of the events accepted
+    /// so far keeps the promises.
     pub fn event(&mut self, e: &Event) -> Result<(), EventFault>
         requires time { event_at e.now ≤ 1000000000000000 }
-        ensures stands { (header : HeaderValue) (events : List Event) → WorldStands header events self.old → OnOk result (WorldStands header (e.now ∷ events) self.new) }
-        ensures promises { (header : HeaderValue) (events : List Event) (setting : Setting) → WorldStands header events self.old → SetBy header setting → OnOk result (Promises setting (run header (e.now ∷ events))) }
-        ensures kept { (header : HeaderValue) (events : List Event) → WorldStands header events self.old → OnErr result (WorldStands header events self.new) }
-        ensures fault { (header : HeaderValue) (events : List Event) → WorldStands header events self.old → MatchResult result (λ _. refusal (scene header events) e.now ≡ None) (λ f. IsRefusal (refusal (scene header events) e.now) f) }
+        ensures stands { (header : HeaderValue) (events : List Event)
+            → WorldStands header events self.old
+            → OnOk result (WorldStands header (e.now ∷ events) self.new) }
+        ensures promises { (header : HeaderValue) (events : List Event) (setting : Setting)
+            → WorldStands header events self.old → SetBy header setting
+            → OnOk result (Promises setting (run header (e.now ∷ events))) }
+        ensures kept { (header : HeaderValue) (events : List Event)
+            → WorldStands header events self.old
+            → OnErr result (WorldStands header events self.new) }
+        ensures fault { (header : HeaderValue) (events : List Event)
+            → WorldStands header events self.old
+            → MatchResult result (λ _. refusal (scene header events) e.now ≡ None)
+            (λ f. IsRefusal (refusal (scene header events) e.now) f) }
     {
         let node = self.actor(e);
         if let Some(fault) = self.refusal(e, node) {
@@ -138,8 +149,8 @@ impl World {
         }
     }
 
-    /// Makes room for the acts of a step at which this node acts, its lines and its posts. The refusal is want
-    /// of memory, and the world still stands for what it stood for.
+    /// Makes room for the acts of a step at which this node acts, its lines and its posts. Fails
+    /// only if out of memory, and the world still stands for what it stood for.
     fn make_room(&mut self, node: Option<u32>) -> Result<(), AllocError>
         ensures stands { Stays self.old self.new }
         ensures ready { OnOk result (IsReady (wanted self.old.header node) self.new) }
@@ -157,8 +168,8 @@ impl World {
         Ok(())
     }
 
-    /// Lets an event happen that nothing refuses, and at which this node acts. The refusal is want of memory for a boot, and the world
-    /// still stands for what it stood for.
+    /// Lets an event happen that nothing refuses, and at which this node acts. Fails only if out of
+    /// memory for a boot, and the world still stands for what it stood for.
     fn happen(&mut self, e: &Event, node: Option<u32>) -> Result<(), AllocError>
         requires ready { IsReady (wanted self.old.header node) self.old }
         requires time { event_at e.now ≤ 1000000000000000 }

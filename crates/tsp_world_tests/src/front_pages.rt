@@ -39,7 +39,8 @@ fn of_the_averaging(rt: HostRuntime) {
     assert_eq!(rt; correction(433, 900), -467);
 }
 
-/// A node of one network boots and is stepped at the end of its quiet time; the count of its acts is its desk's.
+/// A node of one network boots and is stepped at the end of its quiet time; the count of its acts
+/// is its desk's.
 fn boot_and_step(alloc: Global) -> Result<usize, AllocError> {
     let mut config = GateConfig::new(alloc, Name::new(b"alpha"), true, false)?;
     if config.port(PeerId(0), &[PeerId(0), PeerId(1)]).is_err() {

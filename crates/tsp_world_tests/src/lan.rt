@@ -79,7 +79,8 @@ fn starting(alloc: Global, nodes: usize) -> Option<Vec<Role>> {
 }
 
 impl Lan {
-    /// Nodes with these wall clocks, in microseconds, all on one network. They are down as yet, and all may lead.
+    /// Nodes with these wall clocks, in microseconds, all on one network. They are down as yet, and
+    /// all may lead.
     pub(crate) fn of(alloc: Global, walls: &[i64]) -> Option<Lan> {
         let header = header_of(alloc, walls, walls.len())?;
         Lan::with(alloc, header, walls)

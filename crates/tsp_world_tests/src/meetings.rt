@@ -53,8 +53,8 @@ fn a_late_node_follows(rt: HostRuntime) {
     assert!(rt; lan.spread() <= 2000);
 }
 
-/// A master that is cut off leads on alone, and the others elect another. Once a node boots that hears both, one of
-/// the two yields.
+/// A master that is cut off leads on alone, and the others elect another. Once a node boots that
+/// hears both, one of the two yields.
 #[test]
 fn a_split_network_joins_again(rt: HostRuntime) {
     let Some(mut lan) = Lan::of(rt.alloc(), &[0, 0, 0]) else {

@@ -80,15 +80,3 @@ fn posts_come_back(rt: HostRuntime) -> Result<(), Fail> {
     );
     Ok(())
 }
-
-#[test]
-fn ways_come_back(rt: HostRuntime) -> Result<(), Fail> {
-    let posts = four_posts(rt.alloc()).ok_or("no posts")?;
-    let first = posts.way(0).ok_or("no way")?;
-    let last = posts.way(3).ok_or("no way")?;
-    assert_eq!(rt; (first.at, last.at), (10, 40));
-    assert_eq!(rt; (last.from, last.port), (1, Port(2)));
-    assert!(rt; last.to == Place::Peer(PeerId(3)));
-    assert!(rt; posts.way(4).is_none());
-    Ok(())
-}

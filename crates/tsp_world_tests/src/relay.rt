@@ -6,7 +6,8 @@ use tsp_base::datagram::{Datagram, Taken};
 use tsp_base::kind::Kind;
 use tsp_base::place::PeerId;
 
-/// The master of the first network, the node that follows it there and leads on the second, and that node's slave.
+/// The master of the first network, the node that follows it there and leads on the second, and
+/// that node's slave.
 const MASTER: u32 = 0;
 
 const GATEWAY: u32 = 1;
@@ -88,8 +89,9 @@ fn note(told: &mut Told, lan: &Lan) {
     }
 }
 
-/// The slave takes an ADJTIME of a round that the gateway closed after a master corrected it: its clock and the
-/// master's differ by no more than both samples' errors and a microsecond for each end of each reading.
+/// The slave takes an ADJTIME of a round that the gateway closed after a master corrected it: its
+/// clock and the master's differ by no more than both samples' errors and a microsecond for each
+/// end of each reading.
 #[test]
 fn a_relayed_clock_agrees(rt: HostRuntime) {
     let nets: [&[u32]; 2] = [&[MASTER, GATEWAY], &[GATEWAY, SLAVE]];

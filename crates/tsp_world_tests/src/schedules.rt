@@ -286,8 +286,8 @@ fn refuses_by_the_first_cause(rt: HostRuntime) {
     assert_eq!(rt; world.events(), 2);
 }
 
-/// A node of two networks boots on both ports; what it posts on one reaches that network alone, and a port that
-/// it lacks is refused.
+/// A node of two networks boots on both ports; what it posts on one reaches that network alone, and
+/// a port that it lacks is refused.
 #[test]
 fn carries_a_reply_on_its_network(rt: HostRuntime) {
     let Some(mut world) = world_of_two_networks(rt.alloc()) else {

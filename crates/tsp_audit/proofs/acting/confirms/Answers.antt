@@ -3,7 +3,7 @@ use Rattle.tsp_base.specs.declared.act.Act.TheVariants.{Acked}
 use Rattle.tsp_base.specs.History.{Acts, of, view}
 use Rattle.tsp_base.specs.SendFacts.{open_to}
 use Rattle.tsp_history.specs.Histories.{history_of, line_of}
-use Rattle.tsp_history.specs.Told.{PostedAt}
+use Rattle.tsp_history.specs.PostedPlaces.{PostedAt}
 use Rattle.tsp_audit.specs.Acting.{is_in}
 use Rattle.tsp_audit.proofs.ActLemmas.{confirmed-rest, confirmed-yes}
 use Rattle.tsp_audit.proofs.acting.confirms.Goals as goal

@@ -2,7 +2,7 @@ use Rattle.std.proofs.Common.{◌≡◌, ◌<◌, ◌≤◌, ℕ, Bool, rules, a
 use Rattle.std.proofs.lemmas.List.{take_all}
 use Rattle.tsp_promises.specs.Everywhere.{Everywhere}
 use Rattle.tsp_base.specs.History.{Line}
-use Rattle.tsp_history.specs.declared.noted.Noted.{Noted}
+use Rattle.tsp_history.specs.declared.line.HistoryLine.{HistoryLine}
 use Rattle.tsp_history.specs.Histories.{line_of, history_of}
 use Rattle.tsp_audit.specs.Acting.{ActedIs, ActsAt, TakesAs}
 use Rattle.tsp_audit.proofs.ActLemmas.{acted-next, acts-all, acts-part, takes-as}
@@ -15,9 +15,9 @@ loop-i-init c = ((λ room a. a), (λ setting has timely room a once. acts-all c.
 
 pub returns-then-not-acts_once-clause-keeps : goal.returns-then-not-acts_once-clause-keeps
 returns-then-not-acts_once-clause-keeps c setting has timely room a once all =
-    let lines : List Noted = c.args.lines.now in
+    let lines : List HistoryLine = c.args.lines.now in
     let i : ℕ = c.loop-i.i in
-    let noted : Noted = c.index-lines-i.result in
+    let noted : HistoryLine = c.index-lines-i.result in
     let here : get_or lines i noted ≡ noted = search rules in
     let slice : c.as_slice.result.now ≡ c.loop-i.acted.items = search rules in
     let acted : ActedIs (history_of (take i lines)) c.as_slice.result.now = subst (λ (xs : List ℕ). ActedIs (history_of (take i lines)) xs) (sym slice) (c.loop-i.invariant.0 room a) in
@@ -30,10 +30,10 @@ returns-then-not-acts_once-clause-keeps c setting has timely room a once all =
 
 pub loop-i-preserved : goal.loop-i-preserved
 loop-i-preserved c =
-    let lines : List Noted = c.args.lines.now in
+    let lines : List HistoryLine = c.args.lines.now in
     let i : ℕ = c.loop-i.i in
     let lt : i < length lines = omega arith in
-    let noted : Noted = c.index-lines-i.result in
+    let noted : HistoryLine = c.index-lines-i.result in
     let here : get_or lines i noted ≡ noted = search rules in
     let slice : c.as_slice.result.now ≡ c.loop-i.acted.items = search rules in
     let takes : TakesAs (line_of noted) (history_of (take i lines)) c.takes_send-send.result = takes-as (line_of noted) (history_of (take i lines)) c.takes_send-send.result c.takes_send-send.ensures in (
@@ -50,10 +50,10 @@ loop-i-preserved c =
 
 pub returns-clause-keeps : goal.returns-clause-keeps
 returns-clause-keeps c setting has timely room a once =
-    let lines : List Noted = c.args.lines.now in
-    let all : Everywhere (ActsAt c.args.premises setting) (history_of lines) = subst (λ (ns : List Noted). Everywhere (ActsAt c.args.premises setting) (history_of ns)) (take_all c.loop-i.i lines (omega arith)) (c.loop-i.invariant.1 setting has timely room a once) in
+    let lines : List HistoryLine = c.args.lines.now in
+    let all : Everywhere (ActsAt c.args.premises setting) (history_of lines) = subst (λ (ns : List HistoryLine). Everywhere (ActsAt c.args.premises setting) (history_of ns)) (take_all c.loop-i.i lines (omega arith)) (c.loop-i.invariant.1 setting has timely room a once) in
     acts-part c.args.premises setting (history_of lines) all
 
 pub returns-clause-acted : goal.returns-clause-acted
 returns-clause-acted c told room a =
-    subst (λ (ns : List Noted). ActedIs (history_of ns) c.loop-i.acted.items) (take_all c.loop-i.i c.args.lines.now (omega arith)) (c.loop-i.invariant.0 room a)
+    subst (λ (ns : List HistoryLine). ActedIs (history_of ns) c.loop-i.acted.items) (take_all c.loop-i.i c.args.lines.now (omega arith)) (c.loop-i.invariant.0 room a)

@@ -1,6 +1,6 @@
 use Rattle.std.proofs.Common.{◌≡◌, ◌≤◌, ◌-◌, ◌∙◌, ℕ, arith, ap, sym, List, length, Option, subst}
 use Rattle.tsp_base.specs.History.{Line}
-use Rattle.tsp_history.specs.declared.noted.Noted.{Noted}
+use Rattle.tsp_history.specs.declared.line.HistoryLine.{HistoryLine}
 use Rattle.tsp_history.specs.Histories.{history_of}
 use Rattle.tsp_claims.specs.ClaimedHistory.{claimed}
 use Rattle.tsp_audit.specs.Judged.{Judges}
@@ -17,7 +17,7 @@ returns-then-lines-from c header new h stand grown room notes =
 
 pub returns-in-None : goal.returns-in-None
 returns-in-None c header new h stand grown room notes =
-    let ns : List Noted = c.lines-lines.result.now in
+    let ns : List HistoryLine = c.lines-lines.result.now in
     let count : ℕ = length header.nodes in
     let is : history_of ns ≡ claimed header new = c.lines-lines.ensures.lines header new stand in
     let long : length (claimed header new) ≡ length ns = sym (ap (λ (x : List Line). length x) is) ∙ history-length ns in
@@ -32,7 +32,7 @@ returns-in-None c header new h stand grown room notes =
 
 pub returns-in-Some : goal.returns-in-Some
 returns-in-Some c header new h stand grown room notes =
-    let ns : List Noted = c.lines-lines.result.now in
+    let ns : List HistoryLine = c.lines-lines.result.now in
     let count : ℕ = length header.nodes in
     let is : history_of ns ≡ claimed header new = c.lines-lines.ensures.lines header new stand in
     let long : length (claimed header new) ≡ length ns = sym (ap (λ (x : List Line). length x) is) ∙ history-length ns in

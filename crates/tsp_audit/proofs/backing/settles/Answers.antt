@@ -2,7 +2,7 @@ use Rattle.std.proofs.Common.{◌≡◌, ◌<◌, ◌+◌, ℕ, true, false, rul
 use Rattle.tsp_base.specs.declared.place.Port.{Port}
 use Rattle.tsp_base.specs.History.{Line, of, view}
 use Rattle.tsp_promises.specs.StepFacts.{is_unbacked}
-use Rattle.tsp_history.specs.declared.noted.Noted.{Noted}
+use Rattle.tsp_history.specs.declared.line.HistoryLine.{HistoryLine}
 use Rattle.tsp_history.specs.Histories.{line_of, history_of}
 use Rattle.tsp_audit.specs.Backing.{concerns, is_stand}
 use Rattle.tsp_audit.proofs.BackLemmas.{neither, unbacked-more}
@@ -12,8 +12,8 @@ use Rattle.tsp_audit.proofs.backing.settles.Goals.{else-stands-via-then-stands+e
 
 pub loop-i-preserved : goal.loop-i-preserved
 loop-i-preserved c old n q meant e =
-    let line : Noted = c.index-lines-i.result in
-    let lines : List Noted = c.args.lines.now in
+    let line : HistoryLine = c.index-lines-i.result in
+    let lines : List HistoryLine = c.args.lines.now in
     let i : ℕ = c.loop-i.i in
     let here : get_or lines i line ≡ line = search rules in
     let lt : i < length lines = omega arith in

@@ -1,5 +1,5 @@
 use Rattle.std.proofs.Common.{◌≡◌, rules, get_or}
-use Rattle.tsp_history.specs.declared.noted.Noted.{Noted}
+use Rattle.tsp_history.specs.declared.line.HistoryLine.{HistoryLine}
 use Rattle.tsp_history.specs.Histories.{deed_of, history_of, line_of}
 use Rattle.tsp_audit.specs.Acting.{CameAt, PostsTo}
 use Rattle.tsp_audit.proofs.TakeLemmas.{brings-found, brings-none, brings-other}
@@ -11,7 +11,7 @@ returns-in-None c = brings-none (line_of c.args.line.now) (history_of c.args.lin
 pub returns-else-posts_to : goal.returns-else-posts_to
 returns-else-posts_to c =
     let came : CameAt c.args.lines.now (line_of c.args.line.now) c.in-Some.index = search rules in
-    let noted : Noted = c.index-lines-index.result in
+    let noted : HistoryLine = c.index-lines-index.result in
     let here : get_or c.args.lines.now c.in-Some.index noted ≡ noted = search rules in
     let other : PostsTo (deed_of noted.act) c.args.line.now.node → ⊥ = search rules in
     brings-other c.args.lines.now (line_of c.args.line.now) c.in-Some.index noted came here other
@@ -19,7 +19,7 @@ returns-else-posts_to c =
 pub returns-then-posts_to : goal.returns-then-posts_to
 returns-then-posts_to c =
     let came : CameAt c.args.lines.now (line_of c.args.line.now) c.in-Some.index = search rules in
-    let noted : Noted = c.index-lines-index.result in
+    let noted : HistoryLine = c.index-lines-index.result in
     let here : get_or c.args.lines.now c.in-Some.index noted ≡ noted = search rules in
     let posts : PostsTo (deed_of noted.act) c.args.line.now.node = search rules in
     brings-found c.args.lines.now (line_of c.args.line.now) c.in-Some.index noted came here posts

@@ -1,5 +1,5 @@
 use Rattle.std.proofs.Common.{◌≡◌, rules, get_or}
-use Rattle.tsp_history.specs.declared.noted.Noted.{Noted}
+use Rattle.tsp_history.specs.declared.line.HistoryLine.{HistoryLine}
 use Rattle.tsp_history.specs.Histories.{line_of}
 use Rattle.tsp_audit.specs.Casting.{BegunAt}
 use Rattle.tsp_audit.proofs.SampleLemmas.{cast-told, trips-before}
@@ -8,6 +8,6 @@ use Rattle.tsp_audit.proofs.casting.cast_at.Goals as goal
 pub returns-in-Some : goal.returns-in-Some
 returns-in-Some c tell =
     let begun : BegunAt c.args.lines.now (line_of c.args.line.now) c.in-Some.index = search rules in
-    let noted : Noted = c.index-lines-index.result in
+    let noted : HistoryLine = c.index-lines-index.result in
     let here : get_or c.args.lines.now c.in-Some.index noted ≡ noted = search rules in
     cast-told c.args.lines.now (line_of c.args.line.now) c.in-Some.index noted c.round_of.result begun here (c.round_of.ensures (trips-before c.args.lines.now c.args.trips.now c.in-Some.index tell))

@@ -4,7 +4,7 @@ use Rattle.std.specs.Int.{w64}
 use Rattle.tsp_base.specs.History.{of, view}
 use Rattle.tsp_base.specs.RoundFacts.{best}
 use Rattle.tsp_base.specs.Takings.{peer_of}
-use Rattle.tsp_history.specs.declared.noted.Noted.{Noted}
+use Rattle.tsp_history.specs.declared.line.HistoryLine.{HistoryLine}
 use Rattle.tsp_history.specs.Histories.{history_of}
 use Rattle.tsp_history.specs.Rounds.{BestAt}
 use Rattle.tsp_audit.specs.Agreeing.{TripsTell}
@@ -27,7 +27,7 @@ pub returns-in-None : goal.returns-in-None
 returns-in-None c tell s =
     let before : TripsTell (history_of (take c.args.close c.args.lines.now)) c.args.trips.now = trips-before c.args.lines.now c.args.trips.now c.args.close tell in
     let b : BestAt (take c.args.close c.args.lines.now) c.args.first.now.node c.args.first.now.port (best (peer_of c.args.node) (view c.args.first.now.port (of c.args.first.now.node (history_of (take c.args.close c.args.lines.now))))) c.in-Some.best = c.in-Some.ensures before in
-    let noted : Noted = c.index-past-best.result in
+    let noted : HistoryLine = c.index-past-best.result in
     let here : get_or (take c.args.close c.args.lines.now) c.in-Some.best.index noted ≡ noted = search rules in
     reading-none c.args.lines.now c.args.first.now.node c.args.first.now.port c.args.node c.args.close c.in-Some.best noted s b here c.in-None.ensures
 
@@ -35,7 +35,7 @@ pub returns-in-Some-reading_of : goal.returns-in-Some-reading_of
 returns-in-Some-reading_of c tell s =
     let before : TripsTell (history_of (take c.args.close c.args.lines.now)) c.args.trips.now = trips-before c.args.lines.now c.args.trips.now c.args.close tell in
     let b : BestAt (take c.args.close c.args.lines.now) c.args.first.now.node c.args.first.now.port (best (peer_of c.args.node) (view c.args.first.now.port (of c.args.first.now.node (history_of (take c.args.close c.args.lines.now))))) c.in-Some.best = c.in-Some.ensures before in
-    let noted : Noted = c.index-past-best.result in
+    let noted : HistoryLine = c.index-past-best.result in
     let here : get_or (take c.args.close c.args.lines.now) c.in-Some.best.index noted ≡ noted = search rules in
     let err : to_z w64 (of_z w64 c.in-Some.best.err) ≡ c.in-Some.best.err = search rules in
     round-found c.args.lines.now c.args.first.now.node c.args.first.now.port c.args.node c.args.close c.in-Some.best noted _ s b here c.in-Some-reading_of.ensures refl refl err c.counts_at-counts.ensures.lives c.counts_at-counts.ensures.corrects

@@ -2,7 +2,7 @@ use Rattle.std.proofs.Common.{◌≡◌, ◌<◌, ◌≤◌, ℕ, Bool, rules, a
 use Rattle.std.proofs.lemmas.List.{take_all}
 use Rattle.tsp_promises.specs.Everywhere.{Everywhere}
 use Rattle.tsp_promises.proofs.EverywhereLemmas.{Everywhere-within}
-use Rattle.tsp_history.specs.declared.noted.Noted.{Noted}
+use Rattle.tsp_history.specs.declared.line.HistoryLine.{HistoryLine}
 use Rattle.tsp_history.specs.Histories.{line_of, history_of}
 use Rattle.tsp_audit.specs.Measuring.{MeasuresAt}
 use Rattle.tsp_audit.specs.Settings.{Timely}
@@ -15,9 +15,9 @@ loop-i-init c setting has timely well = measures-all setting (history_of (take c
 
 pub returns-then-not-measures : goal.returns-then-not-measures
 returns-then-not-measures c setting has timely well all =
-    let lines : List Noted = c.args.lines.now in
+    let lines : List HistoryLine = c.args.lines.now in
     let i : ℕ = c.loop-i.i in
-    let noted : Noted = c.index-lines-i.result in
+    let noted : HistoryLine = c.index-lines-i.result in
     let here : get_or lines i noted ≡ noted = search rules in
     let soon : Timely (history_of (take i lines)) = Everywhere-within (λ l before. l.did.step.at ≤ 1000000000000000) (history_of (take i lines)) (history_of lines) timely (history-within lines i) in
     let bad : MeasuresAt setting (line_of noted) (history_of (take i lines)) → ⊥ =
@@ -26,10 +26,10 @@ returns-then-not-measures c setting has timely well all =
 
 pub loop-i-preserved : goal.loop-i-preserved
 loop-i-preserved c setting has timely well =
-    let lines : List Noted = c.args.lines.now in
+    let lines : List HistoryLine = c.args.lines.now in
     let i : ℕ = c.loop-i.i in
     let lt : i < length lines = omega arith in
-    let noted : Noted = c.index-lines-i.result in
+    let noted : HistoryLine = c.index-lines-i.result in
     let here : get_or lines i noted ≡ noted = search rules in
     let soon : Timely (history_of (take i lines)) = Everywhere-within (λ l before. l.did.step.at ≤ 1000000000000000) (history_of (take i lines)) (history_of lines) timely (history-within lines i) in
     let good : MeasuresAt setting (line_of noted) (history_of (take i lines)) =
@@ -38,6 +38,6 @@ loop-i-preserved c setting has timely well =
 
 pub returns : goal.returns
 returns c setting has timely well =
-    let lines : List Noted = c.args.lines.now in
-    let all : Everywhere (MeasuresAt setting) (history_of lines) = subst (λ (ns : List Noted). Everywhere (MeasuresAt setting) (history_of ns)) (take_all c.loop-i.i lines (omega arith)) (c.loop-i.invariant setting has timely well) in
+    let lines : List HistoryLine = c.args.lines.now in
+    let all : Everywhere (MeasuresAt setting) (history_of lines) = subst (λ (ns : List HistoryLine). Everywhere (MeasuresAt setting) (history_of ns)) (take_all c.loop-i.i lines (omega arith)) (c.loop-i.invariant setting has timely well) in
     measures-part setting (history_of lines) all

@@ -1,5 +1,5 @@
 use Rattle.std.proofs.Common.{◌≡◌, rules, get_or}
-use Rattle.tsp_history.specs.declared.noted.Noted.{Noted}
+use Rattle.tsp_history.specs.declared.line.HistoryLine.{HistoryLine}
 use Rattle.tsp_history.specs.Histories.{history_of, line_of}
 use Rattle.tsp_audit.specs.Acting.{CameAt}
 use Rattle.tsp_audit.specs.Measuring.{RepliesTo}
@@ -12,7 +12,7 @@ returns-in-None c = replies-none (line_of c.args.line.now) (history_of c.args.li
 pub returns-else-replies_to : goal.returns-else-replies_to
 returns-else-replies_to c =
     let came : CameAt c.args.lines.now (line_of c.args.line.now) c.in-Some.index = search rules in
-    let noted : Noted = c.index-lines-index.result in
+    let noted : HistoryLine = c.index-lines-index.result in
     let here : get_or c.args.lines.now c.in-Some.index noted ≡ noted = search rules in
     let other : RepliesTo (line_of noted) c.args.peer c.args.line.now.node → ⊥ = search rules in
     replies-other c.args.lines.now (line_of c.args.line.now) c.args.peer c.in-Some.index noted came here other
@@ -20,7 +20,7 @@ returns-else-replies_to c =
 pub returns-then-replies_to : goal.returns-then-replies_to
 returns-then-replies_to c =
     let came : CameAt c.args.lines.now (line_of c.args.line.now) c.in-Some.index = search rules in
-    let noted : Noted = c.index-lines-index.result in
+    let noted : HistoryLine = c.index-lines-index.result in
     let here : get_or c.args.lines.now c.in-Some.index noted ≡ noted = search rules in
     let posts : RepliesTo (line_of noted) c.args.peer c.args.line.now.node = search rules in
     replies-found c.args.lines.now (line_of c.args.line.now) c.args.peer c.in-Some.index noted came here posts

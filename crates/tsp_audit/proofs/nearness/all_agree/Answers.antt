@@ -1,7 +1,7 @@
 use Rattle.std.proofs.Common.{◌≡◌, ℕ, pos, sym, subst, subst₂, arith, inl, inr, get_or, None}
 use Rattle.std.proofs.lemmas.Bool.{cases_lt}
 use Rattle.tsp_audit.specs.Agreeing.{NodeAgrees}
-use Rattle.tsp_audit.specs.declared.live.NodeState.{NodeState}
+use Rattle.tsp_audit.specs.declared.round_correction.NodeState.{NodeState}
 use Rattle.tsp_audit.proofs.AccordSteps.{state-at}
 use Rattle.tsp_history.specs.Clocks.{IsSumOf}
 use Rattle.tsp_audit.proofs.nearness.all_agree.Goals as goal

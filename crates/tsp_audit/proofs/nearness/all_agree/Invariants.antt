@@ -1,7 +1,7 @@
 -- Each node so far agrees.
 use Rattle.std.proofs.Common.{◌≤◌, ◌<◌, ℕ}
 use Rattle.tsp_audit.specs.Agreeing.{AllBounded, IsAt, NodeAgrees}
-use Rattle.tsp_audit.specs.declared.live.NodeState.{NodeState}
+use Rattle.tsp_audit.specs.declared.round_correction.NodeState.{NodeState}
 use Rattle.tsp_audit.proofs.nearness.all_agree.Given as goal
 
 abbrev pub invariant-loop-n : goal.invariant-loop-n

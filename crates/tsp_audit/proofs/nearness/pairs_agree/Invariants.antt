@@ -1,7 +1,7 @@
 -- The node agrees with those so far.
 use Rattle.std.proofs.Common.{◌≤◌, ◌<◌, ℕ}
 use Rattle.tsp_audit.specs.Agreeing.{AllBounded, IsAt, PairAgrees}
-use Rattle.tsp_audit.specs.declared.live.NodeState.{NodeState}
+use Rattle.tsp_audit.specs.declared.round_correction.NodeState.{NodeState}
 use Rattle.tsp_history.specs.Clocks.{IsSumOf}
 use Rattle.tsp_audit.proofs.nearness.pairs_agree.Given as goal
 

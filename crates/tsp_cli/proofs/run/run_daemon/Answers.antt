@@ -1,5 +1,5 @@
 use Rattle.std.proofs.Common.{◌∙◌, ap, sym}
-use Rattle.tsp_daemon.specs.declared.exit.Served.{Served}
+use Rattle.tsp_daemon.specs.declared.exit.DaemonExit.{DaemonExit}
 use Rattle.tsp_cli.specs.Statuses.{status_of_served}
 use Rattle.tsp_cli.proofs.CommandLemmas.{RunsDaemon-served, served_unread, served_used, served_linked, served_written}
 use Rattle.tsp_cli.proofs.run.run_daemon.Goals as goal
@@ -15,8 +15,8 @@ returns-clause-write g c = λ e. c.serve_words.ensures.write (served_written c.s
 
 pub returns-clause-still : goal.returns-clause-still
 returns-clause-still g c = (
-  (λ h. c.serve_words.ensures.still.1 (λ e. h (c.of_served.ensures ∙ ap (λ (s : Served). status_of_served s) e))),
-  (λ h. c.serve_words.ensures.still.0 (λ e. h (c.of_served.ensures ∙ ap (λ (s : Served). status_of_served s) e))),
+  (λ h. c.serve_words.ensures.still.1 (λ e. h (c.of_served.ensures ∙ ap (λ (s : DaemonExit). status_of_served s) e))),
+  (λ h. c.serve_words.ensures.still.0 (λ e. h (c.of_served.ensures ∙ ap (λ (s : DaemonExit). status_of_served s) e))),
 )
 
 pub returns-clause-unread : goal.returns-clause-unread

@@ -1,5 +1,5 @@
 use Rattle.std.proofs.Common.{inl, inr, refl}
-use Rattle.tsp_query.proofs.ToldLemmas.{Says_cut}
+use Rattle.tsp_query.proofs.OutsideLemmas.{Says_cut}
 use Rattle.tsp_cli.proofs.run.say.Goals as goal
 
 pub returns-in-WriteFault-clause-says : goal.returns-in-WriteFault-clause-says

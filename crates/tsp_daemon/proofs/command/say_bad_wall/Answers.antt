@@ -1,5 +1,5 @@
 use Rattle.std.proofs.Common.{inl, inr, refl}
-use Rattle.tsp_query.proofs.ToldLemmas.{Says_cut}
+use Rattle.tsp_query.proofs.OutsideLemmas.{Says_cut}
 use Rattle.tsp_daemon.proofs.command.say_bad_wall.Goals as goal
 
 pub returns-in-WriteFault-clause-says : goal.returns-in-WriteFault-clause-says

@@ -1,9 +1,9 @@
 use Rattle.std.proofs.Common.{◌≡◌, ◌∙◌, ap, inl, inr, refl, subst, ℤ, ℕ, false, rules, w64, to_z, of_z}
 use Rattle.tsp_query.proofs.AskLemmas.{of_some}
-use Rattle.tsp_query.proofs.ToldLemmas.{Says_from}
+use Rattle.tsp_query.proofs.OutsideLemmas.{Says_from}
 use Rattle.tsp_rules.specs.Guards.{is_clock_value}
 use Rattle.tsp_daemon.proofs.NodeLemmas.{turns_fit}
-use Rattle.tsp_daemon.proofs.ServeLemmas.{Tells_read, IsServed_serves}
+use Rattle.tsp_daemon.proofs.ServeLemmas.{Tells_read, IsServed_serves, walled_is}
 use Rattle.tsp_daemon.specs.declared.end.ServeEnd.{ServeEnd}
 use Rattle.tsp_daemon.specs.Nodes.{first_past}
 use Rattle.tsp_daemon.specs.Serving.{served_of}
@@ -22,10 +22,10 @@ returns-in-Ok-clause-serves g c = λ o wall word written k.
     let wall_is = of_some (λ (x : ℤ). c.wall-wall.result ≡ x) _ wall c.wall-wall.ensures.answers (c.tick-tick.ensures.same.0 ∙ k.wall_is) in
     let word_is = of_some (λ (x : ℕ). c.word-word.result ≡ x) _ word c.word-word.ensures.answers (c.wall-wall.ensures.same.2 ∙ c.tick-tick.ensures.same.1 ∙ k.word_is) in
     let readings = c.word-word.ensures.same.0 ∙ c.wall-wall.ensures.same.0 in
-    let last = c.word-word.ensures.same.3 ∙ c.wall-wall.ensures.same.3 ∙ c.tick-tick.ensures.last in
+    let last = c.word-word.ensures.same.4 ∙ c.wall-wall.ensures.same.3 ∙ c.tick-tick.ensures.last in
     let read = Tells_read o _ _ _ _ _ _ _ _ _ c.tick-tick.ensures.takes readings last k.tells in
     let back : to_z w64 (of_z w64 c.wall-wall.result) ≡ c.wall-wall.result = search rules in
-    inr (inr (IsServed_serves _ o wall _ word _ _ written c.in-Ok.node _ _ _ _ _ _ _ c.serve.result c.of.result read.1 (back ∙ wall_is) word_is c.in-Ok.ensures.wall c.in-Ok.ensures.stands read.0 k.written_is c.of.ensures c.serve.ensures.serves))
+    inr (inr (IsServed_serves _ o wall _ word _ _ written c.in-Ok.node _ _ _ _ _ _ _ _ c.serve.result c.of.result read.1 (back ∙ wall_is) word_is c.in-Ok.ensures.wall c.in-Ok.ensures.stands read.0 k.written_is c.of.ensures c.serve.ensures.serves c.serve.ensures.waits))
 
 pub returns-in-Ok-clause-still : goal.returns-in-Ok-clause-still
 returns-in-Ok-clause-still g c = (
@@ -37,14 +37,28 @@ pub returns-in-Err-BadWall-clause-serves : goal.returns-in-Err-BadWall-clause-se
 returns-in-Err-BadWall-clause-serves g c = λ o wall word written k.
     let wall_is = of_some (λ (x : ℤ). c.wall-wall.result ≡ x) _ wall c.wall-wall.ensures.answers (c.tick-tick.ensures.same.0 ∙ k.wall_is) in
     let readings = c.word-word.ensures.same.0 ∙ c.wall-wall.ensures.same.0 in
-    let last = c.word-word.ensures.same.3 ∙ c.wall-wall.ensures.same.3 ∙ c.tick-tick.ensures.last in
+    let last = c.word-word.ensures.same.4 ∙ c.wall-wall.ensures.same.3 ∙ c.tick-tick.ensures.last in
     let read = Tells_read o _ _ _ _ _ _ _ _ _ c.tick-tick.ensures.takes readings last k.tells in
     let back : to_z w64 (of_z w64 c.wall-wall.result) ≡ c.wall-wall.result = search rules in
     inr (inl (record {
       out = subst (λ (x : ℤ). is_clock_value x ≡ false) (back ∙ wall_is) (c.in-Err-BadWall.ensures.cause c.in-Err-BadWall.field-0-is);
       tells = read.0;
       says = Says_from _ _ _ _ _ _ _ written k.written_is c.say_bad_wall.ensures.says;
+      unwaited = refl;
     }))
 
 pub returns-in-Err-OutOfMemory-clause-serves : goal.returns-in-Err-OutOfMemory-clause-serves
-returns-in-Err-OutOfMemory-clause-serves g c = λ o wall word written k. inl (record { cause = refl; tried_are = k.tells.tried_are; written_is = k.written_is })
+returns-in-Err-OutOfMemory-clause-serves g c = λ o wall word written k.
+    let readings = c.word-word.ensures.same.0 ∙ c.wall-wall.ensures.same.0 in
+    let last = c.word-word.ensures.same.4 ∙ c.wall-wall.ensures.same.3 ∙ c.tick-tick.ensures.last in
+    let read = Tells_read o _ _ _ _ _ _ _ _ _ c.tick-tick.ensures.takes readings last k.tells in
+    inl (record { cause = refl; tells = read.0; written_is = k.written_is; unwaited = refl })
+
+pub returns-in-Ok-clause-walled : goal.returns-in-Ok-clause-walled
+returns-in-Ok-clause-walled g c = λ readings told. c.serve.ensures.same.1 ∙ walled_is _ _ _ _ _ _ readings told c.tick-tick.ensures.takes c.wall-wall.ensures.reads c.word-word.ensures.same.3
+
+pub returns-in-Err-BadWall-clause-walled : goal.returns-in-Err-BadWall-clause-walled
+returns-in-Err-BadWall-clause-walled g c = λ readings told. walled_is _ _ _ _ _ _ readings told c.tick-tick.ensures.takes c.wall-wall.ensures.reads c.word-word.ensures.same.3
+
+pub returns-in-Err-OutOfMemory-clause-walled : goal.returns-in-Err-OutOfMemory-clause-walled
+returns-in-Err-OutOfMemory-clause-walled g c = λ readings told. walled_is _ _ _ _ _ _ readings told c.tick-tick.ensures.takes c.wall-wall.ensures.reads c.word-word.ensures.same.3

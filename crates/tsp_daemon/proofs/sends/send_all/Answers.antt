@@ -20,6 +20,8 @@ loop-placed-preserved g c =
       arrivals = e.same.0 ∙ c.loop-placed.invariant.arrivals;
       calls = e.same.1 ∙ c.loop-placed.invariant.calls;
       stranger = e.same.2 ∙ c.loop-placed.invariant.stranger;
+      binds = e.same.3 ∙ c.loop-placed.invariant.binds;
+      waits = e.same.4 ∙ c.loop-placed.invariant.waits;
       faults = e.later.0 ∙ c.loop-placed.invariant.faults;
       send_faults = omega (arith, c.loop-placed.invariant.send_faults, e.later.1);
     }

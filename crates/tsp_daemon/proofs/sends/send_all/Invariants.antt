@@ -11,6 +11,8 @@ invariant-loop-placed g l = record {
   arrivals : g.L.Link.arrivals l.link ≡ g.L.Link.arrivals l.initial.link;
   calls : g.L.Link.calls l.link ≡ g.L.Link.calls l.initial.link;
   stranger : g.L.Link.stranger l.link ≡ g.L.Link.stranger l.initial.link;
+  binds : g.L.Link.binds l.link ≡ g.L.Link.binds l.initial.link;
+  waits : g.L.Link.waits l.link ≡ g.L.Link.waits l.initial.link;
   faults : g.L.Link.faults l.link ≡ g.L.Link.faults l.initial.link;
   send_faults : g.L.Link.send_faults l.initial.link ≤ g.L.Link.send_faults l.link;
 }

@@ -8,6 +8,8 @@ use Rattle.tsp_rules.specs.NodePerforms.{PerformsAll}
 use Rattle.tsp_daemon.specs.Ends.{given_by}
 use Rattle.tsp_daemon.specs.Posts.{AreKnown}
 use Rattle.tsp_daemon.proofs.SessionLemmas.{waits_is, steps_is, turned_is, ends_is, lives_on, acts_known}
+use Rattle.tsp_query.proofs.OutsideLemmas.{Notes_same}
+use Rattle.tsp_daemon.proofs.WaitLemmas.{first_reading, turn_noted, wait_noted}
 use Rattle.tsp_daemon.proofs.turn.turn.Goals as goal
 
 pub finish-requires-clause-known : goal.finish-requires-clause-known
@@ -34,3 +36,9 @@ returns-clause-turns g c s at =
 
 pub returns-clause-lives : goal.returns-clause-lives
 returns-clause-lives g c = lives_on _ _ _ _ _ c.requires.lives c.step.ensures.row
+
+pub returns-in-Err-clause-waits : goal.returns-in-Err-clause-waits
+returns-in-Err-clause-waits g c s at = turn_noted s _ _ c.in-Err.end (wait_noted s _ c.due.result c.tick-first.result c.wait_until.result _ _ at.stands c.due.ensures.past (first_reading s.outside _ _ _ _ _ _ _ at.tells c.tick-first.ensures.takes) c.wait_until.ensures (Notes_same _ _ _ _ c.finish.ensures.same.3 c.recv-received.ensures.waits))
+
+pub returns-clause-waits : goal.returns-clause-waits
+returns-clause-waits g c s at = wait_noted s _ c.due.result c.tick-first.result c.wait_until.result _ _ at.stands c.due.ensures.past (first_reading s.outside _ _ _ _ _ _ _ at.tells c.tick-first.ensures.takes) c.wait_until.ensures (Notes_same _ _ _ _ c.finish.ensures.same.3 c.recv-received.ensures.waits)

@@ -1,7 +1,7 @@
 use Rattle.std.proofs.Common.{◌≡◌, ◌∙◌, ◌∷◌, ◌+◌, ap, arith, sym, rules, subst, drop, get_or, List}
 use Rattle.std.proofs.lemmas.List.{at_drop_all, drop_more}
 use Rattle.tsp_promises.specs.Everywhere.{Everywhere}
-use Rattle.tsp_history.specs.declared.noted.Noted.{Noted}
+use Rattle.tsp_history.specs.declared.line.HistoryLine.{HistoryLine}
 use Rattle.tsp_history.specs.Histories.{line_of, noted_after}
 use Rattle.tsp_history.specs.Holding.{Apart}
 use Rattle.tsp_history.proofs.HistoryLemmas.{Everywhere-before}
@@ -11,9 +11,9 @@ pub returns-then-not-is_apart : goal.returns-then-not-is_apart
 returns-then-not-is_apart c all =
     let inv = c.loop-line.invariant in
     let i = c.loop-line.line-index in
-    let item : Noted = c.line-item.result in
+    let item : HistoryLine = c.line-item.result in
     let item_is : get_or c.args.lines.now i item ≡ item = search rules in
-    let rest : List Noted = drop (i + 1) c.args.lines.now in
+    let rest : List HistoryLine = drop (i + 1) c.args.lines.now in
     let here : noted_after inv.0 (drop i c.args.lines.now) ≡ noted_after (line_of item ∷ inv.0) rest = ap (λ ns. noted_after inv.0 ns) (drop_more c.args.lines.now i item (search rules)) ∙ ap (λ n. noted_after (line_of n ∷ inv.0) rest) item_is in
     let long = subst (λ h. Everywhere (λ other older. Apart c.args.node c.args.port c.args.tick c.args.p other) h) (sym (sym here ∙ inv.2)) all in
     let bad = (Everywhere-before (λ other older. Apart c.args.node c.args.port c.args.tick c.args.p other) (line_of item ∷ inv.0) rest long).0 in

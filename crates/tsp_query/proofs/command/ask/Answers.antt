@@ -1,6 +1,6 @@
 use Rattle.std.proofs.Common.{◌∙◌, inl, inr, refl}
-use Rattle.tsp_query.specs.Told.{bound}
-use Rattle.tsp_query.proofs.ToldLemmas.{Tells_bound, Says_from}
+use Rattle.tsp_query.specs.Outside.{bound}
+use Rattle.tsp_query.proofs.OutsideLemmas.{NotesBind_failed, NotesBind_made, NotesBind_refused, Notes_same, Tells_bound, Says_from}
 use Rattle.tsp_query.proofs.command.ask.Goals as goal
 
 pub returns-in-Bound-clause-asks : goal.returns-in-Bound-clause-asks
@@ -8,8 +8,11 @@ returns-in-Bound-clause-asks g c = λ o wall word written k.
     let tells = Tells_bound o _ _ _ _ _ _ _ _ c.bind.ensures.same.0 c.bind.ensures.same.1 c.bind.ensures.counted k.tells in
     inr (record {
       end = c.ask_bound-end.result;
-      comes = c.ask_bound-end.ensures.comes (bound o) wall word tells k.wall_is k.word_is;
+      comes = rw (← c.bind.ensures.later.1) (c.ask_bound-end.ensures.comes (bound o) wall word tells k.wall_is k.word_is);
       says = Says_from _ _ _ _ _ _ _ written k.written_is c.tell.ensures.says;
+      bound_to = Notes_same _ _ _ _ c.ask_bound-end.ensures.same (NotesBind_made _ _ _ _ c.in-Bound.is c.bind.ensures.binds);
+      waits = rw (← c.bind.ensures.same.2) c.ask_bound-end.ensures.waits;
+      walled = c.ask_bound-end.ensures.walled o.readings k.tells.readings_are;
     })
 
 pub returns-in-Failed-clause-asks : goal.returns-in-Failed-clause-asks
@@ -17,6 +20,9 @@ returns-in-Failed-clause-asks g c = λ o wall word written k. inl (record {
   cause = inl refl;
   tells = Tells_bound o _ _ _ _ _ _ _ _ c.bind.ensures.same.0 c.bind.ensures.same.1 c.bind.ensures.counted k.tells;
   written_is = k.written_is;
+  unbound = NotesBind_failed _ _ _ _ c.in-Failed.is c.bind.ensures.binds;
+  unwaited = c.bind.ensures.same.2;
+  unread = refl;
 })
 
 pub returns-in-OutOfMemory-clause-asks : goal.returns-in-OutOfMemory-clause-asks
@@ -24,6 +30,9 @@ returns-in-OutOfMemory-clause-asks g c = λ o wall word written k. inl (record {
   cause = inr refl;
   tells = Tells_bound o _ _ _ _ _ _ _ _ c.bind.ensures.same.0 c.bind.ensures.same.1 c.bind.ensures.counted k.tells;
   written_is = k.written_is;
+  unbound = NotesBind_refused _ _ _ _ c.in-OutOfMemory.is c.bind.ensures.binds;
+  unwaited = c.bind.ensures.same.2;
+  unread = refl;
 })
 
 pub returns-in-Bound-clause-linked : goal.returns-in-Bound-clause-linked

@@ -10,4 +10,4 @@ ask_by_message-requires g c = fits-test
 
 pub returns-clause-asks : goal.returns-clause-asks
 returns-clause-asks g c = λ o word t w.
-    rw c.heard_end.ensures (ends-heard (message Test word) (OfNumber (word % 65536)) o _ _ c.ask_by_message.result (c.ask_by_message.ensures.asks o word t w))
+    rw c.heard_end.ensures (ends-heard (message Test word) (OfNumber (word % 65536)) o _ _ _ _ _ _ _ c.ask_by_message.result (c.ask_by_message.ensures.asks o word t w))

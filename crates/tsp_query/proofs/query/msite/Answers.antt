@@ -10,4 +10,4 @@ ask_by_message-requires g c = fits-msite
 
 pub returns-clause-asks : goal.returns-clause-asks
 returns-clause-asks g c = λ o word t w.
-    rw c.master_end.ensures (ends-master (message Msite word) (OfNumber (word % 65536)) o _ _ c.ask_by_message.result (c.ask_by_message.ensures.asks o word t w))
+    rw c.master_end.ensures (ends-master (message Msite word) (OfNumber (word % 65536)) o _ _ _ _ _ _ _ c.ask_by_message.result (c.ask_by_message.ensures.asks o word t w))

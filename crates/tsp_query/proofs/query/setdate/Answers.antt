@@ -9,4 +9,4 @@ ask_by_message-requires g c = fits-date c.args.time
 
 pub returns-clause-asks : goal.returns-clause-asks
 returns-clause-asks g c = λ o word t w.
-    rw c.date_end.ensures (ends-date (date_message c.args.time word) (OfDate (word % 65536)) o _ _ c.ask_by_message.result (c.ask_by_message.ensures.asks o word t w))
+    rw c.date_end.ensures (ends-date (date_message c.args.time word) (OfDate (word % 65536)) o _ _ _ _ _ _ _ c.ask_by_message.result (c.ask_by_message.ensures.asks o word t w))

@@ -9,4 +9,4 @@ ask_by_message-requires g c = rw c.trace_kind-kind.ensures (fits-trace c.args.on
 
 pub returns-clause-asks : goal.returns-clause-asks
 returns-clause-asks g c = λ o word t w.
-    rw c.heard_end.ensures (ends-heard (message (trace_kind c.args.on) word) (OfNumber (word % 65536)) o _ _ c.ask_by_message.result (rw (← c.trace_kind-kind.ensures) (c.ask_by_message.ensures.asks o word t w)))
+    rw c.heard_end.ensures (ends-heard (message (trace_kind c.args.on) word) (OfNumber (word % 65536)) o _ _ _ _ _ _ _ c.ask_by_message.result (rw (← c.trace_kind-kind.ensures) (c.ask_by_message.ensures.asks o word t w)))

@@ -13,7 +13,7 @@ use Rattle.tsp_claims.specs.ClaimedHistory.{Claim, claimed}
 use Rattle.tsp_claims.specs.Fitting.{Fit, acts_of}
 use Rattle.tsp_claims.specs.Listed.{NamesNode}
 use Rattle.tsp_claims.specs.Stands.{ClaimsStand, claim_of}
-use Rattle.tsp_history.specs.declared.noted.Noted.{Noted}
+use Rattle.tsp_history.specs.declared.line.HistoryLine.{HistoryLine}
 use Rattle.tsp_history.specs.Histories.{history_of}
 use Rattle.tsp_script.specs.declared.trace.Line2.{Line2}
 use Rattle.tsp_audit.proofs.audit.Audit.event.Goals as goal
@@ -32,7 +32,7 @@ returns-in-Ok c premises header claims stands =
     let acts : List Line2 = c.args.acts.now in
     let claim : Claim = claim_of c.args.e.now acts in
     let h : List Line = claimed header claims in
-    let ns : List Noted = c.lines-from.result.now in
+    let ns : List HistoryLine = c.lines-from.result.now in
     let taken : Fit header claims c.args.e.now acts × ClaimsStand header (claim ∷ claims) c.event.new.self = c.in-Ok.ensures header claims stands.claims_stand in
     let is : history_of ns ≡ h = c.lines-from.ensures.lines header claims stands.claims_stand in
     let begins : length h ≡ length ns = sym (ap (λ (x : List Line). length x) is) ∙ history-length ns in

@@ -11,7 +11,7 @@ use Rattle.tsp_master.proofs.TableLemmas.{MasterStands_quiet, quiet_sorts}
 use Rattle.tsp_resolve.proofs.ResolveLemmas.{ResolveStands_by}
 use Rattle.tsp_node.proofs.EmitsRows.{emits_names, emits_says_here, emits_tests_here, emits_traces_here}
 use Rattle.tsp_node.proofs.EmitsRoles.{role_sorts}
-use Rattle.tsp_node.proofs.HearLemmas.{matter_test, handles_msite, handles_msitereq, handles_test, handles_traceoff, handles_traceon}
+use Rattle.tsp_node.proofs.HearLemmas.{audience_test, handles_msite, handles_msitereq, handles_test, handles_traceoff, handles_traceon}
 use Rattle.tsp_node.proofs.NodeLemmas.{Performs_named_by, Performs_station, Performs_took, Performs_turned_by, took_beside}
 use Rattle.tsp_node.proofs.part.Part.answer.Goals as goal
 
@@ -53,6 +53,6 @@ pub returns-in_default-clause-row : goal.returns-in_default-clause-row
 returns-in_default-clause-row g c charge clock =
     let m = c.args.m.now in
     let other = c.in_default in
-    let kind : m.kind ≡ Test = matter_test m.kind c.requires.matter (λ e. other.not-Msite (c.kind.ensures ∙ e)) (λ e. other.not-MsiteReq (c.kind.ensures ∙ e)) (λ e. other.not-TraceOn (c.kind.ensures ∙ e)) (λ e. other.not-TraceOff (c.kind.ensures ∙ e)) in
+    let kind : m.kind ≡ Test = audience_test m.kind c.requires.audience (λ e. other.not-Msite (c.kind.ensures ∙ e)) (λ e. other.not-MsiteReq (c.kind.ensures ∙ e)) (λ e. other.not-TraceOn (c.kind.ensures ∙ e)) (λ e. other.not-TraceOff (c.kind.ensures ∙ e)) in
     let row = rw c.number-number.ensures at (c.test.ensures.row (record { from = c.args.from; taken = Good (MessageOf m) }) clock) in
     rw (handles_test charge c.args.from m kind) (took_beside c.args.tracing.now (Emits_more role_sorts refl (emits_tests_here c.args.from m.number)) row)

@@ -1,11 +1,11 @@
--- Whose matter it is.
+-- Who answers it.
 use Rattle.std.proofs.Common.{◌≡◌, true, false, refl}
 use Rattle.tsp_rules.specs.Answers.{handles_kind}
 use Rattle.tsp_rules.proofs.Emits.{Emits_more}
 use Rattle.tsp_rules.proofs.EmitsClients.{date_sorts}
-use Rattle.tsp_node.specs.declared.matter.Matter.TheVariants.{OfDates, OfNode, OfRoles}
-use Rattle.tsp_node.specs.Matters.{matter_of}
-use Rattle.tsp_node.proofs.HearLemmas.{leaves_by, matter_node, matter_roles, Performs_kept, Performs_left}
+use Rattle.tsp_node.specs.declared.audience.Audience.TheVariants.{OfDates, OfNode, OfRoles}
+use Rattle.tsp_node.specs.Audiences.{audience_of}
+use Rattle.tsp_node.proofs.HearLemmas.{leaves_by, audience_node, audience_roles, Performs_kept, Performs_left}
 use Rattle.tsp_node.proofs.NodeLemmas.{took_beside, took_pass}
 use Rattle.tsp_node.proofs.TakeEmits.{emits_dates, emits_says}
 use Rattle.tsp_node.proofs.part.Part.hear.Goals as goal
@@ -26,19 +26,19 @@ pub returns-in-OfDates-clause-row : goal.returns-in-OfDates-clause-row
 returns-in-OfDates-clause-row g c =
     let m = c.args.m.now in
     let left : leaves_by c.args.steer m.kind c.args.self.now.station.role ≡ false = let k = c.kind.ensures in cc in
-    let matter : matter_of m.kind ≡ OfDates = let k = c.kind-2.ensures in let o = c.matter_of.ensures in let i = c.in-OfDates.is in cc in
-    Performs_kept c.args.steer m.kind left (took_beside c.args.tracing.now (Emits_more date_sorts refl (emits_dates c.args.charge c.args.from m m.kind matter)) c.hear_date.ensures.row)
+    let audience : audience_of m.kind ≡ OfDates = let k = c.kind-2.ensures in let o = c.audience_of.ensures in let i = c.in-OfDates.is in cc in
+    Performs_kept c.args.steer m.kind left (took_beside c.args.tracing.now (Emits_more date_sorts refl (emits_dates c.args.charge c.args.from m m.kind audience)) c.hear_date.ensures.row)
 
 pub returns-in-OfNode-clause-row : goal.returns-in-OfNode-clause-row
 returns-in-OfNode-clause-row g c =
     let m = c.args.m.now in
     let left : leaves_by c.args.steer m.kind c.args.self.now.station.role ≡ false = let k = c.kind.ensures in cc in
-    let matter : matter_of m.kind ≡ OfNode = let k = c.kind-2.ensures in let o = c.matter_of.ensures in let i = c.in-OfNode.is in cc in
-    Performs_kept c.args.steer m.kind left (rw (matter_node c.args.charge c.args.from m m.kind matter) took_pass)
+    let audience : audience_of m.kind ≡ OfNode = let k = c.kind-2.ensures in let o = c.audience_of.ensures in let i = c.in-OfNode.is in cc in
+    Performs_kept c.args.steer m.kind left (rw (audience_node c.args.charge c.args.from m m.kind audience) took_pass)
 
 pub returns-in-OfRoles-clause-row : goal.returns-in-OfRoles-clause-row
 returns-in-OfRoles-clause-row g c =
     let m = c.args.m.now in
     let left : leaves_by c.args.steer m.kind c.args.self.now.station.role ≡ false = let k = c.kind.ensures in cc in
-    let matter : matter_of m.kind ≡ OfRoles = let k = c.kind-2.ensures in let o = c.matter_of.ensures in let i = c.in-OfRoles.is in cc in
-    Performs_kept c.args.steer m.kind left (rw (matter_roles c.args.charge c.args.from m m.kind matter) (took_beside c.args.tracing.now (emits_says c.args.from m) c.hear_peer.ensures.row))
+    let audience : audience_of m.kind ≡ OfRoles = let k = c.kind-2.ensures in let o = c.audience_of.ensures in let i = c.in-OfRoles.is in cc in
+    Performs_kept c.args.steer m.kind left (rw (audience_roles c.args.charge c.args.from m m.kind audience) (took_beside c.args.tracing.now (emits_says c.args.from m) c.hear_peer.ensures.row))

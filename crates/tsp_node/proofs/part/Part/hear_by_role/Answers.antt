@@ -25,7 +25,7 @@ returns-in_default-clause-row g c =
     let m = c.args.m.now in
     let other = c.in_default in
     let emits = emits_slave p m c.requires.other in
-    rw (says_slave p m c.args.self.now.station.role other.not-Starting other.not-Candidate other.not-Master) (Performs_heard refl (DatesAside_slave p m) (roles_date m.kind c.requires.matter)
+    rw (says_slave p m c.args.self.now.station.role other.not-Starting other.not-Candidate other.not-Master) (Performs_heard refl (DatesAside_slave p m) (roles_date m.kind c.requires.audience)
     (λ past h s. MasterStands_idle (slave_takes p m) (Emits_more role_sorts refl emits) x past c.args.self.now.master (λ e. other.not-Master (h.station.role ∙ e)) h.master)
     (λ past h s. ResolveStands_idle x past (slave_takes p m x past) c.args.self.now.resolve ((Emits_more role_sorts {all = rivalless} refl emits).only x past) (λ e. other.not-Master (h.station.role ∙ e)) h.resolve)
     c.slave_take.ensures.row)
@@ -37,7 +37,7 @@ returns-in-Candidate-clause-row g c =
     let p = c.args.p in
     let m = c.args.m.now in
     let emits = emits_answers p m in
-    Performs_role p m c.args.self.now.station.role Candidate c.in-Candidate.is (Performs_heard refl (DatesAside_by (candidate_takes p m) (Emits_more (Acking ∷ Counting ∷ calm_sorts) refl emits)) (roles_date m.kind c.requires.matter)
+    Performs_role p m c.args.self.now.station.role Candidate c.in-Candidate.is (Performs_heard refl (DatesAside_by (candidate_takes p m) (Emits_more (Acking ∷ Counting ∷ calm_sorts) refl emits)) (roles_date m.kind c.requires.audience)
     (λ past h s. candidate_keeps p m c.requires.other x past c.args.self.now.master (no_lead (c.args.self.now, c.args.clock.now) Candidate (λ e. let bad : ⊥ = cc in bad) c.in-Candidate.is h) h.master)
     (λ past h s. ResolveStands_idle x past (candidate_takes p m x past) c.args.self.now.resolve ((Emits_more (Acking ∷ Counting ∷ calm_sorts) {all = rivalless} refl emits).only x past) (no_lead (c.args.self.now, c.args.clock.now) Candidate (λ e. let bad : ⊥ = cc in bad) c.in-Candidate.is h) h.resolve)
     c.candidate_take.ensures.row)

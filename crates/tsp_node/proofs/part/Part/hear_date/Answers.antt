@@ -12,10 +12,10 @@ pub returns-then-corrected-clause-row : goal.returns-then-corrected-clause-row
 returns-then-corrected-clause-row g c =
     let m = c.args.m.now in
     let row = rw c.if-corrected.true at c.date_take-corrected.ensures.row in
-    Performs_dated true c.moved.ensures refl (emits_dates c.args.charge c.args.from m m.kind c.requires.matter) (λ took is. row c.args.self.now.last took (sym c.tick.ensures) is)
+    Performs_dated true c.moved.ensures refl (emits_dates c.args.charge c.args.from m m.kind c.requires.audience) (λ took is. row c.args.self.now.last took (sym c.tick.ensures) is)
 
 pub returns-else-corrected-clause-row : goal.returns-else-corrected-clause-row
 returns-else-corrected-clause-row g c =
     let m = c.args.m.now in
     let row = rw c.if-corrected.false at c.date_take-corrected.ensures.row in
-    Performs_dated false refl refl (emits_dates c.args.charge c.args.from m m.kind c.requires.matter) (λ took is. row c.args.self.now.last took (sym c.tick.ensures) is)
+    Performs_dated false refl refl (emits_dates c.args.charge c.args.from m m.kind c.requires.audience) (λ took is. row c.args.self.now.last took (sym c.tick.ensures) is)

@@ -11,8 +11,8 @@ returns-in-Ok-Node-clause-next g c =
     let read = rw c.next_place.ensures at c.head_line.ensures in
     let spells = rw c.next_place.ensures at (subst (λ i. SpellsHead c.next_place.result line i) c.in-Ok-Node.field-0-is c.in-Ok-Node.ensures.reads) in
     MatchResult-map c.node.result c.node.ensures.next
-    (λ next h. Advances-node g.C.Course.refused g.C.Course.stands c.args.header c.in-Ok-Node.node line next c.head_line.result is read.one spells h.0 h.1)
-    (λ stop h. Halts-node g.C.Course.refused g.C.Course.stands c.args.header c.in-Ok-Node.node line stop spells h)
+    (λ next h. Advances-node g.C.EventHandler.refused g.C.EventHandler.stands c.args.header c.in-Ok-Node.node line next c.head_line.result is read.one spells h.0 h.1)
+    (λ stop h. Halts-node g.C.EventHandler.refused g.C.EventHandler.stands c.args.header c.in-Ok-Node.node line stop spells h)
 
 pub returns-in-Ok-Net-clause-next : goal.returns-in-Ok-Net-clause-next
 returns-in-Ok-Net-clause-next g c =
@@ -21,8 +21,8 @@ returns-in-Ok-Net-clause-next g c =
     let read = rw c.next_place.ensures at c.head_line.ensures in
     let spells = rw c.next_place.ensures at (subst (λ i. SpellsHead c.next_place.result line i) c.in-Ok-Net.field-0-is c.in-Ok-Net.ensures.reads) in
     MatchResult-map c.net.result c.net.ensures.next
-    (λ next h. Advances-net g.C.Course.refused g.C.Course.stands c.args.header c.in-Ok-Net.members line next c.head_line.result is read.one spells h.0 h.1)
-    (λ stop h. Halts-net g.C.Course.refused g.C.Course.stands c.args.header c.in-Ok-Net.members line stop spells h)
+    (λ next h. Advances-net g.C.EventHandler.refused g.C.EventHandler.stands c.args.header c.in-Ok-Net.members line next c.head_line.result is read.one spells h.0 h.1)
+    (λ stop h. Halts-net g.C.EventHandler.refused g.C.EventHandler.stands c.args.header c.in-Ok-Net.members line stop spells h)
 
 pub returns-in-Ok-NotHead-clause-next : goal.returns-in-Ok-NotHead-clause-next
 returns-in-Ok-NotHead-clause-next g c =
@@ -31,5 +31,5 @@ returns-in-Ok-NotHead-clause-next g c =
     let read = rw c.next_place.ensures at c.head_line.ensures in
     let spells = rw c.next_place.ensures at (subst (λ i. SpellsHead c.next_place.result line i) c.in-Ok-NotHead.field-0-is c.in-Ok-NotHead.ensures.reads) in
     MatchResult-map c.first.result c.first.ensures.next
-    (λ next h. Advances-first g.C.Course.refused g.C.Course.stands c.args.header line next c.head_line.result is read.one spells h.0 h.1)
-    (λ stop h. Halts-first g.C.Course.refused g.C.Course.stands c.args.header line stop spells h)
+    (λ next h. Advances-first g.C.EventHandler.refused g.C.EventHandler.stands c.args.header line next c.head_line.result is read.one spells h.0 h.1)
+    (λ stop h. Halts-first g.C.EventHandler.refused g.C.EventHandler.stands c.args.header line stop spells h)

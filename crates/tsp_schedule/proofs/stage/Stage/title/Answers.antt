@@ -8,7 +8,7 @@ use Rattle.tsp_schedule.proofs.stage.Stage.title.Goals as goal
 
 pub returns-in-Ok-Title-clause-next : goal.returns-in-Ok-Title-clause-next
 returns-in-Ok-Title-clause-next g c =
-    Advances-title g.C.Course.refused g.C.Course.stands c.in-Ok-Title.version c.args.line.now c.head_line.result (c.in-Ok-Title.is ∙ ap (λ i. Ok i) c.in-Ok-Title.field-0-is) c.head_line.ensures.one
+    Advances-title g.C.EventHandler.refused g.C.EventHandler.stands c.in-Ok-Title.version c.args.line.now c.head_line.result (c.in-Ok-Title.is ∙ ap (λ i. Ok i) c.in-Ok-Title.field-0-is) c.head_line.ensures.one
     (subst (λ i. SpellsHead 1 c.args.line.now i) c.in-Ok-Title.field-0-is c.in-Ok-Title.ensures.reads)
 
 pub returns-in-Err-clause-next : goal.returns-in-Err-clause-next

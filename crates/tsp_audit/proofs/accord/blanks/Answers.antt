@@ -1,8 +1,0 @@
-use Rattle.std.proofs.Common.{◌+◌, sym, subst, List}
-use Rattle.tsp_audit.specs.Agreeing.{AreBlank}
-use Rattle.tsp_audit.specs.declared.live.NodeState.{NodeState}
-use Rattle.tsp_audit.proofs.AccordSteps.{blank-more}
-use Rattle.tsp_audit.proofs.accord.blanks.Goals as goal
-
-pub loop-preserved : goal.loop-preserved
-loop-preserved c = subst (λ (t : List NodeState). AreBlank (c.loop.counter + 1) t) (sym c.in_ok-push.ensures.items) (blank-more c.loop.counter c.loop.states.items c.blank.result c.loop.invariant c.blank.ensures)

@@ -1,6 +1,0 @@
--- The nodes so far are blank.
-use Rattle.tsp_audit.specs.Agreeing.{AreBlank}
-use Rattle.tsp_audit.proofs.accord.blanks.Given as goal
-
-abbrev pub invariant-loop : goal.invariant-loop
-invariant-loop l = AreBlank l.counter l.states.items

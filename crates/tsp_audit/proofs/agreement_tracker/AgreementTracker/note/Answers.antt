@@ -1,0 +1,28 @@
+use Rattle.std.proofs.Common.{◌≡◌, ◌+◌, ◌∷◌, ◌++◌, ◌∙◌, [], ℤ, List, rules, arith, sym, ap, subst, get_or, take, to_z, of_z}
+use Rattle.std.specs.Int.{w128}
+use Rattle.tsp_base.specs.History.{Line}
+use Rattle.tsp_audit.specs.Agreeing.{AccordIs, TripsTell}
+use Rattle.tsp_audit.specs.declared.agreement_tracker.AgreementTracker.{AgreementTracker}
+use Rattle.tsp_audit.proofs.AccordSteps.{accord-next}
+use Rattle.tsp_history.proofs.HistoryLemmas.{history-more}
+use Rattle.tsp_audit.proofs.SampleLemmas.{history-length}
+use Rattle.tsp_history.specs.declared.line.HistoryLine.{HistoryLine}
+use Rattle.tsp_history.specs.Histories.{history_of, line_of}
+use Rattle.tsp_audit.proofs.agreement_tracker.AgreementTracker.note.Goals as goal
+
+pub returns-clause-accord : goal.returns-clause-accord
+returns-clause-accord c count spare is =
+    let lines = c.args.lines.now in
+    let i = c.args.index in
+    let noted : HistoryLine = c.index-lines-index.result in
+    let here : get_or lines i noted ≡ noted = search rules in
+    let h = history_of (take i lines) in
+    let more : history_of (take (i + 1) lines) ≡ line_of noted ∷ h = history-more lines i noted c.requires.below here in
+    let slice : c.as_slice.result.now ≡ c.args.self.now.trips.items = search rules in
+    let tell : TripsTell h c.as_slice.result.now = subst (λ (t : List ℤ). TripsTell h t) (sym slice) is.trips_tell in
+    let same : to_z w128 (of_z w128 c.trip_of-trip.result) ≡ c.trip_of-trip.result = search rules in
+    let trips = c.note_trip.ensures.items spare ∙ ap (λ (z : ℤ). c.args.self.now.trips.items ++ z ∷ []) (same ∙ c.trip_of-trip.ensures.trip) in
+    let last = c.newest-self.ensures h (sym (history-length lines i (omega (arith, c.requires.below)))) is.last_is in
+    let nodes = c.note_node.ensures.nodes more tell is.last_is is.nodes_are in
+    let new : AgreementTracker = record { trips = c.note_trip.new.trips; last = c.newest-self.result; nodes = c.note_node.new.nodes } in
+    subst (λ (k : List Line). AccordIs count k new) (sym more) (accord-next count h (line_of noted) c.args.self.now new is trips last nodes c.note_node.ensures.many)

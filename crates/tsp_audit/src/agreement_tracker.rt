@@ -1,0 +1,205 @@
+//! Whether clocks that one round corrected agree, line by line.
+ghost use Rattle.std.specs.Prelude.{◌≡◌, ◌≤◌, ◌<◌, ◌+◌, ◌-◌, ◌^◌, ℕ, [], ◌∷◌, ◌++◌, List, length};
+ghost use Rattle.std.specs.Prelude.{get_or, take, vec_len, vec_capacity, true, MatchBool, IfOk};
+ghost use Rattle.std.specs.Prelude.{OnOk};
+ghost use Rattle.tsp_audit.specs.Agreeing.{AccordIs, AllAre, AreBlank, FirstIs, Numbered, TripsTell};
+ghost use Rattle.tsp_audit.specs.Settings.{HasClocks, Timely};
+ghost use Rattle.tsp_promises.specs.Agreed.{Agreed, AgreedAt};
+ghost use Rattle.tsp_base.specs.History.{Line, from_act};
+ghost use Rattle.tsp_promises.specs.Setting.{Setting};
+ghost use Rattle.tsp_history.specs.Histories.{line_of, history_of};
+ghost use Rattle.tsp_history.specs.declared.line.HistoryLine.{HistoryLine as NotedValue};
+
+use crate::nearness::all_agree;
+use crate::resting::rests;
+use crate::round_correction::NodeState;
+use crate::states::{blank, state_after};
+use std::alloc::{AllocError, Global};
+use tsp_base::header::Header;
+use tsp_history::line::HistoryLine;
+use tsp_history::rounds::trip_of;
+
+/// What is kept of a history to tell whether clocks agree.
+#[derive(Drop)]
+pub(crate) struct AgreementTracker {
+    /// The round trip of each line, in microseconds.
+    pub(crate) trips: Vec<i128>,
+    /// The index of the newest act.
+    pub(crate) last: Option<usize>,
+    /// What is kept of each node.
+    pub(crate) nodes: Vec<NodeState>,
+}
+
+/// What is kept of so many nodes before any line.
+fn blanks(alloc: Global, count: usize) -> Result<Vec<NodeState>, AllocError>
+    ensures { IfOk result (λ states. AreBlank count states.items) }
+{
+    let mut states = Vec::new(alloc);
+    for _ in 0..count {
+        states.push(blank())?;
+    }
+    Ok(states)
+}
+
+/// Changes what is kept of a line's node, where these lines stand before it, with their round trips
+/// and the index of the newest act among them; `upto` are these lines and it.
+fn note_node(
+    nodes: &mut Vec<NodeState>,
+    upto: &[HistoryLine],
+    before: &[HistoryLine],
+    trips: &[i128],
+    line: &HistoryLine,
+    last: Option<usize>,
+)
+    requires few { length upto.now < 2 ^ 32 }
+    requires past { length before.now < 2 ^ 32 }
+    ensures nodes { history_of upto.now ≡ line_of line.now ∷ history_of before.now
+        → TripsTell (history_of before.now) trips.now
+        → FirstIs (from_act (history_of before.now)) last
+        → AllAre (history_of before.now) nodes.old.items
+        → AllAre (line_of line.now ∷ history_of before.now) nodes.new.items }
+    ensures many { length nodes.new.items ≡ length nodes.old.items }
+{
+    let node = line.node as usize;
+    if node < nodes.len() {
+        let state = state_after(upto, before, trips, line, last, nodes[node]);
+        nodes[node] = state;
+    }
+}
+
+/// Puts a round trip behind the others; there is to be room for it.
+fn note_trip(trips: &mut Vec<i128>, trip: i128)
+    ensures items { vec_len trips.old < vec_capacity trips.old
+        → trips.new.items ≡ trips.old.items ++ trip ∷ [] }
+    ensures len { vec_len trips.new ≤ vec_len trips.old + 1 }
+    ensures capacity { vec_capacity trips.new ≡ vec_capacity trips.old }
+{
+    if trips.len() < trips.capacity() {
+        trips.push_reserved(trip);
+    }
+}
+
+/// The index of the newest act after the line with this index, where `keep` is that before it.
+fn newest(line: &HistoryLine, index: usize, keep: Option<usize>) -> Option<usize>
+    ensures { (h : List Line) → index ≡ length h → FirstIs (from_act h) keep
+        → FirstIs (from_act (line_of line.now ∷ h)) result }
+{
+    match &line.act {
+        None => keep,
+        Some(_) => Some(index),
+    }
+}
+
+impl AgreementTracker {
+    ghost use Rattle.std.specs.Prelude.{ℕ, List};
+    ghost use Rattle.tsp_audit.specs.Agreeing.{AccordIs, Numbered};
+    ghost use Rattle.tsp_audit.specs.Settings.{HasClocks, Timely};
+    ghost use Rattle.tsp_promises.specs.Agreed.{Agreed, AgreedAt};
+    ghost use Rattle.tsp_base.specs.History.{Line};
+    ghost use Rattle.tsp_promises.specs.Setting.{Setting};
+    ghost use Rattle.tsp_history.specs.Histories.{line_of, history_of};
+    ghost use Rattle.tsp_history.specs.declared.line.HistoryLine.{HistoryLine as NotedValue};
+
+    /// Nothing has happened to so many nodes. Takes memory for them; fails only if out of memory.
+    pub(crate) fn new(alloc: Global, count: usize) -> Result<AgreementTracker, AllocError>
+        requires { count ≤ 64 }
+        ensures { IfOk result (λ accord. AccordIs count [] accord) }
+    {
+        match blanks(alloc, count) {
+            Ok(nodes) => Ok(AgreementTracker {
+                trips: Vec::new(alloc),
+                last: None,
+                nodes,
+            }),
+            Err(refused) => Err(refused),
+        }
+    }
+
+    /// Makes room for so many lines more. Fails only if out of memory; either way the accord stands
+    /// for what it did.
+    pub(crate) fn make_room(&mut self, count: usize) -> Result<(), AllocError>
+        ensures room { OnOk result (vec_len self.new.trips + count ≤ vec_capacity self.new.trips) }
+        ensures accord { (nodes : ℕ) (h : List Line) → AccordIs nodes h self.old
+            → AccordIs nodes h self.new }
+    {
+        self.trips.reserve(count)
+    }
+
+    /// Takes in the line with this index, behind those before it; there is to be room for it.
+    fn note(&mut self, lines: &[HistoryLine], index: usize)
+        requires few { length lines.now < 2 ^ 32 }
+        requires below { index < length lines.now }
+        ensures accord { (count : ℕ) → vec_len self.old.trips < vec_capacity self.old.trips
+            → AccordIs count (history_of (take index lines.now)) self.old
+            → AccordIs count (history_of (take (index + 1) lines.now)) self.new }
+        ensures len { vec_len self.new.trips ≤ vec_len self.old.trips + 1 }
+        ensures capacity { vec_capacity self.new.trips ≡ vec_capacity self.old.trips }
+    {
+        let line = &lines[index];
+        let before = &lines[..index];
+        let trip = trip_of(before, line);
+        note_node(
+            &mut self.nodes,
+            &lines[..index + 1],
+            before,
+            self.trips.as_slice(),
+            line,
+            self.last,
+        );
+        note_trip(&mut self.trips, trip);
+        self.last = newest(line, index, self.last);
+    }
+
+    /// Whether a line that was taken in keeps that clocks agree, where these lines stand before it.
+    fn agrees(&self, header: &Header, before: &[HistoryLine], line: &HistoryLine) -> bool
+        ensures { (setting : Setting) (count : ℕ) → HasClocks header.now setting
+            → line.now.at ≤ 1000000000000000
+            → Numbered count (line_of line.now ∷ history_of before.now)
+            → AccordIs count (line_of line.now ∷ history_of before.now) self.now
+            → MatchBool result (AgreedAt setting (line_of line.now) (history_of before.now))
+            (AgreedAt setting (line_of line.now) (history_of before.now) → ⊥) }
+    {
+        if !rests(before, self.trips.as_slice(), line) {
+            return false;
+        }
+        if line.act.is_none() {
+            return true;
+        }
+        if self.nodes.len() > 64 {
+            return false;
+        }
+        all_agree(header, line.at, self.nodes.as_slice())
+    }
+
+    /// Whether clocks agree in all lines, where they do in those before `from`, for which the
+    /// accord stands; there is to be room for the others. It stands for all lines after that, where
+    /// the answer is yes.
+    pub(crate) fn keeps_agreeing(
+        &mut self,
+        header: &Header,
+        lines: &[HistoryLine],
+        from: usize,
+    ) -> bool
+        requires from { from ≤ length lines.now }
+        requires few { length lines.now < 2 ^ 32 }
+        ensures keeps { (setting : Setting) (count : ℕ) → HasClocks header.now setting
+            → Timely (history_of lines.now) → Numbered count (history_of lines.now)
+            → vec_len self.old.trips + (length lines.now - from) ≤ vec_capacity self.old.trips
+            → AccordIs count (history_of (take from lines.now)) self.old
+            → Agreed setting (history_of (take from lines.now))
+            → MatchBool result (Agreed setting (history_of lines.now))
+            (Agreed setting (history_of lines.now) → ⊥) }
+        ensures accord { (count : ℕ) → result ≡ true
+            → vec_len self.old.trips + (length lines.now - from) ≤ vec_capacity self.old.trips
+            → AccordIs count (history_of (take from lines.now)) self.old
+            → AccordIs count (history_of lines.now) self.new }
+    {
+        for i in from..lines.len() {
+            self.note(lines, i);
+            if !self.agrees(header, &lines[..i], &lines[i]) {
+                return false;
+            }
+        }
+        true
+    }
+}

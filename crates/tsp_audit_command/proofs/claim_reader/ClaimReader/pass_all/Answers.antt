@@ -1,0 +1,16 @@
+-- As many events are left as are ahead.
+use Rattle.std.proofs.Common.{◌≡◌, ◌-◌, ◌∙◌, ap, sym, subst, length-drop, rules}
+use Rattle.std.specs.Prelude.{length, MatchResult, Some}
+use Rattle.tsp_audit_command.specs.ClaimReaders.{ClaimingValue, passes}
+use Rattle.tsp_audit_command.specs.Stands.{Unpassed}
+use Rattle.tsp_audit_command.proofs.claim_reader.ClaimReader.pass_all.Goals as goal
+
+pub returns : goal.returns
+returns c =
+    let i = c.self.inside in
+    let v = c.args.self in
+    let all : c.len.result ≡ length i.events.items = search rules in
+    let done : c.len-2.result ≡ length i.told.items = search rules in
+    let left : c.len.result - c.len-2.result ≡ length v.ahead =
+    ap (λ n. n - c.len-2.result) all ∙ (ap (λ n. length i.events.items - n) done ∙ (sym (length-drop (length i.told.items) i.events.items) ∙ ap (λ (x : ClaimingValue). length x.ahead) c.self.view_is)) in
+    subst (λ n. MatchResult c.pass.result (λ now. passes n v ≡ Some now) (Unpassed (passes n v))) left c.pass.ensures

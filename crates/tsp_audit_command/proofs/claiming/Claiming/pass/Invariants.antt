@@ -1,7 +1,0 @@
--- What is left to be passed comes to the same.
-use Rattle.std.proofs.Common.{◌≡◌, ◌-◌}
-use Rattle.tsp_audit_command.specs.Claimings.{passes}
-use Rattle.tsp_audit_command.proofs.claiming.Claiming.pass.Given as goal
-
-abbrev pub invariant-loop : goal.invariant-loop
-invariant-loop l = passes (l.fn.count - l.counter) l.now ≡ passes l.fn.count l.fn.self

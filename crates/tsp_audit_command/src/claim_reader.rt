@@ -1,0 +1,254 @@
+//! The lines that are claimed of a schedule's events.
+ghost use Rattle.std.specs.Prelude.{◌≡◌, ◌≤◌, ◌<◌, ◌+◌, ◌∷◌, ◌↔◌, List, [], Some, length, IsTrue};
+ghost use Rattle.std.specs.Prelude.{IfOk, OnOk, MatchResult, codes};
+ghost use Rattle.tsp_base.specs.Headers.{HeaderValue};
+ghost use Rattle.tsp_claims.specs.ClaimedHistory.{Claim};
+ghost use Rattle.tsp_claims.specs.Fitting.{Fit};
+ghost use Rattle.tsp_claims.specs.Listed.{NamesNode};
+ghost use Rattle.tsp_claims.specs.Stands.{ClaimsStand, claim_of};
+ghost use Rattle.tsp_run.specs.Run.{event_at};
+
+use crate::copies::copy_header;
+use crate::event_lines::EventLines;
+use std::alloc::{AllocError, Global};
+use std::marker::Model;
+use tsp_audit::premised::{all_kept, keep_with};
+use tsp_audit::premises::Premises;
+use tsp_base::event::Event;
+use tsp_base::header::Header;
+use tsp_claims::audit_fault::AuditFault;
+use tsp_claims::claims::Claims;
+use tsp_claims::tally::Tally;
+use tsp_lines::cause::Cause;
+use tsp_lines::treatment::Stop;
+use tsp_script::act_reader::act_of;
+use tsp_script::trace::Line2;
+
+/// How many lines may be claimed.
+const MOST_LINES: u64 = 20_000;
+
+/// Takes in an event and its lines, which fit. Fails only if out of memory.
+fn take_in(claims: &mut Claims, e: &Event, lines: &[Line2]) -> Result<(), AllocError>
+    requires time { event_at e.now ≤ 1000000000000000 }
+    requires node { NamesNode (length claims.old.header.nodes) e.now }
+    requires events { claims.old.events < 20000 }
+    requires lines { claims.old.told + length lines.now ≤ 20000 }
+    requires fit { (header : HeaderValue) × (before : List Claim)
+        × ClaimsStand header before claims.old × Fit header before e.now lines.now }
+    ensures { (header : HeaderValue) (before : List Claim) → ClaimsStand header before claims.old
+        → OnOk result (ClaimsStand header (claim_of e.now lines.now ∷ before) claims.new) }
+{
+    match claims.event(e, lines) {
+        Ok(()) => Ok(()),
+        Err(AuditFault::History(_)) => unreachable!(),
+        Err(AuditFault::OutOfMemory) => Err(AllocError),
+    }
+}
+
+/// The refusal of a line, or of the input's end, that doesn't fit.
+fn bad_history() -> Stop
+    ensures { result ≡ Stop.Bad (codes "history") }
+{
+    Stop::Bad(Cause::of(b"history"))
+}
+
+/// The events of a schedule, and the lines that are claimed of them so far: those of the events
+/// that were passed, and those of the event at hand.
+#[derive(Drop)]
+pub(crate) struct ClaimReader {
+    pub(crate) alloc: Global,
+    /// The header of the schedule.
+    pub(crate) header: Header,
+    /// All events, the oldest first.
+    pub(crate) events: Vec<Event>,
+    /// What is claimed of the events that were passed.
+    pub(crate) claims: Claims,
+    /// The lines of each event that was passed.
+    pub(crate) told: Vec<EventLines>,
+    /// The lines so far of the event at hand.
+    pub(crate) pending: EventLines,
+    /// What they come to.
+    pub(crate) tally: Tally,
+    /// What the events that were passed keep.
+    pub(crate) premises: Premises,
+}
+
+impl Model for ClaimReader {
+    ghost use Rattle.std.specs.Prelude.{[], length, drop};
+    ghost use Rattle.tsp_audit_command.specs.ClaimReaders.{ClaimingValue};
+    ghost use Rattle.tsp_audit_command.specs.Sound.{Sound, claims_on};
+
+    ghost Value = { ClaimingValue };
+
+    ghost view = { λ c. record {
+      header = c.header;
+      passed = claims_on [] c.events.items
+          c.told.items;
+      told = c.pending;
+      ahead = drop (length c.told.items) c.events.items;
+    } };
+
+    ghost invariant = { λ c. Sound c.header c.events.items c.claims c.told.items c.pending c.tally
+        c.premises };
+}
+
+impl ClaimReader {
+    ghost use Rattle.tsp_audit_command.specs.ClaimReaders.{FitsHere, lines_told, pass_one, passes, passes_all};
+    ghost use Rattle.tsp_audit_command.specs.Listings.{AreListed, IsAudited};
+    ghost use Rattle.tsp_audit_command.specs.Readings.{Claimed};
+    ghost use Rattle.tsp_audit_command.specs.Stands.{Adds, ClaimAdvances, Halts, HaltsAdding};
+    ghost use Rattle.tsp_audit_command.specs.Stands.{HaltsTelling, TellsMore, Unpassed};
+
+    /// Nothing is claimed yet of these events. Fails only if out of memory.
+    pub(crate) fn begin(
+        alloc: Global,
+        header: Header,
+        events: Vec<Event>,
+    ) -> Result<ClaimReader, AllocError>
+        requires header { IsAudited header }
+        requires listed { AreListed (length header.nodes) events.items }
+        ensures { IfOk result (λ c. c ≡ record {
+          header = header;
+          passed = [];
+          told = [];
+          ahead = events.items;
+        }) }
+    {
+        let claims = Claims::new(alloc, copy_header(alloc, &header)?)?;
+        Ok(ClaimReader {
+            alloc,
+            header,
+            events,
+            claims,
+            told: Vec::new(alloc),
+            pending: EventLines::new(alloc),
+            tally: Tally::new(),
+            premises: all_kept(),
+        })
+    }
+
+    /// Passes the event at hand; refused where there is none, or where it lacks something.
+    fn pass_one(self) -> Result<ClaimReader, Stop>
+        ensures { MatchResult result (λ now. pass_one self ≡ Some now) (Unpassed (pass_one self)) }
+    {
+        let events = self.events;
+        let pending = self.pending;
+        let mut claims = self.claims;
+        let mut told = self.told;
+        let at = told.len();
+        let Some(e) = events.get(at) else {
+            return Err(bad_history());
+        };
+        if self.tally.lacks(e) {
+            return Err(bad_history());
+        }
+        let premises = keep_with(self.premises, &events[..at], claims.posts(), e);
+        if take_in(&mut claims, e, pending.lines()).is_err() {
+            return Err(Stop::OutOfMemory);
+        }
+        if told.push(pending).is_err() {
+            return Err(Stop::OutOfMemory);
+        }
+        Ok(ClaimReader {
+            alloc: self.alloc,
+            header: self.header,
+            events,
+            claims,
+            told,
+            pending: EventLines::new(self.alloc),
+            tally: Tally::new(),
+            premises,
+        })
+    }
+
+    /// Passes so many events.
+    fn pass(self, count: u64) -> Result<ClaimReader, Stop>
+        ensures { MatchResult result (λ now. passes count self ≡ Some now)
+            (Unpassed (passes count self)) }
+    {
+        let mut now = self;
+        for _ in 0..count {
+            match now.pass_one() {
+                Ok(next) => now = next,
+                Err(stop) => return Err(stop),
+            }
+        }
+        Ok(now)
+    }
+
+    /// Passes all events that are left.
+    pub(crate) fn pass_all(self) -> Result<ClaimReader, Stop>
+        ensures { MatchResult result (λ now. passes_all self ≡ Some now)
+            (Unpassed (passes_all self)) }
+    {
+        let left = self.events.len() - self.told.len();
+        self.pass(left as u64)
+    }
+
+    /// Whether a line fits as the next one of the event at hand.
+    fn fits(&self, line: &Line2) -> bool
+        ensures { IsTrue result ↔ FitsHere self.now line.now }
+    {
+        match self.events.get(self.told.len()) {
+            Some(e) => self.claims.fits(e, self.tally, line),
+            None => false,
+        }
+    }
+
+    /// How many lines are claimed.
+    fn lines(&self) -> u64
+        ensures { result ≡ lines_told self.now }
+    {
+        self.claims.told() + self.pending.lines().len() as u64
+    }
+
+    /// Adds a line to those of the event at hand.
+    fn add(self, line: Line2) -> Result<ClaimReader, Stop>
+        ensures { MatchResult result (λ now. Adds self line now) (HaltsAdding self line) }
+    {
+        if !self.fits(&line) {
+            return Err(bad_history());
+        }
+        if self.lines() >= MOST_LINES {
+            return Err(Stop::Limit);
+        }
+        let mut tally = self.tally;
+        tally.count(&line.placed.act);
+        let mut pending = self.pending;
+        if pending.push(line).is_err() {
+            return Err(Stop::OutOfMemory);
+        }
+        Ok(ClaimReader {
+            alloc: self.alloc,
+            header: self.header,
+            events: self.events,
+            claims: self.claims,
+            told: self.told,
+            pending,
+            tally,
+            premises: self.premises,
+        })
+    }
+
+    /// Adds a line to those of its event, once the events before that are passed.
+    fn tell(self, line: Line2) -> Result<ClaimReader, Stop>
+        ensures { MatchResult result (λ now. TellsMore self line now) (HaltsTelling self line) }
+    {
+        let before = line.event.saturating_sub(self.claims.events() + 1);
+        match self.pass(before) {
+            Ok(here) => here.add(line),
+            Err(stop) => Err(stop),
+        }
+    }
+
+    /// Reads a claimed line, or says why it may not follow.
+    pub(crate) fn line(self, line: &[u8]) -> Result<ClaimReader, Stop>
+        ensures { MatchResult result (λ now. ClaimAdvances self line.now now)
+            (Halts (Claimed self) line.now) }
+    {
+        match act_of(line) {
+            Ok(read) => self.tell(read),
+            Err(_) => Err(Stop::Bad(Cause::of(b"line"))),
+        }
+    }
+}

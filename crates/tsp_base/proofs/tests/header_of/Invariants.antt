@@ -1,6 +1,0 @@
-use Rattle.std.proofs.Common.{◌≡◌, []}
-use Rattle.tsp_base.proofs.tests.header_of.Given as goal
-
--- no network is added
-abbrev pub invariant-loop : goal.invariant-loop
-invariant-loop l = l.header.nets ≡ []

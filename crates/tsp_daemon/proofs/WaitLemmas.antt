@@ -1,0 +1,62 @@
+-- How long receives wait, turn by turn.
+use Rattle.std.specs.Prelude.{◌≡◌, ◌⊎◌, ◌<◌, ℕ, zero, suc, ◌+◌, List, [], ◌∷◌, ◌++◌, Option, None, Some, Result, Err, refl}
+use Rattle.std.proofs.Common.{ap, inr, sym, subst, ◌∙◌, append_assoc, append-nil, arith}
+use Rattle.tsp_gateway.specs.declared.gateway.Gateway.{Gateway}
+use Rattle.tsp_gateway.specs.Dues.{IsNodeDue}
+use Rattle.tsp_gateway.specs.GatewayStands.{GatewayStands}
+use Rattle.tsp_io.specs.Clocks.{TakesReading}
+use Rattle.tsp_io.specs.Links.{Arrival, Notes, Tried}
+use Rattle.tsp_query.specs.Clocks.{reading}
+use Rattle.tsp_query.specs.Ends.{Outside, Tells}
+use Rattle.tsp_rules.specs.NodeRows.{NodePast}
+use Rattle.tsp_daemon.specs.declared.end.ServeEnd.{ServeEnd}
+use Rattle.tsp_daemon.specs.declared.end.ServeEnd.TheVariants.{Done, LinkFault, WriteFault, OutOfMemory}
+use Rattle.tsp_daemon.specs.Ends.{EndsTurn, IsReceived}
+use Rattle.tsp_daemon.specs.Sessions.{Session, after_turns, read_once}
+use Rattle.tsp_daemon.specs.Waits.{AreWaits, IsWait, NotesTurn, NotesWait, NotesWaits, wait_until}
+use Rattle.tsp_daemon.proofs.SessionLemmas.{reading_taken}
+
+-- the first reading of a turn
+pub first_reading : (o : Outside) (arrivals : Option (List Arrival)) (tried : Option (List Tried)) (calls : Option ℕ) (readings between : Option (List ℕ)) (last first : ℕ) →
+    Tells o arrivals tried calls readings last → TakesReading readings between last first → first ≡ (read_once o).last
+first_reading o arrivals tried calls readings between last first t takes = (reading_taken o.readings readings between last first t.readings_are takes).1 ∙ ap (λ n. reading n o.readings 0) t.last_is
+
+-- a receive that waits until the node is due
+pub wait_noted : (s : Session) (node : Gateway) (due first wait : ℕ) (waits now : Option (List ℕ)) → GatewayStands s.past node → ((past : NodePast) → GatewayStands past node → IsNodeDue past due) →
+    first ≡ (read_once s.outside).last → wait ≡ wait_until due first → Notes waits now wait → NotesWait s waits now
+wait_noted s node due first wait waits now stands due_is first_is is n = (wait, record { due = due; due_is = due_is s.past stands; is = is ∙ ap (λ x. wait_until due x) first_is }, n)
+
+-- no receive was made
+pub none_noted : (s : Session) (waits : Option (List ℕ)) → NotesWaits s 0 waits waits
+none_noted s None = tt
+none_noted s (Some ws) = ([], sym (append-nil ws), refl)
+
+-- one receive more
+pub more_noted : (s : Session) (n : ℕ) (waits between now : Option (List ℕ)) → NotesWaits s n waits between → NotesWait (after_turns n s) between now → NotesWaits s (suc n) waits now
+more_noted s n waits between None w one = tt
+more_noted s n waits None (Some now) w one = absurd one.2
+more_noted s n None (Some between) (Some now) w one = absurd w
+more_noted s n (Some before) (Some between) (Some now) w one =
+    (w.0 ++ one.0 ∷ [], one.2 ∙ (ap (λ (ws : List ℕ). ws ++ one.0 ∷ []) w.1 ∙ append_assoc before w.0 (one.0 ∷ [])), (w.0, one.0, refl, w.2, one.1))
+
+pub one_more_noted : (s : Session) (n : ℕ) (waits between now : Option (List ℕ)) → NotesWaits s n waits between → NotesWait (after_turns n s) between now → NotesWaits s (n + 1) waits now
+one_more_noted s n waits between now w one = let next : suc n ≡ n + 1 = omega arith in subst (λ k. NotesWaits s k waits now) next (more_noted s n waits between now w one)
+
+-- what is noted where a turn ends the session
+pub until_noted : (turns i : ℕ) (s : Session) {A : Type 0} (waits between now : Option (List ℕ)) (arrivals : Option (List Arrival)) (tried : Option (List Tried)) (calls : Option ℕ) (readings : Option (List ℕ)) (last : ℕ) (written : Option (List ℕ)) (end : ServeEnd) →
+    i < turns → EndsTurn (after_turns i s) arrivals tried calls readings last written end → NotesWaits s i waits between → NotesTurn {A} (after_turns i s) between now (Err end) →
+    (received : ℕ) × IsReceived turns received end × NotesWaits s received waits now
+until_noted turns i s waits between now arrivals tried calls readings last written Done less ends w n = absurd ends
+until_noted turns i s waits between now arrivals tried calls readings last written LinkFault less ends w n = (i + 1, (omega arith, omega (arith, less)), one_more_noted s i waits between now w n)
+until_noted turns i s waits between now arrivals tried calls readings last written WriteFault less ends w n = (i + 1, (omega arith, omega (arith, less)), one_more_noted s i waits between now w n)
+until_noted turns i s waits between now arrivals tried calls readings last written OutOfMemory less ends w n = elim n [
+  | inl same ↦ (i, omega (arith, less), subst (λ ws. NotesWaits s i waits ws) (sym same) w)
+  | inr one ↦ (i + 1, omega (arith, less), one_more_noted s i waits between now w one)
+]
+
+-- a turn that noted its receive, however it ends
+pub turn_noted : {A : Type 0} (s : Session) (waits now : Option (List ℕ)) (end : ServeEnd) → NotesWait s waits now → NotesTurn {A} s waits now (Err end)
+turn_noted s waits now Done n = n
+turn_noted s waits now LinkFault n = n
+turn_noted s waits now WriteFault n = n
+turn_noted s waits now OutOfMemory n = inr n

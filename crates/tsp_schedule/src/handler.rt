@@ -1,0 +1,36 @@
+//! What the events of a schedule meet.
+ghost use Rattle.std.specs.Prelude.{◌≡◌, ◌≤◌, List, [], ◌∷◌, length, true, IfOk, OnOk, MatchResult, None};
+ghost use Rattle.tsp_base.specs.Headers.{HeaderValue, is_whole};
+ghost use Rattle.tsp_base.specs.declared.event.Event.{Event};
+ghost use Rattle.tsp_schedule.specs.Refusing.{Refusing};
+ghost use Rattle.tsp_run.specs.Refusals.{IsRefusal};
+ghost use Rattle.tsp_script.specs.Schedules.{IsEvent};
+
+use std::alloc::{AllocError, Global};
+use tsp_base::event::{Event, EventFault};
+use tsp_base::header::Header;
+
+/// What the events of a schedule meet, one after the other.
+pub trait EventHandler: Drop {
+    /// By what an event is refused.
+    ghost refused: { Refusing };
+
+    /// It is where a header and these events, of which the newest is the first, have brought it.
+    ghost stands: { HeaderValue → List Event → Self → Type 0 };
+
+    /// No event has happened. Fails only if out of memory, and then drops the header.
+    fn begin(alloc: Global, header: Header) -> Result<Self, AllocError>
+        requires some { 1 ≤ length header.nodes }
+        requires whole { is_whole header ≡ true }
+        ensures { IfOk result (λ course. stands header [] course) };
+
+    /// Lets an event happen, or says for what cause it can't.
+    fn event(&mut self, e: &Event) -> Result<(), EventFault>
+        requires { IsEvent e.now }
+        ensures happens { (header : HeaderValue) (events : List Event)
+            → stands header events self.old
+            → OnOk result (stands header (e.now ∷ events) self.new) }
+        ensures fault { (header : HeaderValue) (events : List Event) → stands header events self.old
+            → MatchResult result (λ _. refused header events e.now ≡ None)
+            (λ f. IsRefusal (refused header events e.now) f) };
+}

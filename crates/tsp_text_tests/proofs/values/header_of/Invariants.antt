@@ -1,0 +1,6 @@
+use Rattle.std.proofs.Common.{◌≡◌, []}
+use Rattle.tsp_text_tests.proofs.values.header_of.Given as goal
+
+-- no network is added
+abbrev pub invariant-loop : goal.invariant-loop
+invariant-loop l = l.header.nets ≡ []

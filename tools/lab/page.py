@@ -1,0 +1,107 @@
+"""The page of tools/accuracy: a table of what was measured, and a picture."""
+import math
+import os
+
+WIDTH, LEFT, TOP, STEP, FOOT = 760, 230, 60, 22, 40
+MARKS = (0.01, 0.1, 1, 10, 100)
+TEXT = '''# How well it keeps time
+
+How far two corrected clocks are from each other, measured, beside what is promised of them. `tools/accuracy` wrote this page and its picture:
+
+```
+tools/accuracy --minutes {minutes} --rate {rate} --seed {seed}
+```
+
+Each case is a network of daemons in namespaces of one machine, without faults, for {minutes} minutes of its own time, which ran {rate} times as fast. Two hosts
+may be master. Wall clocks are up to half a second off at first. Rates are drawn up to the drift, in parts in a million, and each datagram is late by up to
+the jitter, in milliseconds of the network's time. On top come the ways through the kernel and the bridge, and what a daemon waits for a processor: {rate} times
+what they take on the machine, which is busy. The least error of a measurement shows that.
+
+Times come from the clock that all daemons count by, whose rates and walls are known here. Each run was also replayed and audited by `tsp-witness`, which
+knows neither: {judged}.
+
+- **apart**: the greatest distance of two clocks that one round of their master corrected, the master's among them, while nothing else moved them.
+- **promised**: what is promised of these two at that moment: their samples' errors, and the drift since these were taken, twice.
+- **most**: the greatest part of what was promised that any two clocks came to, at any moment.
+- **error**: the least error of a measurement, which is half of the shortest round trip.
+
+The simulations are runs of `tsp-sim` with as many nodes and as much drift, whose datagrams are on their way for the daemons' least error and up to the jitter
+besides. All but the last column are milliseconds.
+
+| hosts | drift | jitter | daemons: error | apart | promised | most | simulated: error | apart | promised | most |
+|---|---|---|---|---|---|---|---|---|---|---|
+{rows}
+
+![What was measured and what was promised](accuracy.svg)
+
+{sums}
+'''
+
+
+def milliseconds(micros):
+    return f'{micros / 1000:.3f}' if micros < 10_000 else f'{micros / 1000:.1f}'
+
+
+def name_of(case):
+    """What a case is called."""
+    return f'{case["hosts"]} hosts, {case["drift"]} ppm, {case["jitter"] / 1000:g} ms'
+
+
+def row(case):
+    """A case as a line of the table."""
+    cells = [str(case['hosts']), str(case['drift']), f'{case["jitter"] / 1000:g}']
+    for kind in 'daemons', 'simulated':
+        told = case[kind]
+        cells += [milliseconds(told['error']), milliseconds(told['apart']), milliseconds(told['promised']), f'{told["part"]:.0%}']
+    return '| ' + ' | '.join(cells) + ' |'
+
+
+def sums(cases):
+    """What is to be said of all cases together."""
+    corrections = {kind: sum(case[kind]['corrections'] for case in cases) for kind in ('daemons', 'simulated')}
+    worst = {kind: max(case[kind]['part'] for case in cases) for kind in ('daemons', 'simulated')}
+    return (f'In all {len(cases)} cases rounds moved followers {corrections["daemons"]} times among daemons, and {corrections["simulated"]} times in simulations.\n'
+            f'Two clocks came to {worst["daemons"]:.0%} of what was promised at the most among daemons, and to {worst["simulated"]:.0%} in simulations.')
+
+
+def judged(cases):
+    """What the witness said of all runs."""
+    alike = sum(case['alike'] for case in cases)
+    faulty = [name_of(case) for case in cases if case['faults']]
+    return f'{alike} acts are alike, and each history holds' if not faulty else f'{alike} acts are alike, but not all of {"; ".join(faulty)}'
+
+
+def place(millis):
+    """Where a number of milliseconds stands, by its logarithm."""
+    low, high = math.log10(MARKS[0]), math.log10(MARKS[-1])
+    return LEFT + (WIDTH - LEFT - 20) * (math.log10(min(max(millis, MARKS[0]), MARKS[-1])) - low) / (high - low)
+
+
+def picture(cases):
+    """A line for each case: what was promised as a bar, and the distances as a dot and a ring."""
+    height = TOP + STEP * len(cases) + FOOT
+    out = [f'<svg xmlns="http://www.w3.org/2000/svg" viewBox="0 0 {WIDTH} {height}" font-family="sans-serif" font-size="11">',
+           f'<rect width="{WIDTH}" height="{height}" fill="white"/>',
+           '<text x="12" y="22" font-size="14">The greatest distance of two corrected clocks, in milliseconds</text>',
+           '<text x="12" y="40" fill="#555">dot: daemons; ring: simulated; bar: promised of the daemons; dashed: promised of the simulated nodes</text>']
+    for mark in MARKS:
+        out.append(f'<line x1="{place(mark):.1f}" y1="{TOP - 8}" x2="{place(mark):.1f}" y2="{height - FOOT}" stroke="#ddd"/>')
+        out.append(f'<text x="{place(mark):.1f}" y="{height - FOOT + 16}" text-anchor="middle">{mark:g}</text>')
+    for number, case in enumerate(cases):
+        y = TOP + STEP * number + 6
+        daemons, simulated = case['daemons'], case['simulated']
+        out.append(f'<text x="12" y="{y + 4}">{name_of(case)}</text>')
+        out.append(f'<line x1="{LEFT}" y1="{y}" x2="{place(daemons["promised"] / 1000):.1f}" y2="{y}" stroke="#6ba6f2" stroke-width="8"/>')
+        out.append(f'<line x1="{LEFT}" y1="{y + 7}" x2="{place(simulated["promised"] / 1000):.1f}" y2="{y + 7}" stroke="#555" stroke-dasharray="3 2"/>')
+        out.append(f'<circle cx="{place(daemons["apart"] / 1000):.1f}" cy="{y}" r="4" fill="#1b6ca8"/>')
+        out.append(f'<circle cx="{place(simulated["apart"] / 1000):.1f}" cy="{y}" r="5" fill="none" stroke="#000"/>')
+    return '\n'.join([*out, '</svg>', ''])
+
+
+def write(folder, cases, given):
+    """Writes the page and its picture."""
+    rows = '\n'.join(map(row, cases))
+    with open(os.path.join(folder, 'ACCURACY.md'), 'w', encoding='utf-8') as file:
+        file.write(TEXT.format(minutes=given.minutes, rate=given.rate, seed=given.seed, rows=rows, sums=sums(cases), judged=judged(cases)))
+    with open(os.path.join(folder, 'accuracy.svg'), 'w', encoding='utf-8') as file:
+        file.write(picture(cases))

@@ -1,0 +1,175 @@
+#!/bin/sh
+# tsp-watch shows what a daemon's trace tells of its state: in lines, objects, metrics and on a terminal, whatever its input is.
+. "$(dirname "$0")/common.sh"
+trace=tools/tests/watch.trace
+
+# Wants this status of tsp-watch with these words, under the limit that `limited` sets.
+limited=''
+ends() {
+    wanted=$1
+    shift
+    status=0
+    $limited tools/tsp-watch "$@" >"$out/said" 2>"$out/told" <"$input" || status=$?
+    [ "$status" -eq "$wanted" ] || fail "'$*' ends with status $status: $(cat "$out/told")"
+}
+
+# Wants these lines of output.
+says() {
+    printf '%s\n' "$@" | diff - "$out/said" >"$out/differ" || fail "it says otherwise: $(cat "$out/differ")"
+}
+
+# Wants this line on standard error, and no other.
+tells() {
+    [ "$(cat "$out/told")" = "tsp-watch: $1" ] || fail "it tells otherwise: $(cat "$out/told")"
+}
+
+# A candidate that is elected, and its first round: of two measurements of a slave the one with the least error counts.
+input=$trace
+ends 0
+says '577.714 stands for election' '582.738 leads' '582.738 round in 4:00' '582.740 b is a slave' \
+    '823.795 c is -3.692 ms ahead, give or take 0.732' '825.844 b is -0.575 ms ahead, give or take 1.141' \
+    '830.806 a round ends: 3 clocks agree within 3.692 ms, and their mean is -1.423' \
+    '830.806 the clock is corrected by -1.423 ms, slewed, and shows 2026-11-27 18:27:03.464 UTC'
+[ ! -s "$out/told" ] || fail "$(cat "$out/told")"
+cp "$out/said" "$out/lines"
+input=/dev/null
+ends 0 "$trace"
+cmp -s "$out/said" "$out/lines" || fail 'a file gives other lines than standard input'
+
+# What a host that follows does, in a journal's lines: names are those of the launcher, the role is found in the middle of a trace,
+# rivals, sends without an answer, late alarms and a switched trace are told; a gateway's lines name the port; a start begins anew.
+cat >"$out/journal" <<'END'
+Nov 28 09:00:00 east systemd[1]: Started tsp.service.
+Nov 28 09:00:01 east tsp[77]: 90 0 0 90000000 took 2 adjtime 7 -1500000 beta
+Nov 28 09:00:01 east tsp[77]: 90 0 0 90000000 correct -1500000 slew 1795803775398554
+Nov 28 09:00:01 east tsp[77]: 90 0 0 90000000 arm elect 500000000
+Nov 28 09:00:03 east tsp[77]: 95 0 0 96000000 late elect
+Nov 28 09:00:04 east tsp[77]: 95 0 0 96000000 become loose
+Nov 28 09:00:05 east tsp[77]: 96 0 0 99000000 trace off
+Nov 28 09:01:00 east tsp[78]: tsp-launch: in the trace peer 0 is gate, 1 alpha, 2 be-ta.example, 3 gamma
+Nov 28 09:01:01 east tsp[78]: 1 0 0 1000000 trace on
+Nov 28 09:02:30 east tsp[78]: 88 0 1 85000000 post 4 3 slaveup 99 gate
+Nov 28 09:02:31 east tsp[78]: 89 0 0 86000000 become master
+Nov 28 09:02:32 east tsp[78]: 90 0 0 87000000 rival 2
+Nov 28 09:02:33 east tsp[78]: 91 0 0 88000000 gave 2
+Nov 28 09:02:34 east tsp[78]: 92 0 0 89000000 abandon
+Nov 28 09:02:34 east tsp[78]: 92 0 0 89000000 leave 1
+Nov 28 09:02:35 east tsp[78]: 93 0 0 90000000 quit 2
+Nov 28 09:02:35 east tsp[78]: 93 0 0 90000000 become follow 2
+END
+input=$out/journal
+ends 0
+says '90.000 follows beta' '90.000 the clock is corrected by -1500.000 ms, slewed, and shows 2026-11-27 18:22:55.398 UTC' '90.000 election in 6:50' \
+    '96.000 late for election' '96.000 without a master' '99.000 the trace is off' '0.000 the daemon of gate starts' '1.000 the trace is on' \
+    '85.000 port 1: follows gamma' '86.000 leads' '87.000 be-ta.example leads too' "88.000 be-ta.example doesn't acknowledge" \
+    '89.000 a round is given up' '89.000 alpha is no slave any more' '90.000 be-ta.example tells it to give way' '90.000 follows be-ta.example'
+ends 0 --json
+python3 - "$out/said" <<'END' || fail 'the JSON says otherwise'
+import json, sys
+told = [json.loads(line) for line in open(sys.argv[1], encoding='ascii')]
+assert len(told) == 16, told
+assert told[1] == {'tick_us': 90000000, 'port': 0, 'change': 'correction', 'amount_us': -1500000, 'way': 'slew', 'shown_us': 1795803775398554}, told[1]
+assert told[2] == {'tick_us': 90000000, 'port': 0, 'change': 'next', 'alarm': 'elect', 'in_us': 410000000}, told[2]
+assert told[6] == {'tick_us': 0, 'port': 0, 'change': 'start', 'name': 'gate', 'peers': ['alpha', 'be-ta.example', 'gamma']}, told[6]
+assert told[8] == {'tick_us': 85000000, 'port': 1, 'change': 'role', 'role': 'follow', 'master': 'gamma'}, told[8]
+END
+
+# Metrics: a file that is always whole, and nothing beside it.
+input=$trace
+ends 0 --prometheus "$out/metrics"
+[ ! -s "$out/said" ] || fail 'metrics are printed too'
+for line in 'tsp_daemon_tick_seconds 830.809232' 'tsp_daemon_role{port="0",role="master"} 1' 'tsp_daemon_role{port="0",role="candidate"} 0' \
+    'tsp_daemon_slaves{port="0"} 2' 'tsp_daemon_due_seconds{port="0",alarm="round"} 822.737788' 'tsp_daemon_peer_offset_seconds{peer="c"} -0.003692' \
+    'tsp_daemon_peer_error_seconds{peer="b"} 0.001141' 'tsp_daemon_correction_seconds -0.001423' 'tsp_daemon_correction_time_seconds 1795804023.464523' \
+    'tsp_daemon_corrections_total 1' 'tsp_daemon_late_total 0' '# TYPE tsp_daemon_late_total counter'; do
+    grep -qxF "$line" "$out/metrics" || fail "the metrics lack $line"
+done
+[ "$(find "$out" -name '.tsp-*' | wc -l)" -eq 0 ] || fail 'something is left beside the file'
+
+# Lines come out as they come in, while the input goes on.
+mkfifo "$out/pipe"
+tools/tsp-watch "$out/pipe" >"$out/live" 2>"$out/told" &
+watching=$!
+exec 3>"$out/pipe"
+head -n 1 "$trace" >&3
+tries=0
+until [ -s "$out/live" ]; do
+    tries=$((tries + 1))
+    [ "$tries" -lt 100 ] || fail 'a line is held back'
+    sleep 0.1
+done
+exec 3>&-
+wait "$watching" || fail "a pipe ends with status $?"
+
+# On a terminal it draws the state, in as many columns as there are.
+if has script; then
+    printf '#!/bin/sh\nstty cols 60 rows 7\nexec tools/tsp-watch %s\n' "$trace" >"$out/draw"
+    chmod +x "$out/draw"
+    script -qec "$out/draw" /dev/null </dev/null | tr -d '\r' | sed 's/\x1b\[[0-9]*[A-Z]//g' | tail -n 6 >"$out/drawn"
+    sed 's/ *$//' "$out/drawn" >"$out/said"
+    says 'a, 13:50 after its start' 'role         leads' 'next         round in 0:00' \
+        'correction   -1.423 ms slewed, 0:00 ago, to 2026-11-27 18:2' 'late         never' ''
+else
+    skip 'there is no script' 'a terminal'
+fi
+
+# Input that is none, or can't be read.
+printf 'hello\n1 0 0 x become master\n1 0 0 5 become king\n1 0 9 5 become master\n0 0 0 5 become master\n1 0 0 5 sample 1 2 3\n' >"$out/words"
+printf '\377\376\0\0 not text \200\n' >"$out/octets"
+: >"$out/empty"
+mkdir "$out/folder"
+for file in words octets empty; do
+    input=$out/$file
+    ends 1
+    tells "standard input: no line is one of a daemon's trace"
+    ends 1 --prometheus "$out/metrics" "$out/$file"
+    tells "$out/$file: no line is one of a daemon's trace"
+done
+input=/dev/null
+ends 3 "$out/none"
+tells "$out/none: No such file or directory"
+ends 3 "$out/folder"
+tells "$out/folder: Is a directory"
+status=0
+tools/tsp-watch <&- >"$out/said" 2>"$out/told" || status=$?
+[ "$status" -eq 3 ] || fail "a closed input ends with status $status"
+tells 'standard input is closed'
+for words in '--all' 'a b' '--json --prometheus x' '--prometheus'; do
+    # shellcheck disable=SC2086  # words
+    ends 2 $words
+    [ "$(wc -l <"$out/told")" -eq 1 ] && [ ! -s "$out/said" ] || fail "'$words': it says '$(cat "$out/said" "$out/told")'"
+done
+
+# Lines among other octets, one too long, a last one without its line feed, and 64 MiB in little memory.
+{ cat "$out/octets"; head -c 3000 /dev/zero | tr '\0' x; printf ' 5 0 0 6 become loose\n5 0 0 7 become loose\r\n6 0 0 8 become candidate'; } >"$out/mixed"
+input=$out/mixed
+ends 0
+says '0.000 without a master' '0.000 stands for election'
+head -c 67108864 /dev/zero >"$out/huge"
+input=$out/huge
+! has prlimit || limited='prlimit --as=400000000'
+ends 1
+limited=''
+tells "standard input: no line is one of a daemon's trace"
+rm "$out/huge"
+
+# Output that nobody takes.
+status=0
+tools/tsp-watch "$trace" >/dev/full 2>"$out/told" || status=$?
+[ "$status" -eq 4 ] || fail "a full output ends with status $status"
+tells 'standard output takes nothing: No space left on device'
+status=0
+tools/tsp-watch "$trace" >&- 2>"$out/told" || status=$?
+[ "$status" -eq 4 ] || fail "a closed output ends with status $status"
+tells 'standard output is closed'
+input=$trace
+ends 4 --prometheus "$out/none/metrics"
+tells "$out/none/metrics: No such file or directory"
+for _ in $(seq 500); do cat "$trace"; done >"$out/long"
+{ tools/tsp-watch "$out/long" 2>"$out/told" || :; } | head -n 1 >/dev/null
+[ ! -s "$out/told" ] || fail "where nobody reads on it tells $(cat "$out/told")"
+
+# An interrupt ends it by the signal, without a word.
+ended=$(interrupted tools/tsp-watch)
+[ "$ended" = "(b'', b'') -2" ] || fail "an interrupt ends with $ended"
+echo "$check: lines, objects, metrics, a terminal, and bad input"

@@ -1,0 +1,142 @@
+#!/bin/sh
+# tsp-witness puts traces of daemons together, which are then alike and hold, and finds what was changed in them, or is missing. These traces
+# are of daemons on networks of tools/network, but for `hand` and `repeated`, which were worked out by hand.
+. "$(dirname "$0")/common.sh"
+./tsp show </dev/null || fail "the program isn't there"
+export TSP_PROGRAM=crates/tsp_cli/out/tsp_cli
+given=tools/tests/witness
+
+# Witnesses the traces of a folder by a hosts file; a daemon's name stands before the dash, and the starts are in the order of their numbers.
+witness() {
+    hosts=$1 folder=$2
+    shift 2
+    set -- "$@" --file "$given/$hosts.hosts"
+    for trace in "$folder"/*.trace; do
+        name=$(basename "$trace")
+        set -- "$@" "${name%%-*}=$trace"
+    done
+    tools/tsp-witness "$@"
+}
+
+# Wants this status and this first line of a check.
+wants() {
+    wanted=$1 line=$2
+    shift 2
+    status=0
+    witness "$@" --check >"$out/said" 2>"$out/besides" || status=$?
+    [ "$status" -eq "$wanted" ] && [ "$(head -n 1 "$out/said")" = "$line" ] || fail "$*: status $status, $(cat "$out/said" "$out/besides")"
+}
+
+# Wants these texts in what was said, or told besides.
+tells() {
+    for text; do
+        cat "$out/said" "$out/besides" | grep -q -F -- "$text" || fail "'$text' isn't told, but: $(cat "$out/said" "$out/besides")"
+    done
+}
+
+# How many lines the daemons wrote into the files of a folder.
+written() {
+    cat "$1"/*.trace | grep -c '^[0-9]'
+}
+
+# Copies the traces of a folder to `changed`, with one file changed by a script of sed.
+change() {
+    rm -rf "$out/changed"
+    cp -r "$given/$1" "$out/changed"
+    sed "$3" "$given/$1/$2.trace" >"$out/changed/$2.trace"
+    ! cmp -s "$given/$1/$2.trace" "$out/changed/$2.trace" || fail "$3 changes nothing in $2"
+}
+
+PYTHONPATH=tools python3 -B tools/tests/witness_times.py 2>"$out/told" || fail "$(cat "$out/told")"
+
+# The daemons' own lines are all alike: in a run that was worked out by hand, and with a SETTIME that is repeated right behind its take; with a killed and returned master and a date, in strict elections, and
+# with two gateways between the same two networks, whose LOOPs come back.
+for network in hand repeated three strict loops; do
+    wants 0 "$(written "$given/$network") acts alike, holds" "$network" "$given/$network"
+    [ ! -s "$out/besides" ] || fail "$network: $(cat "$out/besides")"
+done
+grep -q ' took [0-9]* loop ' "$given/loops/b-2.trace" || fail 'no LOOP comes back'
+
+# The starts of one host in one journal, with lines of others between.
+{
+    echo 'Started tsp.service - Clock synchronisation by the Time Synchronization Protocol.'
+    for start in a-1 a-4; do
+        echo 'tsp-launch: in the trace peer 0 is a, 1 b, 2 c'
+        cat "$given/three/$start.trace"
+    done
+} | sed 's/^/Nov 28 06:00:00 alpha tsp[99]: /' >"$out/journal"
+rm -rf "$out/changed"
+cp -r "$given/three" "$out/changed"
+rm "$out/changed"/a-*
+cp "$out/journal" "$out/changed/a-1.trace"
+wants 0 "$(written "$given/three") acts alike, holds" three "$out/changed"
+sed -i 's/1 b, 2 c$/1 c, 2 b/' "$out/changed/a-1.trace"
+wants 3 '' three "$out/changed"
+tells 'the daemon was started with the peers 0 a, 1 c, 2 b; by the hosts file they are 0 a, 1 b, 2 c'
+
+# Clocks that drift fit no times without rates, and do with them.
+wants 3 '' drifting "$given/drifting"
+tells 'the clocks fit no times within a drift of 0'
+wants 0 "$(written "$given/drifting") acts alike, holds" drifting "$given/drifting" --drift 200
+witness drifting "$given/drifting" --drift 200 --schedule "$out/schedule"
+rate=$(sed -n 's/^node b \(-[0-9]*\) .*/\1/p' "$out/schedule")
+[ "$rate" -le -95 ] && [ "$rate" -ge -105 ] || fail "a clock that is slow by a ten-thousandth has the rate $rate"
+
+# A host whose wall clock was set between two starts: what came before is judged, and it is said what isn't.
+# (its second start takes the MASTERUP that the other one posts when its window is over, so it was before that)
+before=$(sed '/ ring window$/,$d' "$given/stepped/a-1.trace" | cat - "$given/stepped/b-2.trace" | wc -l)
+wants 1 "$before acts alike, holds" stepped "$given/stepped"
+tells 'b (start 2): its wall clock had been stepped by 500'
+
+# A daemon changed an octet of a datagram on its way out: it is named, with what it posted. By what came all is as it should be.
+wants 1 "$(written "$given/spoiled") acts alike, holds" spoiled "$given/spoiled"
+tells 'took "adjtime 24980 5431 b" of b' 'it posted "adjtime 24980 5430 b"'
+wants 0 "$(written "$given/spoiled") acts alike, holds" spoiled "$given/spoiled" --altered
+
+# Acts that the rules don't give: a correction by another amount, a role that the hosts file doesn't allow.
+change three c-2 's/ correct \(-\{0,1\}[0-9]*\)\([0-9]\) slew/ correct \12\2 slew/'
+status=0
+witness three "$out/changed" --check >"$out/said" 2>"$out/besides" || status=$?
+[ "$status" -eq 1 ] || fail "a changed correction gives the status $status"
+tells 'acts alike, and then one that differs' 'c, turn ' 'by the rules it is "2 0 ' 'the datagram before it: "adjtime '
+status=0
+witness hand "$given/strict" --check >"$out/said" 2>"$out/besides" || status=$?
+[ "$status" -eq 3 ] || fail "traces of another network give the status $status"
+
+# Lines that are lost: of a post in the midst, and of the end of a turn in which a daemon was killed, which the rules give.
+change three b-3 '/ post 9 /d'
+status=0
+witness three "$out/changed" --check >"$out/said" 2>"$out/besides" || status=$?
+[ "$status" -eq 1 ] || fail "a lost line gives the status $status"
+tells 'b: lines are lost before turn '
+change hand a-1 '$d'
+wants 0 "$(written "$out/changed") acts alike, holds" hand "$out/changed"
+
+# A host without a trace, and a trace that begins late.
+rm -rf "$out/changed"
+cp -r "$given/three" "$out/changed"
+rm "$out/changed/c-2.trace"
+wants 1 "$(written "$out/changed") acts alike, holds" three "$out/changed"
+tells ' of c in turn ' 'which has no trace here'
+change hand b-2 '/ 0 0 1000000 /d'
+status=0
+witness hand "$out/changed" --check >"$out/said" 2>"$out/besides" || status=$?
+tells 'b: the trace begins 80 s after the start'
+
+# What can't be used ends with one line and status 3.
+refuses() {
+    status=0
+    tools/tsp-witness --check "$@" >"$out/said" 2>"$out/besides" || status=$?
+    [ "$status" -eq 3 ] && [ ! -s "$out/said" ] && [ "$(wc -l <"$out/besides")" -eq 1 ] || fail "$*: status $status, $(cat "$out/said" "$out/besides")"
+}
+refuses --file "$out/none" "a=$given/hand/a-1.trace"
+refuses --file "$given/hand.hosts" "a=$out/none"
+refuses --file "$given/hand.hosts" "x=$given/hand/a-1.trace"
+refuses --file "$given/hand.hosts" "a=$given/hand.hosts"
+refuses --file "$given/hand.hosts" "a=$given/three/a-1.trace"
+for text in 'a 192.0.2.1' 'a 192.0.2.1 leader' 'a 192.0.2.1 master\na 192.0.2.2 master' 'a 192.0.2.1 master\nb 192.0.2.2 strict' \
+    'a 192.0.2.1 master\nb 192.0.2.2 slave\n+\nb 192.0.2.2 slave\na 192.0.2.1 master' '+'; do
+    printf '%b\n' "$text" >"$out/hosts"
+    refuses --file "$out/hosts" "a=$given/hand/a-1.trace"
+done
+echo "$check: $(cat "$given"/*/*.trace | wc -l) lines of daemons, and what is changed or missing in them"

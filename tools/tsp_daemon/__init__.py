@@ -1,0 +1,1 @@
+"""Running daemons, for the tools that ask them or read their traces."""

@@ -1,0 +1,43 @@
+"""The hosts of a network, as tsp-launch reads them off the hosts file."""
+import os
+import subprocess
+from dataclasses import dataclass
+from typing import List
+
+from tsp_daemon.tool import BAD_FILE, Fault
+
+LAUNCH = os.path.join(os.path.dirname(os.path.dirname(os.path.realpath(__file__))), 'tsp-launch')
+
+
+@dataclass(frozen=True)
+class Host:
+    """A line of the hosts file: `may_be` is `master`, `slave` or `strict`."""
+    network: int
+    name: str
+    address: str
+    may_be: str
+
+
+def launched(file, *words) -> str:
+    """What tsp-launch prints for these words. Its line on standard error, where the file is faulty, becomes a fault."""
+    command = [LAUNCH, *words] + ([] if file is None else ['--file', file])
+    ran = subprocess.run(command, stdin=None, stdout=subprocess.PIPE, stderr=subprocess.PIPE, check=False)
+    if ran.returncode:
+        told = ran.stderr.decode('ascii', 'replace').strip().splitlines() or [f'it ends with status {ran.returncode}']
+        text = told[-1]
+        raise Fault(text[len('tsp-launch: '):] if text.startswith('tsp-launch: ') else f'tsp-launch: {text}', BAD_FILE)
+    return ran.stdout.decode('ascii')
+
+
+def listed(file) -> List[Host]:
+    """The lines of the hosts file; a gateway has one in each of its networks."""
+    hosts = []
+    for line in launched(file, '--list').splitlines():
+        network, name, address, may_be = line.split(' ')
+        hosts.append(Host(int(network), name, address, may_be))
+    return hosts
+
+
+def own_address(file) -> str:
+    """The address of this machine's own daemon."""
+    return launched(file, '--print').split(' ')[1]

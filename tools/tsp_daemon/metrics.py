@@ -1,0 +1,41 @@
+"""Text for Prometheus, as the textfile collector of node_exporter reads it."""
+from dataclasses import dataclass, field
+from typing import Dict, List, Tuple
+
+
+def seconds(microseconds):
+    """Microseconds as seconds, exactly."""
+    whole, rest = divmod(abs(microseconds), 1_000_000)
+    return f'{"-" if microseconds < 0 else ""}{whole}.{rest:06}'
+
+
+def quoted(text):
+    """A label's value."""
+    return '"' + text.replace('\\', '\\\\').replace('"', '\\"').replace('\n', '\\n') + '"'
+
+
+@dataclass
+class Metric:
+    """A metric: its name, what it tells, and its values by their labels."""
+    name: str
+    text: str
+    kind: str = 'gauge'
+    values: List[Tuple[Dict[str, str], object]] = field(default_factory=list)
+
+    def add(self, value, **labels):
+        """One value more."""
+        self.values.append((labels, value))
+
+    def lines(self):
+        """Its lines: none where it has no value."""
+        if self.values:
+            yield f'# HELP {self.name} {self.text}'
+            yield f'# TYPE {self.name} {self.kind}'
+        for labels, value in self.values:
+            words = ','.join(f'{name}={quoted(str(text))}' for name, text in labels.items())
+            yield f'{self.name}{"{" + words + "}" if words else ""} {value}'
+
+
+def text_of(metrics):
+    """The text of all these metrics."""
+    return ''.join(f'{line}\n' for metric in metrics for line in metric.lines())

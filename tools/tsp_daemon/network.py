@@ -1,0 +1,157 @@
+"""What is seen of a network's hosts, and what isn't well there."""
+import heapq
+from concurrent.futures import ThreadPoolExecutor
+from dataclasses import dataclass
+from typing import List, Optional
+
+from tsp_daemon.hosts import Host
+from tsp_daemon.questions import Asker, Reading
+
+WARNING, CRITICAL = 1, 2
+MOST_AT_ONCE = 256
+
+
+@dataclass
+class Seen:
+    """A host, and what it answered: the master that it names (none is the empty text), and its clock."""
+    host: Host
+    reached: bool = False
+    master: str = ''
+    clock: Optional[Reading] = None
+
+    @property
+    def role(self):
+        """What it is on the first of its networks; a host that waits is neither master nor slave yet."""
+        if not self.reached:
+            return ''
+        if not self.master:
+            return 'waiting'
+        return 'master' if self.master == self.host.name else 'slave'
+
+
+@dataclass(frozen=True)
+class Trouble:
+    """Something that isn't well."""
+    level: int
+    text: str
+
+
+@dataclass(frozen=True)
+class Spread:
+    """The farthest pair of clocks: by how many microseconds they may be apart, their errors added."""
+    low: str
+    high: str
+    apart: int
+
+
+def first_lines(hosts: List[Host]) -> List[Host]:
+    """Each host once: a gateway answers for the first of its networks."""
+    firsts = {}
+    for host in hosts:
+        firsts.setdefault(host.name, host)
+    return list(firsts.values())
+
+
+def look(asker: Asker, hosts: List[Host]) -> List[Seen]:
+    """Asks all hosts for their master side by side, so that many silent ones take no longer than one, and then those that answered
+    for their clock, one after the other, so that the asking itself doesn't make the measurements worse."""
+    seen = [Seen(host) for host in hosts]
+    with ThreadPoolExecutor(min(len(seen), MOST_AT_ONCE)) as pool:
+        asking = [pool.submit(asker.master, each.host.address) for each in seen]
+        try:
+            for each, answer in zip(seen, asking):
+                master = answer.result()
+                each.reached, each.master = master is not None, master or ''
+        except BaseException:
+            for answer in asking:
+                answer.cancel()
+            raise
+    for each in seen:
+        if each.reached:
+            each.clock = asker.clock(each.host.address)
+    return seen
+
+
+def spread_of(seen: List[Seen]) -> Optional[Spread]:
+    """The farthest pair, where two clocks were read."""
+    read = [each for each in seen if each.clock]
+    highest = heapq.nlargest(2, read, key=lambda each: each.clock.offset + each.clock.error)
+    lowest = heapq.nsmallest(2, read, key=lambda each: each.clock.offset - each.clock.error)
+    pairs = [(high.clock.offset + high.clock.error - low.clock.offset + low.clock.error, low.host.name, high.host.name)
+             for high in highest for low in lowest if high is not low]
+    if not pairs:
+        return None
+    apart, low, high = max(pairs)
+    return Spread(low, high, apart)
+
+
+class Judge:
+    """Says what isn't well: of hosts that are seen, by what is wanted of them."""
+
+    def __init__(self, hosts: List[Host], seen: List[Seen], needs_master=False, within: Optional[int] = None):
+        self.hosts, self.seen, self.needs_master, self.within = hosts, seen, needs_master, within
+        self.networks = sorted({host.network for host in hosts})
+        self.by_name = {each.host.name: each for each in seen}
+
+    def where(self, network):
+        """Names a network, where there are several."""
+        return f' in network {network}' if len(self.networks) > 1 else ''
+
+    def named(self, network):
+        """The masters that the hosts of a network name."""
+        return sorted({each.master for each in self.seen if each.host.network == network and each.master})
+
+    def silent(self):
+        """Hosts that don't answer."""
+        names = [each.host.name for each in self.seen if not each.reached]
+        if names:
+            yield Trouble(CRITICAL if len(names) == len(self.seen) else WARNING, f'silent: {", ".join(names)}')
+
+    def two_masters(self):
+        """Networks whose hosts don't name the same master."""
+        for network in self.networks:
+            names = self.named(network)
+            if len(names) > 1:
+                yield Trouble(WARNING, f'{len(names)} masters are named{self.where(network)}: {", ".join(names)}')
+
+    def no_master(self):
+        """Networks in which nobody leads, and hosts that know no master where others do."""
+        for network in self.networks:
+            answered = [each for each in self.seen if each.host.network == network and each.reached]
+            lost = [name for name in self.named(network) if not self.leads(name, network)]
+            waiting = [each.host.name for each in answered if not each.master]
+            if answered and len(waiting) == len(answered):
+                yield Trouble(CRITICAL, f'nobody leads{self.where(network)}')
+            elif waiting:
+                yield Trouble(WARNING, f'no master is known to {", ".join(waiting)}')
+            for name in lost:
+                yield Trouble(CRITICAL if lost == self.named(network) else WARNING, f'{name} is named as master{self.where(network)} and doesn\'t lead')
+
+    def leads(self, name, network):
+        """Whether a host that is named as master says so itself. A gateway says so of its first network alone, and is believed of another."""
+        host = self.by_name.get(name)
+        return host is None or host.role == 'master' or (host.reached and host.host.network != network)
+
+    def apart(self):
+        """Clocks that may be too far from each other, or weren't read."""
+        unread = [each.host.name for each in self.seen if each.reached and not each.clock]
+        if unread:
+            yield Trouble(WARNING, f'no clock was read: {", ".join(unread)}')
+        spread = spread_of(self.seen)
+        if spread and spread.apart > self.within:
+            yield Trouble(CRITICAL, f'{spread.low} and {spread.high} may be {milliseconds(spread.apart)} ms apart, and {milliseconds(self.within)} are allowed')
+
+    def troubles(self) -> List[Trouble]:
+        """All that isn't well, the worst first."""
+        found = [*self.silent(), *self.two_masters()]
+        if self.needs_master:
+            found += self.no_master()
+        if self.within is not None:
+            found += self.apart()
+        return sorted(found, key=lambda trouble: -trouble.level)
+
+
+def milliseconds(microseconds):
+    """Microseconds as milliseconds, exactly."""
+    whole, rest = divmod(abs(microseconds), 1000)
+    return f'{"-" if microseconds < 0 else ""}{whole}.{rest:03}'

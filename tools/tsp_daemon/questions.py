@@ -1,0 +1,96 @@
+"""How a daemon is asked: `tsp` sends each question, and this reads its answers."""
+import subprocess
+from dataclasses import dataclass
+from typing import List, Optional
+
+from tsp_daemon.tool import NO_PROGRAM, Fault, number
+from tsp_texts import program as programs
+
+# The statuses of a question that wasn't answered: nothing could be sent, or nothing came.
+SILENT = (5, 6)
+
+
+def add_words(parser):
+    """Adds the words that say how daemons are asked."""
+    parser.add_argument('--timeout', type=number(float, 0.1, 60, 'seconds'), default=2)
+    parser.add_argument('-t', '--tries', type=number(int, 1, 100, 'a whole number'), default=2)
+    parser.add_argument('-p', '--program')
+
+
+@dataclass(frozen=True)
+class Reading:
+    """How far a daemon's clock is ahead of this machine's wall clock, give or take `error`: both in microseconds."""
+    offset: int
+    error: int
+
+
+@dataclass(frozen=True)
+class Asker:
+    """Asks daemons by this program. A question waits so many seconds for its answer; in this time it is sent so many times."""
+    program: str
+    seconds: float = 2.0
+    tries: int = 2
+
+    @classmethod
+    def of(cls, given):
+        """As the words of a tool say: `program`, `timeout` and `tries`."""
+        path = programs.find(given.program)
+        if path is None:
+            raise Fault('there is no program `tsp` in PATH; name one with --program', NO_PROGRAM)
+        return cls(path, given.timeout, given.tries)
+
+    def master(self, address) -> Optional[str]:
+        """The master that a daemon names: the empty text where it knows none, and None where it is silent."""
+        answer = self.ask('msite', address)
+        if answer is None or answer == ['no', 'master']:
+            return None if answer is None else ''
+        return self.value(answer, 'master', 'msite', address)[0]
+
+    def clock(self, address) -> Optional[Reading]:
+        """How far a daemon's clock is ahead, or None where it is silent."""
+        answer = self.ask('clockdiff', address)
+        if answer is None:
+            return None
+        offset, error = self.value(answer, 'clockdiff', 'clockdiff', address, 2)
+        try:
+            return Reading(int(offset), int(error))
+        except ValueError:
+            raise self.strange(answer, 'clockdiff', address) from None
+
+    def date(self, address, time) -> Optional[str]:
+        """Sets the network's date: `set`, `forwarded`, or None where the daemon is silent."""
+        answer = self.ask('date', address, str(time))
+        return None if answer is None else self.value(answer, 'date', 'date', address)[0]
+
+    def value(self, answer, word, question, address, count=1) -> List[str]:
+        """The words of an answer behind its first one."""
+        if answer[0] != word or len(answer) != count + 1:
+            raise self.strange(answer, question, address)
+        return answer[1:]
+
+    def strange(self, answer, question, address):
+        """The fault of an answer that isn't one to its question."""
+        return Fault(f'{self.program} {question} {address} answers \'{" ".join(answer)}\'', NO_PROGRAM)
+
+    def ask(self, *words) -> Optional[List[str]]:
+        """The words of the answer to a question, or None where nobody answers it."""
+        for _ in range(self.tries):
+            answer = self.ask_once(words)
+            if answer is not None:
+                return answer
+        return None
+
+    def ask_once(self, words):
+        """The words of the answer to a question that is sent once."""
+        try:
+            run = subprocess.run([self.program, *words], stdin=subprocess.DEVNULL, stdout=subprocess.PIPE, stderr=subprocess.DEVNULL,
+                                 timeout=self.seconds / self.tries, check=False)
+        except subprocess.TimeoutExpired:
+            return None
+        except OSError as fault:
+            raise Fault(f'{self.program}: {fault.strerror}', NO_PROGRAM) from fault
+        if run.returncode == 0:
+            return run.stdout.decode('ascii', 'replace').rstrip('\n').split(' ')
+        if run.returncode in SILENT:
+            return None
+        raise Fault(f'{self.program} {words[0]} {words[1]} ends with status {run.returncode}', NO_PROGRAM)

@@ -1,0 +1,225 @@
+"""A daemon's state, as its trace tells it line by line."""
+from dataclasses import dataclass, field
+from typing import Dict, List, Optional
+
+from tsp_daemon import trace
+
+ROLES = ('starting', 'loose', 'follow', 'candidate', 'master')
+# Alarms that only a node with this role has; where a trace is read from its middle, they tell the role.
+ROLE_OF_ALARM = {'quiet': 'starting', 'search': 'loose', 'window': 'candidate', 'probe': 'master', 'close': 'master', 'resolve': 'master', 'round': 'master'}
+CORRECTIONS = ('adjtime', 'settime')
+# Messages that don't bear the name of the daemon that sends them: answers to questions, clock readings, and what is handed on.
+NAMELESS = ('ack', 'request', 'reply', 'refused', 'loop')
+
+
+@dataclass(frozen=True)
+class Change:
+    """Something that changed: what, when, and its values by name."""
+    tick: int
+    port: int
+    kind: str
+    values: Dict[str, object]
+
+
+@dataclass(frozen=True)
+class Sample:
+    """A measurement of a peer, as far as it counts."""
+    offset: int
+    error: int
+    tick: int
+
+
+@dataclass(frozen=True)
+class Correction:
+    """A correction: by so many microseconds, slewed or stepped. Right after it the clock showed `shown`."""
+    amount: int
+    way: str
+    shown: int
+    tick: int
+
+
+@dataclass
+class Peer:
+    """Another daemon, as this one's trace tells of it."""
+    port: int
+    is_slave: bool = False
+    sample: Optional[Sample] = None
+    is_measured: bool = False
+
+
+@dataclass
+class Port:
+    """A daemon on one of its networks. The role is empty while it isn't known; `alarms` have the tick at which each is due."""
+    role: str = ''
+    master: Optional[int] = None
+    alarms: Dict[str, int] = field(default_factory=dict)
+    rivals: List[int] = field(default_factory=list)
+
+
+@dataclass
+class Counts:
+    """What was counted since the first line, over all starts of the daemon."""
+    lines: int = 0
+    corrections: int = 0
+    late: int = 0
+    unanswered: int = 0
+
+
+class Daemon:
+    """A daemon: its ports, its peers by their numbers, its last correction, and what it was late with."""
+
+    def __init__(self):
+        self.counts = Counts()
+        self.names, self.said = {}, {}
+        self.begin()
+
+    def begin(self):
+        """Forgets all that a start of the daemon makes void."""
+        self.tick, self.ports, self.peers = 0, {}, {}
+        self.correction: Optional[Correction] = None
+        self.late = None
+        self.is_traced = True
+        self.took = None
+
+    def name(self, number):
+        """A peer's name, or its number where no line told its name."""
+        return self.names.get(number) or self.said.get(number) or f'peer {number}'
+
+    @property
+    def own_name(self):
+        """The daemon's own name, or the empty text."""
+        return self.names.get(0) or self.said.get(0) or ''
+
+    def take(self, line) -> List[Change]:
+        """Reads a line, and gives what it changed."""
+        names = trace.names_of(line)
+        if names:
+            self.begin()
+            self.names = dict(enumerate(names))
+            return [Change(0, 0, 'start', {'name': names[0], 'peers': names[1:]})]
+        act = trace.act_of(line)
+        if act is None:
+            return []
+        self.counts.lines += 1
+        if act.tick < self.tick:
+            self.begin()
+        self.tick = act.tick
+        call = getattr(self, f'on_{act.word}', None)
+        return [Change(act.tick, act.port, kind, values) for kind, values in (call(act, *act.parts) if call else ())]
+
+    def port(self, act):
+        """The port of an act."""
+        return self.ports.setdefault(act.port, Port())
+
+    def peer(self, act, number):
+        """A peer that an act is about."""
+        return self.peers.setdefault(int(number), Peer(act.port))
+
+    def become(self, act, role, master=None):
+        """The daemon has this role from now on: no alarm is armed, and it knows no slaves and no rivals."""
+        self.ports[act.port] = Port(role, master)
+        for peer in self.peers.values():
+            if peer.port == act.port:
+                peer.is_slave = False
+        yield 'role', {'role': role, 'master': self.master_name(self.ports[act.port])}
+
+    def must_be(self, act, role, master=None):
+        """The daemon has this role, where it wasn't known yet."""
+        if not self.port(act).role:
+            alarms = self.port(act).alarms
+            yield from self.become(act, role, master)
+            self.port(act).alarms = alarms
+
+    def master_name(self, port):
+        """The name of the master that a port follows or is, or None."""
+        if port.role == 'follow':
+            return self.name(port.master)
+        return (self.own_name or self.name(0)) if port.role == 'master' else None
+
+    def on_become(self, act, role, number):
+        yield from self.become(act, role, None if number is None else int(number))
+
+    def on_took(self, act, who, message):
+        words = message.split(' ')
+        if who != '-' and words[0] not in NAMELESS and words[-1] != '%':
+            self.said[int(who)] = words[-1]
+        self.took = act.turn, who, words[0]
+        return ()
+
+    def on_post(self, act, _, who, message):
+        words = message.split(' ')
+        if words[0] not in NAMELESS:
+            self.said[0] = words[-1]
+        if words[0] == 'slaveup' and who != '-':
+            yield from self.must_be(act, 'follow', int(who))
+
+    def on_arm(self, act, alarm, tick):
+        if alarm in ROLE_OF_ALARM:
+            yield from self.must_be(act, ROLE_OF_ALARM[alarm])
+        alarms = self.port(act).alarms
+        is_new = alarms.get(alarm) != int(tick)
+        alarms[alarm] = int(tick)
+        if is_new and alarm in ('round', 'elect'):
+            yield 'next', {'alarm': alarm, 'in_us': int(tick) - act.tick}
+
+    def on_ring(self, act, alarm):
+        if ROLE_OF_ALARM.get(alarm) == 'master':
+            yield from self.must_be(act, 'master')
+        self.port(act).alarms.pop(alarm, None)
+        if alarm == 'round':
+            for peer in self.peers.values():
+                peer.is_measured = peer.is_measured and peer.port != act.port
+
+    def on_late(self, act, alarm):
+        yield from self.on_ring(act, alarm)
+        self.counts.late += 1
+        self.late = alarm, act.tick
+        yield 'late', {'alarm': alarm}
+
+    def on_join(self, act, number):
+        yield from self.must_be(act, 'master')
+        self.peer(act, number).is_slave = True
+        yield 'join', {'peer': self.name(int(number))}
+
+    def on_leave(self, act, number):
+        self.peer(act, number).is_slave = False
+        yield 'leave', {'peer': self.name(int(number))}
+
+    def on_sample(self, act, number, _counter, offset, error, _ticket):
+        """Of a round's measurements of a slave the one with the least error counts."""
+        yield from self.must_be(act, 'master')
+        peer, sample = self.peer(act, number), Sample(int(offset), int(error), act.tick)
+        if peer.is_measured and peer.sample.error <= sample.error:
+            return
+        peer.sample, peer.is_measured, peer.is_slave = sample, True, True
+        yield 'sample', {'peer': self.name(int(number)), 'offset_us': sample.offset, 'error_us': sample.error}
+
+    def on_close(self, act, count, _low, width, mean):
+        yield from self.must_be(act, 'master')
+        yield 'round', {'clocks': int(count), 'width_us': int(width), 'mean_us': int(mean)}
+
+    def on_correct(self, act, amount, way, shown):
+        turn, who, word = self.took or (0, '-', '')
+        if turn == act.turn and word in CORRECTIONS and who != '-':
+            yield from self.must_be(act, 'follow', int(who))
+        self.counts.corrections += 1
+        self.correction = Correction(int(amount), way, int(shown), act.tick)
+        yield 'correction', {'amount_us': int(amount), 'way': way, 'shown_us': int(shown)}
+
+    def on_abandon(self, *_):
+        yield 'abandon', {}
+
+    def on_rival(self, act, number):
+        self.port(act).rivals.append(int(number))
+        yield 'rival', {'peer': self.name(int(number))}
+
+    def on_quit(self, _, number):
+        yield 'quit', {'peer': self.name(int(number))}
+
+    def on_gave(self, _, number):
+        self.counts.unanswered += 1
+        yield 'gave', {'peer': self.name(int(number))}
+
+    def on_trace(self, _, way):
+        self.is_traced = way == 'on'
+        yield 'trace', {'trace': way}

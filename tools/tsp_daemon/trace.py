@@ -1,0 +1,77 @@
+"""Lines of a daemon's trace."""
+import re
+from dataclasses import dataclass
+from typing import Iterator, List, Optional, Tuple
+
+# No line of a trace is longer; a longer one is passed over.
+LONGEST = 1024
+
+# A line `TURN 0 PORT TICK ACT`. (the journal may put the time and the program's name before it)
+LINE = re.compile(r'(?:^|: )([1-9][0-9]{0,18}) 0 ([0-3]) ([0-9]{1,19}) ([a-z]+)(?: (.*))?$')
+# What tsp-launch says of the peers' numbers.
+NAMES = re.compile(r'in the trace peer (0 is [A-Za-z0-9._-]+(?:, [0-9]{1,3} [A-Za-z0-9._-]+)*)$')
+
+ALARM = '(quiet|search|elect|window|probe|close|resolve|round)'
+NUMBER = '(-?[0-9]{1,19})'
+PEER = '([0-9]{1,10})'
+WHO = '([0-9]{1,10}|-)'
+# What follows the first word of an act.
+SHAPES = {
+    'boot': '', 'abandon': '', 'trace': '(on|off)',
+    'took': f'{WHO} (.+)', 'post': f'{NUMBER} {WHO} (.+)',
+    'become': f'(starting|loose|candidate|master|follow)(?: {PEER})?',
+    'arm': f'{ALARM} {NUMBER}', 'ring': ALARM, 'late': ALARM,
+    'sample': f'{PEER} {NUMBER} {NUMBER} {NUMBER} {NUMBER}',
+    'close': f'{NUMBER} {NUMBER} {NUMBER} {NUMBER}',
+    'correct': f'{NUMBER} (slew|step) {NUMBER}',
+    **{word: PEER for word in ('back', 'backer', 'quit', 'join', 'leave', 'rival', 'acked', 'gave')},
+}
+ACTS = {word: re.compile(shape) for word, shape in SHAPES.items()}
+
+
+@dataclass(frozen=True)
+class Act:
+    """What a daemon did: in this turn, on this port, at this tick (microseconds since its start). `parts` are what follows the word."""
+    turn: int
+    port: int
+    tick: int
+    word: str
+    parts: Tuple
+
+
+def act_of(line: str) -> Optional[Act]:
+    """The act of a line, or None where it is none of a trace's."""
+    found = LINE.search(line)
+    shape = ACTS.get(found[4]) if found else None
+    parts = shape.fullmatch(found[5] or '') if shape else None
+    return Act(int(found[1]), int(found[2]), int(found[3]), found[4], parts.groups()) if parts else None
+
+
+def names_of(line: str) -> Optional[List[str]]:
+    """The names of all peers in the order of their numbers, where tsp-launch says them in this line."""
+    found = NAMES.search(line)
+    if not found:
+        return None
+    return [words.split(' ')[-1] for words in found[1].split(', ')]
+
+
+class Lines:
+    """Cuts octets into lines, as they come."""
+
+    def __init__(self):
+        self.rest, self.is_long = b'', False
+
+    def cut(self, octets: bytes) -> Iterator[str]:
+        """The lines that end in these octets, but for those that are too long."""
+        *whole, rest = (self.rest + octets).split(b'\n')
+        for line in whole:
+            if not self.is_long and len(line) <= LONGEST:
+                yield line.decode('ascii', 'replace').rstrip('\r')
+            self.is_long = False
+        self.is_long = self.is_long or len(rest) > LONGEST
+        self.rest = b'' if self.is_long else rest
+
+    def last(self) -> Iterator[str]:
+        """The last line, where no line feed ends it."""
+        if self.rest:
+            yield self.rest.decode('ascii', 'replace')

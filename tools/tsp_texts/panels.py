@@ -1,0 +1,145 @@
+"""The parts of a picture that show values: clocks less true time, and followers' clocks less their masters'."""
+from tsp_texts.scale import Values, micros
+from tsp_texts.svg import wide
+
+NODES = ['#1b6ca8', '#b03060', '#2e7d32', '#8e44ad', '#c77700', '#00796b', '#5d4037', '#455a64']
+
+
+def colour_of(node):
+    return NODES[node % len(NODES)]
+
+
+class Panel:
+    """A part between two heights, whose values are drawn over the picture's times."""
+
+    def __init__(self, frame, values, top, bottom):
+        self.frame, self.history, self.x, self.drawing = frame, frame.history, frame.x, frame.drawing
+        self.y, self.top, self.bottom = Values(values, top, bottom), top, bottom
+
+    def axis(self, name):
+        """Lines at powers of ten with their values, and what the values are."""
+        self.drawing.text(self.frame.left, self.top - 8, name, ' fill="#555"')
+        for value in self.y.marks():
+            self.drawing.line(self.frame.left, self.y(value), self.frame.right, self.y(value), '#bbb' if value == 0 else '#eee')
+            self.drawing.text(self.frame.left - 6, self.y(value) + 4, micros(value), ' text-anchor="end"')
+
+    def points(self, span, value):
+        """The points of a value over a span; what lasts goes on as it is at the run's end."""
+        found = [(self.x(at), self.y(value(at))) for at in self.x.between(span.begin, span.end)]
+        return found + [(self.frame.end(span), found[-1][1])]
+
+
+class Clocks(Panel):
+    """All clocks less true time; dotted what they show while they slew."""
+
+    def __init__(self, frame, top, bottom):
+        spans = [span for spans in frame.history.clocks for span in spans]
+        values = [span.value.offset(at) for span in spans for at in (span.begin, span.end)] + [span.value.shown(span.begin) for span in spans]
+        super().__init__(frame, values, top, bottom)
+
+    def draw(self):
+        self.axis('clock less true time, at the logarithm of its size')
+        for node, spans in enumerate(self.history.clocks):
+            points = [point for span in spans for point in self.points(span, span.value.offset)]
+            self.drawing.path(points, f' stroke="{colour_of(node)}" stroke-width="1.6"')
+            for span in spans:
+                end = min(span.value.met_at(), span.end)
+                if span.value.rest and end > span.begin:
+                    times = [span.begin + (end - span.begin) * part // 24 for part in range(25)]
+                    self.drawing.path([(self.x(at), self.y(span.value.shown(at))) for at in times],
+                                      f' stroke="{colour_of(node)}" stroke-width="1.2" stroke-dasharray="2 2"')
+
+
+class Followers(Panel):
+    """Followers' clocks less their masters', with what the rounds measured and promise."""
+
+    def __init__(self, frame, top, bottom):
+        history = frame.history
+        self.lines = {port: history.beside(port) for port in sorted(history.roles)}
+        values = [span.value.offset(at) for spans in self.lines.values() for span in spans for at in (span.begin, span.end)]
+        values += [value for sample in history.samples for value in self.measured(history, sample)]
+        values += [value - group.own for group in history.groups for value in (group.low, group.high)]
+        values += [side * bound.width_at(at) for bound in history.bounds for at in (bound.begin, bound.end) for side in (1, -1)]
+        super().__init__(frame, values, top, bottom)
+
+    @staticmethod
+    def measured(history, sample):
+        """What a measured clock was by a sample at its reading, from and to, less the master's clock then."""
+        own = history.clock(sample.master, sample.reading_at).offset(sample.reading_at)
+        return sample.low - own, sample.high - own
+
+    def draw(self):
+        self.axis('follower\'s clock less its master\'s, at the logarithm of its size')
+        for node in sorted({node for node, _ in self.lines}):
+            self.promised(self.y, node)
+            self.measurements(self.y, node)
+        for port in self.lines:
+            self.follower(self.y, port)
+        for group in self.history.groups:
+            self.group(self.y, group)
+
+    def promised(self, y, node):
+        """What each round promises of a follower's clock, as a band about its master's."""
+        for bound in self.history.bounds:
+            if bound.follower == node:
+                times = self.x.between(bound.begin, bound.end)
+                upper = [(self.x(at), y(bound.width_at(at))) for at in times]
+                upper.append((self.frame.end(bound), upper[-1][1]))
+                points = upper + [(x, 2 * y(0) - high) for x, high in reversed(upper)]
+                self.drawing.polygon(points, f' fill="{colour_of(node)}" opacity=".13"', f'{self.frame.name(node)}: promised within '
+                                     f'{bound.width_at(bound.begin)} to {bound.width_at(bound.end)} µs of its master')
+
+    def follower(self, y, port):
+        """A follower's clock; a new line begins where it follows anew."""
+        points, last = [], None
+        for span in self.lines.get(port, ()):
+            if last != span.begin:
+                self.drawing.path(points, f' stroke="{colour_of(port[0])}" stroke-width="1.4"')
+                points = []
+            points += [(self.x(at), y(span.value.offset(at))) for at in self.x.between(span.begin, span.end)]
+            points.append((self.frame.end(span), points[-1][1]))
+            last = span.end
+        self.drawing.path(points, f' stroke="{colour_of(port[0])}" stroke-width="1.4"')
+
+    def measurements(self, y, node):
+        """The measurements of a node's clock, each where its reading was."""
+        for sample in self.history.samples:
+            if sample.peer == node:
+                x, (low, high) = self.x(sample.reading_at), (y(value) for value in self.measured(self.history, sample))
+                self.drawing.line(x, low, x, high, colour_of(node), ' stroke-width="2" opacity=".7"',
+                                  f'{self.frame.name(node)} measured by {self.frame.name(sample.master)}: '
+                                  f'{sum(self.measured(self.history, sample)) // 2} give or take {sample.err} µs of its clock')
+                for height in (low, high):
+                    self.drawing.line(x - 3, height, x + 3, height, colour_of(node))
+
+    def group(self, y, group):
+        x, low, high, mean = self.x(group.at), y(group.low - group.own), y(group.high - group.own), y(group.mean - group.own)
+        self.drawing.rect(x - 6, high - 2, 8, low - high + 4, ' fill="none" stroke="#000"',
+                          f'the group of {self.frame.name(group.master)}: {group.low - group.own} to {group.high - group.own}, mean {group.mean - group.own} µs of its clock')
+        self.drawing.line(x - 10, mean, x + 6, mean, '#000')
+
+    def lane(self, port, top, bottom):
+        """A port's part alone, in a lane of its own."""
+        y = self.y.moved(top, bottom)
+        self.drawing.line(self.frame.left, y(0), self.frame.right, y(0), '#ccc')
+        self.promised(y, port[0])
+        self.follower(y, port)
+        self.measurements(y, port[0])
+        for group in self.history.groups:
+            if group.master == port[0] and group.port == port[1]:
+                self.group(y, group)
+
+
+class Legend:
+    """Signs with their meanings, one beside the other."""
+
+    def __init__(self, drawing, left, right, top):
+        self.drawing, self.left, self.right, self.x, self.y = drawing, left, right, left, top
+
+    def entry(self, sign, meaning):
+        """A sign, drawn at a place, and what it means."""
+        if self.x > self.left and self.x + 22 + wide(meaning) > self.right:
+            self.x, self.y = self.left, self.y + 17
+        sign(self.x, self.y)
+        self.drawing.text(self.x + 18, self.y + 4, meaning)
+        self.x += 36 + wide(meaning)

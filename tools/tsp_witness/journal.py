@@ -1,0 +1,141 @@
+"""Journals: the lines that a host's daemon wrote, life by life, as files or a journal have them."""
+from tsp_witness import Unusable, grammar
+
+ELECT_MIN, ELECT_SPREAD = 300_000_000, 300_000_000
+TICKETS = 32768
+
+
+class Act:
+    """A line of a daemon: its port and words, and whether the daemon wrote it, or it follows from the rules. `number` is that
+    of its datagram in the schedule, where it is a post."""
+    __slots__ = ('port', 'words', 'written', 'number')
+
+    def __init__(self, port, words, written=True):
+        self.port, self.words, self.written, self.number = port, words, written, None
+
+
+class Turn:
+    """A turn of a daemon that acted. `post` is the datagram that it took, where a traced daemon posted it; `at` the true time."""
+    __slots__ = ('life', 'number', 'tick', 'acts', 'post', 'at', 'place')
+
+    def __init__(self, life, number, tick, place=''):
+        self.life, self.number, self.tick, self.place = life, number, tick, place
+        self.acts, self.post, self.at = [], None, None
+
+    def took(self):
+        """The act by which it took a datagram, or None."""
+        return next((act for act in self.acts if act.words[0] == 'took'), None)
+
+
+class Life:
+    """A daemon from its start to its end. `base` is its wall clock at its start, by which it counts; None where no line tells it."""
+
+    def __init__(self, node, number):
+        self.node, self.number, self.turns = node, number, []
+        self.base, self.first_tick, self.first_post, self.gaps = None, 0, 0, []
+
+    def read_clock(self):
+        """Finds the base: by the first reading, correction or word that the daemon tells."""
+        moved, corrected = 0, False
+        for turn in self.turns:
+            for act in turn.acts:
+                if act.words[0] == 'correct':
+                    moved += int(act.words[1])
+                self.base = grammar.told_base(act.words, turn.tick, moved, corrected)
+                if self.base is not None:
+                    return
+                corrected = corrected or act.words[0] == 'correct'
+
+    def residue(self):
+        """What is known of the base where no line tells it: its rest, and by what number it was divided."""
+        for turn in self.turns:
+            for act in turn.acts:
+                if act.words[:2] == ['arm', 'elect']:
+                    return int(act.words[2]) - turn.tick - ELECT_MIN, ELECT_SPREAD
+        for turn in self.turns:
+            for act in turn.acts:
+                if act.words[0] == 'post' and act.words[3] == 'slaveup':
+                    return int(act.words[4]), TICKETS
+        return 0, 1
+
+    def count_posts(self):
+        """Finds when the trace began, how many datagrams were posted before that, and where numbers are missing."""
+        wanted, self.first_tick = None, self.turns[0].tick
+        for turn in self.turns:
+            for act in turn.acts:
+                if act.words[0] == 'post':
+                    number = int(act.words[1])
+                    if wanted is None:
+                        self.first_post = number
+                    elif number != wanted:
+                        self.gaps.append((turn, wanted, number))
+                    wanted = number + 1
+
+
+class Journal:
+    """Reads the lines of one host's daemon into lives; `notes` say what couldn't be used."""
+
+    def __init__(self, network, node):
+        self.network, self.node, self.lives, self.begins, self.notes = network, node, [], True, []
+
+    def read(self, path):
+        """Reads a file, which begins another life."""
+        self.begins = True
+        with open(path, encoding='ascii', errors='replace') as lines:
+            for number, line in enumerate(lines, 1):
+                self.line(line.rstrip('\r\n'), f'{path}:{number}')
+
+    def line(self, line, place):
+        """One line: an act, what the launcher says at a start, or something else that is passed over."""
+        found = grammar.LINE.search(line)
+        if found:
+            self.act(int(found[1]), int(found[3]), Act(int(found[2]), found[4].split(' ')), place)
+        elif grammar.ALMOST.search(line):
+            self.notes.append(f'{place}: this line is cut or changed, and is passed over')
+        elif grammar.START.search(line):
+            self.check_peers(grammar.START.search(line), place)
+            self.begins = True
+
+    def check_peers(self, found, place):
+        """The launcher names the daemon's peers: they are those of the network."""
+        peers = self.network.peers[self.node]
+        wanted = ', '.join(f'{number} {self.network.names[peer.node]}' for number, peer in peers.items())
+        told = f'0 {found[1]}{found[2]}'
+        if told != wanted:
+            raise Unusable(f'{place}: the daemon was started with the peers {told}; by the hosts file they are {wanted}')
+
+    def act(self, number, tick, act, place):
+        """An act of the last turn, of a new one, or of a new life."""
+        last = None if self.begins else self.lives[-1].turns[-1]
+        if last is None or number < last.number or tick < last.tick:
+            self.lives.append(Life(self.node, len(self.lives)))
+            self.begins, last = False, None
+        if last is None or number != last.number:
+            last = Turn(self.lives[-1], number, tick, place)
+            self.lives[-1].turns.append(last)
+        self.check(act, last, tick, place)
+        last.acts.append(act)
+
+    def check(self, act, turn, tick, place):
+        """An act has its turn's tick, and a port and a peer that the daemon has."""
+        name, peers = self.network.names[self.node], self.network.peers[self.node]
+        if tick != turn.tick:
+            raise Unusable(f'{place}: turn {turn.number} has two ticks, {turn.tick} and {tick}')
+        if act.port >= len(self.network.ports_of(self.node)):
+            raise Unusable(f'{place}: {name} has no port {act.port} by the hosts file')
+        peer = grammar.place_of_peer(act.words)
+        if peer is not None and int(act.words[peer]) not in peers:
+            raise Unusable(f'{place}: {name} has no peer {act.words[peer]} by the hosts file, which gives it {len(peers) - 1}')
+        if act.words[0] == 'took' and turn.took():
+            raise Unusable(f'{place}: turn {turn.number} takes two datagrams')
+
+
+def read(network, node, paths):
+    """What one host's daemon wrote, from files in the order of time."""
+    journal = Journal(network, node)
+    for path in paths:
+        journal.read(path)
+    for life in journal.lives:
+        life.read_clock()
+        life.count_posts()
+    return journal

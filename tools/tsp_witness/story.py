@@ -1,0 +1,206 @@
+"""What a network lived through: its daemons' turns in an order and at times, as a schedule and the claims that belong to it."""
+import heapq
+import itertools
+from typing import NamedTuple
+
+from tsp_texts import schedule
+from tsp_witness import Unusable, grammar
+from tsp_witness.clocks import Clocks, Placing
+from tsp_witness.datagram import octets_of
+from tsp_witness.journal import Act, Turn
+from tsp_witness.matching import Matching
+
+MILLION = 1_000_000
+QUIET = 80_000_000
+
+
+class Claim(NamedTuple):
+    """A line that is claimed: its event, the text behind the event's number, and the turn and act that it is of."""
+    event: int
+    text: str
+    turn: Turn
+    act: Act
+
+    def line(self):
+        return f'{self.event} {self.text}'
+
+
+class Story:
+    """The schedule and the claims of a network's journals. `placing` makes rates, walls and times of the clocks that were found."""
+
+    def __init__(self, network, journals, most=0, placing=Placing):
+        self.network, self.journals, self.most, self.notes = network, journals, most, []
+        self.placing = placing(self.clocks(), len(network.names))
+        self.note_faults()
+        self.events, self.claims, self.posted = [], [], 0
+        self.write()
+
+    def name(self, life):
+        """How a life is named to a reader."""
+        name = self.network.names[life.node]
+        return name if len(self.journals[life.node].lives) == 1 else f'{name} (start {life.number + 1})'
+
+    def turn_name(self, turn):
+        """How a turn is named to a reader."""
+        return f'{self.name(turn.life)} in turn {turn.number}' if turn.number else f'{self.name(turn.life)} at its start'
+
+    def leave_out_silent(self):
+        """A life that tells nothing of its clock and exchanged nothing with others has no place in time."""
+        turns = [turn for life in self.matching.lives() for turn in life.turns]
+        met = {turn.life for turn in turns if turn.post or turn in self.matching.choices}
+        met |= {post.turn.life for turn in turns for post in [turn.post, *self.matching.choices.get(turn, [])] if post}
+        for journal in self.journals.values():
+            kept = [life for life in journal.lives if life.base is not None or life in met]
+            journal.notes += [f'{self.name(life)} is left out: no line tells its clock, and nothing that it posted was taken'
+                              for life in journal.lives if life not in kept]
+            journal.lives = kept
+
+    def clocks(self):
+        """Clocks by which nothing is taken before it was posted."""
+        while True:
+            self.matching = Matching(self.network, self.journals)
+            self.leave_out_silent()
+            if not self.matching.lives():
+                raise Unusable('there is no line of a trace')
+            clocks = Clocks(self.matching, self.most)
+            if clocks.fit.least >= 0:
+                return clocks
+            text = self.unfit_text(clocks)
+            if not self.ends_at_step():
+                raise Unusable(text)
+
+    def unfit_text(self, clocks):
+        """Which datagram would go back in time the most, and that there is at least one the other way."""
+        turns = [turn for life in self.matching.lives() for turn in life.turns if turn.post]
+        turn = min(turns, key=lambda turn: clocks.at(turn) - clocks.at(turn.post.turn))
+        return f'the clocks fit no times within a drift of {self.most}: "{" ".join(turn.took().words[2:])}" would reach {self.turn_name(turn)}, ' \
+            f'{clocks.at(turn.post.turn) - clocks.at(turn):.0f} us before it left {self.turn_name(turn.post.turn)}, or another one likewise'
+
+    def ends_at_step(self):
+        """Ends the story before a start at which a host's wall clock had been stepped, where that is why no times fit; says whether it
+        is: a schedule has one wall clock for each node."""
+        apart = Clocks(self.matching, self.most, apart=True)
+        steps = {life: apart.step(journal.lives[0], life) for journal in self.journals.values() for life in journal.lives[1:] if life.base is not None}
+        if apart.fit.least < 0 or not steps:
+            return False
+        stepped = max(steps, key=lambda life: abs(steps[life]))
+        begun, lines = apart.fit.offsets[apart.clock(stepped)], 0
+        name = self.name(stepped)
+        for life in self.matching.lives():
+            lines += sum(len(turn.acts) for turn in life.turns if apart.at(turn) >= begun)
+            life.turns = [turn for turn in life.turns if apart.at(turn) < begun]
+        for journal in self.journals.values():
+            journal.lives = [life for life in journal.lives if life.turns]
+        self.journals[stepped.node].notes.append(f'{name}: its wall clock had been stepped by {-steps[stepped]:.0f} us, and a schedule has one for each '
+                                                 f'node: the {lines} lines from there on aren\'t witnessed')
+        return True
+
+    def note_faults(self):
+        """Says what isn't as it should be in the traces."""
+        for journal in self.journals.values():
+            self.notes += journal.notes
+            for life in journal.lives:
+                self.note_missing(life)
+        for turn in self.matching.strange:
+            self.notes.append(self.strange_text(turn))
+
+    def strange_text(self, turn):
+        """What a daemon took of a peer that never posted it."""
+        sender, _ = self.matching.sender(turn)
+        what = f'{self.name(turn.life)} took "{" ".join(turn.took().words[2:])}" of {self.network.names[sender]} in turn {turn.number}'
+        if sender not in self.journals:
+            return f'{what}, which has no trace here'
+        nearest = self.matching.nearest(turn)
+        return f'{what}, which by its trace never posted that to it' + (f'; it posted "{nearest}"' if nearest else '')
+
+    def note_missing(self, life):
+        """Says which lines of a life aren't there."""
+        if life.first_tick >= QUIET:
+            self.notes.append(f'{self.name(life)}: the trace begins {life.first_tick // MILLION} s after the start, when the quiet time was over')
+        for turn, wanted, number in life.gaps:
+            self.notes.append(f'{self.name(life)}: lines are lost before turn {turn.number}, which posts datagram {number}: {wanted} would be next')
+
+    def chain(self, journal):
+        """A host's turns, with a boot before those of each life."""
+        for life in journal.lives:
+            boot = Turn(life, 0, 0)
+            for port in range(len(self.network.ports_of(life.node))):
+                boot.acts += [Act(port, ['boot'], False)] if port == 0 else []
+                boot.acts += [Act(port, ['become', 'starting'], False), Act(port, ['arm', 'quiet', str(QUIET)], False)]
+            yield boot
+            yield from life.turns
+
+    def ordered(self):
+        """All turns, in the order of time and of cause and effect."""
+        behind, waits, ready, count = {}, {}, [], itertools.count()
+        for journal in self.journals.values():
+            before = None
+            for turn in self.chain(journal):
+                causes = [cause for cause in (before, turn.post and turn.post.turn) if cause]
+                waits[turn], turn.at, before = len(causes), self.placing.at(turn), turn
+                for cause in causes:
+                    behind.setdefault(cause, []).append(turn)
+        for turn in [turn for turn in waits if not waits[turn]]:
+            heapq.heappush(ready, (turn.at, next(count), turn))
+        while ready:
+            turn = heapq.heappop(ready)[2]
+            del waits[turn]
+            yield turn
+            for later in behind.get(turn, []):
+                waits[later] -= 1
+                if not waits[later]:
+                    heapq.heappush(ready, (later.at, next(count), later))
+        if waits:
+            first = min(waits, key=lambda turn: turn.at)
+            raise Unusable(f'what is told of {self.turn_name(first)} and of others would each follow from the other')
+
+    def write(self):
+        """Writes each turn as an event, and its acts as claims."""
+        last = 0
+        for turn in self.ordered():
+            if turn.at < last:
+                raise Unusable(f'what is told of {self.turn_name(turn)} would be {last - turn.at} us before what it follows from')
+            last = turn.at
+            self.events.append(f'at {turn.at} {self.event(turn)}')
+            for act in turn.acts:
+                self.claims.append(Claim(len(self.events), self.claim(turn, act), turn, act))
+        if last > schedule.FARTHEST:
+            raise Unusable('the wall clocks are later than a schedule can tell')
+
+    def event(self, turn):
+        """The words of a turn's event behind its time."""
+        node, took = turn.life.node, turn.took()
+        if turn.acts[0].words == ['boot']:
+            return f'boot {node} {self.placing.bases[turn.life]}'
+        if took is None:
+            return f'turn {node}'
+        if turn.post:
+            return f'take {turn.post.act.number}'
+        place = f'{node}/{took.port}' if took.port else str(node)
+        return f'bytes {place} {self.node_word(node, took.words[1])} {octets_of(took.words[2:]).hex()}'
+
+    def node_word(self, node, peer):
+        """A peer of a daemon as the node's number that it is."""
+        return peer if peer == '-' else str(self.network.peers[node][int(peer)].node)
+
+    def claim(self, turn, act):
+        """An act in the schedule's numbers."""
+        words, node = list(act.words), turn.life.node
+        place = grammar.place_of_peer(words)
+        if place is not None:
+            words[place] = self.node_word(node, words[place])
+        if words[0] == 'arm':
+            words[2] = str(self.placing.tick(turn.life, int(words[2])))
+        if words[0] == 'post':
+            act.number, self.posted = self.posted, self.posted + 1
+            words[1] = str(act.number)
+        return f'{node} {act.port} {self.placing.tick(turn.life, turn.tick)} {" ".join(words)}'
+
+    def schedule(self, count=None):
+        """The schedule's text, up to so many events."""
+        header = self.network.header(self.placing.drift, self.placing.rates, self.placing.walls)
+        return '\n'.join([*header, *self.events[:count], 'end', ''])
+
+    def claimed(self, count=None):
+        """The text of the claims, up to those of so many events."""
+        return ''.join(f'{claim.line()}\n' for claim in self.claims if count is None or claim.event <= count)
