@@ -1,9 +1,9 @@
 -- What users read of clocks agrees where the clocks do.
 use Rattle.std.specs.Prelude.{◌≡◌, ◌≤◌, ◌≤ℤ◌, ℕ, ◌+◌, ◌-◌, ℤ, pos, ◌+ℤ◌, ◌-ℤ◌, nat_abs, true, List, [], ◌∷◌}
-use Rattle.std.proofs.Common.{arith, subst}
+use Rattle.std.proofs.Common.{sym, arith, subst, ◌∙◌}
 use Rattle.std.proofs.lemmas.Int.{ints}
 use Rattle.tsp_promises.specs.Agreed.{Cast, Unchanged}
-use Rattle.tsp_promises.specs.AgreedShown.{AgreedShown, AcrossShown, DownShown, MasterShown, PeersShown, ShownAgree, ShownAsClocks, ShownNear, TreeShown, Waited, WaitedFor}
+use Rattle.tsp_promises.specs.AgreedShown.{AgreedShown, HasMet, ShownWithin, AcrossShown, DownShown, MasterShown, PeersShown, ShownAgree, ShownAsClocks, ShownNear, TreeShown, Waited, WaitedFor}
 use Rattle.tsp_promises.specs.Chained.{Hop, Hops, IsChain, last_hop, node_at}
 use Rattle.tsp_promises.specs.ClockAt.{clock_at}
 use Rattle.tsp_promises.specs.Fits.{Alive, Fits, node_of}
@@ -13,6 +13,7 @@ use Rattle.tsp_base.specs.Places.{Within}
 use Rattle.tsp_promises.specs.Setting.{Setting}
 use Rattle.tsp_promises.specs.ShownAt.{left_at, shown_at}
 use Rattle.tsp_promises.specs.Steady.{shown_width}
+use Rattle.tsp_base.specs.Ticks.{tick_at}
 use Rattle.tsp_base.proofs.PlaceLemmas.{Within-through, Within-tail}
 use Rattle.tsp_promises.proofs.AgreedProof.{agreed_master, agreed_peers}
 use Rattle.tsp_promises.proofs.ChainedProof.{chained_at}
@@ -21,16 +22,26 @@ use Rattle.tsp_promises.proofs.EverywhereLemmas.{Everywhere-from}
 use Rattle.tsp_promises.proofs.Given.{Given, given_at}
 use Rattle.tsp_promises.proofs.Locating.{fits_in}
 use Rattle.tsp_promises.proofs.OwnFitsProof.{fits_at}
-use Rattle.tsp_promises.proofs.ShownProof.{shown_is, stays_up}
-use Rattle.tsp_promises.proofs.SteadyProof.{runs_over_time}
+use Rattle.tsp_promises.proofs.ShownProof.{clock_target, shown_is, stays_up}
+use Rattle.tsp_promises.proofs.SteadyProof.{meets_by, runs_over_time}
 
 -- clocks less what is left
 less : (c d x y b : ℤ) → pos (nat_abs (c -ℤ d)) ≤ℤ b → pos (nat_abs ((c -ℤ x) -ℤ (d -ℤ y))) ≤ℤ ((b +ℤ pos (nat_abs x)) +ℤ pos (nat_abs y))
 less c d x y b h = omega (arith, ints)
 
-shown-as-clocks : (setting : Setting) (h : List Line) (t : ℕ) → Fits setting h → ShownAsClocks setting h t
-shown-as-clocks setting h t f k l b ku lu near =
+shown-within : (setting : Setting) (h : List Line) (t : ℕ) → Fits setting h → (k l : ℕ) (b : ℤ) → up (dids (of k h)) ≡ true → up (dids (of l h)) ≡ true → pos (nat_abs (clock_at setting k h t -ℤ clock_at setting l h t)) ≤ℤ b → ShownWithin setting h t k l b
+shown-within setting h t f k l b ku lu near =
     rw (shown_is setting k h t f ku, shown_is setting l h t f lu) (less (clock_at setting k h t) (clock_at setting l h t) (left_at setting k h t) (left_at setting l h t) b near)
+
+-- a clock that has met its target shows it
+shows-clock : (setting : Setting) (n : ℕ) (h : List Line) (t : ℕ) → Fits setting h → up (dids (of n h)) ≡ true → HasMet setting n h t → shown_at setting n h t ≡ clock_at setting n h t
+shows-clock setting n h t f u met = (meets_by (dids (of n h)) (tick_at (setting.rate n) t)).met met ∙ sym (clock_target setting n h t f u)
+
+shown-as-clocks : (setting : Setting) (h : List Line) (t : ℕ) → Fits setting h → ShownAsClocks setting h t
+shown-as-clocks setting h t f k l b ku lu near = record {
+  within = shown-within setting h t f k l b ku lu near;
+  met = λ x y. rw (shows-clock setting k h t f ku x, shows-clock setting l h t f lu y) near;
+}
 
 -- whoever was corrected has booted
 corrected-up : (setting : Setting) (m : ℕ) (close : Line) (cpast : List Line) (c : Line) (past : List Line) (r : Line) (older : List Line) (e : ℤ) (h : List Line) → Fits setting h → Cast m close cpast c past r older e → Unchanged (node_of c) (c ∷ past) h → up (dids (of (node_of c) h)) ≡ true
@@ -59,27 +70,27 @@ last-up setting m first (x ∷ rest) h f a c = hop-up setting (node_at (last_hop
 
 peers : (setting : Setting) (h : List Line) (t : ℕ) → Given setting h → time_of (dids h) ≤ t → PeersShown setting h t
 peers setting h t g by m close cpast c d past qast r q rolder qolder e f x y u v =
-    shown-as-clocks setting h t g.fits (node_of c) (node_of d) _ (corrected-up setting m close cpast c past r rolder e h g.fits x u) (corrected-up setting m close cpast d qast q qolder f h g.fits y v)
+    shown-within setting h t g.fits (node_of c) (node_of d) _ (corrected-up setting m close cpast c past r rolder e h g.fits x u) (corrected-up setting m close cpast d qast q qolder f h g.fits y v)
     (agreed_peers setting h t g by m close cpast c d past qast r q rolder qolder e f x y u v)
 
 master : (setting : Setting) (h : List Line) (t : ℕ) → Given setting h → time_of (dids h) ≤ t → MasterShown setting h t
 master setting h t g by m close cpast c past r rolder e x u v =
-    shown-as-clocks setting h t g.fits (node_of c) m _ (corrected-up setting m close cpast c past r rolder e h g.fits x u) (master-up setting m close cpast c past r rolder e h g.fits x u)
+    shown-within setting h t g.fits (node_of c) m _ (corrected-up setting m close cpast c past r rolder e h g.fits x u) (master-up setting m close cpast c past r rolder e h g.fits x u)
     (agreed_master setting h t g by m close cpast c past r rolder e x u v)
 
 down : (setting : Setting) (h : List Line) (t : ℕ) → Given setting h → time_of (dids h) ≤ t → DownShown setting h t
 down setting h t g by m first rest a c but =
-    shown-as-clocks setting h t g.fits (node_at (last_hop first rest)) m _ (last-up setting m first rest h g.fits a c) (hop-master setting m first h g.fits a)
+    shown-within setting h t g.fits (node_at (last_hop first rest)) m _ (last-up setting m first rest h g.fits a c) (hop-master setting m first h g.fits a)
     ((chained_at setting h t g by).down m first rest a c but)
 
 across : (setting : Setting) (h : List Line) (t : ℕ) → Given setting h → time_of (dids h) ≤ t → AcrossShown setting h t
 across setting h t g by m a b xs ys x y close cpast c d =
-    shown-as-clocks setting h t g.fits (node_at (last_hop a xs)) (node_at (last_hop b ys)) _ (last-up setting m a xs h g.fits x c) (last-up setting m b ys h g.fits y d)
+    shown-within setting h t g.fits (node_at (last_hop a xs)) (node_at (last_hop b ys)) _ (last-up setting m a xs h g.fits x c) (last-up setting m b ys h g.fits y d)
     ((chained_at setting h t g by).across m a b xs ys x y close cpast c d)
 
 tree : (setting : Setting) (h : List Line) (t : ℕ) → Given setting h → time_of (dids h) ≤ t → TreeShown setting h t
 tree setting h t g by n a b xs ys x y u v c d =
-    shown-as-clocks setting h t g.fits (node_at (last_hop a xs)) (node_at (last_hop b ys)) _ (last-up setting n a xs h g.fits x c) (last-up setting n b ys h g.fits y d)
+    shown-within setting h t g.fits (node_at (last_hop a xs)) (node_at (last_hop b ys)) _ (last-up setting n a xs h g.fits x c) (last-up setting n b ys h g.fits y d)
     ((chained_at setting h t g by).tree n a b xs ys x y u v c d)
 
 pub agreed_shown : (setting : Setting) (world : List Line) → Given setting world → AgreedShown setting world

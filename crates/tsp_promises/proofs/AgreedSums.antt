@@ -14,10 +14,6 @@ sums wk wm k0 k1 m0 mean diff amount e kr kt mr mt w a b f g h = omega (arith, i
 pub triangle : (a b ref e f : ℤ) (w v : ℕ) → pos (nat_abs (a -ℤ ref)) ≤ℤ (e +ℤ pos w) → pos (nat_abs (b -ℤ ref)) ≤ℤ (f +ℤ pos v) → pos (nat_abs (a -ℤ b)) ≤ℤ ((e +ℤ f) +ℤ pos (w + v))
 triangle a b ref e f w v h k = omega (arith, ints)
 
--- a chain of two
-pub chain : (a b c e f : ℤ) (w v : ℕ) → pos (nat_abs (a -ℤ b)) ≤ℤ (e +ℤ pos w) → pos (nat_abs (b -ℤ c)) ≤ℤ (f +ℤ pos v) → pos (nat_abs (a -ℤ c)) ≤ℤ ((f +ℤ e) +ℤ pos (v + w))
-chain a b c e f w v h k = omega (arith, ints)
-
 -- a clock that moved by the mean
 pub moved-by : (wall moved_h moved_c mean : ℤ) (tick : ℕ) → moved_h ≡ moved_c +ℤ mean → (wall +ℤ moved_h) +ℤ pos tick ≡ ((wall +ℤ moved_c) +ℤ mean) +ℤ pos tick
 moved-by wall moved_h moved_c mean tick e = omega (arith, ints)

@@ -2,7 +2,8 @@
 use Rattle.std.specs.Prelude.{◌≡◌, ◌≤ℤ◌, false, true, pos, negsuc, List, [], ◌∷◌, refl}
 use Rattle.std.proofs.Common.{arith, inl, inr}
 use Rattle.std.proofs.lemmas.Int.{ints}
-use Rattle.tsp_base.specs.declared.act.Act.TheVariants.{Correct, Post, Sample, Took}
+use Rattle.tsp_base.specs.declared.act.Act.TheVariants.{Correct, Post, Ring, Sample, Took}
+use Rattle.tsp_base.specs.declared.alarm.Alarm.TheVariants.{Close as AlarmClose}
 use Rattle.tsp_base.specs.declared.datagram.Datagram.TheVariants.{Message, Stamp}
 use Rattle.tsp_base.specs.declared.datagram.Taken.TheVariants.{Good}
 use Rattle.tsp_base.specs.declared.kind.Kind.TheVariants.{AdjTime, SetTime}
@@ -12,12 +13,14 @@ use Rattle.tsp_base.specs.declared.stamp.Stamp.TheVariants.{Reply}
 use Rattle.tsp_promises.specs.Agreed.{Cast}
 use Rattle.tsp_promises.specs.Broken.{AllBreak, Breaks, ChainsBreak}
 use Rattle.tsp_promises.specs.Chained.{Chained, Hop, Hops}
+use Rattle.tsp_promises.specs.ErrsBounded.{ErrsBounded}
 use Rattle.tsp_promises.specs.FirstSet.{FirstSet, FirstSetSoon, SetBy}
 use Rattle.tsp_base.specs.History.{Came, Turned, Line, of, view}
 use Rattle.tsp_promises.specs.Throughout.{Throughout}
 use Rattle.tsp_promises.specs.OneError.{OneError}
 use Rattle.tsp_base.specs.Takings.{peer_of}
 use Rattle.tsp_promises.proofs.BrokenClocks.{clocks_break, left_alone, relays_wrong, stray, strays, wrong}
+use Rattle.tsp_promises.proofs.BrokenEstimates.{estimates_apart, master_near}
 use Rattle.tsp_promises.proofs.BrokenReadings.{readings_break}
 use Rattle.tsp_promises.proofs.BrokenRoles.{roles_break}
 use Rattle.tsp_promises.proofs.BrokenSends.{sends_break}
@@ -80,6 +83,27 @@ throughout = record {
       omega (arith, ints);
 }
 
+-- a sample with an error of 5 s, and a round that uses it
+abbrev long17 : List Line
+long17 = does 400000801 0 (Came 8) (Sample (peer_of 1) 0 (negsuc 100) (pos 5000000) 10) ∷ (does 400000801 0 (Came 8) (Took (Peer (peer_of 1)) (Good (Stamp (Reply reply1)))) ∷ (begins 400000801 0 (Came 8) ∷ w16))
+
+abbrev long19 : List Line
+long19 = does 408000000 0 Turned (Post (Peer (peer_of 1)) (Message (msg AdjTime 10 (Time (pos 17))))) ∷ (closing ∷ (does 408000000 0 Turned (Ring AlarmClose) ∷ (begins 408000000 0 Turned ∷ long17)))
+
+abbrev long20 : List Line
+long20 = does 408000400 1 (Came 10) (Took (Peer (peer_of 0)) (Good (Message (msg AdjTime 10 (Time (pos 17)))))) ∷ (begins 408000400 1 (Came 10) ∷ long19)
+
+long-cast : Cast 0 closing (skip 2 long19) first long20 sounds (skip 1 w15) (pos 5000000)
+long-cast =
+    cast-by 0 closing (skip 2 long19) first long20 sounds (skip 1 w15) (does 408000000 0 Turned (Post (Peer (peer_of 1)) (Message (msg AdjTime 10 (Time (pos 17)))))) (skip 1 long19) (msg AdjTime 10 (Time (pos 17))) (pos 17) false (pos 408000399)
+    (record { counter = 0; diff = negsuc 100; err = pos 5000000; ticket = 10; trip = pos 801; place = view port0 (of 0 long17) })
+    (record { correct = refl; place = skipped 2 long20; cause = refl; deed = refl; took = refl; node = refl; kind = refl; numbered = refl; is = refl })
+    (record { closes = skipped 3 long20; node = refl; port = refl; is = refl; best_is = refl })
+    (record { line = does 400000801 0 (Came 8) (Sample (peer_of 1) 0 (negsuc 100) (pos 5000000) 10); before = skip 1 long17; at = skipped 6 long20; node = refl; port = refl; is = refl; reads = skipped 5 (skip 1 long17); takes = refl; to = Peer (peer_of 0); datagram = Stamp (Reply reply1); deed = refl })
+
+errs_bounded : Breaks ErrsBounded
+errs_bounded = record { world = first ∷ long20; broken = λ h. (let k : pos 5000000 ≤ℤ pos 4500000 = h.0 0 closing (skip 2 long19) sounds (skip 1 w15) (pos 5000000) long-cast in omega (arith, ints)) }
+
 -- another Correct before the one that takes the ADJTIME
 abbrev between : List Line
 between = does 408000400 1 (Came 10) (Took (Peer (peer_of 0)) (Good (Message (msg AdjTime 10 (Time (pos 17)))))) ∷ (begins 408000400 1 (Came 10) ∷ (does 408000300 1 Turned (Correct (pos 5) false (pos 0)) ∷ w19))
@@ -137,7 +161,7 @@ first_set_soon = record {
 }
 
 chains_break : ChainsBreak (still false)
-chains_break = record { down = down; across = across; tree = tree; throughout = throughout; one_error = one_error; answered_late = answered_late; first_set = first_set; first_set_soon = first_set_soon }
+chains_break = record { down = down; across = across; tree = tree; throughout = throughout; estimates_apart = estimates_apart; master_near = master_near; errs_bounded = errs_bounded; one_error = one_error; answered_late = answered_late; first_set = first_set; first_set_soon = first_set_soon }
 
 -- each promise is broken by some history
 pub all_break : AllBreak

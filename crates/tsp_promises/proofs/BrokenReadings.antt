@@ -44,7 +44,7 @@ abbrev boots_apart : List Line
 boots_apart = does 0 1 (Booted 9 (pos 1000)) Boot ∷ (does 0 0 (Booted 7 (pos 0)) Boot ∷ [])
 
 shown_near : Breaks (ShownNear (still false))
-shown_near = record { world = boots_apart; broken = λ h. (let k : pos 1000 ≤ℤ pos 0 = h.0 0 1 0 (pos 0) refl refl (omega (arith, ints)) in omega (arith, ints)) }
+shown_near = record { world = boots_apart; broken = λ h. (let k : pos 1000 ≤ℤ pos 0 = (h.0 0 1 0 (pos 0) refl refl (omega (arith, ints))).within in omega (arith, ints)) }
 
 pub readings_break : ReadingsBreak (still false)
 readings_break = record { steady = steady; waited = waited; agreed_shown = agreed_shown; shown_near = shown_near }

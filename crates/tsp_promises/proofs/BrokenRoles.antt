@@ -1,21 +1,22 @@
 -- Small histories that break the promises of roles.
-use Rattle.std.specs.Prelude.{◌≡◌, ◌≤◌, ◌<◌, false, ◌+◌, pos, List, [], ◌∷◌, Some, None, refl}
+use Rattle.std.specs.Prelude.{◌≡◌, ◌≤◌, ◌<◌, true, false, ◌+◌, pos, List, [], ◌∷◌, Some, None, refl}
 use Rattle.std.proofs.Common.{ap, arith, inl, inr, true≢false}
-use Rattle.tsp_base.specs.declared.act.Act.TheVariants.{Took, Post, Become, Back, Quit, Ring, Close, Correct}
+use Rattle.tsp_base.specs.declared.act.Act.TheVariants.{Boot, Took, Post, Become, Back, Quit, Ring, Close, Correct}
 use Rattle.tsp_base.specs.declared.alarm.Alarm.TheVariants.{Resolve}
 use Rattle.tsp_base.specs.declared.constants.TheConstants.{ELECT_MIN}
 use Rattle.tsp_base.specs.declared.datagram.Datagram.TheVariants.{Message}
 use Rattle.tsp_base.specs.declared.datagram.Taken.TheVariants.{Good}
-use Rattle.tsp_base.specs.declared.kind.Kind.TheVariants.{AdjTime, Accept, Election, Quit as QuitKind}
+use Rattle.tsp_base.specs.declared.kind.Kind.TheVariants.{Ack, AdjTime, Accept, Election, MasterReq, Quit as QuitKind}
 use Rattle.tsp_base.specs.declared.message.Body.TheVariants.{Nothing, Time}
 use Rattle.tsp_base.specs.declared.place.PeerId.{PeerId}
 use Rattle.tsp_base.specs.declared.place.Place.TheVariants.{Peer}
 use Rattle.tsp_base.specs.declared.role.Role.TheVariants.{Candidate, Starting, Follow, Master}
-use Rattle.tsp_base.specs.History.{Came, Turned, Line, of, view}
+use Rattle.tsp_base.specs.History.{Booted, Came, Turned, Line, of, view}
 use Rattle.tsp_promises.specs.OneBack.{OneBack}
 use Rattle.tsp_promises.specs.OneWinner.{OneWinner}
 use Rattle.tsp_promises.specs.OnlyMaster.{OnlyMaster}
 use Rattle.tsp_promises.specs.Resolved.{StaysQuiet, StopsLeading, TakesQuit, Yields}
+use Rattle.tsp_promises.specs.Silent.{Silent}
 use Rattle.tsp_base.specs.Takings.{peer_of}
 use Rattle.tsp_promises.specs.Broken.{Breaks, RolesBreak}
 use Rattle.tsp_promises.proofs.Histories.{begins, does, line, msg, step_at, still}
@@ -144,6 +145,24 @@ stops_later = record {
   broken = λ h. h.marks.1.0 refl ring leads_on leads_on leader told told (inr (inr (inr (inl refl)))) refl (inl refl) takes (inl refl) takes refl refl;
 }
 
+no-request : MasterReq ≡ Ack → ⊥
+no-request e = cc
+
+speaks : Breaks Silent
+speaks = record {
+  world = does 10 0 Turned (Post (Peer (peer_of 1)) (Message (msg MasterReq 0 Nothing))) ∷ (does 0 0 (Booted 7 (pos 0)) Boot ∷ []);
+  broken = λ h. elim (h.0.posts (Peer (peer_of 1)) (Message (msg MasterReq 0 Nothing)) refl) [
+    | inl late ↦ omega arith
+    | inr early ↦ no-request early.0
+  ];
+}
+
+corrects_early : Breaks Silent
+corrects_early = record {
+  world = does 10 0 Turned (Correct (pos 5) true (pos 0)) ∷ (does 0 0 (Booted 7 (pos 0)) Boot ∷ []);
+  broken = λ h. (let late = h.0.corrects (pos 5) true (pos 0) refl in omega arith);
+}
+
 pub roles_break : RolesBreak (still false)
 roles_break = record {
   holds = holds;
@@ -153,6 +172,8 @@ roles_break = record {
   finishes = finishes;
   corrects = corrects;
   closes = closes;
+  speaks = speaks;
+  corrects_early = corrects_early;
   follows_close = follows_close;
   winners = winners;
   yields = yields;

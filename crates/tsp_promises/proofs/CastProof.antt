@@ -1,5 +1,5 @@
 -- What is known of a Correct that takes an ADJTIME of a Close.
-use Rattle.std.specs.Prelude.{◌≡◌, ◌≤ℤ◌, ◌⊎◌, Bool, ℕ, ℤ, pos, ◌-ℤ◌, nat_abs, true, List, ◌∷◌}
+use Rattle.std.specs.Prelude.{◌≡◌, ◌≤ℤ◌, ◌⊎◌, Bool, ℕ, ℤ, pos, ◌-ℤ◌, nat_abs, true, List, ◌∷◌, refl}
 use Rattle.std.proofs.Common.{sym, ap, subst, inl, ◌∙◌}
 use Rattle.tsp_base.specs.declared.act.Act.TheVariants.{Close, Correct}
 use Rattle.tsp_base.specs.declared.kind.Kind.{Kind}
@@ -9,7 +9,7 @@ use Rattle.tsp_promises.specs.Agreed.{Cast}
 use Rattle.tsp_promises.specs.ClockAt.{clock}
 use Rattle.tsp_promises.specs.CorrectFits.{amount_of}
 use Rattle.tsp_promises.specs.CorrectionFits.{FollowedBy}
-use Rattle.tsp_promises.specs.Fits.{node_of}
+use Rattle.tsp_promises.specs.Fits.{Fits, node_of}
 use Rattle.tsp_base.specs.History.{Acts, Did, Line, Here, of, dids, view, plain}
 use Rattle.tsp_base.specs.NodeFacts.{moved, target}
 use Rattle.tsp_base.specs.Messages.{MessageValue}
@@ -21,7 +21,9 @@ use Rattle.tsp_base.specs.Takings.{Undisturbed, time_in}
 use Rattle.tsp_base.proofs.PlaceLemmas.{Within-through, Within-tail}
 use Rattle.tsp_promises.proofs.Given.{Given}
 use Rattle.tsp_promises.proofs.Locating.{line_on}
-use Rattle.tsp_promises.proofs.OnceTakenProof.{Acting, aged, numbered-by, posts-same}
+use Rattle.tsp_promises.proofs.OnceTakenProof.{Acting, numbered-by, posts-same}
+use Rattle.tsp_promises.proofs.OwnFitsProof.{fits_at}
+use Rattle.tsp_promises.proofs.SendPlaces.{send_place}
 use Rattle.tsp_promises.proofs.TakingProof.{ReadFacts, TakenFacts, read_facts, taken_facts}
 
 pub corrects-adj : (k : Kind) → k ≡ AdjTime → is_correction k ≡ true
@@ -31,12 +33,11 @@ one-kind : (m n : MessageValue) → n ≡ m → m.kind ≡ AdjTime → n.kind �
 one-kind m n e k = ap (λ (z : MessageValue). z.kind) e ∙ k
 
 -- what a Cast's Correct takes is an ADJTIME, as the beginning of its send is
-cast_kind : (setting : Setting) (m : ℕ) (close : Line) (cpast : List Line) (c : Line) (past : List Line) (r : Line) (rolder : List Line) (err : ℤ) → Given setting (c ∷ past) → (x : Cast m close cpast c past r rolder err) → x.acts.brings.message.kind ≡ AdjTime
-cast_kind setting m close cpast c past r rolder err g x =
+pub cast_kind : (setting : Setting) (m : ℕ) (close : Line) (cpast : List Line) (c : Line) (past : List Line) (r : Line) (rolder : List Line) (err : ℤ) → Fits setting (c ∷ past) → (x : Cast m close cpast c past r rolder err) → x.acts.brings.message.kind ≡ AdjTime
+cast_kind setting m close cpast c past r rolder err f x =
     let k = node_of c in
     let b = x.acts.brings in
-    let a = aged setting c past x.post x.before g.fits g.life x.acts (numbered-by k x.post x.before x.first x.begun b.message x.of_send b.deed) in
-    let s = a.begins in
+    let s = send_place setting (node_of x.post) k x.post x.before b.message (fits_at setting (x.post ∷ x.before) past f.1 b.place) refl b.deed (numbered-by k x.post x.before x.first x.begun b.message x.of_send b.deed) in
     let both : Here s.first ∷ view x.post.port (of (node_of x.post) s.fw) ≡ Here x.first ∷ x.begun = sym s.is ∙ x.of_send.is in
     let first_is : s.first ≡ x.first = cc in
     one-kind x.message b.message (posts-same k k b.message x.message (sym s.sends.deed ∙ (ap (λ (z : Did). z.deed) first_is ∙ x.begins))).1 x.kind
@@ -119,7 +120,7 @@ pub record Whole (setting : Setting) (m : ℕ) (close : Line) (cpast : List Line
 
 pub whole : (setting : Setting) (m : ℕ) (close : Line) (cpast : List Line) (c : Line) (past : List Line) (r : Line) (rolder : List Line) (err : ℤ) → Given setting (c ∷ past) → Cast m close cpast c past r rolder err → Whole setting m close cpast c past r rolder err
 whole setting m close cpast c past r rolder err g x =
-    let kind = cast_kind setting m close cpast c past r rolder err g x in
+    let kind = cast_kind setting m close cpast c past r rolder err g.fits x in
     let taking = taking_of m close cpast c past r rolder err x kind in
     let t = taken_facts setting m c past g taking in
     let d = read_facts setting m c past g taking t close cpast r rolder (reading_of m close cpast c past r rolder err x kind) in

@@ -11,6 +11,7 @@ pub mod BecameProof
 pub mod BestProof
 pub mod BrokenChains
 pub mod BrokenClocks
+pub mod BrokenEstimates
 pub mod BrokenReadings
 pub mod BrokenRoles
 pub mod BrokenSends
@@ -33,6 +34,8 @@ pub mod DateLeads
 pub mod ElectionFacts
 mod Elections
 pub mod Elsewheres
+pub mod ErrsProof
+pub mod EstimatesProof
 pub mod EverywhereLemmas
 pub mod FirstSetProof
 pub mod FreshProof
@@ -100,6 +103,7 @@ pub mod SendPlaces
 pub mod SendProof
 pub mod SetProof
 pub mod ShownProof
+pub mod SilentProof
 pub mod SinceProof
 pub mod SlaveLeads
 pub mod SoundAlarms
@@ -129,8 +133,10 @@ pub mod WitnessCasts
 pub mod WitnessChain
 pub mod WitnessDates
 pub mod WitnessDebts
+pub mod WitnessEstimates
 pub mod WitnessLead
 pub mod WitnessLife
+pub mod WitnessQuiet
 pub mod WitnessReadings
 pub mod WitnessRelay
 pub mod WitnessRivals

@@ -42,7 +42,7 @@ use Rattle.tsp_promises.proofs.SinceProof.{since}
 use Rattle.tsp_promises.proofs.SendProof.{number-same}
 
 -- the arithmetic of an exchange
-half-up-pos : (z : ℕ) → half_up (pos z) ≡ pos ((z + 1) / 2)
+pub half-up-pos : (z : ℕ) → half_up (pos z) ≡ pos ((z + 1) / 2)
 half-up-pos zero = refl
 half-up-pos (suc z) = omega (arith, ints)
 

@@ -7,7 +7,7 @@ use Rattle.tsp_promises.specs.Fits.{node_of}
 use Rattle.tsp_base.specs.History.{Acts, Deed, Line, of, dids}
 use Rattle.tsp_base.specs.NodeFacts.{lives, tick_of, time_of}
 use Rattle.tsp_base.specs.Places.{Within}
-use Rattle.tsp_promises.specs.Steady.{NoneStepped, Read, ReadAt, Unstepped}
+use Rattle.tsp_promises.specs.Steady.{NoneStepped, ReadTicks, ReadTimes, Unstepped}
 use Rattle.tsp_base.proofs.PlaceLemmas.{Within-none, Within-strict}
 use Rattle.tsp_promises.proofs.Histories.{skip, skipped}
 use Rattle.tsp_promises.proofs.SendProof.{and-true}
@@ -60,8 +60,8 @@ late-by f n x (suc k) (y ∷ t) e l before (inr w) i node = late-by f n x k t (a
 pub unstepped-by : (n k : ℕ) (h : List Line) → lives (dids (of n (skip k h))) ≡ lives (dids (of n h)) → all_keep n k h ≡ true → Unstepped n (skip k h) h
 unstepped-by n k h same e = record { within = skipped k h; lives = same; none = none-by n k h e }
 
-pub read-by : (n k : ℕ) (h : List Line) (x y : ℕ) → tick_of (dids (of n (skip k h))) ≤ x → all_late (λ l. l.did.tick) n x k h ≡ true → x ≤ y → tick_of (dids (of n h)) ≤ y → Read n (skip k h) h x y
+pub read-by : (n k : ℕ) (h : List Line) (x y : ℕ) → tick_of (dids (of n (skip k h))) ≤ x → all_late (λ l. l.did.tick) n x k h ≡ true → x ≤ y → tick_of (dids (of n h)) ≤ y → ReadTicks n (skip k h) h x y
 read-by n k h x y from e order to = record { from = from; next = late-by (λ l. l.did.tick) n x k h e; order = order; to = to }
 
-pub read_at-by : (n k : ℕ) (h : List Line) (a b : ℕ) → time_of (dids (of n (skip k h))) ≤ a → all_late (λ l. l.did.step.at) n a k h ≡ true → a ≤ b → time_of (dids (of n h)) ≤ b → ReadAt n (skip k h) h a b
+pub read_at-by : (n k : ℕ) (h : List Line) (a b : ℕ) → time_of (dids (of n (skip k h))) ≤ a → all_late (λ l. l.did.step.at) n a k h ≡ true → a ≤ b → time_of (dids (of n h)) ≤ b → ReadTimes n (skip k h) h a b
 read_at-by n k h a b from e order to = record { from = from; next = late-by (λ l. l.did.step.at) n a k h e; order = order; to = to }

@@ -8,6 +8,8 @@ use Rattle.tsp_promises.proofs.AgreedProof.{agreed, stay_agreed}
 use Rattle.tsp_promises.proofs.AgreedShownProof.{agreed_shown, shown_near, waited}
 use Rattle.tsp_promises.proofs.ChainedProof.{chained}
 use Rattle.tsp_promises.proofs.ConfirmedProof.{once_confirmed}
+use Rattle.tsp_promises.proofs.ErrsProof.{errs_bounded}
+use Rattle.tsp_promises.proofs.EstimatesProof.{estimates_hold}
 use Rattle.tsp_promises.proofs.FirstSetProof.{first_set, first_set_soon}
 use Rattle.tsp_promises.proofs.MeasuredProof.{measured}
 use Rattle.tsp_promises.proofs.OnceObeyedProof.{once_obeyed}
@@ -19,6 +21,7 @@ use Rattle.tsp_promises.proofs.OneErrorProof.{one_error}
 use Rattle.tsp_promises.proofs.OnlyMasterProof.{only_master}
 use Rattle.tsp_promises.proofs.RelayedProof.{relayed}
 use Rattle.tsp_promises.proofs.ResolvedProof.{yields, stays_quiet}
+use Rattle.tsp_promises.proofs.SilentProof.{silent}
 use Rattle.tsp_promises.proofs.SteadyProof.{meets, steady}
 use Rattle.tsp_promises.proofs.StopsProof.{stops_leading}
 use Rattle.tsp_promises.proofs.ThroughoutProof.{throughout}
@@ -27,6 +30,7 @@ use Rattle.tsp_promises.proofs.TripProof.{trips}
 pub safe : (setting : Setting) (world : List Line) → Fits setting world → Finished world → Safe setting world
 safe setting world f end = record {
   one_back = one_back setting world f end;
+  silent = silent setting world f;
   only_master = only_master setting world f;
   once_spaced = once_spaced setting world f;
   once_spaced_over_lives = once_spaced_over_lives setting world f;
@@ -42,6 +46,8 @@ safe setting world f end = record {
   first_set = first_set setting world f;
   first_set_soon = first_set_soon setting world f;
   chained = λ honest life. chained setting world (record { fits = f; honest = honest; life = life });
+  estimates_hold = λ honest life. estimates_hold setting world (record { fits = f; honest = honest; life = life });
+  errs_bounded = errs_bounded setting world f;
   throughout = λ honest life. throughout setting world (record { fits = f; honest = honest; life = life });
   relayed = λ honest life. relayed setting world (record { fits = f; honest = honest; life = life });
   resolved = record { yields = yields setting world f end; quiet = stays_quiet setting world f; stops = stops_leading setting world f end };

@@ -181,11 +181,11 @@ off-target t e = omega (arith, ints)
 none-left : (a b : ℤ) → nat_abs (a -ℤ b) ≡ 0 → a ≡ b
 none-left a b e = omega (arith, ints)
 
-meets-by : (ds : List Did) (y : ℕ) → MeetsBy ds y
-meets-by ds y =
+pub meets_by : (ds : List Did) (y : ℕ) → MeetsBy ds y
+meets_by ds y =
     let left : nat_abs (shown ds y -ℤ target ds y) ≡ nat_abs (rest ds) - (y - last_correct ds) / 200 =
     off-target (target ds y) (eased (rest ds) ((y - last_correct ds) / 200)) ∙ eased-abs (rest ds) ((y - last_correct ds) / 200) in
     record { left = left; met = λ late. none-left (shown ds y) (target ds y) (let z : nat_abs (rest ds) - (y - last_correct ds) / 200 ≡ 0 = omega (arith, late) in left ∙ z) }
 
 pub meets : (world : List Line) → Meets world
-meets world = Everywhere-from (λ (l : Line) (before : List Line). (n : ℕ) (y : ℕ) → MeetsBy (dids (of n (l ∷ before))) y) world (λ l s w n y. meets-by (dids (of n (l ∷ s))) y)
+meets world = Everywhere-from (λ (l : Line) (before : List Line). (n : ℕ) (y : ℕ) → MeetsBy (dids (of n (l ∷ before))) y) world (λ l s w n y. meets_by (dids (of n (l ∷ s))) y)

@@ -54,7 +54,7 @@ one-sample : (a b : Sampled) → Some a ≡ Some b → a ≡ b
 one-sample a b e = cc
 
 -- what begins before its step has taken anything, or is an ADJTIME, begins at a Close
-used-by : (first : Did) (begun : List Seen) (p : PeerId) (m : MessageValue) (close : Did) (past : List Seen) (sample : Sampled) → (m.kind ≡ AdjTime) ⊎ (taken begun ≡ None) → closed begun ≡ Here close ∷ past → best p past ≡ Some sample →
+pub used-by : (first : Did) (begun : List Seen) (p : PeerId) (m : MessageValue) (close : Did) (past : List Seen) (sample : Sampled) → (m.kind ≡ AdjTime) ⊎ (taken begun ≡ None) → closed begun ≡ Here close ∷ past → best p past ≡ Some sample →
     AnswersSlaveUp begun p m ⊎ AtClose first begun p m → Used first begun p m close past sample
 used-by first begun p m close past sample (inl kind) close_is best_is (inl s) = let bad : ⊥ = (let k = sym kind ∙ s.sets in cc) in absurd bad
 used-by first begun p m close past sample (inr none) close_is best_is (inl s) = let bad : ⊥ = (let k = sym none ∙ s.took in cc) in absurd bad

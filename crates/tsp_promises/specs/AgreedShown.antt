@@ -6,19 +6,28 @@ use Rattle.tsp_promises.specs.ClockAt.{clock_at}
 use Rattle.tsp_promises.specs.Everywhere.{Everywhere}
 use Rattle.tsp_promises.specs.Fits.{node_of}
 use Rattle.tsp_base.specs.History.{Line, of, dids}
-use Rattle.tsp_base.specs.NodeFacts.{up}
+use Rattle.tsp_base.specs.NodeFacts.{last_correct, rest, up}
 use Rattle.tsp_promises.specs.Setting.{Setting}
 use Rattle.tsp_promises.specs.ShownAt.{left_at, shown_at}
-use Rattle.tsp_promises.specs.Steady.{ReadAt, Unstepped, shown_width}
-use Rattle.tsp_base.specs.Ticks.{width}
+use Rattle.tsp_promises.specs.Steady.{ReadTimes, Unstepped, shown_width}
+use Rattle.tsp_base.specs.Ticks.{tick_at, width}
 
 -- the shown values of two nodes differ by at most this and what is still to be slewed on each: by at most this, once both show their targets
 abbrev pub ShownWithin : Setting → List Line → ℕ → ℕ → ℕ → ℤ → Type 0
 ShownWithin setting h t k l b = pos (nat_abs (shown_at setting k h t -ℤ shown_at setting l h t)) ≤ℤ ((b +ℤ pos (nat_abs (left_at setting k h t))) +ℤ pos (nat_abs (left_at setting l h t)))
 
+-- nothing is left to slew on node n at true time t
+abbrev pub HasMet : Setting → ℕ → List Line → ℕ → Type 0
+HasMet setting n h t = last_correct (dids (of n h)) + 200 * nat_abs (rest (dids (of n h))) ≤ tick_at (setting.rate n) t
+
+-- so they differ, and by at most b itself once both have met their targets
+pub record ShownBy (setting : Setting) (h : List Line) (t : ℕ) (k l : ℕ) (b : ℤ) : Type 0 where
+  pub within : ShownWithin setting h t k l b
+  pub met : HasMet setting k h t → HasMet setting l h t → pos (nat_abs (shown_at setting k h t -ℤ shown_at setting l h t)) ≤ℤ b
+
 -- after the history h, at true time t: wherever the clocks of two nodes that have booted differ by at most b, so do their shown values
 abbrev pub ShownAsClocks : Setting → List Line → ℕ → Type 0
-ShownAsClocks setting h t = (k l : ℕ) (b : ℤ) → up (dids (of k h)) ≡ true → up (dids (of l h)) ≡ true → pos (nat_abs (clock_at setting k h t -ℤ clock_at setting l h t)) ≤ℤ b → ShownWithin setting h t k l b
+ShownAsClocks setting h t = (k l : ℕ) (b : ℤ) → up (dids (of k h)) ≡ true → up (dids (of l h)) ≡ true → pos (nat_abs (clock_at setting k h t -ℤ clock_at setting l h t)) ≤ℤ b → ShownBy setting h t k l b
 
 -- the shown values of two nodes that one Close corrected, as PeersAgree has it of their clocks
 abbrev pub PeersShown : Setting → List Line → ℕ → Type 0
@@ -65,7 +74,7 @@ ShownNear setting = Everywhere (λ l world. (t : ℕ) → ShownAsClocks setting 
 
 -- where the shown values of k and l differ by at most b at the place s and true time t: what l shows a time d later, if it neither boots nor steps its clock until then, is more than what k showed by d, less drift, one in two hundred, and b
 abbrev pub WaitedFor : Setting → List Line → Type 0
-WaitedFor setting h = (k l : ℕ) (s : List Line) (t d : ℕ) (b : ℤ) → Unstepped l s h → ReadAt l s h t (t + d) → pos (nat_abs (shown_at setting k s t -ℤ shown_at setting l s t)) ≤ℤ b →
+WaitedFor setting h = (k l : ℕ) (s : List Line) (t d : ℕ) (b : ℤ) → Unstepped l s h → ReadTimes l s h t (t + d) → pos (nat_abs (shown_at setting k s t -ℤ shown_at setting l s t)) ≤ℤ b →
     ((pos d -ℤ pos (shown_width setting.drift d)) -ℤ b) ≤ℤ (shown_at setting l h (t + d) -ℤ shown_at setting k s t)
 
 -- so stamps are in order after a wait that makes this more than 0

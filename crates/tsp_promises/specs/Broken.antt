@@ -3,6 +3,8 @@ use Rattle.std.specs.Prelude.{List}
 use Rattle.tsp_promises.specs.Agreed.{Agreed, StayAgreed}
 use Rattle.tsp_promises.specs.AgreedShown.{AgreedShown, ShownNear, Waited}
 use Rattle.tsp_promises.specs.Chained.{Chained}
+use Rattle.tsp_promises.specs.ErrsBounded.{ErrsBounded}
+use Rattle.tsp_promises.specs.Estimates.{EstimatesHold}
 use Rattle.tsp_promises.specs.FirstSet.{FirstSet, FirstSetSoon}
 use Rattle.tsp_base.specs.History.{Line}
 use Rattle.tsp_promises.specs.Measured.{Measured, Trips}
@@ -14,6 +16,7 @@ use Rattle.tsp_promises.specs.OnlyMaster.{OnlyMaster}
 use Rattle.tsp_promises.specs.Relayed.{Relayed}
 use Rattle.tsp_promises.specs.Resolved.{StaysQuiet, StopsLeading, Yields}
 use Rattle.tsp_promises.specs.Setting.{Setting}
+use Rattle.tsp_promises.specs.Silent.{Silent}
 use Rattle.tsp_promises.specs.Steady.{Steady}
 use Rattle.tsp_promises.specs.Throughout.{Throughout}
 
@@ -38,6 +41,10 @@ pub record RolesBreak (setting : Setting) : Type 0 where
   pub corrects : Breaks OnlyMaster
   -- a Close at a follower
   pub closes : Breaks OnlyMaster
+  -- a request for a master right after a boot
+  pub speaks : Breaks Silent
+  -- a Correct right after a boot
+  pub corrects_early : Breaks Silent
   -- a Correct of another port after a Close, with a mark between
   pub follows_close : Breaks OnlyMaster
   -- two nodes on one network that win shortly after one another
@@ -118,6 +125,12 @@ pub record ChainsBreak (setting : Setting) : Type 0 where
   pub tree : Breaks (Chained setting)
   -- a clock that moves by another amount than its ADJTIME says, whatever is taken back
   pub throughout : Breaks (Throughout setting)
+  -- a round with an estimate that is 9 s off
+  pub estimates_apart : Breaks (EstimatesHold setting)
+  -- a master that moves by another amount than the mean
+  pub master_near : Breaks (EstimatesHold setting)
+  -- a round that uses a sample with an error of 5 s
+  pub errs_bounded : Breaks ErrsBounded
   -- an ADJTIME that acts on a clock which was corrected since the reading
   pub one_error : Breaks OneError
   -- a SETTIME that acts on a clock which was corrected since the SLAVEUP

@@ -13,6 +13,9 @@ pub mod DateFits
 pub mod DateUse
 pub mod Dated
 pub mod DeedFits
+pub mod ErrsBounded
+pub mod Estimates
+pub mod EstimatesUse
 pub mod Everywhere
 pub mod FirstSet
 pub mod Fits
@@ -33,6 +36,7 @@ pub mod OrdinaryUse
 pub mod OwnFits
 pub mod PortFits
 pub mod Premises
+pub mod QuietUse
 pub mod Relayed
 pub mod Relays
 pub mod Resolved
@@ -45,6 +49,7 @@ pub mod SetUse
 pub mod Setting
 pub mod ShownAt
 pub mod ShownUse
+pub mod Silent
 pub mod Since
 pub mod Sound
 pub mod Steady

@@ -3,6 +3,8 @@ use Rattle.std.specs.Prelude.{◌⊎◌, List}
 use Rattle.tsp_promises.specs.Agreed.{Agreed, StayAgreed}
 use Rattle.tsp_promises.specs.AgreedShown.{AgreedShown, ShownNear, Waited}
 use Rattle.tsp_promises.specs.Chained.{Chained}
+use Rattle.tsp_promises.specs.ErrsBounded.{ErrsBounded}
+use Rattle.tsp_promises.specs.Estimates.{EstimatesHold}
 use Rattle.tsp_promises.specs.FirstSet.{FirstSet, FirstSetSoon}
 use Rattle.tsp_base.specs.History.{Line}
 use Rattle.tsp_promises.specs.Measured.{Measured, Trips}
@@ -14,12 +16,14 @@ use Rattle.tsp_promises.specs.Premises.{Honest, Life, OwnWords}
 use Rattle.tsp_promises.specs.Relayed.{Relayed}
 use Rattle.tsp_promises.specs.Resolved.{Resolved}
 use Rattle.tsp_promises.specs.Setting.{Setting}
+use Rattle.tsp_promises.specs.Silent.{Silent}
 use Rattle.tsp_promises.specs.Steady.{Meets, Steady}
 use Rattle.tsp_promises.specs.Throughout.{Throughout}
 
--- who is backed and who corrects is safe whatever is delivered; the rest rests on who sends and on how long datagrams live; a measurement, where they may live longer, on words of a node's boots that differ
+-- who is backed and who corrects, how the shown clock runs, and how far off a setting is, is safe whatever is delivered; the rest rests on who sends and on how long datagrams live; a measurement, where they may live longer, on words of a node's boots that differ
 pub record Safe (setting : Setting) (world : List Line) : Type 0 where
   pub one_back : OneBack world
+  pub silent : Silent world
   pub only_master : OnlyMaster world
   pub once_spaced : OnceSpaced world
   pub once_spaced_over_lives : OnceSpacedOverLives world
@@ -35,6 +39,8 @@ pub record Safe (setting : Setting) (world : List Line) : Type 0 where
   pub first_set : FirstSet setting world
   pub first_set_soon : Life world → FirstSetSoon setting world
   pub chained : Honest world → Life world → Chained setting world
+  pub estimates_hold : Honest world → Life world → EstimatesHold setting world
+  pub errs_bounded : ErrsBounded world
   pub throughout : Honest world → Life world → Throughout setting world
   pub relayed : Honest world → Life world → Relayed setting world
   pub resolved : Resolved world

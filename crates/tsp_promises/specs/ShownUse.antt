@@ -8,7 +8,7 @@ use Rattle.tsp_base.specs.Places.{Within}
 use Rattle.tsp_promises.specs.Kept.{Kept}
 use Rattle.tsp_promises.specs.Setting.{Setting}
 use Rattle.tsp_promises.specs.ShownAt.{shown_at}
-use Rattle.tsp_promises.specs.Steady.{Read, ReadAt, Unstepped, shown_width}
+use Rattle.tsp_promises.specs.Steady.{ReadTicks, ReadTimes, Unstepped, shown_width}
 
 -- a history that fits and keeps every premise, in which a node is read before and after a Correct that slews its clock, the second time when it has met its target; and another node is read at the first time too, and then waits long enough
 pub record ShownUse : Type 0 where
@@ -20,7 +20,7 @@ pub record ShownUse : Type 0 where
   pub early : ℕ
   pub late : ℕ
   pub unstepped : Unstepped node place world
-  pub read : Read node place world early late
+  pub read : ReadTicks node place world early late
   pub correct : Line
   pub before : List Line
   pub correct_in : Within (correct ∷ before) world
@@ -36,6 +36,6 @@ pub record ShownUse : Type 0 where
   pub at : ℕ
   pub wait : ℕ
   pub bound : ℤ
-  pub reads : ReadAt node place world at (at + wait)
+  pub reads : ReadTimes node place world at (at + wait)
   pub near : pos (nat_abs (shown_at setting other place at -ℤ shown_at setting node place at)) ≤ℤ bound
   pub enough : bound <ℤ (pos wait -ℤ pos (shown_width setting.drift wait))

@@ -22,7 +22,7 @@ pub record Unstepped (n : ℕ) (s h : List Line) : Type 0 where
   pub none : NoneStepped n s h
 
 -- n is read at tick x at the place s, before its next line, and at tick y, no earlier, after the history h
-pub record Read (n : ℕ) (s h : List Line) (x y : ℕ) : Type 0 where
+pub record ReadTicks (n : ℕ) (s h : List Line) (x y : ℕ) : Type 0 where
   pub from : tick_of (dids (of n s)) ≤ x
   pub next : (l : Line) (before : List Line) → Within (l ∷ before) h → Within s before → node_of l ≡ n → x ≤ l.did.tick
   pub order : x ≤ y
@@ -36,10 +36,10 @@ pub record Advances (early late : ℤ) (ticks : ℕ) : Type 0 where
 
 -- after the history h: from a reading at an earlier place on, as long as n neither boots nor steps its clock
 abbrev pub RunsOn : List Line → Type 0
-RunsOn h = (n : ℕ) (s : List Line) (x y : ℕ) → Unstepped n s h → Read n s h x y → Advances (shown (dids (of n s)) x) (shown (dids (of n h)) y) (y - x)
+RunsOn h = (n : ℕ) (s : List Line) (x y : ℕ) → Unstepped n s h → ReadTicks n s h x y → Advances (shown (dids (of n s)) x) (shown (dids (of n h)) y) (y - x)
 
 -- likewise n is read at the true times a and b
-pub record ReadAt (n : ℕ) (s h : List Line) (a b : ℕ) : Type 0 where
+pub record ReadTimes (n : ℕ) (s h : List Line) (a b : ℕ) : Type 0 where
   pub from : time_of (dids (of n s)) ≤ a
   pub next : (l : Line) (before : List Line) → Within (l ∷ before) h → Within s before → node_of l ≡ n → a ≤ l.did.step.at
   pub order : a ≤ b
@@ -51,7 +51,7 @@ shown_width drift x = width drift x + (x + width drift x + 199) / 200
 
 -- so over true time it advances by as much, give or take drift and one in two hundred
 abbrev pub RunsOverTime : Setting → List Line → Type 0
-RunsOverTime setting h = (n : ℕ) (s : List Line) (a b : ℕ) → Unstepped n s h → ReadAt n s h a b →
+RunsOverTime setting h = (n : ℕ) (s : List Line) (a b : ℕ) → Unstepped n s h → ReadTimes n s h a b →
     nat_abs ((shown_at setting n h b -ℤ shown_at setting n s a) -ℤ pos (b - a)) ≤ shown_width setting.drift (b - a)
 
 -- by ticks and over true time

@@ -3,39 +3,44 @@
 //! about the definitions of `specs/`; whoever keeps what each deed owes to its past keeps the
 //! promises.
 ghost use Rattle.std.specs.Prelude.{◌≡◌, ◌≤◌, ◌⊎◌, ◌+◌, nat_abs, true, ℕ, ℤ, List};
+ghost use Rattle.tsp_base.specs.History.{Line};
+ghost use Rattle.tsp_base.specs.Ticks.{tick_at, width};
 ghost use Rattle.tsp_promises.specs.Agreed.{Agreed, StayAgreed};
+ghost use Rattle.tsp_promises.specs.AgreedShown.{AgreedShown, ShownNear, Waited};
+ghost use Rattle.tsp_promises.specs.Became.{BecomesAfter};
+ghost use Rattle.tsp_promises.specs.Broken.{AllBreak};
+ghost use Rattle.tsp_promises.specs.ChainUse.{ChainUse};
 ghost use Rattle.tsp_promises.specs.Chained.{Chained};
+ghost use Rattle.tsp_promises.specs.DateUse.{DateUse, ForgedDate};
+ghost use Rattle.tsp_promises.specs.ErrsBounded.{ErrsBounded};
 ghost use Rattle.tsp_promises.specs.FirstSet.{FirstSet, FirstSetSoon};
 ghost use Rattle.tsp_promises.specs.Fits.{Fits, Finished};
-ghost use Rattle.tsp_base.specs.History.{Line};
+ghost use Rattle.tsp_promises.specs.LateReply.{LateReply};
 ghost use Rattle.tsp_promises.specs.Measured.{Measured, Trips};
 ghost use Rattle.tsp_promises.specs.Once.{OnceConfirmed, OnceCorrected, OnceObeyed, OnceSpaced, OnceSpacedOverLives, OnceTaken};
 ghost use Rattle.tsp_promises.specs.OneBack.{OneBack};
 ghost use Rattle.tsp_promises.specs.OneError.{OneError};
-ghost use Rattle.tsp_promises.specs.OnlyMaster.{OnlyMaster};
 ghost use Rattle.tsp_promises.specs.OneWinner.{OneWinner};
-ghost use Rattle.tsp_promises.specs.Premises.{Few, Honest, Life, OwnWords};
-ghost use Rattle.tsp_promises.specs.Relayed.{Relayed};
-ghost use Rattle.tsp_promises.specs.Resolved.{StaysQuiet, StopsLeading, Yields};
-ghost use Rattle.tsp_promises.specs.Safe.{Safe};
-ghost use Rattle.tsp_promises.specs.Setting.{Setting};
-ghost use Rattle.tsp_base.specs.Ticks.{tick_at, width};
-ghost use Rattle.tsp_promises.specs.Became.{BecomesAfter};
-ghost use Rattle.tsp_promises.specs.Broken.{AllBreak};
-ghost use Rattle.tsp_promises.specs.DateUse.{DateUse, ForgedDate};
-ghost use Rattle.tsp_promises.specs.LateReply.{LateReply};
+ghost use Rattle.tsp_promises.specs.OnlyMaster.{OnlyMaster};
 ghost use Rattle.tsp_promises.specs.OrdinaryUse.{OrdinaryUse};
+ghost use Rattle.tsp_promises.specs.Premises.{Few, Honest, Life, OwnWords};
+ghost use Rattle.tsp_promises.specs.QuietUse.{QuietUse};
+ghost use Rattle.tsp_promises.specs.Relayed.{Relayed};
 ghost use Rattle.tsp_promises.specs.Relays.{Relays};
+ghost use Rattle.tsp_promises.specs.Resolved.{StaysQuiet, StopsLeading, Yields};
 ghost use Rattle.tsp_promises.specs.RivalsMeet.{RivalsMeet};
+ghost use Rattle.tsp_promises.specs.RoundsUse.{RoundsUse};
+ghost use Rattle.tsp_promises.specs.Safe.{Safe};
+ghost use Rattle.tsp_promises.specs.SameWords.{MeasuresWrongly, SameWords};
+ghost use Rattle.tsp_promises.specs.SetUse.{SetUse};
+ghost use Rattle.tsp_promises.specs.Setting.{Setting};
+ghost use Rattle.tsp_promises.specs.ShownUse.{ShownUse};
+ghost use Rattle.tsp_promises.specs.Silent.{Silent};
 ghost use Rattle.tsp_promises.specs.Steady.{Meets, Steady};
 ghost use Rattle.tsp_promises.specs.StrictElections.{StrictElections};
-ghost use Rattle.tsp_promises.specs.AgreedShown.{AgreedShown, ShownNear, Waited};
-ghost use Rattle.tsp_promises.specs.ChainUse.{ChainUse};
-ghost use Rattle.tsp_promises.specs.ShownUse.{ShownUse};
-ghost use Rattle.tsp_promises.specs.SetUse.{SetUse};
-ghost use Rattle.tsp_promises.specs.SameWords.{MeasuresWrongly, SameWords};
 ghost use Rattle.tsp_promises.specs.Throughout.{Throughout};
-ghost use Rattle.tsp_promises.specs.RoundsUse.{RoundsUse};
+ghost use Rattle.tsp_promises.specs.Estimates.{EstimatesHold};
+ghost use Rattle.tsp_promises.specs.EstimatesUse.{EstimatesUse};
 
 /// All promises of a history that ends with a step, each under the premises that it needs.
 pub fn safe()
@@ -47,6 +52,12 @@ pub fn safe()
 pub fn one_back()
     ensures { (setting : Setting) (world : List Line) → Fits setting world → Finished world
         → OneBack world }
+{}
+
+/// For `QUIET` ticks after a boot a node posts replies to stamp requests and acknowledgments of
+/// MSITE, TRACEON and TRACEOFF alone, and doesn't correct its clock.
+pub fn silent_after_boot()
+    ensures { (setting : Setting) (world : List Line) → Fits setting world → Silent world }
 {}
 
 /// Only masters post corrections, close rounds and correct their clocks right after.
@@ -113,6 +124,29 @@ pub fn agreed()
         → Life world → StayAgreed setting world }
 {}
 
+/// A round's estimates tell of the clocks: any two differ by no more than the clocks do at its
+/// Close, their errors and drift; and the master's clock, once it moved by the mean, stands apart
+/// from a clock that nobody has corrected since by what the estimate of that stands apart from the
+/// mean, its error and drift.
+pub fn estimates_hold()
+    ensures { (setting : Setting) (world : List Line) → Fits setting world → Honest world
+        → Life world → EstimatesHold setting world }
+{}
+
+/// The error on which an ADJTIME rests is at most 4.5 s, half of the longest round, whatever is
+/// delivered.
+pub fn errs_bounded()
+    ensures { (setting : Setting) (world : List Line) → Fits setting world → ErrsBounded world }
+{}
+
+/// A round's bound never lapses: with what the two nodes were moved by since taken back, the clock
+/// of a node that a Close corrected and that of the master agree as they did, until either boots;
+/// so the clocks differ by at most that besides.
+pub fn throughout()
+    ensures { (setting : Setting) (world : List Line) → Fits setting world → Honest world
+        → Life world → Throughout setting world }
+{}
+
 /// No error is corrected twice: from the reading, or the SLAVEUP, on which a correction rests to
 /// the Correct that takes it the node neither boots nor corrects its clock, whichever masters there
 /// are, if no peer's datagram is forged and none outlives `LIFE`.
@@ -139,10 +173,40 @@ pub fn chained()
         → Life world → Chained setting world }
 {}
 
-/// A clock that a corrected master corrected agrees with the first master's, at each line and from there on.
+/// A clock that a corrected master corrected agrees with the first master's, at each line and from
+/// there on.
 pub fn relayed()
     ensures { (setting : Setting) (world : List Line) → Fits setting world → Honest world
         → Life world → Relayed setting world }
+{}
+
+/// The clock that users read never falls between steps and boots, and is off in rate by at most one
+/// in two hundred, beside its node's drift; forged datagrams or not.
+pub fn runs_steadily()
+    ensures { (setting : Setting) (world : List Line) → Fits setting world → Steady setting world }
+{}
+
+/// It meets its target: what is left to slew is less by a microsecond each 200 ticks. No deed can
+/// break this; it is how the shown value is defined.
+pub fn meets_target()
+    ensures { (world : List Line) → Meets world }
+{}
+
+/// What users read of clocks agrees as the clocks do, wherever a Close or a chain bounds them:
+/// within the same errors and drift, and what is still to be slewed on each. Whatever else bounds
+/// the clocks of two nodes that have booted bounds what they show likewise, and as closely once
+/// both have met their targets; forged datagrams or not.
+pub fn agreed_shown()
+    ensures clocks { (setting : Setting) (world : List Line) → Fits setting world → Honest world
+        → Life world → AgreedShown setting world }
+    ensures near { (setting : Setting) (world : List Line) → Fits setting world
+        → ShownNear setting world }
+{}
+
+/// Whoever waits for longer than his clock and another's may be apart knows that what the other
+/// shows then is later than what his own showed before.
+pub fn stamps_in_order()
+    ensures { (setting : Setting) (world : List Line) → Fits setting world → Waited setting world }
 {}
 
 /// A master that takes a QUIT follows its sender at the end of that step.
@@ -168,6 +232,21 @@ pub fn resolved_stops()
         → Life world → StopsLeading world }
 {}
 
+/// In strict elections two wins of different nodes on one network stand more than 50 s apart, if no
+/// peer's datagram is forged, no datagram outlives `LIFE`, and no port begins 32,768 sends with own
+/// numbers in one life of its node.
+pub fn one_winner()
+    ensures { (setting : Setting) (world : List Line) → setting.strict ≡ true → Fits setting world
+        → Honest world → Life world → Few world → OneWinner setting world }
+{}
+
+/// Over some span of true time a tick counter advances by that span, give or take the width.
+pub fn ticks_keep_width()
+    ensures { (rate : ℤ) (drift start span : ℕ) → nat_abs rate ≤ drift → drift ≤ 1000
+        → (tick_at rate (start + span) ≤ tick_at rate start + span + width drift span)
+        × (tick_at rate start + span ≤ tick_at rate (start + span) + width drift span) }
+{}
+
 /// No promise is empty: a history that fits and keeps every premise sees three nodes boot, one of
 /// them win an election, the others take a SETTIME each and acknowledge it, and a whole round that
 /// corrects both.
@@ -187,10 +266,16 @@ pub fn chain_use()
     ensures { ChainUse }
 {}
 
-/// Nor are those of what users read: a history that fits sees a clock slewed until it meets its
-/// target, and a wait that is long enough.
-pub fn shown_use()
-    ensures { ShownUse }
+/// Nor is the promise that a round's bound never lapses: a history that fits sees a second round
+/// move both clocks of the first.
+pub fn rounds_use()
+    ensures { RoundsUse }
+{}
+
+/// Nor is what estimates tell: a history that fits sees a round that estimates two nodes, which
+/// nobody corrects until after its Close.
+pub fn estimates_use()
+    ensures { EstimatesUse }
 {}
 
 /// Nor are those of first settings and of single corrections: a history that fits sees a clock set
@@ -199,10 +284,29 @@ pub fn set_use()
     ensures { SetUse }
 {}
 
-/// Nor is the promise that a round's bound never lapses: a history that fits sees a second round
-/// move both clocks of the first.
-pub fn rounds_use()
-    ensures { RoundsUse }
+/// Nor are those of what users read: a history that fits sees a clock slewed until it meets its
+/// target, and a wait that is long enough.
+pub fn shown_use()
+    ensures { ShownUse }
+{}
+
+/// Nor is the promise of silence after a boot: a history that fits sees a node answer a stranger in
+/// its quiet time.
+pub fn quiet_use()
+    ensures { QuietUse }
+{}
+
+/// Nor are the promises of backings and of resolutions empty: a history that fits sees a node back
+/// two candidates, and a rival take the QUIT of a resolution and lead again after the least
+/// election delay.
+pub fn rivals_meet()
+    ensures { RivalsMeet }
+{}
+
+/// Nor is the promise of strict elections empty: a history that fits sees two nodes win, one long
+/// after the other.
+pub fn strict_elections()
+    ensures { StrictElections }
 {}
 
 /// A history that fits sees dates passed on and set, in two lives of a master. Where forged octets
@@ -226,72 +330,7 @@ pub fn late_reply()
     ensures { LateReply }
 {}
 
-/// Nor are the promises of backings and of resolutions empty: a history that fits sees a node back
-/// two candidates, and a rival take the QUIT of a resolution and lead again after the least
-/// election delay.
-pub fn rivals_meet()
-    ensures { RivalsMeet }
-{}
-
-/// Nor is the promise of strict elections empty: a history that fits sees two nodes win, one long
-/// after the other.
-pub fn strict_elections()
-    ensures { StrictElections }
-{}
-
 /// Each promise says something: a small history breaks it.
 pub fn promises_can_be_broken()
     ensures { AllBreak }
-{}
-
-/// In strict elections two wins of different nodes on one network stand more than 50 s apart, if no
-/// peer's datagram is forged, no datagram outlives `LIFE`, and no port begins 32,768 sends with own
-/// numbers in one life of its node.
-pub fn one_winner()
-    ensures { (setting : Setting) (world : List Line) → setting.strict ≡ true → Fits setting world
-        → Honest world → Life world → Few world → OneWinner setting world }
-{}
-
-/// A round's bound never lapses: with what the two nodes were moved by since taken back, the clock
-/// of a node that a Close corrected and that of the master agree as they did, until either boots;
-/// so the clocks differ by at most that besides.
-pub fn throughout()
-    ensures { (setting : Setting) (world : List Line) → Fits setting world → Honest world
-        → Life world → Throughout setting world }
-{}
-
-/// The clock that users read never falls between steps and boots, and is off in rate by at most one
-/// in two hundred, beside its node's drift; forged datagrams or not.
-pub fn runs_steadily()
-    ensures { (setting : Setting) (world : List Line) → Fits setting world → Steady setting world }
-{}
-
-/// What users read of clocks agrees as the clocks do, wherever a Close or a chain bounds them:
-/// within the same errors and drift, and what is still to be slewed on each. Where anything else
-/// bounds the clocks of two nodes that have booted, so it does what they show, forged datagrams or
-/// not.
-pub fn agreed_shown()
-    ensures clocks { (setting : Setting) (world : List Line) → Fits setting world → Honest world
-        → Life world → AgreedShown setting world }
-    ensures near { (setting : Setting) (world : List Line) → Fits setting world
-        → ShownNear setting world }
-{}
-
-/// Who waits until his clock and another's can't be apart any more knows that what the other shows
-/// then is later than what his own showed before.
-pub fn stamps_in_order()
-    ensures { (setting : Setting) (world : List Line) → Fits setting world → Waited setting world }
-{}
-
-/// It meets its target: what is left to slew is less by a microsecond each 200 ticks. No deed can
-/// break this; it is how the shown value is defined.
-pub fn meets_target()
-    ensures { (world : List Line) → Meets world }
-{}
-
-/// Over some span of true time a tick counter advances by that span, give or take the width.
-pub fn ticks_keep_width()
-    ensures { (rate : ℤ) (drift start span : ℕ) → nat_abs rate ≤ drift → drift ≤ 1000
-        → (tick_at rate (start + span) ≤ tick_at rate start + span + width drift span)
-        × (tick_at rate start + span ≤ tick_at rate (start + span) + width drift span) }
 {}

@@ -1,0 +1,96 @@
+-- What is promised of estimates isn't empty.
+use Rattle.std.specs.Prelude.{◌≡◌, true, false, ℤ, pos, negsuc, List, ◌∷◌, refl}
+use Rattle.std.proofs.Common.{arith, inr}
+use Rattle.tsp_base.specs.declared.act.Act.TheVariants.{Correct, Post, Sample}
+use Rattle.tsp_base.specs.declared.datagram.Datagram.TheVariants.{Message, Stamp}
+use Rattle.tsp_base.specs.declared.kind.Kind.TheVariants.{AdjTime}
+use Rattle.tsp_base.specs.declared.message.Body.TheVariants.{Time}
+use Rattle.tsp_base.specs.declared.place.Place.TheVariants.{Peer}
+use Rattle.tsp_base.specs.declared.stamp.Stamp.TheVariants.{Reply}
+use Rattle.tsp_promises.specs.Estimates.{CloseBegins, Estimate}
+use Rattle.tsp_promises.specs.EstimatesUse.{EstimatesUse}
+use Rattle.tsp_base.specs.History.{Came, Turned, Here, Line, dids, of, view}
+use Rattle.tsp_base.specs.Places.{Within}
+use Rattle.tsp_base.specs.RoundFacts.{Sampled}
+use Rattle.tsp_base.specs.PortFacts.{acting}
+use Rattle.tsp_promises.specs.StepFacts.{closed}
+use Rattle.tsp_base.specs.Takings.{Undisturbed, peer_of}
+use Rattle.tsp_promises.proofs.Histories.{does, msg, skip, skipped, still}
+use Rattle.tsp_promises.proofs.PremiseChecks.{kept-by}
+use Rattle.tsp_promises.proofs.StepChecks.{port0}
+use Rattle.tsp_promises.proofs.WitnessCasts.{answers, closing, sounds}
+use Rattle.tsp_promises.proofs.WitnessDebts.{not-same}
+use Rattle.tsp_promises.proofs.WitnessUse.{reply1, reply2, w15, w16, w17, w18, w19, w23, fits}
+
+-- the round's first ADJTIME
+abbrev pub adjusts : Line
+adjusts = does 408000000 0 Turned (Post (Peer (peer_of 1)) (Message (msg AdjTime 10 (Time (pos 17)))))
+
+-- it begins at the round's Close, whatever stands before that and between
+abbrev pub begins-at : (cpast fw : List Line) → Within (closing ∷ cpast) fw → acting (view port0 (of 0 fw)) ≡ true → closed (view port0 (of 0 fw)) ≡ Here closing.did ∷ view port0 (of 0 cpast) → CloseBegins 0 closing cpast (negsuc 83) adjusts fw
+begins-at cpast fw closes acts close_is = record {
+  count = 3;
+  lo = negsuc 150;
+  size = pos 151;
+  deed = refl;
+  node = refl;
+  closes = closes;
+  first_node = refl;
+  port = refl;
+  peer = peer_of 1;
+  message = msg AdjTime 10 (Time (pos 17));
+  posts = refl;
+  kind = refl;
+  begins = acts;
+  close_is = close_is;
+}
+
+abbrev pub sample1 : ℤ → List Line → Sampled
+sample1 diff at = record { counter = 0; diff = diff; err = pos 401; ticket = 10; trip = pos 801; place = view port0 (of 0 at) }
+
+abbrev pub sample2 : List Line → Sampled
+sample2 at = record { counter = 1; diff = negsuc 150; err = pos 450; ticket = 12; trip = pos 900; place = view port0 (of 0 at) }
+
+-- its estimate of node 1
+pub estimate1 : (h : List Line) → Undisturbed (dids (of 1 (sounds ∷ skip 1 w15))) (dids (of 1 h)) → Estimate 0 1 closing (skip 4 w19) (sample1 (negsuc 100) w17) sounds (skip 1 w15) h
+estimate1 h left = record {
+  best_is = refl;
+  reading = record { line = does 400000801 0 (Came 8) (Sample (peer_of 1) 0 (negsuc 100) (pos 401) 10); before = skip 1 w17; at = skipped 5 (skip 4 w19); node = refl; port = refl; is = refl; reads = skipped 5 (skip 1 w17); takes = refl; to = Peer (peer_of 0); datagram = Stamp (Reply reply1); deed = refl };
+  unchanged = left;
+}
+
+-- both followers of ordinary use, as its round estimates them
+pub estimates_use : EstimatesUse
+estimates_use = record {
+  setting = still false;
+  world = w23;
+  kept = kept-by false w23 fits refl refl refl refl;
+  master = 0;
+  one = 1;
+  other = 2;
+  apart = not-same 1 2 (omega arith);
+  close = closing;
+  cpast = skip 4 w19;
+  mean = negsuc 83;
+  first = adjusts;
+  begun = skip 2 w19;
+  first_in = skipped 15 w23;
+  begins = begins-at (skip 4 w19) (skip 2 w19) (skipped 1 (skip 2 w19)) refl refl;
+  x = sample1 (negsuc 100) w17;
+  reading = sounds;
+  older = skip 1 w15;
+  estimate = estimate1 (skip 4 w19) (record { corrects = refl; lives = refl });
+  y = sample2 w18;
+  reading_other = answers;
+  older_other = skip 1 w16;
+  estimate_other = record {
+    best_is = refl;
+    reading = record { line = does 400000900 0 (Came 9) (Sample (peer_of 2) 1 (negsuc 150) (pos 450) 12); before = skip 1 w18; at = skipped 2 (skip 4 w19); node = refl; port = refl; is = refl; reads = skipped 5 (skip 1 w18); takes = refl; to = Peer (peer_of 0); datagram = Stamp (Reply reply2); deed = refl };
+    unchanged = record { corrects = refl; lives = refl };
+  };
+  here = w19;
+  here_in = skipped 14 w23;
+  first_here = skipped 1 w19;
+  still = estimate1 w19 (record { corrects = refl; lives = refl });
+  left_alone = record { lives = refl; corrects = inr (record { next = does 408000000 0 Turned (Correct (negsuc 83) false (pos 408000000)); before = skip 3 w19; is = refl; amount = negsuc 83; stepped = false; shown = pos 408000000; place = skipped 2 w19; node = refl; deed = refl; corrects = refl }) };
+}

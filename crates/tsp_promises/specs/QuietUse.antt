@@ -1,0 +1,35 @@
+-- Early answers: the promise that a node is silent after its boot isn't empty.
+use Rattle.std.specs.Prelude.{◌≡◌, ◌<◌, ◌+◌, List, ◌∷◌}
+use Rattle.tsp_base.specs.declared.act.Act.TheVariants.{Post}
+use Rattle.tsp_base.specs.declared.constants.TheConstants.{QUIET}
+use Rattle.tsp_base.specs.declared.datagram.Datagram.TheVariants.{Message, Stamp}
+use Rattle.tsp_base.specs.declared.place.Place.{Place}
+use Rattle.tsp_base.specs.declared.stamp.Stamp.TheVariants.{Reply}
+use Rattle.tsp_promises.specs.Fits.{node_of}
+use Rattle.tsp_base.specs.History.{Acts, Line, dids, of}
+use Rattle.tsp_base.specs.Messages.{MessageValue}
+use Rattle.tsp_base.specs.NodeFacts.{boot_tick}
+use Rattle.tsp_base.specs.Places.{Within}
+use Rattle.tsp_promises.specs.Kept.{Kept}
+use Rattle.tsp_promises.specs.Setting.{Setting}
+use Rattle.tsp_base.specs.Stamps.{ReplyValue}
+
+-- a history that fits and keeps every premise, in which a node replies to a request and acknowledges a message in its quiet time
+pub record QuietUse : Type 0 where
+  pub setting : Setting
+  pub world : List Line
+  pub kept : Kept setting world
+  pub reply : Line
+  pub before : List Line
+  pub reply_in : Within (reply ∷ before) world
+  pub to : Place
+  pub value : ReplyValue
+  pub replies : reply.did.deed ≡ Acts (Post to (Stamp (Reply value)))
+  pub early : reply.did.tick < boot_tick (dids (of (node_of reply) before)) + QUIET
+  pub ack : Line
+  pub older : List Line
+  pub ack_in : Within (ack ∷ older) world
+  pub for : Place
+  pub message : MessageValue
+  pub acknowledges : ack.did.deed ≡ Acts (Post for (Message message))
+  pub early_too : ack.did.tick < boot_tick (dids (of (node_of ack) older)) + QUIET

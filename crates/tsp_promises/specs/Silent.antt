@@ -1,0 +1,19 @@
+-- The promise that a node is silent after its boot.
+use Rattle.std.specs.Prelude.{◌≡◌, ◌≤◌, ◌⊎◌, ◌+◌, ℤ, Bool, List}
+use Rattle.tsp_base.specs.declared.act.Act.TheVariants.{Correct, Post}
+use Rattle.tsp_base.specs.declared.constants.TheConstants.{QUIET}
+use Rattle.tsp_base.specs.declared.datagram.Datagram.{Datagram}
+use Rattle.tsp_base.specs.declared.place.Place.{Place}
+use Rattle.tsp_promises.specs.DeedFits.{AnswersEarly}
+use Rattle.tsp_promises.specs.Everywhere.{Everywhere}
+use Rattle.tsp_promises.specs.Fits.{node_of}
+use Rattle.tsp_base.specs.History.{Acts, Line, dids, of, view}
+use Rattle.tsp_base.specs.NodeFacts.{boot_tick}
+
+-- for QUIET ticks after a boot a node posts nothing but replies to stamp requests and ACKs of MSITE, TRACEON and TRACEOFF, and doesn't correct its clock
+pub record SilentAt (l : Line) (world : List Line) : Type 0 where
+  pub posts : (to : Place) (datagram : Datagram) → l.did.deed ≡ Acts (Post to datagram) → (boot_tick (dids (of (node_of l) world)) + QUIET ≤ l.did.tick) ⊎ AnswersEarly datagram (view l.port (of (node_of l) world))
+  pub corrects : (amount : ℤ) (stepped : Bool) (shown : ℤ) → l.did.deed ≡ Acts (Correct amount stepped shown) → boot_tick (dids (of (node_of l) world)) + QUIET ≤ l.did.tick
+
+abbrev pub Silent : List Line → Type 0
+Silent = Everywhere SilentAt
