@@ -3,8 +3,6 @@ pub mod AuditLemmas
 mod ClaimedEvents
 mod ClaimedPosts
 pub mod CommandLemmas
-mod EachLine
-mod Happens
 pub mod HeadlineLemmas
 pub mod LinesFit
 mod RunClaims

@@ -27,7 +27,7 @@ use Rattle.tsp_run.specs.Run.{Happening, boot_step, goes_to, happening, joins, p
 use Rattle.tsp_run.proofs.RefusalLemmas.{allowed, up-down}
 use Rattle.tsp_run.proofs.RunLemmas.{posts_stepped, stepped_other, stepped_own, up_joined}
 use Rattle.tsp_cli.proofs.ClaimedPosts.{ArePosts, ArePosts-append, get-ArePosts, goes-same, posts_of_acts}
-use Rattle.tsp_cli.proofs.Happens.{Arrives, acts_by, boot_acts, got_acts, stepping, steps-are, takes-or, taking, taking_row, taking_step}
+use Rattle.tsp_run.proofs.Happens.{Arrives, acts_by, boot_acts, got_acts, stepping, steps-are, takes-or, taking, taking_row, taking_step}
 use Rattle.tsp_cli.proofs.ClaimedEvents.{acts-told_of, happened}
 
 -- a step is that of what happens; none, where nothing does

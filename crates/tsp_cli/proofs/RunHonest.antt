@@ -26,8 +26,8 @@ use Rattle.tsp_run.specs.Refusals.{refusal, scene}
 use Rattle.tsp_run.specs.Run.{Happening, joins, run, step_tick}
 use Rattle.tsp_run.proofs.CalmPorts.{AreCalm}
 use Rattle.tsp_run.proofs.RefusalLemmas.{handed-port, refusal-none}
-use Rattle.tsp_cli.proofs.EachLine.{each_event}
-use Rattle.tsp_cli.proofs.Happens.{acts_by, got_acts, steps-are}
+use Rattle.tsp_run.proofs.EachLine.{each_event}
+use Rattle.tsp_run.proofs.Happens.{acts_by, got_acts, steps-are}
 use Rattle.tsp_cli.proofs.RunClaims.{accepted_before}
 
 -- no act takes anything as a peer's

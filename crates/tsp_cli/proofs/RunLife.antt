@@ -27,8 +27,8 @@ use Rattle.tsp_run.specs.Run.{joins, posted_in, posts, run, step_tick}
 use Rattle.tsp_run.proofs.NetworkLemmas.{some_same}
 use Rattle.tsp_run.proofs.PostPlaces.{length-posts}
 use Rattle.tsp_cli.proofs.ClaimedPosts.{ArePosts, SamePost, get-ArePosts}
-use Rattle.tsp_cli.proofs.EachLine.{each_event}
-use Rattle.tsp_cli.proofs.Happens.{acts_by, takes-or, taking, taking_row, taking_step}
+use Rattle.tsp_run.proofs.EachLine.{each_event}
+use Rattle.tsp_run.proofs.Happens.{acts_by, takes-or, taking, taking_row, taking_step}
 use Rattle.tsp_cli.proofs.RunClaims.{accepted_before, told_are}
 
 -- entries stay where more follow

@@ -20,8 +20,8 @@ use Rattle.tsp_rules.specs.GateRows.{boots_all}
 use Rattle.tsp_run.specs.Ranges.{Accepted}
 use Rattle.tsp_run.specs.Run.{Happening, boot_step, joins, run, step_tick}
 use Rattle.tsp_run.proofs.CalmPorts.{AreCalm}
-use Rattle.tsp_cli.proofs.EachLine.{IsCause, each_event}
-use Rattle.tsp_cli.proofs.Happens.{boot_acts, steps-are}
+use Rattle.tsp_run.proofs.EachLine.{IsCause, each_event}
+use Rattle.tsp_run.proofs.Happens.{boot_acts, steps-are}
 use Rattle.tsp_cli.proofs.RunClaims.{accepted_before}
 
 -- a line is of no boot with this word

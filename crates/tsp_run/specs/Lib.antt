@@ -1,5 +1,6 @@
 pub mod GatewayRun
 pub mod Networks
+pub mod Premised
 pub mod Promises
 pub mod Ranges
 pub mod Refusals

@@ -1,4 +1,5 @@
 //! What is true of every schedule: laws, which do nothing.
+ghost use Rattle.tsp_run.specs.Premised.{RunsKeepPremises};
 ghost use Rattle.tsp_run.specs.Setting.{EachIsSet, RunsFit, RunsKeepPromises};
 ghost use Rattle.tsp_run.specs.GatewayRun.{JoinsTwoNetworks};
 
@@ -11,6 +12,12 @@ pub fn runs_fit()
 /// The history of every schedule keeps the promises, each under the premises that it needs.
 pub fn runs_keep_promises()
     ensures { RunsKeepPromises }
+{}
+
+/// The premises of the promises hold of a run where they hold of the text of its schedule, which a
+/// reader sees with his own eyes.
+pub fn runs_keep_premises()
+    ensures { RunsKeepPremises }
 {}
 
 /// Every header has a setting, of which the two laws before speak.

@@ -13,7 +13,7 @@ use Rattle.tsp_codec.specs.Taken.{taken_of}
 use Rattle.tsp_rules.specs.GateRows.{GotOn, NodeTurn, answers_all, boots_all}
 use Rattle.tsp_rules.specs.NodeRows.{NodeRow}
 use Rattle.tsp_run.specs.Run.{boot_step, joins, run, step_tick}
-use Rattle.tsp_cli.proofs.Happens.{acts_by, steps-are, takes-or, taking, taking_row, taking_step}
+use Rattle.tsp_run.proofs.Happens.{acts_by, steps-are, takes-or, taking, taking_row, taking_step}
 
 -- every line of a step has a property, whatever it does and whatever was before
 abbrev pub AllLines : (Line → List Line → Type 0) → Step → ℕ → Type 0

@@ -1,0 +1,95 @@
+-- Where each take comes early enough, no datagram of the run lives too long.
+use Rattle.std.specs.Prelude.{◌≡◌, ◌≤◌, ℕ, zero, suc, ◌+◌, true, List, [], ◌∷◌, ◌++◌, length, Option, None, Some, slice_get, refl}
+use Rattle.std.proofs.Common.{ap, ◌∙◌, sym, subst, inl, inr}
+use Rattle.tsp_base.specs.declared.act.Act.TheVariants.{Post}
+use Rattle.tsp_base.specs.declared.act.Placed.{Placed}
+use Rattle.tsp_base.specs.declared.constants.TheConstants.{LIFE}
+use Rattle.tsp_base.specs.declared.datagram.Datagram.{Datagram}
+use Rattle.tsp_base.specs.declared.event.Event.{Event}
+use Rattle.tsp_base.specs.declared.event.Event.TheVariants.{Boot as BootAt, Turn, Take, Bytes}
+use Rattle.tsp_base.specs.declared.place.Place.{Place}
+use Rattle.tsp_base.specs.declared.place.Port.{Port}
+use Rattle.tsp_base.specs.Headers.{HeaderValue}
+use Rattle.tsp_base.specs.History.{Acts, Begins, Came, Deed, Line, Step, dids}
+use Rattle.tsp_base.specs.Joins.{first_port, joined, line_of, stepped}
+use Rattle.tsp_base.specs.Places.{Within}
+use Rattle.tsp_promises.specs.Premises.{Life, TakenWithinAt}
+use Rattle.tsp_base.specs.Takings.{posted}
+use Rattle.tsp_base.proofs.PlaceLemmas.{Within-none}
+use Rattle.tsp_run.specs.declared.posted.Posted.{Posted}
+use Rattle.tsp_run.specs.Premised.{IsPrompt, Prompt}
+use Rattle.tsp_run.specs.Run.{joins, posted_in, posts, run, step_tick}
+use Rattle.tsp_run.proofs.NetworkLemmas.{some_same}
+use Rattle.tsp_run.proofs.PostPlaces.{length-posts}
+use Rattle.tsp_run.proofs.EachLine.{each_event}
+use Rattle.tsp_run.proofs.Happens.{acts_by, takes-or, taking, taking_row, taking_step}
+
+-- entries stay where more follow
+get-front : {A : Type 0} (xs ys : List A) (k : ℕ) (p : A) → slice_get xs k ≡ Some p → slice_get (xs ++ ys) k ≡ Some p
+get-front [] ys k p e = let bad : ⊥ = cc in absurd bad
+get-front (x ∷ xs) ys zero p e = e
+get-front (x ∷ xs) ys (suc k) p e = get-front xs ys k p e
+
+get-end : {A : Type 0} (xs : List A) (y : A) → slice_get (xs ++ y ∷ []) (length xs) ≡ Some y
+get-end [] y = refl
+get-end (x ∷ xs) y = get-end xs y
+
+-- the post with this number, and its time
+record PostedAt (h : List Line) (k at : ℕ) : Type 0 where
+  pub post : Posted
+  pub there : slice_get (posts h) k ≡ Some post
+  pub at_is : post.at ≡ at
+
+posted-last : (before : List Line) (port : Port) (step : Step) (deed : Deed) (to : Place) (datagram : Datagram) → deed ≡ Acts (Post to datagram) → (p : Posted) × (slice_get (posts before ++ posted_in port step deed) (posted (dids before)) ≡ Some p) × (p.at ≡ step.at)
+posted-last before port step deed to datagram is =
+    let p : Posted = record { at = step.at; from = step.node; port = port; to = to; datagram = datagram } in
+    subst (λ d. (p : Posted) × (slice_get (posts before ++ posted_in port step d) (posted (dids before)) ≡ Some p) × (p.at ≡ step.at)) (sym is)
+    (p, ap (λ k. slice_get (posts before ++ p ∷ []) k) (sym (length-posts before)) ∙ get-end (posts before) p, refl)
+
+-- a line that posts is found by its number
+posted-at : (h : List Line) (post : Line) (older : List Line) (to : Place) (datagram : Datagram) → Within (post ∷ older) h → post.did.deed ≡ Acts (Post to datagram) → PostedAt h (posted (dids older)) post.did.step.at
+posted-at [] post older to datagram w is = Within-none post older w
+posted-at (l ∷ before) post older to datagram (inl e) is =
+    let line : l ≡ post = cc in
+    let rest : before ≡ older = cc in
+    let last = posted-last before l.port l.did.step l.did.deed to datagram (ap (λ (k : Line). k.did.deed) line ∙ is) in
+    subst (λ (k : Line). PostedAt (l ∷ before) (posted (dids older)) k.did.step.at) line
+    (subst (λ b. PostedAt (l ∷ before) (posted (dids b)) l.did.step.at) rest (record { post = last.0; there = last.1; at_is = last.2 }))
+posted-at (l ∷ before) post older to datagram (inr w) is =
+    let a = posted-at before post older to datagram w is in
+    record { post = a.post; there = get-front (posts before) (posted_in l.port l.did.step l.did.deed) (posted (dids older)) a.post a.there; at_is = a.at_is }
+
+-- a line of a step that takes an early post
+early-line : (step : Step) (x k : ℕ) (q : Posted) (port : Port) (deed : Deed) (w : List Line) → step.cause ≡ Came k → slice_get (posts w) k ≡ Some q → step.at ≤ q.at + LIFE → TakenWithinAt LIFE (line_of step x port deed) w
+early-line step x k q port deed w cause there early post older to datagram within is came =
+    let a = posted-at w post older to datagram within is in
+    let number : k ≡ posted (dids older) = cc in
+    let same : q ≡ a.post = some_same (sym there ∙ subst (λ m. slice_get (posts w) m ≡ Some a.post) (sym number) a.there) in
+    subst (λ t. step.at ≤ t + LIFE) (ap (λ (p : Posted). p.at) same ∙ a.at_is) early
+
+life-joined : (step : Step) (x k : ℕ) (q : Posted) (acts : List Placed) (w : List Line) → step.cause ≡ Came k → slice_get (posts w) k ≡ Some q → step.at ≤ q.at + LIFE → Life w → Life (joined step x acts w)
+life-joined step x k q [] w cause there early life = life
+life-joined step x k q (p ∷ rest) w cause there early life =
+    life-joined step x k q rest (line_of step x p.port (Acts p.act) ∷ w) cause (get-front (posts w) (posted_in p.port step (Acts p.act)) k q there) early (early-line step x k q p.port (Acts p.act) w cause there early, life)
+
+life-stepped : (step : Step) (x k : ℕ) (q : Posted) (acts : List Placed) (w : List Line) → step.cause ≡ Came k → slice_get (posts w) k ≡ Some q → step.at ≤ q.at + LIFE → Life w → Life (stepped step x acts w)
+life-stepped step x k q acts w cause there early life =
+    life-joined step x k q acts (line_of step x first_port Begins ∷ w) cause (get-front (posts w) [] k q there) early (early-line step x k q first_port Begins w cause there early, life)
+
+module _ (header : HeaderValue) (before : List Event) (life : Life (run header before)) where
+  life-event : (e : Event) → IsPrompt header before e → Life (run header (e ∷ before))
+  life-event (BootAt at node word) early = each_event (TakenWithinAt LIFE) header before life (BootAt at node word) (λ step x c port deed h post older to datagram within is came. let cause = c.1 in let no : ⊥ = cc in absurd no)
+  life-event (Turn at node) early = each_event (TakenWithinAt LIFE) header before life (Turn at node) (λ step x c port deed h post older to datagram within is came. let no : ⊥ = cc in absurd no)
+  life-event (Bytes at node port from octets) early = each_event (TakenWithinAt LIFE) header before life (Bytes at node port from octets) (λ step x c port deed h post older to datagram within is came. let no : ⊥ = cc in absurd no)
+  life-event (Take at k) early = elim (takes-or header (run header before) at k) [
+    | inl a ↦
+        let step = taking_step at k a.to in
+        subst (λ o. Life (joins o (run header before))) (sym (taking header (run header before) at k a))
+        (life-stepped step (step_tick header step) k a.post (acts_by header (run header before) (taking_row a.post a.to) step) (run header before) refl a.there (early a.post a.there) life)
+    | inr nothing ↦ subst (λ o. Life (joins o (run header before))) (sym nothing.1) life
+  ]
+
+-- so it is with each run
+pub prompt-life : (header : HeaderValue) (events : List Event) → Prompt header events → Life (run header events)
+prompt-life header [] k = tt
+prompt-life header (e ∷ before) k = life-event header before (prompt-life header before k.1) e k.0

@@ -1,0 +1,90 @@
+-- Where no event hands a node octets as a peer's, the run is honest.
+use Rattle.std.specs.Prelude.{◌≡◌, ◌≢◌, ℕ, Bool, true, false, List, [], ◌∷◌, ◌++◌, None, Some, refl}
+use Rattle.std.proofs.Common.{sym, subst, true≢false}
+use Rattle.std.proofs.lemmas.List.Elements.{All-tail}
+use Rattle.tsp_base.specs.declared.act.Act.{Act}
+use Rattle.tsp_base.specs.declared.act.Act.TheVariants.{Took}
+use Rattle.tsp_base.specs.declared.act.Placed.{Placed}
+use Rattle.tsp_base.specs.declared.datagram.Taken.{Taken}
+use Rattle.tsp_base.specs.declared.event.Event.{Event}
+use Rattle.tsp_base.specs.declared.event.Event.TheVariants.{Boot as BootAt, Turn, Take, Bytes}
+use Rattle.tsp_base.specs.declared.place.PeerId.{PeerId}
+use Rattle.tsp_base.specs.declared.place.Place.{Place}
+use Rattle.tsp_base.specs.declared.place.Place.TheVariants.{Peer, Stranger}
+use Rattle.tsp_base.specs.declared.place.Port.{Port}
+use Rattle.tsp_base.specs.Headers.{HeaderValue, IsHeader}
+use Rattle.tsp_base.specs.History.{Acts, Handed, Line, Step}
+use Rattle.tsp_base.specs.Joins.{joined, line_of, stepped}
+use Rattle.tsp_promises.specs.Premises.{Honest, HonestAt}
+use Rattle.tsp_codec.specs.Taken.{taken_of}
+use Rattle.tsp_rules.proofs.FewActs.{is_calm_act}
+use Rattle.tsp_rules.specs.Strangers.{is_stranger}
+use Rattle.tsp_rules.specs.GateRows.{GotOn, answers_all}
+use Rattle.tsp_run.specs.Premised.{IsSealed, Sealed}
+use Rattle.tsp_run.specs.Ranges.{Accepted, IsInRange}
+use Rattle.tsp_run.specs.Refusals.{refusal, scene}
+use Rattle.tsp_run.specs.Run.{Happening, joins, run, step_tick}
+use Rattle.tsp_run.proofs.CalmPorts.{AreCalm}
+use Rattle.tsp_run.proofs.EachLine.{each_event}
+use Rattle.tsp_run.proofs.Happens.{acts_by, got_acts, steps-are}
+use Rattle.tsp_run.proofs.RefusalLemmas.{handed-port, refusal-none}
+
+-- what was accepted before the last event
+pub accepted_before : (header : HeaderValue) (e : Event) (before : List Event) → Accepted header (e ∷ before) → Accepted header before
+accepted_before header e before a = record { header_is = a.header_is; ranges = All-tail IsInRange e before a.ranges; valid = a.valid.1 }
+
+-- no act takes anything as a peer's
+abbrev TakeNone : List Placed → Type 0
+TakeNone [] = Unit {0}
+TakeNone (a ∷ rest) = ((p : PeerId) (t : Taken) → Acts a.act ≢ Acts (Took (Peer p) t)) × TakeNone rest
+
+calm-takes : (strange : Bool) (a : Act) (from : Place) (t : Taken) → is_calm_act strange true a ≡ true → Acts a ≢ Acts (Took from t)
+calm-takes strange a from t calm e =
+    let same : a ≡ Took from t = cc in
+    true≢false (sym (subst (λ k. is_calm_act strange true k ≡ true) same calm))
+
+-- nor do these acts, before such
+take-none : (strange : Bool) (n : ℕ) (acts more : List Placed) → AreCalm strange n acts → TakeNone more → TakeNone (acts ++ more)
+take-none strange n [] more c k = k
+take-none strange n (a ∷ acts) more c k = ((λ p t. calm-takes strange a.act (Peer p) t c.1), take-none strange n acts more c.2 k)
+
+take-none-all : (strange : Bool) (n : ℕ) (acts : List Placed) → AreCalm strange n acts → TakeNone acts
+take-none-all strange n [] c = tt
+take-none-all strange n (a ∷ acts) c = ((λ p t. calm-takes strange a.act (Peer p) t c.1), take-none-all strange n acts c.2)
+
+-- what a stranger sends is no peer's
+stranger-takes : (from : Place) (t : Taken) (p : PeerId) (u : Taken) → is_stranger from ≡ true → Acts (Took from t) ≢ Acts (Took (Peer p) u)
+stranger-takes from t p u strange e =
+    let same : from ≡ Peer p = cc in
+    true≢false (sym (subst (λ f. is_stranger f ≡ true) same strange))
+
+honest-joined : (step : Step) (x : ℕ) (acts : List Placed) (h : List Line) → TakeNone acts → Honest h → Honest (joined step x acts h)
+honest-joined step x [] h none e = e
+honest-joined step x (a ∷ rest) h none e = honest-joined step x rest (line_of step x a.port (Acts a.act) ∷ h) none.1 ((λ c. none.0), e)
+
+honest-stepped : (step : Step) (x : ℕ) (acts : List Placed) (h : List Line) → TakeNone acts → Honest h → Honest (stepped step x acts h)
+honest-stepped step x acts h none e = honest-joined step x acts _ none ((λ c p t bad. let no : ⊥ = cc in no), e)
+
+unforged : (at node : ℕ) (port : Port) (from : Place) (octets : List ℕ) → IsSealed (Bytes at node port from octets) → is_stranger from ≡ true
+unforged at node port (Peer p) octets e = absurd e
+unforged at node port Stranger octets e = refl
+
+module _ {header : HeaderValue} (is : IsHeader header) (before : List Event) (honest : Honest (run header before)) where
+  honest-event : (e : Event) → refusal (scene header before) e ≡ None → IsSealed e → Honest (run header (e ∷ before))
+  honest-event (BootAt at node word) none f = each_event HonestAt header before honest (BootAt at node word) (λ step x c port deed h handed. let is = c.1 in let no : ⊥ = cc in absurd no)
+  honest-event (Turn at node) none f = each_event HonestAt header before honest (Turn at node) (λ step x c port deed h handed. let no : ⊥ = cc in absurd no)
+  honest-event (Take at k) none f = each_event HonestAt header before honest (Take at k) (λ step x c port deed h handed. let no : ⊥ = cc in absurd no)
+  honest-event (Bytes at node port from octets) none f =
+      let step : Step = record { at = at; node = node; cause = Handed } in
+      let has = handed-port (scene header before) at node port from octets (refusal-none (scene header before) (Bytes at node port from octets) none).node in
+      let once = got_acts is (run header before) step port from (taken_of octets) has in
+      let strange = unforged at node port from octets f in
+      let rest : TakeNone (record { port = port; act = Took from (taken_of octets) } ∷ once.after) = ((λ p t. stranger-takes from (taken_of octets) p t strange), take-none-all _ _ once.after once.calm_after) in
+      subst (λ (h : Happening). Honest (joins (Some h) (run header before))) (sym (steps-are header (run header before) (answers_all (GotOn port from (taken_of octets))) step))
+      (honest-stepped step (step_tick header step) (acts_by header (run header before) (answers_all (GotOn port from (taken_of octets))) step) (run header before)
+      (subst TakeNone (sym once.is) (take-none _ _ once.before _ once.calm_before rest)) honest)
+
+-- so is each run
+pub sealed-honest : (header : HeaderValue) (events : List Event) → Accepted header events → Sealed events → Honest (run header events)
+sealed-honest header [] a h = tt
+sealed-honest header (e ∷ before) a h = honest-event a.header_is before (sealed-honest header before (accepted_before header e before a) h.1) e a.valid.0 h.0

@@ -1,0 +1,72 @@
+-- What the promises ask, said of the text of a schedule: its header and its events, of which the newest is the first.
+use Rattle.std.specs.Prelude.{◌≡◌, ◌≢◌, ◌<◌, ◌≤◌, ℕ, ◌+◌, List, [], ◌∷◌, length, Some, slice_get}
+use Rattle.tsp_base.specs.declared.constants.TheConstants.{LIFE}
+use Rattle.tsp_base.specs.declared.event.Event.{Event}
+use Rattle.tsp_base.specs.declared.event.Event.TheVariants.{Boot, Turn, Take, Bytes}
+use Rattle.tsp_base.specs.declared.place.Place.TheVariants.{Peer, Stranger}
+use Rattle.tsp_base.specs.Headers.{HeaderValue}
+use Rattle.tsp_base.specs.History.{Line}
+use Rattle.tsp_promises.specs.Dated.{Dated}
+use Rattle.tsp_promises.specs.Looped.{Looped}
+use Rattle.tsp_promises.specs.OneWinner.{OneWinner}
+use Rattle.tsp_promises.specs.Premises.{Few, Honest, Life, OwnWords, Words}
+use Rattle.tsp_promises.specs.Setting.{Setting}
+use Rattle.tsp_run.specs.declared.posted.Posted.{Posted}
+use Rattle.tsp_run.specs.Ranges.{Accepted}
+use Rattle.tsp_run.specs.Run.{posts, run}
+
+-- an event hands a node no octets as a peer's
+abbrev pub IsSealed : Event → Type 0
+IsSealed (Bytes at node port (Peer p) octets) = ⊥
+IsSealed _ = Unit {0}
+
+-- no `bytes` event has a peer as its sender
+abbrev pub Sealed : List Event → Type 0
+Sealed [] = Unit {0}
+Sealed (e ∷ before) = IsSealed e × Sealed before
+
+-- an event takes no datagram that was posted more than LIFE before it
+abbrev pub IsPrompt : HeaderValue → List Event → Event → Type 0
+IsPrompt header before (Take at k) = (p : Posted) → slice_get (posts (run header before)) k ≡ Some p → at ≤ p.at + LIFE
+IsPrompt header before _ = Unit {0}
+
+-- no `take` comes more than LIFE after the event in whose line its datagram was posted
+abbrev pub Prompt : HeaderValue → List Event → Type 0
+Prompt header [] = Unit {0}
+Prompt header (e ∷ before) = IsPrompt header before e × Prompt header before
+
+-- an event is no boot with this word
+abbrev pub BootsOtherwise : ℕ → Event → Type 0
+BootsOtherwise w (Boot at node word) = word ≢ w
+BootsOtherwise w _ = Unit {0}
+
+-- none of these events is
+abbrev pub AllBootOtherwise : ℕ → List Event → Type 0
+AllBootOtherwise w [] = Unit {0}
+AllBootOtherwise w (e ∷ before) = BootsOtherwise w e × AllBootOtherwise w before
+
+-- a boot has another word than each boot before it
+abbrev pub IsApart : Event → List Event → Type 0
+IsApart (Boot at node word) before = AllBootOtherwise word before
+IsApart _ before = Unit {0}
+
+-- no two `boot` events have one word
+abbrev pub Apart : List Event → Type 0
+Apart [] = Unit {0}
+Apart (e ∷ before) = IsApart e before × Apart before
+
+-- fewer than 32,768 datagrams were posted: no line `post` of the trace has the number 32,767
+abbrev pub Short : HeaderValue → List Event → Type 0
+Short header events = length (posts (run header events)) < 32768
+
+-- the premises of the promises hold of a run where they hold of its text
+pub record KeptByText (header : HeaderValue) (events : List Event) : Type 0 where
+  pub honest : Sealed events → Honest (run header events)
+  pub life : Prompt header events → Life (run header events)
+  pub words : Apart events → Words (run header events)
+  pub own_words : Apart events → OwnWords (run header events)
+  pub few : Short header events → Few (run header events)
+
+-- whatever the schedule
+abbrev pub RunsKeepPremises : Type 0
+RunsKeepPremises = (header : HeaderValue) (events : List Event) → Accepted header events → KeptByText header events
