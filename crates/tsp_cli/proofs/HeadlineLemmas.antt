@@ -15,6 +15,7 @@ use Rattle.tsp_replay.specs.Schedules.{Reaches}
 use Rattle.tsp_replay.specs.Traces.{written_at, trace}
 use Rattle.tsp_run.specs.Ranges.{Accepted, IsInRange}
 use Rattle.tsp_run.specs.Refusals.{Valid}
+use Rattle.tsp_run.proofs.RunPremises.{runs-keep-premises}
 use Rattle.tsp_run.proofs.RunPromises.{runs-keep-promises}
 use Rattle.tsp_lines.specs.declared.limits.TheConstants.{MOST_INPUT}
 use Rattle.tsp_lines.specs.Lines.{NoFeed, AreLines, IsInput, IsOver}
@@ -77,7 +78,7 @@ done_prints (Ended header events) input left written now lines octets text said 
     let all : text ++ said ≡ trace header events = ap (λ l. text ++ l) s ∙ append-nil text ∙ t in
     let is : IsSchedule octets header events = (lines, n, a, r) in
     let accepted : Accepted header events = record { header_is = IsSchedule-header octets header events is; ranges = valid.1; valid = valid.0 } in
-    (header, events, octets, i, is, accepted, o, subst (λ l. Grows written now l) all g, λ setting set. runs-keep-promises header setting events set accepted)
+    (header, events, octets, i, is, accepted, o, subst (λ l. Grows written now l) all g, (λ setting set. runs-keep-promises header setting events set accepted), runs-keep-premises header events accepted)
 
 -- a replay that ends well printed the history of a schedule
 pub Comes-prints : (input left written now : Option (List ℕ)) → Comes replaying MOST_INPUT input left written now Done → PrintsHistory input left written now

@@ -6,9 +6,7 @@ pub mod CommandLemmas
 pub mod HeadlineLemmas
 pub mod LinesFit
 mod RunClaims
-mod RunHonest
 pub mod RunLemmas
-mod RunLife
-mod RunWords
 pub mod Statuses
+mod TextPremises
 pub mod Verdict

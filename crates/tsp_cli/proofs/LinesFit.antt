@@ -35,7 +35,8 @@ use Rattle.tsp_world.proofs.SetupLemmas.{some_port}
 use Rattle.tsp_cli.proofs.ActsFit.{ActsFit, begun-after, calm-untaken, calm_fit, calm_fit_all, tallied, told_fit, took-after, wants-none, wants_tallied}
 use Rattle.tsp_cli.proofs.ClaimedPosts.{SamePost, get-ArePosts, length-ArePosts}
 use Rattle.tsp_run.proofs.Happens.{acts_by, boot_acts, got_acts, ports_in, steps-are, taken_in, takes-or, taking, taking_row, taking_step, turn_acts}
-use Rattle.tsp_cli.proofs.RunClaims.{AreOf, accepted_before, takes-at, told_are}
+use Rattle.tsp_run.proofs.SealedRun.{accepted_before}
+use Rattle.tsp_cli.proofs.RunClaims.{AreOf, takes-at, told_are}
 use Rattle.tsp_cli.proofs.ClaimedEvents.{length-claims}
 
 -- what was taken is what was posted

@@ -1,7 +1,6 @@
 -- What is told of a run, where it is claimed, makes the run, posts what it posts, and boots whom it boots.
 use Rattle.std.specs.Prelude.{◌≡◌, ℕ, ◌+◌, ◌==◌, Bool, true, false, ◌||◌, if◌then◌else◌, List, [], ◌∷◌, ◌++◌, length, Option, None, Some, slice_get, refl}
 use Rattle.std.proofs.Common.{ap, ◌∙◌, sym, subst, inl, inr, eqb-true, append-nil}
-use Rattle.std.proofs.lemmas.List.Elements.{All-tail}
 use Rattle.tsp_base.specs.declared.act.Act.TheVariants.{Boot}
 use Rattle.tsp_base.specs.declared.act.Placed.{Placed}
 use Rattle.tsp_base.specs.declared.event.Event.{Event}
@@ -21,10 +20,11 @@ use Rattle.tsp_codec.specs.Taken.{taken_of}
 use Rattle.tsp_cli.specs.AuditedRuns.{claims_of, last_lines}
 use Rattle.tsp_rules.specs.GateRows.{GotOn, NodeTurn, answers_all, boots_all}
 use Rattle.tsp_run.specs.Networks.{networks}
-use Rattle.tsp_run.specs.Ranges.{Accepted, IsInRange}
+use Rattle.tsp_run.specs.Ranges.{Accepted}
 use Rattle.tsp_run.specs.Refusals.{down, node_in, refusal, scene}
 use Rattle.tsp_run.specs.Run.{Happening, boot_step, goes_to, happening, joins, posts, posts_from, run, step_tick}
 use Rattle.tsp_run.proofs.RefusalLemmas.{allowed, up-down}
+use Rattle.tsp_run.proofs.SealedRun.{accepted_before}
 use Rattle.tsp_run.proofs.RunLemmas.{posts_stepped, stepped_other, stepped_own, up_joined}
 use Rattle.tsp_cli.proofs.ClaimedPosts.{ArePosts, ArePosts-append, get-ArePosts, goes-same, posts_of_acts}
 use Rattle.tsp_run.proofs.Happens.{Arrives, acts_by, boot_acts, got_acts, stepping, steps-are, takes-or, taking, taking_row, taking_step}
@@ -159,10 +159,6 @@ module _ {header : HeaderValue} (is : IsHeader header) (before : List Event) (cl
         posts_are = posts-alike header (length claims + 1) o (step_of header (posts_of header claims) (booted (events_of claims)) e (happened o)) (posts_of header claims) (run header before) s known.posts_are;
         up_is = wakes-of e none;
       })
-
--- all but the last event
-pub accepted_before : (header : HeaderValue) (e : Event) (before : List Event) → Accepted header (e ∷ before) → Accepted header before
-accepted_before header e before a = record { header_is = a.header_is; ranges = All-tail IsInRange e before a.ranges; valid = a.valid.1 }
 
 -- what is told of a run is of it
 pub told_are : (header : HeaderValue) (events : List Event) → Accepted header events → AreOf header (claims_of header events) (run header events)

@@ -21,10 +21,10 @@ use Rattle.tsp_run.specs.Ranges.{Accepted}
 use Rattle.tsp_run.specs.Run.{run}
 use Rattle.tsp_run.specs.Setting.{SetBy}
 use Rattle.tsp_run.proofs.RunPromises.{runs-keep-promises}
-use Rattle.tsp_cli.proofs.RunClaims.{accepted_before, told_are}
-use Rattle.tsp_cli.proofs.RunHonest.{honest-run}
-use Rattle.tsp_cli.proofs.RunLife.{life-run}
-use Rattle.tsp_cli.proofs.RunWords.{words-run}
+use Rattle.tsp_run.proofs.RunPremises.{runs-keep-premises}
+use Rattle.tsp_run.proofs.SealedRun.{accepted_before}
+use Rattle.tsp_cli.proofs.RunClaims.{told_are}
+use Rattle.tsp_cli.proofs.TextPremises.{apart-text, prompt-text, sealed-text}
 use Rattle.tsp_cli.proofs.ClaimedEvents.{events-claims}
 
 -- of the premises that a verdict goes by, a history keeps each that they grant
@@ -61,11 +61,13 @@ one-less premises header e before p = record {
 }
 
 granted : (premises : Premises) (header : HeaderValue) (events : List Event) → Accepted header events → Covered premises header events → Granted premises (run header events)
-granted premises header events a p = record {
-  honest = λ h. honest-run header events a (p.honest h);
-  life = λ h. life-run header events a (p.life h);
-  words = λ h. words-run header events a (p.words h);
-}
+granted premises header events a p =
+    let kept = runs-keep-premises header events a in
+    record {
+      honest = λ h. kept.honest (sealed-text events (p.honest h));
+      life = λ h. kept.life (prompt-text header events a (p.life h));
+      words = λ h. kept.words (apart-text events (p.words h));
+    }
 
 -- all parts hold of a whole run
 run-keeps : (premises : Premises) (setting : Setting) (header : HeaderValue) (events : List Event) → SetBy header setting → Accepted header events → Covered premises header events → AllKeep premises setting (claimed header (claims_of header events))

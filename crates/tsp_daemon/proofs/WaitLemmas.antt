@@ -1,6 +1,6 @@
 -- How long receives wait, turn by turn.
-use Rattle.std.specs.Prelude.{◌≡◌, ◌⊎◌, ◌<◌, ℕ, zero, suc, ◌+◌, List, [], ◌∷◌, ◌++◌, Option, None, Some, Result, Err, refl}
-use Rattle.std.proofs.Common.{ap, inr, sym, subst, ◌∙◌, append_assoc, append-nil, arith}
+use Rattle.std.specs.Prelude.{◌≡◌, ◌⊎◌, ◌<◌, ℕ, zero, suc, ◌+◌, List, [], ◌∷◌, ◌++◌, Option, None, Some, refl}
+use Rattle.std.proofs.Common.{ap, inl, inr, sym, subst, ◌∙◌, append_assoc, append-nil, arith}
 use Rattle.tsp_gateway.specs.declared.gateway.Gateway.{Gateway}
 use Rattle.tsp_gateway.specs.Dues.{IsNodeDue}
 use Rattle.tsp_gateway.specs.GatewayStands.{GatewayStands}
@@ -43,8 +43,8 @@ pub one_more_noted : (s : Session) (n : ℕ) (waits between now : Option (List �
 one_more_noted s n waits between now w one = let next : suc n ≡ n + 1 = omega arith in subst (λ k. NotesWaits s k waits now) next (more_noted s n waits between now w one)
 
 -- what is noted where a turn ends the session
-pub until_noted : (turns i : ℕ) (s : Session) {A : Type 0} (waits between now : Option (List ℕ)) (arrivals : Option (List Arrival)) (tried : Option (List Tried)) (calls : Option ℕ) (readings : Option (List ℕ)) (last : ℕ) (written : Option (List ℕ)) (end : ServeEnd) →
-    i < turns → EndsTurn (after_turns i s) arrivals tried calls readings last written end → NotesWaits s i waits between → NotesTurn {A} (after_turns i s) between now (Err end) →
+pub until_noted : (turns i : ℕ) (s : Session) (waits between now : Option (List ℕ)) (arrivals : Option (List Arrival)) (tried : Option (List Tried)) (calls : Option ℕ) (readings : Option (List ℕ)) (last : ℕ) (written : Option (List ℕ)) (end : ServeEnd) →
+    i < turns → EndsTurn (after_turns i s) arrivals tried calls readings last written end → NotesWaits s i waits between → NotesTurn (after_turns i s) between now end →
     (received : ℕ) × IsReceived turns received end × NotesWaits s received waits now
 until_noted turns i s waits between now arrivals tried calls readings last written Done less ends w n = absurd ends
 until_noted turns i s waits between now arrivals tried calls readings last written LinkFault less ends w n = (i + 1, (omega arith, omega (arith, less)), one_more_noted s i waits between now w n)
@@ -55,7 +55,7 @@ until_noted turns i s waits between now arrivals tried calls readings last writt
 ]
 
 -- a turn that noted its receive, however it ends
-pub turn_noted : {A : Type 0} (s : Session) (waits now : Option (List ℕ)) (end : ServeEnd) → NotesWait s waits now → NotesTurn {A} s waits now (Err end)
+pub turn_noted : (s : Session) (waits now : Option (List ℕ)) (end : ServeEnd) → NotesWait s waits now → NotesTurn s waits now end
 turn_noted s waits now Done n = n
 turn_noted s waits now LinkFault n = n
 turn_noted s waits now WriteFault n = n

@@ -1,5 +1,5 @@
 -- How long a daemon waits for a datagram.
-use Rattle.std.specs.Prelude.{◌≡◌, ◌⊎◌, ℕ, zero, suc, ◌-◌, min, max, List, [], ◌∷◌, ◌++◌, Option, None, Some, Result, Err}
+use Rattle.std.specs.Prelude.{◌≡◌, ◌⊎◌, ℕ, zero, suc, ◌-◌, min, max, List, [], ◌∷◌, ◌++◌, Option, None, Some}
 use Rattle.tsp_gateway.specs.Dues.{IsNodeDue}
 use Rattle.tsp_io.specs.Links.{Notes}
 use Rattle.tsp_daemon.specs.declared.end.ServeEnd.{ServeEnd}
@@ -31,7 +31,7 @@ NotesWaits s n (Some before) (Some now) = (more : List ℕ) × (now ≡ before +
 abbrev pub NotesWait : Session → Option (List ℕ) → Option (List ℕ) → Type 0
 NotesWait s waits now = (wait : ℕ) × IsWait s wait × Notes waits now wait
 
--- what a turn notes that ends so: one receive, but where there was no memory for its desk
-abbrev pub NotesTurn : {A : Type 0} → Session → Option (List ℕ) → Option (List ℕ) → Result A ServeEnd → Type 0
-NotesTurn s waits now (Err OutOfMemory) = (now ≡ waits) ⊎ NotesWait s waits now
-NotesTurn s waits now _ = NotesWait s waits now
+-- what a turn notes that ends the session so: one receive, but where there was no memory for its desk
+abbrev pub NotesTurn : Session → Option (List ℕ) → Option (List ℕ) → ServeEnd → Type 0
+NotesTurn s waits now OutOfMemory = (now ≡ waits) ⊎ NotesWait s waits now
+NotesTurn s waits now end = NotesWait s waits now

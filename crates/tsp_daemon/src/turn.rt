@@ -7,7 +7,7 @@ ghost use Rattle.tsp_gateway.specs.Rooms.{ports_in, room_of_ports};
 ghost use Rattle.tsp_daemon.specs.Ends.{IsAt, Lives, EndsTurn, FinishesUntil, TriesAll};
 ghost use Rattle.tsp_daemon.specs.Posts.{AreKnown, sends_of, shown_lines};
 ghost use Rattle.tsp_daemon.specs.Sessions.{Session, turned};
-ghost use Rattle.tsp_daemon.specs.Waits.{NotesTurn};
+ghost use Rattle.tsp_daemon.specs.Waits.{NotesTurn, NotesWait};
 
 use crate::counters::Counters;
 use crate::end::ServeEnd;
@@ -83,7 +83,8 @@ pub(crate) fn turn<K: Sink, L: Link, T: Ticker>(
     ensures waits { (s : Session)
         → IsAt s node.old course.old (L.arrivals link.old) (L.tried link.old) (L.calls link.old)
         (T.readings ticker.old) (T.last ticker.old) (K.written sink.old)
-        → NotesTurn s (L.waits link.old) (L.waits link.new) result }
+        → MatchResult result (λ _. NotesWait s (L.waits link.old) (L.waits link.new))
+        (NotesTurn s (L.waits link.old) (L.waits link.new)) }
     ensures same { (L.binds link.new ≡ L.binds link.old)
         × (T.left_at_wall ticker.new ≡ T.left_at_wall ticker.old) }
     ensures lives { OnOk result (Lives node.new) }

@@ -6,6 +6,7 @@ pub mod FitsLines
 pub mod GatewayRunTold
 pub mod Happens
 pub mod HeaderLines
+mod NamesRun
 pub mod NetworkLemmas
 pub mod PostPlaces
 pub mod PromptRun

@@ -2,6 +2,7 @@
 use Rattle.tsp_run.specs.Premised.{KeptByText, RunsKeepPremises}
 use Rattle.tsp_run.specs.Run.{run}
 use Rattle.tsp_run.proofs.ApartRun.{apart-words, own-words}
+use Rattle.tsp_run.proofs.NamesRun.{names-apart}
 use Rattle.tsp_run.proofs.PromptRun.{prompt-life}
 use Rattle.tsp_run.proofs.SealedRun.{sealed-honest}
 use Rattle.tsp_run.proofs.ShortRun.{short-few}
@@ -13,4 +14,5 @@ runs-keep-premises header events a = record {
   words = λ w. apart-words header events a w;
   own_words = λ w. own-words (run header events) (apart-words header events a w);
   few = λ s. short-few (run header events) s;
+  names = λ setting set differ. names-apart header setting events set a differ;
 }

@@ -5,15 +5,13 @@ use Rattle.tsp_base.specs.declared.event.Event.{Event}
 use Rattle.tsp_base.specs.declared.event.Event.TheVariants.{Boot, Turn, Take, Bytes}
 use Rattle.tsp_base.specs.declared.place.Place.TheVariants.{Peer, Stranger}
 use Rattle.tsp_base.specs.Headers.{HeaderValue}
-use Rattle.tsp_base.specs.History.{Line}
-use Rattle.tsp_promises.specs.Dated.{Dated}
-use Rattle.tsp_promises.specs.Looped.{Looped}
-use Rattle.tsp_promises.specs.OneWinner.{OneWinner}
-use Rattle.tsp_promises.specs.Premises.{Few, Honest, Life, OwnWords, Words}
+use Rattle.tsp_promises.specs.Premises.{Few, Honest, Life, NamesApart, OwnWords, Words}
 use Rattle.tsp_promises.specs.Setting.{Setting}
 use Rattle.tsp_run.specs.declared.posted.Posted.{Posted}
 use Rattle.tsp_run.specs.Ranges.{Accepted}
 use Rattle.tsp_run.specs.Run.{posts, run}
+use Rattle.tsp_run.specs.Setting.{SetBy}
+use Rattle.tsp_run.specs.Setup.{node_line}
 
 -- an event hands a node no octets as a peer's
 abbrev pub IsSealed : Event → Type 0
@@ -59,6 +57,10 @@ Apart (e ∷ before) = IsApart e before × Apart before
 abbrev pub Short : HeaderValue → List Event → Type 0
 Short header events = length (posts (run header events)) < 32768
 
+-- no two nodes of the header have one name
+abbrev pub NamesDiffer : HeaderValue → Type 0
+NamesDiffer header = (m n : ℕ) → m < length header.nodes → n < length header.nodes → (node_line header m).name ≡ (node_line header n).name → m ≡ n
+
 -- the premises of the promises hold of a run where they hold of its text
 pub record KeptByText (header : HeaderValue) (events : List Event) : Type 0 where
   pub honest : Sealed events → Honest (run header events)
@@ -66,6 +68,7 @@ pub record KeptByText (header : HeaderValue) (events : List Event) : Type 0 wher
   pub words : Apart events → Words (run header events)
   pub own_words : Apart events → OwnWords (run header events)
   pub few : Short header events → Few (run header events)
+  pub names : (setting : Setting) → SetBy header setting → NamesDiffer header → NamesApart setting (run header events)
 
 -- whatever the schedule
 abbrev pub RunsKeepPremises : Type 0

@@ -49,6 +49,7 @@ impl World {
     ghost use Rattle.tsp_base.specs.Headers.{HeaderValue};
     ghost use Rattle.tsp_promises.specs.Setting.{Setting};
     ghost use Rattle.tsp_base.specs.declared.event.Event.{Event};
+    ghost use Rattle.tsp_run.specs.Premised.{KeptByText};
     ghost use Rattle.tsp_run.specs.Promises.{Promises};
     ghost use Rattle.tsp_run.specs.Refusals.{refusal, scene, actor, Allowed, IsRefusal};
     ghost use Rattle.tsp_run.specs.Run.{event_at, posted_time, run};
@@ -119,7 +120,7 @@ impl World {
     /// `NoDatagram` for one that was never posted, `NotUp` where the node that would act hasn't
     /// booted, `Limit` where 200,000 events are there or the node's posts might pass 1,000,000. A
     /// refusal leaves the world as it was, lack of memory too. The history of the events accepted
-    /// so far keeps the promises.
+    /// so far keeps the promises, and each premise that holds of their text holds of it.
     pub fn event(&mut self, e: &Event) -> Result<(), EventFault>
         requires time { event_at e.now ≤ 1000000000000000 }
         ensures stands { (header : HeaderValue) (events : List Event)
@@ -128,6 +129,9 @@ impl World {
         ensures promises { (header : HeaderValue) (events : List Event) (setting : Setting)
             → WorldStands header events self.old → SetBy header setting
             → OnOk result (Promises setting (run header (e.now ∷ events))) }
+        ensures premises { (header : HeaderValue) (events : List Event)
+            → WorldStands header events self.old
+            → OnOk result (KeptByText header (e.now ∷ events)) }
         ensures kept { (header : HeaderValue) (events : List Event)
             → WorldStands header events self.old
             → OnErr result (WorldStands header events self.new) }

@@ -1,4 +1,7 @@
-use Rattle.std.proofs.Common.{◌∙◌, ap, inl, inr, refl}
+use Rattle.std.proofs.Common.{◌≡◌, ◌∙◌, ap, inl, inr, refl, rules, subst, List, ◌∷◌}
+use Rattle.tsp_args.specs.Ports.{all_peers}
+use Rattle.tsp_io.specs.declared.addr.Addr.{Addr}
+use Rattle.tsp_io.specs.Links.{Notes}
 use Rattle.tsp_query.specs.Outside.{bound}
 use Rattle.tsp_query.proofs.OutsideLemmas.{NotesBind_failed, NotesBind_made, NotesBind_refused, Notes_same, Tells_bound}
 use Rattle.tsp_daemon.proofs.command.serve_words.Goals as goal
@@ -6,9 +9,11 @@ use Rattle.tsp_daemon.proofs.command.serve_words.Goals as goal
 pub returns-in-Bound-clause-serves : goal.returns-in-Bound-clause-serves
 returns-in-Bound-clause-serves g c = λ o wall word written k.
     let tells = Tells_bound o _ _ _ _ _ _ _ _ c.bind.ensures.same.0 c.bind.ensures.same.1 c.bind.ensures.counted k.tells in
+    let peers : c.as_slice.result.now ≡ c.args.words.now.local ∷ all_peers c.args.words.now.ports = search rules in
     let made = NotesBind_made _ _ _ _ c.in-Bound.is c.bind.ensures.binds in
+    let noted = subst (λ (ps : List Addr). Notes (g.L.Link.binds c.args.link.now) (g.L.Link.binds c.bind.new.self) (record { local = c.args.words.now.local; peers = ps })) peers made in
     inr (
-      Notes_same _ _ _ _ c.serve_bound.ensures.same made,
+      Notes_same _ _ _ _ c.serve_bound.ensures.same noted,
       c.serve_bound.ensures.walled o.readings k.tells.readings_are,
       rw (← c.bind.ensures.same.2) (c.serve_bound.ensures.serves (bound o) wall word written (record { tells = tells; wall_is = k.wall_is; word_is = k.word_is; written_is = k.written_is })),
     )
@@ -25,8 +30,8 @@ returns-in-Failed-clause-serves g c = λ o wall word written k. inl (
   })),
 )
 
-pub returns-in-OutOfMemory-clause-serves : goal.returns-in-OutOfMemory-clause-serves
-returns-in-OutOfMemory-clause-serves g c = λ o wall word written k. inl (
+pub returns-clause-serves : goal.returns-clause-serves
+returns-clause-serves g c = λ o wall word written k. inl (
   NotesBind_refused _ _ _ _ c.in-OutOfMemory.is c.bind.ensures.binds,
   refl,
   inr (inl (record {
@@ -37,5 +42,5 @@ returns-in-OutOfMemory-clause-serves g c = λ o wall word written k. inl (
   })),
 )
 
-pub returns-clause-serves : goal.returns-clause-serves
-returns-clause-serves g c = λ o wall word written k. inl (refl, refl, inl (record { cause = refl; tells = k.tells; written_is = k.written_is; unwaited = refl }))
+pub returns-in_default-clause-serves : goal.returns-in_default-clause-serves
+returns-in_default-clause-serves g c = λ o wall word written k. inl (refl, refl, inl (record { cause = refl; tells = k.tells; written_is = k.written_is; unwaited = refl }))

@@ -19,7 +19,7 @@ finish-requires-clause-known g c =
 pub returns-in-Err-clause-turns : goal.returns-in-Err-clause-turns
 returns-in-Err-clause-turns g c s at =
     let ok : c.recv-received.result ≡ Failed → ⊥ = search rules in
-    let w = waits_is s.past.ports s.outside _ _ _ _ _ _ _ _ _ _ _ _ _ _ _ _ _ _ at.tells c.tick-first.ensures.takes c.tick-first.ensures.last c.recv-received.ensures.receives ok c.recv-received.ensures.same c.recv-received.ensures.counted c.tick-tick.ensures.takes c.tick-tick.ensures.last in
+    let w = waits_is s.past.ports s.outside _ _ _ _ _ _ _ _ _ _ _ _ _ _ _ _ _ _ at.tells c.tick-first.ensures.takes c.tick-first.ensures.last c.recv-received.ensures.receives ok c.recv-received.ensures.same.0 c.recv-received.ensures.counted c.tick-tick.ensures.takes c.tick-tick.ensures.last in
     let row = subst (λ (ps : List Placed). PerformsAll GatewayBegun GatewayStands (answers_all (given_by (setups_in c.args.node.now) c.recv-received.result c.recv-received.new.buf)) c.tick-tick.result c.args.node.now c.step.new.node [] ps) (sym c.acts-acts.ensures) c.step.ensures.row in
     let steps = steps_is s _ _ c.args.course.now _ _ _ _ _ _ _ _ _ _ _ _ at.stands at.turns_is at.posts_is w row (c.tracing-before.ensures.past s.past at.stands) c.tracing.ensures.past c.is_shown-shown.ensures in
     ends_is s _ c.args.course.now _ _ _ _ _ _ _ _ _ _ _ _ _ _ _ c.in-Err.end at.written_is w steps c.finish.ensures.same.0 c.finish.ensures.same.1 c.in-Err.ensures.err
@@ -27,7 +27,7 @@ returns-in-Err-clause-turns g c s at =
 pub returns-clause-turns : goal.returns-clause-turns
 returns-clause-turns g c s at =
     let ok : c.recv-received.result ≡ Failed → ⊥ = search rules in
-    let w = waits_is s.past.ports s.outside _ _ _ _ _ _ _ _ _ _ _ _ _ _ _ _ _ _ at.tells c.tick-first.ensures.takes c.tick-first.ensures.last c.recv-received.ensures.receives ok c.recv-received.ensures.same c.recv-received.ensures.counted c.tick-tick.ensures.takes c.tick-tick.ensures.last in
+    let w = waits_is s.past.ports s.outside _ _ _ _ _ _ _ _ _ _ _ _ _ _ _ _ _ _ at.tells c.tick-first.ensures.takes c.tick-first.ensures.last c.recv-received.ensures.receives ok c.recv-received.ensures.same.0 c.recv-received.ensures.counted c.tick-tick.ensures.takes c.tick-tick.ensures.last in
     let row = subst (λ (ps : List Placed). PerformsAll GatewayBegun GatewayStands (answers_all (given_by (setups_in c.args.node.now) c.recv-received.result c.recv-received.new.buf)) c.tick-tick.result c.args.node.now c.step.new.node [] ps) (sym c.acts-acts.ensures) c.step.ensures.row in
     let steps = steps_is s _ _ c.args.course.now _ _ _ _ _ _ _ _ _ _ _ _ at.stands at.turns_is at.posts_is w row (c.tracing-before.ensures.past s.past at.stands) c.tracing.ensures.past c.is_shown-shown.ensures in
     let sent = c.in_default.ensures.ok in

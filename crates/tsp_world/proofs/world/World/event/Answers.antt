@@ -6,6 +6,7 @@ use Rattle.tsp_world.specs.declared.world.World.{World}
 use Rattle.tsp_run.specs.Refusals.{scene, refusal}
 use Rattle.tsp_world.specs.WorldStands.{scene_of, WorldStands}
 use Rattle.tsp_run.proofs.RefusalLemmas.{refusal-alike}
+use Rattle.tsp_run.proofs.RunPremises.{runs-keep-premises}
 use Rattle.tsp_run.proofs.RunPromises.{runs-keep-promises}
 use Rattle.tsp_world.proofs.WorldLemmas.{Alike-stands, accepted}
 use Rattle.tsp_world.proofs.world.World.event.Goals as goal
@@ -33,3 +34,6 @@ returns-in-Ok-clause-fault c = λ header events w. sym (refuses header events c.
 
 pub returns-in-Ok-clause-promises : goal.returns-in-Ok-clause-promises
 returns-in-Ok-clause-promises c = λ header events setting w set. runs-keep-promises header setting (c.args.e.now ∷ events) set (accepted header (c.args.e.now ∷ events) _ (returns-in-Ok-clause-stands c header events w))
+
+pub returns-in-Ok-clause-premises : goal.returns-in-Ok-clause-premises
+returns-in-Ok-clause-premises c = λ header events w. runs-keep-premises header (c.args.e.now ∷ events) (accepted header (c.args.e.now ∷ events) _ (returns-in-Ok-clause-stands c header events w))
