@@ -274,18 +274,7 @@ impl Claims {
                 words.number()?;
                 Act::Alarm(alarm, true)
             }
-            b"sample" => {
-                let peer = self.peer(words)?;
-                words.skip(b" ")?;
-                let counter = words.number()?;
-                words.skip(b" ")?;
-                let diff = words.signed()?;
-                words.skip(b" ")?;
-                let err = words.signed()?;
-                words.skip(b" ")?;
-                words.number().filter(|ticket| *ticket < 65536)?;
-                Act::Sample { peer, counter, diff, err }
-            }
+            b"sample" => self.sample(words)?,
             b"close" => {
                 words.short()?;
                 for _ in 0..3 {
@@ -303,6 +292,19 @@ impl Claims {
             b"trace" => words.skip(b"on").or_else(|| words.skip(b"off")).map(|()| Act::Other)?,
             _ => return None,
         })
+    }
+
+    fn sample(&self, words: &mut Cursor) -> Option<Act> {
+        let peer = self.peer(words)?;
+        words.skip(b" ")?;
+        let counter = words.number()?;
+        words.skip(b" ")?;
+        let diff = words.signed()?;
+        words.skip(b" ")?;
+        let err = words.signed()?;
+        words.skip(b" ")?;
+        words.number().filter(|ticket| *ticket < 65536)?;
+        Some(Act::Sample { peer, counter, diff, err })
     }
 
     fn role(&self, words: &mut Cursor) -> Option<Role> {
