@@ -1,6 +1,7 @@
-"""Compares two programs: their replays of the examples and of what was cut off or changed in them, storms, and audits of changed traces.
+"""Compares the program with two others: its replays of the examples and of what was changed in them, storms, audits of changed traces, and
+datagrams as lines and back.
 
-Usage: plain.py PROGRAM PLAIN. The second answers with status 9 what it doesn't do; that isn't compared. The chance is the same in each run.
+Usage: plain.py PROGRAM PLAIN CODEC. The second answers with status 9 what it doesn't do; that isn't compared. The chance is the same in each run.
 """
 import random
 import re
@@ -8,7 +9,12 @@ import subprocess
 import sys
 from pathlib import Path
 
-EXAMPLES = Path(__file__).resolve().parent.parent.parent / "examples"
+ROOT = Path(__file__).resolve().parent.parent.parent
+EXAMPLES = ROOT / "examples"
+sys.path.insert(0, str(ROOT / "bench"))
+sys.dont_write_bytecode = True
+from jobs import datagram  # noqa: E402  (it lies beside the benchmarks)
+
 STORMS = ["7 64 20000", "7 3 60000", "1 1 1", "5 64 30", "11 16 5000", "18446744073709551615 5 2000", "9 2 30000"]
 WORDS = "loose master candidate follow slew step post took accept election adjtime settime ack quit refused".split()
 NOT_DONE = 9
@@ -65,8 +71,23 @@ class Beside:
             ends = [f"status {each.returncode}, {each.stdout[-80:]!r}" for each in ran]
             sys.exit(f"plain: {' '.join(words)}: {ends[0]}; the plain one: {ends[1]}; the input ends with {text[-200:]!r}")
         answer = re.sub(r"\d.*", "", ran[0].stdout.decode().rpartition("\n")[0].rpartition("\n")[2]).strip()
-        key = f"{words[0]}: {answer}" if words[0] == "audit" or ran[0].returncode else words[0]
+        key = f"{words[0]}: {answer}" if words[0] == "audit" else f"{words[0]}: bad" if ran[0].returncode else words[0]
         self.seen[key] = self.seen.get(key, 0) + 1
+
+
+def compare_texts(beside, chance):
+    """Compares what both make of datagrams in hexadecimal and of their lines, a third of which are spoiled."""
+    for number in range(260):
+        digits = datagram(number, chance.choice([3, 70, 255]), chance).hex()
+        beside.compare(["show"], spoiled(digits, "0123456789abcdefgF", chance) + "\n")
+        shown = subprocess.run([beside.programs[0], "show"], input=digits.encode(), stdout=subprocess.PIPE, check=True)
+        beside.compare(["pack"], spoiled(shown.stdout.decode().rstrip("\n"), "0123456789 -%aZ", chance) + "\n")
+
+
+def spoiled(text, letters, chance):
+    """The text, or sometimes a part of it, or with another letter."""
+    at, way = chance.randrange(len(text)), chance.randrange(6)
+    return text[:at] if way == 0 else text[:at] + chance.choice(letters) + text[at + 1:] if way == 1 else text
 
 
 def main():
@@ -82,6 +103,9 @@ def main():
             beside.compare(["audit"], "\n".join([*schedule, *with_other_message(trace, chance), ""]))
     for words in STORMS:
         beside.compare(["storm", *words.split()])
+    texts = Beside(sys.argv[1], sys.argv[3])
+    compare_texts(texts, chance)
+    beside.seen.update(texts.seen)
     print("plain: " + ", ".join(f"{count} {key}" for key, count in sorted(beside.seen.items())))
 
 
