@@ -2,7 +2,7 @@
 
 use crate::node::{ALARMS, Datagram, KINDS, LIFE, LIMIT, LOOP, NOBODY, Node, REPLY, REQUEST, Role};
 use crate::schedule::{Event, Stop, bad};
-use crate::text::{Cursor, carries_time};
+use crate::text::{Cursor, carries_time, name_octets};
 
 const MOST_LINES: usize = 20_000;
 const FAULTS: [&[u8]; 9] =
@@ -67,6 +67,7 @@ pub struct Claims {
     pub posts: Vec<Post>,
     pub premises: Premises,
     names: Vec<Vec<u8>>,
+    octets: Vec<u8>,
     words: Vec<u64>,
     up: u64,
     /// How many events were passed, and what the lines of the next one come to: whether there are any, and a Took.
@@ -90,8 +91,8 @@ impl Claims {
     pub fn new(nodes: Vec<Node>, drift: u64, events: Vec<Event>) -> Claims {
         let premises = Premises { honest: true, life: true, words: true };
         Claims {
-            nodes, drift, events, lines: Vec::new(), posts: Vec::new(), premises, names: Vec::new(), words: Vec::new(), up: 0,
-            passed: 0, begun: false, took: false,
+            nodes, drift, events, lines: Vec::new(), posts: Vec::new(), premises, names: Vec::new(), octets: Vec::new(),
+            words: Vec::new(), up: 0, passed: 0, begun: false, took: false,
         }
     }
 
@@ -274,18 +275,7 @@ impl Claims {
                 words.number()?;
                 Act::Alarm(alarm, true)
             }
-            b"sample" => {
-                let peer = self.peer(words)?;
-                words.skip(b" ")?;
-                let counter = words.number()?;
-                words.skip(b" ")?;
-                let diff = words.signed()?;
-                words.skip(b" ")?;
-                let err = words.signed()?;
-                words.skip(b" ")?;
-                words.number().filter(|ticket| *ticket < 65536)?;
-                Act::Sample { peer, counter, diff, err }
-            }
+            b"sample" => self.sample(words)?,
             b"close" => {
                 words.short()?;
                 for _ in 0..3 {
@@ -303,6 +293,19 @@ impl Claims {
             b"trace" => words.skip(b"on").or_else(|| words.skip(b"off")).map(|()| Act::Other)?,
             _ => return None,
         })
+    }
+
+    fn sample(&self, words: &mut Cursor) -> Option<Act> {
+        let peer = self.peer(words)?;
+        words.skip(b" ")?;
+        let counter = words.number()?;
+        words.skip(b" ")?;
+        let diff = words.signed()?;
+        words.skip(b" ")?;
+        let err = words.signed()?;
+        words.skip(b" ")?;
+        words.number().filter(|ticket| *ticket < 65536)?;
+        Some(Act::Sample { peer, counter, diff, err })
     }
 
     fn role(&self, words: &mut Cursor) -> Option<Role> {
@@ -364,7 +367,7 @@ impl Claims {
         if let Some(place) = self.names.iter().position(|name| name == text) {
             return Some(place as u16);
         }
-        is_name(text).then_some(())?;
+        name_octets(text, &mut self.octets)?;
         self.names.push(text.to_vec());
         u16::try_from(self.names.len() - 1).ok()
     }
@@ -373,27 +376,4 @@ impl Claims {
 fn alarm(words: &mut Cursor) -> Option<usize> {
     let word = words.word();
     ALARMS.iter().position(|alarm| alarm.as_bytes() == word)
-}
-
-/// Whether a text is that of a name.
-fn is_name(text: &[u8]) -> bool {
-    if text == b"%" {
-        return true;
-    }
-    let (mut rest, mut count) = (text, 0);
-    while let [octet, after @ ..] = rest {
-        rest = match (octet, after) {
-            (b'%', [high, low, after @ ..]) => {
-                let digit = |octet: &u8| b"0123456789abcdef".iter().position(|digit| digit == octet);
-                match (digit(high), digit(low)) {
-                    (Some(high), Some(low)) if !matches!(16 * high + low, 0 | 33..=36 | 38..=126) => after,
-                    _ => return false,
-                }
-            }
-            (33..=36 | 38..=126, after) => after,
-            _ => return false,
-        };
-        count += 1;
-    }
-    (1..=255).contains(&count)
 }

@@ -485,15 +485,7 @@ impl Node {
                 self.post_to_others(MASTERUP, desk);
             }
             (WINDOW, _) => self.give_way(tick, desk),
-            (PROBE, false) => {
-                self.probes += 1;
-                for peer in each(self.measured) {
-                    self.ask(tick, peer, desk);
-                }
-                if self.probes < 3 {
-                    self.arm(PROBE, tick, PROBE_TIME, desk);
-                }
-            }
+            (PROBE, false) => self.probe(tick, desk),
             (CLOSE, false) => self.close(tick, desk),
             (PROBE | CLOSE, true) => self.abandon(desk),
             (ALARM_RESOLVE, false) => {
@@ -504,6 +496,16 @@ impl Node {
             (ROUND, false) => self.begin_round(tick, desk),
             (ROUND, true) => self.arm(ROUND, tick, ROUND_TIME, desk),
             _ => {}
+        }
+    }
+
+    fn probe(&mut self, tick: u64, desk: &mut impl Desk) {
+        self.probes += 1;
+        for peer in each(self.measured) {
+            self.ask(tick, peer, desk);
+        }
+        if self.probes < 3 {
+            self.arm(PROBE, tick, PROBE_TIME, desk);
         }
     }
 

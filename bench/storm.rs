@@ -2,7 +2,7 @@
 
 use crate::node::{Datagram, Desk, NOBODY, Node, Of, REQUEST, Role, Sample};
 use crate::replay::{MOST_EVENTS, MOST_POSTS};
-use std::io::{self, BufWriter, Write};
+use std::io::{self, BufWriter, StdoutLock, Write};
 
 const RECENT: u64 = 20_000_000;
 
@@ -117,52 +117,78 @@ fn happen(node: &mut Node, event: &Event, desk: &mut Counts) {
     }
 }
 
+/// A storm, and where its schedule goes, if it is asked for.
+struct Storm {
+    draws: Draws,
+    nodes: Vec<Node>,
+    desk: Counts,
+    schedule: Option<BufWriter<StdoutLock<'static>>>,
+}
+
+impl Storm {
+    /// So many nodes, none of which has booted.
+    fn new(seed: u64, count: u64, writes_schedule: bool) -> io::Result<Storm> {
+        let unposted = Post { datagram: Datagram { kind: 0, name: 0, number: 0, a: 0, b: 0, c: 0 }, at: 0, from: 0, to: 0 };
+        let desk = Counts { posts: vec![unposted; 256], posted: 0, took: 0, corrects: 0, masters: 0, at: 0, node: 0 };
+        let schedule = writes_schedule.then(|| BufWriter::new(io::stdout().lock()));
+        let mut storm = Storm { draws: Draws { state: seed }, nodes: Vec::new(), desk, schedule };
+        storm.write(|schedule| schedule.write_all(b"tsp-schedule 1\ndrift 100\n"))?;
+        for own in 0..count {
+            let rate = storm.draws.below(201) as i64 - 100;
+            let wall = storm.draws.below(2_000_001) as i64 - 1_000_000;
+            storm.nodes.push(Node::new(own as u8, rate, wall, true));
+            storm.nodes[own as usize].join(count as usize, false, 0);
+            storm.write(|schedule| writeln!(schedule, "node n{own} {rate} {wall} m"))?;
+        }
+        Ok(storm)
+    }
+
+    #[inline]
+    fn write(&mut self, line: impl FnOnce(&mut BufWriter<StdoutLock<'static>>) -> io::Result<()>) -> io::Result<()> {
+        self.schedule.as_mut().map_or(Ok(()), line)
+    }
+
+    fn boot(&mut self, own: u64) -> io::Result<()> {
+        let word = self.draws.next();
+        self.nodes[own as usize].boot(0, word, &mut self.desk);
+        self.write(|schedule| writeln!(schedule, "at 0 boot {own} {word}"))
+    }
+
+    /// Lets an event more happen; false where there is no room for it.
+    fn step(&mut self, event: u64) -> io::Result<bool> {
+        let count = self.nodes.len() as u64;
+        let drawn = draw(&mut self.draws, &mut self.desk, count);
+        let is_full = self.desk.posted + 24 * count + 256 > MOST_POSTS as u64;
+        if event >= MOST_EVENTS || drawn.node != NOBODY && is_full {
+            return Ok(false);
+        }
+        if self.schedule.is_some() {
+            let at = self.desk.at;
+            self.write(|schedule| write_event(schedule, at, &drawn))?;
+        }
+        if drawn.node != NOBODY {
+            happen(&mut self.nodes[usize::from(drawn.node)], &drawn, &mut self.desk);
+        }
+        Ok(true)
+    }
+}
+
 /// Runs a storm, writes its summary or its schedule, and gives the status.
 pub fn storm(seed: u64, count: u64, events: u64, writes_schedule: bool) -> io::Result<i32> {
-    let mut draws = Draws { state: seed };
-    let mut nodes = Vec::new();
-    let mut schedule = writes_schedule.then(|| BufWriter::new(io::stdout().lock()));
-    if let Some(schedule) = &mut schedule {
-        schedule.write_all(b"tsp-schedule 1\ndrift 100\n")?;
-    }
-    for own in 0..count {
-        let rate = draws.below(201) as i64 - 100;
-        let wall = draws.below(2_000_001) as i64 - 1_000_000;
-        nodes.push(Node::new(own as u8, rate, wall, true));
-        if let Some(schedule) = &mut schedule {
-            writeln!(schedule, "node n{own} {rate} {wall} m")?;
-        }
-        nodes[own as usize].join(count as usize, false, 0);
-    }
-    let unposted = Post { datagram: Datagram { kind: 0, name: 0, number: 0, a: 0, b: 0, c: 0 }, at: 0, from: 0, to: 0 };
-    let mut desk = Counts { posts: vec![unposted; 256], posted: 0, took: 0, corrects: 0, masters: 0, at: 0, node: 0 };
-    for (own, node) in nodes.iter_mut().take(events as usize).enumerate() {
-        let word = draws.next();
-        node.boot(0, word, &mut desk);
-        if let Some(schedule) = &mut schedule {
-            writeln!(schedule, "at 0 boot {own} {word}")?;
-        }
-    }
-    let room = 24 * count + 256;
-    for event in count.min(events)..events {
-        let drawn = draw(&mut draws, &mut desk, count);
-        if event >= MOST_EVENTS || drawn.node != NOBODY && desk.posted + room > MOST_POSTS as u64 {
+    let mut storm = Storm::new(seed, count, writes_schedule)?;
+    for event in 0..events {
+        if event < count {
+            storm.boot(event)?;
+        } else if !storm.step(event)? {
             writeln!(io::stdout(), "limit {}", event + 1)?;
             return Ok(7);
         }
-        if let Some(schedule) = &mut schedule {
-            write_event(schedule, desk.at, &drawn)?;
-        }
-        if drawn.node != NOBODY {
-            happen(&mut nodes[usize::from(drawn.node)], &drawn, &mut desk);
-        }
     }
-    if let Some(mut schedule) = schedule {
-        schedule.write_all(b"end\n")?;
-        schedule.flush()?;
+    if writes_schedule {
+        storm.write(|schedule| schedule.write_all(b"end\n").and_then(|()| schedule.flush()))?;
         return Ok(0);
     }
-    let Counts { posted, took, corrects, masters, .. } = desk;
+    let Counts { posted, took, corrects, masters, .. } = storm.desk;
     writeln!(io::stdout(), "events {events} posted {posted} took {took} corrects {corrects} masters {masters}")?;
     Ok(0)
 }

@@ -444,3 +444,26 @@ pub fn decode(octets: &[u8], number_of: impl FnOnce(&[u8]) -> u16) -> Result<Dat
         _ => Err("kind"),
     }
 }
+
+/// The octets of a name, by its text, which has one spelling.
+pub fn name_octets(text: &[u8], name: &mut Vec<u8>) -> Option<()> {
+    name.clear();
+    let mut rest = text;
+    while let [octet, after @ ..] = rest {
+        let (octet, after) = match (octet, after) {
+            (b'%', [high @ (b'0'..=b'9' | b'a'..=b'f'), low @ (b'0'..=b'9' | b'a'..=b'f'), after @ ..]) => {
+                let octet = DIGITS[usize::from(*high)] << 4 | DIGITS[usize::from(*low)];
+                if matches!(octet, 0 | 33..=36 | 38..=126) {
+                    return None;
+                }
+                (octet, after)
+            }
+            (b'%', []) if name.is_empty() => return Some(()),
+            (33..=36 | 38..=126, after) => (*octet, after),
+            _ => return None,
+        };
+        name.push(octet);
+        rest = after;
+    }
+    (1..=255).contains(&name.len()).then_some(())
+}
