@@ -64,17 +64,13 @@ def forget_output():
     os.dup2(os.open(os.devnull, os.O_WRONLY), 1)
 
 
-def end_by_interrupt():
-    """Ends as one that SIGINT ends, so that a shell's loop ends too."""
-    signal.signal(signal.SIGINT, signal.SIG_DFL)
-    os.kill(os.getpid(), signal.SIGINT)
-
-
 def run(name, main):
     """Runs a tool: whatever goes wrong is a line on standard error and a status."""
+    signal.signal(signal.SIGINT, signal.default_int_handler)
     try:
         if sys.stdout is None:
             raise Fault('standard output is closed', NOT_WRITTEN)
+        sys.stdout.reconfigure(errors='backslashreplace')
         try:
             status = main()
         finally:
@@ -91,7 +87,9 @@ def run(name, main):
         status = NOT_WRITTEN
     except KeyboardInterrupt:
         forget_output()
-        end_by_interrupt()
+        # (a shell's loop ends too, where it sees that the signal did it)
+        signal.signal(signal.SIGINT, signal.SIG_DFL)
+        os.kill(os.getpid(), signal.SIGINT)
     sys.exit(status)
 
 
