@@ -52,11 +52,15 @@ def number(of, low, high, means):
     return read
 
 
+def one_line(text):
+    """A text without line feeds and other letters that can't be printed."""
+    return ''.join(letter if letter.isprintable() else '?' for letter in text)
+
+
 def say(name, text):
     """A line on standard error."""
     if sys.stderr is not None:
-        line = ''.join(letter if letter.isprintable() else '?' for letter in f'{name}: {text}')
-        print(line, file=sys.stderr)
+        print(one_line(f'{name}: {text}'), file=sys.stderr)
 
 
 def forget_output():
