@@ -125,5 +125,5 @@ for into in '>/dev/full' '>&-'; do
 done
 printf '#!/bin/sh\nexec sleep 30\n' >"$out/fake"
 ended=$(interrupted tools/tsp-now --program "$out/fake" --timeout 20 192.0.2.11)
-[ "$ended" = "(b'', b'') -2" ] || fail "an interrupt ends with $ended"
+[ "$ended" = "(b'', b'tsp-now: interrupted\\n') -2" ] || fail "an interrupt ends with $ended"
 echo "$check: forms of the time, dates that are set and handed on, and bad input"

@@ -210,11 +210,11 @@ grep -q '^TSP UNKNOWN: ' "$out/said" || fail 'a plugin with faulty words says no
 status=0
 tools/tsp-status --program "$out/fake" --file "$out/hosts" >/dev/full 2>"$out/told" || status=$?
 [ "$status" -eq 4 ] || fail "a full output ends with status $status"
-tells 'tsp-status: standard output takes nothing: No space left on device'
+tells 'tsp-status: standard output: No space left on device'
 status=0
 tools/tsp-status --program "$out/fake" --file "$out/hosts" >&- 2>"$out/told" || status=$?
 [ "$status" -eq 4 ] || fail "a closed output ends with status $status"
-tells 'tsp-status: standard output is closed'
+tells 'tsp-status: standard output: Bad file descriptor'
 ends 4 --output "$out/none/file"
 tells "tsp-status: $out/none/file: No such file or directory"
 
@@ -230,5 +230,5 @@ took=$(($(date +%s) - began))
 
 # An interrupt ends it by the signal, without a word.
 ended=$(interrupted tools/tsp-status --program "$out/fake" --file "$out/hosts" --timeout 4)
-[ "$ended" = "(b'', b'') -2" ] || fail "an interrupt ends with $ended"
+[ "$ended" = "(b'', b'tsp-status: interrupted\\n') -2" ] || fail "an interrupt ends with $ended"
 echo "$check: tables, values, faults, a plugin's statuses, and forty hosts, half of them dead, in $took s"

@@ -133,7 +133,7 @@ tells "$out/folder: Is a directory"
 status=0
 tools/tsp-watch <&- >"$out/said" 2>"$out/told" || status=$?
 [ "$status" -eq 3 ] || fail "a closed input ends with status $status"
-tells 'standard input is closed'
+tells 'standard input: Bad file descriptor'
 for words in '--all' 'a b' '--json --prometheus x' '--prometheus'; do
     # shellcheck disable=SC2086  # words
     ends 2 $words
@@ -157,11 +157,11 @@ rm "$out/huge"
 status=0
 tools/tsp-watch "$trace" >/dev/full 2>"$out/told" || status=$?
 [ "$status" -eq 4 ] || fail "a full output ends with status $status"
-tells 'standard output takes nothing: No space left on device'
+tells 'standard output: No space left on device'
 status=0
 tools/tsp-watch "$trace" >&- 2>"$out/told" || status=$?
 [ "$status" -eq 4 ] || fail "a closed output ends with status $status"
-tells 'standard output is closed'
+tells 'standard output: Bad file descriptor'
 input=$trace
 ends 4 --prometheus "$out/none/metrics"
 tells "$out/none/metrics: No such file or directory"
@@ -171,5 +171,5 @@ for _ in $(seq 500); do cat "$trace"; done >"$out/long"
 
 # An interrupt ends it by the signal, without a word.
 ended=$(interrupted tools/tsp-watch)
-[ "$ended" = "(b'', b'') -2" ] || fail "an interrupt ends with $ended"
+[ "$ended" = "(b'', b'tsp-watch: interrupted\\n') -2" ] || fail "an interrupt ends with $ended"
 echo "$check: lines, objects, metrics, a terminal, and bad input"

@@ -4,7 +4,8 @@ import subprocess
 from dataclasses import dataclass
 from typing import List
 
-from tsp_daemon.tool import BAD_FILE, Fault
+from tsp_daemon.usage import BAD_FILE
+from tsp_texts.tool import Fault
 
 LAUNCH = os.path.join(os.path.dirname(os.path.dirname(os.path.realpath(__file__))), 'tsp-launch')
 
