@@ -109,7 +109,9 @@ for line in 'tsp_host_reached{network="1",host="beta"} 1' 'tsp_host_leads{networ
     'tsp_host_error_seconds{network="1",host="beta"} 0.000452' 'tsp_spread_seconds 0.001502' '# TYPE tsp_spread_seconds gauge'; do
     grep -qxF "$line" "$out/metrics" || fail "the metrics lack $line"
 done
-[ "$(find "$out" -name '.tsp-*' | wc -l)" -eq 0 ] || fail 'something is left beside the file'
+[ "$(find "$out" -name '.metrics*' | wc -l)" -eq 0 ] || fail 'something is left beside the file'
+sed -n 's/^# TYPE \([a-z_]*\) .*/\1/p' "$out/metrics" | sort >"$out/there"
+grep -o 'tsp_host_[a-z_]*\|tsp_spread_[a-z_]*' man/tsp-status.8 | sort -u | diff - "$out/there" >"$out/differ" || fail "the page has other metrics: $(cat "$out/differ")"
 
 # A silent host is asked as often as that was asked for, and costs no more than the time that an answer is waited for.
 silence 192.0.2.12:526

@@ -84,7 +84,11 @@ for line in 'tsp_daemon_tick_seconds 830.809232' 'tsp_daemon_role{port="0",role=
     'tsp_daemon_corrections_total 1' 'tsp_daemon_late_total 0' '# TYPE tsp_daemon_late_total counter'; do
     grep -qxF "$line" "$out/metrics" || fail "the metrics lack $line"
 done
-[ "$(find "$out" -name '.tsp-*' | wc -l)" -eq 0 ] || fail 'something is left beside the file'
+[ "$(find "$out" -name '.metrics*' | wc -l)" -eq 0 ] || fail 'something is left beside the file'
+
+# The page names the metrics that there are, and no others.
+sed -n 's/^# TYPE \([a-z_]*\) .*/\1/p' "$out/metrics" | sort >"$out/there"
+grep -o 'tsp_daemon_[a-z_]*' man/tsp-watch.1 | sort -u | diff - "$out/there" >"$out/differ" || fail "the page has other metrics: $(cat "$out/differ")"
 
 # Lines come out as they come in, while the input goes on.
 mkfifo "$out/pipe"
