@@ -228,6 +228,7 @@ ends 1 -c
 took=$(($(date +%s) - began))
 [ "$took" -le 12 ] || fail "forty hosts take $took s"
 [ "$(grep -c ',n1,' "$out/said")" -eq 20 ] || fail 'not each of twenty hosts is reached'
+tells 'tsp-status: silent: n21, n22, n23, n24, n25, n26, n27, n28, n29, n30 and 10 more'
 [ ! -e "$BUSY-again" ] || fail 'clocks are asked for at the same time'
 
 # An interrupt ends it by the signal, without a word.
