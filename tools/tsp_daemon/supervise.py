@@ -61,6 +61,8 @@ class Supervisor:
             self.process = subprocess.Popen(self.words, stdin=subprocess.DEVNULL, stdout=subprocess.PIPE)
         except OSError as fault:
             raise Fault(f'{self.program}: {fault.strerror}', usage.BAD_FILE) from fault
+        if self.is_told:
+            self.process.terminate()
         threading.Thread(target=self.wait_for_answer, daemon=True).start()
         self.hand_on()
         return self.status(self.process.wait())
