@@ -2,6 +2,7 @@
 # Daemons that tsp-launch starts on this machine answer tsp-status, trace, and end as they should. (in their first 80 s, in which they are silent otherwise)
 . "$(dirname "$0")/common.sh"
 unset TSP_HOSTS TSP_SELF TSP_TURNS TSP_WAIT TSP_TRACE
+export TSP_SPREAD=0
 serving_program
 export TSP_PROGRAM="$program"
 
@@ -37,13 +38,33 @@ grep -q 'in the trace peer 0 is b, 1 a, 2 c' "$out/b.log" || fail 'the peers are
 "$program" trace "127.0.0.1:$one" off >"$out/said" || fail 'the trace is not switched off'
 [ "$(cat "$out/said")" = 'trace off' ] || fail "the trace is switched off by '$(cat "$out/said")'"
 
+# The corrected time of a daemon is still this machine's, and its state is shown by its trace.
+tools/tsp-now --offset -f "$out/hosts" b >"$out/said" || fail "tsp-now ends with status $?"
+awk '$1 < -1 || $1 > 1 { exit 1 }' "$out/said" || fail "the corrected time is ahead by $(cat "$out/said") s"
+tools/tsp-watch "$out/a.trace" >"$out/said" || fail "tsp-watch ends with status $?"
+grep -q '^[0-9.]* the trace is off$' "$out/said" || fail "the trace is shown as '$(cat "$out/said")'"
+
 # A port that is taken, and turns that are done.
 status=0
 tools/tsp-launch -f "$out/hosts" -s a >"$out/said" 2>"$out/told" || status=$?
 [ "$status" -eq 5 ] && [ ! -s "$out/said" ] || fail "a port that is taken ends with status $status"
+status=0
+tools/tsp-launch --supervise -f "$out/hosts" -s a >"$out/said" 2>"$out/told" || status=$?
+[ "$status" -eq 5 ] && grep -qx "tsp-launch: 127.0.0.1:$one can't be bound: Address already in use" "$out/told" || fail "a port that is taken ends with status $status: $(cat "$out/told")"
 echo "d 127.0.0.1:$four slave" >"$out/fourth"
 tools/tsp-launch -f "$out/fourth" -s d -t 1 >"$out/said" 2>"$out/told" || fail "a daemon whose turns are done ends with status $?"
 [ ! -s "$out/said" ] || fail 'a daemon that does not trace writes something'
+
+# A daemon that is supervised ends with 0.
+tools/tsp-launch --supervise -f "$out/fourth" -s d >"$out/said" 2>"$out/told" &
+supervised=$!
+tries=0
+until tools/tsp-now --timeout 1 -f "$out/fourth" d >"$out/said" 2>/dev/null; do
+    tries=$((tries + 1))
+    [ "$tries" -lt 10 ] || fail "a supervised daemon doesn't answer: $(cat "$out/told")"
+done
+kill "$supervised"
+wait "$supervised" || fail "a supervised daemon that is told to end ends with status $?"
 
 # One that is told to end does, and is then silent.
 kill "$first"

@@ -198,6 +198,14 @@ while [ "$count" -lt 40 ]; do
 done
 given=''
 [ "$(cat "$out/told")" = "tsp-launch: the daemon starts in $(tail -n 1 "$out/slept") s, a random part of 5 s" ] || fail "$(cat "$out/told")"
+given="SLEPT=$out/slept-long STATUS=0 WANTED=1 TSP_SPREAD="
+ends 0 -f "$hosts" -s gate -p "$out/fake"
+given=''
+grep -qx 'tsp-launch: the daemon starts in [0-9.]* s, a random part of 120 s' "$out/told" || fail "of a gateway: $(cat "$out/told")"
+given="SLEPT=$out/slept-long STATUS=0 WANTED=1 TSP_SPREAD="
+ends 0 -f "$hosts" -s beta -p "$out/fake"
+given=''
+grep -qx 'tsp-launch: the daemon starts in [0-9.]* s, a random part of 5 s' "$out/told" || fail "of a host without a spread: $(cat "$out/told")"
 awk '!/^[0-9]\.[0-9][0-9][0-9]$/ || $1 > 5 { exit 1 } $1 < 2.5 { below++ } $1 > 2.5 { above++ } END { exit !(NR == 40 && below >= 5 && above >= 5) }' "$out/slept" ||
     fail "the parts of the spread are $(paste -sd ' ' "$out/slept")"
 rm "$out/bin/sleep"

@@ -93,7 +93,7 @@ ends 1 --set @5 beta
 [ "$told" = 'tsp-now: look at the clocks with tsp-status: nobody can say whether the date was set' ] || fail "without a master it tells '$told'"
 echo 'master delta' >"$ANSWERS/msite-192.0.2.12:526"
 ends 78 --set @5 beta
-[ "$told" = 'tsp-now: delta is no host of the hosts file' ] || fail "of a stranger as master it tells '$told'"
+[ "$told" = "tsp-now: 'delta' is no host of the hosts file" ] || fail "of a stranger as master it tells '$told'"
 
 # Nobody answers, or something else does; faulty words, files and outputs.
 rm "$ANSWERS/clockdiff-192.0.2.11:525" "$ANSWERS/date-192.0.2.11:525"
@@ -125,5 +125,5 @@ for into in '>/dev/full' '>&-'; do
 done
 printf '#!/bin/sh\nexec sleep 30\n' >"$out/fake"
 ended=$(interrupted tools/tsp-now --program "$out/fake" --timeout 20 192.0.2.11)
-[ "$ended" = "(b'', b'') -2" ] || fail "an interrupt ends with $ended"
+[ "$ended" = "(b'', b'tsp-now: interrupted\\n') -2" ] || fail "an interrupt ends with $ended"
 echo "$check: forms of the time, dates that are set and handed on, and bad input"

@@ -2,6 +2,7 @@
 # What the launcher and a daemon ask of the system is within what the unit lets them, and the port 525 needs its one capability and no user.
 . "$(dirname "$0")/common.sh"
 unset TSP_HOSTS TSP_SELF TSP_TURNS TSP_WAIT TSP_TRACE
+export TSP_SPREAD=0
 serving_program
 unit=daemon/tsp.service
 

@@ -109,7 +109,9 @@ for line in 'tsp_host_reached{network="1",host="beta"} 1' 'tsp_host_leads{networ
     'tsp_host_error_seconds{network="1",host="beta"} 0.000452' 'tsp_spread_seconds 0.001502' '# TYPE tsp_spread_seconds gauge'; do
     grep -qxF "$line" "$out/metrics" || fail "the metrics lack $line"
 done
-[ "$(find "$out" -name '.tsp-*' | wc -l)" -eq 0 ] || fail 'something is left beside the file'
+[ "$(find "$out" -name '.metrics*' | wc -l)" -eq 0 ] || fail 'something is left beside the file'
+sed -n 's/^# TYPE \([a-z_]*\) .*/\1/p' "$out/metrics" | sort >"$out/there"
+grep -o 'tsp_host_[a-z_]*\|tsp_spread_[a-z_]*' man/tsp-status.8 | sort -u | diff - "$out/there" >"$out/differ" || fail "the page has other metrics: $(cat "$out/differ")"
 
 # A silent host is asked as often as that was asked for, and costs no more than the time that an answer is waited for.
 silence 192.0.2.12:526
@@ -210,11 +212,11 @@ grep -q '^TSP UNKNOWN: ' "$out/said" || fail 'a plugin with faulty words says no
 status=0
 tools/tsp-status --program "$out/fake" --file "$out/hosts" >/dev/full 2>"$out/told" || status=$?
 [ "$status" -eq 4 ] || fail "a full output ends with status $status"
-tells 'tsp-status: standard output takes nothing: No space left on device'
+tells 'tsp-status: standard output: No space left on device'
 status=0
 tools/tsp-status --program "$out/fake" --file "$out/hosts" >&- 2>"$out/told" || status=$?
 [ "$status" -eq 4 ] || fail "a closed output ends with status $status"
-tells 'tsp-status: standard output is closed'
+tells 'tsp-status: standard output: Bad file descriptor'
 ends 4 --output "$out/none/file"
 tells "tsp-status: $out/none/file: No such file or directory"
 
@@ -226,9 +228,10 @@ ends 1 -c
 took=$(($(date +%s) - began))
 [ "$took" -le 12 ] || fail "forty hosts take $took s"
 [ "$(grep -c ',n1,' "$out/said")" -eq 20 ] || fail 'not each of twenty hosts is reached'
+tells 'tsp-status: silent: n21, n22, n23, n24, n25, n26, n27, n28, n29, n30 and 10 more'
 [ ! -e "$BUSY-again" ] || fail 'clocks are asked for at the same time'
 
 # An interrupt ends it by the signal, without a word.
 ended=$(interrupted tools/tsp-status --program "$out/fake" --file "$out/hosts" --timeout 4)
-[ "$ended" = "(b'', b'') -2" ] || fail "an interrupt ends with $ended"
+[ "$ended" = "(b'', b'tsp-status: interrupted\\n') -2" ] || fail "an interrupt ends with $ended"
 echo "$check: tables, values, faults, a plugin's statuses, and forty hosts, half of them dead, in $took s"

@@ -84,7 +84,11 @@ for line in 'tsp_daemon_tick_seconds 830.809232' 'tsp_daemon_role{port="0",role=
     'tsp_daemon_corrections_total 1' 'tsp_daemon_late_total 0' '# TYPE tsp_daemon_late_total counter'; do
     grep -qxF "$line" "$out/metrics" || fail "the metrics lack $line"
 done
-[ "$(find "$out" -name '.tsp-*' | wc -l)" -eq 0 ] || fail 'something is left beside the file'
+[ "$(find "$out" -name '.metrics*' | wc -l)" -eq 0 ] || fail 'something is left beside the file'
+
+# The page names the metrics that there are, and no others.
+sed -n 's/^# TYPE \([a-z_]*\) .*/\1/p' "$out/metrics" | sort >"$out/there"
+grep -o 'tsp_daemon_[a-z_]*' man/tsp-watch.1 | sort -u | diff - "$out/there" >"$out/differ" || fail "the page has other metrics: $(cat "$out/differ")"
 
 # Lines come out as they come in, while the input goes on.
 mkfifo "$out/pipe"
@@ -133,7 +137,7 @@ tells "$out/folder: Is a directory"
 status=0
 tools/tsp-watch <&- >"$out/said" 2>"$out/told" || status=$?
 [ "$status" -eq 3 ] || fail "a closed input ends with status $status"
-tells 'standard input is closed'
+tells 'standard input: Bad file descriptor'
 for words in '--all' 'a b' '--json --prometheus x' '--prometheus'; do
     # shellcheck disable=SC2086  # words
     ends 2 $words
@@ -157,11 +161,11 @@ rm "$out/huge"
 status=0
 tools/tsp-watch "$trace" >/dev/full 2>"$out/told" || status=$?
 [ "$status" -eq 4 ] || fail "a full output ends with status $status"
-tells 'standard output takes nothing: No space left on device'
+tells 'standard output: No space left on device'
 status=0
 tools/tsp-watch "$trace" >&- 2>"$out/told" || status=$?
 [ "$status" -eq 4 ] || fail "a closed output ends with status $status"
-tells 'standard output is closed'
+tells 'standard output: Bad file descriptor'
 input=$trace
 ends 4 --prometheus "$out/none/metrics"
 tells "$out/none/metrics: No such file or directory"
@@ -171,5 +175,5 @@ for _ in $(seq 500); do cat "$trace"; done >"$out/long"
 
 # An interrupt ends it by the signal, without a word.
 ended=$(interrupted tools/tsp-watch)
-[ "$ended" = "(b'', b'') -2" ] || fail "an interrupt ends with $ended"
+[ "$ended" = "(b'', b'tsp-watch: interrupted\\n') -2" ] || fail "an interrupt ends with $ended"
 echo "$check: lines, objects, metrics, a terminal, and bad input"

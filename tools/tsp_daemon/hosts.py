@@ -4,7 +4,8 @@ import subprocess
 from dataclasses import dataclass
 from typing import List
 
-from tsp_daemon.tool import BAD_FILE, Fault
+from tsp_daemon.usage import BAD_FILE
+from tsp_texts.tool import Fault
 
 LAUNCH = os.path.join(os.path.dirname(os.path.dirname(os.path.realpath(__file__))), 'tsp-launch')
 
@@ -21,7 +22,7 @@ class Host:
 def launched(file, *words) -> str:
     """What tsp-launch prints for these words. Its line on standard error, where the file is faulty, becomes a fault."""
     command = [LAUNCH, *words] + ([] if file is None else ['--file', file])
-    ran = subprocess.run(command, stdin=None, stdout=subprocess.PIPE, stderr=subprocess.PIPE, check=False)
+    ran = subprocess.run(command, stdout=subprocess.PIPE, stderr=subprocess.PIPE, check=False)
     if ran.returncode:
         told = ran.stderr.decode('ascii', 'replace').strip().splitlines() or [f'it ends with status {ran.returncode}']
         text = told[-1]

@@ -8,6 +8,8 @@ from tsp_daemon.hosts import Host
 from tsp_daemon.questions import Asker, Reading
 
 WARNING, CRITICAL = 1, 2
+# How many names a line lists.
+MOST_NAMES = 10
 MOST_AT_ONCE = 256
 
 
@@ -85,6 +87,12 @@ def spread_of(seen: List[Seen]) -> Optional[Spread]:
     return Spread(low, high, apart)
 
 
+def some_of(names):
+    """The first of these names, and how many more there are."""
+    more = len(names) - MOST_NAMES
+    return ', '.join(names[:MOST_NAMES]) + (f' and {more} more' if more > 0 else '')
+
+
 class Judge:
     """Says what isn't well: of hosts that are seen, by what is wanted of them."""
 
@@ -105,14 +113,14 @@ class Judge:
         """Hosts that don't answer."""
         names = [each.host.name for each in self.seen if not each.reached]
         if names:
-            yield Trouble(CRITICAL if len(names) == len(self.seen) else WARNING, f'silent: {", ".join(names)}')
+            yield Trouble(CRITICAL if len(names) == len(self.seen) else WARNING, f'silent: {some_of(names)}')
 
     def two_masters(self):
         """Networks whose hosts don't name the same master."""
         for network in self.networks:
             names = self.named(network)
             if len(names) > 1:
-                yield Trouble(WARNING, f'{len(names)} masters are named{self.where(network)}: {", ".join(names)}')
+                yield Trouble(WARNING, f'{len(names)} masters are named{self.where(network)}: {some_of(names)}')
 
     def no_master(self):
         """Networks in which nobody leads, and hosts that know no master where others do."""
@@ -123,7 +131,7 @@ class Judge:
             if answered and len(waiting) == len(answered):
                 yield Trouble(CRITICAL, f'nobody leads{self.where(network)}')
             elif waiting:
-                yield Trouble(WARNING, f'no master is known to {", ".join(waiting)}')
+                yield Trouble(WARNING, f'no master is known to {some_of(waiting)}')
             for name in lost:
                 yield Trouble(CRITICAL if lost == self.named(network) else WARNING, f'{name} is named as master{self.where(network)} and doesn\'t lead')
 
@@ -136,7 +144,7 @@ class Judge:
         """Clocks that may be too far from each other, or weren't read."""
         unread = [each.host.name for each in self.seen if each.reached and not each.clock]
         if unread:
-            yield Trouble(WARNING, f'no clock was read: {", ".join(unread)}')
+            yield Trouble(WARNING, f'no clock was read: {some_of(unread)}')
         spread = spread_of(self.seen)
         if spread and spread.apart > self.within:
             yield Trouble(CRITICAL, f'{spread.low} and {spread.high} may be {milliseconds(spread.apart)} ms apart, and {milliseconds(self.within)} are allowed')

@@ -3,8 +3,9 @@ import subprocess
 from dataclasses import dataclass
 from typing import List, Optional
 
-from tsp_daemon.tool import NO_PROGRAM, Fault, number
+from tsp_daemon.usage import NO_PROGRAM, number
 from tsp_texts import program as programs
+from tsp_texts.tool import Fault
 
 # The statuses of a question that wasn't answered: nothing could be sent, or nothing came.
 SILENT = (5, 6)

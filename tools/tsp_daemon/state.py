@@ -210,7 +210,8 @@ class Daemon:
         yield 'abandon', {}
 
     def on_rival(self, act, number):
-        self.port(act).rivals.append(int(number))
+        rivals = self.port(act).rivals
+        rivals += [int(number)] if int(number) not in rivals else []
         yield 'rival', {'peer': self.name(int(number))}
 
     def on_quit(self, _, number):

@@ -14,9 +14,9 @@ import time
 
 sys.dont_write_bytecode = True
 sys.path.insert(0, os.path.dirname(os.path.dirname(os.path.realpath(__file__))))
-from tsp_daemon import questions, state, tool, trace, views  # noqa: E402
+from tsp_daemon import questions, state, trace, usage, views  # noqa: E402
+from tsp_texts.tool import Fault, say  # noqa: E402
 
-NAME = 'tsp-launch'
 CHUNK = 65536
 # How long one question waits while the daemon starts, and how long a daemon has to be there after it was answered. (another program may
 # have answered that has the port, and then this one's end is near)
@@ -41,7 +41,7 @@ class Systemd:
             with socket.socket(socket.AF_UNIX, socket.SOCK_DGRAM) as link:
                 link.sendto('\n'.join(lines).encode('ascii', 'replace'), self.address)
         except OSError as fault:
-            tool.say(NAME, f'systemd isn\'t told: {fault.strerror}')
+            say(f'systemd isn\'t told: {fault.strerror}')
 
 
 class Supervisor:
@@ -60,7 +60,9 @@ class Supervisor:
         try:
             self.process = subprocess.Popen(self.words, stdin=subprocess.DEVNULL, stdout=subprocess.PIPE)
         except OSError as fault:
-            raise tool.Fault(f'{self.program}: {fault.strerror}', tool.BAD_FILE) from fault
+            raise Fault(f'{self.program}: {fault.strerror}', usage.BAD_FILE) from fault
+        if self.is_told:
+            self.process.terminate()
         threading.Thread(target=self.wait_for_answer, daemon=True).start()
         self.hand_on()
         return self.status(self.process.wait())
@@ -88,7 +90,7 @@ class Supervisor:
         """Whether the daemon answers a question."""
         try:
             return asker.master(self.local) is not None
-        except tool.Fault:
+        except Fault:
             return False
 
     def hand_on(self):
@@ -110,17 +112,17 @@ class Supervisor:
         except OSError as fault:
             self.process.terminate()
             self.process.wait()
-            raise tool.Fault(f'standard output takes nothing: {fault.strerror}', tool.NOT_WRITTEN) from fault
+            raise Fault(f'standard output takes nothing: {fault.strerror}', usage.NOT_WRITTEN) from fault
 
     def status(self, status):
         """The status to end with, by that of the daemon."""
         if self.is_told:
             signal.signal(signal.SIGTERM, signal.SIG_IGN)
-            return tool.WELL
+            return usage.WELL
         if status == NO_NETWORK:
-            tool.say(NAME, self.why())
+            say(self.why())
         if status == NO_WORDS:
-            tool.say(NAME, f'{self.program} doesn\'t know the words \'{" ".join(self.words[1:])}\': it is of another version')
+            say(f'{self.program} doesn\'t know the words \'{" ".join(self.words[1:])}\': it is of another version')
         return 128 - status if status < 0 else status
 
     def why(self):
@@ -137,7 +139,10 @@ class Supervisor:
 
 
 def main():
-    return Supervisor(sys.argv[1:]).run()
+    words = sys.argv[1:]
+    # (what it says is said by the one that started it)
+    sys.argv[0] = 'tsp-launch'
+    return Supervisor(words).run()
 
 
-tool.run(NAME, main)
+usage.run(main)

@@ -3,7 +3,8 @@ import re
 import subprocess
 from datetime import datetime, timedelta, timezone
 
-from tsp_daemon.tool import BAD_WORDS, Fault
+from tsp_daemon.usage import BAD_WORDS
+from tsp_texts.tool import Fault
 
 EPOCH = datetime(1970, 1, 1, tzinfo=timezone.utc)
 MILLION = 1_000_000

@@ -13,8 +13,8 @@ NAMES = re.compile(r'in the trace peer (0 is [A-Za-z0-9._-]+(?:, [0-9]{1,3} [A-Z
 
 ALARM = '(quiet|search|elect|window|probe|close|resolve|round)'
 NUMBER = '(-?[0-9]{1,19})'
-PEER = '([0-9]{1,10})'
-WHO = '([0-9]{1,10}|-)'
+PEER = '([0-9]{1,3})'
+WHO = '([0-9]{1,3}|-)'
 # What follows the first word of an act.
 SHAPES = {
     'boot': '', 'abandon': '', 'trace': '(on|off)',

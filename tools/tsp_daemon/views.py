@@ -9,8 +9,8 @@ ROLES = {
     '': 'not known yet', 'starting': 'silent after its start', 'loose': 'without a master', 'candidate': 'stands for election', 'master': 'leads',
 }
 ALARMS = {
-    'quiet': 'its silence ends', 'search': 'its search for a master ends', 'elect': 'election', 'window': 'its election ends', 'resolve': 'rivals are told to give way',
-    'round': 'round',
+    'quiet': 'its silence ends', 'search': 'its search for a master ends', 'elect': 'election', 'window': 'its election ends',
+    'resolve': 'rivals are told to give way', 'round': 'round',
 }
 WAYS = {'slew': 'slewed', 'step': 'stepped'}
 
@@ -132,8 +132,13 @@ def screen(daemon, now):
     rows = list(peer_rows(daemon, now))
     widths = [max(map(len, column)) for column in zip(*rows)]
     if len(rows) > 1:
-        lines += [''] + ['  '.join(text.ljust(width) if place < 2 else text.rjust(width) for place, (text, width) in enumerate(zip(row, widths))) for row in rows]
+        lines += ['', *(aligned(row, widths) for row in rows)]
     return lines
+
+
+def aligned(row, widths):
+    """A row of the peers' table: words begin below each other, and numbers end so."""
+    return '  '.join(text.ljust(width) if place < 2 else text.rjust(width) for place, (text, width) in enumerate(zip(row, widths)))
 
 
 def role_metrics(daemon):
