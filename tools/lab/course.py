@@ -3,11 +3,13 @@
 A piece begins with hosts whose wall clocks and drifts are drawn anew, and ends before its traces have more lines than an
 audit takes, or when the hours are over.
 """
+import collections
 import os
 import random
 import signal
 from typing import NamedTuple
 
+from lab import process
 from lab.hosts import START, Daemon, Failed
 from lab.trial import say
 from lab.witness import witness
@@ -21,7 +23,6 @@ WEATHER = (60, 600)
 LOSS, LATE, SPOILED = 0.3, 10_000_000, 0.02
 HOUR = 3600
 KINDS = ('plain', 'strict', 'gateways')
-MEMORY = ('VmData', 'RssAnon')
 
 
 class Course:
@@ -86,10 +87,9 @@ class Course:
         """Has a piece witnessed, and counts what was in it."""
         status, said, besides = witness(lab, '--drift', str(DRIFT), *(['--altered'] if piece.spoil else []))
         acts = [act for daemon in lab.daemons for act in lab.acts(daemon)]
-        self.add(seconds=lab.lived, lines=len(acts), posted=sum(act[0] == 'post' for act in acts), taken=sum(act[0] == 'took' for act in acts), frames=getattr(lab, 'carried', 0), lost=getattr(lab, 'lost', 0),
-                 doubled=getattr(lab, 'doubled', 0), spoiled=getattr(lab, 'spoiled', 0),
-                 elections=sum(act == ['become', 'master'] for act in acts), corrections=sum(act[0] == 'correct' for act in acts),
-                 late=sum(act[0] == 'late' for act in acts), starts=lab.starts, **piece.faults)
+        kinds = collections.Counter(act[0] for act in acts)
+        self.add(seconds=lab.lived, starts=lab.starts, lines=len(acts), posted=kinds['post'], taken=kinds['took'], corrections=kinds['correct'],
+                 late=kinds['late'], elections=sum(act == ['become', 'master'] for act in acts), **lab.frames(), **piece.faults)
         self.lives += piece.lives
         say(f'{name}, {lab.lived / HOUR:.2f} hours, {len(acts)} lines: {said[0] if said else "no verdict"}')
         for line in said[1:] + [line for line in besides if not piece.spoil or 'never posted that' not in line]:
@@ -103,7 +103,7 @@ class Course:
         if not self.lives:
             return
         say(', '.join(f'{count:.0f} {name}' for name, count in sorted(self.sums.items())))
-        for name in MEMORY:
+        for name in self.lives[0].before:
             most = max(self.lives, key=lambda life: life.after[name] - life.before[name])
             total = sum(life.after[name] - life.before[name] for life in self.lives)
             say(f'{name} of {len(self.lives)} daemons: {most.before[name]} KiB at a beginning, grew by {most.after[name] - most.before[name]} KiB at the most '
@@ -140,12 +140,12 @@ class Piece:
     def start(self, daemon):
         """Starts a daemon, and notes the memory it begins with."""
         self.lab.start(daemon)
-        self.begun[daemon] = self.lab.seconds(), daemon.status(*MEMORY)[0]
+        self.begun[daemon] = self.lab.seconds(), process.memory(daemon.process.pid)
 
     def note_end(self, daemon):
         """Notes what a daemon has and took at its end."""
-        (since, before), (after, spent) = self.begun[daemon], daemon.status(*MEMORY)
-        self.lives.append(Life(before, after, self.lab.seconds() - since, spent))
+        (since, before), pid = self.begun[daemon], daemon.process.pid
+        self.lives.append(Life(before, process.memory(pid), self.lab.seconds() - since, process.spent(pid)))
 
     def whole(self):
         """All of it."""

@@ -37,14 +37,6 @@ class Daemon:
         """The address at which it is asked."""
         return next(iter(self.addresses.values()))
 
-    def status(self, *names):
-        """The memory of its process by these names, in KiB, and the seconds of a processor that it has taken."""
-        with open(f'/proc/{self.process.pid}/status', encoding='ascii') as status:
-            lines = dict(line.split(':', 1) for line in status)
-        with open(f'/proc/{self.process.pid}/stat', encoding='ascii') as stat:
-            words = stat.read().rpartition(')')[2].split()
-        return {name: int(lines[name].split()[0]) for name in names}, (int(words[11]) + int(words[12])) / os.sysconf('SC_CLK_TCK')
-
 
 class Lab:
     """What both sorts of lab have in common. `nets` are the daemons of each network, `rate` says how fast time runs, `folder` is where
@@ -56,7 +48,7 @@ class Lab:
         self.nets, self.program, self.library, self.rate, self.folder = nets, program, library, rate, folder
         self.begun = time.monotonic_ns()
         self.daemons = list(dict.fromkeys(daemon for net in nets for daemon in net))
-        self.starts, self.asked = 0, 0
+        self.starts = 0
 
     def seconds(self):
         """The seconds of fast time since the lab began."""
@@ -103,7 +95,6 @@ class Lab:
         """Asks a daemon, again where the question or its answer was lost, and gives the words of the answer; None where there is none
         and none is wanted."""
         for _ in range(tries):
-            self.asked += 1
             ran = subprocess.run(
                 self.at(ASKER) + [self.program, *words], stdout=subprocess.PIPE, stderr=subprocess.DEVNULL, env=self.environment(0), check=False
             )
@@ -137,6 +128,11 @@ class Lab:
     def cables(_):
         """The bridge's interfaces to a host."""
         return []
+
+    @staticmethod
+    def frames():
+        """How many frames the bridge carried, lost, carried twice and changed, once the lab is closed."""
+        return {}
 
     def close(self):
         """Ends what was started."""
@@ -219,6 +215,10 @@ class Namespaces(Lab):
     def cables(self, daemon):
         """The bridge's interfaces to a host."""
         return [f'to{number}-{daemon.name}' for number in daemon.addresses]
+
+    def frames(self):
+        """How many frames the bridge carried, lost, carried twice and changed, once the lab is closed."""
+        return {'carried': self.carried, 'lost': self.lost, 'doubled': self.doubled, 'changed': self.spoiled}
 
     def close(self):
         """Ends what was started; the bridge says what it carried and lost."""

@@ -49,8 +49,8 @@ change() {
 
 PYTHONPATH=tools python3 -B tools/tests/witness_times.py 2>"$out/told" || fail "$(cat "$out/told")"
 
-# The daemons' own lines are all alike: in a run that was worked out by hand, and with a SETTIME that is repeated right behind its take; with a killed and returned master and a date, in strict elections, and
-# with two gateways between the same two networks, whose LOOPs come back.
+# The daemons' own lines are all alike: in a run that was worked out by hand, in one whose SETTIME is repeated right behind its late take,
+# with a killed and returned master and a date, in strict elections, and with two gateways between the same two networks, whose LOOPs come back.
 for network in hand repeated three strict loops; do
     wants 0 "$(written "$given/$network") acts alike, holds" "$network" "$given/$network"
     [ ! -s "$out/besides" ] || fail "$network: $(cat "$out/besides")"
