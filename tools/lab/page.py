@@ -9,24 +9,23 @@ TEXT = '''# How well it keeps time
 How far two corrected clocks are from each other, measured, beside what is promised of them. `tools/accuracy` wrote this page and its picture:
 
 ```
-tools/accuracy --minutes {minutes} --rate {rate} --seed {seed}
+tools/accuracy --minutes {minutes} --rate {rate} --seed {seed} --jobs {jobs}
 ```
 
-Each case is a network of daemons in namespaces of one machine, without faults, for {minutes} minutes of its own time, which ran {rate} times as fast. Two hosts
-may be master. Wall clocks are up to half a second off at first. Rates are drawn up to the drift, in parts in a million, and each datagram is late by up to
-the jitter, in milliseconds of the network's time. On top come the ways through the kernel and the bridge, and what a daemon waits for a processor: {rate} times
-what they take on the machine, which is busy. The least error of a measurement shows that.
+Each case is a network of daemons in namespaces of one machine, without faults, {time}; {jobs} networks ran side by side. Two hosts may be master.
+Wall clocks are up to half a second off at first. Rates are drawn up to the drift, in parts in a million, and each datagram is late by up to the jitter. On top
+come the ways through the kernel and the bridge, and what a daemon waits for a processor of a busy machine: the least error of a measurement shows what that is.
 
 Times come from the clock that all daemons count by, whose rates and walls are known here. Each run was also replayed and audited by `tsp-witness`, which
 knows neither: {judged}.
 
+- **error**: the least error of a measurement, which is half of the shortest round trip.
 - **apart**: the greatest distance of two clocks that one round of their master corrected, the master's among them, while nothing else moved them.
 - **promised**: what is promised of these two at that moment: their samples' errors, and the drift since these were taken, twice.
 - **most**: the greatest part of what was promised that any two clocks came to, at any moment.
-- **error**: the least error of a measurement, which is half of the shortest round trip.
 
-The simulations are runs of `tsp-sim` with as many nodes and as much drift, whose datagrams are on their way for the daemons' least error and up to the jitter
-besides. All but the last column are milliseconds.
+The simulations are runs of `tsp-sim` with as many nodes and as much drift, whose datagrams are on their way for the daemons' least error, and up to the jitter
+besides. Jitter, errors and distances are milliseconds.
 
 | hosts | drift | jitter | daemons: error | apart | promised | most | simulated: error | apart | promised | most |
 |---|---|---|---|---|---|---|---|---|---|---|
@@ -98,10 +97,15 @@ def picture(cases):
     return '\n'.join([*out, '</svg>', ''])
 
 
+def time_of(given):
+    """How long each network ran, and how fast."""
+    return f'for {given.minutes} minutes' if given.rate == 1 else f'for {given.minutes} minutes of its own time, which runs {given.rate} times as fast'
+
+
 def write(folder, cases, given):
     """Writes the page and its picture."""
-    rows = '\n'.join(map(row, cases))
+    told = {'rows': '\n'.join(map(row, cases)), 'sums': sums(cases), 'judged': judged(cases), 'time': time_of(given)}
     with open(os.path.join(folder, 'ACCURACY.md'), 'w', encoding='utf-8') as file:
-        file.write(TEXT.format(minutes=given.minutes, rate=given.rate, seed=given.seed, rows=rows, sums=sums(cases), judged=judged(cases)))
+        file.write(TEXT.format(minutes=given.minutes, rate=given.rate, seed=given.seed, jobs=given.jobs, **told))
     with open(os.path.join(folder, 'accuracy.svg'), 'w', encoding='utf-8') as file:
         file.write(picture(cases))

@@ -117,7 +117,7 @@ rm -rf "$out/changed"
 cp -r "$given/three" "$out/changed"
 rm "$out/changed/c-2.trace"
 wants 1 "$(written "$out/changed") acts alike, holds" three "$out/changed"
-tells ' of c in turn ' 'which has no trace here'
+tells "b took $(grep -c ' took 2 ' "$out/changed/b-3.trace") datagrams of c, which has no trace here"
 change hand b-2 '/ 0 0 1000000 /d'
 status=0
 witness hand "$out/changed" --check >"$out/said" 2>"$out/besides" || status=$?
