@@ -74,6 +74,24 @@ sed -i 's/1 b, 2 c$/1 c, 2 b/' "$out/changed/a-1.trace"
 wants 3 '' three "$out/changed"
 tells 'the daemon was started with the peers 0 a, 1 c, 2 b; by the hosts file they are 0 a, 1 b, 2 c'
 
+# Two daemons as the launcher starts them, with what both write in one file as a journal has it; each is asked for its clock.
+free_ports 2 >"$out/ports"
+read -r one two <"$out/ports"
+printf '%s\n' "a 127.0.0.1:$one master" "b 127.0.0.1:$two slave" >"$out/hosts"
+mkdir "$out/launched"
+for name in a b; do
+    tools/tsp-launch --file "$out/hosts" --self "$name" --turns 6 --trace --program "$TSP_PROGRAM" >"$out/launched/$name" 2>&1 &
+done
+sleep 2
+for port in "$one" "$two"; do
+    "$TSP_PROGRAM" clockdiff "127.0.0.1:$port" >"$out/clock" || fail "a daemon's clock isn't told"
+done
+wait
+status=0
+tools/tsp-witness --check --file "$out/hosts" "a=$out/launched/a" "b=$out/launched/b" >"$out/said" 2>"$out/besides" || status=$?
+[ "$(cat "$out/said")" = "$(cat "$out/launched/a" "$out/launched/b" | grep -c '^[0-9]') acts alike, holds" ] && [ "$status" -eq 0 ] || fail "daemons of the launcher: $(cat "$out/said" "$out/besides")"
+grep -q ' reply ' "$out/launched/a" || fail 'the trace has no clock'
+
 # Clocks that drift fit no times without rates, and do with them.
 wants 3 '' drifting "$given/drifting"
 tells 'the clocks fit no times within a drift of 0'
