@@ -64,7 +64,7 @@ grep -q ' took [0-9]* loop ' "$given/loops/b-2.trace" || fail 'no LOOP comes bac
         echo 'tsp-launch: in the trace peer 0 is a, 1 b, 2 c'
         cat "$given/three/$start.trace"
     done
-} | sed 's/^/Nov 28 06:00:00 alpha tsp[99]: /' >"$out/journal"
+} | sed 's/^/Jan 04 06:00:00 alpha tsp[99]: /' >"$out/journal"
 rm -rf "$out/changed"
 cp -r "$given/three" "$out/changed"
 rm "$out/changed"/a-*
