@@ -116,7 +116,7 @@ change three c-2 's/ correct \(-\{0,1\}[0-9]*\)\([0-9]\) slew/ correct \12\2 sle
 status=0
 witness three "$out/changed" --check >"$out/said" 2>"$out/besides" || status=$?
 [ "$status" -eq 1 ] || fail "a changed correction gives the status $status"
-tells 'acts alike, and then one that differs' 'c, turn ' 'by the rules it is "2 0 ' 'the datagram before it: "adjtime '
+tells 'acts alike, and then one that differs' 'c, turn ' ': it did "correct ' ', and by the rules it is "correct ' 'the datagram before it: "adjtime '
 status=0
 witness hand "$given/strict" --check >"$out/said" 2>"$out/besides" || status=$?
 [ "$status" -eq 3 ] || fail "traces of another network give the status $status"
