@@ -10,7 +10,7 @@ import signal
 from typing import NamedTuple
 
 from lab import process
-from lab.hosts import START, Daemon, Failed
+from lab.hosts import START, Daemon, Unlike
 from lab.trial import say
 from lab.witness import witness
 
@@ -63,7 +63,7 @@ class Course:
         finally:
             self.tell()
         if self.sums.get('failed'):
-            raise Failed(f'{self.sums["failed"]} pieces aren\'t as the rules say')
+            raise Unlike(f'{self.sums["failed"]} pieces aren\'t as the rules say')
 
     def pieces(self):
         """One piece after the other."""

@@ -21,6 +21,12 @@ ASKER = 'asker'
 
 class Failed(Exception):
     """The run isn't as it should be."""
+    status = 1
+
+
+class Unlike(Failed):
+    """What the daemons did isn't what the rules say, or that isn't found which was spoiled."""
+    status = 3
 
 
 class Daemon:
