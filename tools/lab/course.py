@@ -1,7 +1,8 @@
 """Hours of a network with faults that are drawn at random, in pieces that are witnessed each.
 
 A piece begins with hosts whose wall clocks and drifts are drawn anew, and ends before its traces have more lines than an
-audit takes, or when the hours are over.
+audit takes, or when the hours are over. While a daemon runs its host's wall clock is set; it is set back before the next start
+of the daemon, since a schedule has one wall clock for each host.
 """
 import collections
 import os
@@ -20,6 +21,8 @@ MOST_LINES = 18_000
 DRIFT, APART = 100, 10_000_000
 # How long a time of one sort of weather lasts, in seconds of fast time.
 WEATHER = (60, 600)
+# How long after its start a host's wall clock is set, in seconds of fast time.
+STEPS = (30, 3600)
 LOSS, LATE, SPOILED = 0.3, 10_000_000, 0.02
 HOUR = 3600
 KINDS = ('plain', 'strict', 'gateways')
@@ -139,7 +142,8 @@ class Piece:
         return total
 
     def start(self, daemon):
-        """Starts a daemon, and notes the memory it begins with."""
+        """Starts a daemon, and notes the memory it begins with. The wall clock of its host is set some time after, which it isn't to see."""
+        daemon.step = round((self.lab.seconds() + self.chance.uniform(*STEPS)) * 1e6), self.chance.randint(-APART, APART)
         self.lab.start(daemon)
         if process.is_told():
             self.begun[daemon] = self.lab.seconds(), process.memory(daemon.process.pid)

@@ -31,11 +31,11 @@ class Unlike(Failed):
 
 class Daemon:
     """A host: its name, whether it may be master, how many microseconds its wall clock is ahead, and by how many parts in a million
-    its clock is fast; `addresses` are those that it has, by network."""
+    its clock is fast; `step` says when the wall clock is set, and by how much; `addresses` are those that it has, by network."""
 
     def __init__(self, name, role, ahead=0, drift=0, spoils=None):
         self.name, self.role, self.ahead, self.drift, self.spoils = name, role, ahead, drift, spoils
-        self.addresses, self.local = {}, None
+        self.step, self.addresses, self.local = (0, 0), {}, None
         self.process, self.trace = None, []
 
     @property
@@ -81,7 +81,8 @@ class Lab:
         words = self.at(daemon.name) + [self.program, 'serve', daemon.local, daemon.name, daemon.role, '1000000000', *self.peers(daemon)]
         self.starts += 1
         path = os.path.join(self.folder, f'{daemon.name}-{self.starts}.trace')
-        environment = self.environment(daemon.ahead, drift=daemon.drift, hold=1, spoil=daemon.spoils)
+        at, step = daemon.step
+        environment = self.environment(daemon.ahead, drift=daemon.drift, hold=1, spoil=daemon.spoils, at=at * 1000, step=step * 1000)
         with open(path, 'wb') as trace:
             daemon.process = subprocess.Popen(words, stdout=trace, stderr=subprocess.DEVNULL, env=environment)
         daemon.trace.append(path)
