@@ -3,7 +3,7 @@ import math
 import os
 
 WIDTH, LEFT, TOP, STEP, FOOT = 760, 230, 60, 22, 40
-MARKS = (0.01, 0.1, 1, 10, 100)
+MARKS, LOWEST, HIGHEST = (0.01, 0.1, 1, 10, 100), 0.01, 200
 TEXT = '''# How well it keeps time
 
 How far two corrected clocks are from each other, measured, beside what is promised of them. `tools/accuracy` wrote this page and its picture:
@@ -72,8 +72,8 @@ def judged(cases):
 
 def place(millis):
     """Where a number of milliseconds stands, by its logarithm."""
-    low, high = math.log10(MARKS[0]), math.log10(MARKS[-1])
-    return LEFT + (WIDTH - LEFT - 20) * (math.log10(min(max(millis, MARKS[0]), MARKS[-1])) - low) / (high - low)
+    low, high = math.log10(LOWEST), math.log10(HIGHEST)
+    return LEFT + (WIDTH - LEFT - 20) * (math.log10(min(max(millis, LOWEST), HIGHEST)) - low) / (high - low)
 
 
 def picture(cases):
