@@ -132,6 +132,13 @@ tells 'b: lines are lost before turn '
 change hand a-1 '$d'
 wants 0 "$(written "$out/changed") acts alike, holds" hand "$out/changed"
 
+# Traces that end before any line tells a clock: what is known of the words tells enough.
+change hand b-2 '/ took 1 settime/,$d'
+sed -i '/ took 1 ack /,$d' "$out/changed/a-1.trace"
+wants 0 "$(written "$out/changed") acts alike, holds" hand "$out/changed"
+sed -i '/ settime /d' "$out/changed/a-1.trace"
+wants 0 "$(written "$out/changed") acts alike, holds" hand "$out/changed"
+
 # A host without a trace, and a trace that begins late.
 rm -rf "$out/changed"
 cp -r "$given/three" "$out/changed"
