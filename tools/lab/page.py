@@ -12,15 +12,16 @@ How far two corrected clocks are from each other, measured, beside what is promi
 tools/accuracy --minutes {minutes} --rate {rate} --seed {seed} --jobs {jobs}
 ```
 
-Each case is a network of daemons in namespaces of one machine, without faults, {time}; {jobs} networks ran side by side. Two hosts may be master.
-Wall clocks are up to half a second off at first. Rates are drawn up to the drift, in parts in a million, and each datagram is late by up to the jitter. On top
-come the ways through the kernel and the bridge, and what a daemon waits for a processor of a busy machine: the least error of a measurement shows what that is.
+Each case is a network of daemons in namespaces of one machine, without faults, {time}; {jobs} networks ran side by side. Two hosts may be
+master. Wall clocks are up to half a second off at first. Rates are drawn up to the drift, in parts in a million, and each datagram is late by up to the jitter.
+On top come the ways through the kernel and the bridge, and what a daemon waits for a processor of a busy machine: the least error of a measurement shows that.
 
 Times come from the clock that all daemons count by, whose rates and walls are known here. Each run was also replayed and audited by `tsp-witness`, which
 knows neither: {judged}.
 
 - **error**: the least error of a measurement, which is half of the shortest round trip.
-- **apart**: the greatest distance of two clocks that one round of their master corrected, the master's among them, while nothing else moved them.
+- **apart**: the greatest distance of two clocks that one round of their master corrected, the master's among them, while nothing else moved them. A clock is
+  what a question is told, which is its target.
 - **promised**: what is promised of these two at that moment: their samples' errors, and the drift since these were taken, twice.
 - **most**: the greatest part of what was promised that any two clocks came to, at any moment.
 
@@ -34,6 +35,9 @@ besides. Jitter, errors and distances are milliseconds.
 ![What was measured and what was promised](accuracy.svg)
 
 {sums}
+
+Where nothing drifts, distances come from the ways of datagrams alone, and from what daemons on a busy machine wait for a processor, which simulated nodes don't.
+Where clocks drift, they part from one round to the next, and that decides.
 '''
 
 
@@ -55,12 +59,20 @@ def row(case):
     return '| ' + ' | '.join(cells) + ' |'
 
 
+def ratios(cases):
+    """How the distances of daemons compare with those of simulated nodes, drift by drift."""
+    for drift in sorted({case['drift'] for case in cases}):
+        found = sorted(case['daemons']['apart'] / case['simulated']['apart'] for case in cases if case['drift'] == drift)
+        yield f'{found[0]:.1f} to {found[-1]:.1f} with a drift of {drift}'
+
+
 def sums(cases):
     """What is to be said of all cases together."""
     corrections = {kind: sum(case[kind]['corrections'] for case in cases) for kind in ('daemons', 'simulated')}
     worst = {kind: max(case[kind]['part'] for case in cases) for kind in ('daemons', 'simulated')}
-    return (f'In all {len(cases)} cases rounds moved followers {corrections["daemons"]} times among daemons, and {corrections["simulated"]} times in simulations.\n'
-            f'Two clocks came to {worst["daemons"]:.0%} of what was promised at the most among daemons, and to {worst["simulated"]:.0%} in simulations.')
+    return (f'In all {len(cases)} cases rounds moved followers {corrections["daemons"]} times among daemons, and {corrections["simulated"]} times in simulations. '
+            f'Two\nclocks came to {worst["daemons"]:.0%} of what was promised at the most among daemons, and to {worst["simulated"]:.0%} in simulations. '
+            f'The distances of daemons\nare those of simulated nodes times {", ".join(ratios(cases))}.')
 
 
 def judged(cases):
