@@ -36,7 +36,7 @@ besides. Jitter, errors and distances are milliseconds.
 
 {sums}
 
-Where nothing drifts, distances come from the ways of datagrams alone, and from what daemons on a busy machine wait for a processor, which simulated nodes don't.
+Where nothing drifts, distances come from the ways of datagrams alone, and from what daemons on a busy machine wait for a processor; simulated nodes don't wait.
 Where clocks drift, they part from one round to the next, and that decides.
 '''
 
