@@ -1,14 +1,17 @@
 """Hours of a network with faults that are drawn at random, in pieces that are witnessed each.
 
 A piece begins with hosts whose wall clocks and drifts are drawn anew, and ends before its traces have more lines than an
-audit takes, or when the hours are over.
+audit takes, or when the hours are over. While a daemon runs its host's wall clock is set; it is set back before the next start
+of the daemon, since a schedule has one wall clock for each host.
 """
+import collections
 import os
 import random
 import signal
 from typing import NamedTuple
 
-from lab.hosts import START, Daemon, Failed
+from lab import process
+from lab.hosts import START, Daemon, Unlike
 from lab.trial import say
 from lab.witness import witness
 
@@ -18,10 +21,11 @@ MOST_LINES = 18_000
 DRIFT, APART = 100, 10_000_000
 # How long a time of one sort of weather lasts, in seconds of fast time.
 WEATHER = (60, 600)
+# How long after its start a host's wall clock is set, in seconds of fast time.
+STEPS = (30, 3600)
 LOSS, LATE, SPOILED = 0.3, 10_000_000, 0.02
 HOUR = 3600
 KINDS = ('plain', 'strict', 'gateways')
-MEMORY = ('VmData', 'RssAnon')
 
 
 class Course:
@@ -62,7 +66,7 @@ class Course:
         finally:
             self.tell()
         if self.sums.get('failed'):
-            raise Failed(f'{self.sums["failed"]} pieces aren\'t as the rules say')
+            raise Unlike(f'{self.sums["failed"]} pieces aren\'t as the rules say')
 
     def pieces(self):
         """One piece after the other."""
@@ -86,10 +90,9 @@ class Course:
         """Has a piece witnessed, and counts what was in it."""
         status, said, besides = witness(lab, '--drift', str(DRIFT), *(['--altered'] if piece.spoil else []))
         acts = [act for daemon in lab.daemons for act in lab.acts(daemon)]
-        self.add(seconds=lab.lived, lines=len(acts), posted=sum(act[0] == 'post' for act in acts), taken=sum(act[0] == 'took' for act in acts), frames=getattr(lab, 'carried', 0), lost=getattr(lab, 'lost', 0),
-                 doubled=getattr(lab, 'doubled', 0), spoiled=getattr(lab, 'spoiled', 0),
-                 elections=sum(act == ['become', 'master'] for act in acts), corrections=sum(act[0] == 'correct' for act in acts),
-                 late=sum(act[0] == 'late' for act in acts), starts=lab.starts, **piece.faults)
+        kinds = collections.Counter(act[0] for act in acts)
+        self.add(seconds=lab.lived, starts=lab.starts, lines=len(acts), posted=kinds['post'], taken=kinds['took'], corrections=kinds['correct'],
+                 late=kinds['late'], elections=sum(act == ['become', 'master'] for act in acts), **lab.frames(), **piece.faults)
         self.lives += piece.lives
         say(f'{name}, {lab.lived / HOUR:.2f} hours, {len(acts)} lines: {said[0] if said else "no verdict"}')
         for line in said[1:] + [line for line in besides if not piece.spoil or 'never posted that' not in line]:
@@ -100,10 +103,11 @@ class Course:
 
     def tell(self):
         """Says what came of it all."""
+        say(', '.join(f'{count:.0f} {name}' for name, count in sorted(self.sums.items())) or 'nothing was judged')
         if not self.lives:
+            say('what the daemons took isn\'t known')
             return
-        say(', '.join(f'{count:.0f} {name}' for name, count in sorted(self.sums.items())))
-        for name in MEMORY:
+        for name in self.lives[0].before:
             most = max(self.lives, key=lambda life: life.after[name] - life.before[name])
             total = sum(life.after[name] - life.before[name] for life in self.lives)
             say(f'{name} of {len(self.lives)} daemons: {most.before[name]} KiB at a beginning, grew by {most.after[name] - most.before[name]} KiB at the most '
@@ -138,14 +142,18 @@ class Piece:
         return total
 
     def start(self, daemon):
-        """Starts a daemon, and notes the memory it begins with."""
+        """Starts a daemon, and notes the memory it begins with. The wall clock of its host is set some time after, which it isn't to see."""
+        daemon.step = round((self.lab.seconds() + self.chance.uniform(*STEPS)) * 1e6), self.chance.randint(-APART, APART)
         self.lab.start(daemon)
-        self.begun[daemon] = self.lab.seconds(), daemon.status(*MEMORY)[0]
+        if process.is_told():
+            self.begun[daemon] = self.lab.seconds(), process.memory(daemon.process.pid)
 
     def note_end(self, daemon):
         """Notes what a daemon has and took at its end."""
-        (since, before), (after, spent) = self.begun[daemon], daemon.status(*MEMORY)
-        self.lives.append(Life(before, after, self.lab.seconds() - since, spent))
+        if daemon not in self.begun:
+            return
+        (since, before), pid = self.begun[daemon], daemon.process.pid
+        self.lives.append(Life(before, process.memory(pid), self.lab.seconds() - since, process.spent(pid)))
 
     def whole(self):
         """All of it."""

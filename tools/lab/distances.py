@@ -1,6 +1,7 @@
 """How far corrected clocks are from each other, beside what was promised of them: of a lab's run, and of a simulated one."""
 from typing import NamedTuple
 
+from lab.hosts import Failed
 from tsp_texts import history, schedule, trace
 
 MILLION = 1_000_000
@@ -62,6 +63,8 @@ def summary(told):
     """What is to be told of a history: its rounds' corrections, the least error of a sample, the greatest distance of two corrected clocks, what
     was promised then, and the greatest part of what was promised that a distance came to."""
     found = list(distances(told))
+    if not found:
+        raise Failed('no round corrected a host')
     widest = max(found, key=lambda each: each.apart)
     return {'corrections': len(told.bounds), 'error': min(sample.err for sample in told.samples), 'apart': widest.apart, 'promised': widest.promised,
             'part': max(each.apart / each.promised for each in found)}

@@ -5,6 +5,8 @@
  *   FAST_WALL   what the wall clock shows when fast time begins, in nanoseconds since 1970
  *   FAST_DRIFT  by how many parts in a million the program's clocks are faster than that; 0 if left out
  *   FAST_HOLD   where it is set, time stands still from the first look at a clock until the program first waits
+ *   FAST_STEP   the wall clock is set by so many nanoseconds
+ *   FAST_AT     when fast time has passed for so many nanoseconds
  *   FAST_SPOIL  a type: the first datagram of this type that is sent has the last bit of its octet 11 changed
  *
  * All programs with the same FAST_FROM, FAST_RATE and FAST_DRIFT have the same fast time, whenever they start. Receives
@@ -57,7 +59,9 @@ int clock_gettime(clockid_t id, struct timespec *time)
     long long from = setting("FAST_FROM", 0);
     long long passed = (now - from) * setting("FAST_RATE", 1);
     passed += (long long)((__int128)passed * setting("FAST_DRIFT", 0) / MILLION);
-    long long shown = passed + (id == CLOCK_REALTIME ? setting("FAST_WALL", 0) : from);
+    long long shown = passed + from;
+    if (id == CLOCK_REALTIME)
+        shown = passed + setting("FAST_WALL", 0) + (passed >= setting("FAST_AT", 0) ? setting("FAST_STEP", 0) : 0);
     time->tv_sec = shown / BILLION;
     time->tv_nsec = shown % BILLION;
     return 0;

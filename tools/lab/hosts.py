@@ -21,29 +21,27 @@ ASKER = 'asker'
 
 class Failed(Exception):
     """The run isn't as it should be."""
+    status = 1
+
+
+class Unlike(Failed):
+    """What the daemons did isn't what the rules say, or that isn't found which was spoiled."""
+    status = 3
 
 
 class Daemon:
     """A host: its name, whether it may be master, how many microseconds its wall clock is ahead, and by how many parts in a million
-    its clock is fast; `addresses` are those that it has, by network."""
+    its clock is fast; `step` says when the wall clock is set, and by how much; `addresses` are those that it has, by network."""
 
     def __init__(self, name, role, ahead=0, drift=0, spoils=None):
         self.name, self.role, self.ahead, self.drift, self.spoils = name, role, ahead, drift, spoils
-        self.addresses, self.local = {}, None
+        self.step, self.addresses, self.local = (0, 0), {}, None
         self.process, self.trace = None, []
 
     @property
     def address(self):
         """The address at which it is asked."""
         return next(iter(self.addresses.values()))
-
-    def status(self, *names):
-        """The memory of its process by these names, in KiB, and the seconds of a processor that it has taken."""
-        with open(f'/proc/{self.process.pid}/status', encoding='ascii') as status:
-            lines = dict(line.split(':', 1) for line in status)
-        with open(f'/proc/{self.process.pid}/stat', encoding='ascii') as stat:
-            words = stat.read().rpartition(')')[2].split()
-        return {name: int(lines[name].split()[0]) for name in names}, (int(words[11]) + int(words[12])) / os.sysconf('SC_CLK_TCK')
 
 
 class Lab:
@@ -56,7 +54,7 @@ class Lab:
         self.nets, self.program, self.library, self.rate, self.folder = nets, program, library, rate, folder
         self.begun = time.monotonic_ns()
         self.daemons = list(dict.fromkeys(daemon for net in nets for daemon in net))
-        self.starts, self.asked = 0, 0
+        self.starts = 0
 
     def seconds(self):
         """The seconds of fast time since the lab began."""
@@ -83,7 +81,8 @@ class Lab:
         words = self.at(daemon.name) + [self.program, 'serve', daemon.local, daemon.name, daemon.role, '1000000000', *self.peers(daemon)]
         self.starts += 1
         path = os.path.join(self.folder, f'{daemon.name}-{self.starts}.trace')
-        environment = self.environment(daemon.ahead, drift=daemon.drift, hold=1, spoil=daemon.spoils)
+        at, step = daemon.step
+        environment = self.environment(daemon.ahead, drift=daemon.drift, hold=1, spoil=daemon.spoils, at=at * 1000, step=step * 1000)
         with open(path, 'wb') as trace:
             daemon.process = subprocess.Popen(words, stdout=trace, stderr=subprocess.DEVNULL, env=environment)
         daemon.trace.append(path)
@@ -103,7 +102,6 @@ class Lab:
         """Asks a daemon, again where the question or its answer was lost, and gives the words of the answer; None where there is none
         and none is wanted."""
         for _ in range(tries):
-            self.asked += 1
             ran = subprocess.run(
                 self.at(ASKER) + [self.program, *words], stdout=subprocess.PIPE, stderr=subprocess.DEVNULL, env=self.environment(0), check=False
             )
@@ -137,6 +135,11 @@ class Lab:
     def cables(_):
         """The bridge's interfaces to a host."""
         return []
+
+    @staticmethod
+    def frames():
+        """How many frames the bridge carried, lost, carried twice and changed, once the lab is closed."""
+        return {}
 
     def close(self):
         """Ends what was started."""
@@ -189,8 +192,8 @@ class Namespaces(Lab):
         if not cls.is_mounted:
             run('mount', '-t', 'tmpfs', 'none', '/run')
             os.mkdir('/run/netns')
-            # (processes have numbers of their own here)
-            run('mount', '-t', 'proc', 'none', '/proc')
+            # (processes have numbers of their own here; where that view isn't to be had, what they take isn't told)
+            subprocess.run(['mount', '-t', 'proc', 'none', '/proc'], stderr=subprocess.DEVNULL, check=False)
             cls.is_mounted = True
 
     def wire(self, number, place, name):
@@ -219,6 +222,10 @@ class Namespaces(Lab):
     def cables(self, daemon):
         """The bridge's interfaces to a host."""
         return [f'to{number}-{daemon.name}' for number in daemon.addresses]
+
+    def frames(self):
+        """How many frames the bridge carried, lost, carried twice and changed, once the lab is closed."""
+        return {'carried': self.carried, 'lost': self.lost, 'doubled': self.doubled, 'changed': self.spoiled}
 
     def close(self):
         """Ends what was started; the bridge says what it carried and lost."""

@@ -3,30 +3,30 @@ import math
 import os
 
 WIDTH, LEFT, TOP, STEP, FOOT = 760, 230, 60, 22, 40
-MARKS = (0.01, 0.1, 1, 10, 100)
+MARKS, LOWEST, HIGHEST = (0.01, 0.1, 1, 10, 100), 0.01, 200
 TEXT = '''# How well it keeps time
 
 How far two corrected clocks are from each other, measured, beside what is promised of them. `tools/accuracy` wrote this page and its picture:
 
 ```
-tools/accuracy --minutes {minutes} --rate {rate} --seed {seed}
+tools/accuracy --minutes {minutes} --rate {rate} --seed {seed} --jobs {jobs}
 ```
 
-Each case is a network of daemons in namespaces of one machine, without faults, for {minutes} minutes of its own time, which ran {rate} times as fast. Two hosts
-may be master. Wall clocks are up to half a second off at first. Rates are drawn up to the drift, in parts in a million, and each datagram is late by up to
-the jitter, in milliseconds of the network's time. On top come the ways through the kernel and the bridge, and what a daemon waits for a processor: {rate} times
-what they take on the machine, which is busy. The least error of a measurement shows that.
+Each case is a network of daemons in namespaces of one machine, without faults, {time}; {jobs} networks ran side by side. Two hosts may be
+master. Wall clocks are up to half a second off at first. Rates are drawn up to the drift, in parts in a million, and each datagram is late by up to the jitter.
+On top come the ways through the kernel and the bridge, and what a daemon waits for a processor of a busy machine: the least error of a measurement shows that.
 
 Times come from the clock that all daemons count by, whose rates and walls are known here. Each run was also replayed and audited by `tsp-witness`, which
 knows neither: {judged}.
 
-- **apart**: the greatest distance of two clocks that one round of their master corrected, the master's among them, while nothing else moved them.
+- **error**: the least error of a measurement, which is half of the shortest round trip.
+- **apart**: the greatest distance of two clocks that one round of their master corrected, the master's among them, while nothing else moved them. A clock is
+  what a question is told, which is its target.
 - **promised**: what is promised of these two at that moment: their samples' errors, and the drift since these were taken, twice.
 - **most**: the greatest part of what was promised that any two clocks came to, at any moment.
-- **error**: the least error of a measurement, which is half of the shortest round trip.
 
-The simulations are runs of `tsp-sim` with as many nodes and as much drift, whose datagrams are on their way for the daemons' least error and up to the jitter
-besides. All but the last column are milliseconds.
+The simulations are runs of `tsp-sim` with as many nodes and as much drift, whose datagrams are on their way for the daemons' least error, and up to the jitter
+besides. Jitter, errors and distances are milliseconds.
 
 | hosts | drift | jitter | daemons: error | apart | promised | most | simulated: error | apart | promised | most |
 |---|---|---|---|---|---|---|---|---|---|---|
@@ -35,6 +35,9 @@ besides. All but the last column are milliseconds.
 ![What was measured and what was promised](accuracy.svg)
 
 {sums}
+
+Where nothing drifts, distances come from the ways of datagrams alone, and from what daemons on a busy machine wait for a processor; simulated nodes don't wait.
+Where clocks drift, they part from one round to the next, and that decides.
 '''
 
 
@@ -56,12 +59,20 @@ def row(case):
     return '| ' + ' | '.join(cells) + ' |'
 
 
+def ratios(cases):
+    """How the distances of daemons compare with those of simulated nodes, drift by drift."""
+    for drift in sorted({case['drift'] for case in cases}):
+        found = sorted(case['daemons']['apart'] / case['simulated']['apart'] for case in cases if case['drift'] == drift)
+        yield f'{found[0]:.1f} to {found[-1]:.1f} with a drift of {drift}'
+
+
 def sums(cases):
     """What is to be said of all cases together."""
     corrections = {kind: sum(case[kind]['corrections'] for case in cases) for kind in ('daemons', 'simulated')}
     worst = {kind: max(case[kind]['part'] for case in cases) for kind in ('daemons', 'simulated')}
-    return (f'In all {len(cases)} cases rounds moved followers {corrections["daemons"]} times among daemons, and {corrections["simulated"]} times in simulations.\n'
-            f'Two clocks came to {worst["daemons"]:.0%} of what was promised at the most among daemons, and to {worst["simulated"]:.0%} in simulations.')
+    return (f'In all {len(cases)} cases rounds moved followers {corrections["daemons"]} times among daemons, and {corrections["simulated"]} times in simulations. '
+            f'Two\nclocks came to {worst["daemons"]:.0%} of what was promised at the most among daemons, and to {worst["simulated"]:.0%} in simulations. '
+            f'The distances of daemons\nare those of simulated nodes times {", ".join(ratios(cases))}.')
 
 
 def judged(cases):
@@ -73,8 +84,8 @@ def judged(cases):
 
 def place(millis):
     """Where a number of milliseconds stands, by its logarithm."""
-    low, high = math.log10(MARKS[0]), math.log10(MARKS[-1])
-    return LEFT + (WIDTH - LEFT - 20) * (math.log10(min(max(millis, MARKS[0]), MARKS[-1])) - low) / (high - low)
+    low, high = math.log10(LOWEST), math.log10(HIGHEST)
+    return LEFT + (WIDTH - LEFT - 20) * (math.log10(min(max(millis, LOWEST), HIGHEST)) - low) / (high - low)
 
 
 def picture(cases):
@@ -98,10 +109,15 @@ def picture(cases):
     return '\n'.join([*out, '</svg>', ''])
 
 
+def time_of(given):
+    """How long each network ran, and how fast."""
+    return f'for {given.minutes} minutes' if given.rate == 1 else f'for {given.minutes} minutes of its own time, which runs {given.rate} times as fast'
+
+
 def write(folder, cases, given):
     """Writes the page and its picture."""
-    rows = '\n'.join(map(row, cases))
+    told = {'rows': '\n'.join(map(row, cases)), 'sums': sums(cases), 'judged': judged(cases), 'time': time_of(given)}
     with open(os.path.join(folder, 'ACCURACY.md'), 'w', encoding='utf-8') as file:
-        file.write(TEXT.format(minutes=given.minutes, rate=given.rate, seed=given.seed, rows=rows, sums=sums(cases), judged=judged(cases)))
+        file.write(TEXT.format(minutes=given.minutes, rate=given.rate, seed=given.seed, jobs=given.jobs, **told))
     with open(os.path.join(folder, 'accuracy.svg'), 'w', encoding='utf-8') as file:
         file.write(picture(cases))

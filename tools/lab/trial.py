@@ -2,7 +2,7 @@
 import signal
 import time
 
-from lab.hosts import START, Daemon, Failed
+from lab.hosts import START, Daemon, Failed, Unlike
 from lab.witness import witness
 
 # The share of frames that are lost and that come twice, and how late a frame is, in microseconds.
@@ -167,6 +167,6 @@ def wants_witness(lab, spoiled):
         say(f'witness: {line}')
     named = [line for line in besides if ' of b in turn ' in line and 'never posted' in line]
     if spoiled and (status == 0 or len(named) != 1):
-        raise Failed('the datagram that b changed isn\'t found')
+        raise Unlike('the datagram that b changed isn\'t found')
     if not spoiled and status:
-        raise Failed('the traces aren\'t those of the rules')
+        raise Unlike('the traces aren\'t those of the rules')

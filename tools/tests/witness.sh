@@ -47,10 +47,12 @@ change() {
     ! cmp -s "$given/$1/$2.trace" "$out/changed/$2.trace" || fail "$3 changes nothing in $2"
 }
 
-PYTHONPATH=tools python3 -B tools/tests/witness_times.py 2>"$out/told" || fail "$(cat "$out/told")"
+for worked in witness_times distances_worked; do
+    PYTHONPATH=tools python3 -B "tools/tests/$worked.py" 2>"$out/told" || fail "$(cat "$out/told")"
+done
 
-# The daemons' own lines are all alike: in a run that was worked out by hand, and with a SETTIME that is repeated right behind its take; with a killed and returned master and a date, in strict elections, and
-# with two gateways between the same two networks, whose LOOPs come back.
+# The daemons' own lines are all alike: in a run that was worked out by hand, in one whose SETTIME is repeated right behind its late take,
+# with a killed and returned master and a date, in strict elections, and with two gateways between the same two networks, whose LOOPs come back.
 for network in hand repeated three strict loops; do
     wants 0 "$(written "$given/$network") acts alike, holds" "$network" "$given/$network"
     [ ! -s "$out/besides" ] || fail "$network: $(cat "$out/besides")"
@@ -64,7 +66,7 @@ grep -q ' took [0-9]* loop ' "$given/loops/b-2.trace" || fail 'no LOOP comes bac
         echo 'tsp-launch: in the trace peer 0 is a, 1 b, 2 c'
         cat "$given/three/$start.trace"
     done
-} | sed 's/^/Nov 28 06:00:00 alpha tsp[99]: /' >"$out/journal"
+} | sed 's/^/Jan 04 06:00:00 alpha tsp[99]: /' >"$out/journal"
 rm -rf "$out/changed"
 cp -r "$given/three" "$out/changed"
 rm "$out/changed"/a-*
@@ -73,6 +75,24 @@ wants 0 "$(written "$given/three") acts alike, holds" three "$out/changed"
 sed -i 's/1 b, 2 c$/1 c, 2 b/' "$out/changed/a-1.trace"
 wants 3 '' three "$out/changed"
 tells 'the daemon was started with the peers 0 a, 1 c, 2 b; by the hosts file they are 0 a, 1 b, 2 c'
+
+# Two daemons as the launcher starts them, with what both write in one file as a journal has it; each is asked for its clock.
+free_ports 2 >"$out/ports"
+read -r one two <"$out/ports"
+printf '%s\n' "a 127.0.0.1:$one master" "b 127.0.0.1:$two slave" >"$out/hosts"
+mkdir "$out/launched"
+for name in a b; do
+    tools/tsp-launch --file "$out/hosts" --self "$name" --turns 6 --trace --program "$TSP_PROGRAM" >"$out/launched/$name" 2>&1 &
+done
+sleep 2
+for port in "$one" "$two"; do
+    "$TSP_PROGRAM" clockdiff "127.0.0.1:$port" >"$out/clock" || fail "a daemon's clock isn't told"
+done
+wait
+status=0
+tools/tsp-witness --check --file "$out/hosts" "a=$out/launched/a" "b=$out/launched/b" >"$out/said" 2>"$out/besides" || status=$?
+[ "$(cat "$out/said")" = "$(cat "$out/launched/a" "$out/launched/b" | grep -c '^[0-9]') acts alike, holds" ] && [ "$status" -eq 0 ] || fail "daemons of the launcher: $(cat "$out/said" "$out/besides")"
+grep -q ' reply ' "$out/launched/a" || fail 'the trace has no clock'
 
 # Clocks that drift fit no times without rates, and do with them.
 wants 3 '' drifting "$given/drifting"
@@ -98,7 +118,7 @@ change three c-2 's/ correct \(-\{0,1\}[0-9]*\)\([0-9]\) slew/ correct \12\2 sle
 status=0
 witness three "$out/changed" --check >"$out/said" 2>"$out/besides" || status=$?
 [ "$status" -eq 1 ] || fail "a changed correction gives the status $status"
-tells 'acts alike, and then one that differs' 'c, turn ' 'by the rules it is "2 0 ' 'the datagram before it: "adjtime '
+tells 'acts alike, and then one that differs' 'c, turn ' ': it did "correct ' ', and by the rules it is "correct ' 'the datagram before it: "adjtime '
 status=0
 witness hand "$given/strict" --check >"$out/said" 2>"$out/besides" || status=$?
 [ "$status" -eq 3 ] || fail "traces of another network give the status $status"
@@ -112,12 +132,19 @@ tells 'b: lines are lost before turn '
 change hand a-1 '$d'
 wants 0 "$(written "$out/changed") acts alike, holds" hand "$out/changed"
 
+# Traces that end before any line tells a clock: what is known of the words tells enough.
+change hand b-2 '/ took 1 settime/,$d'
+sed -i '/ took 1 ack /,$d' "$out/changed/a-1.trace"
+wants 0 "$(written "$out/changed") acts alike, holds" hand "$out/changed"
+sed -i '/ settime /d' "$out/changed/a-1.trace"
+wants 0 "$(written "$out/changed") acts alike, holds" hand "$out/changed"
+
 # A host without a trace, and a trace that begins late.
 rm -rf "$out/changed"
 cp -r "$given/three" "$out/changed"
 rm "$out/changed/c-2.trace"
 wants 1 "$(written "$out/changed") acts alike, holds" three "$out/changed"
-tells ' of c in turn ' 'which has no trace here'
+tells "b took $(grep -c ' took 2 ' "$out/changed/b-3.trace") datagrams of c, which has no trace here"
 change hand b-2 '/ 0 0 1000000 /d'
 status=0
 witness hand "$out/changed" --check >"$out/said" 2>"$out/besides" || status=$?

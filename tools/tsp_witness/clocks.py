@@ -75,12 +75,14 @@ class Placing:
         earliest = [max(first - schedule.FARTHEST, 0) * MILLION / (MILLION + rate) - offset for first, rate, offset in zip(begun, fit.rates, fit.offsets)]
         # (walls are as small as they may be, and a second less, so that times can be told in seconds)
         self.origin = (int(max(earliest)) // MILLION + 2) * MILLION
+        told = set()
         for (node, life), number in clocks.number.items():
             self.rates[node] = fit.rates[number]
             if life is None:
+                told.add(node)
                 self.walls[node] = begun[number] - self.begins(node, number)
         for life in clocks.matching.lives():
-            self.bases[life] = self.base_of(life)
+            self.bases[life] = self.base_of(life, told)
         if any(abs(wall) > schedule.FARTHEST for wall in self.walls):
             raise Unusable('the wall clocks are further apart, or later, than a schedule can tell')
 
@@ -89,13 +91,20 @@ class Placing:
         at = self.origin + round(self.clocks.fit.offsets[number])
         return at + at * self.rates[node] // MILLION
 
-    def base_of(self, life):
-        """A life's wall clock at its start; where no line tells it, one that fits its datagrams."""
+    def base_of(self, life, told):
+        """A life's wall clock at its start; where no line tells it, one that fits its datagrams. The node of such a life has the wall clock that
+        fits, where no other life of it tells one."""
         if life.base is not None:
             return life.base
-        rest, spread = life.residue()
-        near = self.walls[life.node] + self.begins(life.node, self.clocks.clock(life))
-        return near + (rest - near + spread // 2) % spread - spread // 2
+        begins, (rest, spread) = self.begins(life.node, self.clocks.clock(life)), life.residue()
+        if life.node in told:
+            near = begins + self.walls[life.node]
+            return near + (rest - near + spread // 2) % spread - spread // 2
+        near = begins + max(max(self.walls) - spread, 0)
+        base = near + (rest - near) % spread
+        told.add(life.node)
+        self.walls[life.node] = base - begins
+        return base
 
     def tick(self, life, tick):
         """The tick of a life's node at a tick of the life."""

@@ -1,8 +1,12 @@
 """Journals: the lines that a host's daemon wrote, life by life, as files or a journal have them."""
+import math
+
 from tsp_witness import Unusable, grammar
 
 ELECT_MIN, ELECT_SPREAD = 300_000_000, 300_000_000
 TICKETS = 32768
+# Messages whose number is the ticket, or 32,768 more and the count of such sends so far.
+NUMBERED = ('slaveup', 'election', 'conflict', 'quit', 'setdatereq')
 
 
 class Act:
@@ -47,16 +51,15 @@ class Life:
                 corrected = corrected or act.words[0] == 'correct'
 
     def residue(self):
-        """What is known of the base where no line tells it: its rest, and by what number it was divided."""
-        for turn in self.turns:
-            for act in turn.acts:
-                if act.words[:2] == ['arm', 'elect']:
-                    return int(act.words[2]) - turn.tick - ELECT_MIN, ELECT_SPREAD
-        for turn in self.turns:
-            for act in turn.acts:
-                if act.words[0] == 'post' and act.words[3] == 'slaveup':
-                    return int(act.words[4]), TICKETS
-        return 0, 1
+        """What is known of the base where no line tells it: its rest, and by what number it was divided. The delay of elections tells one, and the
+        number of the first numbered send another, which begins with the ticket."""
+        acts = [(turn, act.words) for turn in self.turns for act in turn.acts]
+        delay = next((int(words[2]) - turn.tick - ELECT_MIN for turn, words in acts if words[:2] == ['arm', 'elect']), None)
+        ticket = next((int(words[4]) % TICKETS for _, words in acts if words[0] == 'post' and words[3] in NUMBERED), None)
+        if delay is None or ticket is None:
+            return (0, 1) if delay is None and ticket is None else (delay, ELECT_SPREAD) if ticket is None else (ticket, TICKETS)
+        spread = ELECT_SPREAD * TICKETS // math.gcd(ELECT_SPREAD, TICKETS)
+        return next((rest for rest in range(delay, spread, ELECT_SPREAD) if rest % TICKETS == ticket), delay), spread
 
     def count_posts(self):
         """Finds when the trace began, how many datagrams were posted before that, and where numbers are missing."""

@@ -1,4 +1,5 @@
 """What a network lived through: its daemons' turns in an order and at times, as a schedule and the claims that belong to it."""
+import collections
 import heapq
 import itertools
 from typing import NamedTuple
@@ -26,10 +27,12 @@ class Claim(NamedTuple):
 
 
 class Story:
-    """The schedule and the claims of a network's journals. `placing` makes rates, walls and times of the clocks that were found."""
+    """The schedule and the claims of a network's journals. `placing` makes rates, walls and times of the clocks that were found. `altered` are
+    datagrams that came otherwise than they were posted, `notes` what else isn't in its place."""
 
     def __init__(self, network, journals, most=0, placing=Placing):
-        self.network, self.journals, self.most, self.notes = network, journals, most, []
+        self.network, self.journals, self.most = network, journals, most
+        self.notes, self.altered = [], []
         self.placing = placing(self.clocks(), len(network.names))
         self.note_faults()
         self.events, self.claims, self.posted = [], [], 0
@@ -101,15 +104,19 @@ class Story:
             self.notes += journal.notes
             for life in journal.lives:
                 self.note_missing(life)
+        absent = collections.Counter()
         for turn in self.matching.strange:
-            self.notes.append(self.strange_text(turn))
+            sender, _ = self.matching.sender(turn)
+            if sender in self.journals:
+                self.altered.append(self.altered_text(turn, sender))
+            else:
+                absent[turn.life.node, sender] += 1
+        self.notes += [f'{self.network.names[node]} took {count} datagrams of {self.network.names[sender]}, which has no trace here'
+                       for (node, sender), count in absent.items()]
 
-    def strange_text(self, turn):
+    def altered_text(self, turn, sender):
         """What a daemon took of a peer that never posted it."""
-        sender, _ = self.matching.sender(turn)
         what = f'{self.name(turn.life)} took "{" ".join(turn.took().words[2:])}" of {self.network.names[sender]} in turn {turn.number}'
-        if sender not in self.journals:
-            return f'{what}, which has no trace here'
         nearest = self.matching.nearest(turn)
         return f'{what}, which by its trace never posted that to it' + (f'; it posted "{nearest}"' if nearest else '')
 

@@ -125,10 +125,13 @@ def explain(story, difference):
     """The first act that differs, with the datagram before it, in lines for a reader."""
     texts, ruled = [claim.text for claim in difference.claimed], difference.ruled
     place = next((place for place, pair in enumerate(zip(texts, ruled)) if pair[0] != pair[1]), min(len(texts), len(ruled)))
+    did, rule = (lines[place] if place < len(lines) else 'nothing more' for lines in (texts, ruled))
+    if did.split(' ')[:3] == rule.split(' ')[:3]:
+        # (node, port and tick)
+        did, rule = (text.split(' ', 3)[3] for text in (did, rule))
     turn = difference.claimed[0].turn if difference.claimed else None
     who = f'{story.name(turn.life)}, turn {turn.number}, tick {turn.tick}' if turn else f'event {difference.event}'
-    yield f'{who}: it did "{texts[place] if place < len(texts) else "nothing more"}"'
-    yield f'by the rules it is "{ruled[place] if place < len(ruled) else "nothing more"}"'
+    yield f'{who}: it did "{did}", and by the rules it is "{rule}"'
     yield before(story, difference.event, turn)
 
 
