@@ -11,7 +11,7 @@ import signal
 import subprocess
 import sys
 
-MEMORY, SECONDS, LARGE = 700 * 2**20, 40, 64 * 2**20
+MEMORY, SECONDS, LARGE = 450 * 2**20, 40, 64 * 2**20
 COLUMNS = 'tool reads good unread faulty words unwritten writes option waits'.split()
 # Root reads every file but for this.
 AS_OTHERS = ['setpriv', '--bounding-set=-dac_override,-dac_read_search']
