@@ -32,7 +32,7 @@ def files_of(folder):
     unread = {name: os.path.join(folder, name) for name in ('missing', 'locked', 'folder')}
     faulty = {name: os.path.join(folder, name) for name in ('empty', 'latin', 'nuls', 'large', 'lines')}
     os.mkdir(unread['folder'])
-    contents = {'empty': b'', 'latin': b'\xe9\xff\xfe\n' * 3, 'nuls': b'a\0b 1 2\n', 'large': b'x' * LARGE, 'lines': b'x\n' * (LARGE // 2), 'locked': b''}
+    contents = {'empty': b'', 'latin': b'\xe9\xff\xfe\n' * 3, 'nuls': b'a\0b 1 2\n', 'large': b'x' * LARGE, 'lines': b'x y z 123456789 123456789 123456789\n' * (LARGE // 36), 'locked': b''}
     for name, octets in contents.items():
         with open(os.path.join(folder, name), 'wb') as file:
             file.write(octets)
@@ -65,8 +65,8 @@ class Trial:
         return subprocess.Popen([*before, self.tool, *words], stderr=subprocess.PIPE, preexec_fn=limits,
                                 env=dict(os.environ, TMPDIR=self.temporary), **streams)
 
-    def run(self, words, status, lines=1, source=os.devnull, **more):
-        """Wants this status, and so many lines on standard error, the tool's name before each."""
+    def run(self, words, status, lines=(1,), source=os.devnull, **more):
+        """Wants this status, or another than 0 where that is None, and so many lines on standard error, the tool's name before each."""
         before = listing(self.temporary)
         with open(source, 'rb') as stdin:
             process = self.begin(words, **{'stdin': stdin, 'stdout': subprocess.DEVNULL, **more})
@@ -82,10 +82,10 @@ class Trial:
             process.kill()
             raise Wrong(f'{what} isn\'t over after {2 * SECONDS} s') from late
         found = 128 - process.returncode if process.returncode < 0 else process.returncode
-        if found != status:
+        if found != status if status is not None else not found:
             raise Wrong(f'{what}: status {found}, not {status}: {said[-3:]}')
-        if len(said) != lines or not all(line.startswith(f'{self.name}: ') for line in said):
-            raise Wrong(f'{what}: on standard error stand {said[:9]}, which should be {lines} lines')
+        if len(said) not in lines or not all(line.startswith(f'{self.name}: ') for line in said):
+            raise Wrong(f'{what}: on standard error stand {said[:9]}, which should be {lines[-1]} lines')
         self.count += 1
 
     def of_files(self, unread, faulty):
@@ -97,10 +97,10 @@ class Trial:
             before = AS_OTHERS if name == 'locked' and os.geteuid() == 0 else ()
             if before and not shutil.which(before[0]):
                 continue
-            self.run(words, int(status), 0 if told else 1, source, before=before)
+            self.run(words, int(status), (0,) if told else (1,), source, before=before)
         if self.row['good'] != '-':
             words, source = self.words('reads', FILE=self.row['good'])
-            self.run(words, 0, 0, source)
+            self.run(words, 0, (0,), source)
 
     def of_words(self):
         self.run(['--no-such-option'], int(self.row['words']))
@@ -115,10 +115,10 @@ class Trial:
         self.run(words, unwritten, stdout=None, also=lambda: os.close(1))
         reader, writer = os.pipe()
         os.close(reader)
-        self.run(words, 128 + signal.SIGPIPE, 0, stdout=writer)
+        self.run(words, 128 + signal.SIGPIPE, (0,), stdout=writer)
         os.close(writer)
-        # (with nothing to say it on, the status is the same)
-        self.run(['--no-such-option'], int(self.row['words']), 0, also=lambda: os.close(2))
+        # (there is nothing to say it on)
+        self.run(['--no-such-option'], None, (0,), also=lambda: os.close(2))
 
     def of_inputs(self):
         """A standard input that is closed, for a tool that reads it."""
@@ -129,11 +129,11 @@ class Trial:
         fifo, program = os.path.join(self.folder, 'fifo'), os.path.join(self.folder, 'program')
         words, source = self.words('waits', FIFO=fifo, PROGRAM=program)
         before = listing(self.temporary)
-        process = self.begin(words, stdin=subprocess.DEVNULL, stdout=subprocess.DEVNULL)
-        # (a fifo is opened once the other side is)
+        process = self.begin(words, stdin=subprocess.DEVNULL, stdout=subprocess.DEVNULL, start_new_session=True)
+        # (a fifo is opened once the other side is; an interrupt goes to all that a terminal has in front)
         with open(fifo, 'wb'):
-            process.send_signal(signal.SIGINT)
-            self.ended(process, words, 128 + signal.SIGINT, 1)
+            os.killpg(process.pid, signal.SIGINT)
+            self.ended(process, words, 128 + signal.SIGINT, (0, 1))
         if listing(self.temporary) != before:
             raise Wrong(f'{self.name} leaves {listing(self.temporary) - before} where it is interrupted')
 
