@@ -10,6 +10,7 @@ import shutil
 import signal
 import subprocess
 import sys
+import time
 
 MEMORY, SECONDS, LARGE = 450 * 2**20, 40, 64 * 2**20
 COLUMNS = 'tool reads good unread faulty words unwritten left writes option waits'.split()
@@ -132,8 +133,9 @@ class Trial:
         words, source = self.words('waits', FIFO=fifo, PROGRAM=program)
         before = listing(self.temporary)
         process = self.begin(words, stdin=subprocess.DEVNULL, stdout=subprocess.DEVNULL, start_new_session=True, warnings='ignore')
-        # (a fifo is opened once the other side is; an interrupt goes to all that a terminal has in front, at any place of a tool)
+        # (a fifo is opened once the other side is, and then waited for; an interrupt goes to all that a terminal has in front)
         with open(fifo, 'wb'):
+            time.sleep(0.5)
             os.killpg(process.pid, signal.SIGINT)
             self.ended(process, words, 128 + signal.SIGINT, (0, 1))
         if listing(self.temporary) != before:
