@@ -45,7 +45,7 @@ fi
 
 # The words of the grammar are those of --help, in the table of FORMATS and in the page.
 ./tsp --help | sed -n 's/^    tsp \([a-z-]*\) .*/\1/p' | sort >"$out/commands"
-sed -n '/^## The program/,/^A status tells/p; /^`--help` and/q' docs/FORMATS.md | sed -n 's/^| `\([a-z-]*\).*/\1/p' | sort -u >"$out/named"
+sed -n '/^## The program/,/^The status says/p; /^`--help` and/q' docs/FORMATS.md | sed -n 's/^| `\([a-z-]*\).*/\1/p' | sort -u >"$out/named"
 cmp -s "$out/commands" "$out/named" || fail "docs/FORMATS.md has other commands than tsp --help: $(comm -3 "$out/commands" "$out/named")"
 sed -n '/^\.SH SYNOPSIS/,/^\.SH DESCRIPTION/s/^\.B tsp \([a-z-]*\)$/\1/p' man/tsp.1 | sort >"$out/named"
 cmp -s "$out/commands" "$out/named" || fail "man/tsp.1 has other commands than tsp --help: $(comm -3 "$out/commands" "$out/named")"

@@ -56,11 +56,38 @@ tools/tsp-plot "$out/many.tsp" "$out/many.trace" >"$out/picture.svg" || fail 'tw
 ./tsp show </dev/null || fail "the program isn't there"
 tools/tsp-plot examples/first.tsp -o "$out/picture.svg" || fail 'a schedule without a trace is not drawn'
 cmp -s "$out/picture.svg" examples/first.svg || fail 'a schedule without a trace gives another picture'
+for case in 'false|replay of examples/first.tsp ends with status 1; tsp-lint says more' 'true|the run of examples/first.tsp: line 1: event 1 of this schedule has no line' \
+    'yes|the run of examples/first.tsp: line 1: it is no line of a trace'; do
+    status=0
+    tools/tsp-plot -p "${case%%|*}" examples/first.tsp >"$out/picture.svg" 2>"$out/told" || status=$?
+    [ "$status" -eq 1 ] && [ "$(cat "$out/told")" = "tsp-plot: ${case#*|}" ] || fail "the program ${case%%|*}: $(cat "$out/told")"
+done
 
 # What isn't a schedule is refused.
 sed 3d examples/first.tsp >"$out/broken.tsp"
 ! tools/tsp-plot "$out/broken.tsp" examples/first.trace >"$out/picture.svg" 2>"$out/told" || fail 'a schedule without a node is drawn'
 grep -q 'line 3' "$out/told" || fail 'it is not said where a schedule is broken'
+
+# A file is written as a whole or stays as it is; a link's file is, and a mode stays.
+cp examples/first.svg "$out/old.svg"
+chmod 640 "$out/old.svg"
+ln -s old.svg "$out/link.svg"
+tools/tsp-plot examples/election.tsp examples/election.trace -o "$out/link.svg" || fail 'a picture is not put in the place of another'
+cmp -s "$out/old.svg" examples/election.svg && [ -L "$out/link.svg" ] && [ "$(stat -c %a "$out/old.svg")" = 640 ] || fail 'a picture is written beside a link, or with another mode'
+# Fails, with this said.
+unwritten() {
+    said=$1
+    shift
+    status=0
+    "$@" >"$out/picture.svg" 2>"$out/told" || status=$?
+    [ "$status" -eq 1 ] && [ "$(cat "$out/told")" = "tsp-plot: $said" ] || fail "$*: status $status, $(cat "$out/told")"
+}
+unwritten "$out/none/a.svg: No such file or directory" tools/tsp-plot examples/first.tsp examples/first.trace -o "$out/none/a.svg"
+unwritten "$out: Is a directory" tools/tsp-plot examples/first.tsp examples/first.trace -o "$out"
+unwritten '/dev/full: No space left on device' tools/tsp-plot examples/first.tsp examples/first.trace -o /dev/full
+unwritten "$out/old.svg: File too large" sh -c 'ulimit -f 1; exec tools/tsp-plot examples/round.tsp examples/round.trace -o "$1"' sh "$out/old.svg"
+cmp -s "$out/old.svg" examples/election.svg || fail 'a picture that was not written leaves a part'
+! find "$out" -name '.*.svg*' | grep . || fail 'a picture that was not written leaves a file'
 
 # What isn't a trace of this schedule is refused, with the line.
 others=0

@@ -122,6 +122,8 @@ def node_line(drift):
 
 def explain_net(line, nodes):
     """The field and the hint for a network's line that isn't one."""
+    if blank_hint(line):
+        return explain(line, [])
     count = max(line.count(b' '), 1)
     field, hint = explain(line, [literal('net')] + [NODE] * count, nodes)
     numbers = line.split(b' ')[1:]
@@ -185,7 +187,7 @@ def explain(line, shape, nodes=()):
     """The field and the hint for a line that isn't of this shape."""
     hint = blank_hint(line)
     if hint:
-        return field_of_blank(line), hint
+        return field_of_blank(line[:schedule.LONGEST_LINE + 1]), hint
     words = line.decode('ascii', 'backslashreplace').split(' ')
     for place, field in enumerate(shape, start=1):
         if place > len(words):
@@ -198,9 +200,9 @@ def explain(line, shape, nodes=()):
 
 def explain_event(line, nodes):
     """The field and the hint for a line that is no event."""
-    words = line.decode('ascii', 'backslashreplace').split(' ')
     if blank_hint(line):
-        return explain(line, [AT])
+        return explain(line, [])
+    words = line.decode('ascii', 'backslashreplace').split(' ')
     if words == ['net']:
         return 2, 'N is missing: a network names its nodes, and stands in the header'
     if words[0] in ('node', 'net'):
