@@ -1,6 +1,5 @@
 -- From what the words ask for, and from how a daemon or a question ends, to how the program does.
-use Rattle.std.specs.Prelude.{◌≡◌, ◌⊎◌, ◌≤◌, ◌<◌, ℕ, ℤ, Bool, true, false, List, [], ◌++◌, length, Option, None, Some, IfSome, IfOk, MatchOption, codes}
-use Rattle.std.specs.declared.result.Result.{Result}
+use Rattle.std.specs.Prelude.{◌≡◌, ◌⊎◌, ℕ, ℤ, true, false, List, [], Option, None, Some, IfSome, MatchOption}
 use Rattle.std.proofs.Common.{sym, ◌∙◌, inl, inr, subst, refl, ap, arith}
 use Rattle.tsp_query.specs.declared.exit.QueryExit.{QueryExit}
 use Rattle.tsp_query.specs.declared.exit.QueryExit.TheVariants.{Answered, NoAnswer as Unanswered, LinkFault as NotAsked, WriteFault as Untold, OutOfMemory as Unasked}

@@ -1,5 +1,5 @@
 -- How long receives wait, turn by turn.
-use Rattle.std.specs.Prelude.{◌≡◌, ◌⊎◌, ◌<◌, ℕ, zero, suc, ◌+◌, List, [], ◌∷◌, ◌++◌, Option, None, Some, refl}
+use Rattle.std.specs.Prelude.{◌≡◌, ◌<◌, ℕ, suc, ◌+◌, List, [], ◌∷◌, ◌++◌, Option, None, Some, refl}
 use Rattle.std.proofs.Common.{ap, inl, inr, sym, subst, ◌∙◌, append_assoc, append-nil, arith}
 use Rattle.tsp_gateway.specs.declared.gateway.Gateway.{Gateway}
 use Rattle.tsp_gateway.specs.Dues.{IsNodeDue}
@@ -13,7 +13,7 @@ use Rattle.tsp_daemon.specs.declared.end.ServeEnd.{ServeEnd}
 use Rattle.tsp_daemon.specs.declared.end.ServeEnd.TheVariants.{Done, LinkFault, WriteFault, OutOfMemory}
 use Rattle.tsp_daemon.specs.Ends.{EndsTurn, IsReceived}
 use Rattle.tsp_daemon.specs.Sessions.{Session, after_turns, read_once}
-use Rattle.tsp_daemon.specs.Waits.{AreWaits, IsWait, NotesTurn, NotesWait, NotesWaits, wait_until}
+use Rattle.tsp_daemon.specs.Waits.{NotesTurn, NotesWait, NotesWaits, wait_until}
 use Rattle.tsp_daemon.proofs.SessionLemmas.{reading_taken}
 
 -- the first reading of a turn

@@ -1,5 +1,5 @@
 -- Where the words of any two boots of a schedule differ, so do those of its run.
-use Rattle.std.specs.Prelude.{◌≡◌, ◌≢◌, ℕ, ℤ, Bool, true, false, not, List, [], ◌∷◌, Some, refl}
+use Rattle.std.specs.Prelude.{◌≡◌, ◌≢◌, ℕ, ℤ, Bool, true, false, List, [], ◌∷◌, Some, refl}
 use Rattle.std.proofs.Common.{ap, sym, subst, inl, inr, true≢false, ◌∙◌}
 use Rattle.tsp_base.specs.declared.act.Act.{Act}
 use Rattle.tsp_base.specs.declared.act.Act.TheVariants.{Boot}

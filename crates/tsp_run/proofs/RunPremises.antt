@@ -1,5 +1,5 @@
 -- The premises of the promises hold of a run where they hold of its text.
-use Rattle.tsp_run.specs.Premised.{KeptByText, RunsKeepPremises}
+use Rattle.tsp_run.specs.Premised.{RunsKeepPremises}
 use Rattle.tsp_run.specs.Run.{run}
 use Rattle.tsp_run.proofs.ApartRun.{apart-words, own-words}
 use Rattle.tsp_run.proofs.NamesRun.{names-apart}

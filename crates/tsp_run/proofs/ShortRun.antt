@@ -1,15 +1,14 @@
 -- Where few datagrams are posted, no port begins many sends.
-use Rattle.std.specs.Prelude.{◌≡◌, ◌<◌, ◌≤◌, ℕ, ◌+◌, ◌==◌, ◌&&◌, ◌||◌, Bool, true, false, if◌then◌else◌, List, [], ◌∷◌, length, refl}
-use Rattle.std.proofs.Common.{arith, sym, subst, length-append}
+use Rattle.std.specs.Prelude.{◌≡◌, ◌<◌, ◌≤◌, ℕ, ◌+◌, ◌==◌, ◌&&◌, ◌||◌, Bool, true, false, if◌then◌else◌, List, [], ◌∷◌, length}
+use Rattle.std.proofs.Common.{arith, length-append}
 use Rattle.tsp_base.specs.declared.act.Act.TheVariants.{Boot, Post}
 use Rattle.tsp_base.specs.declared.datagram.Datagram.TheVariants.{Message, Stamp}
 use Rattle.tsp_base.specs.declared.place.Port.{Port}
-use Rattle.tsp_base.specs.History.{Acts, Begins, Deed, Did, Line, Seen, is_shared, of, seen_as, view}
+use Rattle.tsp_base.specs.History.{Acts, Begins, Deed, Line, Seen, is_shared, of, seen_as, view}
 use Rattle.tsp_base.specs.PortFacts.{acting}
 use Rattle.tsp_base.specs.SendFacts.{begun, begun_after, has_own_number}
 use Rattle.tsp_promises.specs.Fits.{node_of}
-use Rattle.tsp_promises.specs.Premises.{Few, FewAt}
-use Rattle.tsp_run.specs.Premised.{Short}
+use Rattle.tsp_promises.specs.Premises.{Few}
 use Rattle.tsp_run.specs.Run.{posted_in, posts}
 
 one_if : (b : Bool) (n m : ℕ) → n ≤ m → (if b then n + 1 else n) ≤ m + 1

@@ -1,4 +1,4 @@
-use Rattle.std.proofs.Common.{◌≡◌, ◌∙◌, ap, inl, inr, refl, rules, subst, List, ◌∷◌}
+use Rattle.std.proofs.Common.{◌≡◌, inl, inr, refl, rules, subst, List, ◌∷◌}
 use Rattle.tsp_args.specs.Ports.{all_peers}
 use Rattle.tsp_io.specs.declared.addr.Addr.{Addr}
 use Rattle.tsp_io.specs.Links.{Notes}
