@@ -24,6 +24,8 @@ for document in README.md docs/*.md examples/README.md; do
     done <"$out/links"
 done
 tools/definitions --check || fail 'docs/DEFINITIONS.md is out of date: tools/definitions writes it'
+tools/headline --check || fail 'docs/HEADLINE.md is out of date: tools/headline writes it'
+tools/layers --check || fail 'docs/layers.svg is out of date: tools/layers writes it'
 python3 tools/tests/proofs.py || fail 'docs/PROOFS.md names what is not there'
 [ "$count" -ge 4 ] || fail "only $count examples were tried"
 # The README is short, and no line of these pages is wide but in tables.
