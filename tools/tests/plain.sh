@@ -1,6 +1,6 @@
 #!/bin/sh
-# The program beside two that were written apart from it, by hand and in plain Rust (bench/plain.rs and bench/codec.rs): the same traces,
-# summaries, verdicts, lines and octets.
+# The program beside two that share no code with it, in plain Rust by hand (bench/plain.rs and bench/codec.rs): the same traces, summaries,
+# verdicts, lines and octets.
 . "$(dirname "$0")/common.sh"
 has rustc || { skip 'there is no rustc' 'the program beside a plain one'; exit; }
 ./tsp --path >"$out/path"
