@@ -104,7 +104,7 @@ _tsp_status() {
 }
 
 _tsp_watch() {
-    case $3:$2 in
+    case $(_tsp_before "$3"):$2 in
     --prometheus:*) mapfile -t COMPREPLY < <(compgen -f -- "$2") ;;
     *:-*) mapfile -t COMPREPLY < <(compgen -W '--json --prometheus --help' -- "$2") ;;
     *) mapfile -t COMPREPLY < <(compgen -f -- "$2") ;;
@@ -112,7 +112,7 @@ _tsp_watch() {
 }
 
 _tsp_now() {
-    case $3:$2 in
+    case $(_tsp_before "$3"):$2 in
     --program:* | -p:*) mapfile -t COMPREPLY < <(compgen -c -- "$2") ;;
     --file:* | -f:*) mapfile -t COMPREPLY < <(compgen -f -- "$2") ;;
     --tries:* | -t:* | --timeout:*) ;;
