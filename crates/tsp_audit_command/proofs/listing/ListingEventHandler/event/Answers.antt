@@ -4,7 +4,7 @@ use Rattle.std.specs.Prelude.{◌∷◌, ◌++◌, [], ◌||◌}
 use Rattle.std.proofs.Math.Path.{fun_ext}
 use Rattle.tsp_claims.specs.Listed.{boots}
 use Rattle.tsp_audit_command.proofs.Reverses.{reversed-more}
-use Rattle.tsp_audit_command.proofs.listing.ListingCourse.event.Goals as goal
+use Rattle.tsp_audit_command.proofs.listing.ListingEventHandler.event.Goals as goal
 
 pub returns-clause-happens : goal.returns-clause-happens
 returns-clause-happens c header events s =
