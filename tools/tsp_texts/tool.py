@@ -7,6 +7,8 @@ import sys
 import tempfile
 
 CUT_OFF, INTERRUPTED = 141, 130
+# A line on standard error is no longer than that, whatever it speaks of.
+MOST_SAID = 2000
 
 
 class Fault(Exception):
@@ -50,7 +52,8 @@ def say(text):
 
 
 def one_line(text):
-    """A text in which nothing but letters, signs and spaces is written as it is."""
+    """A text in which nothing but letters, signs and spaces is written as it is; of a very long one the beginning."""
+    text = text if len(text) <= MOST_SAID else text[:MOST_SAID] + ' ..'
     return ''.join(sign if sign.isprintable() else ascii(sign)[1:-1] for sign in text)
 
 
