@@ -6,7 +6,7 @@ import stat
 import sys
 import tempfile
 
-CUT_OFF, INTERRUPTED = 141, 130
+CUT_OFF = 141
 # A line on standard error is no longer than that, whatever it speaks of.
 MOST_SAID = 2000
 
