@@ -173,6 +173,10 @@ def main():
     waiting_program(folder)
     unread, faulty = files_of(folder)
     before, wrong, count = listing('tools'), 0, 0
+    for name in sorted(os.listdir('tools')):
+        if name.startswith('tsp-') and name not in {row['tool'] for row in rows}:
+            print(f'{name} has no row', file=sys.stderr)
+            wrong += 1
     for row in rows:
         try:
             count += Trial(row, folder).all(unread, faulty)
