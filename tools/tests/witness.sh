@@ -52,12 +52,15 @@ for worked in witness_times distances_worked; do
 done
 
 # The daemons' own lines are all alike: in a run that was worked out by hand, in one whose SETTIME is repeated right behind its late take,
-# with a killed and returned master and a date, in strict elections, and with two gateways between the same two networks, whose LOOPs come back.
-for network in hand repeated three strict loops; do
+# with a killed and returned master and a date, in strict elections, with two gateways between the same two networks, whose LOOPs come back, and
+# with a host that starts anew within a round, and answers its master before it traces.
+for network in hand repeated three strict loops unwritten; do
     wants 0 "$(written "$given/$network") acts alike, holds" "$network" "$given/$network"
     [ ! -s "$out/besides" ] || fail "$network: $(cat "$out/besides")"
 done
 grep -q ' took [0-9]* loop ' "$given/loops/b-2.trace" || fail 'no LOOP comes back'
+first=$(sed -n 's/.* post \([0-9]*\) .*/\1/p' "$given/unwritten/b-3.trace" | head -n 1)
+[ "$first" -eq 2 ] || fail "$first datagrams, and not two, were posted before the trace"
 
 # The starts of one host in one journal, with lines of others between.
 {

@@ -84,7 +84,7 @@ class Matching:
             tick = -1 if life.base is None else reading - life.base
             asked = self.index.get(self.key(turn.life.node, turn.took().port, sender, ['request', str(word), str(counter)]), [])
             if 0 <= tick <= life.first_tick and ticket == life.base % TICKETS and life.first_post and asked:
-                return [self.answer(life, tick, port, turn, words, asked[0])]
+                return self.answer(life, tick, port, turn, words, asked[0])
         return []
 
     def answer(self, life, tick, port, taker, words, request):
