@@ -13,7 +13,7 @@ from lab import fast
 
 HERE = os.path.dirname(os.path.realpath(__file__))
 # A wall clock's microseconds at which the words of daemons that start soon after make them wait little more than 300 s.
-START = 1_800_000_001_000_000
+START = 1_800_000_005_000_000
 PORT = 525
 ROLES = {'m': 'master', 'x': 'strict', 's': 'slave'}
 ASKER = 'asker'

@@ -8,10 +8,10 @@ from lab.witness import witness
 # The share of frames that are lost and that come twice, and how late a frame is, in microseconds.
 CHANCES = ('loss 0.02', 'twice 0.05', 'late 20 200')
 # A wall clock's lead over that of the first host, and whether the host may be master.
-HOSTS = {'a': (0, 'm'), 'b': (400_000, 'm'), 'c': (-300_000, 's')}
+HOSTS = {'a': (0, 'm'), 'b': (4_000_000, 'm'), 'c': (-3_000_000, 's')}
 # How far a first correction may be from the lead: as long as a datagram may be on its way and a daemon may wait for a processor, in
 # microseconds of fast time.
-FIRST = 250_000
+FIRST = 2_000_000
 # The seconds that all of it may take.
 MOST = 90
 # A date that is set at the end, how near it the clocks are to be then, and how far they are moved at least, in microseconds.
@@ -133,7 +133,9 @@ class Trial:
 
     def sets_date(self):
         """The date is set through a slave: all clocks are moved to it."""
-        # (a correction may still be on its way, and the master then passes the date over)
+        # (a correction may still be on its way, and the master then passes the date over; a slave that doesn't hear of the date is moved by
+        # the next round, minutes later)
+        self.lab.tell('loss 0')
         self.lab.sleep(5)
         wanted = DATE - START - round(self.lab.seconds() * 1e6)
         answer = ' '.join(self.lab.ask('date', self.c.address, str(DATE)))
