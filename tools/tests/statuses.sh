@@ -52,8 +52,7 @@ input=/dev/null
 
 # A daemon at 127.0.0.2 answers there, and nobody answers at 127.0.0.1: it binds its own address, and a question asks the one it is given.
 "$program" serve "127.0.0.2:$2" alpha s 40 >/dev/null 2>&1 &
-daemon=$!
-trap 'kill "$daemon" 2>/dev/null; rm -rf "$out"' EXIT
+note_process
 tries=0
 until "$program" msite "127.0.0.2:$2" >"$out/text" 2>/dev/null; do
     tries=$((tries + 1))
@@ -62,6 +61,5 @@ until "$program" msite "127.0.0.2:$2" >"$out/text" 2>/dev/null; do
 done
 [ "$(cat "$out/text")" = 'no master' ] || fail 'a daemon at 127.0.0.2 says something else of its master'
 ends 6 'no answer' msite "127.0.0.1:$2"
-kill "$daemon"
-wait "$daemon" 2>/dev/null || :
+end_all
 echo "$check: statuses 0 to 7, words of all kinds, a daemon at an address of its own"
