@@ -59,7 +59,7 @@ print(*[each.getsockname()[1] for each in sockets])
 END
 }
 
-# Interrupts a command after a second, and prints what it wrote and how it ended.
+# Interrupts a command after two seconds, and prints what it wrote and how it ended.
 interrupted() {
     python3 - "$@" <<'END'
 import signal
@@ -67,7 +67,7 @@ import subprocess
 import sys
 import time
 run = subprocess.Popen(sys.argv[1:], stdin=subprocess.PIPE, stdout=subprocess.PIPE, stderr=subprocess.PIPE)
-time.sleep(1)
+time.sleep(2)
 run.send_signal(signal.SIGINT)
 print(run.communicate(timeout=20), run.returncode)
 END
