@@ -85,7 +85,7 @@ read -r one two <"$out/ports"
 printf '%s\n' "a 127.0.0.1:$one master" "b 127.0.0.1:$two slave" >"$out/hosts"
 mkdir "$out/launched"
 for name in a b; do
-    tools/tsp-launch --file "$out/hosts" --self "$name" --turns 6 --trace --program "$TSP_PROGRAM" >"$out/launched/$name" 2>&1 &
+    tools/tsp-launch --file "$out/hosts" --self "$name" --turns 6 --trace --spread 0 --program "$TSP_PROGRAM" >"$out/launched/$name" 2>&1 &
 done
 sleep 2
 for port in "$one" "$two"; do
