@@ -78,7 +78,7 @@ pub enum Stamp {
         /// Tells the requests of one word apart.
         counter: u64,
     },
-    /// Tells a reading.
+    /// Gives a reading.
     Reply(StampReply),
 }
 
