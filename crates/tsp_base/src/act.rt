@@ -54,13 +54,13 @@ pub enum Act {
     },
     /// A round closes with the group of clocks that agree; lo, width and mean are microseconds.
     Close {
-        /// How many agree.
+        /// How many clocks the group has. This node's own counts too where it agrees with them.
         count: u32,
         /// The least of their differences.
         lo: i64,
         /// The greatest of their differences less the least.
         width: i64,
-        /// Their mean, rounded down.
+        /// Their mean, rounded down; 0 where another port of the node leads its clock.
         mean: i64,
     },
     /// The clock is corrected; amount and shown are microseconds.
