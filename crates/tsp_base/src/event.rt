@@ -51,7 +51,7 @@ pub enum EventFault {
     /// The time of the event, and that of the event before it, which is later.
     #[error("time-back {0} {1}")]
     TimeBack(u64, u64),
-    /// The node's number, which is too high, and how many nodes there are.
+    /// The number of a node that doesn't exist, or that doesn't have the port; and how many nodes there are.
     #[error("no-node {0} {1}")]
     NoNode(u32, u32),
     /// The datagram's number, which is too high, and how many were posted.
