@@ -1,4 +1,4 @@
--- Facts of a node: what its deeds on all its ports come to. Each fact has a function that says, by cases of a deed, how that deed changes it.
+-- Facts of a node, read off its deeds on all its ports. Each fact has a function that says, by cases of a deed, how that deed changes it.
 use Rattle.std.specs.Prelude.{ℕ, ◌+◌, ◌-◌, ◌/◌, ◌%◌, ℤ, pos, negsuc, ◌+ℤ◌, ◌-ℤ◌, neg_ℤ, Bool, true, false, if◌then◌else◌, List, [], ◌∷◌, Option, None, Some}
 use Rattle.tsp_base.specs.declared.act.Act.TheVariants.{Boot, Correct, Trace}
 use Rattle.tsp_base.specs.declared.constants.TheConstants.{SLEW}

@@ -1,4 +1,4 @@
--- Facts of a port: what its deeds come to since its node's last boot. Deeds on other ports change none of them.
+-- Facts of a port, read off its deeds since its node's last boot. Deeds on other ports change none of them.
 use Rattle.std.specs.Prelude.{ℕ, ◌==◌, Bool, true, false, if◌then◌else◌, List, [], ◌∷◌, Option, None, Some}
 use Rattle.tsp_base.specs.declared.act.Act.TheVariants.{Boot, Took, Become, Back, Backer, Quit, Arm, Ring, Late, Join, Leave, Rival, Abandon}
 use Rattle.tsp_base.specs.declared.alarm.Alarm.TheVariants.{Probe, Close}

@@ -66,7 +66,7 @@ impl MemoryLink {
         Ok(())
     }
 
-    /// Adds a receive that will wait in vain. Fails only if out of memory, and then changes nothing.
+    /// Adds a receive that will get nothing within its wait. Fails only if out of memory, and then changes nothing.
     pub fn nothing(&mut self) -> Result<(), AllocError>
         ensures { MatchResult result (λ _. self.new ≡ record self.old
             { arrivals = self.old.arrivals ++ None ∷ [] }) (λ _. self.new ≡ self.old) }

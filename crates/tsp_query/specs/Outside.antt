@@ -26,7 +26,7 @@ pub record Knows (o : Outside) (wall : ℤ) (word : ℕ) (written : List ℕ) (t
   pub word_is : t.word ≡ Some word
   pub written_is : t.written ≡ Some written
 
--- a bind was tried, well or in vain
+-- a bind was tried, whether it failed or not
 abbrev pub bound : Outside → Outside
 bound o = record o { calls = one_more o.calls }
 
