@@ -37,8 +37,8 @@ fn port_of(word: &[u8]) -> Option<u16>
     u16::try_from(number).ok()
 }
 
-/// The address of a word such as `127.0.0.1:525`; None exactly where no address is written so, for
-/// instance with a leading zero, an octet above 255, or a port that isn't from 1 to 65535.
+/// The address of a word such as `127.0.0.1:525`; None exactly where it isn't one, for instance with a
+/// leading zero, an octet above 255, or a port that isn't from 1 to 65535.
 pub fn addr_of(word: &[u8]) -> Option<Addr>
     ensures found { IfSome result (λ a. IsAddr a × (word.now ≡ addr_text a)) }
     ensures reads { (a : Addr) → IsAddr a → word.now ≡ addr_text a → result ≡ Some a }

@@ -65,7 +65,7 @@ fn other_command(word: &str, rest: &[String]) -> Option<Command>
     }
 }
 
-/// The command of the words after the program's name; None exactly where no command is written so.
+/// The command of the words after the program's name; None exactly where they aren't a command.
 ///
 /// Fails only if out of memory.
 pub fn command_of(alloc: Global, words: &[String]) -> Result<Option<Command>, AllocError>

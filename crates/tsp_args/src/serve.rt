@@ -63,7 +63,7 @@ fn turns_of(word: &str) -> Option<u64>
     Some(number)
 }
 
-/// What the words after `serve` say; None exactly where no daemon is written so.
+/// What the words after `serve` say; None exactly where they aren't allowed there.
 pub(crate) fn serve_of(alloc: Global, words: &[String]) -> Result<Option<ServeWords>, AllocError>
     ensures found { IfOk result (λ r. IfSome r (λ s. IsServe s
         × (map string_bytes words.now ≡ serve_words s))) }

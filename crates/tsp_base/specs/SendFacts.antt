@@ -25,7 +25,7 @@ has_own_number Quit = true
 has_own_number SetDateReq = true
 has_own_number _ = false
 
--- whether messages of this kind are numbered sends, which are repeated until they are acknowledged
+-- whether messages of this kind are numbered sends, which are repeated until they are acknowledged or given up
 abbrev pub is_numbered : Kind → Bool
 is_numbered AdjTime = true
 is_numbered SetTime = true

@@ -21,7 +21,7 @@ pub enum Act {
     Back(PeerId),
     /// A peer backs the candidature of this port.
     Backer(PeerId),
-    /// A peer asked this node to stop leading.
+    /// This port took a QUIT: the peer asks it to stop leading.
     Quit(PeerId),
     /// An alarm is armed for a tick.
     Arm(Alarm, u64),

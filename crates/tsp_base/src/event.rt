@@ -60,7 +60,7 @@ pub enum EventFault {
     /// The node that would act hasn't booted.
     #[error("not-up {0}")]
     NotUp(u32),
-    /// So many events were accepted and so many datagrams posted, and there is room for no more.
+    /// A limit of schedules is reached. So many events were accepted, and so many datagrams posted.
     #[error("limit {0} {1}")]
     Limit(u64, u64),
     /// Out of memory.

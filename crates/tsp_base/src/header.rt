@@ -33,7 +33,7 @@ pub enum HeaderFault {
     /// The rate's magnitude is above the drift.
     #[error("the rate is above the drift")]
     Rate,
-    /// The wall's magnitude is above 10^15.
+    /// The wall clock's magnitude is above 10^15.
     #[error("the wall clock is out of its range")]
     Wall,
     /// The header has 64 networks already.

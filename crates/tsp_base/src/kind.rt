@@ -1,10 +1,11 @@
-//! The kinds of message: numbers 1 to 13 are the protocol's, 14 to 24 a profile of this project.
+//! The kinds of message, numbered as in 4.3BSD's `protocols/timed.h`. What 1 to 13 do is the protocol's
+//! specification; what 14 to 24 do is a profile of this project.
 ghost use Rattle.std.specs.Prelude.{◌≡◌, ◌≤◌, length, ℕ, IfSome, IfNone};
 ghost use Rattle.tsp_base.specs.Kinds.{kind_number, kind_of, carries_time, carries_hops, kind_word};
 ghost use Rattle.tsp_base.specs.SendFacts.{is_correction, is_numbered, sets_date};
 ghost use Rattle.tsp_base.specs.declared.kind.Kind.{Kind};
 
-/// The type of a message. (TSP specification, message types.)
+/// The kind of a message: its type octet. (TSP specification, message types.)
 #[derive(Clone, Copy, PartialEq, Eq, Debug)]
 pub enum Kind {
     /// The receiver adjusts its clock by the time carried.
@@ -160,7 +161,7 @@ impl Kind {
         matches!(self, Kind::Loop)
     }
 
-    /// Whether its messages carry a time.
+    /// Whether its messages carry a time: ADJTIME, SETTIME and the four that set a date.
     #[tactic(auto, unfolding(crate::specs::Kinds::carries_time))]
     pub fn carries_time(&self) -> bool
         ensures { result ≡ carries_time self.now }
@@ -183,7 +184,7 @@ impl Kind {
         matches!(self, Kind::AdjTime | Kind::SetTime)
     }
 
-    /// Whether its messages are numbered sends, which are repeated until they are acknowledged.
+    /// Whether its messages are numbered sends, which are repeated until they are acknowledged or given up.
     pub fn is_numbered(&self) -> bool
         ensures { result ≡ is_numbered self.now }
     {

@@ -75,7 +75,7 @@ pub enum Stamp {
     Request {
         /// The asking node's word.
         word: u64,
-        /// Tells the requests of one word apart.
+        /// Distinguishes requests with the same word.
         counter: u64,
     },
     /// Gives a reading.

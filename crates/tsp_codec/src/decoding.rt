@@ -117,8 +117,9 @@ fn first_reading(octets: &[u8]) -> Result<Datagram, DecodeFault>
     }
 }
 
-/// The datagram that these octets are (in network byte order, as in 4.3BSD's `protocols/timed.h`). Where
-/// they aren't one, the answer is the first of their faults, in the order of `DecodeFault`.
+/// The datagram that these octets are. Numbers are in network byte order, and a message has the layout of
+/// `struct tsp` in 4.3BSD's `protocols/timed.h`; stamps are this project's own. Octets that aren't a
+/// datagram give the first of their faults, in the order of `DecodeFault`.
 pub fn decode(octets: &[u8]) -> Result<Datagram, DecodeFault>
     ensures reads { MatchResult result (λ datagram. Spells octets.now datagram)
         (λ fault. IsFault octets.now fault) }

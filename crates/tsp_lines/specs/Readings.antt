@@ -66,7 +66,7 @@ IsFill More octets = 0 < length octets
 IsFill Over octets = octets ≡ []
 IsFill NotRead octets = octets ≡ []
 
--- the input's end was met
+-- the input is at its end
 abbrev pub meets_end : Fill → Bool
 meets_end More = false
 meets_end Over = true

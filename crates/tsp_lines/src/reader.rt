@@ -18,7 +18,7 @@ use tsp_io::source::{Got, Source};
 /// The size of the buffer, in octets.
 const ROOM: usize = 65536;
 
-/// The most octets of a line, without its line feed.
+/// The greatest length of a line, in octets, without its line feed.
 const LONGEST: usize = 1024;
 
 /// How many octets of a long line are remembered.

@@ -13,7 +13,7 @@ use tsp_io::sink::Sink;
 pub enum Stop {
     /// The line, or the end of the input, is refused.
     Bad(Cause),
-    /// The line is past a limit of the treatment's own.
+    /// The line is past a limit of the command's own.
     Limit,
     /// A write failed.
     WriteFault,

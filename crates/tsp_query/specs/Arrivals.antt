@@ -14,18 +14,18 @@ use Rattle.tsp_io.specs.Links.{Arrival}
 use Rattle.tsp_query.specs.declared.question.Question.{Question}
 use Rattle.tsp_query.specs.declared.question.Question.TheVariants.{OfNumber, OfDate, OfWord}
 
--- whether a message acknowledges
+-- whether messages of this kind are ACKs
 abbrev pub is_ack : Kind → Bool
 is_ack Ack = true
 is_ack _ = false
 
--- whether a message acknowledges, or says that the date was set
+-- whether messages of this kind are ACKs or DATEACKs
 abbrev pub is_date_answer : Kind → Bool
 is_date_answer Ack = true
 is_date_answer DateAck = true
 is_date_answer _ = false
 
--- an acknowledgment with the question's number, where it sets the date a DATEACK too, or a reply with its word and counter 0
+-- whether a datagram answers a question: an ACK with its number (for a date a DATEACK too), or a stamp reply with its word and counter 0
 abbrev pub answers : Question → Datagram → Bool
 answers (OfNumber number) (Message m) = is_ack m.kind && (m.number == number)
 answers (OfNumber number) (StampOf s) = false

@@ -63,7 +63,7 @@ QueryEnds request q answer o arrivals tried calls readings last sends sends_now 
 QueryEnds request q answer o arrivals tried calls readings last sends sends_now OutOfMemory = Asks request q (read_twice o) arrivals tried calls readings last sends sends_now Refused
 QueryEnds request q answer o arrivals tried calls readings last sends sends_now end = (d : Datagram) × (tick : ℕ) × Asks request q (read_twice o) arrivals tried calls readings last sends sends_now (Answer d tick) × (end ≡ answer d tick)
 
--- the name of whoever acknowledges
+-- the name in an answer
 abbrev pub name_in : Datagram → List ℕ
 name_in (Message m) = m.name
 name_in (StampOf s) = []
@@ -76,12 +76,12 @@ master_in d tick = Master (name_in d)
 abbrev pub heard_in : Datagram → ℕ → QueryEnd
 heard_in d tick = Heard
 
--- whether a message says that the date was set
+-- whether messages of this kind say that the date was set: DATEACKs
 abbrev pub is_date_ack : Kind → Bool
 is_date_ack DateAck = true
 is_date_ack _ = false
 
--- whether a datagram says that the date was set; an acknowledgment says that it was passed on
+-- whether a datagram says that the date was set; an ACK says that it was passed on
 abbrev pub says_set : Datagram → Bool
 says_set (Message m) = is_date_ack m.kind
 says_set (StampOf s) = false

@@ -35,7 +35,7 @@ window_rings = either_by (is_in_time Window) (puts (Ring Window) followed_by eit
 unfoldable pub accepted_by : PeerId → ℕ → Row
 accepted_by p number = either_by (has_election p number) (puts (Acked p) followed_by puts (Backer p)) nothing
 
--- p backs another one
+-- p refuses to back this candidature
 unfoldable pub refused_by : PeerId → ℕ → Row
 refused_by p number = either_by (has_election p number) (puts (Acked p) followed_by yields) nothing
 

@@ -80,7 +80,7 @@ in_charge q x past = steers q x past || leads_clock q x past
 abbrev pub waits : Port → ℕ → NodePast → Bool
 waits q x past = any_port (goes_on past) (other_ports q past)
 
--- a LOOP to a peer of port q: with the port's number and the node's name, and all its hops
+-- a LOOP to a peer of port q: with the port's number, the node's name and HOPS hops
 abbrev pub loop_to : Port → List ℕ → PeerId → Act
 loop_to q name p = Post (Peer p) (Message (record { kind = LoopKind; number = q.0; body = Hops HOPS; name = name }))
 

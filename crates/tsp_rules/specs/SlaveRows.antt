@@ -70,7 +70,7 @@ abbrev pub is_by : PeerId → ℕ → Option Correcting → Bool
 is_by p number None = false
 is_by p number (Some c) = (c.from.0 == p.0) && (c.number == number)
 
--- whether the clock's last correction took this number from this peer
+-- whether the clock's last correction was taken from this peer under this number
 abbrev pub is_repeated : PeerId → ℕ → ℕ → Past → Bool
 is_repeated p number x past = is_by p number (last_taken past.seen)
 

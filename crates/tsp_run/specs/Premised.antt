@@ -70,6 +70,6 @@ pub record KeptByText (header : HeaderValue) (events : List Event) : Type 0 wher
   pub few : Short header events → Few (run header events)
   pub names : (setting : Setting) → SetBy header setting → NamesDiffer header → NamesApart setting (run header events)
 
--- whatever the schedule
+-- the same of every schedule
 abbrev pub RunsKeepPremises : Type 0
 RunsKeepPremises = (header : HeaderValue) (events : List Event) → Accepted header events → KeptByText header events

@@ -21,12 +21,12 @@ named_or alone (Some k) = Named k
 abbrev pub network_of : List (List ℕ) → ℕ → Port → Network
 network_of nets n q = named_or (Alone n q.0) (network_at n q nets)
 
--- who is on it
+-- the members of a network
 abbrev pub members_of : List (List ℕ) → Network → List PeerId
 members_of nets (Named k) = peers_on (slice_index_or nets k [])
 members_of nets (Alone n q) = peer_of n ∷ []
 
--- a setting has the header's drift, rates, walls, names and networks, and elections are as strict as the header says
+-- a setting has the header's drift, rates, wall clocks, names and networks, and elections are strict where the header says so
 pub record SetBy (header : HeaderValue) (setting : Setting) : Type 0 where
   pub rate_is : (n : ℕ) → setting.rate n ≡ (node_line header n).rate
   pub wall_is : (n : ℕ) → setting.wall n ≡ (node_line header n).wall

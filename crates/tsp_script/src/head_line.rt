@@ -66,7 +66,7 @@ fn rate_of(rate: i64) -> Option<i32>
     i32::try_from(rate).ok()
 }
 
-/// Whether a node may be master.
+/// Whether a node may be master: `m` says yes, `s` no; None for any other word.
 fn flag_of(word: &[u8]) -> Option<bool>
     ensures { (may : Bool) → word.now ≡ flag_text may → result ≡ Some may }
 {
@@ -101,7 +101,7 @@ fn read_node(line: &[u8]) -> Option<NodeLine>
     })
 }
 
-/// The word that says whether a node may be master.
+/// The word that says whether a node may be master: `m` or `s`.
 fn flag_word(may: bool) -> &'static [u8]
     ensures word { result.now ≡ flag_text may }
     ensures short { length result.now ≤ 1 }

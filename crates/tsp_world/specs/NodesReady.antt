@@ -20,11 +20,11 @@ NodeReady ports x node = (ports_in node ≡ peers_of_ports ports) × (clock_at n
 abbrev pub PlaceReady : List PortSetup → ℕ → Option Gateway → Type 0
 PlaceReady ports x place = (node : Gateway) → place ≡ Some node → NodeReady ports x node
 
--- a node that is up finds room for the acts of a step, and its clock was last corrected at this tick or before
+-- a node that is up has room for the acts of a step, and its clock was last corrected at this tick or before
 abbrev pub CanAct : ℕ → ℕ → Option Gateway → Type 0
 CanAct spare x place = (node : Gateway) → place ≡ Some node → (room_of_ports (ports_in node) ≤ spare) × (clock_at node ≤ x)
 
--- and it has this port
+-- the same, and the node has this port
 abbrev pub CanTake : ℕ → ℕ → Port → Option Gateway → Type 0
 CanTake spare x port place = (node : Gateway) → place ≡ Some node → (room_of_ports (ports_in node) ≤ spare) × (clock_at node ≤ x) × (port.0 < length (ports_in node))
 

@@ -35,7 +35,7 @@ fn three_clocks_come_together(rt: HostRuntime) {
     assert!(rt; lan.spread() <= 2000);
 }
 
-/// A node that boots late follows the master that there is, and takes its time.
+/// A node that boots late follows the master that is there already, and its clock is set.
 #[test]
 fn a_late_node_follows(rt: HostRuntime) {
     let Some(mut lan) = Lan::of(rt.alloc(), &[0, 0, 5_000_000]) else {
