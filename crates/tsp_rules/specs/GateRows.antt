@@ -158,7 +158,7 @@ pub data LoopStep : Type 0 where
 abbrev pub one_hop_less : MessageValue → MessageValue
 one_hop_less m = record m { body = Hops (hops_in m.body - 1) }
 
--- what is done with a LOOP that came on a port: an own one that came back on a higher port than it was sent from makes the node give up there; another node's is passed on while it has 1 to 10 hops
+-- what is done with a LOOP: an own one on a higher port than it was sent from makes the node give up there; another node's with 1 to 10 hops is passed on
 abbrev pub judge : List ℕ → ℕ → Port → MessageValue → LoopStep
 judge own ports port m =
     if nat_le 2 ports
