@@ -5,7 +5,7 @@
 //! | MSITE | [`naming::name_master`] | an ACK with the name of the master that the port knows |
 //! | MSITEREQ | [`naming::say_master`] | an ACK where the port is master, else nothing |
 //! | TRACEON, TRACEOFF | [`tracing::turn_trace`] | an ACK; the node's trace is turned on or off |
-//! | TEST | [`candidature::take_test`] | an ACK; the port stands for election where it may |
+//! | TEST | [`candidature::take_test`] | an ACK after the quiet time; the port stands for election where it may |
 //!
 //! The caller has put the Took of the message before, and doesn't call for messages that seem to come
 //! from the port itself. Only a TEST may change the role.

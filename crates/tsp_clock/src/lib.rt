@@ -1,5 +1,5 @@
 //! The corrected clock of a node. It has a target, which corrections move at once, and a shown value, which
-//! follows the target slowly, so that it never falls (as 4.3BSD's adjtime does).
+//! follows it. After a small correction it does so slowly and doesn't fall, as after 4.3BSD's adjtime.
 //!
 //! [`clock::Clock::boot`] makes it with the tick and the wall clock of a boot. `adjust` moves the target
 //! by an amount, `set` sets it to a value. An amount of at most `MAXADJ` (20 s) is slewed in, a

@@ -269,7 +269,7 @@ impl Part {
     }
 
     /// Handles a stamp reply of a peer, once the quiet time is over: to a master it gives a sample of the peer's
-    /// clock. It does nothing with a request.
+    /// clock. Requests are answered elsewhere (`reply`).
     pub(crate) fn hear_stamp<D: Desk>(
         &mut self,
         clock: &Clock,

@@ -47,7 +47,7 @@ impl Part {
         }
     }
 
-    /// Repeats the due send to the first peer after `after`. None exactly where none of them is due.
+    /// Repeats the first due send to a peer after `after`. None exactly where there is none.
     fn repeat_next<D: Desk>(
         &mut self,
         after: Option<PeerId>,

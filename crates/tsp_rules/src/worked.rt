@@ -34,7 +34,7 @@ pub fn closes_late()
     ensures { ClosesLate }
 {}
 
-/// A follower takes a repeated correction once, refuses one that comes too soon, and slews its clock.
+/// A follower takes a repeated correction once, ignores one that comes too soon, and slews its clock.
 pub fn corrects_once()
     ensures { CorrectsOnce }
 {}

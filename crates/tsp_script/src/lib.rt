@@ -1,7 +1,7 @@
 //! The texts: schedule lines, message lines and trace lines.
 //!
-//! Each value is written in one way, and a reader accepts that text and no other (but for upper case in
-//! hexadecimal). No call allocates memory, and no text has a line end:
+//! Each value is written in one way, and a reader accepts that text and no other, except that the
+//! hexadecimal of octets may have upper case. No call allocates memory, and no text has a line end:
 //!
 //! | Text | Writer | Reader |
 //! |---|---|---|

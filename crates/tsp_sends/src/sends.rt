@@ -91,7 +91,8 @@ impl Sends {
         ends
     }
 
-    /// Repeats or gives up the due send to the first peer after `after`; None exactly where none of them is due.
+    /// Repeats or gives up the first due send to a peer after `after`, in the order of the peers; None exactly
+    /// where there is none.
     pub fn due(&mut self, after: Option<PeerId>, tick: u64) -> Option<Due>
         ensures sends { RepeatsNext after tick self.old self.new result }
         ensures peers { peers_of self.new ≡ peers_of self.old }
