@@ -15,20 +15,21 @@ use tsp_base::place::{Place, Port};
 use tsp_base::stamp::Stamp;
 use tsp_codec::encode;
 
-/// How long ago a datagram may have been posted that is taken, in microseconds.
+/// A datagram is taken at most this long after it was posted, in microseconds.
 const RECENT: u64 = 20_000_000;
 
-/// What the generator answers.
+/// What the generator gives next.
 #[derive(Drop)]
 pub enum Draw {
     /// The next event.
     Event(Event),
-    /// The next event takes the datagram with this number if it was posted lately, so when was it?
+    /// A question to the caller: when was the datagram with this number posted? The answer goes into the next
+    /// call of `next`. The event takes the datagram if that was lately.
     Ask(u64),
 }
 
-/// A schedule that comes of a number: first a line for each node, then a boot of each node, and then
-/// turns, takes of datagrams that were posted lately, and strangers' requests.
+/// A schedule that is computed from a number: first a line for each node, then a boot of each node, and
+/// then turns, takes of datagrams that were posted lately, and strangers' requests.
 #[derive(Drop)]
 pub struct Storm {
     state: u64,
@@ -122,9 +123,9 @@ impl Storm {
         drawn - 1_000_000
     }
 
-    /// What comes next, where so many datagrams were posted. After a question, `recent` is the true time
-    /// (microseconds) at which the datagram was posted; else it is none. A schedule has at most 200,000
-    /// events.
+    /// The next event, or a question. `posted` is how many datagrams were posted so far. After a question,
+    /// `recent` is the true time (microseconds) at which that datagram was posted; else it is None. A schedule
+    /// has at most 200,000 events.
     pub fn next(&mut self, posted: u64, recent: Option<u64>) -> Draw
         requires named { self.old.named ≡ self.old.nodes }
         requires few { self.old.given < 200000 }
@@ -141,7 +142,7 @@ impl Storm {
         }
     }
 
-    /// What comes next, if no question is open.
+    /// What comes next, where no question is open.
     fn choose(&mut self, posted: u64) -> Draw
         requires few { self.old.given < 200000 }
         requires quiet { self.old.asked ≡ None }
@@ -179,7 +180,8 @@ impl Storm {
         Draw::Ask(k)
     }
 
-    /// The event where the datagram was posted at this time: its take, or a turn where that is too long ago.
+    /// The event after a question whose answer is this time: the datagram's take, or a turn where the time is too
+    /// long ago.
     fn answer(&mut self, k: u64, time: u64) -> Event
         requires few { self.old.given < 200000 }
         requires number { k < 2 ^ 64 }
@@ -210,7 +212,7 @@ impl Storm {
         }
     }
 
-    /// A turn of a node that is drawn.
+    /// A turn of a node that is drawn at random.
     fn turn(&mut self, at: u64) -> Event
         requires few { self.old.given < 200000 }
         requires time { at ≤ 20000 * (self.old.given + 1) }
@@ -222,7 +224,7 @@ impl Storm {
         Event::Turn { at, node }
     }
 
-    /// A stranger's request at a node that is drawn.
+    /// A stranger's request at a node that is drawn at random.
     fn request(&mut self, at: u64) -> Event
         requires few { self.old.given < 200000 }
         requires time { at ≤ 20000 * (self.old.given + 1) }

@@ -1,4 +1,4 @@
-//! A storm's summary, counted again from the trace that a replay writes of the same schedule.
+//! A storm's summary, counted again from the trace that `replay` writes for the same schedule.
 ghost use Rattle.std.specs.Prelude.{◌<◌};
 ghost use Rattle.tsp_args.specs.Storms.{IsStorm};
 ghost use Rattle.std.specs.Prelude.{length};
@@ -55,7 +55,7 @@ fn push_event(alloc: Global, text: &mut Vec<u8>, e: &Event) -> Result<(), AllocE
     }
 }
 
-/// The schedule's text; none where not all of its events happen.
+/// The schedule's text; None where not all of its events happen.
 fn schedule_text(alloc: Global, words: &StormWords) -> Result<Option<Vec<u8>>, AllocError>
     requires { IsStorm words.now }
 {
@@ -75,7 +75,7 @@ fn schedule_text(alloc: Global, words: &StormWords) -> Result<Option<Vec<u8>>, A
     Ok(Some(text))
 }
 
-/// How often the words stand in a text.
+/// How often the words come in a text.
 fn count(text: &[u8], words: &[u8]) -> usize
     requires { 0 < length words.now }
 {

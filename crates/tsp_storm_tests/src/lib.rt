@@ -1,6 +1,6 @@
-//! Tests of the generator's command, by rows of other programs and beside the replay of the same events.
+//! Tests of the command `storm`: by lines that other programs gave, and by the replay of the same events.
 //!
-//! They stand apart from the crates that they try, so that each of those is proved once.
+//! The tests are in a crate of their own, so that each crate that they try is proved once.
 #![tactic(auto)]
 
 #[cfg(test)]
