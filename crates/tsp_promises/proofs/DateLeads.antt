@@ -40,6 +40,7 @@ use Rattle.tsp_promises.proofs.Changes.{Is, JustTook}
 use Rattle.tsp_promises.proofs.LeadsLeaves.{Leads_posts, Leads_posts_back, Leads_posts_time, Leads_others}
 use Rattle.tsp_rules.proofs.GuardFacts.{and-cases, past_is}
 use Rattle.tsp_promises.proofs.CommonLeads.{own_number}
+use Rattle.tsp_promises.proofs.Printed.{date_sets, flag_of, sets_prints}
 use Rattle.tsp_promises.proofs.TakenLeads.{Heard, HeardIn, rests_of, wake_role, took_awake, ack_fits, open_known}
 use Rattle.tsp_promises.proofs.SlaveLeads.{idle_heard, gap_of}
 use Rattle.tsp_promises.proofs.Upsets.{Upsets, upsets_of, upsets_from, upsets_either, upsets_reading}
@@ -159,6 +160,8 @@ module _ {from : Place} {m : MessageValue} where
             amount_is = refl;
             again = h.again;
           });
+          flag = flag_of from m (time_in m.body -ℤ target (plain past.seen) x) h.just.took h.just.rest past.seen true h.just.is h.just.deed (date_sets m.kind h.date);
+          prints = sets_prints x past (time_in m.body);
         }) free;
         answers = ack_post (setup_in past) from m past.name here later.seen (date_ack from m here x (now x past a) past.seen refl who free.took (λ p is request.
             dated-is p m x (last_date p past.seen) (taken past.seen) (free.took ∙ ap (λ f. Some (record { from = f; taken = Good (Message m) })) is) request));

@@ -224,7 +224,7 @@ module _ {stirred awake owing acts : Bool} {follow : Option PeerId} {T : Option 
       })
       h.rested h.backs h.owed h.acting_is h.took
 
-  pub correct : (amount : ℤ) (stepped : Bool) (shown : ℤ) → (armed past.seen).close ≡ None → CorrectFits (now x past (Correct amount stepped shown)) past.seen amount → During stirred awake owing follow acts T x past → During stirred awake owing follow acts T x (grown x past (Correct amount stepped shown ∷ []))
+  pub correct : (amount : ℤ) (stepped : Bool) (shown : ℤ) → (armed past.seen).close ≡ None → CorrectFits (now x past (Correct amount stepped shown)) past.seen amount stepped shown → During stirred awake owing follow acts T x past → During stirred awake owing follow acts T x (grown x past (Correct amount stepped shown ∷ []))
   correct amount stepped shown idle f h =
       let k = h.knows in
       made (Correct amount stepped shown) h.own f h.fits
@@ -237,7 +237,7 @@ module _ {stirred awake owing acts : Bool} {follow : Option PeerId} {T : Option 
       h.rested h.backs h.owed h.acting_is h.took
 
   -- the same where a round may go on
-  pub correct_stirring : (amount : ℤ) (stepped : Bool) (shown : ℤ) → CorrectFits (now x past (Correct amount stepped shown)) past.seen amount → During stirred awake owing follow acts T x past → During true awake owing follow acts T x (grown x past (Correct amount stepped shown ∷ []))
+  pub correct_stirring : (amount : ℤ) (stepped : Bool) (shown : ℤ) → CorrectFits (now x past (Correct amount stepped shown)) past.seen amount stepped shown → During stirred awake owing follow acts T x past → During true awake owing follow acts T x (grown x past (Correct amount stepped shown ∷ []))
   correct_stirring amount stepped shown f h =
       let k = h.knows in
       made (Correct amount stepped shown) h.own f h.fits

@@ -83,6 +83,7 @@ pub mod PortFits
 pub mod PortLists
 pub mod PostLeaves
 pub mod PremiseChecks
+pub mod Printed
 pub mod ReadingChecks
 pub mod ReadingProof
 pub mod RelayedProof
@@ -103,6 +104,7 @@ pub mod SendPlaces
 pub mod SendProof
 pub mod SetProof
 pub mod ShownProof
+pub mod ShowsProof
 pub mod SilentProof
 pub mod SinceProof
 pub mod SlaveLeads
@@ -122,6 +124,7 @@ pub mod StopsProof
 pub mod TakenLeads
 pub mod TakingProof
 pub mod TargetFacts
+pub mod ThriceProof
 pub mod ThroughoutProof
 pub mod TripProof
 pub mod Upsets
@@ -144,6 +147,7 @@ pub mod WitnessRounds
 pub mod WitnessRow
 pub mod WitnessSets
 pub mod WitnessStrict
+pub mod WitnessThrice
 pub mod WitnessUse
 pub mod WitnessWords
 pub mod WordsProof

@@ -21,9 +21,11 @@ use Rattle.tsp_promises.proofs.OneErrorProof.{one_error}
 use Rattle.tsp_promises.proofs.OnlyMasterProof.{only_master}
 use Rattle.tsp_promises.proofs.RelayedProof.{relayed}
 use Rattle.tsp_promises.proofs.ResolvedProof.{yields, stays_quiet}
+use Rattle.tsp_promises.proofs.ShowsProof.{shows}
 use Rattle.tsp_promises.proofs.SilentProof.{silent}
 use Rattle.tsp_promises.proofs.SteadyProof.{meets, steady}
 use Rattle.tsp_promises.proofs.StopsProof.{stops_leading}
+use Rattle.tsp_promises.proofs.ThriceProof.{thrice}
 use Rattle.tsp_promises.proofs.ThroughoutProof.{throughout}
 use Rattle.tsp_promises.proofs.TripProof.{trips}
 
@@ -38,6 +40,7 @@ safe setting world f end = record {
   once_corrected = once_corrected setting world f;
   once_taken = once_taken setting world f;
   once_confirmed = λ honest life. once_confirmed setting world (record { fits = f; honest = honest; life = life });
+  thrice = thrice setting world f;
   trips = trips setting world f;
   measured = measured setting world f;
   agreed = λ honest life. agreed setting world (record { fits = f; honest = honest; life = life });
@@ -53,6 +56,7 @@ safe setting world f end = record {
   resolved = record { yields = yields setting world f end; quiet = stays_quiet setting world f; stops = stops_leading setting world f end };
   steady = steady setting world f;
   meets = meets world;
+  shows = shows setting world f;
   agreed_shown = λ honest life. agreed_shown setting world (record { fits = f; honest = honest; life = life });
   shown_near = shown_near setting world f;
   waited = waited setting world f;

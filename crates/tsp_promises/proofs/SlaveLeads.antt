@@ -1,5 +1,5 @@
 -- The rows of a port that is Loose or follows keep what is known of it.
-use Rattle.std.specs.Prelude.{◌≡◌, ◌≢◌, ◌⊎◌, ◌≤◌, ℕ, ◌+◌, ◌==◌, ℤ, ◌-ℤ◌, Bool, true, false, if◌then◌else◌, List, [], ◌∷◌, Option, None, Some, refl}
+use Rattle.std.specs.Prelude.{◌≡◌, ◌≢◌, ◌⊎◌, ◌≤◌, ℕ, ◌+◌, ◌==◌, ℤ, ◌-ℤ◌, Bool, true, false, ◌||◌, if◌then◌else◌, List, [], ◌∷◌, Option, None, Some, refl}
 use Rattle.std.proofs.Common.{sym, subst, inl, inr, ap, arith, true≢false, eqb-true, ◌∙◌}
 use Rattle.tsp_base.specs.declared.act.Act.TheVariants.{Boot, Back, Correct, Quit}
 use Rattle.tsp_base.specs.declared.alarm.Alarm.TheVariants.{Search}
@@ -13,19 +13,19 @@ use Rattle.tsp_base.specs.declared.place.Place.TheVariants.{Peer}
 use Rattle.tsp_base.specs.declared.role.Role.{Role}
 use Rattle.tsp_base.specs.declared.role.Role.TheVariants.{Loose, Follow, Candidate}
 use Rattle.tsp_promises.specs.AckFits.{Answers}
-use Rattle.tsp_promises.specs.CorrectFits.{ByMaster, amount_of}
+use Rattle.tsp_promises.specs.CorrectFits.{ByMaster, amount_of, sets_time}
 use Rattle.tsp_base.specs.History.{Deed, Acts, Did, Seen, Past, plain}
 use Rattle.tsp_base.specs.Hold.{is_past}
 use Rattle.tsp_base.specs.Leads.{Leads}
 use Rattle.tsp_base.specs.Messages.{MessageValue}
-use Rattle.tsp_base.specs.NodeFacts.{boot_tick, boot_after, ticket, target, last_correct, last_correct_after, correct_place, correct_place_after, correct_tick, tick_in}
+use Rattle.tsp_base.specs.NodeFacts.{boot_tick, boot_after, ticket, target, last_correct, last_correct_after, correct_place, correct_place_after, correct_tick, shown, tick_in}
 use Rattle.tsp_base.specs.PortFacts.{Received, role, said, held, armed}
 use Rattle.tsp_base.specs.Rows.{Row, grown, nothing, puts, ◌followed_by◌, reading, bare, posts}
 use Rattle.tsp_base.specs.SendFacts.{is_correction, Correcting, correcting_of, last_taken}
 use Rattle.tsp_promises.specs.StepFacts.{backed, owes, owes_after}
 use Rattle.tsp_base.specs.Takings.{time_in}
 use Rattle.tsp_base.proofs.LeadsLemmas.{Leads_then, Leads_either, Leads_reading, Leads_nothing, Leads_puts, Leads_from, Leads_to}
-use Rattle.tsp_rules.specs.ClockRows.{adjusts, sets, can_adjust}
+use Rattle.tsp_rules.specs.ClockRows.{adjusts, sets, can_adjust, is_step}
 use Rattle.tsp_rules.specs.CommonRows.{arms_elect, tells_ticket, follow_row, quits, follows_unless}
 use Rattle.tsp_rules.specs.SendRows.{begins, is_free}
 use Rattle.tsp_rules.specs.SlaveRows.{reports_conflict, masterup_in, masterack_in, election_of, is_next, is_by, is_repeated, acks_repeat, confirms, takes_amount, adjtime_of, takes_value, settime_of, from_master}
@@ -37,7 +37,9 @@ use Rattle.tsp_promises.proofs.Changes.{FreeIn, quitting_of, back_other, quit_ot
 use Rattle.tsp_promises.proofs.LeadsLeaves.{Leads_posts}
 use Rattle.tsp_rules.proofs.GuardFacts.{and-cases, past_is, back_is, same_peer}
 use Rattle.tsp_promises.proofs.CommonLeads.{arms_elect_keeps, arms_elect_during, tells_ticket_during, follow_leads, begins_conflict}
+use Rattle.tsp_promises.proofs.Printed.{adjusts_prints, flag_of, sets_prints}
 use Rattle.tsp_promises.proofs.TakenLeads.{Says, Heard, HeardIn, rests_of, ack_fits}
+use Rattle.tsp_rules.proofs.Asides.{now}
 
 module _ {p : PeerId} {m : MessageValue} where
   pub heard_free : (x : ℕ) (past : Past) → Heard p (Good (Message m)) x past → Free (Says p m) x past
@@ -158,15 +160,16 @@ module _ {p : PeerId} {m : MessageValue} where
       (idle_heard (λ x past h. k x past h.0))
 
   -- a correction of the followed master is obeyed
-  obeys : (x : ℕ) (past : Past) (amount : ℤ) (stepped : Bool) (shown : ℤ) → is_correction m.kind ≡ true → HeardIn p m (Follow p) x past → is_next m.number x past ≡ true →
-      amount ≡ amount_of m.kind (time_in m.body) (target (plain past.seen) x) → Obeyed p m.number (Says p m) x (grown x past (Correct amount stepped shown ∷ []))
-  obeys x past amount stepped shown kind h next amount_is =
+  obeys : (x : ℕ) (past : Past) (amount : ℤ) (stepped : Bool) (printed : ℤ) (sets : Bool) → is_correction m.kind ≡ true → HeardIn p m (Follow p) x past → is_next m.number x past ≡ true →
+      amount ≡ amount_of m.kind (time_in m.body) (target (plain past.seen) x) → sets_time m.kind ≡ sets → stepped ≡ (sets || is_step amount) → printed ≡ shown (now x past (Correct amount stepped printed) ∷ plain past.seen) x →
+      Obeyed p m.number (Says p m) x (grown x past (Correct amount stepped printed ∷ []))
+  obeys x past amount stepped printed sets kind h next amount_is sets_is steps prints =
       let free = h.0.just.free in
       let just = h.0.just in
       let both = and-cases (m.number == ticket (plain past.seen)) (is_past (correct_tick (plain past.seen)) GAP x) next in
       let rested = free.rested refl in
       record {
-        free = correct amount stepped shown (no_close x past p h.1 free _ refl) (record {
+        free = correct amount stepped printed (no_close x past p h.1 free _ refl) (record {
           gap = gap_of x past both.1 rested;
           rested = rested;
           why = ByMaster (record {
@@ -181,6 +184,8 @@ module _ {p : PeerId} {m : MessageValue} where
             amount_is = amount_is;
             follows = h.1;
           });
+          flag = steps ∙ flag_of (Peer p) m amount just.took just.rest past.seen sets just.is just.deed sets_is;
+          prints = prints;
         }) free;
         taken_is = ap (λ o. correcting_of (said o)) free.took ∙ ap (λ b. if b then Some (record { from = p; number = m.number }) else None) kind;
       }
@@ -194,7 +199,8 @@ module _ {p : PeerId} {m : MessageValue} where
       (record {
         run = λ x past h.
             let both = and-cases (is_next m.number x past) (can_adjust (time_in m.body) x past) h.1 in
-            obeys x past (time_in m.body) _ _ kind h.0 both.0 (sym (ap (λ i. amount_of i (time_in m.body) (target (plain past.seen) x)) k));
+            obeys x past (time_in m.body) (is_step (time_in m.body)) _ false kind h.0 both.0 (sym (ap (λ i. amount_of i (time_in m.body) (target (plain past.seen) x)) k))
+            (ap sets_time k) refl (adjusts_prints x past (time_in m.body) (is_step (time_in m.body)));
       })
       (confirms_lead kind))
       (acks_repeat_leads kind (λ x past h. h.0.0))
@@ -208,7 +214,8 @@ module _ {p : PeerId} {m : MessageValue} where
       (record {
         run = λ x past h.
             let both = and-cases (is_next m.number x past) (is_clock_value (time_in m.body)) h.1 in
-            obeys x past (time_in m.body -ℤ target (plain past.seen) x) true (time_in m.body) kind h.0 both.0 (sym (ap (λ i. amount_of i (time_in m.body) (target (plain past.seen) x)) k));
+            obeys x past (time_in m.body -ℤ target (plain past.seen) x) true (time_in m.body) true kind h.0 both.0 (sym (ap (λ i. amount_of i (time_in m.body) (target (plain past.seen) x)) k))
+            (ap sets_time k) refl (sets_prints x past (time_in m.body));
       })
       (confirms_lead kind))
       (acks_repeat_leads kind (λ x past h. h.0.0))

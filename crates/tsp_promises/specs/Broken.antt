@@ -16,8 +16,10 @@ use Rattle.tsp_promises.specs.OnlyMaster.{OnlyMaster}
 use Rattle.tsp_promises.specs.Relayed.{Relayed}
 use Rattle.tsp_promises.specs.Resolved.{StaysQuiet, StopsLeading, Yields}
 use Rattle.tsp_promises.specs.Setting.{Setting}
+use Rattle.tsp_promises.specs.Shows.{Shows}
 use Rattle.tsp_promises.specs.Silent.{Silent}
 use Rattle.tsp_promises.specs.Steady.{Steady}
+use Rattle.tsp_promises.specs.Thrice.{Thrice}
 use Rattle.tsp_promises.specs.Throughout.{Throughout}
 
 -- some history breaks the promise
@@ -76,6 +78,10 @@ pub record SendsBreak (setting : Setting) : Type 0 where
   pub dated : Breaks OnceTaken
   -- an Acked that nobody caused
   pub confirmed : Breaks OnceConfirmed
+  -- a message that is posted four times
+  pub fourth : Breaks Thrice
+  -- one that is posted again more than LAST after the first time
+  pub late : Breaks Thrice
 
 -- what breaks the promises of clocks
 pub record ClocksBreak (setting : Setting) : Type 0 where
@@ -104,7 +110,7 @@ pub record ClocksBreak (setting : Setting) : Type 0 where
   -- a relayed clock that moves by another amount than the ADJTIME says
   pub relayed : Breaks (Relayed setting)
 
--- what breaks the promises of what users read; that a clock meets its target is how its value is defined, and nothing breaks it
+-- what breaks the promises of shown values; that a clock meets its target is how its value is defined, and nothing breaks it
 pub record ReadingsBreak (setting : Setting) : Type 0 where
   -- a node whose ticks go back, so that it slews twice in one time
   pub steady : Breaks (Steady setting)
@@ -114,6 +120,14 @@ pub record ReadingsBreak (setting : Setting) : Type 0 where
   pub agreed_shown : Breaks (AgreedShown setting)
   -- a boot that shows another wall clock than the node's
   pub shown_near : Breaks (ShownNear setting)
+  -- a Correct of -250 that says it is slewed, and prints the new target
+  pub falls : Breaks Shows
+  -- the same of 250
+  pub leaps : Breaks Shows
+  -- a Correct of 250, in a step that took nothing, that says it is stepped, and prints the new target
+  pub steps : Breaks Shows
+  -- a Correct of 20.000001 s that says it is slewed
+  pub slews : Breaks Shows
 
 -- what breaks the promises of chains and of single corrections
 pub record ChainsBreak (setting : Setting) : Type 0 where

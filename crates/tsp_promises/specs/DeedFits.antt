@@ -120,7 +120,7 @@ ActFits setup (Back p) here before = BackFits here before p
 ActFits setup (Backer p) here before = BackerFits setup here before p
 ActFits setup (Sample p counter diff err number) here before = SampleFits here before p counter diff err number
 ActFits setup (Close count lo size mean) here before = role before ≡ Master
-ActFits setup (Correct amount stepped shown) here before = CorrectFits here before amount
+ActFits setup (Correct amount stepped shown) here before = CorrectFits here before amount stepped shown
 ActFits setup (Acked p) here before = AckedFits before p
 ActFits setup _ here before = Unit {0}
 

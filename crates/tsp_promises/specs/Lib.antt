@@ -35,6 +35,7 @@ pub mod OnlyMaster
 pub mod OrdinaryUse
 pub mod OwnFits
 pub mod PortFits
+pub mod PrintsUse
 pub mod Premises
 pub mod QuietUse
 pub mod Relayed
@@ -49,10 +50,13 @@ pub mod SetUse
 pub mod Setting
 pub mod ShownAt
 pub mod ShownUse
+pub mod Shows
 pub mod Silent
 pub mod Since
 pub mod Sound
 pub mod Steady
 pub mod StepFacts
 pub mod StrictElections
+pub mod Thrice
+pub mod ThriceUse
 pub mod Throughout
