@@ -5,10 +5,12 @@ pub mod AgreedSums
 pub mod AlarmLeads
 pub mod AloneLemmas
 pub mod AnswerLeads
+pub mod AnsweredProof
 pub mod AskedProof
 mod BackedProof
 pub mod BecameProof
 pub mod BestProof
+pub mod BrokenAnswers
 pub mod BrokenChains
 pub mod BrokenClocks
 pub mod BrokenEstimates
@@ -121,6 +123,7 @@ pub mod StepChecks
 pub mod StepProof
 pub mod Stirring
 pub mod StopsProof
+pub mod StrangerFacts
 pub mod TakenLeads
 pub mod TakingProof
 pub mod TargetFacts
@@ -132,6 +135,7 @@ pub mod VoteLeads
 mod VoteProof
 pub mod WindowLeads
 pub mod WitnessAgain
+pub mod WitnessAnswered
 pub mod WitnessCasts
 pub mod WitnessChain
 pub mod WitnessDates

@@ -11,7 +11,7 @@ use Rattle.tsp_base.specs.declared.kind.Kind.TheVariants.{SetTime}
 use Rattle.tsp_base.specs.declared.place.Place.{Place}
 use Rattle.tsp_base.specs.History.{Acts, Did, Here, Past, Seen, Step, plain}
 use Rattle.tsp_base.specs.Messages.{MessageValue}
-use Rattle.tsp_base.specs.NodeFacts.{base, eased, last_correct, moved, rest, rest_at, shown, target}
+use Rattle.tsp_base.specs.NodeFacts.{base, eased, moved, rest, rest_at, shown, target}
 use Rattle.tsp_base.specs.PortFacts.{taken_after}
 use Rattle.tsp_base.specs.SendFacts.{sets_date}
 use Rattle.tsp_base.specs.Takings.{heard}

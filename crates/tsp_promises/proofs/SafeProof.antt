@@ -6,6 +6,7 @@ use Rattle.tsp_promises.specs.Safe.{Safe}
 use Rattle.tsp_promises.specs.Setting.{Setting}
 use Rattle.tsp_promises.proofs.AgreedProof.{agreed, stay_agreed}
 use Rattle.tsp_promises.proofs.AgreedShownProof.{agreed_shown, shown_near, waited}
+use Rattle.tsp_promises.proofs.AnsweredProof.{answered}
 use Rattle.tsp_promises.proofs.ChainedProof.{chained}
 use Rattle.tsp_promises.proofs.ConfirmedProof.{once_confirmed}
 use Rattle.tsp_promises.proofs.ErrsProof.{errs_bounded}
@@ -33,6 +34,7 @@ pub safe : (setting : Setting) (world : List Line) → Fits setting world → Fi
 safe setting world f end = record {
   one_back = one_back setting world f end;
   silent = silent setting world f;
+  answered = answered setting world f end;
   only_master = only_master setting world f;
   once_spaced = once_spaced setting world f;
   once_spaced_over_lives = once_spaced_over_lives setting world f;

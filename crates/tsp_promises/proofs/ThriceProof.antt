@@ -1,6 +1,6 @@
 -- A numbered send has few posts.
-use Rattle.std.specs.Prelude.{◌≡◌, ◌≤◌, ◌<◌, ◌⊎◌, ℕ, ◌+◌, ◌==◌, ◌&&◌, cond, if◌then◌else◌, Bool, true, false, List, [], ◌∷◌, refl}
-use Rattle.std.proofs.Common.{sym, ap, arith, subst, inl, inr, eq-eqb, true≢false, ◌∙◌}
+use Rattle.std.specs.Prelude.{◌≡◌, ◌≤◌, ◌⊎◌, ℕ, ◌+◌, ◌==◌, ◌&&◌, if◌then◌else◌, Bool, true, false, List, [], ◌∷◌, refl}
+use Rattle.std.proofs.Common.{sym, ap, arith, subst, inl, inr, eq-eqb, ◌∙◌}
 use Rattle.tsp_base.specs.declared.act.Act.TheVariants.{Boot, Post, Become, Acked, Gave}
 use Rattle.tsp_base.specs.declared.constants.TheConstants.{TRIES}
 use Rattle.tsp_base.specs.declared.datagram.Datagram.TheVariants.{Message}
@@ -13,7 +13,7 @@ use Rattle.tsp_base.specs.Messages.{MessageValue}
 use Rattle.tsp_base.specs.PortFacts.{acting}
 use Rattle.tsp_base.specs.SendFacts.{begun_to, is_numbered, open_to, open_to_after, posts_of, posts_of_after}
 use Rattle.tsp_promises.specs.Setting.{Setting}
-use Rattle.tsp_promises.specs.Thrice.{OneOfFew, Thrice, ThriceAt, sent, sent_after}
+use Rattle.tsp_promises.specs.Thrice.{Thrice, ThriceAt, sent, sent_after}
 use Rattle.tsp_promises.proofs.EverywhereLemmas.{Everywhere-from}
 use Rattle.tsp_promises.proofs.Locating.{line_on, view-line}
 use Rattle.tsp_promises.proofs.OwnFitsProof.{fits_at}

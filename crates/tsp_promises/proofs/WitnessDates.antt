@@ -40,7 +40,7 @@ abbrev pub d7 : List Line
 d7 = then_step (step_at 310000000 1 Handed) ad7 d6
 
 f7 : Fits (still false) d7
-f7 = step-fits false (step_at 310000000 1 Handed) ad7 d6 f6 refl ((refl, (refl, tt)), ((refl, record { rested = inl (omega arith); fits = record { message = (msg Date 5 (Time (pos 600000000))); took = refl; number_is = refl; answers = tt } }), ((refl, record { rested = inl (omega arith); fits = record { numbered = record { number = omega arith; next = λ e. refl; repeats = λ e. absurd (true≢false e) }; begins = λ e. record { rested = omega arith; seldom = λ x e. none-some x e } } }), tt)))
+f7 = step-fits false (step_at 310000000 1 Handed) ad7 d6 f6 refl ((refl, (refl, tt)), ((refl, record { rested = inl (omega arith); fits = (record { message = (msg Date 5 (Time (pos 600000000))); took = refl; number_is = refl; answers = tt }, refl) }), ((refl, record { rested = inl (omega arith); fits = record { numbered = record { number = omega arith; next = λ e. refl; repeats = λ e. absurd (true≢false e) }; begins = λ e. record { rested = omega arith; seldom = λ x e. none-some x e } } }), tt)))
 
 abbrev pub ad8 : List Placed
 ad8 = on port0 (Took (Peer (peer_of 1)) (Good (Message (msg SetDateReq 32777 (Time (pos 600000000)))))) ∷ (on port0 (Correct (pos 289999999) true (pos 600000000)) ∷ (on port0 (Post (Peer (peer_of 1)) (Message (msg DateAck 32777 Nothing))) ∷ []))
@@ -112,7 +112,7 @@ abbrev pub e13 : List Line
 e13 = then_step (step_at 710000000 1 Handed) ae13 e12
 
 g13 : Fits (still false) e13
-g13 = step-fits false (step_at 710000000 1 Handed) ae13 e12 g12 refl ((refl, (refl, tt)), ((refl, record { rested = inl (omega arith); fits = record { message = (msg Date 6 (Time (pos 900000000))); took = refl; number_is = refl; answers = tt } }), ((refl, record { rested = inl (omega arith); fits = record { numbered = record { number = omega arith; next = λ e. refl; repeats = λ e. absurd (true≢false e) }; begins = λ e. record { rested = omega arith; seldom = λ x e. long-ago 310000000 x REUSE 710000000 e (omega arith) } } }), tt)))
+g13 = step-fits false (step_at 710000000 1 Handed) ae13 e12 g12 refl ((refl, (refl, tt)), ((refl, record { rested = inl (omega arith); fits = (record { message = (msg Date 6 (Time (pos 900000000))); took = refl; number_is = refl; answers = tt }, refl) }), ((refl, record { rested = inl (omega arith); fits = record { numbered = record { number = omega arith; next = λ e. refl; repeats = λ e. absurd (true≢false e) }; begins = λ e. record { rested = omega arith; seldom = λ x e. long-ago 310000000 x REUSE 710000000 e (omega arith) } } }), tt)))
 
 abbrev pub ae14 : List Placed
 ae14 = on port0 (Took (Peer (peer_of 1)) (Good (Message (msg SetDateReq 32778 (Time (pos 900000000)))))) ∷ (on port0 (Correct (pos 189999999) true (pos 900000000)) ∷ (on port0 (Post (Peer (peer_of 1)) (Message (msg DateAck 32778 Nothing))) ∷ []))

@@ -2,6 +2,7 @@
 use Rattle.std.specs.Prelude.{List}
 use Rattle.tsp_promises.specs.Agreed.{Agreed, StayAgreed}
 use Rattle.tsp_promises.specs.AgreedShown.{AgreedShown, ShownNear, Waited}
+use Rattle.tsp_promises.specs.Answered.{Answered}
 use Rattle.tsp_promises.specs.Chained.{Chained}
 use Rattle.tsp_promises.specs.ErrsBounded.{ErrsBounded}
 use Rattle.tsp_promises.specs.Estimates.{EstimatesHold}
@@ -154,6 +155,19 @@ pub record ChainsBreak (setting : Setting) : Type 0 where
   -- likewise, by more than a datagram's life
   pub first_set_soon : Breaks (FirstSetSoon setting)
 
+-- what breaks the promise of answers
+pub record AnswersBreak : Type 0 where
+  -- two datagrams in one step
+  pub takes_two : Breaks Answered
+  -- two Quits in one step, the first of another peer than the QUIT's
+  pub quits_twice : Breaks Answered
+  -- a QUIT that is heeded and not acknowledged
+  pub unacknowledged : Breaks Answered
+  -- two replies to one stranger's request
+  pub replies_twice : Breaks Answered
+  -- a reply to a stranger that nobody asked for
+  pub unasked : Breaks Answered
+
 -- each promise is broken by some history, in one setting
 pub record AllBreak : Type 0 where
   pub setting : Setting
@@ -162,3 +176,4 @@ pub record AllBreak : Type 0 where
   pub clocks : ClocksBreak setting
   pub readings : ReadingsBreak setting
   pub chains : ChainsBreak setting
+  pub answers : AnswersBreak

@@ -2,6 +2,8 @@ pub mod AckFits
 pub mod Agreed
 pub mod AgreedShown
 pub mod Alone
+pub mod Answered
+pub mod AnsweredUse
 pub mod Became
 pub mod Broken
 pub mod ChainUse
@@ -38,6 +40,7 @@ pub mod PortFits
 pub mod PrintsUse
 pub mod Premises
 pub mod QuietUse
+pub mod QuitFits
 pub mod Relayed
 pub mod Relays
 pub mod Resolved

@@ -2,6 +2,7 @@
 use Rattle.std.specs.Prelude.{◌⊎◌, List}
 use Rattle.tsp_promises.specs.Agreed.{Agreed, StayAgreed}
 use Rattle.tsp_promises.specs.AgreedShown.{AgreedShown, ShownNear, Waited}
+use Rattle.tsp_promises.specs.Answered.{Answered}
 use Rattle.tsp_promises.specs.Chained.{Chained}
 use Rattle.tsp_promises.specs.ErrsBounded.{ErrsBounded}
 use Rattle.tsp_promises.specs.Estimates.{EstimatesHold}
@@ -22,10 +23,11 @@ use Rattle.tsp_promises.specs.Steady.{Meets, Steady}
 use Rattle.tsp_promises.specs.Thrice.{Thrice}
 use Rattle.tsp_promises.specs.Throughout.{Throughout}
 
--- who is backed and who corrects, how often a message is posted, how the shown clock runs and what is printed of it, and how far off a setting is, is safe whatever is delivered; the rest rests on who sends and on how long datagrams live; a measurement, where they may live longer, on words of a node's boots that differ
+-- who is backed and who corrects, what is answered and how often a message is posted, how the shown clock runs and what is printed of it, and how far off a setting is, is safe whatever is delivered; the rest rests on who sends and on how long datagrams live; a measurement, where they may live longer, on words of a node's boots that differ
 pub record Safe (setting : Setting) (world : List Line) : Type 0 where
   pub one_back : OneBack world
   pub silent : Silent world
+  pub answered : Answered world
   pub only_master : OnlyMaster world
   pub once_spaced : OnceSpaced world
   pub once_spaced_over_lives : OnceSpacedOverLives world

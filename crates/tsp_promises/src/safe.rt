@@ -7,6 +7,8 @@ ghost use Rattle.tsp_base.specs.History.{Line};
 ghost use Rattle.tsp_base.specs.Ticks.{tick_at, width};
 ghost use Rattle.tsp_promises.specs.Agreed.{Agreed, StayAgreed};
 ghost use Rattle.tsp_promises.specs.AgreedShown.{AgreedShown, ShownNear, Waited};
+ghost use Rattle.tsp_promises.specs.Answered.{Answered};
+ghost use Rattle.tsp_promises.specs.AnsweredUse.{AnsweredUse};
 ghost use Rattle.tsp_promises.specs.Became.{BecomesAfter};
 ghost use Rattle.tsp_promises.specs.Broken.{AllBreak};
 ghost use Rattle.tsp_promises.specs.ChainUse.{ChainUse};
@@ -62,6 +64,15 @@ pub fn one_back()
 /// MSITE, TRACEON and TRACEOFF alone, and doesn't correct its clock.
 pub fn silent_after_boot()
     ensures { (setting : Setting) (world : List Line) → Fits setting world → Silent world }
+{}
+
+/// A step takes one datagram at most. A port heeds a QUIT right after it took it, once in a step,
+/// and acknowledges it in that step, in every role. What goes to a stranger answers the datagram
+/// that the step took from one on that port, and is the only thing that it posts to strangers; so
+/// strangers never get more datagrams than they send.
+pub fn answered()
+    ensures { (setting : Setting) (world : List Line) → Fits setting world → Finished world
+        → Answered world }
 {}
 
 /// Only masters post corrections, close rounds and correct their clocks right after.
@@ -325,6 +336,12 @@ pub fn quiet_use()
 /// three times.
 pub fn thrice_use()
     ensures { ThriceUse }
+{}
+
+/// Nor is the promise of answers: a history that fits sees a port heed a QUIT, and a stranger
+/// answered.
+pub fn answered_use()
+    ensures { AnsweredUse }
 {}
 
 /// Nor are the promises of backings and of resolutions empty: a history that fits sees a node back
