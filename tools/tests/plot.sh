@@ -55,7 +55,7 @@ sed '/^end$/i at 638000700 bytes 0 1 00' tools/tests/plot/round.tsp >"$out/forge
 { cat tools/tests/plot/round.trace; echo '24 0 0 638000700 took 1 refused short'; } >"$out/forged.trace"
 bounded "$out/forged.tsp" "$out/forged.trace"
 [ "$(drawn 'nothing is promised: Sealed fails on line 28')" -eq 1 ] || fail 'it is not said why nothing is promised'
-for words in '--drift 1001' '--drift -1' '--drift' '--drift 99 tools/tests/plot/round.tsp'; do
+for words in '--drift 1001' '--drift -1' '--drift' '--drift 0 examples/schedules/corrected-followers.tsp'; do
     status=0
     # shellcheck disable=SC2086  # words
     tools/tsp-plot $words >"$out/picture.svg" 2>"$out/told" || status=$?
