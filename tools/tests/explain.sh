@@ -86,6 +86,11 @@ for signal in 15 1 9; do
     [ ! -s "$out/told" ] || fail "by signal $signal it says '$(cat "$out/told")'"
 done
 
+# tsp-launch in a clone: the cause is said once, by whoever stays with the daemon.
+printf 'a 192.0.2.1 slave\n' >"$out/hosts"
+ends 5 "tsp: 192.0.2.1:525 can't be bound: Cannot assign requested address" tools/tsp-launch -f "$out/hosts" -s a --spread 0
+ends 5 "tsp-launch: 192.0.2.1:525 can't be bound: Cannot assign requested address" tools/tsp-launch -f "$out/hosts" -s a --spread 0 --supervise
+
 # Without python3 the program runs all the same.
 mkdir "$out/without"
 for each in awk cat cksum cut date find readlink sed sh sort xargs; do

@@ -141,9 +141,11 @@ class Tree:
 
     def __init__(self, bounds):
         self.known, self.of = {}, {}
-        for bound in bounds:
+        # (those above a bound come before it, so that they are known by then)
+        ordered = sorted(bounds, key=lambda bound: bound.correct)
+        for bound in ordered:
             self.of.setdefault(bound.follower, []).append(bound)
-        self.chains = [chain for bound in bounds for chain in self.up_from(bound)]
+        self.chains = [chain for bound in ordered for chain in self.up_from(bound)]
 
     def up_from(self, bound):
         """The chains that end with a bound, in the order of time."""
