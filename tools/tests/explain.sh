@@ -2,7 +2,7 @@
 # ./tsp explains the statuses 1 and 5 in one line behind the program's own, and changes nothing else.
 . "$(dirname "$0")/common.sh"
 serving_program
-unset TSP_PROGRAM
+unset TSP_PROGRAM TSP_HOSTS TSP_SELF TSP_TURNS TSP_WAIT TSP_TRACE TSP_SPREAD
 explain=tools/tsp_daemon/explain.py
 
 # Wants this status, and this behind the program's line on standard error, or an empty standard error with status 0.
