@@ -66,10 +66,10 @@ _tsp_plot() {
     --program | -p) mapfile -t COMPREPLY < <(compgen -c -- "$2"); return ;;
     --output | -o) _tsp_files 'svg|html' "$2"; return ;;
     '<') _tsp_any_file "$2"; return ;;
-    --title | -t) return ;;
+    --title | -t | --drift | -d) return ;;
     esac
     case $2 in
-    -*) mapfile -t COMPREPLY < <(compgen -W '--output --title --program --help' -- "$2") ;;
+    -*) mapfile -t COMPREPLY < <(compgen -W '--output --title --bounds --drift --program --help' -- "$2") ;;
     *) _tsp_files 'tsp|trace' "$2" ;;
     esac
 }

@@ -1,6 +1,9 @@
-"""What tools/network, tools/fuzz and tools/fail-alloc have in common: networks of this machine's own, fast time, and memory that is refused."""
+"""What tools/network, tools/fuzz, tools/accuracy and tools/fail-alloc have in common: networks of this machine's own, fast time, and memory that is refused."""
 import signal
 import sys
+
+# Their status where something isn't as it should be, also their words; and the greatest seed.
+FAILED, MOST_SEED = 1, 2**64 - 1
 
 
 def end_cleanly():

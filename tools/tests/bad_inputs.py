@@ -106,10 +106,10 @@ class Trial:
             self.run(words, 0, (0,), source)
 
     def of_words(self):
-        self.run(['--no-such-option'], int(self.row['words']))
-        self.run(['-\udcff'], int(self.row['words']))
-        if self.row['option'] != '-':
-            self.run([self.row['option']], int(self.row['words']))
+        status, *told = self.row['words'].split()
+        for word in ('--no-such-option', '-\udcff', self.row['option']):
+            if word != '-':
+                self.run([word], int(status), (2,) if told == ['two'] else (1,))
 
     def of_outputs(self):
         words, unwritten = self.words('writes')[0], int(self.row['unwritten'])

@@ -25,6 +25,7 @@ for document in README.md docs/*.md examples/README.md; do
 done
 tools/definitions --check || fail 'docs/DEFINITIONS.md is out of date: tools/definitions writes it'
 tools/headline --check || fail 'docs/HEADLINE.md is out of date: tools/headline writes it'
+python3 tools/tests/headline_names.py >"$out/names" || fail 'a name of docs/HEADLINE.md stands for two things'
 tools/layers --check || fail 'docs/layers.svg is out of date: tools/layers writes it'
 python3 tools/tests/proofs.py || fail 'docs/PROOFS.md names what is not there'
 [ "$count" -ge 4 ] || fail "only $count examples were tried"

@@ -10,10 +10,11 @@ drawn() {
 }
 
 has xmllint || skip 'there is no xmllint' 'whether pictures are XML'
+examples/draw "$out/drawn" || fail 'the examples are not drawn'
 count=0
 for schedule in examples/*.tsp examples/schedules/*.tsp tools/tests/plot/*.tsp; do
     trace=${schedule%.tsp}.trace
-    tools/tsp-plot "$schedule" "$trace" >"$out/picture.svg" || fail "$schedule isn't drawn"
+    cp "$out/drawn/${schedule%.tsp}.svg" "$out/picture.svg" || fail "$schedule isn't drawn"
     cmp -s "$out/picture.svg" "${schedule%.tsp}.svg" || fail "$schedule gives another picture than the one beside it"
     ! has xmllint || xmllint --noout "$out/picture.svg" || fail "the picture of $schedule isn't XML"
 
@@ -35,6 +36,31 @@ done
 # A measurement is seen, however far the clocks are from true time: each of the gateway's is drawn 5 high or more.
 sed -n 's/^<line .*y1="\([0-9.]*\)" .*y2="\([0-9.]*\)" .*<title>.*measured by.*/\1 \2/p' examples/gateway.svg |
     awk '$1 - $2 < 5 { exit 1 } END { exit NR != 8 }' || fail 'the measurements of a gateway are not seen'
+
+# What rounds bound: of the gateway's clock 402 and twice a microsecond, of the clock below it 196 and as much besides. By a drift of 5 the
+# gateway's reading, which is 6.9997 and then 34.4217 s old, has 36 and then 174 in the place of the microsecond.
+bounded() {
+    tools/tsp-plot --bounds "$@" >"$out/picture.svg" || fail "'$*' isn't drawn with its bounds"
+    ! has xmllint || xmllint --noout "$out/picture.svg" || fail "the picture of '$*' with bounds isn't XML"
+}
+bounded examples/gateway.tsp examples/gateway.trace
+[ "$(drawn '<title>1 gate: by Agreed within 404 to 404 .* of 0 a</title>')" -eq 1 ] || fail 'a bound by one round is another'
+[ "$(drawn '<title>2 b: by Chained within 602 to 602 .* of 0 a</title>')" -eq 1 ] || fail 'a bound by two rounds is another'
+bounded --drift 5 examples/gateway.tsp examples/gateway.trace
+[ "$(drawn '<title>1 gate: by Agreed within 474 to 750 .* of 0 a</title>')" -eq 1 ] || fail 'a bound by another drift is another'
+bounded examples/first.tsp examples/first.trace
+[ "$(drawn 'no round has corrected a follower')" -eq 1 ] || fail 'it is not said that nothing is bounded'
+# (of the round's schedule in which octets come in a peer's name, nothing is promised)
+sed '/^end$/i at 638000700 bytes 0 1 00' tools/tests/plot/round.tsp >"$out/forged.tsp"
+{ cat tools/tests/plot/round.trace; echo '24 0 0 638000700 took 1 refused short'; } >"$out/forged.trace"
+bounded "$out/forged.tsp" "$out/forged.trace"
+[ "$(drawn 'nothing is promised: Sealed fails on line 28')" -eq 1 ] || fail 'it is not said why nothing is promised'
+for words in '--drift 1001' '--drift -1' '--drift' '--drift 0 examples/schedules/corrected-followers.tsp'; do
+    status=0
+    # shellcheck disable=SC2086  # words
+    tools/tsp-plot $words >"$out/picture.svg" 2>"$out/told" || status=$?
+    [ "$status" -eq 2 ] && [ "$(wc -l <"$out/told")" -eq 1 ] || fail "'$words' ends with status $status: $(cat "$out/told")"
+done
 
 # With more than eight lanes each has its own clock beside its role, and all are there.
 awk 'BEGIN {

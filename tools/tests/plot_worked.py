@@ -1,4 +1,5 @@
 """What tsp-plot reads off a run, beside values that were worked out by hand from the protocol's rules."""
+import glob
 import unittest
 
 from tsp_texts import claims, history, schedule, trace, verdict
@@ -41,6 +42,12 @@ class Round(unittest.TestCase):
         master, follower = (self.run.clock(node, 638000700).offset(638000700) for node in (0, 1))
         self.assertEqual((master, follower), (-250, -150))
         self.assertEqual(bound.clock.offset(638000700), master)
+
+    def test_bound_by_another_drift(self):
+        read, acts = run_of('round')
+        bound, = history.History(read, acts, 1000).bounds
+        # 8.0004 s of a drift of 1,000 are 8,000.4, rounded up, and 1 more.
+        self.assertEqual(bound.width_at(638000700), 401 + 2 * 8002)
 
     def test_roles(self):
         self.assertEqual([(span.value.name, span.begin) for span in self.run.roles[0, 0]],
@@ -89,6 +96,57 @@ class Bounds(unittest.TestCase):
     def test_a_turn_ends_nothing(self):
         bound = self.bound_with(b'at 640000000 turn 0')
         self.assertEqual((bound.end, bound.lasts), (640000000, True))
+
+
+def bound(master, follower, close, correct, begin, end, err, lasts=True):
+    """A bound of a round, whose reading was at its beginning, by a drift of 0."""
+    return history.Bound(None, master, follower, close, correct, err, begin, begin, end, 0, lasts)
+
+
+class Chains(unittest.TestCase):
+    """Bounds one below the other."""
+
+    def chains(self, *bounds):
+        return sorted((chain.begin, chain.end, [each.follower for each in chain.bounds], chain.lasts) for chain in history.Tree(bounds).chains)
+
+    def test_of_two_rounds(self):
+        first, second = bound(0, 1, 10, 12, 100, 500, 402), bound(1, 2, 20, 22, 200, 500, 196)
+        self.assertEqual(self.chains(first, second), [(100, 500, [1], True), (200, 500, [1, 2], True)])
+        # Each error, and twice the microsecond that a width has at least: 404 and 198.
+        chain = history.Tree([first, second]).chains[-1]
+        self.assertEqual((chain.follower, chain.width_at(300)), (2, 602))
+
+    def test_a_close_before_the_correction_above_it_is_in_no_chain(self):
+        self.assertEqual(self.chains(bound(0, 1, 10, 12, 100, 500, 5), bound(1, 2, 11, 22, 200, 500, 5)), [(100, 500, [1], True), (200, 500, [2], True)])
+
+    def test_what_is_left_when_the_top_is_moved(self):
+        self.assertEqual(self.chains(bound(0, 1, 10, 12, 100, 300, 5, False), bound(1, 2, 20, 22, 200, 500, 5)),
+                         [(100, 300, [1], False), (200, 300, [1, 2], False), (300, 500, [2], True)])
+
+    def test_a_chain_that_comes_to_stand_between_two_others(self):
+        self.assertEqual(self.chains(bound(0, 1, 10, 12, 100, 300, 5, False), bound(0, 1, 30, 32, 300, 500, 5), bound(1, 2, 20, 22, 200, 500, 5)),
+                         [(100, 300, [1], False), (200, 300, [1, 2], False), (300, 500, [1], True), (300, 500, [2], True)])
+
+    def test_of_three_rounds(self):
+        self.assertEqual(self.chains(bound(2, 3, 30, 32, 300, 400, 5), bound(0, 1, 10, 12, 100, 400, 5), bound(1, 2, 20, 22, 200, 400, 5)),
+                         [(100, 400, [1], True), (200, 400, [1, 2], True), (300, 400, [1, 2, 3], True)])
+
+    def test_without_rounds(self):
+        self.assertEqual(self.chains(), [])
+
+    def test_of_the_examples(self):
+        # What is promised is kept: each clock stays so near to the one at the top, from the chain's beginning to its end.
+        count = 0
+        for path in sorted(glob.glob('examples/*.tsp')):
+            with open(path, 'rb') as file:
+                read = verdict.read(file.read())
+            run = history.History(read, claims.read(path[:-3] + 'trace', read))
+            for chain in history.Tree(run.bounds).chains:
+                clock, top = run.clock(chain.follower, chain.begin), chain.bounds[0].clock
+                for at in range(chain.begin, chain.end + 1, max((chain.end - chain.begin) // 50, 1)):
+                    self.assertLessEqual(abs(clock.offset(at) - top.offset(at)), chain.width_at(at), path)
+                count += 1
+        self.assertGreaterEqual(count, 3)
 
 
 class BestSample(unittest.TestCase):

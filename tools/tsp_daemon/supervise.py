@@ -14,7 +14,7 @@ import time
 
 sys.dont_write_bytecode = True
 sys.path.insert(0, os.path.dirname(os.path.dirname(os.path.realpath(__file__))))
-from tsp_daemon import questions, state, trace, usage, views  # noqa: E402
+from tsp_daemon import questions, sockets, state, trace, usage, views  # noqa: E402
 from tsp_texts.tool import Fault, say  # noqa: E402
 
 CHUNK = 65536
@@ -128,14 +128,9 @@ class Supervisor:
     def why(self):
         """Why the network failed."""
         if self.is_bound:
-            return f'{self.local}: a receive failed'
-        host, port = self.local.split(':')
-        try:
-            with socket.socket(socket.AF_INET, socket.SOCK_DGRAM) as link:
-                link.bind((host, int(port)))
-        except OSError as fault:
-            return f'{self.local} can\'t be bound: {fault.strerror}'
-        return f'{self.local} couldn\'t be bound, and can be now'
+            return f'the socket failed while receiving on {self.local}'
+        why = sockets.why_not_bound(self.local)
+        return f'{self.local} can\'t be bound: {why}' if why else f'{self.local} couldn\'t be bound, and can be now'
 
 
 def main():

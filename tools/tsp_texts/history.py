@@ -55,9 +55,13 @@ class Group(NamedTuple):
 
 
 class Bound(NamedTuple):
-    """What is promised of a follower that a round corrected: its clock is within `width_at` of the master's."""
+    """What is promised of a follower that a round corrected: its clock is within `width_at` of the master's, which is `clock`.
+    `close` and `correct` are the places of the round's Close and of the follower's Correct."""
     clock: object
+    master: int
     follower: int
+    close: int
+    correct: int
     err: int
     reading_at: int
     begin: int
@@ -69,6 +73,21 @@ class Bound(NamedTuple):
         return self.err + 2 * trace.width(self.drift, at - self.reading_at)
 
 
+class Chain(NamedTuple):
+    """Bounds one below the other, the highest first: while all of them stand, the last one's follower is within `width_at` of the highest one's master."""
+    bounds: tuple
+    begin: int
+    end: int
+    lasts: bool
+
+    @property
+    def follower(self):
+        return self.bounds[-1].follower
+
+    def width_at(self, at):
+        return sum(bound.width_at(at) for bound in self.bounds)
+
+
 class Send:
     """An adjustment that a Close began: whose, the sample that it comes from, and the place of the Close."""
 
@@ -77,10 +96,11 @@ class Send:
 
 
 class History:
-    """A run, read once from its first act to its last."""
+    """A run, read once from its first act to its last. The drift of its bounds is the schedule's, or another one."""
 
-    def __init__(self, schedule, acts):
+    def __init__(self, schedule, acts, drift=None):
         self.schedule, self.acts = schedule, acts
+        self.drift = schedule.drift if drift is None else drift
         self.last = schedule.events[-1].at if schedule.events else 0
         self.clocks = [[] for _ in schedule.nodes]
         self.roles, self.corrections = {}, []
@@ -114,6 +134,41 @@ class History:
                 if own and other:
                     found.append(Span(begin, end, Beside(own, other), role.lasts and end == role.end))
         return found
+
+
+class Tree:
+    """The chains of a run: each bound for as long as it stands, with those above it, each of which began before the Close of the one below it."""
+
+    def __init__(self, bounds):
+        self.known, self.of = {}, {}
+        # (those above a bound come before it, so that they are known by then)
+        ordered = sorted(bounds, key=lambda bound: bound.correct)
+        for bound in ordered:
+            self.of.setdefault(bound.follower, []).append(bound)
+        self.chains = [chain for bound in ordered for chain in self.up_from(bound)]
+
+    def up_from(self, bound):
+        """The chains that end with a bound, in the order of time."""
+        key = bound.follower, bound.correct
+        if key not in self.known:
+            self.known[key] = self.found(bound)
+        return self.known[key]
+
+    def found(self, bound):
+        chains, free = [], bound.begin
+        above = [chain for each in self.of.get(bound.master, ()) if each.correct < bound.close for chain in self.up_from(each)]
+        for chain in sorted(above, key=lambda chain: chain.begin):
+            begin, end = max(chain.begin, free), min(chain.end, bound.end)
+            if begin < end or begin == end == bound.end and chain.lasts and bound.lasts:
+                chains += self.alone(bound, free, begin)
+                chains.append(Chain(chain.bounds + (bound,), begin, end, chain.lasts and bound.lasts))
+                free = end
+        return chains + self.alone(bound, free, bound.end) if not chains or free < bound.end else chains
+
+    @staticmethod
+    def alone(bound, begin, end):
+        """A bound that none is above in this time."""
+        return [Chain((bound,), begin, end, bound.lasts and end == bound.end)] if begin < end or begin == bound.begin == bound.end else []
 
 
 class Walk:
@@ -185,7 +240,7 @@ class Walk:
         if send is None or self.moved[send.master] > send.close:
             return
         sample = send.sample
-        bound = Bound(self.clock[send.master], act.node, sample.err, sample.reading_at, act.at, self.of.last, self.of.schedule.drift)
+        bound = Bound(self.clock[send.master], send.master, act.node, send.close, act.place, sample.err, sample.reading_at, act.at, self.of.last, self.of.drift)
         self.promised.append((send.master, bound))
 
     def on_arm(self, act):

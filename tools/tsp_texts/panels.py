@@ -1,7 +1,11 @@
 """The parts of a picture that show values: clocks less true time, and followers' clocks less their masters'."""
+from tsp_texts import premises
+from tsp_texts.history import Tree
 from tsp_texts.scale import Values, micros
 from tsp_texts.svg import wide
 
+# The premises that Agreed and Chained ask, as a schedule's text has them.
+NEEDED = ('Sealed', 'Prompt')
 NODES = ['#1b6ca8', '#b03060', '#2e7d32', '#8e44ad', '#c77700', '#00796b', '#5d4037', '#455a64']
 
 
@@ -128,6 +132,50 @@ class Followers(Panel):
         for group in self.history.groups:
             if group.master == port[0] and group.port == port[1]:
                 self.group(y, group)
+
+
+class Trees(Panel):
+    """Clocks less the one at the top of their tree, with what Agreed and Chained promise of that."""
+
+    def __init__(self, frame, top, bottom):
+        self.chains = Tree(frame.history.bounds).chains
+        values = [side * chain.width_at(at) for chain in self.chains for at in (chain.begin, chain.end) for side in (1, -1)]
+        values += [self.beside(frame.history, chain, at) for chain in self.chains for at in (chain.begin, chain.end)]
+        super().__init__(frame, values, top, bottom)
+
+    @staticmethod
+    def beside(history, chain, at):
+        """A chain's last clock less the one at its top."""
+        return history.clock(chain.follower, chain.begin).offset(at) - chain.bounds[0].clock.offset(at)
+
+    def broken(self):
+        """What of the schedule breaks a premise of these promises, in words."""
+        posts = [act.event for act in self.history.acts if act.words[0] == 'post']
+        found = [each for each in premises.of(self.history.schedule, posts) if each.name in NEEDED and each.line]
+        return '; nothing is promised: ' + ' and '.join(f'{each.name} fails on line {each.line}' for each in found) if found else ''
+
+    def draw(self):
+        if not self.chains:
+            self.drawing.text(self.frame.left, self.top - 8, 'no round has corrected a follower, so Agreed and Chained bound no clock', ' fill="#555"')
+            return
+        self.axis(f'clock less that at the top of its tree, within what Agreed and Chained promise by a drift of {self.history.drift}{self.broken()}')
+        for chain in self.chains:
+            self.band(chain)
+        for chain in self.chains:
+            points = [(self.x(at), self.y(self.beside(self.history, chain, at))) for at in self.x.between(chain.begin, chain.end)]
+            self.drawing.path(points + [(self.frame.end(chain), points[-1][1])], f' stroke="{colour_of(chain.follower)}" stroke-width="1.4"')
+
+    def band(self, chain):
+        """What is promised of a chain's last clock, with its edges."""
+        points = [(self.x(at), chain.width_at(at)) for at in self.x.between(chain.begin, chain.end)]
+        points.append((self.frame.end(chain), points[-1][1]))
+        upper, lower = ([(x, self.y(side * width)) for x, width in points] for side in (1, -1))
+        name = 'Chained' if len(chain.bounds) > 1 else 'Agreed'
+        self.drawing.polygon(upper + lower[::-1], f' fill="{colour_of(chain.follower)}" opacity=".1"',
+                             f'{self.frame.name(chain.follower)}: by {name} within {chain.width_at(chain.begin)} to {chain.width_at(chain.end)} µs '
+                             f'of {self.frame.name(chain.bounds[0].master)}')
+        for edge in (upper, lower):
+            self.drawing.path(edge, f' stroke="{colour_of(chain.follower)}" stroke-width=".7" stroke-dasharray="4 3"')
 
 
 class Legend:

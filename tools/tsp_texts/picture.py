@@ -1,11 +1,11 @@
 """A run as a picture in SVG: the clocks above, and below them a lane for each port with its role and its datagrams."""
-from tsp_texts.panels import Clocks, Followers, Legend, colour_of
+from tsp_texts.panels import Clocks, Followers, Legend, Trees, colour_of
 from tsp_texts.scale import Times, micros
 from tsp_texts.svg import Drawing, wide
 
 ROLES = {'starting': '#c4c4c4', 'loose': '#f2d16b', 'follow': '#6ba6f2', 'candidate': '#f29b4b', 'master': '#d9534f'}
 WIDTH, LEFT, RIGHT, TOP, GAP = 1200, 124, 20, 62, 44
-CLOCKS, FOLLOWERS = 190, 190
+CLOCKS, FOLLOWERS, TREES = 190, 190, 190
 # Lanes are high where there are few. Where there are more than so many, each has its follower's clock in it.
 FEW, HIGH_LANE, LOW_LANE, STRIP = 8, 54, 46, 9
 # What lasts beyond the run is drawn so much further than its last event.
@@ -14,9 +14,9 @@ LOST = '#c00'
 
 
 class Picture:
-    """The picture of a history."""
+    """The picture of a history. With `bounds` it has a part for what the promises bound."""
 
-    def __init__(self, history, title):
+    def __init__(self, history, title, bounds=False):
         self.history, self.title, self.drawing = history, title, Drawing()
         self.left, self.right = LEFT, WIDTH - RIGHT
         self.ports = sorted(history.roles) or [(node, 0) for node in range(len(history.schedule.nodes))]
@@ -30,7 +30,9 @@ class Picture:
         below = TOP + CLOCKS + GAP
         self.followers = Followers(self, below, below + FOLLOWERS)
         self.follows = any(self.followers.lines.values())
-        self.legend_top = below + (FOLLOWERS + GAP - 12 if self.follows and self.has_few else -12)
+        below += FOLLOWERS + GAP if self.follows and self.has_few else 0
+        self.trees = Trees(self, below, below + TREES) if bounds else None
+        self.legend_top = below - 12 + (0 if self.trees is None else TREES + GAP if self.trees.chains else GAP / 2)
 
     def name(self, node):
         return f'{node} {self.history.schedule.nodes[node].name}'
@@ -133,6 +135,9 @@ class Picture:
             legend.entry(lambda x, y: draw.line(x + 6, y - 6, x + 6, y + 6, '#333', ' stroke-width="2"'), 'measurement, with its error')
             legend.entry(lambda x, y: draw.rect(x + 2, y - 6, 8, 12, ' fill="none" stroke="#000"'), 'group of a round, and its mean')
             legend.entry(lambda x, y: draw.rect(x, y - 6, 14, 12, ' fill="#1b6ca8" opacity=".25"'), 'what the round promises of the follower\'s clock')
+        if self.trees and self.trees.chains:
+            legend.entry(lambda x, y: draw.rect(x, y - 6, 14, 12, ' fill="#1b6ca8" fill-opacity=".2" stroke="#1b6ca8" stroke-dasharray="4 3"'),
+                         'what is promised of a clock by one round (Agreed) or by several, one below the other (Chained)')
         if self.follows and not self.has_few:
             low, high = (int(10**abs(end)) for end in (self.followers.y.low, self.followers.y.high))
             legend.entry(lambda x, y: draw.line(x, y, x + 14, y, '#333'), f'in each lane: its clock less its master\'s, from -{low:,} to +{high:,} µs')
@@ -148,6 +153,8 @@ class Picture:
         self.clocks.draw()
         if self.follows and self.has_few:
             self.followers.draw()
+        if self.trees:
+            self.trees.draw()
         for part in (self.roles, self.datagrams, self.moves):
             part()
         return front.whole(WIDTH, self.height)
