@@ -23,6 +23,7 @@ use Rattle.tsp_promises.proofs.BrokenClocks.{clocks_break, left_alone, relays_wr
 use Rattle.tsp_promises.proofs.BrokenEstimates.{estimates_apart, master_near}
 use Rattle.tsp_promises.proofs.BrokenReadings.{readings_break}
 use Rattle.tsp_promises.proofs.BrokenRoles.{roles_break}
+use Rattle.tsp_promises.proofs.BrokenRounds.{rounds_break}
 use Rattle.tsp_promises.proofs.BrokenSends.{sends_break}
 use Rattle.tsp_promises.proofs.CastBy.{cast-by}
 use Rattle.tsp_promises.proofs.CastProof.{reading_of, taking_of}
@@ -45,8 +46,8 @@ down = record {
   broken = λ h.
       let near : Hops 0 near-hop wrong = record { cast = near-cast; unchanged = record { within = skipped 21 wrong; since = record { corrects = refl; lives = refl } } } in
       let far : Hops 1 wrong-hop wrong = record { cast = far-cast (pos 5000000) false (pos 0); unchanged = record { within = inl refl; since = record { corrects = refl; lives = refl } } } in
-      let k : pos 5000048 ≤ℤ pos 806 = (h.0 508000400 (omega arith)).down 0 near-hop (wrong-hop ∷ []) near (far, skipped 16 (skip 2 g25), tt)
-      (record { lives = refl; corrects = inr (record { next = does 408000000 0 Turned (Correct (negsuc 49) false (pos 408000000)); before = skip 2 g19; is = refl; amount = negsuc 49; stepped = false; shown = pos 408000000; place = skipped 25 wrong; node = refl; deed = refl; corrects = refl }) }) in
+      let k : pos 5000049 ≤ℤ pos 806 = (h.0 508000400 (omega arith)).down 0 near-hop (wrong-hop ∷ []) near (far, skipped 16 (skip 2 g25), tt)
+      (record { lives = refl; corrects = inr (record { next = does 408000000 0 Turned (Correct (negsuc 50) false (pos 408000000)); before = skip 2 g19; is = refl; amount = negsuc 50; stepped = false; shown = pos 408000000; place = skipped 25 wrong; node = refl; deed = refl; corrects = refl }) }) in
       omega (arith, ints);
 }
 
@@ -165,4 +166,4 @@ chains_break = record { down = down; across = across; tree = tree; throughout = 
 
 -- each promise is broken by some history
 pub all_break : AllBreak
-all_break = record { setting = still false; roles = roles_break; sends = sends_break; clocks = clocks_break; readings = readings_break; chains = chains_break }
+all_break = record { setting = still false; roles = roles_break; sends = sends_break; clocks = clocks_break; readings = readings_break; chains = chains_break; rounds = rounds_break }

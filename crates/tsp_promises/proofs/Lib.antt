@@ -14,6 +14,7 @@ pub mod BrokenClocks
 pub mod BrokenEstimates
 pub mod BrokenReadings
 pub mod BrokenRoles
+pub mod BrokenRounds
 pub mod BrokenSends
 pub mod CastBy
 pub mod CastProof
@@ -66,6 +67,7 @@ pub mod MasterMoved
 pub mod Matching
 pub mod MeanFacts
 pub mod MeasuredProof
+pub mod ModerateProof
 pub mod NextAct
 pub mod NodeLeads
 pub mod OnceDatedProof
@@ -98,6 +100,7 @@ pub mod SafeProof
 pub mod SameSendProof
 pub mod SampleLeads
 pub mod SeenPlaces
+pub mod SeldomProof
 pub mod SendFits
 pub mod SendPlaces
 pub mod SendProof
@@ -136,6 +139,7 @@ pub mod WitnessDebts
 pub mod WitnessEstimates
 pub mod WitnessLead
 pub mod WitnessLife
+pub mod WitnessModerate
 pub mod WitnessQuiet
 pub mod WitnessReadings
 pub mod WitnessRelay
