@@ -79,8 +79,17 @@ throughout : Breaks (Throughout (still false))
 throughout = record {
   world = stray false;
   broken = λ h.
-      let k : pos 5000083 ≤ℤ pos 452 = (h.0 408000500 (omega arith) 0 closing (skip 4 w19) (negsuc 83) (strays false) (skip 2 w21) answers (skip 1 w16) (pos 450)
+      let k : pos 5000083 ≤ℤ pos 452 = ((h.0 408000500 (omega arith)).master 0 closing (skip 4 w19) (negsuc 83) (strays false) (skip 2 w21) answers (skip 1 w16) (pos 450)
       (record { cast = second-cast (pos 5000000) false (pos 0); within = inl refl; count = 3; lo = negsuc 150; size = pos 151; deed = refl; one_life = refl; one_life_master = refl })).taken_back in
+      omega (arith, ints);
+}
+
+throughout_peers : Breaks (Throughout (still false))
+throughout_peers = record {
+  world = stray false;
+  broken = λ h.
+      let k : pos 4999983 ≤ℤ pos 855 = ((h.0 408000500 (omega arith)).peers 0 closing (skip 4 w19) (strays false) first (skip 2 w21) (skip 2 w20) answers sounds (skip 1 w16) (skip 1 w15) (pos 450) (pos 401)
+      (record { cast = second-cast (pos 5000000) false (pos 0); within = inl refl; one_life = refl }) (record { cast = first-cast; within = skipped 4 (stray false); one_life = refl })).taken_back in
       omega (arith, ints);
 }
 
@@ -162,7 +171,7 @@ first_set_soon = record {
 }
 
 chains_break : ChainsBreak (still false)
-chains_break = record { down = down; across = across; tree = tree; throughout = throughout; estimates_apart = estimates_apart; master_near = master_near; errs_bounded = errs_bounded; one_error = one_error; answered_late = answered_late; first_set = first_set; first_set_soon = first_set_soon }
+chains_break = record { down = down; across = across; tree = tree; throughout = throughout; throughout_peers = throughout_peers; estimates_apart = estimates_apart; master_near = master_near; errs_bounded = errs_bounded; one_error = one_error; answered_late = answered_late; first_set = first_set; first_set_soon = first_set_soon }
 
 -- each promise is broken by some history
 pub all_break : AllBreak

@@ -127,6 +127,8 @@ pub record ChainsBreak (setting : Setting) : Type 0 where
   pub tree : Breaks (Chained setting)
   -- a clock that moves by another amount than its ADJTIME says, whatever is taken back
   pub throughout : Breaks (Throughout setting)
+  -- the same, against another clock of its Close
+  pub throughout_peers : Breaks (Throughout setting)
   -- a round with an estimate that is 9 s off
   pub estimates_apart : Breaks (EstimatesHold setting)
   -- a master that moves by another amount than the mean

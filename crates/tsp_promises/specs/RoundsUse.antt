@@ -7,9 +7,9 @@ use Rattle.tsp_promises.specs.Kept.{Kept}
 use Rattle.tsp_base.specs.NodeFacts.{lives}
 use Rattle.tsp_base.specs.Places.{Within}
 use Rattle.tsp_promises.specs.Setting.{Setting}
-use Rattle.tsp_promises.specs.Throughout.{SinceClose, moved_since}
+use Rattle.tsp_promises.specs.Throughout.{SinceClose, SinceCorrect, moved_since}
 
--- a history that fits and keeps every premise, in which a round corrects a node, and a later one moves that and its master again
+-- a history that fits and keeps every premise, in which a round corrects two nodes, and a later one moves one of them and its master again
 pub record RoundsUse : Type 0 where
   pub setting : Setting
   pub world : List Line
@@ -24,6 +24,14 @@ pub record RoundsUse : Type 0 where
   pub older : List Line
   pub err : ℤ
   pub since : SinceClose master close cpast mean correct past reading older err world
+  -- another node of the first round
+  pub other : Line
+  pub qast : List Line
+  pub answer : Line
+  pub qolder : List Line
+  pub fault : ℤ
+  pub other_since : SinceCorrect master close cpast other qast answer qolder fault world
+  pub apart : node_of correct ≢ node_of other
   -- the later Close, on the same port in one life
   pub again : Line
   pub gpast : List Line

@@ -161,7 +161,8 @@ pub fn seldom()
 
 /// A round's bound never lapses: with what the two nodes were moved by since taken back, the clock
 /// of a node that a Close corrected and that of the master agree as they did, until either boots;
-/// so the clocks differ by at most that besides.
+/// so the clocks differ by at most that besides. The same goes for two nodes that one Close
+/// corrected, whatever becomes of the master.
 pub fn throughout()
     ensures { (setting : Setting) (world : List Line) → Fits setting world → Honest world
         → Life world → Throughout setting world }
