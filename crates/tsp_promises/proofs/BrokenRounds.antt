@@ -1,5 +1,5 @@
 -- Small histories that break the promises of rounds.
-use Rattle.std.specs.Prelude.{◌≤◌, ◌≤ℤ◌, ℕ, false, pos, negsuc, List, [], ◌∷◌, refl}
+use Rattle.std.specs.Prelude.{◌≡◌, ◌≤◌, ◌≤ℤ◌, ℕ, false, pos, negsuc, List, [], ◌∷◌, refl}
 use Rattle.std.proofs.Common.{arith, inl}
 use Rattle.std.proofs.lemmas.Int.{ints}
 use Rattle.tsp_base.specs.declared.act.Act.TheVariants.{Close, Correct, Post, Sample, Took}
@@ -87,6 +87,14 @@ peer_far = record {
       omega arith;
 }
 
+late_met : Breaks (Moderate (still false))
+late_met = record {
+  world = obeys ∷ taken;
+  broken = λ h.
+      let k : pos 416040399 ≡ pos 416300500 = h.0.meets 0 shut jumps (skip 4 n4) (pos 300000) (taking_of 0 shut (skip 4 n4) obeys taken sounds (skip 1 w15) (pos 401) dragged refl) refl refl refl (skipped 3 taken) moves (near-agrees (pos 300000)) refl 416000400 (omega arith) in
+      omega (arith, ints);
+}
+
 estimated : Estimate 0 1 shut (skip 4 n4) near-sample sounds (skip 1 w15) jumped
 estimated = record {
   best_is = refl;
@@ -114,4 +122,4 @@ close_soon = record {
 }
 
 pub rounds_break : RoundsBreak (still false)
-rounds_break = record { mean_far = mean_far; own_far = own_far; adjtime_far = adjtime_far; peer_far = peer_far; clocks_far = clocks_far; close_soon = close_soon }
+rounds_break = record { mean_far = mean_far; own_far = own_far; adjtime_far = adjtime_far; peer_far = peer_far; late_met = late_met; clocks_far = clocks_far; close_soon = close_soon }

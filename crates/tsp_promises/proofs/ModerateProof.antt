@@ -1,9 +1,9 @@
 -- A minority of a round's estimates moves no clock of the majority by much.
-use Rattle.std.specs.Prelude.{◌≡◌, ◌==◌, ◌||◌, ◌≤◌, ◌<◌, ◌≤ℤ◌, ℕ, ◌-◌, ◌*◌, ℤ, pos, ◌+ℤ◌, ◌-ℤ◌, nat_abs, Bool, true, false, List, ◌∷◌, length, Some, refl}
+use Rattle.std.specs.Prelude.{◌≡◌, ◌==◌, ◌||◌, ◌≤◌, ◌<◌, ◌≤ℤ◌, ℕ, ◌-◌, ◌*◌, ℤ, pos, ◌+ℤ◌, ◌-ℤ◌, nat_abs, Bool, true, false, List, ◌∷◌, length, Some, refl, ◌+◌, ◌/◌, negsuc, neg_ℤ, if◌then◌else◌}
 use Rattle.std.proofs.Common.{sym, ap, arith, subst, inl, inr, ◌∙◌}
 use Rattle.std.proofs.lemmas.Int.{ints}
 use Rattle.tsp_base.specs.declared.act.Act.TheVariants.{Close, Correct}
-use Rattle.tsp_base.specs.declared.constants.TheConstants.{SPAN}
+use Rattle.tsp_base.specs.declared.constants.TheConstants.{SPAN, SLEW}
 use Rattle.tsp_group.specs.Groups.{FollowsMajority, IsWithin, group_of, mean_of}
 use Rattle.tsp_group.proofs.LargestGroup.{group_of-IsLargest}
 use Rattle.tsp_group.proofs.Majority.{IsLargest-majority}
@@ -12,8 +12,8 @@ use Rattle.tsp_promises.specs.ClockAt.{clock_at}
 use Rattle.tsp_promises.specs.CorrectFits.{WhyCorrect, ByRound, ByMaster, ByDate}
 use Rattle.tsp_promises.specs.Fits.{Fits, node_of}
 use Rattle.tsp_base.specs.History.{Acts, Did, Line, Seen, of, dids, view, seen_as, is_shared}
-use Rattle.tsp_promises.specs.Moderate.{AdjTimeNear, Agrees, MeanNear, Moderate, ModerateAt, ModerateClocks, Moves, OwnNear, PeerNear, WithMajority, estimates_of}
-use Rattle.tsp_base.specs.NodeFacts.{lives, moved, time_of}
+use Rattle.tsp_promises.specs.Moderate.{AdjTimeNear, Agrees, MeanNear, Moderate, ModerateAt, ModerateClocks, Moves, OwnNear, PeerMeets, PeerNear, WithMajority, estimates_of}
+use Rattle.tsp_base.specs.NodeFacts.{lives, moved, time_of, eased, last_correct, rest, rest_at, shown, target}
 use Rattle.tsp_base.specs.Places.{Within}
 use Rattle.tsp_base.specs.RoundFacts.{Sampled, best}
 use Rattle.tsp_promises.specs.RoundFits.{CloseFits, group_mean}
@@ -127,8 +127,35 @@ peer_near setting l world f m close c cpast amount t kind close_is port c_in v p
     time-near t.acts.amount u.mean v.mean amount p.sample.diff p.sample.diff (2 * SPAN) is (same-mean v.count u.from.count v.lo u.from.lo v.size u.from.size v.mean u.mean (sym v.deed ∙ u.from.deed)) d.is refl
     (follows setting m close cpast v.mean amount p.sample.diff d p.agrees)
 
+-- what has been slewed for so long is slewed
+eased-none : (z : ℤ) (n k : ℕ) → nat_abs z ≤ n → n ≤ k → eased z k ≡ pos 0
+eased-none (pos a) n k few long = let e : a - k ≡ 0 = omega arith in ap pos e
+eased-none (negsuc a) n k few long = let e : a + 1 - k ≡ 0 = omega (arith, ints) in ap (λ d. neg_ℤ (pos d)) e
+
+rest-few : (amount : ℤ) (n : ℕ) (stepped : Bool) (left : ℤ) → left ≡ pos 0 → nat_abs amount ≤ n → nat_abs (if stepped then pos 0 else left +ℤ amount) ≤ n
+rest-few amount n true left e h = omega arith
+rest-few amount n false left e h = omega (arith, ints)
+
+less-none : (z rest : ℤ) → rest ≡ pos 0 → z -ℤ rest ≡ z
+less-none z rest e = omega (arith, ints)
+
+-- after a Correct by so little, with nothing left before it
+shows-target : (c : Did) (before : List Did) (amount : ℤ) (stepped : Bool) (value : ℤ) (x : ℕ) → c.deed ≡ Acts (Correct amount stepped value) → nat_abs amount ≤ 2 * SPAN → rest_at before c.tick ≡ pos 0 → c.tick + 2 * SPAN * SLEW ≤ x →
+    shown (c ∷ before) x ≡ target (c ∷ before) x
+shows-target c before amount stepped value x is few none late =
+    let rest_is : rest (c ∷ before) ≡ (if stepped then pos 0 else rest_at before c.tick +ℤ amount) = rw is refl in
+    let last_is : last_correct (c ∷ before) ≡ c.tick = rw is refl in
+    let few_left : nat_abs (rest (c ∷ before)) ≤ 2 * SPAN = subst (λ z. nat_abs z ≤ 2 * SPAN) (sym rest_is) (rest-few amount (2 * SPAN) stepped (rest_at before c.tick) none few) in
+    let long : 2 * SPAN ≤ (x - last_correct (c ∷ before)) / SLEW = omega (arith, last_is, late) in
+    less-none (target (c ∷ before) x) (rest_at (c ∷ before) x) (eased-none (rest (c ∷ before)) (2 * SPAN) ((x - last_correct (c ∷ before)) / SLEW) few_left long)
+
+peer_meets : (setting : Setting) (l : Line) (world : List Line) → Fits setting (l ∷ world) → PeerMeets setting l world
+peer_meets setting l world f m close c cpast amount t kind close_is port c_in v p none x late =
+    let few = peer_near setting l world f m close c cpast amount t kind close_is port c_in v p in
+    subst (λ ds. shown ds x ≡ target ds x) (sym (ap dids (of-own (node_of l) l world refl))) (shows-target l.did (dids (of (node_of l) world)) t.acts.amount t.acts.stepped t.acts.shown x t.acts.correct few none late)
+
 moderate_at : (setting : Setting) (l : Line) (world : List Line) → Fits setting (l ∷ world) → ModerateAt setting l world
-moderate_at setting l world f = record { mean = mean_near setting l world f; own = own_near setting l world f; adjtime = adjtime_near setting l world f; peer = peer_near setting l world f }
+moderate_at setting l world f = record { mean = mean_near setting l world f; own = own_near setting l world f; adjtime = adjtime_near setting l world f; peer = peer_near setting l world f; meets = peer_meets setting l world f }
 
 pub moderate : (setting : Setting) (world : List Line) → Fits setting world → Moderate setting world
 moderate setting world f = Everywhere-from (ModerateAt setting) world (λ l s w. moderate_at setting l s (fits_at setting (l ∷ s) world f w))

@@ -232,6 +232,7 @@ moderate_use = record {
   adjusts = refl;
   close_is = refl;
   port = refl;
+  rested = refl;
   jump = line (step_at 408000500 2 (Came 11)) port0 (Correct (negsuc 1000049) false (pos 408000499));
   before = skip 2 n6;
   jump_in = skipped 7 n8;

@@ -154,6 +154,8 @@ pub record RoundsBreak (setting : Setting) : Type 0 where
   pub adjtime_far : Breaks (Moderate setting)
   -- the peer that takes it
   pub peer_far : Breaks (Moderate setting)
+  -- which has slewed for 8 s, and still doesn't show its target
+  pub late_met : Breaks (Moderate setting)
   -- the first, and the peer is left alone
   pub clocks_far : Breaks (ModerateClocks setting)
   -- two rounds of a port that close in short order

@@ -1,8 +1,8 @@
 -- The promise that a minority of a round's estimates, whatever it says, moves no clock of the majority by much.
-use Rattle.std.specs.Prelude.{◌≡◌, ◌≤◌, ◌<◌, ◌≤ℤ◌, ℕ, ◌-◌, ◌*◌, ℤ, pos, ◌+ℤ◌, ◌-ℤ◌, nat_abs, Bool, true, List, ◌∷◌, length, Some}
+use Rattle.std.specs.Prelude.{◌≡◌, ◌≤◌, ◌<◌, ◌≤ℤ◌, ℕ, ◌+◌, ◌-◌, ◌*◌, ℤ, pos, ◌+ℤ◌, ◌-ℤ◌, nat_abs, Bool, true, List, ◌∷◌, length, Some}
 use Rattle.std.specs.List.{Contains, count_by}
 use Rattle.tsp_base.specs.declared.act.Act.TheVariants.{Close, Correct}
-use Rattle.tsp_base.specs.declared.constants.TheConstants.{SPAN}
+use Rattle.tsp_base.specs.declared.constants.TheConstants.{SLEW, SPAN}
 use Rattle.tsp_base.specs.declared.kind.Kind.TheVariants.{AdjTime}
 use Rattle.tsp_base.specs.declared.place.PeerId.{PeerId}
 use Rattle.tsp_base.specs.declared.place.Port.{Port}
@@ -12,7 +12,8 @@ use Rattle.tsp_promises.specs.ClockAt.{clock_at}
 use Rattle.tsp_promises.specs.Estimates.{CloseBegins, Estimate}
 use Rattle.tsp_promises.specs.Everywhere.{Everywhere}
 use Rattle.tsp_promises.specs.Fits.{node_of}
-use Rattle.tsp_base.specs.History.{Acts, Here, Line, of, view}
+use Rattle.tsp_base.specs.History.{Acts, Here, Line, dids, of, view}
+use Rattle.tsp_base.specs.NodeFacts.{rest_at, shown, target}
 use Rattle.tsp_promises.specs.OneError.{Taking}
 use Rattle.tsp_base.specs.Places.{Within}
 use Rattle.tsp_base.specs.RoundFacts.{Sampled, best}
@@ -31,7 +32,7 @@ pub record Majority (values : List ℤ) (test : ℤ → Bool) : Type 0 where
   pub more : length values < 2 * count_by test values
   pub agrees : Agree SPAN values test
 
--- this Close ends a round of m, and the line right after it is m's Correct by this amount
+-- this is a Close of m, and this a Correct of m by this amount; where it stands right after the Close it ends the round
 pub record Moves (m : ℕ) (close : Line) (c : Line) (amount : ℤ) : Type 0 where
   pub count : ℕ
   pub lo : ℤ
@@ -75,12 +76,19 @@ abbrev pub PeerNear : Setting → Line → List Line → Type 0
 PeerNear setting l world = (m : ℕ) (close c : Line) (cpast : List Line) (amount : ℤ) (t : Taking m l world) → t.acts.brings.message.kind ≡ AdjTime → closed t.begun ≡ Here close.did ∷ view t.post.port (of m cpast) → close.port ≡ t.post.port →
     Within (c ∷ (close ∷ cpast)) world → Moves m close c amount → PeerAgrees setting m (peer_of (node_of l)) close cpast → nat_abs t.acts.amount ≤ 2 * SPAN
 
+-- where nothing was left to slew before that, the peer shows its target again once it has slewed twice the span, as long as nothing more happens
+abbrev pub PeerMeets : Setting → Line → List Line → Type 0
+PeerMeets setting l world = (m : ℕ) (close c : Line) (cpast : List Line) (amount : ℤ) (t : Taking m l world) → t.acts.brings.message.kind ≡ AdjTime → closed t.begun ≡ Here close.did ∷ view t.post.port (of m cpast) → close.port ≡ t.post.port →
+    Within (c ∷ (close ∷ cpast)) world → Moves m close c amount → PeerAgrees setting m (peer_of (node_of l)) close cpast → rest_at (dids (of (node_of l) world)) l.did.tick ≡ pos 0 →
+    (x : ℕ) → l.did.tick + 2 * SPAN * SLEW ≤ x → shown (dids (of (node_of l) (l ∷ world))) x ≡ target (dids (of (node_of l) (l ∷ world))) x
+
 -- all of this at a line
 pub record ModerateAt (setting : Setting) (l : Line) (world : List Line) : Type 0 where
   pub mean : MeanNear setting l world
   pub own : OwnNear setting l world
   pub adjtime : AdjTimeNear setting l world
   pub peer : PeerNear setting l world
+  pub meets : PeerMeets setting l world
 
 -- who agrees with more than half of a round's estimates is moved by at most twice the span
 abbrev pub Moderate : Setting → List Line → Type 0

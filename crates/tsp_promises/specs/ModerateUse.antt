@@ -6,9 +6,10 @@ use Rattle.tsp_base.specs.declared.kind.Kind.TheVariants.{AdjTime}
 use Rattle.tsp_promises.specs.Agreed.{Unchanged}
 use Rattle.tsp_promises.specs.Estimates.{CloseBegins, Estimate}
 use Rattle.tsp_promises.specs.Fits.{node_of}
-use Rattle.tsp_base.specs.History.{Acts, Here, Line, of, view}
+use Rattle.tsp_base.specs.History.{Acts, Here, Line, dids, of, view}
 use Rattle.tsp_promises.specs.Kept.{Kept}
 use Rattle.tsp_promises.specs.Moderate.{Agrees, Moves, PeerAgrees, estimates_of}
+use Rattle.tsp_base.specs.NodeFacts.{rest_at}
 use Rattle.tsp_promises.specs.OneError.{Taking}
 use Rattle.tsp_base.specs.Places.{Within}
 use Rattle.tsp_base.specs.RoundFacts.{Sampled, best}
@@ -53,6 +54,7 @@ pub record ModerateUse : Type 0 where
   pub adjusts : taking.acts.brings.message.kind ≡ AdjTime
   pub close_is : closed taking.begun ≡ Here close.did ∷ view taking.post.port (of master cpast)
   pub port : close.port ≡ taking.post.port
+  pub rested : rest_at (dids (of near past)) taker.did.tick ≡ pos 0
   -- the Correct of the other one
   pub jump : Line
   pub before : List Line
