@@ -16,6 +16,7 @@ pub mod BrokenClocks
 pub mod BrokenEstimates
 pub mod BrokenReadings
 pub mod BrokenRoles
+pub mod BrokenRounds
 pub mod BrokenSends
 pub mod CastBy
 pub mod CastProof
@@ -68,6 +69,7 @@ pub mod MasterMoved
 pub mod Matching
 pub mod MeanFacts
 pub mod MeasuredProof
+pub mod ModerateProof
 pub mod NextAct
 pub mod NodeLeads
 pub mod OnceDatedProof
@@ -101,6 +103,7 @@ pub mod SafeProof
 pub mod SameSendProof
 pub mod SampleLeads
 pub mod SeenPlaces
+pub mod SeldomProof
 pub mod SendFits
 pub mod SendPlaces
 pub mod SendProof
@@ -143,6 +146,7 @@ pub mod WitnessDebts
 pub mod WitnessEstimates
 pub mod WitnessLead
 pub mod WitnessLife
+pub mod WitnessModerate
 pub mod WitnessQuiet
 pub mod WitnessReadings
 pub mod WitnessRelay

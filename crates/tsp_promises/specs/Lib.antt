@@ -28,6 +28,8 @@ pub mod LoopFits
 pub mod Looped
 pub mod MeasureFits
 pub mod Measured
+pub mod Moderate
+pub mod ModerateUse
 pub mod NodeRuns
 pub mod Once
 pub mod OneBack
@@ -45,10 +47,12 @@ pub mod Relayed
 pub mod Relays
 pub mod Resolved
 pub mod RivalsMeet
+pub mod RoundFits
 pub mod RoundsUse
 pub mod Runs
 pub mod Safe
 pub mod SameWords
+pub mod Seldom
 pub mod SetUse
 pub mod Setting
 pub mod ShownAt
