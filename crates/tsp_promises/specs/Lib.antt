@@ -14,6 +14,8 @@ pub mod CorrectionFits
 pub mod DateFits
 pub mod DateUse
 pub mod Dated
+pub mod DatedUse
+pub mod DatesBroken
 pub mod DeedFits
 pub mod ErrsBounded
 pub mod Estimates
@@ -25,7 +27,9 @@ pub mod HoldFits
 pub mod Kept
 pub mod LateReply
 pub mod LoopFits
+pub mod LoopUse
 pub mod Looped
+pub mod LoopsBroken
 pub mod MeasureFits
 pub mod Measured
 pub mod Moderate
