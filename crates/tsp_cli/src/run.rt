@@ -7,7 +7,7 @@ ghost use Rattle.tsp_args.specs.Storms.{IsStorm};
 ghost use Rattle.tsp_args.specs.declared.command.Command.{Command};
 ghost use Rattle.tsp_cli.specs.Commands.{Does, DoesOrNot, RunsDaemon, RunsQuery, RunsStorm};
 ghost use Rattle.tsp_cli.specs.Commands.{Untouched, IsAsk, IsQuestion};
-ghost use Rattle.tsp_cli.specs.Headline.{PrintsHistory};
+ghost use Rattle.tsp_cli.specs.Headline.{PrintsHistory, PrintsSoFar};
 ghost use Rattle.tsp_cli.specs.Lines.{Says};
 ghost use Rattle.tsp_cli.specs.Usage.{usage_line};
 
@@ -117,6 +117,8 @@ pub fn run<S: Source, K: Sink, L: Link, T: Ticker>(
     ensures headline { map string_bytes words.now ≡ codes "replay" ∷ [] → result ≡ Status.Ok
         → PrintsHistory (S.left source.old) (S.left source.new) (K.written sink.old)
         (K.written sink.new) }
+    ensures so_far { map string_bytes words.now ≡ codes "replay" ∷ []
+        → PrintsSoFar (S.left source.old) (K.written sink.old) (K.written sink.new) result }
     ensures usage { IsNoCommand (map string_bytes words.now)
         → Says usage_line Status.Usage (K.written sink.old) (K.written sink.new) result
         × (source.new ≡ source.old) × (link.new ≡ link.old) × (ticker.new ≡ ticker.old) }
