@@ -85,7 +85,7 @@ fn4 = step-fits false (step_at 408000000 0 Turned) an4 n3 fn3 refl (
   (
     (refl, closes-by refl refl refl refl refl (omega arith) (omega arith) (record { corrects = refl; lives = refl })),
     (
-      (refl, record { gap = omega arith; rested = omega arith; why = ByRound (record { close = _; past = _; is = refl; count = 2; lo = negsuc 100; size = pos 101; deed = refl; untaken = refl; mean_is = mean4 }) }),
+      (refl, record { gap = omega arith; rested = omega arith; why = ByRound (record { close = _; past = _; is = refl; count = 2; lo = negsuc 100; size = pos 101; deed = refl; untaken = refl; mean_is = mean4 }); flag = refl; prints = refl }),
       (
         (refl, record { rested = inl (omega arith); fits = adjusts-by (negsuc 50) (msg SetTime 9 (Time (pos 305000001))) (omega arith) refl refl refl refl refl refl refl (omega arith) (record { corrects = refl; lives = refl }) refl refl refl (inr (record { next = _; place = inl refl; stepped = false; shown = pos 408000000; deed = refl })) refl refl refl refl refl }),
         ((refl, record { rested = inl (omega arith); fits = adjusts-by (negsuc 50) (msg SetTime 11 (Time (pos 305000004))) (omega arith) refl refl refl refl refl refl refl (omega arith) (record { corrects = refl; lives = refl }) refl refl refl (inr (record { next = _; place = inr (inl refl); stepped = false; shown = pos 408000000; deed = refl })) refl refl refl refl refl }), tt),
@@ -101,7 +101,7 @@ abbrev pub n5 : List Line
 n5 = then_step (step_at 408000400 1 (Came 10)) an5 n4
 
 fn5 : Fits (still false) n5
-fn5 = step-fits false (step_at 408000400 1 (Came 10)) an5 n4 fn4 refl ((refl, (refl, came refl refl refl refl refl)), ((refl, corrects-by (peer_of 0) (msg AdjTime 10 (Time (pos 50))) (omega arith) (omega arith) refl refl refl refl refl refl), ((refl, record { rested = inl (omega arith); fits = record { message = (msg AdjTime 10 (Time (pos 50))); took = refl; number_is = refl; answers = refl } }), tt)))
+fn5 = step-fits false (step_at 408000400 1 (Came 10)) an5 n4 fn4 refl ((refl, (refl, came refl refl refl refl refl)), ((refl, corrects-by (peer_of 0) (msg AdjTime 10 (Time (pos 50))) (omega arith) (omega arith) refl refl refl refl refl refl refl refl), ((refl, record { rested = inl (omega arith); fits = record { message = (msg AdjTime 10 (Time (pos 50))); took = refl; number_is = refl; answers = refl } }), tt)))
 
 abbrev pub an6 : List Placed
 an6 = on port0 (Took (Peer (peer_of 0)) (Good (Message (msg AdjTime 12 (Time (negsuc 1000049)))))) ∷ (on port0 (Correct (negsuc 1000049) false (pos 408000499)) ∷ (on port0 (Post (Peer (peer_of 0)) (Message (msg Ack 12 Nothing))) ∷ []))
@@ -110,7 +110,7 @@ abbrev pub n6 : List Line
 n6 = then_step (step_at 408000500 2 (Came 11)) an6 n5
 
 fn6 : Fits (still false) n6
-fn6 = step-fits false (step_at 408000500 2 (Came 11)) an6 n5 fn5 refl ((refl, (refl, came refl refl refl refl refl)), ((refl, corrects-by (peer_of 0) (msg AdjTime 12 (Time (negsuc 1000049))) (omega arith) (omega arith) refl refl refl refl refl refl), ((refl, record { rested = inl (omega arith); fits = record { message = (msg AdjTime 12 (Time (negsuc 1000049))); took = refl; number_is = refl; answers = refl } }), tt)))
+fn6 = step-fits false (step_at 408000500 2 (Came 11)) an6 n5 fn5 refl ((refl, (refl, came refl refl refl refl refl)), ((refl, corrects-by (peer_of 0) (msg AdjTime 12 (Time (negsuc 1000049))) (omega arith) (omega arith) refl refl refl refl refl refl refl refl), ((refl, record { rested = inl (omega arith); fits = record { message = (msg AdjTime 12 (Time (negsuc 1000049))); took = refl; number_is = refl; answers = refl } }), tt)))
 
 abbrev pub an7 : List Placed
 an7 = on port0 (Took (Peer (peer_of 1)) (Good (Message (msg Ack 10 Nothing)))) ∷ (on port0 (Acked (peer_of 1)) ∷ [])
