@@ -240,7 +240,7 @@ module _ {s : ServeWords} {setting : Setting} {tick : ℕ} {wall : ℤ} (is : Is
         posts = omega arith;
       } in (
         one-step 0 0 tick base (Booted word wall) boots_all none (omega arith) (omega arith) (λ fresh. boots_all_lead.run tick mid fresh)
-        (boot_ok setting (step_of (Booted word wall) tick) tick [] false mid word (four base refl) (ap (λ w. Booted word w) (sym set.wall_is))),
+            (boot_ok setting (step_of (Booted word wall) tick) tick [] false mid word (four base refl) (ap (λ w. Booted word w) (sym set.wall_is))),
         boots-up tick mid,
       )
 
@@ -254,7 +254,7 @@ module _ {s : ServeWords} {setting : Setting} {tick : ℕ} {wall : ℤ} (is : Is
       let mid : NodePast = begun NodeTurn x past in
       let ok = turn_ok setting (step_of Turned x) x past.lines mid (four past r.0.ports) in (
         one-step n t x past Turned (answers_all NodeTurn) r.0 later turns (λ fresh. (answers_all_lead NodeTurn).run x mid (tt, fresh))
-        (subst (λ b. StepOk (length past.ports) (room past.ports) setting (step_of Turned x) x past.lines b (answers_all NodeTurn x mid)) (sym r.1) ok),
+            (subst (λ b. StepOk (length past.ports) (room past.ports) setting (step_of Turned x) x past.lines b (answers_all NodeTurn x mid)) (sym r.1) ok),
         up-after x Turned past (answers_all NodeTurn x mid) r.1,
       )
   one-turn n t x past (GotOn q from taken) r later turns given =
@@ -262,7 +262,7 @@ module _ {s : ServeWords} {setting : Setting} {tick : ℕ} {wall : ℤ} (is : Is
       let mid : NodePast = begun g x past in
       let ok = got_ok setting (step_of (cause_of g) x) x past.lines mid q from taken (four past r.0.ports) given tt in (
         one-step n t x past (cause_of g) (answers_all g) r.0 later turns (λ fresh. (answers_all_lead g).run x mid (given, fresh))
-        (subst (λ b. StepOk (length past.ports) (room past.ports) setting (step_of (cause_of g) x) x past.lines b (answers_all g x mid)) (sym r.1) ok),
+            (subst (λ b. StepOk (length past.ports) (room past.ports) setting (step_of (cause_of g) x) x past.lines b (answers_all g x mid)) (sym r.1) ok),
         up-after x (cause_of g) past (answers_all g x mid) r.1,
       )
 
