@@ -72,7 +72,7 @@ pub fn silent_after_boot()
 /// A step takes one datagram at most. A port heeds a QUIT right after it took it, once in a step,
 /// and acknowledges it in that step, in every role. What goes to a stranger answers the datagram
 /// that the step took from one on that port, and is the only thing that it posts to strangers; so
-/// strangers never get more datagrams than they send.
+/// no more datagrams are posted to strangers than are taken from them.
 pub fn answered()
     ensures { (setting : Setting) (world : List Line) → Fits setting world → Finished world
         → Answered world }
@@ -343,8 +343,8 @@ pub fn set_use()
     ensures { SetUse }
 {}
 
-/// Nor are those of shown values: a history that fits sees a clock slewed until it meets its target,
-/// and a wait that is long enough.
+/// Nor are those of shown values: a history that fits sees a clock slewed until it meets its
+/// target, and a wait that is long enough.
 pub fn shown_use()
     ensures { ShownUse }
 {}
