@@ -30,6 +30,7 @@ use Rattle.tsp_base.specs.Takings.{peer_of, time_in, heard}
 use Rattle.tsp_base.specs.Ticks.{tick_at, width}
 use Rattle.tsp_base.proofs.PlaceLemmas.{Within-through, Within-tail}
 use Rattle.tsp_base.proofs.ViewPlaces.{or-false, port-same}
+use Rattle.tsp_promises.proofs.BestProof.{some-is}
 use Rattle.tsp_promises.proofs.CastProof.{amount-adj, corrects-adj}
 use Rattle.tsp_promises.proofs.Correcting.{heard_as}
 use Rattle.tsp_promises.proofs.EstimatesProof.{at-close, by-mean, holds, one-near}
@@ -118,9 +119,6 @@ own_slews setting l world f m close cpast amount at v a =
     let g : Fits setting (l ∷ (close ∷ cpast)) = subst (λ w. Fits setting (l ∷ w)) at f in
     (found setting m close l cpast amount g v).flag ∙ not-much (nat_abs amount) (own_near setting l world f m close cpast amount at v a)
 
-one-sample : (a b : Sampled) → Some a ≡ Some b → a ≡ b
-one-sample a b e = cc
-
 -- what an ADJTIME or its Correct says, where the mean and the sample are these
 time-near : (time mean now amount diff other : ℤ) (n : ℕ) → time ≡ mean -ℤ other → mean ≡ now → amount ≡ now → other ≡ diff → nat_abs (amount -ℤ diff) ≤ n → nat_abs time ≤ n
 time-near time mean now amount diff other n is same move sample near = omega (arith, ints)
@@ -133,7 +131,7 @@ adjtime_near setting f fw fits m close c cpast mean amount b c_in v p =
     let u = at-close f.did (view f.port (of m fw)) b.peer b.message close.did (view f.port (of m cpast)) b.kind b.close_is (post.begins b.begins).from in
     let w = u.1.1 in
     let mine : best b.peer (view f.port (of m cpast)) ≡ Some p.sample = subst (λ q. best b.peer (view q (of m cpast)) ≡ Some p.sample) b.port p.best_is in
-    let sample : u.1.0 ≡ p.sample = one-sample u.1.0 p.sample (sym w.best_is ∙ mine) in
+    let sample : u.1.0 ≡ p.sample = some-is u.1.0 p.sample (sym w.best_is ∙ mine) in
     time-near (time_in b.message.body) u.0 v.mean amount p.sample.diff u.1.0.diff (2 * SPAN) (w.value b.kind) (same-mean v.count w.count v.lo w.lo v.size w.size v.mean u.0 (sym v.deed ∙ w.deed)) d.is (ap (λ (z : Sampled). z.diff) sample)
     (follows setting m close cpast v.mean amount p.sample.diff v.stepped d p.agrees)
 
