@@ -60,7 +60,8 @@ pub fn say<K: Sink>(sink: &mut K, text: &[u8], status: Status) -> Status
 /// (`specs/Commands.antt`). A fault of reading, of writing or of the link comes only where that
 /// object's count rose: for the link the count of failed binds and receives, or, for a question,
 /// that of failed sends. With valid input, where no count rises, a run ends with `Ok` (a question:
-/// with `Ok` or `NoAnswer`), or for lack of memory.
+/// with `Ok` or `NoAnswer`), or for lack of memory. What a replay has printed is the trace of a run
+/// that keeps its promises, or the beginning of one, however it ends (`specs/Headline.antt`).
 pub fn run<S: Source, K: Sink, L: Link, T: Ticker>(
     alloc: Global,
     words: &[String],

@@ -24,7 +24,8 @@ use tsp_io::ticker::Ticker;
 /// the step posts, in order; one that fails is a lost datagram. Where the trace was on before the
 /// step or is on after it, the lines of its acts are written then: the turn's number from 1 stands
 /// for the event, the node has number 0, each act its port, and datagrams are numbered from 0 over
-/// all turns. So they reach the sink before the next receive.
+/// all turns. So they reach the sink before the next receive. There is one receive for each turn,
+/// and one for the turn that ends the session, but where there was no memory for its desk.
 ///
 /// `LinkFault` comes only where a receive failed, and its count rose; `WriteFault` only where a
 /// write failed, and the sink's count rose. The node is one that stands for a past, as each does
