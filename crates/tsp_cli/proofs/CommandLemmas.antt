@@ -26,11 +26,12 @@ use Rattle.tsp_args.specs.declared.storm.StormWords.{StormWords}
 use Rattle.tsp_cli.specs.declared.status.Status.{Status}
 use Rattle.tsp_cli.specs.declared.status.Status.TheVariants.{Ok, Usage, ReadFault, WriteFault, LinkFault, NoAnswer, OutOfMemory}
 use Rattle.tsp_cli.specs.Commands.{Now, Does, IsAsk, IsQuestion, Untouched, RunsDaemon, RunsQuery, RunsStorm}
-use Rattle.tsp_cli.specs.Headline.{PrintsHistory}
+use Rattle.tsp_cli.specs.Headline.{PrintsHistory, PrintsSoFar}
 use Rattle.tsp_cli.specs.Lines.{Says}
 use Rattle.tsp_cli.specs.Statuses.{status_of_served, status_of_asking, status_of_storm}
 use Rattle.tsp_cli.specs.Usage.{usage_line}
 use Rattle.tsp_cli.proofs.HeadlineLemmas.{EndsAs-prints}
+use Rattle.tsp_cli.proofs.SoFarLemmas.{EndsAs-so-far}
 
 -- a command that is left as it is leaves all objects
 pub Untouched-same : {S L T : Type 0} (c : Command) (source : S) (link : L) (ticker : T) → Untouched c source source link link ticker ticker
@@ -219,6 +220,10 @@ command_none x words e h = subst (λ (y : Option Command). MatchOption y (IsNoCo
 pub Replay_prints : (d : Command) (old new : Now) (status : Status) → d ≡ Replay → Does d old new status → status ≡ Ok → PrintsHistory old.left new.left old.told.written new.told.written
 Replay_prints d old new status e does ok =
     EndsAs-prints _ _ _ _ status (does_as d Replay old new status e does).ends ok
+
+-- and any other prints as much of one as its status says
+pub Replay_so_far : (d : Command) (old new : Now) (status : Status) → d ≡ Replay → Does d old new status → PrintsSoFar old.left old.told.written new.told.written status
+Replay_so_far d old new status e does = EndsAs-so-far _ new.left _ _ status (does_as d Replay old new status e does).ends
 
 -- the link's fault is that of a bind or a receive, or of a question's send
 pub link_fault : (words : List (List ℕ)) (d : Command) (links links_now sends sends_now : ℕ) → IsCommand d × (words ≡ words_of d) → Rose links links_now ⊎ (IsAsk d × Rose sends sends_now) → Rose links links_now ⊎ (IsQuestion words × Rose sends sends_now)

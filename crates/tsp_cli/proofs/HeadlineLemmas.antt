@@ -29,7 +29,7 @@ use Rattle.tsp_cli.specs.Lines.{EndsAs}
 use Rattle.tsp_cli.specs.Headline.{PrintsHistory}
 
 -- the events that were read so far are in their ranges, and nothing refuses them
-abbrev KeepsValid : Progress → Type 0
+abbrev pub KeepsValid : Progress → Type 0
 KeepsValid Untitled = Unit {0}
 KeepsValid (Titled version) = Unit {0}
 KeepsValid (Drifted drift) = Unit {0}

@@ -7,6 +7,7 @@ pub mod HeadlineLemmas
 pub mod LinesFit
 mod RunClaims
 pub mod RunLemmas
+mod SoFarLemmas
 pub mod Statuses
 mod TextPremises
 pub mod Verdict

@@ -1,13 +1,18 @@
--- The headline: what a replay that ends well has read and written.
-use Rattle.std.specs.Prelude.{ℕ, List, Option}
+-- The headline: what a replay that ends well has read and written. And what any other has, up to where it ended.
+use Rattle.std.specs.Prelude.{◌≡◌, ◌⊎◌, ◌<◌, ◌+◌, ℕ, List, [], ◌++◌, length, reverse, Option, All}
 use Rattle.tsp_base.specs.declared.event.Event.{Event}
 use Rattle.tsp_base.specs.Headers.{HeaderValue}
 use Rattle.tsp_promises.specs.Setting.{Setting}
 use Rattle.tsp_io.specs.Streams.{Grows}
 use Rattle.tsp_lines.specs.declared.limits.TheConstants.{MOST_INPUT}
-use Rattle.tsp_lines.specs.Lines.{IsInput, IsOver}
+use Rattle.tsp_lines.specs.Lines.{HasLines, IsInput, IsOver, NoFeed}
+use Rattle.tsp_lines.specs.Outcomes.{bad_line, limit_line}
 use Rattle.tsp_replay.specs.Meaning.{IsSchedule}
+use Rattle.tsp_replay.specs.Schedules.{Reaches}
 use Rattle.tsp_replay.specs.Traces.{trace}
+use Rattle.tsp_schedule.specs.Schedules.{Progress, Running, Ended}
+use Rattle.tsp_cli.specs.declared.status.Status.{Status}
+use Rattle.tsp_cli.specs.declared.status.Status.TheVariants.{Ok, Bad, ReadFault, WriteFault, Limit, OutOfMemory}
 use Rattle.tsp_run.specs.Premised.{KeptByText}
 use Rattle.tsp_run.specs.Promises.{Promises}
 use Rattle.tsp_run.specs.Ranges.{Accepted}
@@ -19,3 +24,36 @@ abbrev pub PrintsHistory : Option (List ℕ) → Option (List ℕ) → Option (L
 PrintsHistory input left written now =
     (header : HeaderValue) × (events : List Event) × (octets : List ℕ) × IsInput MOST_INPUT input octets × IsSchedule octets header events × Accepted header events × IsOver left × Grows written now (trace header events)
     × ((setting : Setting) → SetBy header setting → Promises setting (run header events)) × KeptByText header events
+
+-- a header and events that a world accepts, whose history keeps the promises, each under its premises; and where a premise holds of the text, it holds of the history
+abbrev pub KeepsPromises : HeaderValue → List Event → Type 0
+KeepsPromises header events = Accepted header events × ((setting : Setting) → SetBy header setting → Promises setting (run header events)) × KeptByText header events
+
+-- what the lines of a schedule tell that have come so far: those of its header nothing; those of a header and events the trace of their run, which keeps the promises
+abbrev pub TellsSoFar : Progress → List ℕ → Type 0
+TellsSoFar (Running header events) text = KeepsPromises header events × (text ≡ trace header events)
+TellsSoFar (Ended header events) text = KeepsPromises header events × (text ≡ trace header events)
+TellsSoFar _ text = text ≡ []
+
+-- what may stand behind the trace of these lines: nothing, or one line, which refuses the line behind them or says that it passes a limit
+abbrev pub IsLastLine : List (List ℕ) → List ℕ → Type 0
+IsLastLine lines said = (said ≡ []) ⊎ (((cause : List ℕ) × (said ≡ bad_line (length lines + 1) cause)) ⊎ (said ≡ limit_line (length lines + 1)))
+
+-- what was written is a part of this trace and of the line behind it, from the beginning on, and these octets are left
+abbrev pub WritesOnly : List (List ℕ) → List ℕ → Option (List ℕ) → Option (List ℕ) → List ℕ → Type 0
+WritesOnly lines text written now rest = (said : List ℕ) × (part : List ℕ) × IsLastLine lines said × (text ++ said ≡ part ++ rest) × Grows written now part
+
+-- how much of this trace and of the line behind it was written, by the status; no other comes
+abbrev pub WritesSoFar : Status → List (List ℕ) → List ℕ → Option (List ℕ) → Option (List ℕ) → Type 0
+WritesSoFar Ok lines text written now = Grows written now text
+WritesSoFar Bad lines text written now = (cause : List ℕ) × Grows written now (text ++ bad_line (length lines + 1) cause)
+WritesSoFar ReadFault lines text written now = Grows written now text
+WritesSoFar WriteFault lines text written now = (rest : List ℕ) × (0 < length rest) × WritesOnly lines text written now rest
+WritesSoFar Limit lines text written now = Grows written now (text ++ limit_line (length lines + 1))
+WritesSoFar OutOfMemory lines text written now = (rest : List ℕ) × WritesOnly lines text written now rest
+WritesSoFar _ lines text written now = ⊥
+
+-- the input begins with lines that were accepted as those of a schedule, and what was written is, as far as the status says, what they tell and one line at most behind it
+abbrev pub PrintsSoFar : Option (List ℕ) → Option (List ℕ) → Option (List ℕ) → Status → Type 0
+PrintsSoFar input written now status =
+    (lines : List (List ℕ)) × (p : Progress) × (text : List ℕ) × All NoFeed lines × HasLines MOST_INPUT input lines × Reaches (reverse lines) p × TellsSoFar p text × WritesSoFar status lines text written now

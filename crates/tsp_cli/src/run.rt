@@ -7,7 +7,7 @@ ghost use Rattle.tsp_args.specs.Storms.{IsStorm};
 ghost use Rattle.tsp_args.specs.declared.command.Command.{Command};
 ghost use Rattle.tsp_cli.specs.Commands.{Does, DoesOrNot, RunsDaemon, RunsQuery, RunsStorm};
 ghost use Rattle.tsp_cli.specs.Commands.{Untouched, IsAsk, IsQuestion};
-ghost use Rattle.tsp_cli.specs.Headline.{PrintsHistory};
+ghost use Rattle.tsp_cli.specs.Headline.{PrintsHistory, PrintsSoFar};
 ghost use Rattle.tsp_cli.specs.Lines.{Says};
 ghost use Rattle.tsp_cli.specs.Usage.{usage_line};
 
@@ -60,7 +60,8 @@ pub fn say<K: Sink>(sink: &mut K, text: &[u8], status: Status) -> Status
 /// (`specs/Commands.antt`). A fault of reading, of writing or of the link comes only where that
 /// object's count rose: for the link the count of failed binds and receives, or, for a question,
 /// that of failed sends. With valid input, where no count rises, a run ends with `Ok` (a question:
-/// with `Ok` or `NoAnswer`), or for lack of memory.
+/// with `Ok` or `NoAnswer`), or for lack of memory. What a replay has printed is the trace of a run
+/// that keeps its promises, or the beginning of one, however it ends (`specs/Headline.antt`).
 pub fn run<S: Source, K: Sink, L: Link, T: Ticker>(
     alloc: Global,
     words: &[String],
@@ -117,6 +118,8 @@ pub fn run<S: Source, K: Sink, L: Link, T: Ticker>(
     ensures headline { map string_bytes words.now ≡ codes "replay" ∷ [] → result ≡ Status.Ok
         → PrintsHistory (S.left source.old) (S.left source.new) (K.written sink.old)
         (K.written sink.new) }
+    ensures so_far { map string_bytes words.now ≡ codes "replay" ∷ []
+        → PrintsSoFar (S.left source.old) (K.written sink.old) (K.written sink.new) result }
     ensures usage { IsNoCommand (map string_bytes words.now)
         → Says usage_line Status.Usage (K.written sink.old) (K.written sink.new) result
         × (source.new ≡ source.old) × (link.new ≡ link.old) × (ticker.new ≡ ticker.old) }

@@ -1,7 +1,9 @@
+mod DaemonSetting
 pub mod LineLemmas
 pub mod NodeLemmas
 pub mod SendLemmas
 pub mod ServeLemmas
+mod SessionFits
 pub mod SessionLemmas
 pub mod StrangerLemmas
 pub mod WaitLemmas

@@ -1,11 +1,13 @@
 -- From the readings of a boot to the session that follows it.
-use Rattle.std.specs.Prelude.{◌≡◌, ℕ, ℤ, true, List, Option, Some}
+use Rattle.std.specs.Prelude.{◌≡◌, ℕ, ◌≤◌, ℤ, true, List, Option, Some}
 use Rattle.std.specs.Option.{option_map}
-use Rattle.std.proofs.Common.{ap, ◌∙◌, subst, refl}
+use Rattle.std.proofs.Common.{arith, ap, ◌∙◌, subst, refl}
 use Rattle.tsp_query.specs.Arrivals.{rest_of}
 use Rattle.tsp_daemon.specs.declared.end.ServeEnd.{ServeEnd}
-use Rattle.tsp_daemon.specs.Ends.{IsAt, IsReceived, Serves}
+use Rattle.tsp_daemon.specs.declared.end.ServeEnd.TheVariants.{Done, LinkFault, WriteFault, OutOfMemory}
+use Rattle.tsp_daemon.specs.Ends.{IsAt, Serves, ServesUntil}
 use Rattle.tsp_daemon.specs.Sessions.{Session, read_once}
+use Rattle.tsp_daemon.proofs.SessionFits.{session_kept}
 use Rattle.tsp_daemon.proofs.SessionLemmas.{reading_taken}
 use Rattle.tsp_gateway.specs.declared.gateway.Gateway.{Gateway}
 use Rattle.tsp_gateway.specs.GatewayStands.{GatewayStands}
@@ -15,11 +17,11 @@ use Rattle.tsp_query.specs.Clocks.{reading}
 use Rattle.tsp_query.specs.Ends.{Outside, Tells}
 use Rattle.tsp_query.specs.Outside.{Observed}
 use Rattle.tsp_rules.specs.Guards.{is_clock_value}
+use Rattle.tsp_args.specs.Serves.{IsServe}
 use Rattle.tsp_args.specs.declared.serve.ServeWords.{ServeWords}
 use Rattle.tsp_daemon.specs.declared.exit.DaemonExit.{DaemonExit}
 use Rattle.tsp_daemon.specs.Nodes.{first_past}
 use Rattle.tsp_daemon.specs.Serving.{served_of, first_session, IsServed}
-use Rattle.tsp_daemon.specs.Waits.{NotesWaits}
 
 -- what is told once the tick counter was read
 pub Tells_read : (o : Outside) (arrivals : Option (List Arrival)) (tried : Option (List Tried)) (calls : Option ℕ) (readings between now_readings : Option (List ℕ)) (last tick now_last : ℕ)
@@ -42,13 +44,19 @@ pub walled_is : (readings between : Option (List ℕ)) (last first : ℕ) (walle
     walled ≡ option_map (λ rest. Some rest) between → later ≡ walled → later ≡ Some (Some (rest_of left))
 walled_is readings between last first walled later left told takes at same = same ∙ at ∙ ap (λ rest. option_map (λ (r : List ℕ). Some r) rest) (reading_taken left readings between last first told takes).0
 
+-- a session takes no more turns than it has
+serves_few : (turns i : ℕ) (s : Session) (arrivals : Option (List Arrival)) (tried : Option (List Tried)) (calls : Option ℕ) (readings : Option (List ℕ)) (last : ℕ) (written : Option (List ℕ)) (end : ServeEnd) → ServesUntil turns i s arrivals tried calls readings last written end → i ≤ turns
+serves_few turns i s arrivals tried calls readings last written Done h = let all = h.0 in omega (arith, all)
+serves_few turns i s arrivals tried calls readings last written LinkFault h = let less = h.0 in omega (arith, less)
+serves_few turns i s arrivals tried calls readings last written WriteFault h = let less = h.0 in omega (arith, less)
+serves_few turns i s arrivals tried calls readings last written OutOfMemory h = let less = h.0 in omega (arith, less)
+
 -- a node that has booted at these readings serves the first session
 pub IsServed_serves : (s : ServeWords) (o : Outside) (wall wall' : ℤ) (word word' tick : ℕ) (written : List ℕ) (node : Gateway) (arrivals : Option (List Arrival)) (tried : Option (List Tried)) (calls : Option ℕ) (readings : Option (List ℕ)) (last : ℕ) (before : Option (List ℕ)) (old : Option (List ℕ)) (now : Observed) (end : ServeEnd) (served : DaemonExit)
     → tick ≡ (read_once o).last → wall' ≡ wall → word' ≡ word → is_clock_value wall' ≡ true → GatewayStands (first_past s tick wall' word') node → Tells (read_once o) arrivals tried calls readings last → before ≡ Some written → served ≡ served_of end
-    → ((x : Session) → IsAt x node (record { turns = 0; posts = 0 }) arrivals tried calls readings last before → Serves s.turns x now.arrivals now.tried now.calls now.readings now.last now.written end)
-    → ((x : Session) → IsAt x node (record { turns = 0; posts = 0 }) arrivals tried calls readings last before → (received : ℕ) × IsReceived s.turns received end × NotesWaits x received old now.waits)
+    → IsServe s → ((x : Session) → IsAt x node (record { turns = 0; posts = 0 }) arrivals tried calls readings last before → Serves s.turns x now.arrivals now.tried now.calls now.readings now.last now.written old now.waits end)
     → IsServed s o wall word written old now served
-IsServed_serves s o wall wall' word word' tick written node arrivals tried calls readings last before old now end served t w v within stands tells b is serves waits =
+IsServed_serves s o wall wall' word word' tick written node arrivals tried calls readings last before old now end served t w v within stands tells b is words serves =
     let at_wall : GatewayStands (first_past s tick wall word') node = subst (λ (x : ℤ). GatewayStands (first_past s tick x word') node) w stands in
     let at_word : GatewayStands (first_past s tick wall word) node = subst (λ (x : ℕ). GatewayStands (first_past s tick wall x) node) v at_wall in
     let at_tick : GatewayStands (first_past s (read_once o).last wall word) node = subst (λ (x : ℕ). GatewayStands (first_past s x wall word) node) t at_word in
@@ -59,13 +67,15 @@ IsServed_serves s o wall wall' word word' tick written node arrivals tried calls
       tells = tells;
       written_is = b;
     } in
-    let noted = waits (first_session s o wall word written) first in
+    let all = serves (first_session s o wall word written) first in
     record {
       within = subst (λ (x : ℤ). is_clock_value x ≡ true) w within;
       end = end;
       served_is = is;
-      serves = serves (first_session s o wall word written) first;
-      received = noted.0;
-      received_is = noted.1;
-      noted = noted.2;
+      taken = all.0;
+      serves = all.2;
+      received = all.1;
+      received_is = all.4;
+      noted = all.5;
+      kept = λ setting set. session_kept s o wall word written words setting set all.0 (serves_few s.turns all.0 (first_session s o wall word written) _ _ _ _ _ _ end all.2) all.3;
     }

@@ -1,10 +1,10 @@
 -- How a turn lengthens a session.
-use Rattle.std.specs.Prelude.{◌≡◌, ◌<◌, ◌+◌, ◌||◌, ℕ, suc, Bool, List, [], ◌∷◌, ◌++◌, length, take, Option, Some, refl}
+use Rattle.std.specs.Prelude.{◌≡◌, ◌<◌, ◌≤◌, ◌+◌, ◌||◌, ℕ, suc, Bool, List, [], ◌∷◌, ◌++◌, length, take, Option, Some, refl}
 use Rattle.std.specs.Option.{option_map}
 use Rattle.std.proofs.Common.{ap, sym, subst, ◌∙◌, arith, inl, inr}
 use Rattle.tsp_base.specs.declared.act.Placed.{Placed}
 use Rattle.tsp_base.specs.declared.place.Place.TheVariants.{Peer, Stranger}
-use Rattle.tsp_base.specs.History.{Turned, dids}
+use Rattle.tsp_base.specs.History.{dids}
 use Rattle.tsp_base.specs.NodeFacts.{tracing}
 use Rattle.tsp_codec.specs.Taken.{taken_of}
 use Rattle.tsp_gateway.specs.declared.gateway.Gateway.{Gateway}
@@ -27,9 +27,9 @@ use Rattle.tsp_rules.specs.NodeRows.{NodePast, PortSetup, spread}
 use Rattle.tsp_daemon.specs.declared.counters.Counters.{Counters}
 use Rattle.tsp_daemon.specs.declared.end.ServeEnd.{ServeEnd}
 use Rattle.tsp_daemon.specs.declared.end.ServeEnd.TheVariants.{Done, LinkFault, WriteFault, OutOfMemory}
-use Rattle.tsp_daemon.specs.Ends.{given_by, TriesAll, FinishesUntil, Lives, IsAt, EndsTurn, Serves}
+use Rattle.tsp_daemon.specs.Ends.{given_by, TriesAll, FinishesUntil, Lives, IsAt, EndsTurn, ServesUntil}
 use Rattle.tsp_daemon.specs.Posts.{sends_of, shown_lines, AreKnown}
-use Rattle.tsp_daemon.specs.Sessions.{Session, port_from, given_of, unheard, waited, tick_of, begun, acts_in, past_after, shown, turned, after_turns}
+use Rattle.tsp_daemon.specs.Sessions.{Session, port_from, given_of, unheard, waited, tick_of, given_in, cause_of, begun, acts_in, past_after, shown, turned, after_turns, Rises}
 use Rattle.tsp_daemon.proofs.StrangerLemmas.{is_strange_on, known_any, known_steps}
 
 -- a told reading is the next
@@ -101,12 +101,12 @@ pub steps_is : (s : Session) (node next : Gateway) (course : Counters) (r : Recv
     GatewayStands s.past node → course.turns ≡ s.turns → course.posts ≡ s.posts → Waits s.past.ports s.outside r buf tick arrivals tried calls readings last →
     PerformsAll GatewayBegun GatewayStands (answers_all (given_by (setups_in node) r buf)) tick node next [] acts → before ≡ tracing (dids s.past.lines) → ((past : NodePast) → GatewayStands past next → after ≡ tracing (dids past.lines)) → on ≡ (before || after) → Steps s next course tick acts on
 steps_is s node next course r buf tick acts arrivals tried calls readings last before after on stands turns posts w row before_is after_is on_is =
-    let begins = GatewayBegun_in_step (record { at = tick_of s; node = 0; cause = Turned }) (tick_of s) s.past node stands in
+    let begins = GatewayBegun_in_step (record { at = tick_of s; node = 0; cause = cause_of (given_in s) }) (tick_of s) s.past node stands in
     let set_up = subst (λ ports. PerformsAll GatewayBegun GatewayStands (answers_all (given_by ports r buf)) tick node next [] acts) (setups-stand s.past node stands) row in
     let given = subst (λ g. PerformsAll GatewayBegun GatewayStands (answers_all g) tick node next [] acts) w.given_is set_up in
-    let here = subst (λ x. PerformsAll GatewayBegun GatewayStands (answers_all (given_of s.past.ports (next_arrival s.outside.arrivals))) x node next [] acts) w.tick_is given in
-    let are : acts ≡ acts_in s = here.acts (begun (tick_of s) s.past) begins in
-    let stands_then : GatewayStands (past_after s) next = here.stands (begun (tick_of s) s.past) begins in
+    let here = subst (λ x. PerformsAll GatewayBegun GatewayStands (answers_all (given_in s)) x node next [] acts) w.tick_is given in
+    let are : acts ≡ acts_in s = here.acts (begun (given_in s) (tick_of s) s.past) begins in
+    let stands_then : GatewayStands (past_after s) next = here.stands (begun (given_in s) (tick_of s) s.past) begins in
     record {
       stands = stands_then;
       acts_are = are;
@@ -168,8 +168,8 @@ ends_none s tried arrivals calls readings last written t w = inl (t, w)
 -- a node that lives through a step lives
 pub lives_on : (node next : Gateway) (g : NodeGiven) (tick : ℕ) (acts : List Placed) → Lives node → PerformsAll GatewayBegun GatewayStands (answers_all g) tick node next [] acts → Lives next
 lives_on node next g tick acts l row = record {
-  past = spread tick (begun tick l.past) (answers_all g tick (begun tick l.past));
-  stands = row.stands (begun tick l.past) (GatewayBegun_in_step _ tick l.past node l.stands);
+  past = spread tick (begun g tick l.past) (answers_all g tick (begun g tick l.past));
+  stands = row.stands (begun g tick l.past) (GatewayBegun_in_step _ tick l.past node l.stands);
 }
 
 -- what may go to a stranger where one is answered
@@ -182,19 +182,28 @@ known_by ports Failed buf arrivals rest stranger now acts got k = known_any now 
 pub acts_known : (arrivals rest : Option (List Arrival)) (stranger now : Bool) (r : Recv) (buf : List ℕ) (tick : ℕ) (node next : Gateway) (acts : List Placed) → Receives arrivals rest stranger now r buf → Lives node →
     PerformsAll GatewayBegun GatewayStands (answers_all (given_by (setups_in node) r buf)) tick node next [] acts → AreKnown now acts
 acts_known arrivals rest stranger now r buf tick node next acts got l row =
-    let past = begun tick l.past in
     let given = given_by (setups_in node) r buf in
+    let past = begun given tick l.past in
     subst (λ ps. AreKnown now ps) (sym (row.acts past (GatewayBegun_in_step _ tick l.past node l.stands))) (known_by (setups_in node) r buf arrivals rest stranger now (answers_all given tick past) got (known_steps given tick past))
 
 -- how a turn ends is how the session ends
 pub serves_until : (turns i : ℕ) (s : Session) (arrivals : Option (List Arrival)) (tried : Option (List Tried)) (calls : Option ℕ) (readings : Option (List ℕ)) (last : ℕ) (written : Option (List ℕ)) (end : ServeEnd) → i < turns →
-    EndsTurn (after_turns i s) arrivals tried calls readings last written end → Serves turns s arrivals tried calls readings last written end
+    EndsTurn (after_turns i s) arrivals tried calls readings last written end → ServesUntil turns i s arrivals tried calls readings last written end
 serves_until turns i s arrivals tried calls readings last written Done less h = absurd h
-serves_until turns i s arrivals tried calls readings last written LinkFault less h = (i, less, h)
-serves_until turns i s arrivals tried calls readings last written WriteFault less h = (i, less, h)
-serves_until turns i s arrivals tried calls readings last written OutOfMemory less h = (i, less, h)
+serves_until turns i s arrivals tried calls readings last written LinkFault less h = (less, h)
+serves_until turns i s arrivals tried calls readings last written WriteFault less h = (less, h)
+serves_until turns i s arrivals tried calls readings last written OutOfMemory less h = (less, h)
 
 -- one turn more
 pub turns_more : (i : ℕ) (s : Session) (node : Gateway) (course : Counters) (arrivals : Option (List Arrival)) (tried : Option (List Tried)) (calls : Option ℕ) (readings : Option (List ℕ)) (last : ℕ) (written : Option (List ℕ)) →
     IsAt (turned (after_turns i s)) node course arrivals tried calls readings last written → IsAt (after_turns (i + 1) s) node course arrivals tried calls readings last written
 turns_more i s node course arrivals tried calls readings last written h = let one : suc i ≡ i + 1 = omega arith in subst (λ n. IsAt (after_turns n s) node course arrivals tried calls readings last written) one h
+
+-- whose tick didn't fall
+pub rises_more : (i : ℕ) (s : Session) (node next : Gateway) (course after : Counters) (arrivals now_arrivals : Option (List Arrival)) (tried now_tried : Option (List Tried)) (calls now_calls : Option ℕ) (readings now_readings : Option (List ℕ)) (last now_last : ℕ) (written now : Option (List ℕ)) →
+    Rises i s → IsAt (after_turns i s) node course arrivals tried calls readings last written → IsAt (turned (after_turns i s)) next after now_arrivals now_tried now_calls now_readings now_last now → last ≤ now_last → Rises (i + 1) s
+rises_more i s node next course after arrivals now_arrivals tried now_tried calls now_calls readings now_readings last now_last written now r old new later =
+    let one : suc i ≡ i + 1 = omega arith in
+    let before = old.tells.last_is in
+    let then = new.tells.last_is in
+    subst (λ n. Rises n s) one (r, omega (arith, before, then, later))

@@ -1,5 +1,5 @@
 -- How long receives wait, turn by turn.
-use Rattle.std.specs.Prelude.{◌≡◌, ◌<◌, ℕ, suc, ◌+◌, List, [], ◌∷◌, ◌++◌, Option, None, Some, refl}
+use Rattle.std.specs.Prelude.{◌≡◌, ℕ, suc, ◌+◌, List, [], ◌∷◌, ◌++◌, Option, None, Some, refl}
 use Rattle.std.proofs.Common.{ap, inl, inr, sym, subst, ◌∙◌, append_assoc, append-nil, arith}
 use Rattle.tsp_gateway.specs.declared.gateway.Gateway.{Gateway}
 use Rattle.tsp_gateway.specs.Dues.{IsNodeDue}
@@ -43,15 +43,15 @@ pub one_more_noted : (s : Session) (n : ℕ) (waits between now : Option (List �
 one_more_noted s n waits between now w one = let next : suc n ≡ n + 1 = omega arith in subst (λ k. NotesWaits s k waits now) next (more_noted s n waits between now w one)
 
 -- what is noted where a turn ends the session
-pub until_noted : (turns i : ℕ) (s : Session) (waits between now : Option (List ℕ)) (arrivals : Option (List Arrival)) (tried : Option (List Tried)) (calls : Option ℕ) (readings : Option (List ℕ)) (last : ℕ) (written : Option (List ℕ)) (end : ServeEnd) →
-    i < turns → EndsTurn (after_turns i s) arrivals tried calls readings last written end → NotesWaits s i waits between → NotesTurn (after_turns i s) between now end →
-    (received : ℕ) × IsReceived turns received end × NotesWaits s received waits now
-until_noted turns i s waits between now arrivals tried calls readings last written Done less ends w n = absurd ends
-until_noted turns i s waits between now arrivals tried calls readings last written LinkFault less ends w n = (i + 1, (omega arith, omega (arith, less)), one_more_noted s i waits between now w n)
-until_noted turns i s waits between now arrivals tried calls readings last written WriteFault less ends w n = (i + 1, (omega arith, omega (arith, less)), one_more_noted s i waits between now w n)
-until_noted turns i s waits between now arrivals tried calls readings last written OutOfMemory less ends w n = elim n [
-  | inl same ↦ (i, omega (arith, less), subst (λ ws. NotesWaits s i waits ws) (sym same) w)
-  | inr one ↦ (i + 1, omega (arith, less), one_more_noted s i waits between now w one)
+pub until_noted : (i : ℕ) (s : Session) (waits between now : Option (List ℕ)) (arrivals : Option (List Arrival)) (tried : Option (List Tried)) (calls : Option ℕ) (readings : Option (List ℕ)) (last : ℕ) (written : Option (List ℕ)) (end : ServeEnd) →
+    EndsTurn (after_turns i s) arrivals tried calls readings last written end → NotesWaits s i waits between → NotesTurn (after_turns i s) between now end →
+    (received : ℕ) × IsReceived i received end × NotesWaits s received waits now
+until_noted i s waits between now arrivals tried calls readings last written Done ends w n = absurd ends
+until_noted i s waits between now arrivals tried calls readings last written LinkFault ends w n = (i + 1, refl, one_more_noted s i waits between now w n)
+until_noted i s waits between now arrivals tried calls readings last written WriteFault ends w n = (i + 1, refl, one_more_noted s i waits between now w n)
+until_noted i s waits between now arrivals tried calls readings last written OutOfMemory ends w n = elim n [
+  | inl same ↦ (i, inl refl, subst (λ ws. NotesWaits s i waits ws) (sym same) w)
+  | inr one ↦ (i + 1, inr refl, one_more_noted s i waits between now w one)
 ]
 
 -- a turn that noted its receive, however it ends

@@ -1,5 +1,5 @@
 -- How a daemon's session ends, and what is then sent and written.
-use Rattle.std.specs.Prelude.{◌≡◌, ◌⊎◌, ℕ, ◌<◌, ◌≤◌, List, ◌++◌, length, take, Option, Some}
+use Rattle.std.specs.Prelude.{◌≡◌, ◌⊎◌, ℕ, ◌+◌, ◌<◌, ◌≤◌, List, ◌++◌, length, take, Option, Some}
 use Rattle.std.specs.Option.{option_map}
 use Rattle.tsp_codec.specs.Taken.{taken_of}
 use Rattle.tsp_gateway.specs.declared.gateway.Gateway.{Gateway}
@@ -15,7 +15,8 @@ use Rattle.tsp_daemon.specs.declared.counters.Counters.{Counters}
 use Rattle.tsp_daemon.specs.declared.end.ServeEnd.{ServeEnd}
 use Rattle.tsp_daemon.specs.declared.end.ServeEnd.TheVariants.{Done, LinkFault, WriteFault, OutOfMemory}
 use Rattle.tsp_daemon.specs.Posts.{sends_of}
-use Rattle.tsp_daemon.specs.Sessions.{Session, port_from, acts_in, shown, turned, after_turns, unheard, waited}
+use Rattle.tsp_daemon.specs.Sessions.{Session, port_from, acts_in, shown, turned, after_turns, unheard, waited, Rises}
+use Rattle.tsp_daemon.specs.Waits.{NotesWaits}
 
 -- what a node with these ports is given by what a receive gave
 abbrev pub given_by : List PortSetup → Recv → List ℕ → NodeGiven
@@ -82,13 +83,18 @@ EndsTurn s arrivals tried calls readings last written OutOfMemory =
     ⊎ ((part : List Tried) × (rest : List Tried) × (sends_of (acts_in s) ≡ part ++ rest) × Tells (tried_some part s) arrivals tried calls readings last × (written ≡ Some s.written))
     ⊎ (Tells (turned s).outside arrivals tried calls readings last × WritesSome (shown s) (Some s.written) written)
 
--- how many receives a session makes that ends so at a turn behind so many: none in that turn, where there was no memory for its desk
+-- how many receives a session makes that ends so behind this many turns: one in each, and one in the turn that ended it, but where there was no memory for the desk of that
 abbrev pub IsReceived : ℕ → ℕ → ServeEnd → Type 0
-IsReceived turns received Done = received ≡ turns
-IsReceived turns received OutOfMemory = received ≤ turns
-IsReceived turns received end = (0 < received) × (received ≤ turns)
+IsReceived i received Done = received ≡ i
+IsReceived i received OutOfMemory = (received ≡ i) ⊎ (received ≡ i + 1)
+IsReceived i received end = received ≡ i + 1
 
--- how a session of so many turns ends: all were taken, or one of them ended it
-abbrev pub Serves : ℕ → Session → Option (List Arrival) → Option (List Tried) → Option ℕ → Option (List ℕ) → ℕ → Option (List ℕ) → ServeEnd → Type 0
-Serves turns s arrivals tried calls readings last written Done = Tells (after_turns turns s).outside arrivals tried calls readings last × (written ≡ Some (after_turns turns s).written)
-Serves turns s arrivals tried calls readings last written end = (i : ℕ) × (i < turns) × EndsTurn (after_turns i s) arrivals tried calls readings last written end
+-- a session of so many turns ends so behind this many: all were taken, or the next one ended it
+abbrev pub ServesUntil : ℕ → ℕ → Session → Option (List Arrival) → Option (List Tried) → Option ℕ → Option (List ℕ) → ℕ → Option (List ℕ) → ServeEnd → Type 0
+ServesUntil turns i s arrivals tried calls readings last written Done = (i ≡ turns) × Tells (after_turns i s).outside arrivals tried calls readings last × (written ≡ Some (after_turns i s).written)
+ServesUntil turns i s arrivals tried calls readings last written end = (i < turns) × EndsTurn (after_turns i s) arrivals tried calls readings last written end
+
+-- behind how many turns a session of so many ends, and how; no tick of them fell; and how many receives it made, each of which waited as long as its turn says
+abbrev pub Serves : ℕ → Session → Option (List Arrival) → Option (List Tried) → Option ℕ → Option (List ℕ) → ℕ → Option (List ℕ) → Option (List ℕ) → Option (List ℕ) → ServeEnd → Type 0
+Serves turns s arrivals tried calls readings last written waits waits_now end =
+    (i : ℕ) × (received : ℕ) × ServesUntil turns i s arrivals tried calls readings last written end × Rises i s × IsReceived i received end × NotesWaits s received waits waits_now

@@ -1,4 +1,5 @@
 pub mod Ends
+pub mod Kept
 pub mod Nodes
 pub mod Posts
 pub mod Serving

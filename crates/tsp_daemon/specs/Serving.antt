@@ -3,9 +3,11 @@ use Rattle.std.specs.Prelude.{◌≡◌, ◌⊎◌, ℕ, ℤ, true, false, List,
 use Rattle.tsp_daemon.specs.declared.end.ServeEnd.{ServeEnd}
 use Rattle.tsp_daemon.specs.declared.end.ServeEnd.TheVariants.{Done as AllTurns, LinkFault as Faulty, WriteFault as Unwritten, OutOfMemory as Refused}
 use Rattle.tsp_io.specs.Links.{Binding, Notes}
+use Rattle.tsp_promises.specs.Setting.{Setting}
 use Rattle.tsp_args.specs.Ports.{all_peers}
-use Rattle.tsp_daemon.specs.Ends.{IsReceived, Serves}
-use Rattle.tsp_daemon.specs.Sessions.{Session, read_once}
+use Rattle.tsp_daemon.specs.Ends.{IsReceived, ServesUntil}
+use Rattle.tsp_daemon.specs.Kept.{HistoryKept, SetByWords}
+use Rattle.tsp_daemon.specs.Sessions.{Session, after_turns, read_once}
 use Rattle.tsp_query.specs.Ends.{Outside, Tells}
 use Rattle.tsp_query.specs.Outside.{Observed, bound, Says}
 use Rattle.tsp_rules.specs.Guards.{is_clock_value}
@@ -59,11 +61,15 @@ pub record IsServed (s : ServeWords) (o : Outside) (wall : ℤ) (word : ℕ) (wr
   pub within : is_clock_value wall ≡ true
   pub end : ServeEnd
   pub served_is : served ≡ served_of end
-  pub serves : Serves s.turns (first_session s o wall word written) now.arrivals now.tried now.calls now.readings now.last now.written end
+  -- behind how many turns it ended
+  pub taken : ℕ
+  pub serves : ServesUntil s.turns taken (first_session s o wall word written) now.arrivals now.tried now.calls now.readings now.last now.written end
   -- each receive waited as long as its turn says
   pub received : ℕ
-  pub received_is : IsReceived s.turns received end
+  pub received_is : IsReceived taken received end
   pub noted : NotesWaits (first_session s o wall word written) received waits now.waits
+  -- what its node did in these turns keeps what is promised without premises
+  pub kept : (setting : Setting) → SetByWords s (read_once o).last wall setting → HistoryKept setting (after_turns taken (first_session s o wall word written)).past.lines
 
 -- what a daemon comes to whose link is bound, where the outside held this then
 abbrev pub BoundServes : ServeWords → Outside → ℤ → ℕ → List ℕ → Option (List ℕ) → Observed → DaemonExit → Type 0

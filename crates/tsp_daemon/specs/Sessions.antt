@@ -1,10 +1,10 @@
 -- A session of the daemon: what its node does turn after turn, what is sent, and what is shown.
-use Rattle.std.specs.Prelude.{ℕ, zero, suc, ◌+◌, ◌||◌, List, ◌++◌, length, take, None, Some}
+use Rattle.std.specs.Prelude.{ℕ, zero, suc, ◌+◌, ◌≤◌, ◌||◌, List, ◌++◌, length, take, None, Some}
 use Rattle.tsp_base.specs.declared.act.Placed.{Placed}
 use Rattle.tsp_base.specs.declared.place.Place.{Place}
 use Rattle.tsp_base.specs.declared.place.Place.TheVariants.{Peer, Stranger}
 use Rattle.tsp_base.specs.declared.place.Port.{Port}
-use Rattle.tsp_base.specs.History.{Turned, dids}
+use Rattle.tsp_base.specs.History.{Cause, Handed, Turned, dids}
 use Rattle.tsp_base.specs.Joins.{first_port}
 use Rattle.tsp_base.specs.NodeFacts.{tracing}
 use Rattle.tsp_codec.specs.Taken.{taken_of}
@@ -57,17 +57,26 @@ waited o = heard (read_once o)
 abbrev pub tick_of : Session → ℕ
 tick_of s = (waited s.outside).last
 
--- the past when the step of a turn begins at this tick
-abbrev pub begun : ℕ → NodePast → NodePast
-begun x past = in_node_step (record { at = x; node = 0; cause = Turned }) x past
+-- what the node is given in a turn: the next arrival, or nothing
+abbrev pub given_in : Session → NodeGiven
+given_in s = given_of s.past.ports (next_arrival s.outside.arrivals)
+
+-- the cause of a turn's step: octets were handed to the node, or it was only looked at
+abbrev pub cause_of : NodeGiven → Cause
+cause_of NodeTurn = Turned
+cause_of (GotOn q from taken) = Handed
+
+-- the past when the step of a turn begins at this tick, in which the node is given this
+abbrev pub begun : NodeGiven → ℕ → NodePast → NodePast
+begun g x past = in_node_step (record { at = x; node = 0; cause = cause_of g }) x past
 
 -- the acts of a turn, each with its port: what the node answers to what came, at the second reading
 abbrev pub acts_in : Session → List Placed
-acts_in s = answers_all (given_of s.past.ports (next_arrival s.outside.arrivals)) (tick_of s) (begun (tick_of s) s.past)
+acts_in s = answers_all (given_in s) (tick_of s) (begun (given_in s) (tick_of s) s.past)
 
 -- the node's past after a turn
 abbrev pub past_after : Session → NodePast
-past_after s = spread (tick_of s) (begun (tick_of s) s.past) (acts_in s)
+past_after s = spread (tick_of s) (begun (given_in s) (tick_of s) s.past) (acts_in s)
 
 -- the text that a turn shows: the lines of its acts, where the trace was on before the turn or is on after it
 abbrev pub shown : Session → List ℕ
@@ -87,3 +96,8 @@ turned s = record {
 abbrev pub after_turns : ℕ → Session → Session
 after_turns zero s = s
 after_turns (suc n) s = turned (after_turns n s)
+
+-- in so many turns no step's tick was below the reading before the turn
+abbrev pub Rises : ℕ → Session → Type 0
+Rises zero s = Unit {0}
+Rises (suc n) s = Rises n s × ((after_turns n s).outside.last ≤ tick_of (after_turns n s))

@@ -103,7 +103,8 @@ fn serve_bound<K: Sink, L: Link, T: Ticker>(
 /// The link is bound with the daemon's own address as peer 0, and then its peers in their order.
 /// The ticker's tick, wall and word are read once each, and the node boots with them; where the
 /// wall doesn't lie strictly between -2^31 and 2^31 seconds, `bad wall` is written. Then the
-/// session takes its turns, as `tsp_daemon` has them.
+/// session takes its turns, as `tsp_daemon` has them. What its node does in them keeps what is
+/// promised without premises (`specs/Kept.antt`).
 ///
 /// `LinkFault` comes only where the bind or a receive failed, and their count rose; `WriteFault`
 /// only where a write failed, and the sink's count rose.

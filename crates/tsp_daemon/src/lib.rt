@@ -11,6 +11,7 @@ pub mod command;
 mod counters;
 pub mod end;
 pub mod exit;
+pub mod laws;
 mod lines;
 mod node;
 mod sends;

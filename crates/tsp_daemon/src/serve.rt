@@ -1,11 +1,10 @@
 //! The daemon's session.
-ghost use Rattle.std.specs.Prelude.{◌≡◌, ◌≢◌, ◌≤◌, ◌<◌, ◌*◌, ◌^◌, ℕ};
+ghost use Rattle.std.specs.Prelude.{◌≡◌, ◌≢◌, ◌≤◌, ◌<◌, ◌*◌, ◌^◌};
 ghost use Rattle.tsp_io.specs.Counts.{Rose};
 ghost use Rattle.tsp_gateway.specs.GatewayStands.{clock_at};
 ghost use Rattle.tsp_gateway.specs.Rooms.{ports_in, room_of_ports};
-ghost use Rattle.tsp_daemon.specs.Ends.{IsAt, IsReceived, Lives, Serves};
+ghost use Rattle.tsp_daemon.specs.Ends.{IsAt, Lives, Serves};
 ghost use Rattle.tsp_daemon.specs.Sessions.{Session};
-ghost use Rattle.tsp_daemon.specs.Waits.{NotesWaits};
 
 use crate::counters::Counters;
 use crate::end::ServeEnd;
@@ -25,7 +24,8 @@ use tsp_io::ticker::Ticker;
 /// the step posts, in order; one that fails is a lost datagram. Where the trace was on before the
 /// step or is on after it, the lines of its acts are written then: the turn's number from 1 stands
 /// for the event, the node has number 0, each act its port, and datagrams are numbered from 0 over
-/// all turns. So they reach the sink before the next receive.
+/// all turns. So they reach the sink before the next receive. There is one receive for each turn,
+/// and one for the turn that ends the session, but where there was no memory for its desk.
 ///
 /// `LinkFault` comes only where a receive failed, and its count rose; `WriteFault` only where a
 /// write failed, and the sink's count rose. The node is one that stands for a past, as each does
@@ -46,12 +46,8 @@ pub fn serve<K: Sink, L: Link, T: Ticker>(
         → IsAt s gateway (record { turns = 0; posts = 0 }) (L.arrivals link.old) (L.tried link.old)
         (L.calls link.old) (T.readings ticker.old) (T.last ticker.old) (K.written sink.old)
         → Serves turns s (L.arrivals link.new) (L.tried link.new) (L.calls link.new)
-        (T.readings ticker.new) (T.last ticker.new) (K.written sink.new) result }
-    ensures waits { (s : Session)
-        → IsAt s gateway (record { turns = 0; posts = 0 }) (L.arrivals link.old) (L.tried link.old)
-        (L.calls link.old) (T.readings ticker.old) (T.last ticker.old) (K.written sink.old)
-        → (received : ℕ) × IsReceived turns received result
-        × NotesWaits s received (L.waits link.old) (L.waits link.new) }
+        (T.readings ticker.new) (T.last ticker.new) (K.written sink.new) (L.waits link.old)
+        (L.waits link.new) result }
     ensures same { (L.binds link.new ≡ L.binds link.old)
         × (T.left_at_wall ticker.new ≡ T.left_at_wall ticker.old) }
     ensures later { (L.faults link.old ≤ L.faults link.new)

@@ -24,6 +24,7 @@ use Rattle.tsp_promises.proofs.BrokenClocks.{clocks_break, left_alone, relays_wr
 use Rattle.tsp_promises.proofs.BrokenEstimates.{estimates_apart, master_near}
 use Rattle.tsp_promises.proofs.BrokenReadings.{readings_break}
 use Rattle.tsp_promises.proofs.BrokenRoles.{roles_break}
+use Rattle.tsp_promises.proofs.BrokenRounds.{rounds_break}
 use Rattle.tsp_promises.proofs.BrokenSends.{sends_break}
 use Rattle.tsp_promises.proofs.CastBy.{cast-by}
 use Rattle.tsp_promises.proofs.CastProof.{reading_of, taking_of}
@@ -46,8 +47,8 @@ down = record {
   broken = λ h.
       let near : Hops 0 near-hop wrong = record { cast = near-cast; unchanged = record { within = skipped 21 wrong; since = record { corrects = refl; lives = refl } } } in
       let far : Hops 1 wrong-hop wrong = record { cast = far-cast (pos 5000000) false (pos 0); unchanged = record { within = inl refl; since = record { corrects = refl; lives = refl } } } in
-      let k : pos 5000048 ≤ℤ pos 806 = (h.0 508000400 (omega arith)).down 0 near-hop (wrong-hop ∷ []) near (far, skipped 16 (skip 2 g25), tt)
-      (record { lives = refl; corrects = inr (record { next = does 408000000 0 Turned (Correct (negsuc 49) false (pos 408000000)); before = skip 2 g19; is = refl; amount = negsuc 49; stepped = false; shown = pos 408000000; place = skipped 25 wrong; node = refl; deed = refl; corrects = refl }) }) in
+      let k : pos 5000049 ≤ℤ pos 806 = (h.0 508000400 (omega arith)).down 0 near-hop (wrong-hop ∷ []) near (far, skipped 16 (skip 2 g25), tt)
+      (record { lives = refl; corrects = inr (record { next = does 408000000 0 Turned (Correct (negsuc 50) false (pos 408000000)); before = skip 2 g19; is = refl; amount = negsuc 50; stepped = false; shown = pos 408000000; place = skipped 25 wrong; node = refl; deed = refl; corrects = refl }) }) in
       omega (arith, ints);
 }
 
@@ -79,8 +80,17 @@ throughout : Breaks (Throughout (still false))
 throughout = record {
   world = stray false;
   broken = λ h.
-      let k : pos 5000083 ≤ℤ pos 452 = (h.0 408000500 (omega arith) 0 closing (skip 4 w19) (negsuc 83) (strays false) (skip 2 w21) answers (skip 1 w16) (pos 450)
+      let k : pos 5000083 ≤ℤ pos 452 = ((h.0 408000500 (omega arith)).master 0 closing (skip 4 w19) (negsuc 83) (strays false) (skip 2 w21) answers (skip 1 w16) (pos 450)
       (record { cast = second-cast (pos 5000000) false (pos 0); within = inl refl; count = 3; lo = negsuc 150; size = pos 151; deed = refl; one_life = refl; one_life_master = refl })).taken_back in
+      omega (arith, ints);
+}
+
+throughout_peers : Breaks (Throughout (still false))
+throughout_peers = record {
+  world = stray false;
+  broken = λ h.
+      let k : pos 4999983 ≤ℤ pos 855 = ((h.0 408000500 (omega arith)).peers 0 closing (skip 4 w19) (strays false) first (skip 2 w21) (skip 2 w20) answers sounds (skip 1 w16) (skip 1 w15) (pos 450) (pos 401)
+      (record { cast = second-cast (pos 5000000) false (pos 0); within = inl refl; one_life = refl }) (record { cast = first-cast; within = skipped 4 (stray false); one_life = refl })).taken_back in
       omega (arith, ints);
 }
 
@@ -162,8 +172,8 @@ first_set_soon = record {
 }
 
 chains_break : ChainsBreak (still false)
-chains_break = record { down = down; across = across; tree = tree; throughout = throughout; estimates_apart = estimates_apart; master_near = master_near; errs_bounded = errs_bounded; one_error = one_error; answered_late = answered_late; first_set = first_set; first_set_soon = first_set_soon }
+chains_break = record { down = down; across = across; tree = tree; throughout = throughout; throughout_peers = throughout_peers; estimates_apart = estimates_apart; master_near = master_near; errs_bounded = errs_bounded; one_error = one_error; answered_late = answered_late; first_set = first_set; first_set_soon = first_set_soon }
 
 -- each promise is broken by some history
 pub all_break : AllBreak
-all_break = record { setting = still false; roles = roles_break; sends = sends_break; clocks = clocks_break; readings = readings_break; chains = chains_break; answers = answers_break }
+all_break = record { setting = still false; roles = roles_break; sends = sends_break; clocks = clocks_break; readings = readings_break; chains = chains_break; rounds = rounds_break; answers = answers_break }

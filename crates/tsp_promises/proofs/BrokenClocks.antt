@@ -167,9 +167,9 @@ relayed : Breaks (Relayed (still false))
 relayed = record {
   world = wrong;
   broken = λ h.
-      let k : pos 5000048 ≤ℤ pos 806 = h.0 508000400 (omega arith) 1 0 far-close near-close (skip 2 g25) (skip 3 g19) relays_wrong near-correct (skip 2 g26) (skip 2 g20) far-reading near-reading (skip 1 g23) (skip 1 g17) (pos 401) (pos 401)
+      let k : pos 5000049 ≤ℤ pos 806 = h.0 508000400 (omega arith) 1 0 far-close near-close (skip 2 g25) (skip 3 g19) relays_wrong near-correct (skip 2 g26) (skip 2 g20) far-reading near-reading (skip 1 g23) (skip 1 g17) (pos 401) (pos 401)
       (far-cast (pos 5000000) false (pos 0)) near-cast refl (skipped 16 (skip 2 g25)) (record { within = inl refl; since = record { corrects = refl; lives = refl } }) (record { within = skipped 21 wrong; since = record { corrects = refl; lives = refl } })
-      (record { lives = refl; corrects = inr (record { next = does 408000000 0 Turned (Correct (negsuc 49) false (pos 408000000)); before = skip 2 g19; is = refl; amount = negsuc 49; stepped = false; shown = pos 408000000; place = skipped 25 wrong; node = refl; deed = refl; corrects = refl }) }) in
+      (record { lives = refl; corrects = inr (record { next = does 408000000 0 Turned (Correct (negsuc 50) false (pos 408000000)); before = skip 2 g19; is = refl; amount = negsuc 50; stepped = false; shown = pos 408000000; place = skipped 25 wrong; node = refl; deed = refl; corrects = refl }) }) in
       omega (arith, ints);
 }
 

@@ -56,7 +56,7 @@ ends = record { world = begins 20 0 Turned ∷ stands; broken = λ h. true≢fal
 finishes : Breaks OneBack
 finishes = record { world = stands; broken = λ h. true≢false (h.ends 0 port0) }
 
-starting : Starting ≡ Master → ⊥
+pub starting : Starting ≡ Master → ⊥
 starting e = cc
 
 corrects : Breaks OnlyMaster

@@ -84,7 +84,7 @@ pub record Met (setting : Setting) (m k : ℕ) (cpast : List Line) (mean : ℤ) 
   pub reads : Within (r ∷ rolder) past
 
 -- the amount of a Correct that takes an ADJTIME is its time
-amount-adj : (c : Line) (past : List Line) (post : Line) (amount : ℤ) (m : MessageValue) → Acting c past post amount m → m.kind ≡ AdjTime → amount ≡ time_in m.body
+pub amount-adj : (c : Line) (past : List Line) (post : Line) (amount : ℤ) (m : MessageValue) → Acting c past post amount m → m.kind ≡ AdjTime → amount ≡ time_in m.body
 amount-adj c past post amount m a kind = a.takes.amount_is ∙ ap (λ k. amount_of k (time_in m.body) (target (plain (view c.port (of (node_of c) past))) c.did.tick)) kind
 
 met-with : (setting : Setting) (m : ℕ) (close : Line) (cpast : List Line) (c : Line) (past : List Line) (r : Line) (rolder : List Line) (err : ℤ) (x : Cast m close cpast c past r rolder err) (kind : x.acts.brings.message.kind ≡ AdjTime) →

@@ -31,7 +31,7 @@ pub knows_become : {stirred : Bool} (x : ℕ) (past : Past) (r : Role) → Times
     (r ≡ Candidate → (boot_tick (plain past.seen) + ELECT_MIN ≤ x) × ((t : ℕ) → (held past.seen).quit ≡ Some t → t + ELECT_MIN ≤ x)) →
     KnowsOf stirred x past.own (then_seen x past (Become r))
 knows_become x past r times rested stands = record {
-  times = times;
+  times = record { boot_le = times.boot_le; last_le = times.last_le; boot_is = times.boot_is; start_le = times.start_le; next = λ n e. none-some n e };
   quiet = record { rested = inr rested; silent = λ n e. none-some n e };
   vote = record { stands = stands; windows = λ n e. none-some n e; votes = λ p e. absurd (true≢false (sym e)) };
   round = record { rounds = λ n e. none-some n e; probing = λ n e. none-some n e; closes = λ calm n e. none-some n e; exchanges = λ p i s older e. nil-cons s older e };

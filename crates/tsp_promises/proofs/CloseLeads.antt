@@ -1,5 +1,5 @@
 -- The close of a round keeps what is known of a port.
-use Rattle.std.specs.Prelude.{◌≡◌, ◌≤◌, ℕ, ◌+◌, ℤ, pos, Bool, true, false, List, [], ◌∷◌, map, Option, None, Some, refl}
+use Rattle.std.specs.Prelude.{◌≡◌, ◌≤◌, ℕ, ◌+◌, ℤ, pos, Bool, true, false, List, [], ◌∷◌, map, Option, None, Some, is_some, refl}
 use Rattle.std.proofs.Common.{sym, subst, inl, inr, ap, arith, ◌∙◌}
 use Rattle.tsp_base.specs.declared.act.Act.TheVariants.{Ring, Late, Close as CloseAct, Correct, Abandon}
 use Rattle.tsp_base.specs.declared.alarm.Alarm.TheVariants.{Close}
@@ -11,8 +11,10 @@ use Rattle.tsp_base.specs.History.{Did, Acts, Seen, Here, Past, plain}
 use Rattle.tsp_base.specs.Leads.{Leads}
 use Rattle.tsp_base.specs.NodeFacts.{boot_tick, last_correct, shown}
 use Rattle.tsp_base.specs.PortFacts.{role, armed}
-use Rattle.tsp_base.specs.RoundFacts.{started}
+use Rattle.tsp_base.specs.RoundFacts.{is_going, started}
 use Rattle.tsp_base.specs.Rows.{grown, nothing, puts, ◌followed_by◌, reading, for_each}
+use Rattle.tsp_promises.specs.PortFits.{setup_in}
+use Rattle.tsp_promises.specs.RoundFits.{measured_peers}
 use Rattle.tsp_promises.specs.StepFacts.{closed, closed_after}
 use Rattle.tsp_base.specs.Takings.{Undisturbed, heard}
 use Rattle.tsp_base.proofs.LeadsLemmas.{Leads_then, Leads_either, Leads_reading, Leads_nothing, Leads_puts, Leads_to}
@@ -46,6 +48,12 @@ record Closing (round : List Standing) (x : ℕ) (past : Past) : Type 0 where
   pub undisturbed : Undisturbed (plain idle) (plain past.seen)
   pub peers : List PeerId
   pub round_is : round ≡ map (standing past.seen) peers
+  pub peers_are : peers ≡ measured_peers (setup_in past) past.seen
+  pub ring : Did
+  pub rung : List Seen
+  pub newest : past.seen ≡ Here ring ∷ rung
+  pub rings_close : ring.deed ≡ Acts (Ring Close)
+  pub going : is_going rung ≡ true
 
 -- after the Close itself: it is the newest act
 record Closed (mean : ℤ) (round : List Standing) (x : ℕ) (past : Past) : Type 0 where
@@ -68,6 +76,7 @@ record Closed (mean : ℤ) (round : List Standing) (x : ℕ) (past : Past) : Typ
   pub gap : last_correct (plain past.seen) + GAP ≤ x
   pub peers : List PeerId
   pub round_is : round ≡ map (standing before) peers
+  pub peers_are : peers ≡ measured_peers (setup_in past) before
 
 -- the same, while the measured peers are corrected
 record CorrectingRound (mean : ℤ) (round : List Standing) (x : ℕ) (past : Past) : Type 0 where
@@ -89,9 +98,9 @@ closes_here : (d : Did) (before : List Seen) (count : ℕ) (lo size mean : ℤ) 
 closes_here d before count lo size mean e = ap (λ t. closed_after t (Here d ∷ before) (closed before)) e
 
 -- the own clock's correction comes right after the Close
-adjusts_lead : (mean : ℤ) (round : List Standing) → Leads (Closed mean round) (adjusts mean) (CorrectingRound mean round)
+adjusts_lead : (mean : ℤ) (round : List Standing) → mean ≡ mean_of (group_of SPAN (estimates round)) → Leads (Closed mean round) (adjusts mean) (CorrectingRound mean round)
 unfolding adjusts
-adjusts_lead mean round = record { run = λ x past h. corrected x past h (is_step mean) _ (ap (is_stepped mean) (sym h.free.took.1)) (adjusts_prints x past mean (is_step mean)) } where
+adjusts_lead mean round is = record { run = λ x past h. corrected x past h (is_step mean) _ (ap (is_stepped mean) (sym h.free.took.1)) (adjusts_prints x past mean (is_step mean)) } where
   corrected : (x : ℕ) (past : Past) → Closed mean round x past → (stepped : Bool) (printed : ℤ) → stepped ≡ is_stepped mean (heard (plain past.seen)) → printed ≡ shown (now x past (Correct mean stepped printed) ∷ plain past.seen) x →
       CorrectingRound mean round x (grown x past (Correct mean stepped printed ∷ []))
   corrected x past h stepped printed flag prints = record {
@@ -101,7 +110,7 @@ adjusts_lead mean round = record { run = λ x past h. corrected x past h (is_ste
       free = correct mean stepped printed h.closed (record {
         gap = h.gap;
         rested = h.free.rested refl;
-        why = ByRound (record { close = h.close; past = h.before; is = h.newest; count = h.count; lo = h.lo; size = h.size; deed = h.deed; untaken = h.free.took.1 });
+        why = ByRound (record { close = h.close; past = h.before; is = h.newest; count = h.count; lo = h.lo; size = h.size; deed = h.deed; untaken = h.free.took.1; mean_is = is ∙ ap (λ r. mean_of (group_of SPAN (estimates r))) (h.round_is ∙ ap (map (standing h.before)) h.peers_are) });
         flag = flag;
         prints = prints;
       }) h.free;
@@ -154,14 +163,27 @@ stays_lead round = Leads_to (λ x past h. record {
   round_is = h.round_is;
 }) (Leads_nothing {P = Closed (pos 0) round})
 
-moves_lead : (own : Bool) (g : Group) (round : List Standing) → Leads (Closed (mean_by own g) round) (moves own (mean_by own g)) (CorrectingRound (mean_by own g) round)
+moves_lead : (own : Bool) (g : Group) (round : List Standing) → g ≡ group_of SPAN (estimates round) → Leads (Closed (mean_by own g) round) (moves own (mean_by own g)) (CorrectingRound (mean_by own g) round)
 unfolding moves
-moves_lead true g round = adjusts_lead (mean_of g) round
-moves_lead false g round = stays_lead round
+moves_lead true g round is = adjusts_lead (mean_of g) round (ap mean_of is)
+moves_lead false g round is = stays_lead round
 
 closes_now : (own : Bool) (g : Group) (round : List Standing) (x : ℕ) (past : Past) → Closing round x past → Closed (mean_by own g) round x (grown x past (close_act own g ∷ []))
 closes_now own g round x past h = record {
-  free = close_leaf g.count g.lo g.width (mean_by own g) h.leads h.free;
+  free = close_leaf g.count g.lo g.width (mean_by own g) (record {
+    leads = h.leads;
+    ring = h.ring;
+    past = h.rung;
+    is = h.newest;
+    rings = h.rings_close;
+    going = h.going;
+    start = h.start;
+    idle = h.idle;
+    start_is = h.start_is;
+    over = h.over;
+    soon = h.soon;
+    undisturbed = h.undisturbed;
+  }) h.free;
   leads = h.leads;
   closed = h.closed;
   close = now x past (close_act own g);
@@ -180,14 +202,15 @@ closes_now own g round x past h = record {
   gap = (let last = h.last_le in let over = h.over in omega (arith, last, over));
   peers = h.peers;
   round_is = h.round_is;
+  peers_are = h.peers_are;
 }
 
-closes_with_lead : (own : Bool) (g : Group) (round : List Standing) → Leads (Closing round) (closes_with own g round) Open
+closes_with_lead : (own : Bool) (g : Group) (round : List Standing) → g ≡ group_of SPAN (estimates round) → Leads (Closing round) (closes_with own g round) Open
 unfolding closes_with abandons
-closes_with_lead own g round = Leads_either (can_adjust (mean_by own g)) (puts (close_act own g) followed_by (moves own (mean_by own g) followed_by for_each (corrects_peer (mean_by own g)) round)) (puts Abandon)
+closes_with_lead own g round is = Leads_either (can_adjust (mean_by own g)) (puts (close_act own g) followed_by (moves own (mean_by own g) followed_by for_each (corrects_peer (mean_by own g)) round)) (puts Abandon)
     (Leads_then {Q = Closed (mean_by own g) round} (puts (close_act own g)) (moves own (mean_by own g) followed_by for_each (corrects_peer (mean_by own g)) round)
     (Leads_puts (close_act own g) (λ x past c. closes_now own g round x past c.0))
-    (Leads_then {Q = CorrectingRound (mean_by own g) round} (moves own (mean_by own g)) (for_each (corrects_peer (mean_by own g)) round) (moves_lead own g round) (corrects_round (mean_by own g) round)))
+    (Leads_then {Q = CorrectingRound (mean_by own g) round} (moves own (mean_by own g)) (for_each (corrects_peer (mean_by own g)) round) (moves_lead own g round is) (corrects_round (mean_by own g) round)))
     (Leads_puts Abandon (λ x past c. open_of (abandon c.0.free)))
 
 -- no probe is left when a round closes
@@ -230,6 +253,12 @@ closing x past round h timely is =
       undisturbed = record { corrects = goes.corrects; lives = goes.life };
       peers = measured_at x past;
       round_is = sym is;
+      peers_are = refl;
+      ring = now x past (Ring Close);
+      rung = past.seen;
+      newest = refl;
+      rings_close = refl;
+      going = ap is_some due.is;
     }
 
 pub close_leads : (own wait : Bool) → Leads Probed (rings own wait Close) Open
@@ -238,7 +267,7 @@ close_leads own wait = rings_lead own wait Close
     (Leads_either (is_in_time Close) (reading round_at (closes own)) (puts (Late Close) followed_by puts Abandon)
     (Leads_reading round_at (closes own) (λ round. Leads_then {Q = Closing round} (puts (Ring Close)) (closes_with own (group_of SPAN (estimates round)) round)
     (Leads_puts (Ring Close) (λ x past h. closing x past round h.0.0 h.0.1 h.1))
-    (closes_with_lead own (group_of SPAN (estimates round)) round)))
+    (closes_with_lead own (group_of SPAN (estimates round)) round refl)))
     (Leads_then {Q = Free Untaken} (puts (Late Close)) (puts Abandon)
     (Leads_puts (Late Close) (λ x past h. let due = due_is (armed past.seen).close x h.0.1 in late_close (unprobed x past due.at h.0.0 due.is due.over _ refl) (close_rested x past h.0) h.0.0.open_port))
     (Leads_puts Abandon (λ x past h. open_of (abandon h)))))

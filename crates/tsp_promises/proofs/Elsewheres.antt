@@ -45,7 +45,7 @@ stirring x past k = record {
 -- a correction elsewhere stirs it
 knows-moved : (x : ℕ) (past : Past) (a : Act) → is_correct a ≡ true → KnowsOf true x past.own past.seen → KnowsOf true x past.own (aside x past a).seen
 knows-moved x past (Correct amount stepped shown) e k = record {
-  times = record { boot_le = k.times.boot_le; last_le = omega arith; boot_is = k.times.boot_is };
+  times = record { boot_le = k.times.boot_le; last_le = omega arith; boot_is = k.times.boot_is; start_le = k.times.start_le; next = k.times.next };
   quiet = k.quiet;
   vote = k.vote;
   round = record { rounds = k.round.rounds; probing = k.round.probing; closes = λ calm. absurd (true≢false calm); exchanges = λ p i s older e. stir (k.round.exchanges p i s older e) };

@@ -28,7 +28,7 @@ use Rattle.tsp_promises.proofs.ReadingProof.{ReadAt, read_at}
 use Rattle.tsp_promises.proofs.SendPlaces.{post_fits}
 
 -- what the Close owes that begins an ADJTIME
-at-close : (here : Did) (seen : List Seen) (p : PeerId) (m : MessageValue) (close : Did) (past : List Seen) → m.kind ≡ AdjTime → closed seen ≡ Here close ∷ past → AnswersSlaveUp seen p m ⊎ AtClose here seen p m →
+pub at-close : (here : Did) (seen : List Seen) (p : PeerId) (m : MessageValue) (close : Did) (past : List Seen) → m.kind ≡ AdjTime → closed seen ≡ Here close ∷ past → AnswersSlaveUp seen p m ⊎ AtClose here seen p m →
     (mean : ℤ) × ((sample : Sampled) × FromClose here seen p m close past mean sample)
 at-close here seen p m close past kind close_is (inl s) = let bad : ⊥ = (let k = sym kind ∙ s.sets in cc) in absurd bad
 at-close here seen p m close past kind close_is (inr a) =
@@ -71,7 +71,7 @@ off-by : (wk wm k0 m0 diff e : ℤ) (kr kt mr mt w : ℕ) → pos (nat_abs (diff
 off-by wk wm k0 m0 diff e kr kt mr mt w a b c = omega (arith, ints)
 
 -- an estimate holds at a later time, as long as its node is left alone
-holds : (setting : Setting) (m k : ℕ) (cpast : List Line) (x : Sampled) (start : Did) (r : Line) (older h : List Line) (t : ℕ) → Fits setting h → Within (r ∷ older) h → time_of (dids h) ≤ t → ReadAt setting m k cpast x start r older → Undisturbed (dids (of k (r ∷ older))) (dids (of k h)) →
+pub holds : (setting : Setting) (m k : ℕ) (cpast : List Line) (x : Sampled) (start : Did) (r : Line) (older h : List Line) (t : ℕ) → Fits setting h → Within (r ∷ older) h → time_of (dids h) ≤ t → ReadAt setting m k cpast x start r older → Undisturbed (dids (of k (r ∷ older))) (dids (of k h)) →
     pos (nat_abs (x.diff -ℤ (clock_at setting k h t -ℤ ((setting.wall m +ℤ moved (dids (of m cpast))) +ℤ pos (tick_at (setting.rate m) t))))) ≤ℤ (x.err +ℤ pos (2 * width setting.drift (t - r.did.step.at)))
 holds setting m k cpast x start r older h t f r_in by d u =
     let order : r.did.step.at ≤ t = (let p = place-time setting (r ∷ older) h f r_in in omega arith) in
@@ -83,10 +83,10 @@ holds setting m k cpast x start r older h t f r_in by d u =
 two-near : (a b c d ref e f : ℤ) (v w : ℕ) → pos (nat_abs (a -ℤ (c -ℤ ref))) ≤ℤ (e +ℤ pos v) → pos (nat_abs (b -ℤ (d -ℤ ref))) ≤ℤ (f +ℤ pos w) → pos (nat_abs (a -ℤ b)) ≤ℤ ((pos (nat_abs (c -ℤ d)) +ℤ (e +ℤ f)) +ℤ pos (v + w))
 two-near a b c d ref e f v w h k = omega (arith, ints)
 
-one-near : (diff mean c ref now e : ℤ) (w : ℕ) → pos (nat_abs (diff -ℤ (c -ℤ ref))) ≤ℤ (e +ℤ pos w) → now ≡ ref +ℤ mean → pos (nat_abs (now -ℤ c)) ≤ℤ ((pos (nat_abs (mean -ℤ diff)) +ℤ e) +ℤ pos w)
+pub one-near : (diff mean c ref now e : ℤ) (w : ℕ) → pos (nat_abs (diff -ℤ (c -ℤ ref))) ≤ℤ (e +ℤ pos w) → now ≡ ref +ℤ mean → pos (nat_abs (now -ℤ c)) ≤ℤ ((pos (nat_abs (mean -ℤ diff)) +ℤ e) +ℤ pos w)
 one-near diff mean c ref now e w h g = omega (arith, ints)
 
-by-mean : (wall moved_h moved_c mean : ℤ) (tick : ℕ) → moved_h ≡ moved_c +ℤ mean → (wall +ℤ moved_h) +ℤ pos tick ≡ ((wall +ℤ moved_c) +ℤ pos tick) +ℤ mean
+pub by-mean : (wall moved_h moved_c mean : ℤ) (tick : ℕ) → moved_h ≡ moved_c +ℤ mean → (wall +ℤ moved_h) +ℤ pos tick ≡ ((wall +ℤ moved_c) +ℤ pos tick) +ℤ mean
 by-mean wall moved_h moved_c mean tick e = omega (arith, ints)
 
 estimates-near : (setting : Setting) (f : Line) (fw : List Line) → Given setting (f ∷ fw) → EstimatesNear setting f fw

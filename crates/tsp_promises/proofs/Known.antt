@@ -1,6 +1,6 @@
 -- What is known of a port between the acts of its steps.
 use Rattle.std.specs.Prelude.{◌≡◌, ◌⊎◌, ◌≤◌, ℕ, ◌+◌, ◌*◌, Bool, true, false, List, [], ◌∷◌, Option, None, Some}
-use Rattle.tsp_base.specs.declared.constants.TheConstants.{QUIET, ELECT_MIN, CLOSE, WINDOW}
+use Rattle.tsp_base.specs.declared.constants.TheConstants.{QUIET, ELECT_MIN, CLOSE, ROUND, WINDOW}
 use Rattle.tsp_base.specs.declared.place.PeerId.{PeerId}
 use Rattle.tsp_base.specs.declared.role.Role.{Role}
 use Rattle.tsp_base.specs.declared.role.Role.TheVariants.{Starting, Follow, Candidate, Master}
@@ -66,11 +66,13 @@ pub record Candidature (own : PeerId) (at : ℕ) (r : Role) (back : Option (ℕ 
   pub at_is : at ≡ start.tick + WINDOW
   pub back_is : back ≡ Some (start.tick, own)
 
--- boot and last correction aren't later than the tick x
-pub record Times (x boot last hold_boot : ℕ) : Type 0 where
+-- boot, last correction and last round's beginning aren't later than the tick x, and the next round begins ROUND after that
+pub record Times (x boot last hold_boot : ℕ) (st : List Seen) (round : Option ℕ) : Type 0 where
   pub boot_le : boot ≤ x
   pub last_le : last ≤ x
   pub boot_is : hold_boot ≡ boot
+  pub start_le : (start : Did) (idle : List Seen) → st ≡ Here start ∷ idle → start.tick ≤ x
+  pub next : (at : ℕ) → round ≡ Some at → (start : Did) (idle : List Seen) → st ≡ Here start ∷ idle → start.tick + ROUND ≤ at
 
 -- the quiet time goes on or is over, and Quiet ends it
 pub record Quiets (x boot : ℕ) (r : Role) (quiet search elect resolve : Option ℕ) (to : PeerId → List Seen) : Type 0 where
@@ -98,7 +100,7 @@ pub record Knows (A B C D : Type 0) : Type 0 where
   pub round : D
 
 abbrev pub TimesOf : ℕ → List Seen → Type 0
-TimesOf x seen = Times x (boot_tick (plain seen)) (last_correct (plain seen)) (held seen).boot
+TimesOf x seen = Times x (boot_tick (plain seen)) (last_correct (plain seen)) (held seen).boot (started seen) (armed seen).round
 
 abbrev pub QuietsOf : ℕ → List Seen → Type 0
 QuietsOf x seen = Quiets x (boot_tick (plain seen)) (role seen) (armed seen).quiet (armed seen).search (armed seen).elect (armed seen).resolve (λ p. open_to p seen)

@@ -4,7 +4,7 @@ use Rattle.std.proofs.Common.{sym, subst, arith, inr, ◌∙◌, true≢false}
 use Rattle.tsp_base.specs.declared.act.Act.{Act}
 use Rattle.tsp_base.specs.declared.act.Act.TheVariants.{Backer, Arm, Join, Leave, Rival, Acked, Gave, Sample, Close as CloseAct, Correct, Abandon, Trace}
 use Rattle.tsp_base.specs.declared.alarm.Alarm.TheVariants.{Search, Elect, Window, Probe, Close, Resolve, Round}
-use Rattle.tsp_base.specs.declared.constants.TheConstants.{QUIET, CLOSE, PROBE}
+use Rattle.tsp_base.specs.declared.constants.TheConstants.{QUIET, CLOSE, PROBE, ROUND}
 use Rattle.tsp_base.specs.declared.place.PeerId.{PeerId}
 use Rattle.tsp_base.specs.declared.role.Role.TheVariants.{Master}
 use Rattle.tsp_rules.proofs.Asides.{now}
@@ -13,11 +13,12 @@ use Rattle.tsp_promises.specs.CorrectFits.{CorrectFits}
 use Rattle.tsp_promises.specs.DeedFits.{ActFits}
 use Rattle.tsp_promises.specs.HoldFits.{BackerFits}
 use Rattle.tsp_promises.specs.MeasureFits.{SampleFits}
-use Rattle.tsp_base.specs.History.{Seen, Here, Past, plain}
+use Rattle.tsp_promises.specs.RoundFits.{CloseFits}
+use Rattle.tsp_base.specs.History.{Did, Seen, Here, Past, plain}
 use Rattle.tsp_base.specs.NodeFacts.{boot_tick}
 use Rattle.tsp_base.specs.Peers.{is_among}
 use Rattle.tsp_base.specs.PortFacts.{Received, role, armed, acting, taken, backers, held, stood}
-use Rattle.tsp_base.specs.RoundFacts.{exchange, probes}
+use Rattle.tsp_base.specs.RoundFacts.{exchange, probes, started}
 use Rattle.tsp_base.specs.Rows.{grown}
 use Rattle.tsp_base.specs.SendFacts.{open_to, message_at}
 use Rattle.tsp_promises.specs.StepFacts.{is_unbacked, owes, unacknowledged}
@@ -63,6 +64,13 @@ pub made : {stirred awake owing acts : Bool} {follow : Option PeerId} {T : Optio
     During stirred awake owing follow acts T x (grown x past (a ∷ []))
 made a own f fits knows rested backs owed paid acting_is took = record { own = own; fits = (f, fits); knows = knows; rested = rested; backs = backs; owed = owed; paid = paid; acting_is = acting_is; took = took }
 
+-- a round that has just begun isn't later than now, and is so long before the next
+begins-now : {x : ℕ} (d start : Did) (rest idle : List Seen) → Here d ∷ rest ≡ Here start ∷ idle → d.tick ≤ x → start.tick ≤ x
+begins-now {x = x} d start rest idle e h = let same : d ≡ start = cc in subst (λ (z : Did). z.tick ≤ x) same h
+
+begins-then : (d start : Did) (rest idle : List Seen) (n : ℕ) → Here d ∷ rest ≡ Here start ∷ idle → d.tick + ROUND ≡ n → start.tick + ROUND ≤ n
+begins-then d start rest idle n e h = let same : d ≡ start = cc in subst (λ (z : Did). z.tick + ROUND ≤ n) same (omega (arith, h))
+
 -- acts that change nothing that is known
 module _ {stirred awake owing acts : Bool} {follow : Option PeerId} {T : Option Received → Option Received → Type 0} {x : ℕ} {past : Past} where
   pub join : (p : PeerId) → During stirred awake owing follow acts T x past → During stirred awake owing follow acts T x (grown x past (Join p ∷ []))
@@ -77,7 +85,7 @@ module _ {stirred awake owing acts : Bool} {follow : Option PeerId} {T : Option 
   pub trace : (on : Bool) → During stirred awake owing follow acts T x past → During stirred awake owing follow acts T x (grown x past (Trace on ∷ []))
   trace on h = made (Trace on) h.own tt h.fits h.knows h.rested h.backs h.owed h.paid h.acting_is h.took
 
-  pub close_act : (count : ℕ) (lo size mean : ℤ) → role past.seen ≡ Master → During stirred awake owing follow acts T x past → During stirred awake owing follow acts T x (grown x past (CloseAct count lo size mean ∷ []))
+  pub close_act : (count : ℕ) (lo size mean : ℤ) → CloseFits (now x past (CloseAct count lo size mean)) past.seen → During stirred awake owing follow acts T x past → During stirred awake owing follow acts T x (grown x past (CloseAct count lo size mean ∷ []))
   close_act count lo size mean f h = made (CloseAct count lo size mean) h.own f h.fits h.knows h.rested h.backs h.owed h.paid h.acting_is h.took
 
 -- acts of a port whose quiet time is over
@@ -154,11 +162,22 @@ module _ {stirred awake owing acts : Bool} {follow : Option PeerId} {T : Option 
       })
       h.rested h.backs h.owed h.paid h.acting_is h.took
 
-  pub arm_round : (at : ℕ) → role past.seen ≡ Master → During stirred awake owing follow acts T x past → During stirred awake owing follow acts T x (grown x past (Arm Round at ∷ []))
-  arm_round at r h =
+  pub arm_round : (at : ℕ) → role past.seen ≡ Master → ((start : Did) (idle : List Seen) → started past.seen ≡ Here start ∷ idle → start.tick + ROUND ≤ at) → During stirred awake owing follow acts T x past → During stirred awake owing follow acts T x (grown x past (Arm Round at ∷ []))
+  arm_round at r spaced h =
       let k = h.knows in
       made (Arm Round at) h.own tt h.fits
-      (record { times = k.times; quiet = k.quiet; vote = k.vote; round = record { rounds = λ n e. r; probing = k.round.probing; closes = k.round.closes; exchanges = k.round.exchanges } })
+      (record {
+        times = record {
+          boot_le = k.times.boot_le;
+          last_le = k.times.last_le;
+          boot_is = k.times.boot_is;
+          start_le = k.times.start_le;
+          next = λ n e start idle is. subst (λ i. start.tick + ROUND ≤ i) (some-same at n e) (spaced start idle is);
+        };
+        quiet = k.quiet;
+        vote = k.vote;
+        round = record { rounds = λ n e. r; probing = k.round.probing; closes = k.round.closes; exchanges = k.round.exchanges };
+      })
       h.rested h.backs h.owed h.paid h.acting_is h.took
 
   pub arm_probe : (at : ℕ) → Probing at (armed past.seen).close (probes past.seen) → During stirred awake owing follow acts T x past → During stirred awake owing follow acts T x (grown x past (Arm Probe at ∷ []))
@@ -178,14 +197,20 @@ module _ {stirred awake owing acts : Bool} {follow : Option PeerId} {T : Option 
       })
       h.rested h.backs h.owed h.paid h.acting_is h.took
 
-  -- a round begins with its two alarms
-  pub arm_round_alarms : role past.seen ≡ Master → During stirred awake owing follow acts T x past → During stirred awake owing follow acts T x (grown x past (Arm Probe (x + PROBE) ∷ Arm Close (x + CLOSE) ∷ []))
-  arm_round_alarms leads h =
+  -- a round begins with its two alarms, ROUND after the last one; the next one is put off already
+  pub arm_round_alarms : role past.seen ≡ Master → ((start : Did) (idle : List Seen) → started past.seen ≡ Here start ∷ idle → start.tick + ROUND ≤ x) → (armed past.seen).round ≡ Some (x + ROUND) → During stirred awake owing follow acts T x past → During stirred awake owing follow acts T x (grown x past (Arm Probe (x + PROBE) ∷ Arm Close (x + CLOSE) ∷ []))
+  arm_round_alarms leads spaced put_off h =
       let k = h.knows in record {
         own = h.own;
-        fits = (tt, (tt, h.fits));
+        fits = (record { spaced = spaced }, (tt, h.fits));
         knows = record {
-          times = k.times;
+          times = record {
+            boot_le = k.times.boot_le;
+            last_le = k.times.last_le;
+            boot_is = k.times.boot_is;
+            start_le = λ start idle e. begins-now (now x past (Arm Close (x + CLOSE))) start _ idle e (omega arith);
+            next = λ n e start idle is. begins-then (now x past (Arm Close (x + CLOSE))) start _ idle n is (some-same (x + ROUND) n (sym put_off ∙ e));
+          };
           quiet = k.quiet;
           vote = k.vote;
           round = record {
@@ -225,12 +250,12 @@ module _ {stirred awake owing acts : Bool} {follow : Option PeerId} {T : Option 
       })
       h.rested h.backs h.owed h.paid h.acting_is h.took
 
-  pub correct : (amount : ℤ) (stepped : Bool) (shown : ℤ) → (armed past.seen).close ≡ None → CorrectFits (now x past (Correct amount stepped shown)) past.seen amount stepped shown → During stirred awake owing follow acts T x past → During stirred awake owing follow acts T x (grown x past (Correct amount stepped shown ∷ []))
+  pub correct : (amount : ℤ) (stepped : Bool) (shown : ℤ) → (armed past.seen).close ≡ None → CorrectFits (setup_in past) (now x past (Correct amount stepped shown)) past.seen amount stepped shown → During stirred awake owing follow acts T x past → During stirred awake owing follow acts T x (grown x past (Correct amount stepped shown ∷ []))
   correct amount stepped shown idle f h =
       let k = h.knows in
       made (Correct amount stepped shown) h.own f h.fits
       (record {
-        times = record { boot_le = k.times.boot_le; last_le = omega arith; boot_is = k.times.boot_is };
+        times = record { boot_le = k.times.boot_le; last_le = omega arith; boot_is = k.times.boot_is; start_le = k.times.start_le; next = k.times.next };
         quiet = k.quiet;
         vote = k.vote;
         round = record { rounds = k.round.rounds; probing = k.round.probing; closes = λ calm n e. none-some n (sym idle ∙ e); exchanges = λ p i s older e. let asked = k.round.exchanges p i s older e in none-some asked.at (sym idle ∙ asked.goes) };
@@ -238,12 +263,12 @@ module _ {stirred awake owing acts : Bool} {follow : Option PeerId} {T : Option 
       h.rested h.backs h.owed h.paid h.acting_is h.took
 
   -- the same where a round may go on
-  pub correct_stirring : (amount : ℤ) (stepped : Bool) (shown : ℤ) → CorrectFits (now x past (Correct amount stepped shown)) past.seen amount stepped shown → During stirred awake owing follow acts T x past → During true awake owing follow acts T x (grown x past (Correct amount stepped shown ∷ []))
+  pub correct_stirring : (amount : ℤ) (stepped : Bool) (shown : ℤ) → CorrectFits (setup_in past) (now x past (Correct amount stepped shown)) past.seen amount stepped shown → During stirred awake owing follow acts T x past → During true awake owing follow acts T x (grown x past (Correct amount stepped shown ∷ []))
   correct_stirring amount stepped shown f h =
       let k = h.knows in
       made (Correct amount stepped shown) h.own f h.fits
       (record {
-        times = record { boot_le = k.times.boot_le; last_le = omega arith; boot_is = k.times.boot_is };
+        times = record { boot_le = k.times.boot_le; last_le = omega arith; boot_is = k.times.boot_is; start_le = k.times.start_le; next = k.times.next };
         quiet = k.quiet;
         vote = k.vote;
         round = record { rounds = k.round.rounds; probing = k.round.probing; closes = λ calm. absurd (true≢false calm); exchanges = λ p i s older e. stir (k.round.exchanges p i s older e) };

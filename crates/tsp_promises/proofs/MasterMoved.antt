@@ -11,7 +11,8 @@ use Rattle.tsp_promises.specs.Fits.{Fits, node_of}
 use Rattle.tsp_base.specs.History.{Acts, Did, Line, Seen, Here, of, dids, view, plain, seen_as, is_shared}
 use Rattle.tsp_base.specs.NodeFacts.{all_corrects, lives, moved}
 use Rattle.tsp_base.specs.Places.{Within}
-use Rattle.tsp_promises.specs.Setting.{Setting}
+use Rattle.tsp_promises.specs.Setting.{Setting, setup_of}
+use Rattle.tsp_base.specs.Setup.{Setup}
 use Rattle.tsp_base.specs.Takings.{Undisturbed}
 use Rattle.tsp_base.proofs.PlaceLemmas.{Within-through}
 use Rattle.tsp_base.proofs.Views.{plain_view}
@@ -48,36 +49,37 @@ pub same-mean : (count c : ℕ) (lo l size s mean amount : ℤ) → Acts (Close 
 same-mean count c lo l size s mean amount e = cc
 
 -- right after a Close a Correct moves the clock by the mean
-mean-is : (here close : Did) (vs : List Seen) (b : Bool) (count : ℕ) (lo size mean amount : ℤ) → close.deed ≡ Acts (Close count lo size mean) → WhyCorrect here (seen_as b close ∷ vs) amount → amount ≡ mean
-mean-is here close vs true count lo size mean amount e (ByRound r) =
+pub mean-is : (setup : Setup) (here close : Did) (vs : List Seen) (b : Bool) (count : ℕ) (lo size mean amount : ℤ) → close.deed ≡ Acts (Close count lo size mean) → WhyCorrect setup here (seen_as b close ∷ vs) amount → amount ≡ mean
+mean-is setup here close vs true count lo size mean amount e (ByRound r) =
     let same : close ≡ r.close = (let k = r.is in cc) in
     same-mean count r.count lo r.lo size r.size mean amount (sym e ∙ (ap (λ (d : Did). d.deed) same ∙ r.deed))
-mean-is here close vs true count lo size mean amount e (ByMaster t) =
+mean-is setup here close vs true count lo size mean amount e (ByMaster t) =
     let same : close ≡ t.took = (let k = t.is in cc) in
     let deeds = sym e ∙ (ap (λ (d : Did). d.deed) same ∙ t.deed) in
     let bad : ⊥ = cc in absurd bad
-mean-is here close vs true count lo size mean amount e (ByDate t) =
+mean-is setup here close vs true count lo size mean amount e (ByDate t) =
     let same : close ≡ t.took = (let k = t.is in cc) in
     let deeds = sym e ∙ (ap (λ (d : Did). d.deed) same ∙ t.deed) in
     let bad : ⊥ = cc in absurd bad
-mean-is here close vs false count lo size mean amount e (ByDate t) = let bad : ⊥ = (let k = t.is in cc) in absurd bad
-mean-is here close vs false count lo size mean amount e (ByRound r) = let bad : ⊥ = (let k = r.is in cc) in absurd bad
-mean-is here close vs false count lo size mean amount e (ByMaster t) = let bad : ⊥ = (let k = t.is in cc) in absurd bad
+mean-is setup here close vs false count lo size mean amount e (ByDate t) = let bad : ⊥ = (let k = t.is in cc) in absurd bad
+mean-is setup here close vs false count lo size mean amount e (ByRound r) = let bad : ⊥ = (let k = r.is in cc) in absurd bad
+mean-is setup here close vs false count lo size mean amount e (ByMaster t) = let bad : ⊥ = (let k = t.is in cc) in absurd bad
 
 plus-none : (a b mean : ℤ) → a ≡ b → mean ≡ pos 0 → a ≡ b +ℤ mean
 plus-none a b mean e z = omega (arith, ints)
 
 -- the line right after the Close was m's last Correct
-moved-right-after : (setting : Setting) (m : ℕ) (close next : Line) (cpast h : List Line) (count : ℕ) (lo size mean amount : ℤ) (stepped : Bool) (shown : ℤ) → Fits setting h → close.did.deed ≡ Acts (Close count lo size mean) → node_of close ≡ m →
+pub moved-right-after : (setting : Setting) (m : ℕ) (close next : Line) (cpast h : List Line) (count : ℕ) (lo size mean amount : ℤ) (stepped : Bool) (shown : ℤ) → Fits setting h → close.did.deed ≡ Acts (Close count lo size mean) → node_of close ≡ m →
     lives (dids (of m (close ∷ cpast))) ≡ lives (dids (of m h)) → Within (next ∷ (close ∷ cpast)) h → node_of next ≡ m → next.did.deed ≡ Acts (Correct amount stepped shown) →
     all_corrects (dids (of m (next ∷ (close ∷ cpast)))) ≡ all_corrects (dids (of m h)) → moved (dids (of m h)) ≡ moved (dids (of m cpast)) +ℤ mean
 moved-right-after setting m close next cpast h count lo size mean amount stepped shown f deed node lives_is place next_node next_deed all =
     let own_c : of m (close ∷ cpast) ≡ close ∷ of m cpast = of-own m close cpast node in
     let own_n : dids (of m (next ∷ (close ∷ cpast))) ≡ next.did ∷ dids (of m (close ∷ cpast)) = ap dids (of-own m next (close ∷ cpast) next_node) in
     let fits = deed_fits setting next (close ∷ cpast) (Acts (Correct amount stepped shown)) next_deed (fits_in setting next (close ∷ cpast) h f place) in
-    let why : WhyCorrect next.did (view next.port (close ∷ of m cpast)) amount =
-    subst (λ w. WhyCorrect next.did (view next.port w) amount) own_c (subst (λ k. WhyCorrect next.did (view next.port (of k (close ∷ cpast))) amount) next_node fits.why) in
-    let amount_is = mean-is next.did close.did (view next.port (of m cpast)) ((close.port.0 == next.port.0) || is_shared close.did.deed) count lo size mean amount deed why in
+    let setup = setup_of setting (node_of next) next.port in
+    let why : WhyCorrect setup next.did (view next.port (close ∷ of m cpast)) amount =
+    subst (λ w. WhyCorrect setup next.did (view next.port w) amount) own_c (subst (λ k. WhyCorrect setup next.did (view next.port (of k (close ∷ cpast))) amount) next_node fits.why) in
+    let amount_is = mean-is setup next.did close.did (view next.port (of m cpast)) ((close.port.0 == next.port.0) || is_shared close.did.deed) count lo size mean amount deed why in
     let keeps = close-keeps close.did (dids (of m cpast)) count lo size mean deed in
     let moves = correct-moves next.did (dids (of m (close ∷ cpast))) amount stepped shown next_deed in
     let still = unmoved setting m (next ∷ (close ∷ cpast)) h f place (record { corrects = all; lives = (ap lives own_n ∙ moves.lives) ∙ lives_is }) in

@@ -6,7 +6,7 @@ use Rattle.tsp_base.specs.declared.alarm.Alarm.TheVariants.{Quiet}
 use Rattle.tsp_base.specs.declared.constants.TheConstants.{QUIET}
 use Rattle.tsp_base.specs.declared.place.Port.{Port}
 use Rattle.tsp_base.specs.declared.role.Role.TheVariants.{Starting}
-use Rattle.tsp_base.specs.History.{Step, Begins, Acts, Past, plain, view, seen_as}
+use Rattle.tsp_base.specs.History.{Step, Begins, Acts, Here, Past, plain, view, seen_as}
 use Rattle.tsp_base.specs.Joins.{first_port, line_of}
 use Rattle.tsp_base.specs.NodeFacts.{boot_tick}
 use Rattle.tsp_base.specs.PortFacts.{role}
@@ -49,7 +49,7 @@ booted x past h = record {
     own = h.own;
     fits = (tt, h.fits);
     knows = record {
-      times = record { boot_le = omega arith; last_le = omega arith; boot_is = refl };
+      times = record { boot_le = omega arith; last_le = omega arith; boot_is = refl; start_le = λ start idle e. nil-cons (Here start) idle e; next = λ at e. none-some at e };
       quiet = record { rested = inl (record { starts = refl; unsearched = refl; unelected = refl; unresolved = refl; unsent = λ p. refl }); silent = λ at e. none-some at e };
       vote = record { stands = λ e. let bad : ⊥ = cc in absurd bad; windows = λ at e. none-some at e; votes = λ p e. absurd (true≢false (sym e)) };
       round = record { rounds = λ at e. none-some at e; probing = λ at e. none-some at e; closes = λ calm at e. none-some at e; exchanges = λ p i s older e. nil-cons s older e };
@@ -74,7 +74,7 @@ quiets x past b =
         own = h.own;
         fits = (tt, (tt, h.fits));
         knows = record {
-          times = h.knows.times;
+          times = record { boot_le = h.knows.times.boot_le; last_le = h.knows.times.last_le; boot_is = h.knows.times.boot_is; start_le = h.knows.times.start_le; next = λ at e. none-some at e };
           quiet = record {
             rested = inl (record { starts = refl; unsearched = refl; unelected = refl; unresolved = refl; unsent = λ p. refl });
             silent = λ at e. (refl, let is = some-same (x + QUIET) at e in omega (arith, is, boot));

@@ -15,7 +15,7 @@ use Rattle.tsp_promises.specs.Once.{Obeys, ObeysAt, OnceObeyed}
 use Rattle.tsp_base.specs.Places.{Within}
 use Rattle.tsp_base.specs.PortFacts.{role}
 use Rattle.tsp_promises.specs.Premises.{Honest, HonestAt}
-use Rattle.tsp_promises.specs.Setting.{Setting}
+use Rattle.tsp_promises.specs.Setting.{Setting, setup_of}
 use Rattle.tsp_base.specs.Takings.{time_in}
 use Rattle.tsp_promises.proofs.EverywhereLemmas.{Everywhere-from, Everywhere-within}
 use Rattle.tsp_base.proofs.Views.{plain_view}
@@ -27,19 +27,19 @@ use Rattle.tsp_promises.proofs.OwnFitsProof.{fits_at}
 use Rattle.tsp_promises.proofs.PortFits.{deed_fits}
 
 -- a round is closed by a master
-pub round-leads : (setting : Setting) (n : ℕ) (q : Port) (world : List Line) (amount : ℤ) → Fits setting world → EndsRound (view q (of n world)) amount → role (view q (of n world)) ≡ Master
+pub round-leads : (setting : Setting) (n : ℕ) (q : Port) (world : List Line) (amount : ℤ) → Fits setting world → EndsRound (setup_of setting n q) (view q (of n world)) amount → role (view q (of n world)) ≡ Master
 round-leads setting n q world amount f r =
     let shared : is_shared r.close.deed ≡ false = rw r.deed refl in
     let l = locate n q world r.close r.past shared (subst (λ s. Within (Here r.close ∷ r.past) s) (sym r.is) (inl refl)) in
     let fits = fits_in setting (line_on q r.close) l.older world f l.place in
-    let leads : role (view q (of n l.older)) ≡ Master = subst (λ k. role (view q (of k l.older)) ≡ Master) l.node (deed_fits setting (line_on q r.close) l.older (Acts (Close r.count r.lo r.size amount)) r.deed fits) in
+    let leads : role (view q (of n l.older)) ≡ Master = subst (λ k. role (view q (of k l.older)) ≡ Master) l.node (deed_fits setting (line_on q r.close) l.older (Acts (Close r.count r.lo r.size amount)) r.deed fits).leads in
     ap role r.is ∙ (rw r.deed (ap role (sym l.before) ∙ leads))
 
 pub correct-up : (setting : Setting) (l : Line) (world : List Line) (amount : ℤ) (stepped : Bool) (shown : ℤ) → LineFits setting l world → l.did.deed ≡ Acts (Correct amount stepped shown) → up (dids (of (node_of l) world)) ≡ true
 correct-up setting l world amount stepped shown f e = subst (λ k. Alive setting k l.did (up (dids (of (node_of l) world)))) e f.alive
 
 obeys-by : (setting : Setting) (l : Line) (world : List Line) (q : PeerId) (amount : ℤ) (stepped : Bool) (shown : ℤ) → Fits setting (l ∷ world) → Honest (l ∷ world) → l.did.deed ≡ Acts (Correct amount stepped shown) →
-    role (view l.port (of (node_of l) world)) ≡ Follow q → WhyCorrect l.did (view l.port (of (node_of l) world)) amount → Obeys setting l world amount q
+    role (view l.port (of (node_of l) world)) ≡ Follow q → WhyCorrect (setup_of setting (node_of l) l.port) l.did (view l.port (of (node_of l) world)) amount → Obeys setting l world amount q
 obeys-by setting l world q amount stepped shown f h is follows (ByRound r) =
     let leads = round-leads setting (node_of l) l.port world amount f.1 r in
     let bad : ⊥ = (let k : Follow q ≡ Master = sym follows ∙ leads in cc) in absurd bad

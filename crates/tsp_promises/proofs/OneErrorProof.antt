@@ -1,26 +1,40 @@
 -- A clock is corrected only as it was measured.
-use Rattle.std.specs.Prelude.{◌≡◌, ℕ, ◌+◌, ◌≤◌, List, ◌∷◌, refl}
-use Rattle.std.proofs.Common.{sym, ap, arith, subst, inr, ◌∙◌}
+use Rattle.std.specs.Prelude.{◌≡◌, ◌⊎◌, ℕ, ◌+◌, ◌≤◌, List, ◌∷◌, Some, refl}
+use Rattle.std.proofs.Common.{sym, ap, arith, subst, inl, inr, ◌∙◌}
 use Rattle.tsp_base.specs.declared.act.Act.TheVariants.{Post}
-use Rattle.tsp_base.specs.declared.datagram.Datagram.TheVariants.{Message}
+use Rattle.tsp_base.specs.declared.datagram.Datagram.TheVariants.{Message, Stamp}
 use Rattle.tsp_base.specs.declared.place.Place.TheVariants.{Peer}
+use Rattle.tsp_base.specs.declared.place.Port.{Port}
+use Rattle.tsp_base.specs.declared.stamp.Stamp.TheVariants.{Reply}
+use Rattle.tsp_promises.specs.Agreed.{ReadingOf}
+use Rattle.tsp_promises.specs.CorrectionFits.{AnswersSlaveUp, AtClose}
 use Rattle.tsp_promises.specs.Fits.{node_of}
-use Rattle.tsp_base.specs.History.{Did, Line, of, dids, view}
+use Rattle.tsp_base.specs.History.{Did, Here, Line, of, dids, view}
 use Rattle.tsp_base.specs.NodeFacts.{ticket}
-use Rattle.tsp_promises.specs.OneError.{FromSlaveUp, OneError, OneErrorAt, Taking}
+use Rattle.tsp_promises.specs.OneError.{FromSlaveUp, OneError, OneErrorAt, SourceReading, SourceSlaveUp, Taking}
 use Rattle.tsp_base.specs.Places.{Within}
+use Rattle.tsp_base.specs.RoundFacts.{Sampled, best}
 use Rattle.tsp_promises.specs.Setting.{Setting}
 use Rattle.tsp_base.specs.Takings.{Receives, Undisturbed, peer_of, posted}
-use Rattle.tsp_base.proofs.PlaceLemmas.{Within-through, Within-tail}
+use Rattle.tsp_base.proofs.PlaceLemmas.{Within-all, Within-through, Within-tail}
+use Rattle.tsp_promises.proofs.BestProof.{best_at}
+use Rattle.tsp_promises.proofs.ClosedProof.{closed_at}
 use Rattle.tsp_promises.proofs.EverywhereLemmas.{Everywhere-from}
 use Rattle.tsp_promises.proofs.Given.{Given, given_at}
 use Rattle.tsp_promises.proofs.KnownProof.{known}
-use Rattle.tsp_promises.proofs.Locating.{line_on}
+use Rattle.tsp_promises.proofs.Locating.{line_on, locate}
 use Rattle.tsp_promises.proofs.Matching.{first_after}
+use Rattle.tsp_promises.proofs.MeasuredProof.{reading_at, sample_fits}
 use Rattle.tsp_promises.proofs.SendPlaces.{post_unique, same-number}
 use Rattle.tsp_promises.proofs.SendProof.{number-same}
 use Rattle.tsp_promises.proofs.SourceProof.{slaveup_ticket}
-use Rattle.tsp_promises.proofs.TakingProof.{read_facts, taken_facts}
+use Rattle.tsp_promises.proofs.TakingProof.{BegunFacts, begun_facts, read_facts, taken_facts}
+
+-- where a sample was read
+record SampleRead (m : ℕ) (q : Port) (x : Sampled) (past : List Line) : Type 0 where
+  pub r : Line
+  pub older : List Line
+  pub is : ReadingOf m q x.place past r older
 
 -- since the SLAVEUP that a SETTIME answers
 since-slaveup : (setting : Setting) (m : ℕ) (c : Line) (past : List Line) → Given setting (c ∷ past) → (t : Taking m c past) (r : Line) (older : List Line) → FromSlaveUp m c past t r older →
@@ -47,8 +61,102 @@ since-slaveup setting m c past g t r older x =
     let kept = first_after setting k c up.post past up.older (Peer (peer_of s.first.step.node)) (Message x.message) g.fits refl node up.deed up_in d.begun.acting.rested ticket_is time in
     subst (λ w. Undisturbed (dids (of k w)) (dids (of k past))) same kept.undisturbed
 
+-- the SLAVEUP that the beginning of a send answers
+answered : (setting : Setting) (m : ℕ) (c : Line) (past : List Line) → Given setting (c ∷ past) → (t : Taking m c past) → BegunFacts m c past t → AnswersSlaveUp t.begun (peer_of (node_of c)) t.acts.brings.message → SourceSlaveUp m c past t
+answered setting m c past g t d s =
+    let k = node_of c in
+    let b = d.begins in
+    let line = line_on t.post.port b.first in
+    let line_in : Within (line ∷ b.fw) past = Within-through (line ∷ b.fw) (t.post ∷ t.before) past b.place t.acts.brings.place in
+    let gl = given_at setting (line ∷ b.fw) (c ∷ past) g (inr line_in) in
+    let took : Receives (view t.post.port (of m b.fw)) (peer_of k) (Message s.message) = subst (λ v. Receives v (peer_of k) (Message s.message)) (sym d.begun_is) s.took in
+    let here : Receives (view t.post.port (of b.first.step.node b.fw)) (peer_of k) (Message s.message) = subst (λ n. Receives (view t.post.port (of n b.fw)) (peer_of k) (Message s.message)) (sym (b.node ∙ t.node)) took in
+    let up = known setting line b.fw (Post (Peer (peer_of k)) (Message t.acts.brings.message)) (peer_of k) (Message s.message) gl.fits gl.honest b.sends.deed here in
+    record {
+      r = up.post;
+      older = up.older;
+      is = record {
+        message = s.message;
+        kind = s.kind;
+        took = s.took;
+        number = s.number;
+        place = Within-through (up.post ∷ up.older) b.fw past up.place (Within-tail line b.fw past line_in);
+        takes = ap (λ (z : Did). z.step.cause) (sym d.first_is) ∙ up.takes;
+        to = Peer (peer_of b.first.step.node);
+        datagram = Message s.message;
+        deed = up.deed;
+      };
+    }
+
+-- the reading of the sample from which a Close begins a send
+sampled : (setting : Setting) (m k : ℕ) (q : Port) (cpast past : List Line) (x : Sampled) → Given setting past → Within cpast past → best (peer_of k) (view q (of m cpast)) ≡ Some x → SampleRead m q x past
+sampled setting m k q cpast past x g c_in is =
+    let b = best_at (peer_of k) (view q (of m cpast)) x is in
+    let s = locate m q cpast b.did b.rest (rw b.deed refl) b.place in
+    let line = line_on q b.did in
+    let at : Within (line ∷ s.older) past = Within-through (line ∷ s.older) cpast past s.place c_in in
+    let gs = given_at setting (line ∷ s.older) past g at in
+    let sf = sample_fits setting line s.older (peer_of k) x.counter x.ticket x.diff x.err gs.fits.0 b.deed in
+    let read = reading_at setting line s.older (peer_of k) x.counter x.ticket x.diff x.err gs.fits gs.honest (inl gs.life) b.deed sf in
+    record {
+      r = read.post;
+      older = read.older;
+      is = record {
+        line = line;
+        before = s.older;
+        at = at;
+        node = s.node;
+        port = refl;
+        is = b.is ∙ ap (λ z. Here b.did ∷ z) (sym s.before);
+        reads = read.place;
+        takes = read.takes;
+        to = Peer (peer_of b.did.step.node);
+        datagram = Stamp (Reply sf.reply);
+        deed = read.deed;
+      };
+    }
+
+-- the Close at which a send begins, and the reading
+closing : (setting : Setting) (m : ℕ) (c : Line) (past : List Line) → Given setting (c ∷ past) → (t : Taking m c past) → BegunFacts m c past t → AtClose t.first t.begun (peer_of (node_of c)) t.acts.brings.message → SourceReading m c past t
+closing setting m c past g t d a =
+    let q = t.post.port in
+    let u = a.is in
+    let b = d.begins in
+    let line_in : Within (line_on q b.first ∷ b.fw) past = Within-through (line_on q b.first ∷ b.fw) (t.post ∷ t.before) past b.place t.acts.brings.place in
+    let shut : Within (Here a.close ∷ a.past) (view q (of m b.fw)) = subst (λ v. Within (Here a.close ∷ a.past) v) (sym d.begun_is) (closed_at t.begun a.close a.past u.is) in
+    let l = locate m q b.fw a.close a.past (rw u.deed refl) shut in
+    let closes : Within (line_on q a.close ∷ l.older) past = Within-through (line_on q a.close ∷ l.older) b.fw past l.place (Within-tail (line_on q b.first) b.fw past line_in) in
+    let gp = given_at setting past (c ∷ past) g (inr (Within-all past)) in
+    let is : best (peer_of (node_of c)) (view q (of m l.older)) ≡ Some a.sample = ap (best (peer_of (node_of c))) l.before ∙ u.best_is in
+    let s = sampled setting m (node_of c) q l.older past a.sample gp (Within-tail (line_on q a.close) l.older past closes) is in
+    record {
+      close = line_on q a.close;
+      cpast = l.older;
+      r = s.r;
+      older = s.older;
+      is = record {
+        none = inr u.untaken;
+        closes = closes;
+        close_node = l.node;
+        close_port = refl;
+        close_is = u.is ∙ ap (λ z. Here a.close ∷ z) (sym l.before);
+        sample = a.sample;
+        best_is = is;
+        reading = s.is;
+      };
+    }
+
+source_of : (setting : Setting) (m : ℕ) (c : Line) (past : List Line) → Given setting (c ∷ past) → (t : Taking m c past) → SourceReading m c past t ⊎ SourceSlaveUp m c past t
+source_of setting m c past g t =
+    let d = begun_facts setting m c past g.fits t in
+    elim d.fits.from [
+      | inl s ↦ inr (answered setting m c past g t d s)
+      | inr a ↦ inl (closing setting m c past g t d a)
+    ]
+
 one_error_at : (setting : Setting) (l : Line) (world : List Line) → Given setting (l ∷ world) → OneErrorAt l world
 one_error_at setting l world g = record {
+  source = λ m t. source_of setting m l world g t;
   by_reading = λ m t close cpast r older x. (read_facts setting m l world g t (taken_facts setting m l world g t) close cpast r older x).kept.undisturbed;
   by_slaveup = λ m t r older x. since-slaveup setting m l world g t r older x;
 }

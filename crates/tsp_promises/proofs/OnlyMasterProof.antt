@@ -13,10 +13,11 @@ use Rattle.tsp_promises.specs.CorrectFits.{WhyCorrect, ByRound, ByMaster, ByDate
 use Rattle.tsp_promises.specs.CorrectionFits.{CorrectionFits}
 use Rattle.tsp_promises.specs.DeedFits.{DeedFits, PostFits, MessageFits, StrangerFits}
 use Rattle.tsp_promises.specs.Fits.{Fits, LineFits, SameStep, node_of}
-use Rattle.tsp_base.specs.History.{Acts, Did, Line, Step, Seen, from_act, of, dids, view, seen_as, is_shared}
+use Rattle.tsp_base.specs.History.{Acts, Deed, Did, Line, Step, Seen, from_act, of, dids, view, seen_as, is_shared}
 use Rattle.tsp_base.specs.Messages.{MessageValue}
 use Rattle.tsp_promises.specs.OnlyMaster.{Leads, LeadsAt, OnlyMaster}
 use Rattle.tsp_base.specs.PortFacts.{role}
+use Rattle.tsp_promises.specs.RoundFits.{CloseFits}
 use Rattle.tsp_base.specs.SendFacts.{is_correction}
 use Rattle.tsp_promises.specs.Setting.{Setting, setup_of}
 use Rattle.tsp_base.specs.Setup.{Setup}
@@ -42,13 +43,17 @@ posts-lead : (setup : Setup) (to : Place) (m : MessageValue) (here : Did) (seen 
 posts-lead setup (Peer p) m here seen e f = (correction_fits setup m.kind here seen p m e f).leads
 posts-lead setup Stranger m here seen e f = absurd (strangers m.kind here seen m.number e f.0)
 
+-- what a Close owes
+closed-by : (setup : Setup) (here : Did) (seen : List Seen) (deed : Deed) (count : ℕ) (lo size mean : ℤ) → deed ≡ Acts (Close count lo size mean) → DeedFits setup deed here seen → CloseFits here seen
+closed-by setup here seen deed count lo size mean is f = subst (λ k. DeedFits setup k here seen) is f
+
 -- a Correct right after a Close
 correct-leads : (setting : Setting) (l close : Line) (older : List Line) (count : ℕ) (lo size mean amount : ℤ) → node_of close ≡ node_of l → LineFits setting close older → close.did.deed ≡ Acts (Close count lo size mean) →
-    (b : Bool) → ((close.port.0 == l.port.0) || is_shared close.did.deed) ≡ b → WhyCorrect l.did (seen_as b close.did ∷ view l.port (of (node_of l) older)) amount →
+    (b : Bool) → ((close.port.0 == l.port.0) || is_shared close.did.deed) ≡ b → WhyCorrect (setup_of setting (node_of l) l.port) l.did (seen_as b close.did ∷ view l.port (of (node_of l) older)) amount →
     role (seen_as b close.did ∷ view l.port (of (node_of l) older)) ≡ Master
 correct-leads setting l close older count lo size mean amount node f is true e why =
     let leads : role (view l.port (of (node_of l) older)) ≡ Master =
-    subst (λ n. role (view l.port (of n older)) ≡ Master) node (subst (λ k. DeedFits (setup_of setting (node_of close) l.port) k close.did (view l.port (of (node_of close) older))) is (f.deeds l.port e)) in
+    subst (λ n. role (view l.port (of n older)) ≡ Master) node (closed-by (setup_of setting (node_of close) l.port) close.did (view l.port (of (node_of close) older)) close.did.deed count lo size mean is (f.deeds l.port e)).leads in
     rw is leads
 correct-leads setting l close older count lo size mean amount node f is false e (ByRound r) = let bad : ⊥ = (let k = r.is in cc) in absurd bad
 correct-leads setting l close older count lo size mean amount node f is false e (ByMaster t) = let bad : ⊥ = (let k = t.is in cc) in absurd bad
@@ -57,7 +62,7 @@ correct-leads setting l close older count lo size mean amount node f is false e 
 leads_at : (setting : Setting) (l : Line) (world : List Line) → Fits setting (l ∷ world) → LeadsAt l world
 leads_at setting l world f = record {
   posts = λ to m is kind. posts-lead (setup_of setting (node_of l) l.port) to m l.did (view l.port (of (node_of l) world)) kind (deed_fits setting l world (Acts (Post to (Message m))) is f.0).fits;
-  closes = λ count lo size mean is. deed_fits setting l world (Acts (Close count lo size mean)) is f.0;
+  closes = λ count lo size mean is. (deed_fits setting l world (Acts (Close count lo size mean)) is f.0).leads;
   corrects = λ close older count lo size mean amount stepped shown at close_is is. corrects_at setting l world f close older count lo size mean amount stepped shown at close_is is;
 } where
   corrects_at : (setting : Setting) (l : Line) (world : List Line) → Fits setting (l ∷ world) → (close : Line) (older : List Line) (count : ℕ) (lo size mean amount : ℤ) (stepped : Bool) (shown : ℤ) → from_act world ≡ close ∷ older →
@@ -69,7 +74,8 @@ leads_at setting l world f = record {
       let node : node_of close ≡ node_of l = ap (λ (s : Step). s.node) step in
       let own = of-own (node_of l) close older node in
       let fits = deed_fits setting l (close ∷ older) (Acts (Correct amount stepped shown)) is g.0 in
-      let why : WhyCorrect l.did (view l.port (close ∷ of (node_of l) older)) amount = subst (λ w. WhyCorrect l.did (view l.port w) amount) own fits.why in
+      let setup = setup_of setting (node_of l) l.port in
+      let why : WhyCorrect setup l.did (view l.port (close ∷ of (node_of l) older)) amount = subst (λ w. WhyCorrect setup l.did (view l.port w) amount) own fits.why in
       subst (λ w. Leads l w) (sym at) (subst (λ w. role (view l.port w) ≡ Master) (sym own)
       (correct-leads setting l close older count lo size mean amount node g.1.0 close_is ((close.port.0 == l.port.0) || is_shared close.did.deed) refl why))
 

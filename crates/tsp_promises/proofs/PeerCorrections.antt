@@ -117,6 +117,7 @@ module _ {mean : ℤ} {close : Did} {before : List Seen} where
           best_is = is;
           number = number_is ∙ ticket_is;
           value = value;
+          untaken = h.free.took.0;
           followed = h.followed;
         };
       });

@@ -72,10 +72,10 @@ module _ {x : ℕ} {past : Past} where
   late_window r h = let k = h.knows in rang (Late Window) tt (record { times = k.times; quiet = k.quiet; vote = record { stands = k.vote.stands; windows = λ n e. none-some n e; votes = k.vote.votes }; round = k.round }) r h.backs h.owed h.paid refl h.took h
 
   pub ring_round : boot_tick (plain past.seen) + QUIET ≤ x → Open x past → Free Untaken x (grown x past (Ring Round ∷ []))
-  ring_round r h = let k = h.knows in rang (Ring Round) tt (record { times = k.times; quiet = k.quiet; vote = k.vote; round = record { rounds = λ n e. none-some n e; probing = k.round.probing; closes = k.round.closes; exchanges = k.round.exchanges } }) r h.backs h.owed h.paid refl h.took h
+  ring_round r h = let k = h.knows in rang (Ring Round) tt (record { times = record { boot_le = k.times.boot_le; last_le = k.times.last_le; boot_is = k.times.boot_is; start_le = k.times.start_le; next = λ n e. none-some n e }; quiet = k.quiet; vote = k.vote; round = record { rounds = λ n e. none-some n e; probing = k.round.probing; closes = k.round.closes; exchanges = k.round.exchanges } }) r h.backs h.owed h.paid refl h.took h
 
   pub late_round : boot_tick (plain past.seen) + QUIET ≤ x → Open x past → Free Untaken x (grown x past (Late Round ∷ []))
-  late_round r h = let k = h.knows in rang (Late Round) tt (record { times = k.times; quiet = k.quiet; vote = k.vote; round = record { rounds = λ n e. none-some n e; probing = k.round.probing; closes = k.round.closes; exchanges = k.round.exchanges } }) r h.backs h.owed h.paid refl h.took h
+  late_round r h = let k = h.knows in rang (Late Round) tt (record { times = record { boot_le = k.times.boot_le; last_le = k.times.last_le; boot_is = k.times.boot_is; start_le = k.times.start_le; next = λ n e. none-some n e }; quiet = k.quiet; vote = k.vote; round = record { rounds = λ n e. none-some n e; probing = k.round.probing; closes = k.round.closes; exchanges = k.round.exchanges } }) r h.backs h.owed h.paid refl h.took h
 
   pub ring_probe : boot_tick (plain past.seen) + QUIET ≤ x → Open x past → Free Untaken x (grown x past (Ring Probe ∷ []))
   ring_probe r h = let k = h.knows in rang (Ring Probe) tt (record { times = k.times; quiet = k.quiet; vote = k.vote; round = record { rounds = k.round.rounds; probing = λ n e. none-some n e; closes = k.round.closes; exchanges = k.round.exchanges } }) r h.backs h.owed h.paid refl h.took h

@@ -1,5 +1,5 @@
 -- A round's beginning and its probes keep what is known of a port.
-use Rattle.std.specs.Prelude.{◌≡◌, ◌≤◌, ◌<◌, ℕ, ◌+◌, ◌*◌, Bool, true, false, [], ◌∷◌, None, Some, refl}
+use Rattle.std.specs.Prelude.{◌≡◌, ◌≤◌, ◌<◌, ℕ, ◌+◌, ◌*◌, Bool, true, false, List, [], ◌∷◌, None, Some, refl}
 use Rattle.std.proofs.Common.{sym, subst, arith, ◌∙◌, leb-false, ltb-true}
 use Rattle.tsp_base.specs.declared.act.Act.TheVariants.{Arm, Ring, Late, Abandon}
 use Rattle.tsp_base.specs.declared.alarm.Alarm.{Alarm}
@@ -8,11 +8,11 @@ use Rattle.tsp_base.specs.declared.constants.TheConstants.{QUIET, CLOSE, PROBE, 
 use Rattle.tsp_base.specs.declared.kind.Kind.TheVariants.{MasterUp}
 use Rattle.tsp_base.specs.declared.place.PeerId.{PeerId}
 use Rattle.tsp_base.specs.declared.role.Role.TheVariants.{Master}
-use Rattle.tsp_base.specs.History.{Past, plain}
+use Rattle.tsp_base.specs.History.{Did, Seen, Here, Past, plain}
 use Rattle.tsp_base.specs.Leads.{Leads}
 use Rattle.tsp_base.specs.NodeFacts.{boot_tick}
 use Rattle.tsp_base.specs.PortFacts.{role, armed}
-use Rattle.tsp_base.specs.RoundFacts.{probes}
+use Rattle.tsp_base.specs.RoundFacts.{probes, started}
 use Rattle.tsp_base.specs.Rows.{Row, grown, nothing, puts, ◌followed_by◌, for_each, arms, bare, posts_to_others}
 use Rattle.tsp_base.proofs.LeadsLemmas.{Leads_then, Leads_either, Leads_reading, Leads_nothing, Leads_puts, Leads_each, Leads_from, Leads_to}
 use Rattle.tsp_rules.specs.Answers.{alarm_rings, rings}
@@ -52,12 +52,39 @@ round_master x past h = let due = due_is (armed past.seen).round x h.1 in h.0.kn
 begun_asks : (p : PeerId) → Leads Begun (asks p) Begun
 begun_asks p = record { run = λ x past h. record { in_round = (asks_in (x + CLOSE) p).run x past h.in_round } }
 
-begins_or_waits_leads : (wait : Bool) → Leads (FreeIn None Untaken Master) (begins_or_waits wait) Open
+-- a master whose last round began ROUND ago or earlier
+record Spaced (x : ℕ) (past : Past) : Type 0 where
+  pub free : Free Untaken x past
+  pub role_is : role past.seen ≡ Master
+  pub spaced : (start : Did) (idle : List Seen) → started past.seen ≡ Here start ∷ idle → start.tick + ROUND ≤ x
+
+-- the same, with the next round put off
+record PutOff (x : ℕ) (past : Past) : Type 0 where
+  pub last : Spaced x past
+  pub next : (armed past.seen).round ≡ Some (x + ROUND)
+
+round_spaced : (x : ℕ) (past : Past) → Due Round x past → (start : Did) (idle : List Seen) → started past.seen ≡ Here start ∷ idle → start.tick + ROUND ≤ x
+round_spaced x past h start idle e =
+    let due = due_is (armed past.seen).round x h.1 in
+    let long = h.0.knows.times.next due.at due.is start idle e in
+    let over = due.over in
+    omega (arith, long, over)
+
+-- Round is armed anew, for later than now
+arms_later : (long : ℕ) (x : ℕ) (past : Past) → Spaced x past → Spaced x (grown x past (Arm Round (x + long) ∷ []))
+arms_later long x past h = record {
+  free = arm_round (x + long) h.role_is (λ start idle e. (let s = h.spaced start idle e in omega (arith, s))) h.free;
+  role_is = h.role_is;
+  spaced = h.spaced;
+}
+
+begins_or_waits_leads : (wait : Bool) → Leads Spaced (begins_or_waits wait) Open
 unfolding begins_or_waits round_begins asks_slaves
-begins_or_waits_leads true = Leads_to {Q = FreeIn None Untaken Master} (λ x past h. open_of h.free) (Leads_arms Round WAIT (λ x past h. record { free = arm_round (x + WAIT) h.role_is h.free; role_is = h.role_is }))
-begins_or_waits_leads false = Leads_then (arms Round ROUND) (arms Probe PROBE followed_by (arms Close CLOSE followed_by (posts_to_others MasterUp 0 followed_by asks_slaves))) arms_round_in
+begins_or_waits_leads true = Leads_to {Q = Spaced} (λ x past h. open_of h.free) (Leads_arms Round WAIT (λ x past h. arms_later WAIT x past h))
+begins_or_waits_leads false = Leads_then {Q = PutOff} (arms Round ROUND) (arms Probe PROBE followed_by (arms Close CLOSE followed_by (posts_to_others MasterUp 0 followed_by asks_slaves)))
+    (Leads_arms Round ROUND (λ x past h. record { last = arms_later ROUND x past h; next = refl }))
     (two_arms {Q = Begun} Probe Close PROBE CLOSE (posts_to_others MasterUp 0 followed_by asks_slaves)
-    (λ x past h. record { in_round = record { free = arm_round_alarms h.role_is h.free; goes = refl } })
+    (λ x past h. record { in_round = record { free = arm_round_alarms h.last.role_is h.last.spaced h.next h.last.free; goes = refl } })
     (Leads_then {Q = Begun} (posts_to_others MasterUp 0) asks_slaves
     (Leads_others MasterUp 0 (λ x past p h. record { in_round = record { free = post_message p (bare MasterUp 0 past.name) refl tt h.in_round.free; goes = h.in_round.goes } }))
     (Leads_to (λ x past h. open_of h.in_round.free) (Leads_reading table_at (for_each asks) (λ ps. Leads_from (λ x past h. h.0) (Leads_each asks ps begun_asks))))))
@@ -66,8 +93,8 @@ pub round_leads : (own wait : Bool) → Leads Open (rings own wait Round) Open
 unfolding alarm_rings round_rings
 round_leads own wait = rings_lead own wait Round
     (Leads_either (is_in_time Round) (puts (Ring Round) followed_by begins_or_waits wait) (puts (Late Round) followed_by arms Round ROUND)
-    (Leads_then {Q = FreeIn None Untaken Master} (puts (Ring Round)) (begins_or_waits wait)
-    (Leads_puts (Ring Round) (λ x past h. let m = round_master x past h.0 in record { free = ring_round (master_rested x past h.0.0 m) h.0.0; role_is = m }))
+    (Leads_then {Q = Spaced} (puts (Ring Round)) (begins_or_waits wait)
+    (Leads_puts (Ring Round) (λ x past h. let m = round_master x past h.0 in record { free = ring_round (master_rested x past h.0.0 m) h.0.0; role_is = m; spaced = round_spaced x past h.0 }))
     (begins_or_waits_leads wait))
     (Leads_to (λ x past h. open_of h.free) (Leads_then {Q = FreeIn None Untaken Master} (puts (Late Round)) (arms Round ROUND)
     (Leads_puts (Late Round) (λ x past h. let m = round_master x past h.0 in record { free = late_round (master_rested x past h.0.0 m) h.0.0; role_is = m }))

@@ -4,7 +4,7 @@ use Rattle.std.proofs.Common.{sym, subst, inl, inr, ap, arith, true≢false, ◌
 use Rattle.tsp_base.specs.declared.constants.TheConstants.{QUIET}
 use Rattle.tsp_base.specs.declared.place.PeerId.{PeerId}
 use Rattle.tsp_base.specs.declared.role.Role.TheVariants.{Follow}
-use Rattle.tsp_base.specs.History.{Step, Seen, Past}
+use Rattle.tsp_base.specs.History.{Step, Seen, Here, Past}
 use Rattle.tsp_base.specs.Leads.{Leads}
 use Rattle.tsp_base.specs.PortFacts.{role}
 use Rattle.tsp_base.specs.Rows.{in_step, puts, ◌followed_by◌, arms}
@@ -32,7 +32,7 @@ boots_lead = record {
   run = λ x past h. record {
     fits = (tt, (tt, (tt, h.fits)));
     knows = record {
-      times = record { boot_le = omega arith; last_le = omega arith; boot_is = refl };
+      times = record { boot_le = omega arith; last_le = omega arith; boot_is = refl; start_le = λ start idle e. nil-cons (Here start) idle e; next = λ at e. none-some at e };
       quiet = record {
         rested = inl (record { starts = refl; unsearched = refl; unelected = refl; unresolved = refl; unsent = λ p. refl });
         silent = λ at e. (refl, let is = some-same (x + QUIET) at e in omega (arith, is));
@@ -49,7 +49,13 @@ boots_lead = record {
 -- what is known of a port is known later too
 pub knows_later : {stirred : Bool} (x y : ℕ) (own : PeerId) (seen : List Seen) → x ≤ y → KnowsOf stirred x own seen → KnowsOf stirred y own seen
 knows_later x y own seen later k = record {
-  times = record { boot_le = (let b = k.times.boot_le in omega (arith, b, later)); last_le = (let b = k.times.last_le in omega (arith, b, later)); boot_is = k.times.boot_is };
+  times = record {
+    boot_le = (let b = k.times.boot_le in omega (arith, b, later));
+    last_le = (let b = k.times.last_le in omega (arith, b, later));
+    boot_is = k.times.boot_is;
+    start_le = λ start idle e. (let b = k.times.start_le start idle e in omega (arith, b, later));
+    next = k.times.next;
+  };
   quiet = record { rested = elim k.quiet.rested [ inl e ↦ inl e | inr r ↦ inr (omega (arith, r, later)) ]; silent = k.quiet.silent };
   vote = record {
     stands = λ e. let s = k.vote.stands e in let long = s.0 in (omega (arith, long, later), λ t i. let q = s.1 t i in omega (arith, q, later));
@@ -95,7 +101,7 @@ pub nothing-done : (x : ℕ) (past : Past) → Rests x (record past { seen = [] 
 nothing-done x past = record {
   fits = tt;
   knows = record {
-    times = record { boot_le = omega arith; last_le = omega arith; boot_is = refl };
+    times = record { boot_le = omega arith; last_le = omega arith; boot_is = refl; start_le = λ start idle e. nil-cons (Here start) idle e; next = λ at e. none-some at e };
     quiet = record {
       rested = inl (record { starts = refl; unsearched = refl; unelected = refl; unresolved = refl; unsent = λ p. refl });
       silent = λ at e. none-some at e;

@@ -13,6 +13,7 @@ use Rattle.tsp_promises.proofs.ErrsProof.{errs_bounded}
 use Rattle.tsp_promises.proofs.EstimatesProof.{estimates_hold}
 use Rattle.tsp_promises.proofs.FirstSetProof.{first_set, first_set_soon}
 use Rattle.tsp_promises.proofs.MeasuredProof.{measured}
+use Rattle.tsp_promises.proofs.ModerateProof.{moderate, moderate_clocks}
 use Rattle.tsp_promises.proofs.OnceObeyedProof.{once_obeyed}
 use Rattle.tsp_promises.proofs.OnceSpacedProof.{once_spaced, once_spaced_over_lives}
 use Rattle.tsp_promises.proofs.OnceDatedProof.{once_taken}
@@ -22,6 +23,7 @@ use Rattle.tsp_promises.proofs.OneErrorProof.{one_error}
 use Rattle.tsp_promises.proofs.OnlyMasterProof.{only_master}
 use Rattle.tsp_promises.proofs.RelayedProof.{relayed}
 use Rattle.tsp_promises.proofs.ResolvedProof.{yields, stays_quiet}
+use Rattle.tsp_promises.proofs.SeldomProof.{seldom}
 use Rattle.tsp_promises.proofs.ShowsProof.{shows}
 use Rattle.tsp_promises.proofs.SilentProof.{silent}
 use Rattle.tsp_promises.proofs.SteadyProof.{meets, steady}
@@ -53,6 +55,9 @@ safe setting world f end = record {
   chained = λ honest life. chained setting world (record { fits = f; honest = honest; life = life });
   estimates_hold = λ honest life. estimates_hold setting world (record { fits = f; honest = honest; life = life });
   errs_bounded = errs_bounded setting world f;
+  moderate = moderate setting world f;
+  moderate_clocks = λ honest life. moderate_clocks setting world (record { fits = f; honest = honest; life = life });
+  seldom = seldom setting world f;
   throughout = λ honest life. throughout setting world (record { fits = f; honest = honest; life = life });
   relayed = λ honest life. relayed setting world (record { fits = f; honest = honest; life = life });
   resolved = record { yields = yields setting world f end; quiet = stays_quiet setting world f; stops = stops_leading setting world f end };

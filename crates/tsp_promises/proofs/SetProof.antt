@@ -14,7 +14,7 @@ use Rattle.tsp_base.specs.Messages.{MessageValue}
 use Rattle.tsp_base.specs.NodeFacts.{target}
 use Rattle.tsp_base.specs.PortFacts.{Received, message_in}
 use Rattle.tsp_base.specs.SendFacts.{is_correction, sets_date}
-use Rattle.tsp_promises.specs.Setting.{Setting}
+use Rattle.tsp_promises.specs.Setting.{Setting, setup_of}
 use Rattle.tsp_base.specs.Takings.{heard, time_in}
 use Rattle.tsp_base.proofs.Views.{plain_view}
 use Rattle.tsp_promises.proofs.ClockProof.{target_is}
@@ -37,7 +37,7 @@ same-message : (p q : Place) (m n : MessageValue) → Some (received p m) ≡ So
 same-message p q m n e = same-some m n (ap (λ (r : Received). message_in r.taken) (same-received (received p m) (received q n) e))
 
 sets-by : (setting : Setting) (l : Line) (world : List Line) (amount : ℤ) (stepped : Bool) (shown : ℤ) (from : Place) (m : MessageValue) → Fits setting (l ∷ world) → l.did.deed ≡ Acts (Correct amount stepped shown) →
-    heard (plain (view l.port (of (node_of l) world))) ≡ Some (record { from = from; taken = Good (Message m) }) → sets_date m.kind ≡ true → WhyCorrect l.did (view l.port (of (node_of l) world)) amount → SetsClock setting l world amount m
+    heard (plain (view l.port (of (node_of l) world))) ≡ Some (record { from = from; taken = Good (Message m) }) → sets_date m.kind ≡ true → WhyCorrect (setup_of setting (node_of l) l.port) l.did (view l.port (of (node_of l) world)) amount → SetsClock setting l world amount m
 sets-by setting l world amount stepped shown from m f deed took kind (ByRound r) = let bad : ⊥ = (let e = sym r.untaken ∙ took in cc) in absurd bad
 sets-by setting l world amount stepped shown from m f deed took kind (ByMaster t) =
     let here : heard (plain (view l.port (of (node_of l) world))) ≡ Some (record { from = Peer t.from; taken = Good (Message t.message) }) = ap (λ s. heard (plain s)) t.is ∙ rw t.deed refl in

@@ -93,7 +93,7 @@ master_up : Leads (FreeIn None Untaken Master) (posts_to_others MasterUp 0) (Fre
 master_up = Leads_others MasterUp 0 (λ x past p h. record { free = post_message p (bare MasterUp 0 past.name) refl tt h.free; role_is = h.role_is })
 
 pub arms_round_in : Leads (FreeIn None Untaken Master) (arms Round ROUND) (FreeIn None Untaken Master)
-arms_round_in = Leads_arms Round ROUND (λ x past h. record { free = arm_round (x + ROUND) h.role_is h.free; role_is = h.role_is })
+arms_round_in = Leads_arms Round ROUND (λ x past h. record { free = arm_round (x + ROUND) h.role_is (λ start idle e. (let b = h.free.knows.times.start_le start idle e in omega (arith, b))) h.free; role_is = h.role_is })
 
 pub window_leads : (own wait : Bool) → Leads Open (rings own wait Window) Open
 unfolding alarm_rings window_rings lead_row

@@ -1,5 +1,5 @@
 -- After ordinary use the master boots again with its old word, leads again and closes another round.
-use Rattle.std.specs.Prelude.{true, false, pos, negsuc, List, [], ◌∷◌, refl}
+use Rattle.std.specs.Prelude.{true, false, pos, negsuc, List, [], ◌∷◌, refl, ◌≡◌}
 use Rattle.std.proofs.Common.{sym, arith, inl, inr, true≢false}
 use Rattle.std.proofs.lemmas.Int.{ints}
 use Rattle.tsp_base.specs.declared.act.Act.TheVariants.{Boot, Took, Post, Become, Back, Arm, Ring, Sample, Close, Correct, Acked}
@@ -14,17 +14,20 @@ use Rattle.tsp_base.specs.declared.role.Role.TheVariants.{Candidate, Follow, Mas
 use Rattle.tsp_base.specs.declared.stamp.Stamp.TheVariants.{Request, Reply}
 use Rattle.tsp_promises.specs.CorrectFits.{ByRound}
 use Rattle.tsp_promises.specs.Fits.{Fits}
-use Rattle.tsp_base.specs.History.{Booted, Came, Turned, Line}
+use Rattle.tsp_base.specs.History.{Booted, Came, Turned, Line, of, view}
 use Rattle.tsp_base.specs.Stamps.{ReplyValue}
 use Rattle.tsp_base.specs.Takings.{peer_of}
-use Rattle.tsp_promises.proofs.Histories.{msg, on, step_at, still, then_step}
+use Rattle.tsp_group.specs.Groups.{better, goes_before, group_from}
+use Rattle.tsp_promises.specs.RoundFits.{group_mean}
+use Rattle.tsp_promises.specs.Setting.{setup_of}
+use Rattle.tsp_promises.proofs.Histories.{msg, on, step_at, still, then_step, skip}
 use Rattle.tsp_promises.proofs.HistoriesFit.{came, step-fits}
 use Rattle.tsp_promises.proofs.StepChecks.{port0}
-use Rattle.tsp_promises.proofs.WitnessDebts.{acked-fits, adjusts-by, corrects-by, none-some, samples-by, sets-up}
+use Rattle.tsp_promises.proofs.WitnessDebts.{acked-fits, adjusts-by, closes-by, corrects-by, first-round, none-some, samples-by, sets-up}
 use Rattle.tsp_promises.proofs.WitnessUse.{w23, fits}
 
 abbrev pub again : ReplyValue
-again = record { ticket = 12; word = 7; counter = 0; reading = pos 1000000299 }
+again = record { ticket = 12; word = 7; counter = 0; reading = pos 1000000298 }
 
 abbrev pub av1 : List Placed
 av1 = on port0 Boot ∷ []
@@ -96,19 +99,19 @@ abbrev pub v8 : List Line
 v8 = then_step (step_at 1000000000 0 Turned) av8 v7
 
 fv8 : Fits (still false) v8
-fv8 = step-fits false (step_at 1000000000 0 Turned) av8 v7 fv7 refl ((refl, tt), ((refl, tt), ((refl, record { rested = inl (omega arith); fits = record { word_is = refl; counter_is = refl } }), tt)))
+fv8 = step-fits false (step_at 1000000000 0 Turned) av8 v7 fv7 refl ((refl, tt), ((refl, first-round refl), ((refl, record { rested = inl (omega arith); fits = record { word_is = refl; counter_is = refl } }), tt)))
 
 abbrev pub av9 : List Placed
 av9 = on port0 (Took (Peer (peer_of 0)) (Good (Stamp (Request 7 0)))) ∷ (on port0 (Post (Peer (peer_of 0)) (Stamp (Reply again))) ∷ [])
 
 abbrev pub v9 : List Line
-v9 = then_step (step_at 1000000300 1 (Came 17)) av9 v8
+v9 = then_step (step_at 1000000299 1 (Came 17)) av9 v8
 
 fv9 : Fits (still false) v9
-fv9 = step-fits false (step_at 1000000300 1 (Came 17)) av9 v8 fv8 refl ((refl, (refl, came refl refl refl refl refl)), ((refl, record { rested = inl (omega arith); fits = record { took = refl; ticket_is = refl; reading_is = refl } }), tt))
+fv9 = step-fits false (step_at 1000000299 1 (Came 17)) av9 v8 fv8 refl ((refl, (refl, came refl refl refl refl refl)), ((refl, record { rested = inl (omega arith); fits = record { took = refl; ticket_is = refl; reading_is = refl } }), tt))
 
 abbrev pub av10 : List Placed
-av10 = on port0 (Took (Peer (peer_of 1)) (Good (Stamp (Reply again)))) ∷ (on port0 (Sample (peer_of 1) 0 (negsuc 100) (pos 401) 12) ∷ [])
+av10 = on port0 (Took (Peer (peer_of 1)) (Good (Stamp (Reply again)))) ∷ (on port0 (Sample (peer_of 1) 0 (negsuc 101) (pos 401) 12) ∷ [])
 
 abbrev pub v10 : List Line
 v10 = then_step (step_at 1000000801 0 (Came 18)) av10 v9
@@ -117,13 +120,18 @@ fv10 : Fits (still false) v10
 fv10 = step-fits false (step_at 1000000801 0 (Came 18)) av10 v9 fv9 refl ((refl, (refl, came refl refl refl refl refl)), ((refl, samples-by again refl (record { corrects = refl; lives = refl }) refl refl refl refl refl refl refl refl), tt))
 
 abbrev pub av11 : List Placed
-av11 = on port0 (Ring AlarmClose) ∷ (on port0 (Close 2 (negsuc 100) (pos 101) (negsuc 49)) ∷ (on port0 (Correct (negsuc 49) false (pos 1008000000)) ∷ (on port0 (Post (Peer (peer_of 1)) (Message (msg AdjTime 12 (Time (pos 51))))) ∷ [])))
+av11 = on port0 (Ring AlarmClose) ∷ (on port0 (Close 2 (negsuc 101) (pos 102) (negsuc 50)) ∷ (on port0 (Correct (negsuc 50) false (pos 1008000000)) ∷ (on port0 (Post (Peer (peer_of 1)) (Message (msg AdjTime 12 (Time (pos 51))))) ∷ [])))
 
 abbrev pub v11 : List Line
 v11 = then_step (step_at 1008000000 0 Turned) av11 v10
 
+-- the mean that its Close finds
+mean11 : negsuc 50 ≡ group_mean (setup_of (still false) 0 port0) (view port0 (of 0 (skip 3 v11)))
+unfolding group_from goes_before better
+mean11 = refl
+
 fv11 : Fits (still false) v11
-fv11 = step-fits false (step_at 1008000000 0 Turned) av11 v10 fv10 refl ((refl, tt), ((refl, refl), ((refl, record { gap = omega arith; rested = omega arith; why = ByRound (record { close = _; past = _; is = refl; count = 2; lo = negsuc 100; size = pos 101; deed = refl; untaken = refl }); flag = refl; prints = refl }), ((refl, record { rested = inl (omega arith); fits = adjusts-by (negsuc 49) (msg SetTime 11 (Time (pos 905000001))) (omega arith) refl refl refl refl refl refl refl (omega arith) (record { corrects = refl; lives = refl }) refl refl refl (inr (record { next = _; place = inl refl; stepped = false; shown = pos 1008000000; deed = refl })) refl refl refl refl }), tt))))
+fv11 = step-fits false (step_at 1008000000 0 Turned) av11 v10 fv10 refl ((refl, tt), ((refl, closes-by refl refl refl refl refl (omega arith) (omega arith) (record { corrects = refl; lives = refl })), ((refl, record { gap = omega arith; rested = omega arith; why = ByRound (record { close = _; past = _; is = refl; count = 2; lo = negsuc 101; size = pos 102; deed = refl; untaken = refl; mean_is = mean11 }); flag = refl; prints = refl }), ((refl, record { rested = inl (omega arith); fits = adjusts-by (negsuc 50) (msg SetTime 11 (Time (pos 905000001))) (omega arith) refl refl refl refl refl refl refl (omega arith) (record { corrects = refl; lives = refl }) refl refl refl (inr (record { next = _; place = inl refl; stepped = false; shown = pos 1008000000; deed = refl })) refl refl refl refl refl }), tt))))
 
 abbrev pub av12 : List Placed
 av12 = on port0 (Took (Peer (peer_of 0)) (Good (Message (msg AdjTime 12 (Time (pos 51)))))) ∷ (on port0 (Correct (pos 51) false (pos 1008000399)) ∷ (on port0 (Post (Peer (peer_of 0)) (Message (msg Ack 12 Nothing))) ∷ []))

@@ -74,7 +74,7 @@ abbrev pub far-close : Line
 far-close = line (step_at 508000000 1 Turned) port1 (Close 2 (negsuc 151) (pos 152) (pos 0))
 
 abbrev pub near-close : Line
-near-close = line (step_at 408000000 0 Turned) port0 (Close 2 (negsuc 100) (pos 101) (negsuc 49))
+near-close = line (step_at 408000000 0 Turned) port0 (Close 2 (negsuc 101) (pos 102) (negsuc 50))
 
 abbrev pub far-correct : Line
 far-correct = line (step_at 508000400 3 (Came 12)) port0 (Correct (pos 152) false (pos 508000398))
@@ -86,7 +86,7 @@ abbrev pub far-reading : Line
 far-reading = line (step_at 500000300 3 (Came 10)) port0 (Post (Peer (peer_of 1)) (Stamp (Reply distant)))
 
 abbrev pub near-reading : Line
-near-reading = line (step_at 400000300 1 (Came 6)) port0 (Post (Peer (peer_of 0)) (Stamp (Reply near)))
+near-reading = line (step_at 400000299 1 (Came 6)) port0 (Post (Peer (peer_of 0)) (Stamp (Reply near)))
 
 pub far-cast : (amount : ℤ) (stepped : Bool) (shown : ℤ) → Cast 1 far-close (skip 2 g25) (line (step_at 508000400 3 (Came 12)) port0 (Correct amount stepped shown)) (skip 2 g26) (far-reading) (skip 1 g23) (pos 401)
 far-cast amount stepped shown =
@@ -99,10 +99,10 @@ far-cast amount stepped shown =
 pub near-cast : Cast 0 near-close (skip 3 g19) (near-correct) (skip 2 g20) (near-reading) (skip 1 g17) (pos 401)
 near-cast =
     cast-by 0 near-close (skip 3 g19) (near-correct) (skip 2 g20) near-reading (skip 1 g17) (line (step_at 408000000 0 Turned) port0 (Post (Peer (peer_of 1)) (Message (msg AdjTime 10 (Time (pos 51)))))) (skip 1 g19) (msg AdjTime 10 (Time (pos 51))) (pos 51) false (pos 408000399)
-    (record { counter = 0; diff = negsuc 100; err = pos 401; ticket = 10; trip = pos 801; place = view port0 (of 0 g18) })
+    (record { counter = 0; diff = negsuc 101; err = pos 401; ticket = 10; trip = pos 801; place = view port0 (of 0 g18) })
     (record { correct = refl; place = skipped 2 (skip 2 g20); cause = refl; deed = refl; took = refl; node = refl; kind = refl; numbered = refl; is = refl })
     (record { closes = skipped 4 (skip 2 g20); node = refl; port = refl; is = refl; best_is = refl })
-    (record { line = line (step_at 400000801 0 (Came 7)) port0 (Sample (peer_of 1) 0 (negsuc 100) (pos 401) 10); before = skip 1 g18; at = skipped 7 (skip 2 g20); node = refl; port = refl; is = refl; reads = skipped 2 (skip 1 g18); takes = refl; to = Peer (peer_of 0); datagram = Stamp (Reply near); deed = refl })
+    (record { line = line (step_at 400000801 0 (Came 7)) port0 (Sample (peer_of 1) 0 (negsuc 101) (pos 401) 10); before = skip 1 g18; at = skipped 7 (skip 2 g20); node = refl; port = refl; is = refl; reads = skipped 2 (skip 1 g18); takes = refl; to = Peer (peer_of 0); datagram = Stamp (Reply near); deed = refl })
 
 -- a gateway relays its master's clock
 pub relays : Relays
@@ -133,5 +133,5 @@ relays = record {
   before = skipped 16 (skip 2 g25);
   unchanged = record { within = skipped 4 g27; since = record { corrects = refl; lives = refl } };
   unchanged_gateway = record { within = skipped 25 g27; since = record { corrects = refl; lives = refl } };
-  unchanged_but = record { lives = refl; corrects = inr (record { next = line (step_at 408000000 0 Turned) port0 (Correct (negsuc 49) false (pos 408000000)); before = skip 2 g19; is = refl; amount = negsuc 49; stepped = false; shown = pos 408000000; place = skipped 29 g27; node = refl; deed = refl; corrects = refl }) };
+  unchanged_but = record { lives = refl; corrects = inr (record { next = line (step_at 408000000 0 Turned) port0 (Correct (negsuc 50) false (pos 408000000)); before = skip 2 g19; is = refl; amount = negsuc 50; stepped = false; shown = pos 408000000; place = skipped 29 g27; node = refl; deed = refl; corrects = refl }) };
 }

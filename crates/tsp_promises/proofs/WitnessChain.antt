@@ -71,7 +71,7 @@ chain_use = record {
   begins = near-hops;
   chain = (last-hops, skipped 38 (skip 2 r11), two);
   long = omega arith;
-  left_alone = record { lives = refl; corrects = inr (record { next = line (step_at 408000000 0 Turned) port0 (Correct (negsuc 49) false (pos 408000000)); before = skip 2 g19; is = refl; amount = negsuc 49; stepped = false; shown = pos 408000000; place = skipped 72 r13; node = refl; deed = refl; corrects = refl }) };
+  left_alone = record { lives = refl; corrects = inr (record { next = line (step_at 408000000 0 Turned) port0 (Correct (negsuc 50) false (pos 408000000)); before = skip 2 g19; is = refl; amount = negsuc 50; stepped = false; shown = pos 408000000; place = skipped 72 r13; node = refl; deed = refl; corrects = refl }) };
   other = far-hop ∷ [];
   other_chain = two;
   apart = not-same 2 3 (omega arith);

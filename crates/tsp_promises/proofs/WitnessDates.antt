@@ -60,6 +60,9 @@ d9 = then_step (step_at 310000002 1 (Came 2)) ad9 d8
 f9 : Fits (still false) d9
 f9 = step-fits false (step_at 310000002 1 (Came 2)) ad9 d8 f8 refl ((refl, (refl, came refl refl refl refl refl)), ((refl, acked-date _ (msg SetDateReq 32777 (Time (pos 600000000))) (msg DateAck 32777 Nothing) (peer_of 0) _ _ refl refl refl refl refl refl), tt))
 
+pub dates : Fits (still false) d9
+dates = f9
+
 abbrev pub ad10 : List Placed
 ad10 = on port0 (Took (Peer (peer_of 1)) (Good (Message (msg SetDateReq 100 (Time (pos 500000000)))))) ∷ (on port0 (Correct (negsuc 101999998) true (pos 500000000)) ∷ (on port0 (Post (Peer (peer_of 1)) (Message (msg DateAck 100 Nothing))) ∷ []))
 

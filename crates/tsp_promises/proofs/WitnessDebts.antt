@@ -1,8 +1,9 @@
 -- What the deeds of small histories owe, as far as it doesn't compute.
-use Rattle.std.specs.Prelude.{◌≡◌, ◌≢◌, ◌≤◌, ◌<◌, ◌⊎◌, ◌<ℤ◌, ◌-ℤ◌, neg_ℤ, Bool, true, false, ℕ, ◌+◌, ◌%◌, ℤ, pos, List, ◌∷◌, Some, None}
+use Rattle.std.specs.Prelude.{◌≡◌, ◌≢◌, ◌≤◌, ◌<◌, ◌⊎◌, ◌<ℤ◌, ◌-ℤ◌, neg_ℤ, Bool, true, false, ℕ, ◌+◌, ◌%◌, ℤ, pos, List, [], ◌∷◌, Some, None}
 use Rattle.std.proofs.Common.{sym, ap, arith, subst, inl, inr, true≢false, ◌∙◌}
-use Rattle.tsp_base.specs.declared.act.Act.TheVariants.{Close, Post, Took}
-use Rattle.tsp_base.specs.declared.constants.TheConstants.{CLOSE, GAP, LIMIT, QUIET, SLACK}
+use Rattle.tsp_base.specs.declared.act.Act.TheVariants.{Close, Post, Ring, Took}
+use Rattle.tsp_base.specs.declared.alarm.Alarm.TheVariants.{Close as AlarmClose}
+use Rattle.tsp_base.specs.declared.constants.TheConstants.{CLOSE, GAP, LIMIT, QUIET, ROUND, SLACK}
 use Rattle.tsp_base.specs.declared.datagram.Datagram.TheVariants.{Message, Stamp}
 use Rattle.tsp_base.specs.declared.datagram.Taken.TheVariants.{Good}
 use Rattle.tsp_base.specs.declared.kind.Kind.{Kind}
@@ -18,14 +19,16 @@ use Rattle.tsp_base.specs.History.{Acts, Did, Seen, Here, plain}
 use Rattle.tsp_promises.specs.MeasureFits.{SampleFits}
 use Rattle.tsp_base.specs.Messages.{MessageValue}
 use Rattle.tsp_base.specs.NodeFacts.{boot_tick, last_correct, shown, target, ticket, word}
-use Rattle.tsp_base.specs.PortFacts.{acting, role}
+use Rattle.tsp_base.specs.PortFacts.{acting, role, taken}
 use Rattle.tsp_base.specs.RoundFacts.{Sampled, best, exchange, is_going, started}
 use Rattle.tsp_base.specs.Samples.{sample_diff, sample_err}
 use Rattle.tsp_base.specs.SendFacts.{Dating, is_acknowledged, is_correction, is_set_date_request, last_date, last_post, last_to, open_to}
 use Rattle.tsp_base.specs.Stamps.{ReplyValue}
+use Rattle.tsp_base.specs.Setup.{Setup}
+use Rattle.tsp_promises.specs.RoundFits.{CloseFits, StartFits}
 use Rattle.tsp_promises.specs.StepFacts.{closed}
 use Rattle.tsp_base.specs.Takings.{Receives, Undisturbed, heard, time_in}
-use Rattle.tsp_promises.proofs.SendProof.{one-message}
+use Rattle.tsp_promises.proofs.SendProof.{not-nil, one-message}
 
 pub none-some : {A B : Type 0} (x : A) → None ≡ Some x → B
 none-some x e = let bad : ⊥ = cc in absurd bad
@@ -90,9 +93,9 @@ sets-up asks rested leads acts kind took asks_kind number first time low high = 
 -- an ADJTIME that a Close begins, after an acknowledged correction
 pub adjusts-by : {here close start last : Did} {before past idle older : List Seen} {p : PeerId} {m : MessageValue} {sample : Sampled} {count : ℕ} {lo size : ℤ} (mean : ℤ) (message : MessageValue) → boot_tick (plain before) + QUIET ≤ here.tick → role before ≡ Master → acting before ≡ true →
     m.kind ≡ AdjTime → closed before ≡ Here close ∷ past → close.deed ≡ Acts (Close count lo size mean) → close.step.at ≡ here.step.at → started past ≡ Here start ∷ idle → close.tick ≤ start.tick + (CLOSE + SLACK) → Undisturbed (plain idle) (plain past) → best p past ≡ Some sample →
-    m.number ≡ sample.ticket → time_in m.body ≡ mean -ℤ sample.diff → (mean ≡ pos 0) ⊎ FollowedBy close past before mean → last_to p before ≡ Here last ∷ older → last.deed ≡ Acts (Post (Peer p) (Message message)) → m.number ≡ (message.number + 1) % 32768 → is_acknowledged p before ≡ true →
+    m.number ≡ sample.ticket → time_in m.body ≡ mean -ℤ sample.diff → (mean ≡ pos 0) ⊎ FollowedBy close past before mean → last_to p before ≡ Here last ∷ older → last.deed ≡ Acts (Post (Peer p) (Message message)) → m.number ≡ (message.number + 1) % 32768 → is_acknowledged p before ≡ true → taken before ≡ None →
     CorrectionFits here before p m
-adjusts-by mean message rested leads acts kind is deed at start_is soon undisturbed best_is number value followed last_is last_deed next acknowledged = record {
+adjusts-by mean message rested leads acts kind is deed at start_is soon undisturbed best_is number value followed last_is last_deed next acknowledged untaken = record {
   leads = leads;
   begins = λ e. record {
     rested = rested;
@@ -101,7 +104,7 @@ adjusts-by mean message rested leads acts kind is deed at start_is soon undistur
       past = _;
       mean = mean;
       sample = _;
-      is = record { is = is; count = _; lo = _; size = _; deed = deed; at = at; start = _; idle = _; start_is = start_is; soon = soon; undisturbed = undisturbed; best_is = best_is; number = number; value = λ k. value; followed = followed };
+      is = record { is = is; count = _; lo = _; size = _; deed = deed; at = at; start = _; idle = _; start_is = start_is; soon = soon; undisturbed = undisturbed; best_is = best_is; number = number; value = λ k. value; untaken = untaken; followed = followed };
     });
     may = inr (record { last = _; older = _; is = last_is; message = message; deed = last_deed; number = next; acknowledged = acknowledged });
     sets = λ e. no-setting (sym kind ∙ e);
@@ -112,15 +115,43 @@ adjusts-by mean message rested leads acts kind is deed at start_is soon undistur
   no-setting e = let bad : ⊥ = cc in absurd bad
 
 -- a Correct that takes a correction
-pub corrects-by : {here took : Did} {before past : List Seen} {amount : ℤ} {stepped : Bool} {printed : ℤ} (from : PeerId) (m : MessageValue) → last_correct (plain before) + GAP ≤ here.tick → boot_tick (plain before) + QUIET ≤ here.tick → before ≡ Here took ∷ past → took.deed ≡ Acts (Took (Peer from) (Good (Message m))) →
+pub corrects-by : {setup : Setup} {here took : Did} {before past : List Seen} {amount : ℤ} {stepped : Bool} {printed : ℤ} (from : PeerId) (m : MessageValue) → last_correct (plain before) + GAP ≤ here.tick → boot_tick (plain before) + QUIET ≤ here.tick → before ≡ Here took ∷ past → took.deed ≡ Acts (Took (Peer from) (Good (Message m))) →
     is_correction m.kind ≡ true → m.number ≡ ticket (plain before) → amount ≡ amount_of m.kind (time_in m.body) (target (plain before) here.tick) → role before ≡ Follow from →
-    stepped ≡ is_stepped amount (heard (plain before)) → printed ≡ shown (here ∷ plain before) here.tick → CorrectFits here before amount stepped printed
+    stepped ≡ is_stepped amount (heard (plain before)) → printed ≡ shown (here ∷ plain before) here.tick → CorrectFits setup here before amount stepped printed
 corrects-by from m gap rested is deed kind number amount follows flag prints = record {
   gap = gap;
   rested = rested;
   why = ByMaster (record { from = from; message = m; took = _; past = _; is = is; deed = deed; kind = kind; number = number; amount_is = amount; follows = follows });
   flag = flag;
   prints = prints;
+}
+
+-- the first round of a life
+pub first-round : {here : Did} {before : List Seen} → started before ≡ [] → StartFits here before
+first-round none = record { spaced = λ start idle e. not-nil (Here start) idle (sym none ∙ e) }
+
+-- a round after another one
+pub next-round : {here last : Did} {before rest : List Seen} → started before ≡ Here last ∷ rest → last.tick + ROUND ≤ here.tick → StartFits here before
+next-round {here = here} {last = last} {rest = rest} is long = record { spaced = λ start idle e. began start idle (sym is ∙ e) } where
+  began : (start : Did) (idle : List Seen) → Here last ∷ rest ≡ Here start ∷ idle → start.tick + ROUND ≤ here.tick
+  began start idle e = let same : last ≡ start = cc in subst (λ (z : Did). z.tick + ROUND ≤ here.tick) same long
+
+-- a Close at its time
+pub closes-by : {here ring start : Did} {before past idle : List Seen} → role before ≡ Master → before ≡ Here ring ∷ past → ring.deed ≡ Acts (Ring AlarmClose) → is_going past ≡ true → started before ≡ Here start ∷ idle →
+    start.tick + CLOSE ≤ here.tick → here.tick ≤ start.tick + (CLOSE + SLACK) → Undisturbed (plain idle) (plain before) → CloseFits here before
+closes-by leads is rings going start_is over soon undisturbed = record {
+  leads = leads;
+  ring = _;
+  past = _;
+  is = is;
+  rings = rings;
+  going = going;
+  start = _;
+  idle = _;
+  start_is = start_is;
+  over = over;
+  soon = soon;
+  undisturbed = undisturbed;
 }
 
 -- a Sample of this reply

@@ -16,6 +16,7 @@ use Rattle.tsp_promises.proofs.Histories.{line, on, skip, skipped, step_at, stil
 use Rattle.tsp_promises.proofs.HistoriesFit.{came, step-fits}
 use Rattle.tsp_promises.proofs.PremiseChecks.{kept-by}
 use Rattle.tsp_promises.proofs.StepChecks.{port0}
+use Rattle.tsp_promises.proofs.WitnessDebts.{first-round}
 use Rattle.tsp_promises.proofs.WitnessLead.{led, w5}
 use Rattle.tsp_promises.specs.LateReply.{LateReply}
 
@@ -29,7 +30,7 @@ abbrev pub b6 : List Line
 b6 = then_step (step_at 400000000 0 Turned) ab6 w5
 
 f6 : Fits (still false) b6
-f6 = step-fits false (step_at 400000000 0 Turned) ab6 w5 led refl ((refl, tt), ((refl, tt), ((refl, record { rested = inl (omega arith); fits = record { word_is = refl; counter_is = refl } }), tt)))
+f6 = step-fits false (step_at 400000000 0 Turned) ab6 w5 led refl ((refl, tt), ((refl, first-round refl), ((refl, record { rested = inl (omega arith); fits = record { word_is = refl; counter_is = refl } }), tt)))
 
 abbrev pub ab7 : List Placed
 ab7 = on port0 (Took (Peer (peer_of 0)) (Good (Stamp (Request 7 0)))) ∷ (on port0 (Post (Peer (peer_of 0)) (Stamp (Reply answer))) ∷ [])

@@ -1,5 +1,5 @@
 -- A relayed clock: node 1 follows node 0 by one port and leads node 3 by another; a round of node 0 corrects it, and then a round of its own corrects node 3.
-use Rattle.std.specs.Prelude.{true, false, pos, negsuc, List, [], ◌∷◌, refl}
+use Rattle.std.specs.Prelude.{true, false, pos, negsuc, List, [], ◌∷◌, refl, ◌≡◌}
 use Rattle.std.proofs.Common.{sym, arith, inl, inr, true≢false}
 use Rattle.std.proofs.lemmas.Int.{ints}
 use Rattle.tsp_base.specs.declared.act.Act.TheVariants.{Boot, Took, Post, Become, Back, Arm, Ring, Sample, Close, Correct, Acked}
@@ -14,16 +14,19 @@ use Rattle.tsp_base.specs.declared.role.Role.TheVariants.{Candidate, Follow, Mas
 use Rattle.tsp_base.specs.declared.stamp.Stamp.TheVariants.{Request, Reply}
 use Rattle.tsp_promises.specs.CorrectFits.{ByRound}
 use Rattle.tsp_promises.specs.Fits.{Fits}
-use Rattle.tsp_base.specs.History.{Booted, Came, Turned, Line}
+use Rattle.tsp_base.specs.History.{Booted, Came, Turned, Line, of, view}
 use Rattle.tsp_base.specs.Stamps.{ReplyValue}
 use Rattle.tsp_base.specs.Takings.{peer_of}
-use Rattle.tsp_promises.proofs.Histories.{msg, on, step_at, still, then_step}
+use Rattle.tsp_group.specs.Groups.{better, goes_before, group_from}
+use Rattle.tsp_promises.specs.RoundFits.{group_mean}
+use Rattle.tsp_promises.specs.Setting.{setup_of}
+use Rattle.tsp_promises.proofs.Histories.{msg, on, step_at, still, then_step, skip}
 use Rattle.tsp_promises.proofs.HistoriesFit.{came, step-fits}
 use Rattle.tsp_promises.proofs.StepChecks.{port0, port1}
-use Rattle.tsp_promises.proofs.WitnessDebts.{acked-fits, adjusts-by, corrects-by, none-some, samples-by, sets-up}
+use Rattle.tsp_promises.proofs.WitnessDebts.{acked-fits, adjusts-by, closes-by, corrects-by, first-round, none-some, samples-by, sets-up}
 
 abbrev pub near : ReplyValue
-near = record { ticket = 10; word = 7; counter = 0; reading = pos 400000299 }
+near = record { ticket = 10; word = 7; counter = 0; reading = pos 400000298 }
 
 abbrev pub distant : ReplyValue
 distant = record { ticket = 12; word = 9; counter = 0; reading = pos 500000298 }
@@ -170,19 +173,19 @@ abbrev pub g16 : List Line
 g16 = then_step (step_at 400000000 0 Turned) ag16 g15
 
 f16 : Fits (still false) g16
-f16 = step-fits false (step_at 400000000 0 Turned) ag16 g15 f15 refl ((refl, tt), ((refl, tt), ((refl, record { rested = inl (omega arith); fits = record { word_is = refl; counter_is = refl } }), tt)))
+f16 = step-fits false (step_at 400000000 0 Turned) ag16 g15 f15 refl ((refl, tt), ((refl, first-round refl), ((refl, record { rested = inl (omega arith); fits = record { word_is = refl; counter_is = refl } }), tt)))
 
 abbrev pub ag17 : List Placed
 ag17 = on port0 (Took (Peer (peer_of 0)) (Good (Stamp (Request 7 0)))) ∷ (on port0 (Post (Peer (peer_of 0)) (Stamp (Reply near))) ∷ [])
 
 abbrev pub g17 : List Line
-g17 = then_step (step_at 400000300 1 (Came 6)) ag17 g16
+g17 = then_step (step_at 400000299 1 (Came 6)) ag17 g16
 
 f17 : Fits (still false) g17
-f17 = step-fits false (step_at 400000300 1 (Came 6)) ag17 g16 f16 refl ((refl, (refl, came refl refl refl refl refl)), ((refl, record { rested = inl (omega arith); fits = record { took = refl; ticket_is = refl; reading_is = refl } }), tt))
+f17 = step-fits false (step_at 400000299 1 (Came 6)) ag17 g16 f16 refl ((refl, (refl, came refl refl refl refl refl)), ((refl, record { rested = inl (omega arith); fits = record { took = refl; ticket_is = refl; reading_is = refl } }), tt))
 
 abbrev pub ag18 : List Placed
-ag18 = on port0 (Took (Peer (peer_of 1)) (Good (Stamp (Reply near)))) ∷ (on port0 (Sample (peer_of 1) 0 (negsuc 100) (pos 401) 10) ∷ [])
+ag18 = on port0 (Took (Peer (peer_of 1)) (Good (Stamp (Reply near)))) ∷ (on port0 (Sample (peer_of 1) 0 (negsuc 101) (pos 401) 10) ∷ [])
 
 abbrev pub g18 : List Line
 g18 = then_step (step_at 400000801 0 (Came 7)) ag18 g17
@@ -191,13 +194,18 @@ f18 : Fits (still false) g18
 f18 = step-fits false (step_at 400000801 0 (Came 7)) ag18 g17 f17 refl ((refl, (refl, came refl refl refl refl refl)), ((refl, samples-by near refl (record { corrects = refl; lives = refl }) refl refl refl refl refl refl refl refl), tt))
 
 abbrev pub ag19 : List Placed
-ag19 = on port0 (Ring AlarmClose) ∷ (on port0 (Close 2 (negsuc 100) (pos 101) (negsuc 49)) ∷ (on port0 (Correct (negsuc 49) false (pos 408000000)) ∷ (on port0 (Post (Peer (peer_of 1)) (Message (msg AdjTime 10 (Time (pos 51))))) ∷ [])))
+ag19 = on port0 (Ring AlarmClose) ∷ (on port0 (Close 2 (negsuc 101) (pos 102) (negsuc 50)) ∷ (on port0 (Correct (negsuc 50) false (pos 408000000)) ∷ (on port0 (Post (Peer (peer_of 1)) (Message (msg AdjTime 10 (Time (pos 51))))) ∷ [])))
 
 abbrev pub g19 : List Line
 g19 = then_step (step_at 408000000 0 Turned) ag19 g18
 
+-- the mean that its Close finds
+mean19 : negsuc 50 ≡ group_mean (setup_of (still false) 0 port0) (view port0 (of 0 (skip 3 g19)))
+unfolding group_from goes_before better
+mean19 = refl
+
 f19 : Fits (still false) g19
-f19 = step-fits false (step_at 408000000 0 Turned) ag19 g18 f18 refl ((refl, tt), ((refl, refl), ((refl, record { gap = omega arith; rested = omega arith; why = ByRound (record { close = _; past = _; is = refl; count = 2; lo = negsuc 100; size = pos 101; deed = refl; untaken = refl }); flag = refl; prints = refl }), ((refl, record { rested = inl (omega arith); fits = adjusts-by (negsuc 49) (msg SetTime 9 (Time (pos 305000001))) (omega arith) refl refl refl refl refl refl refl (omega arith) (record { corrects = refl; lives = refl }) refl refl refl (inr (record { next = _; place = inl refl; stepped = false; shown = pos 408000000; deed = refl })) refl refl refl refl }), tt))))
+f19 = step-fits false (step_at 408000000 0 Turned) ag19 g18 f18 refl ((refl, tt), ((refl, closes-by refl refl refl refl refl (omega arith) (omega arith) (record { corrects = refl; lives = refl })), ((refl, record { gap = omega arith; rested = omega arith; why = ByRound (record { close = _; past = _; is = refl; count = 2; lo = negsuc 101; size = pos 102; deed = refl; untaken = refl; mean_is = mean19 }); flag = refl; prints = refl }), ((refl, record { rested = inl (omega arith); fits = adjusts-by (negsuc 50) (msg SetTime 9 (Time (pos 305000001))) (omega arith) refl refl refl refl refl refl refl (omega arith) (record { corrects = refl; lives = refl }) refl refl refl (inr (record { next = _; place = inl refl; stepped = false; shown = pos 408000000; deed = refl })) refl refl refl refl refl }), tt))))
 
 abbrev pub ag20 : List Placed
 ag20 = on port0 (Took (Peer (peer_of 0)) (Good (Message (msg AdjTime 10 (Time (pos 51)))))) ∷ (on port0 (Correct (pos 51) false (pos 408000399)) ∷ (on port0 (Post (Peer (peer_of 0)) (Message (msg Ack 10 Nothing))) ∷ []))
@@ -224,7 +232,7 @@ abbrev pub g22 : List Line
 g22 = then_step (step_at 500000000 1 Turned) ag22 g21
 
 f22 : Fits (still false) g22
-f22 = step-fits false (step_at 500000000 1 Turned) ag22 g21 f21 refl ((refl, tt), ((refl, tt), ((refl, record { rested = inl (omega arith); fits = record { word_is = refl; counter_is = refl } }), tt)))
+f22 = step-fits false (step_at 500000000 1 Turned) ag22 g21 f21 refl ((refl, tt), ((refl, first-round refl), ((refl, record { rested = inl (omega arith); fits = record { word_is = refl; counter_is = refl } }), tt)))
 
 abbrev pub ag23 : List Placed
 ag23 = on port0 (Took (Peer (peer_of 1)) (Good (Stamp (Request 9 0)))) ∷ (on port0 (Post (Peer (peer_of 1)) (Stamp (Reply distant))) ∷ [])
@@ -251,7 +259,7 @@ abbrev pub g25 : List Line
 g25 = then_step (step_at 508000000 1 Turned) ag25 g24
 
 f25 : Fits (still false) g25
-f25 = step-fits false (step_at 508000000 1 Turned) ag25 g24 f24 refl ((refl, tt), ((refl, refl), ((refl, record { rested = inl (omega arith); fits = adjusts-by (pos 0) (msg SetTime 11 (Time (pos 305000003))) (omega arith) refl refl refl refl refl refl refl (omega arith) (record { corrects = refl; lives = refl }) refl refl refl (inl refl) refl refl refl refl }), tt)))
+f25 = step-fits false (step_at 508000000 1 Turned) ag25 g24 f24 refl ((refl, tt), ((refl, closes-by refl refl refl refl refl (omega arith) (omega arith) (record { corrects = refl; lives = refl })), ((refl, record { rested = inl (omega arith); fits = adjusts-by (pos 0) (msg SetTime 11 (Time (pos 305000003))) (omega arith) refl refl refl refl refl refl refl (omega arith) (record { corrects = refl; lives = refl }) refl refl refl (inl refl) refl refl refl refl refl }), tt)))
 
 abbrev pub ag26 : List Placed
 ag26 = on port0 (Took (Peer (peer_of 1)) (Good (Message (msg AdjTime 12 (Time (pos 152)))))) ∷ (on port0 (Correct (pos 152) false (pos 508000398)) ∷ (on port0 (Post (Peer (peer_of 1)) (Message (msg Ack 12 Nothing))) ∷ []))

@@ -19,7 +19,7 @@ use Rattle.tsp_base.specs.Takings.{peer_of}
 use Rattle.tsp_promises.proofs.Histories.{msg, on, step_at, still, then_step}
 use Rattle.tsp_promises.proofs.HistoriesFit.{came, step-fits}
 use Rattle.tsp_promises.proofs.StepChecks.{port0, port1}
-use Rattle.tsp_promises.proofs.WitnessDebts.{acked-fits, adjusts-by, corrects-by, none-some, samples-by, sets-up}
+use Rattle.tsp_promises.proofs.WitnessDebts.{acked-fits, adjusts-by, closes-by, corrects-by, first-round, none-some, samples-by, sets-up}
 use Rattle.tsp_promises.proofs.WitnessRelay.{g27, fits as relay-fits}
 
 abbrev pub last : ReplyValue
@@ -95,7 +95,7 @@ abbrev pub r8 : List Line
 r8 = then_step (step_at 1000000000 3 Turned) ar8 r7
 
 f8 : Fits (still false) r8
-f8 = step-fits false (step_at 1000000000 3 Turned) ar8 r7 f7 refl ((refl, tt), ((refl, tt), ((refl, record { rested = inl (omega arith); fits = record { word_is = refl; counter_is = refl } }), tt)))
+f8 = step-fits false (step_at 1000000000 3 Turned) ar8 r7 f7 refl ((refl, tt), ((refl, first-round refl), ((refl, record { rested = inl (omega arith); fits = record { word_is = refl; counter_is = refl } }), tt)))
 
 abbrev pub ar9 : List Placed
 ar9 = on port1 (Took (Peer (peer_of 3)) (Good (Stamp (Request 11 0)))) ∷ (on port1 (Post (Peer (peer_of 3)) (Stamp (Reply last))) ∷ [])
@@ -122,7 +122,7 @@ abbrev pub r11 : List Line
 r11 = then_step (step_at 1008000000 3 Turned) ar11 r10
 
 f11 : Fits (still false) r11
-f11 = step-fits false (step_at 1008000000 3 Turned) ar11 r10 f10 refl ((refl, tt), ((refl, refl), ((refl, record { rested = inl (omega arith); fits = adjusts-by (pos 0) (msg SetTime 13 (Time (pos 905000151))) (omega arith) refl refl refl refl refl refl refl (omega arith) (record { corrects = refl; lives = refl }) refl refl refl (inl refl) refl refl refl refl }), tt)))
+f11 = step-fits false (step_at 1008000000 3 Turned) ar11 r10 f10 refl ((refl, tt), ((refl, closes-by refl refl refl refl refl (omega arith) (omega arith) (record { corrects = refl; lives = refl })), ((refl, record { rested = inl (omega arith); fits = adjusts-by (pos 0) (msg SetTime 13 (Time (pos 905000151))) (omega arith) refl refl refl refl refl refl refl (omega arith) (record { corrects = refl; lives = refl }) refl refl refl (inl refl) refl refl refl refl refl }), tt)))
 
 abbrev pub ar12 : List Placed
 ar12 = on port1 (Took (Peer (peer_of 3)) (Good (Message (msg AdjTime 14 (Time (pos 101)))))) ∷ (on port1 (Correct (pos 101) false (pos 1008000549)) ∷ (on port1 (Post (Peer (peer_of 3)) (Message (msg Ack 14 Nothing))) ∷ []))

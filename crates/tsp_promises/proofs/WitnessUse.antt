@@ -1,5 +1,5 @@
 -- A history of ordinary use: two nodes follow a third, are set by a SETTIME each and acknowledge it; then comes a whole round.
-use Rattle.std.specs.Prelude.{true, false, pos, negsuc, List, [], ◌∷◌, refl}
+use Rattle.std.specs.Prelude.{true, false, pos, negsuc, List, [], ◌∷◌, refl, ◌≡◌}
 use Rattle.std.proofs.Common.{arith, inl, inr}
 use Rattle.std.proofs.lemmas.Int.{ints}
 use Rattle.tsp_base.specs.declared.act.Act.TheVariants.{Took, Post, Become, Arm, Ring, Sample, Close, Correct, Acked}
@@ -14,13 +14,16 @@ use Rattle.tsp_base.specs.declared.role.Role.TheVariants.{Follow}
 use Rattle.tsp_base.specs.declared.stamp.Stamp.TheVariants.{Request, Reply}
 use Rattle.tsp_promises.specs.CorrectFits.{ByRound}
 use Rattle.tsp_promises.specs.Fits.{Fits}
-use Rattle.tsp_base.specs.History.{Came, Turned, Line}
+use Rattle.tsp_base.specs.History.{Came, Turned, Line, of, view}
 use Rattle.tsp_base.specs.Stamps.{ReplyValue}
 use Rattle.tsp_base.specs.Takings.{peer_of}
-use Rattle.tsp_promises.proofs.Histories.{msg, on, step_at, still, then_step}
+use Rattle.tsp_group.specs.Groups.{better, goes_before, group_from}
+use Rattle.tsp_promises.specs.RoundFits.{group_mean}
+use Rattle.tsp_promises.specs.Setting.{setup_of}
+use Rattle.tsp_promises.proofs.Histories.{msg, on, step_at, still, then_step, skip}
 use Rattle.tsp_promises.proofs.HistoriesFit.{came, step-fits}
 use Rattle.tsp_promises.proofs.StepChecks.{port0}
-use Rattle.tsp_promises.proofs.WitnessDebts.{acked-fits, adjusts-by, corrects-by, samples-by, sets-up}
+use Rattle.tsp_promises.proofs.WitnessDebts.{acked-fits, adjusts-by, closes-by, corrects-by, first-round, samples-by, sets-up}
 use Rattle.tsp_promises.proofs.WitnessLead.{led, w5}
 
 abbrev pub reply1 : ReplyValue
@@ -108,7 +111,7 @@ abbrev pub w14 : List Line
 w14 = then_step (step_at 400000000 0 Turned) aw14 w13
 
 f14 : Fits (still false) w14
-f14 = step-fits false (step_at 400000000 0 Turned) aw14 w13 f13 refl ((refl, tt), ((refl, tt), ((refl, record { rested = inl (omega arith); fits = record { word_is = refl; counter_is = refl } }), ((refl, record { rested = inl (omega arith); fits = record { word_is = refl; counter_is = refl } }), tt))))
+f14 = step-fits false (step_at 400000000 0 Turned) aw14 w13 f13 refl ((refl, tt), ((refl, first-round refl), ((refl, record { rested = inl (omega arith); fits = record { word_is = refl; counter_is = refl } }), ((refl, record { rested = inl (omega arith); fits = record { word_is = refl; counter_is = refl } }), tt))))
 
 abbrev pub aw15 : List Placed
 aw15 = on port0 (Took (Peer (peer_of 0)) (Good (Stamp (Request 7 0)))) ∷ (on port0 (Post (Peer (peer_of 0)) (Stamp (Reply reply1))) ∷ [])
@@ -152,8 +155,13 @@ aw19 = on port0 (Ring AlarmClose) ∷ (on port0 (Close 3 (negsuc 150) (pos 151) 
 abbrev pub w19 : List Line
 w19 = then_step (step_at 408000000 0 Turned) aw19 w18
 
+-- the mean that its Close finds
+mean19 : negsuc 83 ≡ group_mean (setup_of (still false) 0 port0) (view port0 (of 0 (skip 4 w19)))
+unfolding group_from goes_before better
+mean19 = refl
+
 f19 : Fits (still false) w19
-f19 = step-fits false (step_at 408000000 0 Turned) aw19 w18 f18 refl ((refl, tt), ((refl, refl), ((refl, record { gap = omega arith; rested = omega arith; why = ByRound (record { close = _; past = _; is = refl; count = 3; lo = negsuc 150; size = pos 151; deed = refl; untaken = refl }); flag = refl; prints = refl }), ((refl, record { rested = inl (omega arith); fits = adjusts-by (negsuc 83) (msg SetTime 9 (Time (pos 305000001))) (omega arith) refl refl refl refl refl refl refl (omega arith) (record { corrects = refl; lives = refl }) refl refl refl (inr (record { next = _; place = inl refl; stepped = false; shown = pos 408000000; deed = refl })) refl refl refl refl }), ((refl, record { rested = inl (omega arith); fits = adjusts-by (negsuc 83) (msg SetTime 11 (Time (pos 305000004))) (omega arith) refl refl refl refl refl refl refl (omega arith) (record { corrects = refl; lives = refl }) refl refl refl (inr (record { next = _; place = inr (inl refl); stepped = false; shown = pos 408000000; deed = refl })) refl refl refl refl }), tt)))))
+f19 = step-fits false (step_at 408000000 0 Turned) aw19 w18 f18 refl ((refl, tt), ((refl, closes-by refl refl refl refl refl (omega arith) (omega arith) (record { corrects = refl; lives = refl })), ((refl, record { gap = omega arith; rested = omega arith; why = ByRound (record { close = _; past = _; is = refl; count = 3; lo = negsuc 150; size = pos 151; deed = refl; untaken = refl; mean_is = mean19 }); flag = refl; prints = refl }), ((refl, record { rested = inl (omega arith); fits = adjusts-by (negsuc 83) (msg SetTime 9 (Time (pos 305000001))) (omega arith) refl refl refl refl refl refl refl (omega arith) (record { corrects = refl; lives = refl }) refl refl refl (inr (record { next = _; place = inl refl; stepped = false; shown = pos 408000000; deed = refl })) refl refl refl refl refl }), ((refl, record { rested = inl (omega arith); fits = adjusts-by (negsuc 83) (msg SetTime 11 (Time (pos 305000004))) (omega arith) refl refl refl refl refl refl refl (omega arith) (record { corrects = refl; lives = refl }) refl refl refl (inr (record { next = _; place = inr (inl refl); stepped = false; shown = pos 408000000; deed = refl })) refl refl refl refl refl }), tt)))))
 
 abbrev pub aw20 : List Placed
 aw20 = on port0 (Took (Peer (peer_of 0)) (Good (Message (msg AdjTime 10 (Time (pos 17)))))) ∷ (on port0 (Correct (pos 17) false (pos 408000399)) ∷ (on port0 (Post (Peer (peer_of 0)) (Message (msg Ack 10 Nothing))) ∷ []))

@@ -22,7 +22,7 @@ use Rattle.tsp_base.specs.Takings.{peer_of, posted}
 use Rattle.tsp_promises.proofs.Histories.{line, msg, on, skip, skipped, step_at, still, then_step}
 use Rattle.tsp_promises.proofs.HistoriesFit.{all-finished, came, step-fits}
 use Rattle.tsp_promises.proofs.StepChecks.{port0}
-use Rattle.tsp_promises.proofs.WitnessDebts.{none-some, samples-by}
+use Rattle.tsp_promises.proofs.WitnessDebts.{first-round, none-some, samples-by}
 use Rattle.tsp_promises.proofs.CastBy.{cast-by}
 use Rattle.tsp_promises.proofs.PremiseChecks.{honest-by, life-by}
 use Rattle.tsp_promises.proofs.SendPlaces.{post_unique, same-number}
@@ -37,21 +37,21 @@ abbrev boots : Line
 boots = line (step_at 0 0 (Booted 7 (pos 0))) port0 Boot
 
 abbrev shuts : Line
-shuts = line (step_at 1008000000 0 Turned) port0 (Close 2 (negsuc 100) (pos 101) (negsuc 49))
+shuts = line (step_at 1008000000 0 Turned) port0 (Close 2 (negsuc 101) (pos 102) (negsuc 50))
 
 abbrev corrects : Line
 corrects = line (step_at 1008000400 1 (Came 19)) port0 (Correct (pos 51) false (pos 1008000399))
 
 abbrev tells : Line
-tells = line (step_at 1000000300 1 (Came 17)) port0 (Post (Peer (peer_of 0)) (Stamp (Reply again)))
+tells = line (step_at 1000000299 1 (Came 17)) port0 (Post (Peer (peer_of 0)) (Stamp (Reply again)))
 
 second-cast : Cast 0 shuts (skip 3 v11) corrects (skip 2 v12) tells (skip 1 v9) (pos 401)
 second-cast =
     cast-by 0 shuts (skip 3 v11) corrects (skip 2 v12) tells (skip 1 v9) (line (step_at 1008000000 0 Turned) port0 (Post (Peer (peer_of 1)) (Message (msg AdjTime 12 (Time (pos 51)))))) (skip 1 v11) (msg AdjTime 12 (Time (pos 51))) (pos 51) false (pos 1008000399)
-    (record { counter = 0; diff = negsuc 100; err = pos 401; ticket = 12; trip = pos 801; place = view port0 (of 0 v10) })
+    (record { counter = 0; diff = negsuc 101; err = pos 401; ticket = 12; trip = pos 801; place = view port0 (of 0 v10) })
     (record { correct = refl; place = skipped 2 (skip 2 v12); cause = refl; deed = refl; took = refl; node = refl; kind = refl; numbered = refl; is = refl })
     (record { closes = skipped 4 (skip 2 v12); node = refl; port = refl; is = refl; best_is = refl })
-    (record { line = line (step_at 1000000801 0 (Came 18)) port0 (Sample (peer_of 1) 0 (negsuc 100) (pos 401) 12); before = skip 1 v10; at = skipped 7 (skip 2 v12); node = refl; port = refl; is = refl; reads = skipped 2 (skip 1 v10); takes = refl; to = Peer (peer_of 0); datagram = Stamp (Reply again); deed = refl })
+    (record { line = line (step_at 1000000801 0 (Came 18)) port0 (Sample (peer_of 1) 0 (negsuc 101) (pos 401) 12); before = skip 1 v10; at = skipped 7 (skip 2 v12); node = refl; port = refl; is = refl; reads = skipped 2 (skip 1 v10); takes = refl; to = Peer (peer_of 0); datagram = Stamp (Reply again); deed = refl })
 
 -- in both lives of the master a round corrects node 1
 pub same_words : SameWords
@@ -102,7 +102,7 @@ abbrev pub x4 : List Line
 x4 = then_step (step_at 1000000000 0 Turned) ax4 x3
 
 fx4 : Fits (still false) x4
-fx4 = step-fits false (step_at 1000000000 0 Turned) ax4 x3 fx3 refl ((refl, tt), ((refl, tt), ((refl, record { rested = inl (omega arith); fits = record { word_is = refl; counter_is = refl } }), tt)))
+fx4 = step-fits false (step_at 1000000000 0 Turned) ax4 x3 fx3 refl ((refl, tt), ((refl, first-round refl), ((refl, record { rested = inl (omega arith); fits = record { word_is = refl; counter_is = refl } }), tt)))
 
 abbrev pub ax5 : List Placed
 ax5 = on port0 (Took (Peer (peer_of 1)) (Good (Stamp (Reply reply1)))) ∷ (on port0 (Sample (peer_of 1) 0 (negsuc 600000100) (pos 401) 10) ∷ [])

@@ -11,11 +11,13 @@ use Rattle.tsp_base.specs.History.{Line}
 use Rattle.tsp_promises.specs.Measured.{Measured, Trips}
 use Rattle.tsp_promises.specs.Once.{OnceConfirmed, OnceCorrected, OnceObeyed, OnceSpaced, OnceSpacedOverLives, OnceTaken}
 use Rattle.tsp_promises.specs.OneBack.{OneBack}
+use Rattle.tsp_promises.specs.Moderate.{Moderate, ModerateClocks}
 use Rattle.tsp_promises.specs.OneError.{OneError}
 use Rattle.tsp_promises.specs.OneWinner.{OneWinner}
 use Rattle.tsp_promises.specs.OnlyMaster.{OnlyMaster}
 use Rattle.tsp_promises.specs.Relayed.{Relayed}
 use Rattle.tsp_promises.specs.Resolved.{StaysQuiet, StopsLeading, Yields}
+use Rattle.tsp_promises.specs.Seldom.{Seldom}
 use Rattle.tsp_promises.specs.Setting.{Setting}
 use Rattle.tsp_promises.specs.Shows.{Shows}
 use Rattle.tsp_promises.specs.Silent.{Silent}
@@ -140,6 +142,8 @@ pub record ChainsBreak (setting : Setting) : Type 0 where
   pub tree : Breaks (Chained setting)
   -- a clock that moves by another amount than its ADJTIME says, whatever is taken back
   pub throughout : Breaks (Throughout setting)
+  -- the same, against another clock of its Close
+  pub throughout_peers : Breaks (Throughout setting)
   -- a round with an estimate that is 9 s off
   pub estimates_apart : Breaks (EstimatesHold setting)
   -- a master that moves by another amount than the mean
@@ -154,6 +158,27 @@ pub record ChainsBreak (setting : Setting) : Type 0 where
   pub first_set : Breaks (FirstSet setting)
   -- likewise, by more than a datagram's life
   pub first_set_soon : Breaks (FirstSetSoon setting)
+
+-- what breaks the promises of a round's majority, and of rounds
+pub record RoundsBreak (setting : Setting) : Type 0 where
+  -- a master that moves by 300 ms where it and a peer agree within a millisecond: off from the peer's estimate
+  pub mean_far : Breaks (Moderate setting)
+  -- and from its own
+  pub own_far : Breaks (Moderate setting)
+  -- a master among the majority that is stepped
+  pub own_stepped : Breaks (Moderate setting)
+  -- a peer that is stepped
+  pub peer_stepped : Breaks (Moderate setting)
+  -- the ADJTIME that the first begins to its peer
+  pub adjtime_far : Breaks (Moderate setting)
+  -- the peer that takes it
+  pub peer_far : Breaks (Moderate setting)
+  -- which has slewed for 8 s, and still doesn't show its target
+  pub late_met : Breaks (Moderate setting)
+  -- the first, and the peer is left alone
+  pub clocks_far : Breaks (ModerateClocks setting)
+  -- two rounds of a port that close in short order
+  pub close_soon : Breaks Seldom
 
 -- what breaks the promise of answers
 pub record AnswersBreak : Type 0 where
@@ -176,4 +201,5 @@ pub record AllBreak : Type 0 where
   pub clocks : ClocksBreak setting
   pub readings : ReadingsBreak setting
   pub chains : ChainsBreak setting
+  pub rounds : RoundsBreak setting
   pub answers : AnswersBreak

@@ -15,15 +15,17 @@ use Rattle.tsp_base.specs.Messages.{MessageValue}
 use Rattle.tsp_base.specs.NodeFacts.{last_correct, boot_tick, shown, ticket, target}
 use Rattle.tsp_base.specs.PortFacts.{Received, message_in, role}
 use Rattle.tsp_base.specs.SendFacts.{Dating, is_correction, is_date_request, last_date, sets_date}
+use Rattle.tsp_base.specs.Setup.{Setup}
 use Rattle.tsp_base.specs.Takings.{heard, time_in}
+use Rattle.tsp_promises.specs.RoundFits.{group_mean}
 
 -- by how much a correction moves a clock with this target: an ADJTIME by its time, a SETTIME to its time
 abbrev pub amount_of : Kind → ℤ → ℤ → ℤ
 amount_of SetTime time target = time -ℤ target
 amount_of _ time target = time
 
--- a Correct that ends a round: it stands right after the Close, in a step that has taken nothing on any port, and moves the clock by the mean
-pub record EndsRound (before : List Seen) (amount : ℤ) : Type 0 where
+-- a Correct that ends a round: it stands right after the Close, in a step that has taken nothing on any port, and moves the clock by the mean, which is that of the largest group of the round's estimates
+pub record EndsRound (setup : Setup) (before : List Seen) (amount : ℤ) : Type 0 where
   pub close : Did
   pub past : List Seen
   pub is : before ≡ Here close ∷ past
@@ -32,6 +34,7 @@ pub record EndsRound (before : List Seen) (amount : ℤ) : Type 0 where
   pub size : ℤ
   pub deed : close.deed ≡ Acts (Close count lo size amount)
   pub untaken : heard (plain before) ≡ None
+  pub mean_is : amount ≡ group_mean setup past
 
 -- a Correct that takes a correction: it stands right after the Took, the correction is the followed master's and has the ticket as its number
 pub record TakesCorrection (here : Did) (before : List Seen) (amount : ℤ) : Type 0 where
@@ -60,10 +63,10 @@ pub record TakesDate (here : Did) (before : List Seen) (amount : ℤ) : Type 0 w
   pub again : (p : PeerId) (d : Dating) → from ≡ Peer p → is_date_request message.kind ≡ true → last_date p before ≡ Some d → d.number ≡ message.number → d.at + DATEHOLD ≤ here.tick
 
 -- why a clock is corrected
-pub data WhyCorrect (here : Did) (before : List Seen) (amount : ℤ) : Type 0 where
-  ByRound : EndsRound before amount → WhyCorrect here before amount
-  ByMaster : TakesCorrection here before amount → WhyCorrect here before amount
-  ByDate : TakesDate here before amount → WhyCorrect here before amount
+pub data WhyCorrect (setup : Setup) (here : Did) (before : List Seen) (amount : ℤ) : Type 0 where
+  ByRound : EndsRound setup before amount → WhyCorrect setup here before amount
+  ByMaster : TakesCorrection here before amount → WhyCorrect setup here before amount
+  ByDate : TakesDate here before amount → WhyCorrect setup here before amount
 
 -- whether messages of this kind set a clock to the time that they carry: a SETTIME, and a date
 abbrev pub sets_time : Kind → Bool
@@ -84,9 +87,9 @@ abbrev pub is_stepped : ℤ → Option Received → Bool
 is_stepped amount took = sets_clock took || nat_lt MAXADJ (nat_abs amount)
 
 -- a Correct comes GAP after the last one or the boot, and QUIET after the boot; it says that it is stepped exactly where it is, and prints what the clock shows right after it
-pub record CorrectFits (here : Did) (before : List Seen) (amount : ℤ) (stepped : Bool) (printed : ℤ) : Type 0 where
+pub record CorrectFits (setup : Setup) (here : Did) (before : List Seen) (amount : ℤ) (stepped : Bool) (printed : ℤ) : Type 0 where
   pub gap : last_correct (plain before) + GAP ≤ here.tick
   pub rested : boot_tick (plain before) + QUIET ≤ here.tick
-  pub why : WhyCorrect here before amount
+  pub why : WhyCorrect setup here before amount
   pub flag : stepped ≡ is_stepped amount (heard (plain before))
   pub prints : printed ≡ shown (here ∷ plain before) here.tick

@@ -1,5 +1,5 @@
 -- What the post of a correction, an ADJTIME or a SETTIME, owes to its port's past.
-use Rattle.std.specs.Prelude.{◌≡◌, ◌≤◌, ◌<◌, ◌⊎◌, ℕ, ◌+◌, ◌%◌, ℤ, pos, neg_ℤ, ◌-ℤ◌, ◌<ℤ◌, Bool, true, false, List, ◌∷◌, Some}
+use Rattle.std.specs.Prelude.{◌≡◌, ◌≤◌, ◌<◌, ◌⊎◌, ℕ, ◌+◌, ◌%◌, ℤ, pos, neg_ℤ, ◌-ℤ◌, ◌<ℤ◌, Bool, true, false, List, ◌∷◌, None, Some}
 use Rattle.tsp_base.specs.declared.act.Act.TheVariants.{Post, Close, Correct}
 use Rattle.tsp_base.specs.declared.constants.TheConstants.{CLOSE, LAST, LIMIT, QUIET, REUSE, SLACK, TRIES}
 use Rattle.tsp_base.specs.declared.datagram.Datagram.TheVariants.{Message}
@@ -11,7 +11,7 @@ use Rattle.tsp_base.specs.History.{Did, Acts, Seen, Here, plain}
 use Rattle.tsp_base.specs.Messages.{MessageValue}
 use Rattle.tsp_base.specs.NodeFacts.{boot_tick, target}
 use Rattle.tsp_base.specs.Places.{Within}
-use Rattle.tsp_base.specs.PortFacts.{role, acting}
+use Rattle.tsp_base.specs.PortFacts.{role, acting, taken}
 use Rattle.tsp_base.specs.RoundFacts.{Sampled, best, started}
 use Rattle.tsp_base.specs.SendFacts.{open_to, posts_of, last_to, last_post, is_acknowledged}
 use Rattle.tsp_promises.specs.StepFacts.{closed}
@@ -42,7 +42,7 @@ pub record FollowedBy (close : Did) (past before : List Seen) (mean : ℤ) : Typ
   pub shown : ℤ
   pub deed : next.deed ≡ Acts (Correct mean stepped shown)
 
--- this Close, the last one of the step, begins the correction, from the best sample of p in its round: the number is the sample's ticket, and an ADJTIME's time is what p lacks to the mean
+-- this Close, the last one of the step, begins the correction before the step takes anything, from the best sample of p in its round: the number is the sample's ticket, and an ADJTIME's time is what p lacks to the mean
 pub record FromClose (here : Did) (before : List Seen) (p : PeerId) (m : MessageValue) (close : Did) (past : List Seen) (mean : ℤ) (sample : Sampled) : Type 0 where
   pub is : closed before ≡ Here close ∷ past
   pub count : ℕ
@@ -58,6 +58,7 @@ pub record FromClose (here : Did) (before : List Seen) (p : PeerId) (m : Message
   pub best_is : best p past ≡ Some sample
   pub number : m.number ≡ sample.ticket
   pub value : m.kind ≡ AdjTime → time_in m.body ≡ mean -ℤ sample.diff
+  pub untaken : taken before ≡ None
   -- the clock moved by the mean, or the mean is 0
   pub followed : (mean ≡ pos 0) ⊎ FollowedBy close past before mean
 

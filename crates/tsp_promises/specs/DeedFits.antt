@@ -1,7 +1,8 @@
 -- What each deed owes to its port's past, and to what the port is set up with.
 use Rattle.std.specs.Prelude.{◌≡◌, ℕ, ◌≤◌, ◌⊎◌, ◌+◌, ◌%◌, Bool, true, false, List, None, Some}
 use Rattle.tsp_base.specs.declared.act.Act.{Act}
-use Rattle.tsp_base.specs.declared.act.Act.TheVariants.{Took, Post, Become, Back, Backer, Quit as QuitAct, Sample, Acked, Close, Correct}
+use Rattle.tsp_base.specs.declared.act.Act.TheVariants.{Took, Post, Become, Back, Backer, Arm, Quit as QuitAct, Sample, Acked, Close, Correct}
+use Rattle.tsp_base.specs.declared.alarm.Alarm.TheVariants.{Close as AlarmClose}
 use Rattle.tsp_base.specs.declared.constants.TheConstants.{QUIET}
 use Rattle.tsp_base.specs.declared.datagram.Datagram.{Datagram}
 use Rattle.tsp_base.specs.declared.datagram.Datagram.TheVariants.{Message, Stamp}
@@ -11,7 +12,6 @@ use Rattle.tsp_base.specs.declared.kind.Kind.TheVariants.{AdjTime, Ack, MasterRe
 use Rattle.tsp_base.specs.declared.place.PeerId.{PeerId}
 use Rattle.tsp_base.specs.declared.place.Place.{Place}
 use Rattle.tsp_base.specs.declared.place.Place.TheVariants.{Peer, Stranger}
-use Rattle.tsp_base.specs.declared.role.Role.TheVariants.{Master}
 use Rattle.tsp_base.specs.declared.stamp.Stamp.TheVariants.{Request, Reply}
 use Rattle.tsp_promises.specs.AckFits.{AckFits, AckedFits}
 use Rattle.tsp_promises.specs.CorrectFits.{CorrectFits}
@@ -24,7 +24,8 @@ use Rattle.tsp_promises.specs.MeasureFits.{RequestFits, ReplyFits, SampleFits}
 use Rattle.tsp_promises.specs.QuitFits.{QuitFits}
 use Rattle.tsp_base.specs.Messages.{MessageValue}
 use Rattle.tsp_base.specs.NodeFacts.{boot_tick, ticket, word}
-use Rattle.tsp_base.specs.PortFacts.{role, acting, taken}
+use Rattle.tsp_base.specs.PortFacts.{acting, taken}
+use Rattle.tsp_promises.specs.RoundFits.{CloseFits, StartFits}
 use Rattle.tsp_base.specs.SendFacts.{begun}
 use Rattle.tsp_base.specs.Setup.{Setup}
 use Rattle.tsp_promises.specs.StepFacts.{StepEnds, is_answered, is_unbacked}
@@ -120,10 +121,11 @@ ActFits setup (Took from taken) here before = heard (plain before) ≡ None
 ActFits setup (Become r) here before = BecomeFits setup r here before
 ActFits setup (Back p) here before = BackFits here before p
 ActFits setup (Backer p) here before = BackerFits setup here before p
+ActFits setup (Arm AlarmClose at) here before = StartFits here before
 ActFits setup (QuitAct p) here before = QuitFits before p
 ActFits setup (Sample p counter diff err number) here before = SampleFits here before p counter diff err number
-ActFits setup (Close count lo size mean) here before = role before ≡ Master
-ActFits setup (Correct amount stepped shown) here before = CorrectFits here before amount stepped shown
+ActFits setup (Close count lo size mean) here before = CloseFits here before
+ActFits setup (Correct amount stepped shown) here before = CorrectFits setup here before amount stepped shown
 ActFits setup (Acked p) here before = AckedFits before p
 ActFits setup _ here before = Unit {0}
 

@@ -14,6 +14,8 @@ pub mod CorrectionFits
 pub mod DateFits
 pub mod DateUse
 pub mod Dated
+pub mod DatedUse
+pub mod DatesBroken
 pub mod DeedFits
 pub mod ErrsBounded
 pub mod Estimates
@@ -25,9 +27,13 @@ pub mod HoldFits
 pub mod Kept
 pub mod LateReply
 pub mod LoopFits
+pub mod LoopUse
 pub mod Looped
+pub mod LoopsBroken
 pub mod MeasureFits
 pub mod Measured
+pub mod Moderate
+pub mod ModerateUse
 pub mod NodeRuns
 pub mod Once
 pub mod OneBack
@@ -45,10 +51,12 @@ pub mod Relayed
 pub mod Relays
 pub mod Resolved
 pub mod RivalsMeet
+pub mod RoundFits
 pub mod RoundsUse
 pub mod Runs
 pub mod Safe
 pub mod SameWords
+pub mod Seldom
 pub mod SetUse
 pub mod Setting
 pub mod ShownAt

@@ -52,8 +52,23 @@ pub record FromSlaveUp (m : ℕ) (c : Line) (past : List Line) (t : Taking m c p
   pub datagram : Datagram
   pub deed : r.did.deed ≡ Acts (Post to datagram)
 
--- from the source of the number that a Correct takes to the Correct its node neither booted nor corrected its clock
+-- the source of the number that a Correct takes is a reading
+pub record SourceReading (m : ℕ) (c : Line) (past : List Line) (t : Taking m c past) : Type 0 where
+  pub close : Line
+  pub cpast : List Line
+  pub r : Line
+  pub older : List Line
+  pub is : FromReading m c past t close cpast r older
+
+-- or a SLAVEUP
+pub record SourceSlaveUp (m : ℕ) (c : Line) (past : List Line) (t : Taking m c past) : Type 0 where
+  pub r : Line
+  pub older : List Line
+  pub is : FromSlaveUp m c past t r older
+
+-- the number that a Correct takes has a source, and from that to the Correct its node neither booted nor corrected its clock
 pub record OneErrorAt (l : Line) (world : List Line) : Type 0 where
+  pub source : (m : ℕ) (t : Taking m l world) → SourceReading m l world t ⊎ SourceSlaveUp m l world t
   pub by_reading : (m : ℕ) (t : Taking m l world) (close : Line) (cpast : List Line) (r : Line) (older : List Line) → FromReading m l world t close cpast r older →
       Undisturbed (dids (of (node_of l) (r ∷ older))) (dids (of (node_of l) world))
   pub by_slaveup : (m : ℕ) (t : Taking m l world) (r : Line) (older : List Line) → FromSlaveUp m l world t r older →

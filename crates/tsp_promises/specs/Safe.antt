@@ -9,6 +9,7 @@ use Rattle.tsp_promises.specs.Estimates.{EstimatesHold}
 use Rattle.tsp_promises.specs.FirstSet.{FirstSet, FirstSetSoon}
 use Rattle.tsp_base.specs.History.{Line}
 use Rattle.tsp_promises.specs.Measured.{Measured, Trips}
+use Rattle.tsp_promises.specs.Moderate.{Moderate, ModerateClocks}
 use Rattle.tsp_promises.specs.Once.{OnceConfirmed, OnceCorrected, OnceObeyed, OnceSpaced, OnceSpacedOverLives, OnceTaken}
 use Rattle.tsp_promises.specs.OneBack.{OneBack}
 use Rattle.tsp_promises.specs.OneError.{OneError}
@@ -16,6 +17,7 @@ use Rattle.tsp_promises.specs.OnlyMaster.{OnlyMaster}
 use Rattle.tsp_promises.specs.Premises.{Honest, Life, OwnWords}
 use Rattle.tsp_promises.specs.Relayed.{Relayed}
 use Rattle.tsp_promises.specs.Resolved.{Resolved}
+use Rattle.tsp_promises.specs.Seldom.{Seldom}
 use Rattle.tsp_promises.specs.Setting.{Setting}
 use Rattle.tsp_promises.specs.Shows.{Shows}
 use Rattle.tsp_promises.specs.Silent.{Silent}
@@ -46,6 +48,9 @@ pub record Safe (setting : Setting) (world : List Line) : Type 0 where
   pub chained : Honest world → Life world → Chained setting world
   pub estimates_hold : Honest world → Life world → EstimatesHold setting world
   pub errs_bounded : ErrsBounded world
+  pub moderate : Moderate setting world
+  pub moderate_clocks : Honest world → Life world → ModerateClocks setting world
+  pub seldom : Seldom world
   pub throughout : Honest world → Life world → Throughout setting world
   pub relayed : Honest world → Life world → Relayed setting world
   pub resolved : Resolved world

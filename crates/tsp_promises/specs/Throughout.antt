@@ -1,5 +1,5 @@
 -- The promise that a round's bound never lapses: it holds of clocks with their later Corrects taken back.
-use Rattle.std.specs.Prelude.{◌≡◌, ◌≤◌, ◌≤ℤ◌, ℕ, ◌-◌, ◌*◌, ℤ, pos, ◌+ℤ◌, ◌-ℤ◌, nat_abs, List, ◌∷◌}
+use Rattle.std.specs.Prelude.{◌≡◌, ◌≤◌, ◌≤ℤ◌, ℕ, ◌+◌, ◌-◌, ◌*◌, ℤ, pos, ◌+ℤ◌, ◌-ℤ◌, nat_abs, List, ◌∷◌}
 use Rattle.tsp_base.specs.declared.act.Act.TheVariants.{Close}
 use Rattle.tsp_promises.specs.Agreed.{Cast}
 use Rattle.tsp_promises.specs.ClockAt.{clock_at}
@@ -36,6 +36,29 @@ abbrev pub BoundAt : Setting → List Line → ℕ → Type 0
 BoundAt setting h t = (m : ℕ) (close : Line) (cpast : List Line) (mean : ℤ) (c : Line) (past : List Line) (r : Line) (older : List Line) (err : ℤ) →
     SinceClose m close cpast mean c past r older err h → StillBound setting m cpast mean c past r err h t
 
+-- the Correct c takes an ADJTIME of a Close of m; its node didn't boot since
+pub record SinceCorrect (m : ℕ) (close : Line) (cpast : List Line) (c : Line) (past : List Line) (r : Line) (older : List Line) (err : ℤ) (h : List Line) : Type 0 where
+  pub cast : Cast m close cpast c past r older err
+  pub within : Within (c ∷ past) h
+  pub one_life : lives (dids (of (node_of c) (c ∷ past))) ≡ lives (dids (of (node_of c) h))
+
+-- likewise the clocks of two nodes at c and d, less what each was moved by since: they differ by at most both errors and drift
+pub record PeersStill (setting : Setting) (c : Line) (past : List Line) (r : Line) (e : ℤ) (d : Line) (qast : List Line) (q : Line) (f : ℤ) (h : List Line) (t : ℕ) : Type 0 where
+  pub taken_back : pos (nat_abs ((clock_at setting (node_of c) h t -ℤ moved_since (node_of c) (c ∷ past) h) -ℤ (clock_at setting (node_of d) h t -ℤ moved_since (node_of d) (d ∷ qast) h))) ≤ℤ
+      ((e +ℤ f) +ℤ pos (2 * width setting.drift (t - r.did.step.at) + 2 * width setting.drift (t - q.did.step.at)))
+  pub now : pos (nat_abs (clock_at setting (node_of c) h t -ℤ clock_at setting (node_of d) h t)) ≤ℤ
+      ((((e +ℤ f) +ℤ pos (2 * width setting.drift (t - r.did.step.at) + 2 * width setting.drift (t - q.did.step.at))) +ℤ pos (nat_abs (moved_since (node_of c) (c ∷ past) h))) +ℤ pos (nat_abs (moved_since (node_of d) (d ∷ qast) h)))
+
+-- two nodes that one Close corrected, whatever became of their master
+abbrev pub PeersBound : Setting → List Line → ℕ → Type 0
+PeersBound setting h t = (m : ℕ) (close : Line) (cpast : List Line) (c d : Line) (past qast : List Line) (r q : Line) (rolder qolder : List Line) (e f : ℤ) →
+    SinceCorrect m close cpast c past r rolder e h → SinceCorrect m close cpast d qast q qolder f h → PeersStill setting c past r e d qast q f h t
+
+-- both
+pub record BoundsLast (setting : Setting) (h : List Line) (t : ℕ) : Type 0 where
+  pub master : BoundAt setting h t
+  pub peers : PeersBound setting h t
+
 -- at each place, and after it at any later time
 abbrev pub Throughout : Setting → List Line → Type 0
-Throughout setting = Everywhere (λ l world. (t : ℕ) → l.did.step.at ≤ t → BoundAt setting (l ∷ world) t)
+Throughout setting = Everywhere (λ l world. (t : ℕ) → l.did.step.at ≤ t → BoundsLast setting (l ∷ world) t)

@@ -6,10 +6,22 @@ ghost use Rattle.tsp_promises.specs.Fits.{Fits};
 ghost use Rattle.tsp_base.specs.History.{Line};
 ghost use Rattle.tsp_promises.specs.Setting.{Setting};
 ghost use Rattle.tsp_promises.specs.Dated.{Dated};
+ghost use Rattle.tsp_promises.specs.DatedUse.{DatedUse};
+ghost use Rattle.tsp_promises.specs.DatesBroken.{DatesBreak};
 
 /// A date is set at a master alone, to the time that was taken. A date that was passed on and
 /// acknowledged was set, if no peer's datagram is forged, no datagram outlives `LIFE`, and no port
 /// begins 32,768 sends with own numbers in one life of its node.
 pub fn dated()
     ensures { (setting : Setting) (world : List Line) → Fits setting world → Dated setting world }
+{}
+
+/// The promise isn't empty: a history that fits sees a date passed on, set and acknowledged.
+pub fn dates_use()
+    ensures { DatedUse }
+{}
+
+/// And it says something: for each of its parts a small history breaks it.
+pub fn dates_can_be_broken()
+    ensures { DatesBreak }
 {}

@@ -19,6 +19,8 @@ ghost use Rattle.tsp_promises.specs.FirstSet.{FirstSet, FirstSetSoon};
 ghost use Rattle.tsp_promises.specs.Fits.{Fits, Finished};
 ghost use Rattle.tsp_promises.specs.LateReply.{LateReply};
 ghost use Rattle.tsp_promises.specs.Measured.{Measured, Trips};
+ghost use Rattle.tsp_promises.specs.Moderate.{Moderate, ModerateClocks};
+ghost use Rattle.tsp_promises.specs.ModerateUse.{ModerateUse};
 ghost use Rattle.tsp_promises.specs.Once.{OnceConfirmed, OnceCorrected, OnceObeyed, OnceSpaced, OnceSpacedOverLives, OnceTaken};
 ghost use Rattle.tsp_promises.specs.OneBack.{OneBack};
 ghost use Rattle.tsp_promises.specs.OneError.{OneError};
@@ -34,6 +36,7 @@ ghost use Rattle.tsp_promises.specs.RivalsMeet.{RivalsMeet};
 ghost use Rattle.tsp_promises.specs.RoundsUse.{RoundsUse};
 ghost use Rattle.tsp_promises.specs.Safe.{Safe};
 ghost use Rattle.tsp_promises.specs.SameWords.{MeasuresWrongly, SameWords};
+ghost use Rattle.tsp_promises.specs.Seldom.{Seldom};
 ghost use Rattle.tsp_promises.specs.SetUse.{SetUse};
 ghost use Rattle.tsp_promises.specs.Setting.{Setting};
 ghost use Rattle.tsp_promises.specs.PrintsUse.{PrintsUse};
@@ -69,7 +72,7 @@ pub fn silent_after_boot()
 /// A step takes one datagram at most. A port heeds a QUIT right after it took it, once in a step,
 /// and acknowledges it in that step, in every role. What goes to a stranger answers the datagram
 /// that the step took from one on that port, and is the only thing that it posts to strangers; so
-/// strangers never get more datagrams than they send.
+/// no more datagrams are posted to strangers than are taken from them.
 pub fn answered()
     ensures { (setting : Setting) (world : List Line) → Fits setting world → Finished world
         → Answered world }
@@ -160,17 +163,36 @@ pub fn errs_bounded()
     ensures { (setting : Setting) (world : List Line) → Fits setting world → ErrsBounded world }
 {}
 
+/// A minority of a round's estimates, whatever it says, moves nobody of the majority by much. Where
+/// more than half of the estimates lie within 20 ms of one another, the mean is off by at most
+/// 40 ms from each of them: so a master among them slews its clock by at most that, and so does
+/// each peer among them that takes the round's ADJTIME. What such a peer shows meets its clock
+/// within 8 s, if nothing was left to slew before. If no peer's datagram is forged and none outlives
+/// `LIFE`, the master's clock then stands with theirs.
+pub fn moderate()
+    ensures moves { (setting : Setting) (world : List Line) → Fits setting world
+        → Moderate setting world }
+    ensures clocks { (setting : Setting) (world : List Line) → Fits setting world → Honest world
+        → Life world → ModerateClocks setting world }
+{}
+
+/// In one life of a node two rounds close on one port at least 239 s of its ticks apart.
+pub fn seldom()
+    ensures { (setting : Setting) (world : List Line) → Fits setting world → Seldom world }
+{}
+
 /// A round's bound never lapses: with what the two nodes were moved by since taken back, the clock
 /// of a node that a Close corrected and that of the master agree as they did, until either boots;
-/// so the clocks differ by at most that besides.
+/// so the clocks differ by at most that besides. The same goes for two nodes that one Close
+/// corrected, whatever becomes of the master.
 pub fn throughout()
     ensures { (setting : Setting) (world : List Line) → Fits setting world → Honest world
         → Life world → Throughout setting world }
 {}
 
-/// No error is corrected twice: from the reading, or the SLAVEUP, on which a correction rests to
-/// the Correct that takes it the node neither boots nor corrects its clock, whichever masters there
-/// are, if no peer's datagram is forged and none outlives `LIFE`.
+/// No error is corrected twice: each correction that a clock takes rests on a reading or a SLAVEUP,
+/// and from that to the Correct that takes it the node neither boots nor corrects its clock,
+/// whichever masters there are, if no peer's datagram is forged and none outlives `LIFE`.
 pub fn one_error()
     ensures { (setting : Setting) (world : List Line) → Fits setting world → Honest world
         → Life world → OneError world }
@@ -296,8 +318,8 @@ pub fn chain_use()
     ensures { ChainUse }
 {}
 
-/// Nor is the promise that a round's bound never lapses: a history that fits sees a second round
-/// move both clocks of the first.
+/// Nor is the promise that a round's bound never lapses, nor that rounds stand apart: a history that
+/// fits sees a second round of one life move both clocks of the first.
 pub fn rounds_use()
     ensures { RoundsUse }
 {}
@@ -308,14 +330,21 @@ pub fn estimates_use()
     ensures { EstimatesUse }
 {}
 
+/// Nor is what is promised of a majority: a history that fits sees a round in which a master and a
+/// peer agree, and another peer seems to stand a second off. The first two are moved by 51 and
+/// 50 microseconds, the last one by a second.
+pub fn moderate_use()
+    ensures { ModerateUse }
+{}
+
 /// Nor are those of first settings and of single corrections: a history that fits sees a clock set
 /// by the answer to a SLAVEUP, and corrected by an ADJTIME that rests on a reading.
 pub fn set_use()
     ensures { SetUse }
 {}
 
-/// Nor are those of shown values: a history that fits sees a clock slewed until it meets its target,
-/// and a wait that is long enough.
+/// Nor are those of shown values: a history that fits sees a clock slewed until it meets its
+/// target, and a wait that is long enough.
 pub fn shown_use()
     ensures { ShownUse }
 {}

@@ -35,7 +35,7 @@ one_stop s n m a b = elim (cases_order n m) [
 ]
 
 pub one_answer : (s : StormWords) (end other : StormEnd) (text more : List ℕ) → IsAnswer s end text → IsAnswer s other more → (end ≡ other) × (text ≡ more)
-one_answer s Done Done text more a b = (refl, a.1 ∙ sym b.1)
+one_answer s Done Done text more a b = (refl, a.2 ∙ sym b.2)
 one_answer s Done Limit text more a b = absurd (none_is_limit s b.0 s.events b.1.within a.0 b.1.limit)
 one_answer s Limit Done text more a b = absurd (none_is_limit s a.0 s.events a.1.within b.0 a.1.limit)
 one_answer s Limit Limit text more a b = (refl, a.2 ∙ ap (λ n. limit_line (n + 1)) (one_stop s a.0 b.0 a.1 b.1) ∙ sym b.2)
@@ -51,7 +51,7 @@ part_of : (s : StormWords) (end : StormEnd) (text : List ℕ) (written now : Opt
 part_of s end text written now a (other, more, rest, b, some, part) = (rest, some, subst (λ t. IsPart t written now rest) (one_answer s other end more text b a).1 part)
 
 some_text : (s : StormWords) (end : StormEnd) (text : List ℕ) → IsAnswer s end text → 0 < length text
-some_text s Done text a = let e = ap (λ t. length t) a.1 in omega (arith, e, length-append {A = ℕ})
+some_text s Done text a = let e = ap (λ t. length t) a.2 in omega (arith, e, length-append {A = ℕ})
 some_text s Limit text a = let e = ap (λ t. length t) a.2 in omega (arith, e, length-append {A = ℕ})
 some_text s WriteFault text a = absurd a
 some_text s OutOfMemory text a = absurd a

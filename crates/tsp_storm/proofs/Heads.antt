@@ -13,10 +13,12 @@ use Rattle.tsp_script.specs.Storms.{StormValue, moved, drawn, storm_line}
 near : (d b : ℕ) → d ≤ 2 * b → nat_abs (pos d -ℤ pos b) ≤ b
 near d b h = omega (arith, ints)
 
-rate_near : (v : StormValue) → nat_abs (storm_line v).rate ≤ 100
+-- a drawn rate keeps the drift
+pub rate_near : (v : StormValue) → nat_abs (storm_line v).rate ≤ 100
 rate_near v = near (drawn 201 (moved v)) 100 (omega (arith, mod_below ((moved v).state / 2 ^ 33) 201 (omega arith)))
 
-wall_near : (v : StormValue) → nat_abs (storm_line v).wall ≤ 1000000
+-- a drawn wall clock is near 0
+pub wall_near : (v : StormValue) → nat_abs (storm_line v).wall ≤ 1000000
 wall_near v = near (drawn 2000001 (moved (moved v))) 1000000 (omega (arith, mod_below ((moved (moved v)).state / 2 ^ 33) 2000001 (omega arith)))
 
 -- only memory can be lacking

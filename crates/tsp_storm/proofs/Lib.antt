@@ -5,3 +5,6 @@ pub mod Heads
 pub mod Mades
 pub mod Steps
 pub mod Ups
+mod BootWords
+pub mod StormKeeps
+mod Tame

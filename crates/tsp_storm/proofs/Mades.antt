@@ -68,7 +68,7 @@ IsMade-begins s is = let a = after_is s.nodes (generator_of s) in record {
 }
 
 -- before all nodes are up the next event is the boot of the next
-next-boots : (posted : ℕ) (v : StormValue) (e : Event) → IsNext posted v e → v.given < v.nodes → (word : ℕ) × (e ≡ Boot 0 v.given word)
+pub next-boots : (posted : ℕ) (v : StormValue) (e : Event) → IsNext posted v e → v.given < v.nodes → (word : ℕ) × (e ≡ Boot 0 v.given word)
 next-boots posted v (Boot at node word) n lt = (word, let same : at ≡ 0 = n.0 in let node_is : node ≡ v.given = n.1 in cc)
 next-boots posted v (Turn at node) n lt = absurd (let ge = n.0 in omega (arith, ge, lt))
 next-boots posted v (Take at k) n lt = absurd (let ge = n.0 in omega (arith, ge, lt))

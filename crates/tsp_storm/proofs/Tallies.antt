@@ -12,6 +12,7 @@ use Rattle.tsp_storm.specs.Makings.{MakingStands, StopsFor}
 use Rattle.tsp_storm.specs.Schedules.{header_of, events_of, posted_in}
 use Rattle.tsp_storm.specs.Summaries.{acts_like, is_took, is_correct, is_mastership, Counted, summary_text}
 use Rattle.tsp_storm.proofs.Steps.{made_now}
+use Rattle.tsp_storm.proofs.StormKeeps.{storm-kept}
 use Rattle.tsp_args.specs.declared.storm.StormWords.{StormWords}
 use Rattle.tsp_run.specs.declared.line.Line.{Line}
 use Rattle.tsp_run.specs.Refusals.{Valid}
@@ -43,6 +44,7 @@ pub sums_up : (s : StormWords) (m : Making) (posted : ℕ) (counts : Counts) →
     SumsUp s (record { events = s.events; posted = posted; counts = counts })
 sums_up s m posted counts st all sent c = (
   subst (λ n. Valid (header_of s) (events_of s n)) all st.world.valid,
+  storm-kept s st.words s.events (subst (λ n. Valid (header_of s) (events_of s n)) all st.world.valid),
   summary_same s.events (length (events_of s s.events)) posted (posted_in (header_of s) (events_of s s.events)) counts.took _ counts.corrects _ counts.masters _
       (sym all ∙ (made_now s m st).count ∙ ap (λ n. length (events_of s n)) all)
       (sent ∙ ap (λ ps. length ps) st.world.sent ∙ ap (λ n. posted_in (header_of s) (events_of s n)) all)

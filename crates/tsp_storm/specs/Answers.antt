@@ -9,6 +9,7 @@ use Rattle.tsp_storm.specs.declared.run.StormEnd.TheVariants.{Done, Limit, Write
 use Rattle.tsp_storm.specs.declared.making.Stopped.{Stopped}
 use Rattle.tsp_storm.specs.declared.making.Stopped.TheVariants.{Limit as NoRoomFor, OutOfMemory as NoMemory}
 use Rattle.tsp_storm.specs.declared.summary.Summary.{Summary}
+use Rattle.tsp_storm.specs.Kept.{KeptOutright}
 use Rattle.tsp_storm.specs.Schedules.{header_of, events_of, event_after}
 use Rattle.tsp_storm.specs.Summaries.{summary, summary_text}
 use Rattle.tsp_args.specs.declared.storm.StormWords.{StormWords}
@@ -28,9 +29,9 @@ pub record StopsAfter (s : StormWords) (n : ℕ) : Type 0 where
   pub valid : Valid (header_of s) (events_of s n)
   pub limit : IsLimit (refused_after s n)
 
--- how a storm ends and what it writes, if no write fails and there is memory: the summary of the run of its whole schedule, or the number of the event for which there is no room
+-- how a storm ends and what it writes, if no write fails and there is memory: the summary of the run of its whole schedule, which keeps the promises, or the number of the event for which there is no room
 abbrev pub IsAnswer : StormWords → StormEnd → List ℕ → Type 0
-IsAnswer s Done text = Valid (header_of s) (events_of s s.events) × (text ≡ summary (header_of s) (events_of s s.events))
+IsAnswer s Done text = Valid (header_of s) (events_of s s.events) × KeptOutright (header_of s) (events_of s s.events) × (text ≡ summary (header_of s) (events_of s s.events))
 IsAnswer s Limit text = (n : ℕ) × StopsAfter s n × (text ≡ limit_line (n + 1))
 IsAnswer s WriteFault text = ⊥
 IsAnswer s OutOfMemory text = ⊥
@@ -61,10 +62,11 @@ Agrees end text written now OutOfMemory = (rest : List ℕ) × (0 < length rest)
 abbrev pub HasRoom : StormWords → Type 0
 HasRoom s = (n : ℕ) → n < s.events → ¬ IsLimit (refused_after s n)
 
--- this is the summary of the run of the whole schedule, of which no event is refused
+-- this is the summary of the run of the whole schedule, of which no event is refused and which keeps the promises
 abbrev pub SumsUp : StormWords → Summary → Type 0
 SumsUp s t =
     Valid (header_of s) (events_of s s.events)
+    × KeptOutright (header_of s) (events_of s s.events)
     × (summary_text t.events t.posted t.counts.took t.counts.corrects t.counts.masters ≡ summary (header_of s) (events_of s s.events))
 
 -- why the whole schedule didn't happen

@@ -1,4 +1,5 @@
 pub mod Answers
+pub mod Kept
 pub mod Makings
 pub mod Schedules
 pub mod Summaries

@@ -67,7 +67,8 @@ fn say<K: Sink>(sink: &mut K, text: &[u8], end: StormEnd) -> StormEnd
     }
 }
 
-/// Makes a schedule from a number, runs it, and writes the summary of its run in one line.
+/// Makes a schedule from a number, runs it, and writes the summary of its run in one line. That run keeps
+/// the promises with nothing asked (`specs/Kept.antt`).
 ///
 /// An event for which there is no room ends it with `Limit` and the line `limit E`, where E is the event's
 /// number, from 1 on. `WriteFault` comes only where the sink's count of faults rose in this call.

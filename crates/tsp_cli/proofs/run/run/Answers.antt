@@ -1,6 +1,7 @@
 use Rattle.std.proofs.Common.{inl, inr, refl}
 use Rattle.tsp_args.specs.declared.command.Command.TheVariants.{Replay}
-use Rattle.tsp_cli.proofs.CommandLemmas.{command_same, does_as, untouched_as, command_read, command_none, link_fault, Untouched-same, Says-nothing, Replay_prints}
+use Rattle.tsp_cli.proofs.CommandLemmas.{command_same, does_as, untouched_as, command_read, command_none, link_fault, Untouched-same, Says-nothing, Replay_prints, Replay_so_far}
+use Rattle.tsp_cli.proofs.SoFarLemmas.{nothing-so-far}
 use Rattle.tsp_cli.proofs.run.run.Goals as goal
 
 pub run_command-requires-clause-command : goal.run_command-requires-clause-command
@@ -15,6 +16,11 @@ pub returns-in-Ok-Some-clause-headline : goal.returns-in-Ok-Some-clause-headline
 returns-in-Ok-Some-clause-headline g c = λ words ok.
     let same = command_same _ _ Replay c.in-Ok-Some.field-0-is (c.in-Ok-Some.ensures.one Replay tt words) in
     Replay_prints _ _ _ c.run_command.result same c.run_command.ensures.does ok
+
+pub returns-in-Ok-Some-clause-so_far : goal.returns-in-Ok-Some-clause-so_far
+returns-in-Ok-Some-clause-so_far g c = λ words.
+    let same = command_same _ _ Replay c.in-Ok-Some.field-0-is (c.in-Ok-Some.ensures.one Replay tt words) in
+    Replay_so_far _ _ _ c.run_command.result same c.run_command.ensures.does
 
 pub returns-in-Ok-Some-clause-usage : goal.returns-in-Ok-Some-clause-usage
 returns-in-Ok-Some-clause-usage g c = λ none. let read = command_read _ _ _ c.in-Ok-Some.field-0-is c.in-Ok-Some.ensures.reads in absurd (none _ read.0 read.1)
@@ -33,6 +39,9 @@ returns-in-Ok-None-clause-does g c = λ command is words. absurd (command_none _
 pub returns-in-Ok-None-clause-headline : goal.returns-in-Ok-None-clause-headline
 returns-in-Ok-None-clause-headline g c = λ words ok. absurd (command_none _ _ c.in-Ok-None.field-0-is c.in-Ok-None.ensures.reads Replay tt words)
 
+pub returns-in-Ok-None-clause-so_far : goal.returns-in-Ok-None-clause-so_far
+returns-in-Ok-None-clause-so_far g c = λ words. absurd (command_none _ _ c.in-Ok-None.field-0-is c.in-Ok-None.ensures.reads Replay tt words)
+
 pub returns-in-Ok-None-clause-untouched : goal.returns-in-Ok-None-clause-untouched
 returns-in-Ok-None-clause-untouched g c = λ command is words. Untouched-same command _ _ _
 
@@ -41,6 +50,9 @@ returns-in-Err-clause-does g c = λ command is words. inl (refl, refl)
 
 pub returns-in-Err-clause-usage : goal.returns-in-Err-clause-usage
 returns-in-Err-clause-usage g c = λ unbuilt. (Says-nothing _, refl, refl, refl)
+
+pub returns-in-Err-clause-so_far : goal.returns-in-Err-clause-so_far
+returns-in-Err-clause-so_far g c = λ words. nothing-so-far _ _
 
 pub returns-in-Err-clause-untouched : goal.returns-in-Err-clause-untouched
 returns-in-Err-clause-untouched g c = λ command is words. Untouched-same command _ _ _

@@ -25,7 +25,7 @@ returns-in-Ok-clause-serves g c = λ o wall word written k.
     let last = c.word-word.ensures.same.4 ∙ c.wall-wall.ensures.same.3 ∙ c.tick-tick.ensures.last in
     let read = Tells_read o _ _ _ _ _ _ _ _ _ c.tick-tick.ensures.takes readings last k.tells in
     let back : to_z w64 (of_z w64 c.wall-wall.result) ≡ c.wall-wall.result = search rules in
-    inr (inr (IsServed_serves _ o wall _ word _ _ written c.in-Ok.node _ _ _ _ _ _ _ _ c.serve.result c.of.result read.1 (back ∙ wall_is) word_is c.in-Ok.ensures.wall c.in-Ok.ensures.stands read.0 k.written_is c.of.ensures c.serve.ensures.serves c.serve.ensures.waits))
+    inr (inr (IsServed_serves _ o wall _ word _ _ written c.in-Ok.node _ _ _ _ _ _ _ _ c.serve.result c.of.result read.1 (back ∙ wall_is) word_is c.in-Ok.ensures.wall c.in-Ok.ensures.stands read.0 k.written_is c.of.ensures c.requires.serve c.serve.ensures.serves))
 
 pub returns-in-Ok-clause-still : goal.returns-in-Ok-clause-still
 returns-in-Ok-clause-still g c = (

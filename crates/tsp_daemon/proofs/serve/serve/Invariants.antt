@@ -3,7 +3,7 @@ use Rattle.std.proofs.Common.{◌≡◌, ◌≤◌, ◌*◌}
 use Rattle.tsp_gateway.specs.GatewayStands.{clock_at}
 use Rattle.tsp_gateway.specs.Rooms.{ports_in, room_of_ports}
 use Rattle.tsp_daemon.specs.Ends.{IsAt, Lives}
-use Rattle.tsp_daemon.specs.Sessions.{Session, after_turns}
+use Rattle.tsp_daemon.specs.Sessions.{Session, after_turns, Rises}
 use Rattle.tsp_daemon.specs.Waits.{NotesWaits}
 use Rattle.tsp_daemon.proofs.serve.serve.Given as goal
 
@@ -13,6 +13,8 @@ invariant-loop g l = record {
       IsAt (after_turns l.counter s) l.gateway l.course (g.L.Link.arrivals l.link) (g.L.Link.tried l.link) (g.L.Link.calls l.link) (g.T.Ticker.readings l.ticker) (g.T.Ticker.last l.ticker) (g.K.Sink.written l.sink);
   waits : (s : Session) → IsAt s l.fn.gateway l.initial.course (g.L.Link.arrivals l.fn.link) (g.L.Link.tried l.fn.link) (g.L.Link.calls l.fn.link) (g.T.Ticker.readings l.fn.ticker) (g.T.Ticker.last l.fn.ticker) (g.K.Sink.written l.fn.sink) →
       NotesWaits s l.counter (g.L.Link.waits l.fn.link) (g.L.Link.waits l.link);
+  rises : (s : Session) → IsAt s l.fn.gateway l.initial.course (g.L.Link.arrivals l.fn.link) (g.L.Link.tried l.fn.link) (g.L.Link.calls l.fn.link) (g.T.Ticker.readings l.fn.ticker) (g.T.Ticker.last l.fn.ticker) (g.K.Sink.written l.fn.sink) →
+      Rises l.counter s;
   binds : g.L.Link.binds l.link ≡ g.L.Link.binds l.fn.link;
   walled : g.T.Ticker.left_at_wall l.ticker ≡ g.T.Ticker.left_at_wall l.fn.ticker;
   lives : Lives l.gateway;

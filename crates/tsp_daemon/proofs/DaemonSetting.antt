@@ -1,0 +1,76 @@
+-- Every daemon has a setting.
+use Rattle.std.specs.Prelude.{◌≡◌, ℕ, zero, suc, ◌+◌, ◌<◌, ◌==◌, ℤ, pos, ◌+ℤ◌, ◌-ℤ◌, true, List, [], ◌∷◌, length, map, Option, None, Some, slice_get, slice_index_or, refl}
+use Rattle.std.specs.List.{range_with_len}
+use Rattle.std.proofs.Common.{ap, arith, eq-eqb}
+use Rattle.std.proofs.lemmas.Int.{ints}
+use Rattle.tsp_args.specs.declared.serve.ServeWords.{ServeWords}
+use Rattle.tsp_base.specs.declared.place.PeerId.{PeerId}
+use Rattle.tsp_base.specs.declared.place.Port.{Port}
+use Rattle.tsp_base.specs.Peers.{is_among}
+use Rattle.tsp_io.specs.declared.addr.Addr.{Addr}
+use Rattle.tsp_promises.specs.Setting.{Alone, Named, Network, Setting}
+use Rattle.tsp_rules.specs.NodeRows.{PortSetup, no_port}
+use Rattle.tsp_daemon.specs.Kept.{SetByWords}
+use Rattle.tsp_daemon.specs.Nodes.{is_strict, peer_of, setups_from}
+
+-- each port is on a network of its own
+abbrev net_of : ℕ → Port → Network
+net_of zero q = Named q.0
+net_of (suc n) q = Alone (suc n) q.0
+
+abbrev peers_in : Option PortSetup → List PeerId
+peers_in None = peer_of 0 ∷ []
+peers_in (Some setup) = setup.peers
+
+-- who is on it: on the daemon's own the peers of its port
+abbrev members_in : List PortSetup → Network → List PeerId
+members_in ports (Named k) = peers_in (slice_get ports k)
+members_in ports (Alone n q) = peer_of n ∷ []
+
+port-one : (p q : Port) → p.0 ≡ q.0 → p ≡ q
+port-one p q e = let same : record { 0 = p.0 } ≡ record { 0 = q.0 } = rw e refl in same
+
+-- the number of a network
+abbrev number_of : Network → ℕ
+number_of (Named k) = k
+number_of (Alone n q) = q
+
+apart : (n : ℕ) (p q : Port) → net_of n p ≡ net_of n q → p ≡ q
+apart zero p q e = port-one p q (ap number_of e)
+apart (suc n) p q e = port-one p q (ap number_of e)
+
+among-self : (n : ℕ) (rest : List PeerId) → is_among (peer_of n) (peer_of n ∷ rest) ≡ true
+among-self n rest = let same : (n == n) ≡ true = eq-eqb n n refl in rw same refl
+
+own-peers : (done : ℕ) (ports : List (List Addr)) (k : ℕ) → is_among (peer_of 0) (peers_in (slice_get (setups_from done ports) k)) ≡ true
+own-peers done [] k = among-self 0 []
+own-peers done (peers ∷ ports) zero = among-self 0 (map (λ number. peer_of number) (range_with_len (done + 1) (length peers)))
+own-peers done (peers ∷ ports) (suc k) = own-peers (done + length peers) ports k
+
+own : (s : ServeWords) (n : ℕ) (q : Port) → is_among (peer_of n) (members_in (setups_from 0 s.ports) (net_of n q)) ≡ true
+own s zero q = own-peers 0 s.ports q.0
+own s (suc n) q = among-self (suc n) []
+
+port-peers : (done : ℕ) (ports : List (List Addr)) (k : ℕ) → k < length ports → peers_in (slice_get (setups_from done ports) k) ≡ (slice_index_or (setups_from done ports) k no_port).peers
+port-peers done [] k lt = absurd (omega (arith, lt))
+port-peers done (peers ∷ ports) zero lt = refl
+port-peers done (peers ∷ ports) (suc k) lt = port-peers (done + length peers) ports k (omega (arith, lt))
+
+-- the setting of a daemon's words at its boot
+pub daemon-setting : (s : ServeWords) (tick : ℕ) (wall : ℤ) → (setting : Setting) × SetByWords s tick wall setting
+daemon-setting s tick wall = (
+  record {
+    drift = 0;
+    rate = λ n. pos 0;
+    wall = λ n. wall -ℤ pos tick;
+    name = λ n. s.name;
+    strict = is_strict s.candidacy;
+    net = net_of;
+    members = members_in (setups_from 0 s.ports);
+    small = omega arith;
+    rates = λ n. omega arith;
+    apart = apart;
+    own = own s;
+  },
+  record { drift_is = refl; wall_is = omega (arith, ints); name_is = refl; strict_is = refl; members_are = λ q lt. port-peers 0 s.ports q.0 lt },
+)

@@ -1,0 +1,306 @@
+-- The history of a daemon's node fits, whoever sends to it: its boot and each turn add a step that does.
+use Rattle.std.specs.Prelude.{◌≡◌, ℕ, zero, suc, ◌+◌, ◌*◌, ◌/◌, ◌<◌, ◌≤◌, ◌^◌, ◌==◌, if◌then◌else◌, ℤ, pos, negsuc, ◌+ℤ◌, nat_abs, Bool, true, false, List, [], ◌∷◌, length, None, Some, slice_index_or, refl}
+use Rattle.std.proofs.Common.{sym, ap, ◌∙◌, subst, arith, inr}
+use Rattle.std.proofs.lemmas.Bool.{ne_eqb}
+use Rattle.tsp_args.specs.Serves.{IsServe}
+use Rattle.tsp_args.specs.declared.serve.ServeWords.{ServeWords}
+use Rattle.tsp_base.specs.declared.act.Act.TheVariants.{Boot, Post}
+use Rattle.tsp_base.specs.declared.act.Placed.{Placed}
+use Rattle.tsp_base.specs.declared.place.PeerId.{PeerId}
+use Rattle.tsp_base.specs.declared.place.Place.{Place}
+use Rattle.tsp_base.specs.declared.place.Place.TheVariants.{Peer, Stranger}
+use Rattle.tsp_base.specs.declared.place.Port.{Port}
+use Rattle.tsp_base.specs.History.{Acts, Begins, Booted, Cause, Deed, Line, Step, Turned, dids, of, view}
+use Rattle.tsp_base.specs.Joins.{first_port, joined, line_of}
+use Rattle.tsp_base.specs.NodeFacts.{time_of, up}
+use Rattle.tsp_base.specs.Rows.{puts}
+use Rattle.tsp_base.specs.Takings.{posted, posted_after}
+use Rattle.tsp_base.specs.Ticks.{tick_at}
+use Rattle.tsp_base.proofs.PlaceLemmas.{Within-all}
+use Rattle.tsp_gateway.specs.GateConfigs.{peers_of_ports}
+use Rattle.tsp_gateway.specs.PortOf.{has_other, port_of_from}
+use Rattle.tsp_gateway.specs.Rooms.{room_of_ports}
+use Rattle.tsp_io.specs.Links.{Arrival}
+use Rattle.tsp_io.specs.declared.addr.Addr.{Addr}
+use Rattle.tsp_promises.specs.Dated.{SetsAt}
+use Rattle.tsp_promises.specs.Fits.{Fits, Finished}
+use Rattle.tsp_promises.specs.PortFits.{PortFits, setup_in}
+use Rattle.tsp_promises.specs.Setting.{Setting, setup_of}
+use Rattle.tsp_promises.specs.StepFacts.{StepEnds}
+use Rattle.tsp_promises.proofs.ChainProof.{looped_in}
+use Rattle.tsp_promises.proofs.EverywhereLemmas.{Everywhere-from}
+use Rattle.tsp_promises.proofs.GateFacts.{AllPorts}
+use Rattle.tsp_promises.proofs.GateLeads.{GivenOn, answers_all_lead}
+use Rattle.tsp_promises.proofs.Known.{Fresh, Rests}
+use Rattle.tsp_promises.proofs.NodeLeads.{begins_all, boots_all_lead}
+use Rattle.tsp_promises.proofs.OwnFitsProof.{fits_at}
+use Rattle.tsp_promises.proofs.RunLeads.{ends_of, nothing-done, rests_later}
+use Rattle.tsp_promises.proofs.SafeProof.{safe}
+use Rattle.tsp_promises.proofs.SetProof.{sets_at}
+use Rattle.tsp_query.specs.Arrivals.{next_arrival}
+use Rattle.tsp_query.specs.Ends.{Outside}
+use Rattle.tsp_rules.specs.GateRows.{NodeGiven, NodeTurn, GotOn, all_ports, answers_all, boots_all, boots_on}
+use Rattle.tsp_rules.specs.NodeRows.{NodePast, NodeRow, PortSetup, in_node_step, no_port, on, on_port, port_setup, reading_all, spread, for_ports, ◌and_then◌}
+use Rattle.tsp_rules.proofs.NodeRowLemmas.{spread_append}
+use Rattle.tsp_run.specs.Networks.{room}
+use Rattle.tsp_run.proofs.AnswersFit.{StepOk, boot_ok, got_ok, turn_ok}
+use Rattle.tsp_run.proofs.FitsLines.{ActsOn, AllAlive, AreOn, acts_fit, all_end, mark_line}
+use Rattle.tsp_run.proofs.RunLemmas.{up_joined}
+use Rattle.tsp_daemon.specs.Kept.{HistoryKept, SetByWords}
+use Rattle.tsp_daemon.specs.Nodes.{config_of, first_past, is_strict, setups_from}
+use Rattle.tsp_daemon.specs.Serving.{first_session}
+use Rattle.tsp_daemon.specs.Sessions.{Session, after_turns, begun, cause_of, given_in, given_of, port_from, read_once, Rises, tick_of}
+use Rattle.tsp_daemon.proofs.NodeLemmas.{length-setups_from, room_is}
+
+-- all lines are of node 0
+abbrev AreOwn : List Line → Type 0
+AreOwn [] = Unit {0}
+AreOwn (l ∷ before) = (l.did.step.node ≡ 0) × AreOwn before
+
+of-own : (ls : List Line) → AreOwn ls → of 0 ls ≡ ls
+of-own [] own = refl
+of-own (l ∷ before) own =
+    ap (λ n. if n == 0 then l ∷ of 0 before else of 0 before) own.0 ∙ ap (λ rest. l ∷ rest) (of-own before own.1)
+
+of-other : (m : ℕ) (ls : List Line) → AreOwn ls → of (suc m) ls ≡ []
+of-other m [] own = refl
+of-other m (l ∷ before) own =
+    ap (λ n. if n == suc m then l ∷ of (suc m) before else of (suc m) before) own.0
+    ∙ ap (λ b. if b then l ∷ of (suc m) before else of (suc m) before) (ne_eqb 0 (suc m) (λ e. omega (arith, e)))
+    ∙ of-other m before own.1
+
+-- what a step adds is of its node, on the ports of its acts, at its time, and at most one post an act
+joined-own : (step : Step) (x : ℕ) (acts : List Placed) (h : List Line) → step.node ≡ 0 → AreOwn h → AreOwn (joined step x acts h)
+joined-own step x [] h none own = own
+joined-own step x (p ∷ rest) h none own = joined-own step x rest (line_of step x p.port (Acts p.act) ∷ h) none (none, own)
+
+joined-on : (ports : ℕ) (step : Step) (x : ℕ) (acts : List Placed) (h : List Line) → ActsOn ports acts → AreOn ports h → AreOn ports (joined step x acts h)
+joined-on ports step x [] h on are = are
+joined-on ports step x (p ∷ rest) h on are = joined-on ports step x rest (line_of step x p.port (Acts p.act) ∷ h) on.1 (on.0, are)
+
+joined-time : (step : Step) (x : ℕ) (acts : List Placed) (h : List Line) → time_of (dids h) ≤ step.at → time_of (dids (joined step x acts h)) ≤ step.at
+joined-time step x [] h e = e
+joined-time step x (p ∷ rest) h e = joined-time step x rest (line_of step x p.port (Acts p.act) ∷ h) (omega arith)
+
+one-post : (d : Deed) (n : ℕ) → posted_after d n ≤ n + 1
+one-post (Acts (Post to datagram)) n = omega arith
+one-post _ n = omega arith
+
+joined-posts : (step : Step) (x : ℕ) (acts : List Placed) (h : List Line) → posted (dids (joined step x acts h)) ≤ posted (dids h) + length acts
+joined-posts step x [] h = omega arith
+joined-posts step x (p ∷ rest) h =
+    let more = joined-posts step x rest (line_of step x p.port (Acts p.act) ∷ h) in
+    let one = one-post (Acts p.act) (posted (dids h)) in
+    omega (arith, more, one)
+
+-- a clock without drift ticks as true time does
+flat : (r : ℤ) (x : ℕ) → nat_abs r ≤ 0 → x ≡ tick_at r x
+flat (pos r) x small = let none : r ≡ 0 = omega (arith, small) in rw none (omega arith)
+flat (negsuc r) x small = absurd (omega (arith, small))
+
+-- each port has the daemon's number
+own-setups : (done : ℕ) (ports : List (List Addr)) (k : ℕ) → (slice_index_or (setups_from done ports) k no_port).own.0 ≡ 0
+own-setups done [] k = refl
+own-setups done (peers ∷ ports) zero = refl
+own-setups done (peers ∷ ports) (suc k) = own-setups (done + length peers) ports k
+
+room-of : (ports : List PortSetup) → room ports ≡ room_of_ports (peers_of_ports ports)
+room-of [] = refl
+room-of (s ∷ rest) = ap (λ n. 24 * length s.peers + 256 + n) (room-of rest)
+
+-- the port on which something is taken is one of the node's
+port-below : (k : ℕ) (p : PeerId) (ports : List PortSetup) → 0 < k + length ports → (port_of_from k p ports).0 < k + length ports
+port-below k p [] some = some
+port-below k p (s ∷ rest) some = by_case (has_other p s) (port-below (k + 1) p rest (omega arith)) where
+  by_case : (b : Bool) → (port_of_from (k + 1) p rest).0 < k + 1 + length rest → (if b then record { 0 = k } else port_of_from (k + 1) p rest).0 < k + length (s ∷ rest)
+  by_case true later = omega arith
+  by_case false later = omega (arith, later)
+
+given-below : (ports : List PortSetup) (from : Place) → 0 < length ports → (port_from ports from).0 < length ports
+given-below ports (Peer p) some = let below = port-below 0 p ports (omega (arith, some)) in omega (arith, below)
+given-below ports Stranger some = some
+
+-- a node that has booted is up
+boots-up : (x : ℕ) (past : NodePast) → up (dids (spread x past (boots_all x past)).lines) ≡ true
+unfolding boots_all on puts ◌and_then◌
+boots-up x past =
+    let boot : List Placed = record { port = first_port; act = Boot } ∷ [] in
+    let rest = reading_all all_ports (for_ports boots_on) x (spread x past boot) in
+    subst (λ (z : NodePast). up (dids z.lines) ≡ true) (sym (spread_append x past boot rest)) (up_joined past.step x rest (spread x past boot).lines refl)
+
+-- a step of node 0
+abbrev step_of : Cause → ℕ → Step
+step_of cause x = record { at = x; node = 0; cause = cause }
+
+-- what is known of the node's history after so many steps, the last of which was no later than t
+record Ran (s : ServeWords) (setting : Setting) (n t : ℕ) (past : NodePast) : Type 0 where
+  pub name : past.name ≡ s.name
+  pub strict : past.strict ≡ is_strict s.candidacy
+  pub ports : past.ports ≡ setups_from 0 s.ports
+  pub fits : Fits setting past.lines
+  pub own : AreOwn past.lines
+  pub on : AreOn (length past.ports) past.lines
+  pub time : time_of (dids past.lines) ≤ t
+  pub rests : AllPorts (λ r. Rests) t past
+  pub posts : posted (dids past.lines) ≤ n * 3000000
+
+module _ {s : ServeWords} {setting : Setting} {tick : ℕ} {wall : ℤ} (is : IsServe s) (set : SetByWords s tick wall setting) where
+  tick-is : (x : ℕ) → x ≡ tick_at (setting.rate 0) x
+  tick-is x = let near = setting.rates 0 in let none = set.drift_is in flat (setting.rate 0) x (omega (arith, near, none))
+
+  -- what a port is set up with is what the words say
+  set-up : (past : NodePast) (q : Port) → past.name ≡ s.name → past.strict ≡ is_strict s.candidacy → past.ports ≡ setups_from 0 s.ports → q.0 < length past.ports → setup_in (on_port q past) ≡ setup_of setting 0 q
+  set-up past q name strict ports has =
+      let count : length past.ports ≡ length s.ports = ap (λ ps. length ps) ports ∙ length-setups_from 0 s.ports in
+      let members : (port_setup q past).peers ≡ setting.members (setting.net 0 q) =
+      ap (λ (ps : List PortSetup). (slice_index_or ps q.0 no_port).peers) ports ∙ sym (set.members_are q (omega (arith, has, count))) in
+      let named : past.name ≡ setting.name 0 = name ∙ sym set.name_is in
+      let elects : past.strict ≡ setting.strict = strict ∙ sym set.strict_is in
+      rw (named, elects, members) refl
+
+  room-small : (past : NodePast) → past.ports ≡ setups_from 0 s.ports → room past.ports ≤ 25096
+  room-small past ports =
+      let few = room_is s (peers_of_ports past.ports) (ap (λ ps. peers_of_ports ps) ports) is.ports.one.few is.ports.one.four in
+      let same = room-of past.ports in
+      omega (arith, few, same)
+
+  four : (past : NodePast) → past.ports ≡ setups_from 0 s.ports → length past.ports ≤ 4
+  four past ports =
+      let count : length past.ports ≡ length s.ports = ap (λ ps. length ps) ports ∙ length-setups_from 0 s.ports in
+      let few = is.ports.one.four in
+      omega (arith, count, few)
+
+  some_port : (past : NodePast) → past.ports ≡ setups_from 0 s.ports → 0 < length past.ports
+  some_port past ports =
+      let count : length past.ports ≡ length s.ports = ap (λ ps. length ps) ports ∙ length-setups_from 0 s.ports in
+      let some = is.ports.peers.some in
+      omega (arith, count, some)
+
+  -- one step more, by a row that keeps what is known of each port
+  one-step : (n t x : ℕ) (past : NodePast) (cause : Cause) (row : NodeRow) → Ran s setting n t past → t ≤ x → n ≤ 1000000001 →
+      (AllPorts (λ r. Fresh) x (in_node_step (step_of cause x) x past) → AllPorts (λ r. Rests) x (spread x (in_node_step (step_of cause x) x past) (row x (in_node_step (step_of cause x) x past)))) →
+      StepOk (length past.ports) (room past.ports) setting (step_of cause x) x past.lines (up (dids past.lines)) (row x (in_node_step (step_of cause x) x past)) →
+      Ran s setting (n + 1) x (spread x (in_node_step (step_of cause x) x past) (row x (in_node_step (step_of cause x) x past)))
+  one-step n t x past cause row r later turns leads ok =
+      let step : Step = step_of cause x in
+      let h : List Line = past.lines in
+      let mid : NodePast = in_node_step step x past in
+      let acts : List Placed = row x mid in
+      let mark : Line = line_of step x first_port Begins in
+      let ports : ℕ = length past.ports in
+      let own_h : of 0 h ≡ h = of-own h r.own in
+      let rested : AllPorts (λ r. Rests) x past = λ q has. rests_later t x (on_port q past) later (r.rests q has) in
+      let after : AllPorts (λ r. Rests) x (spread x mid acts) =
+      leads (begins_all step x x past (omega arith) (λ q has. ap (λ (ps : List PortSetup). (slice_index_or ps q.0 no_port).own.0) r.ports ∙ own-setups 0 s.ports q.0) rested) in
+      let few = r.posts in
+      let most = ok.few in
+      let room_few = room-small past r.ports in
+      let before = r.time in
+      let line = mark_line ports setting step x h (tick-is x) (subst (λ ls. AreOn ports ls) (sym own_h) r.on) (omega (arith, before, later)) (omega (arith, few, turns)) (λ q has. subst (λ ls. StepEnds (view q ls)) (sym own_h) (ends_of (rested q has))) in
+      let all_own : AreOwn (joined step x acts (mark ∷ h)) = joined-own step x acts (mark ∷ h) refl (refl, r.own) in
+      let up_is : up (dids (of 0 (mark ∷ h))) ≡ up (dids h) = ap (λ ls. up (dids ls)) (of-own (mark ∷ h) (refl, r.own)) in
+      let more = joined-posts step x acts (mark ∷ h) in
+      record {
+        name = r.name;
+        strict = r.strict;
+        ports = r.ports;
+        fits = acts_fit ports setting step x h acts first_port Begins h (tick-is x) ok.on (inr (Within-all h)) (omega (arith, few, turns, most, room_few))
+            (subst (λ b. AllAlive setting step x b acts) (sym up_is) ok.alive) ok.taken
+            (λ q has. subst (λ ls. PortFits (setup_of setting 0 q) (view q ls)) (sym (of-own (joined step x acts (mark ∷ h)) all_own))
+            (subst (λ k. PortFits k (view q (joined step x acts (mark ∷ h)))) (set-up past q r.name r.strict r.ports has) (after q has).fits))
+            (line, r.fits);
+        own = all_own;
+        on = joined-on ports step x acts (mark ∷ h) ok.on ((λ e. let bad : ⊥ = cc in absurd bad), r.on);
+        time = joined-time step x acts (mark ∷ h) (omega arith);
+        rests = after;
+        posts = omega (arith, few, most, room_few, more);
+      }
+
+  -- the boot
+  boots : (word : ℕ) → Ran s setting 1 tick (first_past s tick wall word) × (up (dids (first_past s tick wall word).lines) ≡ true)
+  boots word =
+      let base : NodePast = record {
+        name = s.name;
+        may = (config_of s).may;
+        strict = is_strict s.candidacy;
+        ports = setups_from 0 s.ports;
+        step = step_of (Booted word wall) tick;
+        lines = [];
+      } in
+      let mid : NodePast = in_node_step (step_of (Booted word wall) tick) tick base in
+      let none : Ran s setting 0 0 base = record {
+        name = refl;
+        strict = refl;
+        ports = refl;
+        fits = tt;
+        own = tt;
+        on = tt;
+        time = omega arith;
+        rests = λ q has. nothing-done 0 (on_port q base);
+        posts = omega arith;
+      } in (
+        one-step 0 0 tick base (Booted word wall) boots_all none (omega arith) (omega arith) (λ fresh. boots_all_lead.run tick mid fresh)
+            (boot_ok setting (step_of (Booted word wall) tick) tick [] false mid word (four base refl) (ap (λ w. Booted word w) (sym set.wall_is))),
+        boots-up tick mid,
+      )
+
+  up-after : (x : ℕ) (cause : Cause) (past : NodePast) (acts : List Placed) → up (dids past.lines) ≡ true → up (dids (spread x (in_node_step (step_of cause x) x past) acts).lines) ≡ true
+  up-after x cause past acts is_up = up_joined (step_of cause x) x acts (line_of (step_of cause x) x first_port Begins ∷ past.lines) is_up
+
+  -- a turn
+  one-turn : (n t x : ℕ) (past : NodePast) (g : NodeGiven) → Ran s setting n t past × (up (dids past.lines) ≡ true) → t ≤ x → n ≤ 1000000001 → GivenOn g past →
+      Ran s setting (n + 1) x (spread x (begun g x past) (answers_all g x (begun g x past))) × (up (dids (spread x (begun g x past) (answers_all g x (begun g x past))).lines) ≡ true)
+  one-turn n t x past NodeTurn r later turns given =
+      let mid : NodePast = begun NodeTurn x past in
+      let ok = turn_ok setting (step_of Turned x) x past.lines mid (four past r.0.ports) in (
+        one-step n t x past Turned (answers_all NodeTurn) r.0 later turns (λ fresh. (answers_all_lead NodeTurn).run x mid (tt, fresh))
+            (subst (λ b. StepOk (length past.ports) (room past.ports) setting (step_of Turned x) x past.lines b (answers_all NodeTurn x mid)) (sym r.1) ok),
+        up-after x Turned past (answers_all NodeTurn x mid) r.1,
+      )
+  one-turn n t x past (GotOn q from taken) r later turns given =
+      let g : NodeGiven = GotOn q from taken in
+      let mid : NodePast = begun g x past in
+      let ok = got_ok setting (step_of (cause_of g) x) x past.lines mid q from taken (four past r.0.ports) given tt in (
+        one-step n t x past (cause_of g) (answers_all g) r.0 later turns (λ fresh. (answers_all_lead g).run x mid (given, fresh))
+            (subst (λ b. StepOk (length past.ports) (room past.ports) setting (step_of (cause_of g) x) x past.lines b (answers_all g x mid)) (sym r.1) ok),
+        up-after x (cause_of g) past (answers_all g x mid) r.1,
+      )
+
+given-on : (past : NodePast) (a : Arrival) → 0 < length past.ports → GivenOn (given_of past.ports a) past
+given-on past None some = tt
+given-on past (Some (from, octets)) some = given-below past.ports from some
+
+-- all turns of a daemon
+turns-ran : (s : ServeWords) (o : Outside) (wall : ℤ) (word : ℕ) (written : List ℕ) (setting : Setting) → IsServe s → SetByWords s (read_once o).last wall setting → (i : ℕ) → i ≤ s.turns → Rises i (first_session s o wall word written) →
+    let now = after_turns i (first_session s o wall word written) in Ran s setting (i + 1) now.outside.last now.past × (up (dids now.past.lines) ≡ true)
+turns-ran s o wall word written setting is set zero few rises = boots is set word
+turns-ran s o wall word written setting is set (suc i) few rises =
+    let now = after_turns i (first_session s o wall word written) in
+    let r = turns-ran s o wall word written setting is set i (omega (arith, few)) rises.0 in
+    let most = is.few in
+    let one = one-turn is set (i + 1) now.outside.last (tick_of now) now.past (given_in now) r rises.1 (omega (arith, few, most)) (given-on now.past (next_arrival now.outside.arrivals) (some_port is set now.past r.0.ports)) in
+    let same : i + 1 + 1 ≡ suc i + 1 = omega arith in
+    (subst (λ n. Ran s setting n (tick_of now) (after_turns (suc i) (first_session s o wall word written)).past) same one.0, one.1)
+
+finished : (s : ServeWords) (setting : Setting) (n t : ℕ) (past : NodePast) → Ran s setting n t past → Finished past.lines
+finished s setting n t past r zero q =
+    let own = of-own past.lines r.own in
+    all_end (length past.ports) q (of 0 past.lines) (subst (λ ls. AreOn (length past.ports) ls) (sym own) r.on) (λ has. subst (λ ls. StepEnds (view q ls)) (sym own) (ends_of (r.rests q has)))
+finished s setting n t past r (suc m) q = subst (λ ls. StepEnds (view q ls)) (sym (of-other m past.lines r.own)) (ends_of (nothing-done 0 (on_port q past)))
+
+-- so it keeps what is promised
+pub session_kept : (s : ServeWords) (o : Outside) (wall : ℤ) (word : ℕ) (written : List ℕ) → IsServe s → (setting : Setting) → SetByWords s (read_once o).last wall setting → (i : ℕ) → i ≤ s.turns → Rises i (first_session s o wall word written) →
+    HistoryKept setting (after_turns i (first_session s o wall word written)).past.lines
+session_kept s o wall word written is setting set i few rises =
+    let now = after_turns i (first_session s o wall word written) in
+    let lines : List Line = now.past.lines in
+    let r = turns-ran s o wall word written setting is set i few rises in
+    let fits = r.0.fits in
+    let ends = finished s setting (i + 1) now.outside.last now.past r.0 in
+    record {
+      fits = fits;
+      finished = ends;
+      safe = safe setting lines fits ends;
+      dates = Everywhere-from (SetsAt setting) lines (λ l older w. sets_at setting l older (fits_at setting (l ∷ older) lines fits w));
+      hops = (looped_in setting lines fits).hops;
+    }

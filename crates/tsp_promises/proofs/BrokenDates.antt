@@ -1,0 +1,58 @@
+-- Small histories that break the promise of the network's date.
+use Rattle.std.specs.Prelude.{◌≡◌, false, true, pos, List, [], ◌∷◌, refl}
+use Rattle.std.proofs.Common.{arith}
+use Rattle.std.proofs.lemmas.Int.{ints}
+use Rattle.tsp_base.specs.declared.act.Act.TheVariants.{Acked, Become, Correct, Post, Ring, Took}
+use Rattle.tsp_base.specs.declared.alarm.Alarm.TheVariants.{Round}
+use Rattle.tsp_base.specs.declared.datagram.Datagram.TheVariants.{Message}
+use Rattle.tsp_base.specs.declared.datagram.Taken.TheVariants.{Good}
+use Rattle.tsp_base.specs.declared.kind.Kind.TheVariants.{Date, SetDateReq}
+use Rattle.tsp_base.specs.declared.message.Body.TheVariants.{Time}
+use Rattle.tsp_base.specs.declared.place.Place.TheVariants.{Peer, Stranger}
+use Rattle.tsp_base.specs.declared.role.Role.TheVariants.{Master}
+use Rattle.tsp_promises.specs.Broken.{Breaks}
+use Rattle.tsp_promises.specs.Dated.{Dated}
+use Rattle.tsp_promises.specs.DatesBroken.{DatesBreak}
+use Rattle.tsp_promises.specs.Fits.{node_of}
+use Rattle.tsp_base.specs.History.{Handed, Turned, Line}
+use Rattle.tsp_base.specs.Messages.{MessageValue}
+use Rattle.tsp_base.specs.Takings.{peer_of}
+use Rattle.tsp_promises.proofs.BrokenRoles.{starting}
+use Rattle.tsp_promises.proofs.EverywhereLemmas.{Everywhere-at}
+use Rattle.tsp_promises.proofs.Histories.{begins, does, msg, still}
+use Rattle.tsp_promises.proofs.PremiseChecks.{few-by, honest-by, life-by}
+
+-- a stranger's date
+abbrev date : MessageValue
+date = msg Date 5 (Time (pos 500))
+
+-- a step that takes it after these lines, and sets the clock
+abbrev set-after : List Line → List Line
+set-after h = does 20 0 Handed (Correct (pos 5) true (pos 500)) ∷ (does 20 0 Handed (Took Stranger (Good (Message date))) ∷ (begins 20 0 Handed ∷ h))
+
+leads : Breaks (Dated (still false))
+leads = record { world = set-after []; broken = λ h. starting (h.sets.0 (pos 5) true (pos 500) Stranger date refl refl refl).leads }
+
+sets : Breaks (Dated (still false))
+sets = record {
+  world = set-after (does 10 0 Turned (Become Master) ∷ []);
+  broken = λ h. (let k : pos 5 ≡ pos 480 = (h.sets.0 (pos 5) true (pos 500) Stranger date refl refl refl).amount_is in omega (arith, k, ints));
+}
+
+abbrev sent : List Line
+sent = does 10 0 Turned (Post (Peer (peer_of 1)) (Message (msg SetDateReq 32775 (Time (pos 1))))) ∷ (does 10 0 Turned (Ring Round) ∷ [])
+
+abbrev acked : List Line
+acked = does 20 0 Turned (Acked (peer_of 1)) ∷ sent
+
+confirmed : Breaks (Dated (still false))
+confirmed = record {
+  world = acked;
+  broken = λ h.
+      let a = (h.confirmed (honest-by acked refl) (life-by acked refl) (few-by acked refl)).0 (peer_of 1) (does 10 0 Turned (Post (Peer (peer_of 1)) (Message (msg SetDateReq 32775 (Time (pos 1)))))).did _ (msg SetDateReq 32775 (Time (pos 1))) refl refl refl refl in
+      let own = Everywhere-at (λ (l : Line) (before : List Line). node_of l ≡ 0) a.correct a.past sent (refl, (refl, tt)) a.place in
+      omega (arith, own, a.node);
+}
+
+pub dates_break : DatesBreak
+dates_break = record { setting = still false; leads = leads; sets = sets; confirmed = confirmed }

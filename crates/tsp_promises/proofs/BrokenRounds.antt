@@ -1,0 +1,151 @@
+-- Small histories that break the promises of rounds.
+use Rattle.std.specs.Prelude.{◌≡◌, ◌≤◌, ◌≤ℤ◌, true, ℕ, false, pos, negsuc, List, [], ◌∷◌, refl}
+use Rattle.std.proofs.Common.{arith, inl, true≢false}
+use Rattle.std.proofs.lemmas.Int.{ints}
+use Rattle.tsp_base.specs.declared.act.Act.TheVariants.{Close, Correct, Post, Sample, Took}
+use Rattle.tsp_base.specs.declared.datagram.Datagram.TheVariants.{Message, Stamp}
+use Rattle.tsp_base.specs.declared.datagram.Taken.TheVariants.{Good}
+use Rattle.tsp_base.specs.declared.kind.Kind.TheVariants.{AdjTime}
+use Rattle.tsp_base.specs.declared.message.Body.TheVariants.{Time}
+use Rattle.tsp_base.specs.declared.place.Place.TheVariants.{Peer}
+use Rattle.tsp_base.specs.declared.stamp.Stamp.TheVariants.{Reply}
+use Rattle.tsp_promises.specs.Agreed.{Cast}
+use Rattle.tsp_promises.specs.Broken.{Breaks, RoundsBreak}
+use Rattle.tsp_promises.specs.Estimates.{Estimate}
+use Rattle.tsp_base.specs.History.{Came, Turned, Line}
+use Rattle.tsp_base.specs.Messages.{MessageValue}
+use Rattle.tsp_promises.specs.Moderate.{Moderate, ModerateClocks, Moves}
+use Rattle.tsp_promises.specs.Seldom.{Seldom}
+use Rattle.tsp_base.specs.Takings.{peer_of}
+use Rattle.tsp_promises.proofs.CastBy.{cast-by}
+use Rattle.tsp_promises.proofs.CastProof.{taking_of}
+use Rattle.tsp_promises.proofs.Histories.{begins, does, msg, skip, skipped, still}
+use Rattle.tsp_promises.proofs.WitnessCasts.{sounds}
+use Rattle.tsp_promises.proofs.WitnessModerate.{n1, n4, n5, near-agrees, near-cast, near-sample, own-agrees, shut-by, small-agrees}
+use Rattle.tsp_promises.proofs.WitnessUse.{reply1, w15}
+
+-- a round that closes with a mean of 300 ms, where it and a peer agree within a millisecond
+abbrev shut : Line
+shut = shut-by (pos 300000)
+
+abbrev jumps : Line
+jumps = does 408000000 0 Turned (Correct (pos 300000) false (pos 0))
+
+abbrev jumped : List Line
+jumped = jumps ∷ (shut ∷ skip 4 n4)
+
+moves : Moves 0 shut jumps (pos 300000)
+moves = record { count = 2; lo = negsuc 100; size = pos 101; mean = pos 300000; deed = refl; node = refl; stepped = false; shown = pos 0; correct = refl; correct_node = refl }
+
+mean_far : Breaks (Moderate (still false))
+mean_far = record {
+  world = jumped;
+  broken = λ h. (let k : 300101 ≤ 40000 = h.0.mean 0 shut (skip 4 n4) (pos 300000) (negsuc 100) refl moves (small-agrees (pos 300000) (negsuc 100) (1, omega arith, refl) refl) in omega arith);
+}
+
+own_far : Breaks (Moderate (still false))
+own_far = record {
+  world = jumped;
+  broken = λ h. (let k : 300000 ≤ 40000 = h.0.own 0 shut (skip 4 n4) (pos 300000) refl moves (own-agrees (pos 300000)) in omega arith);
+}
+
+-- the same round with its own mean, and a Correct that is stepped
+abbrev steps : Line
+steps = does 408000000 0 Turned (Correct (negsuc 50) true (pos 0))
+
+own_stepped : Breaks (Moderate (still false))
+own_stepped = record {
+  world = steps ∷ (shut-by (negsuc 50) ∷ skip 4 n4);
+  broken = λ h.
+      true≢false (h.0.own_slews 0 (shut-by (negsuc 50)) (skip 4 n4) (negsuc 50) refl (record { count = 2; lo = negsuc 100; size = pos 101; mean = negsuc 50; deed = refl; node = refl; stepped = true; shown = pos 0; correct = refl; correct_node = refl }) (own-agrees (negsuc 50)));
+}
+
+-- and a follower that steps its clock by 50
+abbrev steps-near : Line
+steps-near = does 408000400 1 (Came 10) (Correct (pos 50) true (pos 0))
+
+abbrev stepped-cast : Cast 0 (shut-by (negsuc 50)) (skip 4 n4) steps-near (skip 2 n5) sounds (skip 1 w15) (pos 401)
+stepped-cast = near-cast true (pos 0)
+
+peer_stepped : Breaks (Moderate (still false))
+peer_stepped = record {
+  world = steps-near ∷ skip 2 n5;
+  broken = λ h.
+      true≢false (h.0.peer_slews 0 (shut-by (negsuc 50)) (does 408000000 0 Turned (Correct (negsuc 50) false (pos 408000000))) (skip 4 n4) (negsuc 50) (taking_of 0 (shut-by (negsuc 50)) (skip 4 n4) steps-near (skip 2 n5) sounds (skip 1 w15) (pos 401) stepped-cast refl) refl refl refl (skipped 4 (skip 2 n5))
+      (record { count = 2; lo = negsuc 100; size = pos 101; mean = negsuc 50; deed = refl; node = refl; stepped = false; shown = pos 408000000; correct = refl; correct_node = refl }) (near-agrees (negsuc 50)));
+}
+
+-- what the peer lacks to that mean
+abbrev drags : MessageValue
+drags = msg AdjTime 10 (Time (pos 300101))
+
+abbrev posts : Line
+posts = does 408000000 0 Turned (Post (Peer (peer_of 1)) (Message drags))
+
+adjtime_far : Breaks (Moderate (still false))
+adjtime_far = record {
+  world = posts ∷ jumped;
+  broken = λ h.
+      let k : 300101 ≤ 40000 = h.0.adjtime 0 shut jumps (skip 4 n4) (pos 300000) (pos 300000)
+      (record { count = 2; lo = negsuc 100; size = pos 101; deed = refl; node = refl; closes = skipped 1 jumped; first_node = refl; port = refl; peer = peer_of 1; message = drags; posts = refl; kind = refl; begins = refl; close_is = refl })
+      (inl refl) moves (near-agrees (pos 300000)) in
+      omega arith;
+}
+
+abbrev taken : List Line
+taken = does 408000400 1 (Came 10) (Took (Peer (peer_of 0)) (Good (Message drags))) ∷ (begins 408000400 1 (Came 10) ∷ (posts ∷ jumped))
+
+abbrev obeys : Line
+obeys = does 408000400 1 (Came 10) (Correct (pos 300101) false (pos 0))
+
+abbrev dragged : Cast 0 shut (skip 4 n4) obeys taken sounds (skip 1 w15) (pos 401)
+dragged =
+    cast-by 0 shut (skip 4 n4) obeys taken sounds (skip 1 w15) posts jumped drags (pos 300101) false (pos 0) near-sample
+    (record { correct = refl; place = skipped 2 taken; cause = refl; deed = refl; took = refl; node = refl; kind = refl; numbered = refl; is = refl })
+    (record { closes = skipped 4 taken; node = refl; port = refl; is = refl; best_is = refl })
+    (record { line = does 400000801 0 (Came 8) (Sample (peer_of 1) 0 (negsuc 100) (pos 401) 10); before = skip 1 n1; at = skipped 13 taken; node = refl; port = refl; is = refl; reads = skipped 2 (skip 1 n1); takes = refl; to = Peer (peer_of 0); datagram = Stamp (Reply reply1); deed = refl })
+
+peer_far : Breaks (Moderate (still false))
+peer_far = record {
+  world = obeys ∷ taken;
+  broken = λ h.
+      let k : 300101 ≤ 40000 = h.0.peer 0 shut jumps (skip 4 n4) (pos 300000) (taking_of 0 shut (skip 4 n4) obeys taken sounds (skip 1 w15) (pos 401) dragged refl) refl refl refl (skipped 3 taken) moves (near-agrees (pos 300000)) in
+      omega arith;
+}
+
+late_met : Breaks (Moderate (still false))
+late_met = record {
+  world = obeys ∷ taken;
+  broken = λ h.
+      let k : pos 416040399 ≡ pos 416300500 = h.0.meets 0 shut jumps (skip 4 n4) (pos 300000) (taking_of 0 shut (skip 4 n4) obeys taken sounds (skip 1 w15) (pos 401) dragged refl) refl refl refl (skipped 3 taken) moves (near-agrees (pos 300000)) refl 416000400 (omega arith) in
+      omega (arith, ints);
+}
+
+estimated : Estimate 0 1 shut (skip 4 n4) near-sample sounds (skip 1 w15) jumped
+estimated = record {
+  best_is = refl;
+  reading = record { line = does 400000801 0 (Came 8) (Sample (peer_of 1) 0 (negsuc 100) (pos 401) 10); before = skip 1 n1; at = skipped 8 (skip 4 n4); node = refl; port = refl; is = refl; reads = skipped 2 (skip 1 n1); takes = refl; to = Peer (peer_of 0); datagram = Stamp (Reply reply1); deed = refl };
+  unchanged = record { corrects = refl; lives = refl };
+}
+
+clocks_far : Breaks (ModerateClocks (still false))
+clocks_far = record {
+  world = jumped;
+  broken = λ h.
+      let k : pos 300001 ≤ℤ pos 40403 = h.0 408000000 (omega arith) 0 1 shut jumps (skip 4 n4) (pos 300000) near-sample sounds (skip 1 w15) (record { within = inl refl; since = record { corrects = refl; lives = refl } }) moves estimated
+      (small-agrees (pos 300000) (negsuc 100) (1, omega arith, refl) refl) in
+      omega (arith, ints);
+}
+
+-- two rounds that close in short order
+abbrev closes_at : ℕ → Line
+closes_at x = does x 0 Turned (Close 1 (pos 0) (pos 0) (pos 0))
+
+close_soon : Breaks Seldom
+close_soon = record {
+  world = closes_at 20 ∷ (closes_at 10 ∷ []);
+  broken = λ h. (let k : 239000010 ≤ 20 = h.0 (closes_at 10) [] 1 1 (pos 0) (pos 0) (pos 0) (pos 0) (pos 0) (pos 0) refl (inl refl) refl refl refl refl in omega arith);
+}
+
+pub rounds_break : RoundsBreak (still false)
+rounds_break = record { mean_far = mean_far; own_far = own_far; own_stepped = own_stepped; peer_stepped = peer_stepped; adjtime_far = adjtime_far; peer_far = peer_far; late_met = late_met; clocks_far = clocks_far; close_soon = close_soon }

@@ -1,0 +1,42 @@
+-- A date that a follower passes on, that its master sets, and that is acknowledged.
+use Rattle.std.specs.Prelude.{false, true, pos, refl}
+use Rattle.tsp_base.specs.declared.act.Act.TheVariants.{Acked, Correct}
+use Rattle.tsp_base.specs.declared.kind.Kind.TheVariants.{SetDateReq}
+use Rattle.tsp_base.specs.declared.message.Body.TheVariants.{Time}
+use Rattle.tsp_base.specs.declared.place.Place.TheVariants.{Peer}
+use Rattle.tsp_promises.specs.DatedUse.{DatedUse}
+use Rattle.tsp_base.specs.History.{Came}
+use Rattle.tsp_base.specs.Takings.{peer_of}
+use Rattle.tsp_promises.proofs.Histories.{does, msg, skip, skipped, still}
+use Rattle.tsp_promises.proofs.PremiseChecks.{few-by, kept-by}
+use Rattle.tsp_promises.proofs.WitnessDates.{d8, d9, dates}
+
+pub dated_use : DatedUse
+dated_use = record {
+  setting = still false;
+  world = d9;
+  kept = kept-by false d9 dates refl refl refl refl;
+  few = few-by d9 refl;
+  correct = does 310000001 0 (Came 1) (Correct (pos 289999999) true (pos 600000000));
+  past = skip 2 d8;
+  place = skipped 4 d9;
+  amount = pos 289999999;
+  stepped = true;
+  shown = pos 600000000;
+  corrects = refl;
+  from = Peer (peer_of 1);
+  message = msg SetDateReq 32777 (Time (pos 600000000));
+  took = refl;
+  sets = refl;
+  acked = does 310000002 1 (Came 2) (Acked (peer_of 0));
+  before = skip 1 d9;
+  later = skipped 0 d9;
+  peer = peer_of 0;
+  ends = refl;
+  first = _;
+  older = _;
+  is_open = refl;
+  date = msg SetDateReq 32777 (Time (pos 600000000));
+  posts = refl;
+  kind = refl;
+}

@@ -1,0 +1,49 @@
+-- A date that is set and acknowledged: the promise of the network's date isn't empty.
+use Rattle.std.specs.Prelude.{◌≡◌, ℤ, Bool, true, List, ◌∷◌, Some}
+use Rattle.tsp_base.specs.declared.act.Act.TheVariants.{Acked, Correct, Post}
+use Rattle.tsp_base.specs.declared.datagram.Datagram.TheVariants.{Message}
+use Rattle.tsp_base.specs.declared.datagram.Taken.TheVariants.{Good}
+use Rattle.tsp_base.specs.declared.kind.Kind.TheVariants.{SetDateReq}
+use Rattle.tsp_base.specs.declared.place.PeerId.{PeerId}
+use Rattle.tsp_base.specs.declared.place.Place.{Place}
+use Rattle.tsp_base.specs.declared.place.Place.TheVariants.{Peer}
+use Rattle.tsp_promises.specs.Fits.{node_of}
+use Rattle.tsp_base.specs.History.{Acts, Did, Here, Line, Seen, dids, of, view}
+use Rattle.tsp_promises.specs.Kept.{Kept}
+use Rattle.tsp_base.specs.Messages.{MessageValue}
+use Rattle.tsp_base.specs.Places.{Within}
+use Rattle.tsp_promises.specs.Premises.{Few}
+use Rattle.tsp_base.specs.SendFacts.{open_to, sets_date}
+use Rattle.tsp_promises.specs.Setting.{Setting}
+use Rattle.tsp_base.specs.Takings.{heard}
+
+-- a history that fits and keeps every premise, in which a clock is set to a date, and the one who passed that date on notes that it was acknowledged
+pub record DatedUse : Type 0 where
+  pub setting : Setting
+  pub world : List Line
+  pub kept : Kept setting world
+  pub few : Few world
+  -- the Correct that sets the clock
+  pub correct : Line
+  pub past : List Line
+  pub place : Within (correct ∷ past) world
+  pub amount : ℤ
+  pub stepped : Bool
+  pub shown : ℤ
+  pub corrects : correct.did.deed ≡ Acts (Correct amount stepped shown)
+  pub from : Place
+  pub message : MessageValue
+  pub took : heard (dids (of (node_of correct) past)) ≡ Some (record { from = from; taken = Good (Message message) })
+  pub sets : sets_date message.kind ≡ true
+  -- the Acked that ends the send of the date
+  pub acked : Line
+  pub before : List Line
+  pub later : Within (acked ∷ before) world
+  pub peer : PeerId
+  pub ends : acked.did.deed ≡ Acts (Acked peer)
+  pub first : Did
+  pub older : List Seen
+  pub is_open : open_to peer (view acked.port (of (node_of acked) before)) ≡ Here first ∷ older
+  pub date : MessageValue
+  pub posts : first.deed ≡ Acts (Post (Peer peer) (Message date))
+  pub kind : date.kind ≡ SetDateReq

@@ -1,0 +1,26 @@
+-- A LOOP that comes back: the promise of LOOPs isn't empty.
+use Rattle.std.specs.Prelude.{◌≡◌, List, ◌∷◌, length}
+use Rattle.tsp_base.specs.declared.act.Act.TheVariants.{Become}
+use Rattle.tsp_base.specs.declared.role.Role.TheVariants.{Loose, Master}
+use Rattle.tsp_promises.specs.Fits.{node_of}
+use Rattle.tsp_base.specs.History.{Acts, Line, of, view}
+use Rattle.tsp_promises.specs.Kept.{Kept}
+use Rattle.tsp_promises.specs.Looped.{GivesUp}
+use Rattle.tsp_base.specs.Places.{Within}
+use Rattle.tsp_base.specs.PortFacts.{role}
+use Rattle.tsp_promises.specs.Premises.{NamesApart}
+use Rattle.tsp_promises.specs.Setting.{Setting}
+
+-- a history that fits and keeps every premise, in which a gateway leads on two networks that are joined by two other nodes: its LOOP comes back over both, and it gives the lead of the higher port up
+pub record LoopUse : Type 0 where
+  pub setting : Setting
+  pub world : List Line
+  pub kept : Kept setting world
+  pub names : NamesApart setting world
+  pub loose : Line
+  pub past : List Line
+  pub place : Within (loose ∷ past) world
+  pub deed : loose.did.deed ≡ Acts (Become Loose)
+  pub leads : role (view loose.port (of (node_of loose) past)) ≡ Master
+  pub gives_up : GivesUp loose past
+  pub by_two : length gives_up.rest ≡ 2

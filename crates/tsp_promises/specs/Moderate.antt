@@ -1,0 +1,116 @@
+-- The promise that a minority of a round's estimates, whatever it says, moves no clock of the majority by much.
+use Rattle.std.specs.Prelude.{◌≡◌, ◌≤◌, ◌<◌, ◌≤ℤ◌, ℕ, ◌+◌, ◌-◌, ◌*◌, ℤ, pos, ◌+ℤ◌, ◌-ℤ◌, nat_abs, Bool, true, false, List, ◌∷◌, length, Some}
+use Rattle.std.specs.List.{Contains, count_by}
+use Rattle.tsp_base.specs.declared.act.Act.TheVariants.{Close, Correct}
+use Rattle.tsp_base.specs.declared.constants.TheConstants.{SLEW, SPAN}
+use Rattle.tsp_base.specs.declared.kind.Kind.TheVariants.{AdjTime}
+use Rattle.tsp_base.specs.declared.place.PeerId.{PeerId}
+use Rattle.tsp_base.specs.declared.place.Port.{Port}
+use Rattle.tsp_group.specs.Groups.{Agree}
+use Rattle.tsp_promises.specs.Agreed.{Unchanged}
+use Rattle.tsp_promises.specs.ClockAt.{clock_at}
+use Rattle.tsp_promises.specs.Estimates.{CloseBegins, Estimate}
+use Rattle.tsp_promises.specs.Everywhere.{Everywhere}
+use Rattle.tsp_promises.specs.Fits.{node_of}
+use Rattle.tsp_base.specs.History.{Acts, Here, Line, dids, of, view}
+use Rattle.tsp_base.specs.NodeFacts.{rest_at, shown, target}
+use Rattle.tsp_promises.specs.OneError.{Taking}
+use Rattle.tsp_base.specs.Places.{Within}
+use Rattle.tsp_base.specs.RoundFacts.{Sampled, best}
+use Rattle.tsp_promises.specs.RoundFits.{estimates_at}
+use Rattle.tsp_promises.specs.Setting.{Setting, setup_of}
+use Rattle.tsp_promises.specs.StepFacts.{closed}
+use Rattle.tsp_base.specs.Takings.{peer_of, time_in}
+use Rattle.tsp_base.specs.Ticks.{width}
+
+-- the estimates that port q of m has after this history: 0 for its own clock, and what the best sample of each measured peer says, where that is near
+abbrev pub estimates_of : Setting → ℕ → Port → List Line → List ℤ
+estimates_of setting m q past = estimates_at (setup_of setting m q) (view q (of m past))
+
+-- the values that pass the test are more than half of all, and any two of them lie within SPAN of each other
+pub record Majority (values : List ℤ) (test : ℤ → Bool) : Type 0 where
+  pub more : length values < 2 * count_by test values
+  pub agrees : Agree SPAN values test
+
+-- this is a Close of m, and this a Correct of m by this amount; where it stands right after the Close it ends the round
+pub record Moves (m : ℕ) (close : Line) (c : Line) (amount : ℤ) : Type 0 where
+  pub count : ℕ
+  pub lo : ℤ
+  pub size : ℤ
+  pub mean : ℤ
+  pub deed : close.did.deed ≡ Acts (Close count lo size mean)
+  pub node : node_of close ≡ m
+  pub stepped : Bool
+  pub shown : ℤ
+  pub correct : c.did.deed ≡ Acts (Correct amount stepped shown)
+  pub correct_node : node_of c ≡ m
+
+-- this value is one of the majority of the round's estimates
+pub record Agrees (setting : Setting) (m : ℕ) (close : Line) (cpast : List Line) (value : ℤ) : Type 0 where
+  pub test : ℤ → Bool
+  pub majority : Majority (estimates_of setting m close.port cpast) test
+  pub among : Contains (estimates_of setting m close.port cpast) value
+  pub passes : test value ≡ true
+
+-- the best sample of p in the round says what one of the majority does
+pub record PeerAgrees (setting : Setting) (m : ℕ) (p : PeerId) (close : Line) (cpast : List Line) : Type 0 where
+  pub sample : Sampled
+  pub best_is : best p (view close.port (of m cpast)) ≡ Some sample
+  pub agrees : Agrees setting m close cpast sample.diff
+
+-- a round's Correct is off by at most twice the span from each estimate of the majority
+abbrev pub MeanNear : Setting → Line → List Line → Type 0
+MeanNear setting l world = (m : ℕ) (close : Line) (cpast : List Line) (amount value : ℤ) → world ≡ (close ∷ cpast) → Moves m close l amount → Agrees setting m close cpast value → nat_abs (amount -ℤ value) ≤ 2 * SPAN
+
+-- it is by at most twice the span where the own clock is of the majority
+abbrev pub OwnNear : Setting → Line → List Line → Type 0
+OwnNear setting l world = (m : ℕ) (close : Line) (cpast : List Line) (amount : ℤ) → world ≡ (close ∷ cpast) → Moves m close l amount → Agrees setting m close cpast (pos 0) → nat_abs amount ≤ 2 * SPAN
+
+-- and so it is slewed and not stepped
+abbrev pub OwnSlews : Setting → Line → List Line → Type 0
+OwnSlews setting l world = (m : ℕ) (close : Line) (cpast : List Line) (amount : ℤ) → world ≡ (close ∷ cpast) → (v : Moves m close l amount) → Agrees setting m close cpast (pos 0) → v.stepped ≡ false
+
+-- an ADJTIME that the round begins to a peer of the majority is of at most twice the span
+abbrev pub AdjTimeNear : Setting → Line → List Line → Type 0
+AdjTimeNear setting l world = (m : ℕ) (close c : Line) (cpast : List Line) (mean amount : ℤ) (begins : CloseBegins m close cpast mean l world) → Within (c ∷ (close ∷ cpast)) world → Moves m close c amount →
+    PeerAgrees setting m begins.peer close cpast → nat_abs (time_in begins.message.body) ≤ 2 * SPAN
+
+-- so is the Correct of the peer that takes it
+abbrev pub PeerNear : Setting → Line → List Line → Type 0
+PeerNear setting l world = (m : ℕ) (close c : Line) (cpast : List Line) (amount : ℤ) (t : Taking m l world) → t.acts.brings.message.kind ≡ AdjTime → closed t.begun ≡ Here close.did ∷ view t.post.port (of m cpast) → close.port ≡ t.post.port →
+    Within (c ∷ (close ∷ cpast)) world → Moves m close c amount → PeerAgrees setting m (peer_of (node_of l)) close cpast → nat_abs t.acts.amount ≤ 2 * SPAN
+
+-- it is slewed too
+abbrev pub PeerSlews : Setting → Line → List Line → Type 0
+PeerSlews setting l world = (m : ℕ) (close c : Line) (cpast : List Line) (amount : ℤ) (t : Taking m l world) → t.acts.brings.message.kind ≡ AdjTime → closed t.begun ≡ Here close.did ∷ view t.post.port (of m cpast) → close.port ≡ t.post.port →
+    Within (c ∷ (close ∷ cpast)) world → Moves m close c amount → PeerAgrees setting m (peer_of (node_of l)) close cpast → t.acts.stepped ≡ false
+
+-- where nothing was left to slew before that, the peer shows its target again once it has slewed twice the span, as long as nothing more happens
+abbrev pub PeerMeets : Setting → Line → List Line → Type 0
+PeerMeets setting l world = (m : ℕ) (close c : Line) (cpast : List Line) (amount : ℤ) (t : Taking m l world) → t.acts.brings.message.kind ≡ AdjTime → closed t.begun ≡ Here close.did ∷ view t.post.port (of m cpast) → close.port ≡ t.post.port →
+    Within (c ∷ (close ∷ cpast)) world → Moves m close c amount → PeerAgrees setting m (peer_of (node_of l)) close cpast → rest_at (dids (of (node_of l) world)) l.did.tick ≡ pos 0 →
+    (x : ℕ) → l.did.tick + 2 * SPAN * SLEW ≤ x → shown (dids (of (node_of l) (l ∷ world))) x ≡ target (dids (of (node_of l) (l ∷ world))) x
+
+-- all of this at a line
+pub record ModerateAt (setting : Setting) (l : Line) (world : List Line) : Type 0 where
+  pub mean : MeanNear setting l world
+  pub own : OwnNear setting l world
+  pub own_slews : OwnSlews setting l world
+  pub adjtime : AdjTimeNear setting l world
+  pub peer : PeerNear setting l world
+  pub peer_slews : PeerSlews setting l world
+  pub meets : PeerMeets setting l world
+
+-- who agrees with more than half of a round's estimates is moved by at most twice the span
+abbrev pub Moderate : Setting → List Line → Type 0
+Moderate setting = Everywhere (ModerateAt setting)
+
+-- after the history h, at true time t: the master of a round, left alone since its Correct, stands with each clock of the majority that is left alone since its reading, to within twice the span, the error and drift
+abbrev pub WithMajority : Setting → List Line → ℕ → Type 0
+WithMajority setting h t = (m k : ℕ) (close c : Line) (cpast : List Line) (amount : ℤ) (x : Sampled) (r : Line) (older : List Line) → Unchanged m (c ∷ (close ∷ cpast)) h → Moves m close c amount →
+    Estimate m k close cpast x r older h → Agrees setting m close cpast x.diff →
+    pos (nat_abs (clock_at setting m h t -ℤ clock_at setting k h t)) ≤ℤ ((pos (2 * SPAN) +ℤ x.err) +ℤ pos (2 * width setting.drift (t - r.did.step.at)))
+
+-- at each place, and after it at any later time as long as nothing more happens
+abbrev pub ModerateClocks : Setting → List Line → Type 0
+ModerateClocks setting = Everywhere (λ l before. (t : ℕ) → l.did.step.at ≤ t → WithMajority setting (l ∷ before) t)

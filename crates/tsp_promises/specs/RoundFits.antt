@@ -1,0 +1,45 @@
+-- What the beginning and the end of a round owe to their port's past.
+use Rattle.std.specs.Prelude.{◌≡◌, ◌≤◌, ◌+◌, ℤ, true, List, ◌∷◌, map, filter}
+use Rattle.tsp_base.specs.declared.act.Act.TheVariants.{Ring}
+use Rattle.tsp_base.specs.declared.alarm.Alarm.TheVariants.{Close}
+use Rattle.tsp_base.specs.declared.constants.TheConstants.{CLOSE, ROUND, SLACK, SPAN}
+use Rattle.tsp_base.specs.declared.place.PeerId.{PeerId}
+use Rattle.tsp_base.specs.declared.role.Role.TheVariants.{Master}
+use Rattle.tsp_base.specs.History.{Acts, Did, Seen, Here, plain}
+use Rattle.tsp_base.specs.PortFacts.{role}
+use Rattle.tsp_base.specs.RoundFacts.{is_going, is_measured, started}
+use Rattle.tsp_base.specs.Setup.{Setup}
+use Rattle.tsp_base.specs.Takings.{Undisturbed}
+use Rattle.tsp_group.specs.Groups.{group_of, mean_of}
+use Rattle.tsp_rules.specs.RoundRows.{estimates, standing}
+
+-- the measured peers of a port that is set up so, ascending
+abbrev pub measured_peers : Setup → List Seen → List PeerId
+measured_peers setup seen = filter (λ p. is_measured p seen) setup.peers
+
+-- the estimates of its round: 0 for the own clock, and what the best sample of each measured peer says, where that is near
+abbrev pub estimates_at : Setup → List Seen → List ℤ
+estimates_at setup seen = estimates (map (standing seen) (measured_peers setup seen))
+
+-- the mean of the largest group of them
+abbrev pub group_mean : Setup → List Seen → ℤ
+group_mean setup seen = mean_of (group_of SPAN (estimates_at setup seen))
+
+-- a round begins ROUND after the last one that began on its port since the boot
+pub record StartFits (here : Did) (before : List Seen) : Type 0 where
+  pub spaced : (start : Did) (idle : List Seen) → started before ≡ Here start ∷ idle → start.tick + ROUND ≤ here.tick
+
+-- a Close is a master's; it stands right after the Ring of its alarm, which was armed: CLOSE after the round's beginning, SLACK more at most; since that its node neither booted nor corrected its clock
+pub record CloseFits (here : Did) (before : List Seen) : Type 0 where
+  pub leads : role before ≡ Master
+  pub ring : Did
+  pub past : List Seen
+  pub is : before ≡ Here ring ∷ past
+  pub rings : ring.deed ≡ Acts (Ring Close)
+  pub going : is_going past ≡ true
+  pub start : Did
+  pub idle : List Seen
+  pub start_is : started before ≡ Here start ∷ idle
+  pub over : start.tick + CLOSE ≤ here.tick
+  pub soon : here.tick ≤ start.tick + (CLOSE + SLACK)
+  pub undisturbed : Undisturbed (plain idle) (plain before)
