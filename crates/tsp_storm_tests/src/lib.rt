@@ -1,9 +1,7 @@
-//! Tests of the generator's command, by rows of other programs and beside the replay of the same events.
+//! Tests of the generator's command, by lines that other programs worked out.
 //!
-//! They stand apart from the crates that they try, so that each of those is proved once.
+//! They stand apart from the crate that they try, so that it is proved once.
 #![tactic(auto)]
 
-#[cfg(test)]
-mod beside_replay;
 #[cfg(test)]
 mod sums;
