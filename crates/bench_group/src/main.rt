@@ -30,7 +30,7 @@ fn made_up(alloc: Global, count: usize) -> Result<Vec<i64>, AllocError> {
     Ok(numbers)
 }
 
-/// The differences that the numbers stand for: half a second below to half a second above, in microseconds.
+/// The numbers as differences in microseconds, from half a second behind to half a second ahead.
 fn filled(alloc: Global, numbers: &[i64]) -> Result<Values, AllocError>
     requires { length numbers.now < 2 ^ 32 }
 {
@@ -43,7 +43,7 @@ fn filled(alloc: Global, numbers: &[i64]) -> Result<Values, AllocError>
     Ok(values)
 }
 
-/// The nanoseconds that a sort of a copy takes.
+/// The nanoseconds that sorting a copy takes.
 fn time_sort(rt: HostRuntime, numbers: &[i64]) -> io::Result<u64> {
     let mut sorted = Vec::from_slice(rt.alloc(), numbers)?;
     let start = Instant::now(&rt)?;
@@ -52,7 +52,7 @@ fn time_sort(rt: HostRuntime, numbers: &[i64]) -> io::Result<u64> {
     Ok(u64::try_from(time).unwrap_or(u64::MAX))
 }
 
-/// The largest group, and the nanoseconds that it takes; none without numbers or with too many.
+/// The largest group, and the nanoseconds that finding it takes; None without numbers or with too many.
 fn time_largest(rt: HostRuntime, numbers: &[i64]) -> io::Result<Option<(Group, u64)>> {
     if numbers.len() > 1_000_000 {
         return Ok(None);

@@ -14,7 +14,7 @@ use std::time::Instant;
 /// How many peers all rounds of a line have together.
 const WORK: u32 = 30_000;
 
-/// The nanoseconds of a number of rounds of a master among so many peers, and how many of them closed.
+/// The nanoseconds of a number of rounds of a master among so many peers, and how many of the rounds closed.
 fn time_rounds(rt: HostRuntime, peers: u32, rounds: u32) -> io::Result<(u64, u32)> {
     let mut network = match Network::new(rt.alloc(), peers) {
         Ok(network) => network,

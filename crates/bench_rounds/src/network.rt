@@ -1,4 +1,4 @@
-//! A node among slaves that answer whatever it posts.
+//! A node among slaves that answer all of its posts.
 ghost use Rattle.std.specs.Prelude.{◌≤◌};
 ghost use Rattle.tsp_base.specs.Frames.{IsTick};
 ghost use Rattle.tsp_node.specs.NodeStands.{clock_at};
@@ -13,7 +13,7 @@ use tsp_base::pad::Pad;
 use tsp_base::place::{PeerId, Place};
 use tsp_node::{BootFault, Config, Node};
 
-/// How often the node's timers are looked at until a round has closed: an election takes some tens.
+/// The greatest number of steps without octets until a round has closed. An election takes some tens.
 const LOOKS: u32 = 200;
 
 /// The last tick at which a step is taken.
@@ -78,7 +78,7 @@ impl Network {
         Ok(false)
     }
 
-    /// A step at a tick, with an answer or without one; a tick that went by or lies too far isn't taken.
+    /// A step at a tick, with an answer or without one. It does nothing at a tick that is over or too far ahead.
     fn step(&mut self, tick: u64, letter: Option<&Letter>) -> Result<(), AllocError> {
         if tick < self.tick || tick > LAST {
             return Ok(());
@@ -142,7 +142,7 @@ fn config_of(alloc: Global, count: u32) -> Result<Config, AllocError> {
     )
 }
 
-/// The slaves among so many peers, whose clocks stand up to 9 milliseconds apart.
+/// The slaves among so many peers; their clocks are up to 9 milliseconds apart.
 fn slaves_of(alloc: Global, count: u32) -> Result<Vec<Slave>, AllocError> {
     let mut slaves = Vec::new(alloc);
     for number in 1..count {

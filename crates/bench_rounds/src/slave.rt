@@ -5,17 +5,17 @@ use tsp_base::message::{Body, Message};
 use tsp_base::name::Name;
 use tsp_base::stamp::Stamp;
 
-/// A slave's clock: how far it stands ahead, in microseconds, and how often it was corrected.
+/// A slave's clock: how far it is ahead, in microseconds, and the number of its next correction.
 #[derive(Drop)]
 pub struct Slave {
-    /// How far its clock stands ahead, in microseconds.
+    /// How far its clock is ahead, in microseconds.
     pub offset: i64,
     /// The number that its next correction has.
     pub ticket: u16,
 }
 
 impl Slave {
-    /// What it answers to a datagram at this time, in microseconds; none where it answers nothing.
+    /// What it answers to a datagram at this time, in microseconds; None where it doesn't answer.
     pub fn answer(&mut self, datagram: &Datagram, time: i64) -> Option<Taken> {
         match datagram {
             Datagram::Stamp(Stamp::Request { word, counter }) => {
@@ -28,7 +28,7 @@ impl Slave {
         }
     }
 
-    /// It backs a candidate, tells a master that it is up, and acknowledges a correction.
+    /// It backs a candidate, reports to a master, and acknowledges a correction.
     fn answer_message(&mut self, message: &Message) -> Option<Taken> {
         let (kind, number) = match message.kind() {
             Kind::Election => (Kind::Accept, message.number()),

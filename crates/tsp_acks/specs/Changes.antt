@@ -1,13 +1,13 @@
--- What a call leaves as it is.
+-- What a call leaves unchanged.
 use Rattle.std.specs.Prelude.{◌≡◌}
 use Rattle.tsp_acks.specs.declared.station.Station.{Station}
 
--- who the node is here, and its peers, are as before
+-- who the node is here and its peers are unchanged
 pub record IsSamePort (before after : Station) : Type 0 where
   pub me : after.me ≡ before.me
   pub peers : after.peers ≡ before.peers
 
--- all but the open sends and their count is as before
+-- everything but the open sends and their count is unchanged
 pub record ChangesSends (before after : Station) : Type 0 where
   pub me : after.me ≡ before.me
   pub role : after.role ≡ before.role

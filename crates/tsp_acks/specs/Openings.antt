@@ -1,18 +1,18 @@
--- Which kinds of send begin by which call, and what kind is open.
+-- Which call begins which kind of send, and of which kind the open one is.
 use Rattle.std.specs.Prelude.{Bool, true, false, Option, None, Some}
 use Rattle.tsp_base.specs.declared.kind.Kind.{Kind}
 use Rattle.tsp_base.specs.declared.kind.Kind.TheVariants.{Election, Conflict, Quit}
 use Rattle.tsp_base.specs.SendFacts.{is_set_date_request}
 use Rattle.tsp_rules.specs.SendRows.{ends_by_ack, is_kind_election}
 
--- whether a send of this kind takes the port's own next number and carries nothing else
+-- whether a send of this kind has the port's own next number and carries nothing else
 abbrev pub is_bare_send : Kind → Bool
 is_bare_send Election = true
 is_bare_send Conflict = true
 is_bare_send Quit = true
 is_bare_send _ = false
 
--- whether the open send is of a kind that is asked for
+-- whether a send is open and its kind passes this test
 abbrev pub is_of : (Kind → Bool) → Option Kind → Bool
 is_of test None = false
 is_of test (Some k) = test k

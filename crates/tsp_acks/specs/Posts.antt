@@ -3,7 +3,7 @@ use Rattle.std.specs.Prelude.{Bool, true, false}
 use Rattle.tsp_base.specs.declared.kind.Kind.{Kind}
 use Rattle.tsp_base.specs.declared.kind.Kind.TheVariants.{Ack, MasterReq, MasterAck, MasterUp, SlaveUp, Accept, Refuse, Resolve, DateAck}
 
--- whether messages of this kind carry nothing but a number, and are no numbered sends
+-- whether messages of this kind carry nothing but a number, and aren't numbered sends
 abbrev pub is_plain : Kind → Bool
 is_plain Ack = true
 is_plain MasterReq = true

@@ -1,4 +1,4 @@
--- What a station stands for.
+-- Which pasts a station stands for.
 use Rattle.std.specs.Prelude.{◌≡◌, ℕ, ◌+◌, ◌%◌, min, true, false, None, List, length}
 use Rattle.tsp_base.specs.declared.place.PeerId.{PeerId}
 use Rattle.tsp_base.specs.declared.role.Role.TheVariants.{Starting}
@@ -12,7 +12,7 @@ use Rattle.tsp_sends.specs.Slots.{sending_to}
 use Rattle.tsp_acks.specs.declared.me.Me.{Me}
 use Rattle.tsp_acks.specs.declared.station.Station.{Station}
 
--- the station is what its port's past comes to
+-- the station has exactly the facts of its port's past
 pub record Stands (past : Past) (station : Station) : Type 0 where
   pub own : station.me.own ≡ past.own
   pub name : station.me.name ≡ past.name
@@ -27,27 +27,27 @@ pub record Stands (past : Past) (station : Station) : Type 0 where
   pub begun : station.begun ≡ begun past.seen % 32768
   pub backers : station.backers ≡ min (length (backers past.seen)) 4294967295
 
--- the number of the station's next send with a number of the port's own
+-- the number of the station's next send that the port numbers itself
 abbrev pub own_number : Station → ℕ
 own_number station = 32768 + (station.me.word + station.begun) % 32768
 
--- this step has rung an alarm, found one late or taken a datagram: a numbered message that is posted now begins a send
+-- in this step an alarm was handled or a datagram taken: a numbered message that is posted now begins a send
 abbrev pub HasActed : Past → Unit {0} → Type 0
 HasActed past _ = acting past.seen ≡ true
 
--- it hasn't yet: a numbered message that is posted now repeats the open send
+-- neither has happened yet: a numbered message that is posted now repeats the open send
 abbrev pub HasNotActed : Past → Unit {0} → Type 0
 HasNotActed past _ = acting past.seen ≡ false
 
--- a station in a step that has acted
+-- a station in a step in which an alarm was handled or a datagram taken
 abbrev pub StandsActing : Past → Station × Unit {0} → Type 0
 StandsActing = Beside Stands HasActed
 
--- a station in a step that hasn't
+-- a station in a step in which neither has happened yet
 abbrev pub StandsStill : Past → Station × Unit {0} → Type 0
 StandsStill = Beside Stands HasNotActed
 
--- a past of this port
+-- a past of the port with this setup
 pub record IsPortOf (me : Me) (peers : List PeerId) (past : Past) : Type 0 where
   pub own : me.own ≡ past.own
   pub name : me.name ≡ past.name

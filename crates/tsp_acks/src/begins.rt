@@ -26,8 +26,8 @@ impl Station {
     ghost use Rattle.tsp_acks.specs.Stands.{StandsActing, own_number};
 
     /// Begins an ELECTION, a CONFLICT or a QUIT to one of the peers, with the port's next own
-    /// number; it replaces the send that is open to that peer. In this step an alarm has rung or
-    /// come late, or a datagram was taken.
+    /// number. It replaces the open send to that peer. Before it in the step, an alarm must have
+    /// been handled or a datagram taken.
     pub fn begin<D: Desk>(&mut self, kind: Kind, p: PeerId, tick: u64, port: Port, desk: &mut D)
         requires room { 1 ≤ D.spare desk.old }
         requires kind { is_bare_send kind ≡ true }
@@ -90,9 +90,9 @@ impl Station {
         self.begun = (self.begun + 1) % 32768;
     }
 
-    /// Begins an ADJTIME or a SETTIME to one of the peers, under a number of its own counting; it replaces
-    /// the send that is open to that peer. Whether a correction may begin is for the caller to say. In this
-    /// step an alarm has rung or come late, or a datagram was taken.
+    /// Begins an ADJTIME or a SETTIME to one of the peers, under the number that the peer's ticket gave. It
+    /// replaces the open send to that peer. The caller checks that a correction may begin. Before it in the
+    /// step, an alarm must have been handled or a datagram taken.
     pub fn begin_correction<D: Desk>(
         &mut self,
         kind: Kind,
@@ -125,7 +125,7 @@ impl Station {
         self.open(p, message, tick, port, desk);
     }
 
-    /// Begins a send to each other peer, ascending, each with a number of its own.
+    /// Begins a send to each other peer, ascending, each with its own number.
     pub fn begin_to_others<D: Desk>(&mut self, kind: Kind, tick: u64, port: Port, desk: &mut D)
         requires room { length self.old.peers ≤ D.spare desk.old }
         requires kind { is_bare_send kind ≡ true }
@@ -144,7 +144,7 @@ impl Station {
         }
     }
 
-    /// Posts a message to one of the peers, and repeats it from now on until it is answered or given up.
+    /// Posts a message to one of the peers, and opens its send.
     fn open<D: Desk>(&mut self, p: PeerId, message: Message, tick: u64, port: Port, desk: &mut D)
         requires room { 1 ≤ D.spare desk.old }
         requires peer { Contains self.old.peers p }

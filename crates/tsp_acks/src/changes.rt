@@ -1,4 +1,4 @@
-//! The acts that change a station: each puts its act and makes the change, in one place.
+//! The acts that change a station: each call puts the act and makes the change.
 ghost use Rattle.std.specs.Prelude.{◌≡◌, ℕ, ◌+◌, ◌≤◌, ◌<◌, ◌^◌, min, true, Some, None};
 ghost use Rattle.tsp_base.specs.declared.act.Act.TheVariants.{Become, Ring, Late, Back, Backer, Quit, Abandon};
 ghost use Rattle.tsp_base.specs.declared.alarm.Alarm.TheVariants.{Probe, Close, Elect};
@@ -42,7 +42,7 @@ impl Station {
         self.alarms.arm(alarm, at);
     }
 
-    /// Rings an alarm that is in time, which turns it off.
+    /// An alarm is handled in time, and thereby turned off.
     pub fn ring<D: Desk>(&mut self, alarm: Alarm, port: Port, desk: &mut D)
         requires room { 1 ≤ D.spare desk.old }
         ensures row { (x : ℕ) → Performs Stands Stands (puts (Ring alarm)) x port self.old self.new
@@ -58,7 +58,7 @@ impl Station {
         self.alarms.off(alarm);
     }
 
-    /// Finds that an alarm is met too late, which turns it off.
+    /// An alarm is handled too late, and thereby turned off.
     pub fn late<D: Desk>(&mut self, alarm: Alarm, port: Port, desk: &mut D)
         requires room { 1 ≤ D.spare desk.old }
         ensures row { (x : ℕ) → Performs Stands Stands (puts (Late alarm)) x port self.old self.new
@@ -74,7 +74,7 @@ impl Station {
         self.alarms.off(alarm);
     }
 
-    /// Gives up a round: no more probes, and no close.
+    /// Gives up a round: there will be no more probes, and no Close.
     pub fn abandon<D: Desk>(&mut self, port: Port, desk: &mut D)
         requires room { 1 ≤ D.spare desk.old }
         ensures row { (x : ℕ) → Performs Stands Stands (puts Abandon) x port self.old self.new
@@ -89,7 +89,7 @@ impl Station {
         self.alarms.off(Alarm::Close);
     }
 
-    /// Takes a role, which turns all alarms off and ends all open sends. A master that is followed is one of
+    /// Changes the role, which turns all alarms off and ends all open sends. A master to follow must be one of
     /// the peers.
     pub fn become_role<D: Desk>(&mut self, role: Role, port: Port, desk: &mut D)
         requires room { 1 ≤ D.spare desk.old }
@@ -143,7 +143,7 @@ impl Station {
         self.backers = self.backers.saturating_add(1);
     }
 
-    /// Notes that a peer asked this node to stop leading.
+    /// Notes that a peer asked this port to stop leading.
     pub fn quit<D: Desk>(&mut self, p: PeerId, tick: u64, port: Port, desk: &mut D)
         requires room { 1 ≤ D.spare desk.old }
         ensures row { Performs Stands Stands (puts (Quit p)) tick port self.old self.new
@@ -156,14 +156,15 @@ impl Station {
         self.hold.quit(tick);
     }
 
-    /// How long this node waits for a master until it looks for one or stands itself, in ticks.
+    /// The election delay in ticks: how long this node hears no master before it looks for one or stands for
+    /// election.
     pub fn delay(&self) -> u64
         ensures { result ≡ delay self.now.me.word }
     {
         ELECT_MIN + self.me.word % ELECT_SPREAD
     }
 
-    /// Arms the election alarm anew.
+    /// Arms the Elect alarm for one election delay from now.
     pub fn arm_elect<D: Desk>(&mut self, tick: u64, port: Port, desk: &mut D)
         requires room { 1 ≤ D.spare desk.old }
         requires tick { IsTick tick }

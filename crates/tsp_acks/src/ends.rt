@@ -21,8 +21,8 @@ use tsp_base::place::{PeerId, Port};
 impl Station {
     ghost use Rattle.tsp_acks.specs.Stands.{Stands};
 
-    /// Ends the ELECTION that is open to a peer, where it has this number, and tells whether it
-    /// has: an ACCEPT or a REFUSE answers it.
+    /// An ACCEPT or a REFUSE with this number came: ends the open ELECTION to the peer, where it has this
+    /// number, and says whether it had.
     pub fn answered<D: Desk>(&mut self, p: PeerId, number: u16, port: Port, desk: &mut D) -> bool
         requires room { 1 ≤ D.spare desk.old }
         ensures test { (x : ℕ) (past : Past) → Stands past self.old
@@ -42,8 +42,8 @@ impl Station {
         self.end(asks, p, number, port, desk)
     }
 
-    /// Ends the SETDATEREQ that is open to a peer, where it has this number, and tells whether it has: a
-    /// DATEACK answers it.
+    /// A DATEACK with this number came: ends the open SETDATEREQ to the peer, where it has this number, and says
+    /// whether it had.
     pub fn dated<D: Desk>(&mut self, p: PeerId, number: u16, port: Port, desk: &mut D) -> bool
         requires room { 1 ≤ D.spare desk.old }
         ensures test { (x : ℕ) (past : Past) → Stands past self.old
@@ -63,8 +63,8 @@ impl Station {
         self.end(passes_on, p, number, port, desk)
     }
 
-    /// Ends the open send to a peer that an ACK with this number names, and tells whether it ended one. An
-    /// ELECTION and a SETDATEREQ are passed over: they have answers of their own.
+    /// An ACK with this number came: ends the open send to the peer, where it has this number, and says whether
+    /// it had. An ELECTION or a SETDATEREQ isn't ended so: they have answers of their own.
     pub fn acknowledge<D: Desk>(&mut self, p: PeerId, number: u16, port: Port, desk: &mut D) -> bool
         requires room { 1 ≤ D.spare desk.old }
         ensures test { (x : ℕ) (past : Past) → Stands past self.old
@@ -83,8 +83,8 @@ impl Station {
         self.end(waits, p, number, port, desk)
     }
 
-    /// Ends the open send to a peer where it is of the right kind and has this number, and tells whether it
-    /// ended it.
+    /// Ends the open send to a peer where `fits` says that it is of the right kind and it has this number, and
+    /// says whether it did.
     fn end<D: Desk>(&mut self, fits: bool, p: PeerId, number: u16, port: Port, desk: &mut D) -> bool
         requires room { 1 ≤ D.spare desk.old }
         ensures ends { result ≡ (fits && has_number number (sending_to self.old.sends p)) }

@@ -10,7 +10,7 @@ pub struct Me {
     pub own: PeerId,
     /// Its host name.
     pub name: Name,
-    /// The word that it booted with.
+    /// The word of this boot.
     pub word: u64,
     /// Whether it may be master.
     pub may: bool,

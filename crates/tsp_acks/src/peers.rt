@@ -26,7 +26,7 @@ impl Model for Peers {
 }
 
 impl Peers {
-    /// These peers. Fails only where memory is refused.
+    /// These peers. Fails only if out of memory.
     pub fn new(alloc: Global, peers: &[PeerId]) -> Result<Peers, AllocError>
         requires { IsPeers peers.now }
         ensures { IfOk result (λ p. p ≡ peers.now) }

@@ -1,4 +1,4 @@
-//! The posts of a station: messages in its node's own name that carry nothing but a number.
+//! Messages that a station posts once: they carry a number and the node's own name, and nothing else.
 ghost use Rattle.std.specs.Prelude.{◌≡◌, ℕ, ◌≤◌, true, length, [], ◌∷◌, ◌++◌};
 ghost use Rattle.tsp_base.specs.Frames.{PutsAtMost, PutsExactly};
 ghost use Rattle.tsp_base.specs.Performs.{Performs};
@@ -17,8 +17,8 @@ use tsp_base::place::{PeerId, Place, Port};
 impl Station {
     ghost use Rattle.tsp_acks.specs.Stands.{Stands};
 
-    /// Posts a message that carries nothing but a number to wherever a datagram came from. Numbered sends
-    /// don't go this way.
+    /// Posts a message with nothing but a number to where a datagram came from. The kind must not be one of a
+    /// numbered send.
     pub fn post_back<D: Desk>(&self, to: Place, kind: Kind, number: u16, port: Port, desk: &mut D)
         requires room { 1 ≤ D.spare desk.old }
         requires plain { is_plain kind ≡ true }
@@ -31,7 +31,7 @@ impl Station {
         desk.put(port, Act::Post(to, Datagram::Message(message)));
     }
 
-    /// Posts a message that carries nothing but a number to a peer. Numbered sends don't go this way.
+    /// Posts a message with nothing but a number to a peer. The kind must not be one of a numbered send.
     pub fn post<D: Desk>(&self, p: PeerId, kind: Kind, number: u16, port: Port, desk: &mut D)
         requires room { 1 ≤ D.spare desk.old }
         requires plain { is_plain kind ≡ true }

@@ -17,9 +17,9 @@ use tsp_sends::Due;
 impl Station {
     ghost use Rattle.tsp_acks.specs.Stands.{StandsStill};
 
-    /// Repeats the due send to the least peer after this one: its message is posted again, or it is given up.
-    /// None exactly where none is due. No alarm has rung or come late in this step yet, and no datagram was
-    /// taken.
+    /// Repeats the first due send to a peer after `after`, in the order of the peers: its message is posted
+    /// again, or the send is given up. None exactly where there is none. It must come before any alarm or
+    /// datagram of the step.
     pub fn repeat_next<D: Desk>(
         &mut self,
         after: Option<PeerId>,

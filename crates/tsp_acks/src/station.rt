@@ -27,15 +27,15 @@ pub struct Station {
     pub me: Me,
     /// What it is here.
     pub role: Role,
-    /// Whom it holds, and when it may stand.
+    /// Whom it has backed, and when it may back another candidate or stand for election.
     pub hold: Hold,
     /// The open numbered sends, with a slot for each peer.
     pub sends: Sends,
-    /// What its alarms are armed for.
+    /// The tick that each alarm is armed for.
     pub alarms: Alarms,
     /// How many sends with the port's own numbers began since the boot, modulo 32,768.
     pub begun: u16,
-    /// How many have backed this candidature, or the greatest number of 32 bits where there are more.
+    /// How many have backed this candidature, at most 2^32 - 1.
     pub backers: u32,
     /// All peers, itself among them.
     pub peers: Peers,
@@ -47,8 +47,7 @@ pub struct Station {
 impl Station {
     ghost use Rattle.tsp_acks.specs.Stands.{Stands, IsFresh, IsPortOf};
 
-    /// A station of a node that boots at this tick. Fails only where memory is
-    /// refused.
+    /// The station of a node that boots at this tick. Fails only if out of memory.
     pub fn new(alloc: Global, me: Me, peers: &[PeerId], tick: u64) -> Result<Station, AllocError>
         requires { IsPeers peers.now }
         ensures station { IfOk result (λ s. IsFresh me peers.now tick s) }
@@ -77,8 +76,8 @@ impl Station {
         self.peers.as_slice()
     }
 
-    /// The number of the next send with a number of the port's own: 32,768 and, modulo 32,768, the word and
-    /// the sends that began so.
+    /// The number of the next send that the port numbers itself: 32,768, plus the word and the count of such
+    /// sends since the boot, modulo 32,768.
     pub fn next_number(&self) -> u16
         ensures { result ≡ 32768 + (self.now.me.word + self.now.begun) % 32768 }
     {
@@ -96,7 +95,7 @@ impl Station {
         }
     }
 
-    /// Whether an alarm is armed, and for no earlier tick than `SLACK` before this one.
+    /// Whether an alarm is armed, and for a tick at most `SLACK` ticks ago.
     pub fn is_in_time(&self, alarm: Alarm, tick: u64) -> bool
         ensures { result ≡ is_met (deadline self.now.alarms alarm) tick }
     {
@@ -106,7 +105,7 @@ impl Station {
         }
     }
 
-    /// Whether what this sender says is heard: it is one of the peers, and the quiet time is over.
+    /// Whether the port heeds this sender: it is one of the peers, and the quiet time is over.
     pub fn hears(&self, p: PeerId) -> bool
         ensures { result ≡ (is_among p self.now.peers && not (is_starting_role self.now.role)) }
     {

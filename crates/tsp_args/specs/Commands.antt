@@ -7,7 +7,7 @@ use Rattle.tsp_args.specs.Storms.{storm_words, IsStorm}
 use Rattle.tsp_args.specs.declared.command.Command.{Command}
 use Rattle.tsp_args.specs.declared.command.Command.TheVariants.{Replay, Show, Pack, Serve, Ask, Storm, Icmp, Audit}
 
--- the one spelling of a command
+-- the words of a command
 abbrev pub words_of : Command → List (List ℕ)
 words_of Replay = codes "replay" ∷ []
 words_of Show = codes "show" ∷ []

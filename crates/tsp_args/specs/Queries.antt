@@ -18,7 +18,7 @@ abbrev pub switch_word : Bool → List ℕ
 switch_word true = codes "on"
 switch_word false = codes "off"
 
--- the words behind the address
+-- the words after the address
 abbrev pub query_rest : Query → List (List ℕ)
 query_rest (Trace on) = switch_word on ∷ []
 query_rest (Date time) = signed_decimal time ∷ []

@@ -1,4 +1,4 @@
--- What a daemon is told by words.
+-- The words of `serve`.
 use Rattle.std.specs.Prelude.{ℕ, ◌≤◌, List, ◌∷◌, decimal, codes}
 use Rattle.tsp_script.specs.Schedules.{IsHost}
 use Rattle.tsp_args.specs.Addrs.{addr_text, IsAddr}

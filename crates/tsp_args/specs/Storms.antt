@@ -1,4 +1,4 @@
--- What the generator of schedules is told by words.
+-- The words of `storm`.
 use Rattle.std.specs.Prelude.{ℕ, ◌^◌, ◌<◌, ◌≤◌, List, [], ◌∷◌, decimal}
 use Rattle.tsp_args.specs.declared.storm.StormWords.{StormWords}
 

@@ -16,7 +16,7 @@ fn colon_at(word: &[u8]) -> Option<usize>
     word.iter().position(|octet| *octet == b':')
 }
 
-/// What stands before the first colon, and what follows it.
+/// What is before the first colon, and what follows it; None where there is no colon.
 fn at_colon(word: &[u8]) -> Option<(&[u8], &[u8])>
     ensures { MatchOption result (¬ Contains word.now 58) (λ r. (word.now ≡ r.0.now ++ 58 ∷ r.1.now)
         × ¬ Contains r.0.now 58) }
@@ -25,7 +25,7 @@ fn at_colon(word: &[u8]) -> Option<(&[u8], &[u8])>
     Some((word.split_at(colon).0, word.split_at(colon + 1).1))
 }
 
-/// The port that the word is, from 1 to 65535.
+/// The port of a word; None where it isn't a number from 1 to 65535.
 fn port_of(word: &[u8]) -> Option<u16>
     ensures found { IfSome result (λ n. (1 ≤ n) × (word.now ≡ decimal n)) }
     ensures reads { (n : ℕ) → 1 ≤ n → n < 2 ^ 16 → word.now ≡ decimal n → result ≡ Some n }
@@ -37,7 +37,7 @@ fn port_of(word: &[u8]) -> Option<u16>
     u16::try_from(number).ok()
 }
 
-/// The address that the word is, as `127.0.0.1:525`; None exactly where it is none, as with a
+/// The address of a word such as `127.0.0.1:525`; None exactly where it isn't one, for instance with a
 /// leading zero, an octet above 255, or a port that isn't from 1 to 65535.
 pub fn addr_of(word: &[u8]) -> Option<Addr>
     ensures found { IfSome result (λ a. IsAddr a × (word.now ≡ addr_text a)) }

@@ -27,11 +27,11 @@ pub enum Command {
     Storm(StormWords),
     /// Reads records of exchanged timestamps, and averages them.
     Icmp,
-    /// Reads a schedule and its claimed history, and judges it.
+    /// Reads a schedule and the trace that some program claims for it, and judges the trace.
     Audit,
 }
 
-/// The command of a word that stands alone.
+/// The command of a word that nothing follows.
 fn lone_command(word: &str) -> Option<Command>
     ensures found { IfSome result (λ c. IsCommand c × (word.now ∷ [] ≡ words_of c)) }
     ensures reads { (c : Command) → word.now ∷ [] ≡ words_of c → result ≡ Some c }
@@ -65,9 +65,9 @@ fn other_command(word: &str, rest: &[String]) -> Option<Command>
     }
 }
 
-/// The command of the words behind the program's name; None exactly where they are no command's.
+/// The command of the words after the program's name; None exactly where they aren't a command.
 ///
-/// The call fails only where memory is refused.
+/// Fails only if out of memory.
 pub fn command_of(alloc: Global, words: &[String]) -> Result<Option<Command>, AllocError>
     ensures reads { IfOk result (λ r. MatchOption r (IsNoCommand (map string_bytes words.now))
         (λ c. IsCommand c × (map string_bytes words.now ≡ words_of c))) }

@@ -1,8 +1,14 @@
-//! The words of the command line as commands, each with one spelling.
+//! The words of the command line as commands. Each command is written in one way.
 //!
-//! [`command::command_of`] reads the words behind the program's name. It knows every command of the
-//! grammar, those too that a program hasn't built: which of them it does is the program's own
-//! choice.
+//! [`command::command_of`] reads the words after the program's name. Whoever calls it matches the
+//! command, which has all its parts as values within their ranges: addresses, names and counts.
+//!
+//! ```
+//! let words = ["clockdiff".to_string(), "127.0.0.1:525".to_string()];
+//! assert!(matches!(command_of(alloc, &words)?, Some(Command::Ask(_, Query::ClockDiff))));
+//! let words = ["clockdiff".to_string()];
+//! assert!(command_of(alloc, &words)?.is_none());
+//! ```
 #![tactic(auto)]
 
 pub mod addrs;

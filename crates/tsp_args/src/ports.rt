@@ -62,8 +62,8 @@ impl Ports {
         Ok(())
     }
 
-    /// Takes a word: a plus begins the next port, an address is one more peer. The answer is false
-    /// where it is neither.
+    /// Takes a word: a plus begins the next port, an address is one more peer of the last one. The answer is
+    /// false where it is neither.
     fn take(&mut self, alloc: Global, word: &str) -> Result<bool, AllocError>
         ensures words { IfOk result
             (λ took. MatchBool took (peer_words self.new ≡ peer_words self.old ++ word.now ∷ [])
@@ -99,7 +99,7 @@ impl Ports {
         }
     }
 
-    /// All peers, in their order.
+    /// All peers of all ports, in their order. Fails only if out of memory.
     pub fn peers(&self, alloc: Global) -> Result<Vec<Addr>, AllocError>
         ensures { IfOk result (λ peers. peers.items ≡ all_peers self.now) }
     {
@@ -112,7 +112,7 @@ impl Ports {
     }
 }
 
-/// The ports that the words are, however many and whosever.
+/// The ports of these words, however many there are and whoever their peers are.
 fn read(alloc: Global, words: &[String]) -> Result<Option<Ports>, AllocError>
     ensures found { IfOk result (λ r. IfSome r (λ ports. ArePeers ports
         × (map string_bytes words.now ≡ peer_words ports))) }
@@ -142,7 +142,7 @@ fn all_differ(addrs: &[Addr]) -> bool
     true
 }
 
-/// Whether so many ports with these peers together may be those of a daemon with this own address.
+/// Whether a daemon with this address may have so many ports with these peers together.
 fn serve_one(local: Addr, count: usize, peers: &[Addr]) -> bool
     ensures { MatchBool result (ServeOne local count peers.now) (¬ ServeOne local count peers.now) }
 {
@@ -155,7 +155,7 @@ fn serve_one(local: Addr, count: usize, peers: &[Addr]) -> bool
     all_differ(peers)
 }
 
-/// The ports that the words are, for a daemon with this own address; None exactly where they are none.
+/// The ports of a daemon with this address; None exactly where the words aren't the ports of one.
 pub(crate) fn ports_of(
     alloc: Global,
     local: Addr,

@@ -1,4 +1,4 @@
-//! What a daemon is told by words.
+//! The words of `serve`.
 ghost use Rattle.std.specs.Prelude.{◌≡◌, ◌≤◌, ℕ, IfOk, IfSome, Some, map, string_bytes, decimal};
 ghost use Rattle.tsp_args.specs.Serves.{candidacy_word, serve_words, IsServe};
 ghost use Rattle.tsp_args.specs.declared.serve.Candidacy.{Candidacy};
@@ -19,7 +19,7 @@ pub enum Candidacy {
     Never,
     /// It may.
     Plain,
-    /// It may, where a majority of its port's peers backs it.
+    /// It may, and wins only with the votes of a majority of its port's peers.
     Strict,
 }
 
@@ -28,7 +28,7 @@ pub enum Candidacy {
 pub struct ServeWords {
     /// The daemon's own address, which is peer 0 of each of its ports.
     pub local: Addr,
-    /// The daemon's name: letters, digits, dots, dashes and low lines.
+    /// The daemon's name: letters, digits, dots, dashes and underscores.
     pub name: Name,
     /// Whether its node may be master.
     pub candidacy: Candidacy,
@@ -38,7 +38,7 @@ pub struct ServeWords {
     pub ports: Ports,
 }
 
-/// Whether the word says that a node may be master, and how.
+/// What the word says of whether a node may be master.
 fn candidacy_of(word: &str) -> Option<Candidacy>
     ensures found { IfSome result (λ c. word.now ≡ candidacy_word c) }
     ensures reads { (c : Candidacy) → word.now ≡ candidacy_word c → result ≡ Some c }
@@ -51,7 +51,7 @@ fn candidacy_of(word: &str) -> Option<Candidacy>
     }
 }
 
-/// The number of turns that the word is.
+/// The number of turns, 1 to 10^9.
 fn turns_of(word: &str) -> Option<u64>
     ensures found { IfSome result (λ n. (1 ≤ n) × (n ≤ 1000000000) × (word.now ≡ decimal n)) }
     ensures reads { (n : ℕ) → 1 ≤ n → n ≤ 1000000000 → word.now ≡ decimal n → result ≡ Some n }
@@ -63,7 +63,7 @@ fn turns_of(word: &str) -> Option<u64>
     Some(number)
 }
 
-/// What the words behind `serve` tell a daemon; None exactly where they are none of a daemon's.
+/// What the words after `serve` say; None exactly where they aren't allowed there.
 pub(crate) fn serve_of(alloc: Global, words: &[String]) -> Result<Option<ServeWords>, AllocError>
     ensures found { IfOk result (λ r. IfSome r (λ s. IsServe s
         × (map string_bytes words.now ≡ serve_words s))) }

@@ -1,4 +1,4 @@
-//! What the generator of schedules is told by words.
+//! The words of `storm`.
 ghost use Rattle.std.specs.Prelude.{◌≡◌, ◌^◌, ◌<◌, ◌≤◌, ℕ, IfSome, Some, map, string_bytes, decimal};
 ghost use Rattle.tsp_args.specs.Storms.{storm_words, IsStorm};
 ghost use Rattle.tsp_args.specs.declared.storm.StormWords.{StormWords};
@@ -8,7 +8,7 @@ use tsp_script::numbers::number_of;
 /// What follows `storm`.
 #[derive(Clone, Copy, PartialEq, Eq, Debug)]
 pub struct StormWords {
-    /// What the generator starts from.
+    /// The number that the schedule is computed from.
     pub seed: u64,
     /// How many nodes, 1 to 64.
     pub nodes: u32,

@@ -7,20 +7,20 @@ use tsp_audit::premises::Premises;
 use tsp_audit::verdict::Verdict;
 use tsp_claims::audit_fault::AuditFault;
 
-/// What comes of lines that are claimed of an event.
+/// What an audit should make of lines that are claimed of an event.
 #[derive(Clone, Copy, PartialEq, Eq, Debug)]
 pub(crate) enum Answer {
-    /// They fit, and this is the verdict.
+    /// They are allowed, and this is the verdict.
     Says(Verdict),
-    /// The line with this index doesn't fit, or the event lacks something.
+    /// The line with this index isn't allowed, or the event lacks something.
     Misfit(usize),
-    /// Memory was refused.
+    /// Out of memory.
     NoMemory,
-    /// A text is no event's line, or the event can't be claimed.
+    /// A text isn't an event's line, or the event can't be claimed.
     Unread,
 }
 
-/// An audit of nodes on one network, where all premises are kept but that datagrams may be forged.
+/// An audit of nodes on one network, with all premises except that no datagram is forged.
 pub(crate) fn audit_of(
     alloc: Global,
     drift: u32,

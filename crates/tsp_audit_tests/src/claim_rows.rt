@@ -1,5 +1,5 @@
-//! Rows that were worked out by hand: which lines fit which events, what was posted, and where the
-//! clocks stand.
+//! Rows that were worked out by hand: which lines are allowed of which events, what was posted, and what
+//! the clocks show.
 
 use crate::claiming::Answer::{Fits, Misfit};
 use crate::claiming::{base, claims_of_two, first_wrong, looks_at};
@@ -116,7 +116,7 @@ fn takes_what_was_posted(rt: HostRuntime) -> Result<(), Fail> {
     Ok(())
 }
 
-/// Octets are taken exactly once, from their sender; what they spell isn't compared.
+/// Octets are taken exactly once, from their sender; what was read of them isn't compared.
 #[test]
 fn octets(rt: HostRuntime) -> Result<(), Fail> {
     let mut claims = claims_of_two(rt.alloc()).ok_or("no claims")?;
@@ -144,7 +144,7 @@ fn octets(rt: HostRuntime) -> Result<(), Fail> {
     Ok(())
 }
 
-/// A clock's base is its wall and the corrections since the last boot.
+/// A clock's base is its wall clock and the corrections since the last boot.
 #[test]
 fn bases(rt: HostRuntime) -> Result<(), Fail> {
     let mut claims = claims_of_two(rt.alloc()).ok_or("no claims")?;

@@ -15,16 +15,16 @@ use tsp_script::act_reader::act_of;
 use tsp_script::event_line::{EventItem, event_line};
 use tsp_script::trace::Line2;
 
-/// What comes of lines that are claimed of an event.
+/// What should come of lines that are claimed of an event.
 #[derive(Clone, Copy, PartialEq, Eq, Debug)]
 pub(crate) enum Answer {
-    /// They fit, and were taken in.
+    /// They are allowed, and were taken in.
     Fits,
-    /// The line with this index doesn't fit, or the event lacks something.
+    /// The line with this index isn't allowed, or the event lacks something.
     Misfit(usize),
-    /// Memory was refused.
+    /// Out of memory.
     NoMemory,
-    /// A text is no event's line, or the event can't be claimed.
+    /// A text isn't an event's line, or the event can't be claimed.
     Unread,
 }
 
@@ -93,7 +93,7 @@ pub fn is_claimable(claims: &Claims, e: &Event, count: usize) -> bool
         && claims.told() <= 20_000 - count as u64
 }
 
-/// The lines of a trace; None where one is no trace's.
+/// The lines of a trace; None where one isn't a trace's.
 pub fn lines_of(alloc: Global, text: &str) -> Option<Vec<Line2>> {
     let mut lines = Vec::new(alloc);
     for line in text.lines() {
@@ -132,7 +132,7 @@ pub(crate) fn first_wrong(
     None
 }
 
-/// Whether a line fits as the first of an event, and what the event with that line alone lacks.
+/// Whether a line is allowed as the first of an event, and what the event with that line alone lacks.
 pub(crate) fn looks_at(claims: &Claims, event: &str, text: &str) -> Option<(bool, bool)> {
     let e = event_of(event.as_bytes())?;
     let line = act_of(text.as_bytes()).ok()?;

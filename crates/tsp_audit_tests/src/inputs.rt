@@ -1,4 +1,4 @@
-//! Inputs, and what an audit of them comes to.
+//! Inputs, and how an audit of them ends.
 use std::alloc::{AllocError, Global};
 use tsp_audit_command::run::check;
 use tsp_io::memory::{MemorySink, MemorySource};
@@ -24,7 +24,7 @@ pub const ANSWERED: &str = "\
 3 0 0 20 post 0 - reply 5 1 2 1020
 ";
 
-/// Whether the audit of texts, one behind the other, ends so and writes this, where these reads fail.
+/// Whether the audit of texts, one after the other, ends so and writes this, where these reads fail.
 pub fn comes(
     alloc: Global,
     texts: &[&str],

@@ -1,7 +1,7 @@
-//! Tests of the audit: of the facts that a history tells, of claims, of verdicts event by event,
-//! and of whole inputs.
+//! Tests of the audit: of the facts of a history, of claims, of verdicts event by event, and of
+//! whole inputs.
 //!
-//! They stand apart, so that each crate that they test is proved once.
+//! The tests are in a crate of their own, so that each crate that they try is proved once.
 #![tactic(auto)]
 
 #[cfg(test)]

@@ -3,7 +3,7 @@ use crate::inputs::{ANSWERED, ASKED, comes};
 use std::alloc::{AllocError, Global};
 use tsp_lines::treat::Outcome;
 
-/// A line that is no trace's, one that doesn't fit, and a boot whose line is missing behind the schedule.
+/// A line that isn't a trace's, one that isn't allowed, and a boot whose line is missing after the schedule.
 #[test]
 fn claimed_lines_are_refused(rt: HostRuntime) -> Result<(), AllocError> {
     let alloc = rt.alloc();
@@ -14,7 +14,7 @@ fn claimed_lines_are_refused(rt: HostRuntime) -> Result<(), AllocError> {
     Ok(())
 }
 
-/// Nothing is written where a read fails, though a line before it is no schedule's.
+/// Nothing is written where a read fails, though a line before it isn't a schedule's.
 #[test]
 fn a_read_fault_comes_first(rt: HostRuntime) -> Result<(), AllocError> {
     let alloc = rt.alloc();
@@ -33,7 +33,7 @@ fn nodes_and(alloc: Global, line: &str) -> Result<String, AllocError> {
     Ok(text)
 }
 
-/// The 17th node passes a limit, if the header would take it.
+/// The 17th node passes a limit, if the header would accept it.
 #[test]
 fn nodes_are_limited(rt: HostRuntime) -> Result<(), AllocError> {
     let alloc = rt.alloc();

@@ -1,4 +1,4 @@
-//! Claimed histories of which one line is wrong, and what their verdict names.
+//! Claimed histories with one wrong line, and what their verdict names.
 
 use crate::auditing::Answer::{Misfit, Says};
 use crate::auditing::{Answer, audit_of, first_wrong};
@@ -104,7 +104,7 @@ const MEASURED: [(&str, &str, Answer); 16] = [
     ),
 ];
 
-/// The slave's reading is sampled, and no other comes before the round closes.
+/// The slave's reading is sampled, and no other one comes before the round closes.
 const PROBED: [(&str, &str, Answer); 4] = [
     (
         "at 630000801 take 10",
@@ -128,8 +128,8 @@ const PROBED: [(&str, &str, Answer); 4] = [
     ),
 ];
 
-/// A follower corrects its clock again, one tick too soon; the failure stays, and what comes after
-/// it is still fitted.
+/// A follower corrects its clock again, one tick too soon. The failure stays, and later lines are still
+/// checked.
 #[test]
 fn corrects_too_soon(rt: HostRuntime) -> Result<(), Fail> {
     let clocks = [(0, 0), (0, 0)];

@@ -3,7 +3,7 @@ use crate::inputs::{ANSWERED, ASKED, comes};
 use std::alloc::AllocError;
 use tsp_lines::treat::Outcome;
 
-/// A schedule in which a slave is told twice within a second to move its clock.
+/// A schedule in which a slave gets two corrections within a second.
 const CORRECTED: &str = "\
 tsp-schedule 1
 drift 0

@@ -1,17 +1,17 @@
--- What calls share that put acts at a tick.
+-- What the contracts of calls share that put acts at a tick.
 use Rattle.std.specs.Prelude.{◌≡◌, ◌≤◌, ℕ, ◌+◌, ◌^◌, List, length}
 use Rattle.tsp_base.specs.declared.act.Placed.{Placed}
 
--- a tick that a node may be handed: sums with the protocol's times stay far below 2^64
+-- a tick that a node may get: sums with the protocol's times stay far below 2^64
 abbrev pub IsTick : ℕ → Type 0
 IsTick x = x ≤ 2 ^ 61
 
--- a call puts at most n acts, and takes no more than that of the desk's room
+-- a call puts at most n acts, and uses at most that much of the desk's room
 pub record PutsAtMost (n : ℕ) (room left : ℕ) (old new : List Placed) : Type 0 where
   pub spare : room ≤ left + n
   pub few : length new ≤ length old + n
 
--- a call puts n acts, and takes just so much of the desk's room
+-- a call puts exactly n acts, and uses that much of the desk's room
 pub record PutsExactly (n : ℕ) (room left : ℕ) (old new : List Placed) : Type 0 where
   pub spare : left + n ≡ room
   pub count : length new ≡ length old + n

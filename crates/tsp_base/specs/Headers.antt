@@ -15,13 +15,13 @@ pub record HeaderValue : Type 0 where
   pub nodes : List NodeLine
   pub nets : List (List ℕ)
 
--- a node with a name, whose clock keeps the drift, and whose wall is in range
+-- a node whose name is valid, whose rate is at most the drift in magnitude, and whose wall clock is in range
 pub record Keeps (drift : ℕ) (line : NodeLine) : Type 0 where
   pub name : IsName line.name
   pub rate : nat_abs line.rate ≤ drift
   pub wall : nat_abs line.wall ≤ 1000000000000000
 
--- some of this many nodes, in ascending order
+-- the numbers of at least one of this many nodes, in strictly ascending order
 pub record IsNet (nodes : ℕ) (net : List ℕ) : Type 0 where
   pub some : 0 < length net
   pub ascending : IsStrictlyIncreasing net
@@ -35,7 +35,7 @@ has_member n net = list_any (λ m. m == n) net
 abbrev pub nets_with : ℕ → List (List ℕ) → ℕ
 nets_with n nets = count_by (has_member n) nets
 
--- at most 64 nodes that keep the drift, and at most 64 networks of them, of which no node is in more than 4
+-- at most 64 nodes whose rates are at most the drift, and at most 64 networks of them; no node is in more than 4
 pub record IsHeader (header : HeaderValue) : Type 0 where
   pub small : header.drift ≤ 1000
   pub few : length header.nodes ≤ 64
@@ -44,7 +44,7 @@ pub record IsHeader (header : HeaderValue) : Type 0 where
   pub nets_are : All (IsNet (length header.nodes)) header.nets
   pub few_ports : (n : ℕ) → nets_with n header.nets ≤ 4
 
--- what one node more does to a header
+-- what adding a node to a header answers, and the header after it
 abbrev pub Pushes : HeaderValue → NodeLine → Result Unit HeaderFault → HeaderValue → Type 0
 Pushes old line (Ok _) new = (length old.nodes < 64) × Keeps old.drift line × (new ≡ record old { nodes = old.nodes ++ line ∷ [] })
 Pushes old line (Err Full) new = (64 ≤ length old.nodes) × (new ≡ old)
@@ -54,12 +54,12 @@ Pushes old line (Err OutOfMemory) new = new ≡ old
 Pushes old line (Err Nets) new = ⊥
 Pushes old line (Err Net) new = ⊥
 
--- one network more may join these of the nodes: it is a network, and each of its members is in fewer than 4
+-- these nodes may become a network: they are one, and each of them is in fewer than 4 so far
 pub record Joins (nodes : ℕ) (nets : List (List ℕ)) (net : List ℕ) : Type 0 where
   pub net_is : IsNet nodes net
   pub free : All (λ n. nets_with n nets < 4) net
 
--- what one network more does to a header
+-- what adding a network to a header answers, and the header after it
 abbrev pub AddsNet : HeaderValue → List ℕ → Result Unit HeaderFault → HeaderValue → Type 0
 AddsNet old net (Ok _) new = (length old.nets < 64) × Joins (length old.nodes) old.nets net × (new ≡ record old { nets = old.nets ++ net ∷ [] })
 AddsNet old net (Err Nets) new = (64 ≤ length old.nets) × (new ≡ old)

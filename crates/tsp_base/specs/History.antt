@@ -9,11 +9,11 @@ use Rattle.tsp_base.specs.declared.place.Port.{Port}
 pub data Cause : Type 0 where
   -- the node boots with this word, and this is its wall clock then
   Booted : (word : ℕ) → (wall : ℤ) → Cause
-  -- its timers are looked at
+  -- it looks at its timers
   Turned : Cause
   -- the datagram that was posted under this number reaches it
   Came : (datagram : ℕ) → Cause
-  -- it is handed octets from outside
+  -- octets from outside reach it
   Handed : Cause
 
 -- one step of one node, at this true time
@@ -62,7 +62,7 @@ abbrev pub of : ℕ → List Line → List Line
 of n [] = []
 of n (l ∷ before) = if l.did.step.node == n then l ∷ of n before else of n before
 
--- a mark and a boot are the whole node's, whatever the port
+-- whether every port of the node sees this deed as its own: a mark and a boot
 abbrev pub is_shared : Deed → Bool
 is_shared Begins = true
 is_shared (Acts Boot) = true
@@ -78,7 +78,7 @@ abbrev pub view : Port → List Line → List Seen
 view q [] = []
 view q (l ∷ before) = seen_as ((l.port.0 == q.0) || is_shared l.did.deed) l.did ∷ view q before
 
--- what was done, wherever it was
+-- the deed that was seen, on this port or on another
 abbrev pub did_of : Seen → Did
 did_of (Here d) = d
 did_of (Elsewhere d) = d
@@ -92,7 +92,7 @@ abbrev pub from_act_at : Deed → List Line → List Line → List Line
 from_act_at Begins here keep = keep
 from_act_at (Acts a) here keep = here
 
--- the lines from the newest act on: marks that stand before it are passed over
+-- the lines from the newest act on: newer marks are left out
 abbrev pub from_act : List Line → List Line
 from_act [] = []
 from_act (l ∷ before) = from_act_at l.did.deed (l ∷ before) (from_act before)

@@ -1,4 +1,4 @@
--- Whom a port holds, and when it may back or stand.
+-- Whom a port has backed, and when it may back a candidate or stand for election.
 use Rattle.std.specs.Prelude.{ℕ, ◌+◌, Bool, true, ◌==◌, ◌||◌, ◌&&◌, nat_le, Option, None, Some}
 use Rattle.tsp_base.specs.declared.constants.TheConstants.{HOLD, ELECT_MIN}
 use Rattle.tsp_base.specs.declared.place.PeerId.{PeerId}
@@ -23,6 +23,6 @@ is_past (Some at) long x = nat_le (at + long) x
 abbrev pub may_back : Held → ℕ → PeerId → Bool
 may_back h x p = may_back_after h.back x p
 
--- whether the node may stand: boot and last Quit are long ago, and it may back itself
+-- whether the port may stand for election: boot and last Quit are long ago, and it may back itself
 abbrev pub may_stand : Held → ℕ → PeerId → Bool
 may_stand h x own = nat_le (h.boot + ELECT_MIN) x && (is_past h.quit ELECT_MIN x && may_back h x own)

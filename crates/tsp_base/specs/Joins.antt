@@ -4,7 +4,7 @@ use Rattle.tsp_base.specs.declared.act.Placed.{Placed}
 use Rattle.tsp_base.specs.declared.place.Port.{Port}
 use Rattle.tsp_base.specs.History.{Step, Deed, Begins, Acts, Line}
 
--- the port under which marks stand; every port sees them
+-- the port that marks are noted under; every port sees them
 abbrev pub first_port : Port
 first_port = record { 0 = 0 }
 

@@ -3,6 +3,6 @@ use Rattle.std.specs.Prelude.{ℕ}
 use Rattle.tsp_base.specs.History.{Past}
 use Rattle.tsp_base.specs.Rows.{Row, grown}
 
--- after a past of which P holds, the row's acts lead to one of which Q holds
+-- if P holds of a past, Q holds of the past after the row's acts
 pub record Leads (P : ℕ → Past → Type 0) (row : Row) (Q : ℕ → Past → Type 0) : Type 0 where
   pub run : (x : ℕ) (past : Past) → P x past → Q x (grown x past (row x past))

@@ -1,4 +1,4 @@
--- Facts of a node: what its deeds on all its ports come to. A deed changes a fact by the fact's own function, which is by cases of the deed.
+-- Facts of a node, read off its deeds on all its ports. Each fact has a function that says, by cases of a deed, how that deed changes it.
 use Rattle.std.specs.Prelude.{ℕ, ◌+◌, ◌-◌, ◌/◌, ◌%◌, ℤ, pos, negsuc, ◌+ℤ◌, ◌-ℤ◌, neg_ℤ, Bool, true, false, if◌then◌else◌, List, [], ◌∷◌, Option, None, Some}
 use Rattle.tsp_base.specs.declared.act.Act.TheVariants.{Boot, Correct, Trace}
 use Rattle.tsp_base.specs.declared.constants.TheConstants.{SLEW}
@@ -65,7 +65,7 @@ abbrev pub boot_at : List Did → ℕ
 boot_at [] = 0
 boot_at (d ∷ before) = boot_after d.deed d.step.at (boot_at before)
 
--- the wall clock at the last boot less the tick then: a clock that is never corrected shows this more than its ticks
+-- the wall clock at the last boot less the tick then: a clock that is never corrected shows its ticks and this
 abbrev pub base : List Did → ℤ
 base ds = wall ds -ℤ pos (boot_tick ds)
 
@@ -121,7 +121,7 @@ correct_place_after (Acts Boot) here keep = []
 correct_place_after (Acts (Correct amount stepped shown)) here keep = here
 correct_place_after _ here keep = keep
 
--- the place of the last correction since the boot: its line and what stands before; empty where there was none
+-- the place of the last correction since the boot: its line and the lines before it; empty where there was none
 abbrev pub correct_place : List Did → List Did
 correct_place [] = []
 correct_place (d ∷ before) = correct_place_after d.deed (d ∷ before) (correct_place before)

@@ -1,4 +1,4 @@
--- Facts of a port: what its deeds come to since its node's last boot. Deeds on other ports change none of them.
+-- Facts of a port, read off its deeds since its node's last boot. Deeds on other ports change none of them.
 use Rattle.std.specs.Prelude.{ℕ, ◌==◌, Bool, true, false, if◌then◌else◌, List, [], ◌∷◌, Option, None, Some}
 use Rattle.tsp_base.specs.declared.act.Act.TheVariants.{Boot, Took, Become, Back, Backer, Quit, Arm, Ring, Late, Join, Leave, Rival, Abandon}
 use Rattle.tsp_base.specs.declared.alarm.Alarm.TheVariants.{Probe, Close}
@@ -49,7 +49,7 @@ acting_after (Acts (Ring a)) keep = true
 acting_after (Acts (Late a)) keep = true
 acting_after _ keep = keep
 
--- whether an alarm or a datagram stands before in this step: what is posted from here on is no repeat
+-- whether an alarm was handled or a datagram taken before in this step: what is posted from here on is no repeat
 abbrev pub acting : List Seen → Bool
 acting [] = false
 acting (Here d ∷ before) = acting_after d.deed (acting before)
@@ -78,7 +78,7 @@ abbrev pub said_by : Place → Option MessageValue → Option Said
 said_by (Peer p) (Some m) = Some (record { from = p; message = m })
 said_by _ _ = None
 
--- what a peer's message says that was taken
+-- the peer and its message, where a message of a peer was taken
 abbrev pub said : Option Received → Option Said
 said None = None
 said (Some r) = said_by r.from (message_in r.taken)
@@ -115,7 +115,7 @@ armed_after (Acts (Late a)) keep = with_deadline keep a None
 armed_after (Acts Abandon) keep = with_deadline (with_deadline keep Probe None) Close None
 armed_after _ keep = keep
 
--- what each alarm is armed for: the last Arm of it, unless a Ring or a Late of it or a Become stands after; an Abandon turns Probe and Close off
+-- what each alarm is armed for: the last Arm of it, unless a Ring or a Late of it or a Become came after; an Abandon turns Probe and Close off
 abbrev pub armed : List Seen → Deadlines
 armed [] = none_armed
 armed (Here d ∷ before) = armed_after d.deed (armed before)
@@ -128,7 +128,7 @@ in_table_after p (Acts (Join q)) keep = if q.0 == p.0 then true else keep
 in_table_after p (Acts (Leave q)) keep = if q.0 == p.0 then false else keep
 in_table_after p _ keep = keep
 
--- whether p stands in the slave table: it joined since the last Become and didn't leave
+-- whether p is in the slave table: it joined since the last Become and didn't leave
 abbrev pub in_table : PeerId → List Seen → Bool
 in_table p [] = false
 in_table p (Here d ∷ before) = in_table_after p d.deed (in_table p before)
@@ -140,7 +140,7 @@ backers_after (Acts (Become r)) keep = []
 backers_after (Acts (Backer p)) keep = p ∷ keep
 backers_after _ keep = keep
 
--- who has backed this candidature, the last one first
+-- who has backed this candidature, the newest first
 abbrev pub backers : List Seen → List PeerId
 backers [] = []
 backers (Here d ∷ before) = backers_after d.deed (backers before)

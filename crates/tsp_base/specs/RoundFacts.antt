@@ -114,7 +114,7 @@ pub record Sampled : Type 0 where
   pub trip : ℤ
   pub place : List Seen
 
--- of two samples the one of the less round trip, and the earlier where they are equal
+-- of two samples the one with the shorter round trip; the earlier where they are equal
 abbrev pub better : Option Sampled → Sampled → Sampled
 better None late = late
 better (Some early) late = if int_lt late.trip early.trip then late else early
@@ -129,13 +129,13 @@ best_after p (Acts (Sample q counter diff err ticket)) here before keep =
     else keep
 best_after p _ here before keep = keep
 
--- the best sample of p since the last round began: the first of least round trip
+-- the best sample of p since the last round began: the first with the shortest round trip
 abbrev pub best : PeerId → List Seen → Option Sampled
 best p [] = None
 best p (Here d ∷ before) = best_after p d.deed (Here d ∷ before) before (best p before)
 best p (Elsewhere d ∷ before) = best p before
 
--- an open exchange as its answer is measured by: the word that was asked under, and the clock's target then
+-- what an open exchange's answer is measured against: the word of the request, and the clock's target when it was posted
 pub record OpenRequest : Type 0 where
   pub word : ℕ
   pub target : ℤ
@@ -148,7 +148,7 @@ request_at_place (s ∷ before) = Some (record { word = word_asked (s ∷ before
 abbrev pub request_open : PeerId → ℕ → List Seen → Option OpenRequest
 request_open p c seen = request_at_place (exchange p c seen)
 
--- how far a peer's clock stands ahead, and the ticket that it told with its reading
+-- how far a peer's clock is ahead, and the ticket that came with its reading
 pub record Estimate : Type 0 where
   pub diff : ℤ
   pub ticket : ℕ

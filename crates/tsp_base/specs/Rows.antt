@@ -48,7 +48,7 @@ unfoldable pub ◌followed_by◌ : Row → Row → Row
 unfoldable pub either_by : (ℕ → Past → Bool) → Row → Row → Row
 either_by test r s x past = if test x past then r x past else s x past
 
--- what is done rests on a fact of the past
+-- the row is chosen by a fact of the past
 unfoldable pub reading : {A : Type 0} → (ℕ → Past → A) → (A → Row) → Row
 reading fact rows x past = rows (fact x past) x past
 

@@ -10,7 +10,7 @@ half_down (negsuc n) = negsuc (n / 2)
 abbrev pub half_up : ℤ → ℤ
 half_up z = neg_ℤ (half_down (neg_ℤ z))
 
--- how far the other clock stands ahead, where a request went off at target a, the reply came in at target d, and the other clock read s between
+-- how far the other clock is ahead, where the request went off at target a, the reply came in at target d, and the other clock read s between them
 abbrev pub sample_diff : ℤ → ℤ → ℤ → ℤ
 sample_diff a s d = (s -ℤ a) -ℤ half_down (d -ℤ a)
 

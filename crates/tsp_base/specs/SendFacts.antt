@@ -25,7 +25,7 @@ has_own_number Quit = true
 has_own_number SetDateReq = true
 has_own_number _ = false
 
--- whether messages of this kind are numbered sends, which are repeated until they are acknowledged
+-- whether messages of this kind are numbered sends, which are repeated until they are acknowledged or given up
 abbrev pub is_numbered : Kind → Bool
 is_numbered AdjTime = true
 is_numbered SetTime = true
@@ -189,7 +189,7 @@ is_acknowledged_after p (Acts (Post (Peer q) (Message m))) begins corrects keep 
 is_acknowledged_after p (Acts (Acked q)) begins corrects keep = if (q.0 == p.0) && corrects then true else keep
 is_acknowledged_after p _ begins corrects keep = keep
 
--- whether the last correction that began to p was acknowledged: an Acked(p) stands after its beginning while it was the open send
+-- whether the last correction that began to p was acknowledged: an Acked(p) came after its beginning while it was the open send
 abbrev pub is_acknowledged : PeerId → List Seen → Bool
 is_acknowledged p [] = false
 is_acknowledged p (Here d ∷ before) = is_acknowledged_after p d.deed (acting before) (corrects_by (message_at (open_to p before))) (is_acknowledged p before)
@@ -214,7 +214,7 @@ abbrev pub last_taken_elsewhere : Deed → Option Correcting → Option Correcti
 last_taken_elsewhere (Acts (Correct amount stepped shown)) keep = None
 last_taken_elsewhere _ keep = keep
 
--- the correction that the node's last Correct took, where that stands on this port and after what its step took: a round's own doesn't
+-- the correction that the node's last Correct took, where that is on this port and came after its step took something: a round's own Correct doesn't
 abbrev pub last_taken : List Seen → Option Correcting
 last_taken [] = None
 last_taken (Here d ∷ before) = last_taken_after d.deed (taken before) (last_taken before)
@@ -234,7 +234,7 @@ last_date_after p (Acts Boot) x took keep = None
 last_date_after p (Acts (Correct amount stepped shown)) x took keep = dating_of p x (said took) keep
 last_date_after p _ x took keep = keep
 
--- the last date of p since the boot: the last Correct on this port that stands after a Took of a date that p passes on
+-- the last date of p since the boot: the last Correct on this port that came after a Took of a date that p passes on
 abbrev pub last_date : PeerId → List Seen → Option Dating
 last_date p [] = None
 last_date p (Here d ∷ before) = last_date_after p d.deed d.tick (taken before) (last_date p before)

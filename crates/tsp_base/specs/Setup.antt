@@ -1,4 +1,4 @@
--- What a port is set up with, as far as its deeds owe something to it.
+-- What a port is set up with, so far as its deeds depend on it.
 use Rattle.std.specs.Prelude.{ℕ, Bool, List}
 use Rattle.tsp_base.specs.declared.place.PeerId.{PeerId}
 use Rattle.tsp_base.specs.declared.place.Port.{Port}

@@ -16,11 +16,11 @@ use Rattle.tsp_base.specs.PortFacts.{Received, taken, taken_after}
 abbrev pub peer_of : ℕ → PeerId
 peer_of n = record { 0 = n }
 
--- the step has taken this datagram here, as from there
+-- the step has taken this datagram on this port, and the sender seems to be this place
 abbrev pub TakesFrom : List Seen → Place → Datagram → Type 0
 TakesFrom seen from datagram = taken seen ≡ Some (record { from = from; taken = Good datagram })
 
--- the step has taken this datagram here, as from peer p
+-- the step has taken this datagram on this port, and the sender seems to be peer p
 abbrev pub Receives : List Seen → PeerId → Datagram → Type 0
 Receives seen p datagram = TakesFrom seen (Peer p) datagram
 
@@ -43,7 +43,7 @@ abbrev pub steps_after : Deed → ℕ → ℕ
 steps_after Begins n = n + 1
 steps_after _ n = n
 
--- how many steps have begun: two places are of one step where this is equal
+-- how many steps have begun: two places are in one step where this is equal
 abbrev pub steps : List Did → ℕ
 steps [] = 0
 steps (d ∷ before) = steps_after d.deed (steps before)

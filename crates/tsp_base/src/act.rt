@@ -1,4 +1,4 @@
-//! The acts of a node: what it took, what it posted, and each change of what it is.
+//! Acts: what a node took, what it posted, and each change of its state.
 ghost use Rattle.std.specs.Prelude.{◌≡◌};
 
 use crate::alarm::Alarm;
@@ -17,27 +17,27 @@ pub enum Act {
     Post(Place, Datagram),
     /// The role changes.
     Become(Role),
-    /// A candidate is backed.
+    /// This port backs a candidate, itself or a peer: it gives it its vote.
     Back(PeerId),
-    /// A peer backs this candidate.
+    /// A peer backs the candidature of this port.
     Backer(PeerId),
-    /// A peer asked this node to stop leading.
+    /// This port took a QUIT: the peer asks it to stop leading.
     Quit(PeerId),
     /// An alarm is armed for a tick.
     Arm(Alarm, u64),
-    /// An alarm is met in time.
+    /// An armed alarm is handled in time: at most `SLACK` ticks after the tick that it was armed for.
     Ring(Alarm),
-    /// An alarm is met too late.
+    /// An armed alarm is handled too late: more than `SLACK` ticks after the tick that it was armed for.
     Late(Alarm),
-    /// A slave joins the table.
+    /// A slave joins the master's table.
     Join(PeerId),
-    /// A slave leaves the table.
+    /// A slave leaves the master's table.
     Leave(PeerId),
     /// Another master was found.
     Rival(PeerId),
-    /// A send was answered.
+    /// The open send to this peer was acknowledged, and ends.
     Acked(PeerId),
-    /// A send is given up.
+    /// The open send to this peer is given up.
     Gave(PeerId),
     /// A clock was measured; diff and err are microseconds.
     Sample {
@@ -45,22 +45,22 @@ pub enum Act {
         peer: PeerId,
         /// The request's counter.
         counter: u64,
-        /// How far it stands ahead of this one.
+        /// How far it is ahead of this node's clock; negative where it is behind.
         diff: i64,
         /// By how much diff may be wrong.
         err: i64,
-        /// The number of its next correction.
+        /// The number that its next correction must have, 0 to 32,767.
         ticket: u16,
     },
     /// A round closes with the group of clocks that agree; lo, width and mean are microseconds.
     Close {
-        /// How many agree.
+        /// How many clocks the group has. This node's own counts too where it agrees with them.
         count: u32,
         /// The least of their differences.
         lo: i64,
-        /// How far they lie apart.
+        /// The greatest of their differences less the least.
         width: i64,
-        /// Their mean, rounded down.
+        /// Their mean, rounded down; 0 where another port of the node leads its clock.
         mean: i64,
     },
     /// The clock is corrected; amount and shown are microseconds.
@@ -141,9 +141,9 @@ impl Act {
 /// An act on a port.
 #[derive(Drop)]
 pub struct Placed {
-    /// Where.
+    /// The port on which it is done.
     pub port: Port,
-    /// What.
+    /// The act.
     pub act: Act,
 }
 

@@ -7,11 +7,11 @@ pub enum Alarm {
     Quiet,
     /// The search for a master ends.
     Search,
-    /// No master was heard for long.
+    /// No master was heard for the election delay.
     Elect,
     /// A candidature ends.
     Window,
-    /// The next exchange of a round.
+    /// The next exchange of a round is due.
     Probe,
     /// A round ends.
     Close,

@@ -1,7 +1,7 @@
 //! The protocol's numbers. All times are microseconds; deadlines are counted in a node's own ticks.
 //!
-//! A margin says by how much true time, at a drift of 1,000 parts in a million on every clock, a promise
-//! would survive a change of this number alone; `docs/PROMISES.md` has the promises.
+//! A margin is the true time by which this number alone could change before the first promise fails, while
+//! every clock drifts by 1,000 parts in a million. `docs/PROMISES.md` has the promises.
 ghost use Rattle.std.specs.Prelude.{◌≡◌, pos};
 
 /// Silent time after a boot. Margin: `LIFE + DATEHOLD` stays 4.8 s below it.
@@ -41,10 +41,10 @@ pub const CLOSE: u64 = 8_000_000;
 /// Between the posts of a numbered send. No promise rests on it.
 pub const RETRY: u64 = 1_000_000;
 
-/// How often a numbered send is posted at the most. No promise rests on it.
+/// How often a numbered send is posted at most, its first post included. No promise rests on it.
 pub const TRIES: u64 = 3;
 
-/// No repeat is posted later than this after a send began. Margin: `LIFE + LAST + LIFE` stays 5.9 s
+/// No repeat is posted later than this after its send began. Margin: `LIFE + LAST + LIFE` stays 5.9 s
 /// below `REUSE`.
 pub const LAST: u64 = 4_000_000;
 
@@ -59,10 +59,10 @@ pub const GAP: u64 = 1_000_000;
 /// The width of a group of clocks that agree. No promise rests on it.
 pub const SPAN: u64 = 20_000;
 
-/// Larger amounts step the shown clock, smaller ones slew it. No promise rests on it.
+/// The greatest amount that is slewed in; a larger one steps the shown clock. No promise rests on it.
 pub const MAXADJ: u64 = 20_000_000;
 
-/// Ticks a microsecond of slewing. No promise rests on it.
+/// How many ticks it takes to slew one microsecond. No promise rests on it.
 pub const SLEW: u64 = 200;
 
 /// How long a master answers a repeated date request without setting its clock anew. Margin: 10.9 s of
@@ -72,20 +72,20 @@ pub const DATEHOLD: u64 = 45_000_000;
 /// How often a LOOP may be passed on. No promise rests on it.
 pub const HOPS: u8 = 10;
 
-/// The longest life of a datagram, in true time: a premise, nothing that the code reads. Margin: all
-/// promises stay true up to 34.8 s.
+/// The longest life of a datagram, in true time. It is a premise of promises; no code reads it. Margin: all
+/// promises hold up to 34.8 s.
 pub const LIFE: u64 = 30_000_000;
 
-/// A difference of this size or more isn't averaged.
+/// A difference of this magnitude or more, 2^30 seconds, isn't averaged.
 pub const FAR: i64 = 1_073_741_824_000_000;
 
-/// The bound of a clock value: 2^31 seconds.
+/// The bound of a clock's value: 2^31 seconds.
 pub const LIMIT: i64 = 2_147_483_648_000_000;
 
-/// The greatest true time and the greatest magnitude of a wall in a schedule.
+/// The greatest true time of a schedule, and the greatest magnitude of a wall clock in it.
 pub const SCHEDULE_END: u64 = 1_000_000_000_000_000;
 
-/// Each number by itself: clauses elsewhere cite the names.
+/// The value of each constant, since clauses elsewhere cite the names alone.
 pub fn constants_have_these_values()
     ensures quiet { QUIET ≡ 80000000 }
     ensures hold { HOLD ≡ 60000000 }

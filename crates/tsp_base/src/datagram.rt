@@ -1,4 +1,4 @@
-//! Datagrams, and why octets are none.
+//! Datagrams, and why octets aren't a valid one.
 
 ghost use Rattle.std.specs.Prelude.{◌≡◌};
 
@@ -16,7 +16,7 @@ pub enum Datagram {
 }
 
 impl Datagram {
-    /// The same datagram again.
+    /// A copy.
     pub fn copy(&self) -> Datagram
         ensures { result ≡ self.now }
     {
@@ -27,7 +27,7 @@ impl Datagram {
     }
 }
 
-/// Why octets spell no datagram; of several causes the first that stands here.
+/// Why octets aren't a valid datagram. Where several causes apply, it is the first in this list.
 #[derive(Clone, Copy, PartialEq, Eq, Debug, Error)]
 pub enum DecodeFault {
     /// Fewer than 13 octets.
@@ -39,37 +39,37 @@ pub enum DecodeFault {
     /// The version octet isn't 1.
     #[error("version")]
     Version,
-    /// The type octet names no type.
+    /// The type octet isn't that of a message (1 to 24) nor of a stamp (128, 129).
     #[error("kind")]
     Kind,
     /// A stamp of another length than 28 octets.
     #[error("stamp-length")]
     StampLength,
-    /// A name without its NUL that the octets cut short.
+    /// No NUL ends the name, and fewer than 256 octets are there for it.
     #[error("no-end")]
     NoEnd,
-    /// A name of more than 255 octets.
+    /// No NUL ends the name within 256 octets: it is longer than 255.
     #[error("name-too-long")]
     NameTooLong,
-    /// A stamp with a ticket, or a request's reading, that must not be.
+    /// A reply's ticket is above 32,767, or a request's ticket or reading isn't 0.
     #[error("reserved")]
     Reserved,
-    /// A time or a reading out of its range.
+    /// A message's time, or a reply's reading, is out of its range.
     #[error("time")]
     Time,
 }
 
-/// What a node took: a datagram, or octets that spell none.
+/// What a node took: a datagram, or octets that aren't a valid one.
 #[derive(Drop)]
 pub enum Taken {
-    /// The octets spelled this datagram.
+    /// The octets are this datagram.
     Good(Datagram),
-    /// They spelled none, for this cause.
+    /// They aren't a valid datagram, for this cause.
     Bad(DecodeFault),
 }
 
 impl Taken {
-    /// The same again.
+    /// A copy.
     pub fn copy(&self) -> Taken
         ensures { result ≡ self.now }
     {

@@ -1,4 +1,4 @@
-//! Where acts are put.
+//! The desk: where a step puts its acts.
 ghost use Rattle.std.specs.Prelude.{◌≡◌, ◌+◌, ◌<◌, ◌≤◌, ℕ, List, [], ◌∷◌, ◌++◌, OnOk, OnErr};
 ghost use Rattle.tsp_base.specs.declared.act.Placed.{Placed};
 
@@ -6,7 +6,7 @@ use crate::act::{Act, Placed};
 use crate::place::Port;
 use std::alloc::AllocError;
 
-/// Acts in the order in which they were put, and room for more. The only way out of a step.
+/// Acts in the order in which they were put, and room for more. A step has no other output.
 pub trait Desk {
     /// The acts put so far.
     ghost acts: { Self → List Placed };
@@ -22,7 +22,7 @@ pub trait Desk {
         ensures kept { spare self.old ≤ spare self.new }
         ensures err { OnErr result (spare self.new ≡ spare self.old) };
 
-    /// Puts an act on a port behind the others, and uses up one of the room.
+    /// Puts an act of a port behind the others. Its room becomes one less.
     fn put(&mut self, port: Port, act: Act)
         requires { 0 < spare self.old }
         ensures acts { acts self.new ≡ acts self.old ++ record { port = port; act = act } ∷ [] }

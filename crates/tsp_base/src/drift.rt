@@ -2,8 +2,8 @@
 ghost use Rattle.std.specs.Prelude.{◌≡◌, ◌≤◌, ◌^◌, nat_abs};
 ghost use Rattle.tsp_base.specs.Ticks.{tick_at, width};
 
-/// How far, at most, a tick counter's advance over `x` microseconds of true time stands off `x`, where
-/// the drift is at most 1,000 parts in a million.
+/// How many ticks, at most, a counter's advance over `x` microseconds of true time differs from `x`, where
+/// its drift is at most `drift` parts in a million.
 pub fn width(drift: u32, x: u64) -> u64
     requires drift { drift ≤ 1000 }
     requires time { x ≤ 2 ^ 61 }

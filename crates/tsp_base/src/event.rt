@@ -13,24 +13,24 @@ pub enum Event {
         at: u64,
         /// Which node.
         node: u32,
-        /// The word that it is handed.
+        /// The word of this life of the node, which should differ from boot to boot.
         word: u64,
     },
-    /// A node's timers are looked at.
+    /// A node looks at its timers: whatever is due is handled.
     Turn {
         /// The true time.
         at: u64,
         /// Which node.
         node: u32,
     },
-    /// A posted datagram reaches its addressee; a datagram may be taken often, or never.
+    /// A posted datagram reaches its addressee. Each may do so once, more than once or never.
     Take {
         /// The true time.
         at: u64,
         /// The datagram's number, in the order of posts over all nodes.
         datagram: u64,
     },
-    /// A node is handed octets as from somebody.
+    /// Octets that no node posted reach a node.
     Bytes {
         /// The true time.
         at: u64,
@@ -38,32 +38,32 @@ pub enum Event {
         node: u32,
         /// On which of its ports.
         port: Port,
-        /// As from whom.
+        /// Who seems to have sent them.
         from: Place,
         /// 1 to 300 octets.
         octets: Octets,
     },
 }
 
-/// Why an event is refused; of several causes the first that stands here.
+/// Why an event is refused. Where several causes apply, it is the first in this list.
 #[derive(Clone, Copy, PartialEq, Eq, Debug, Error)]
 pub enum EventFault {
-    /// The time of the event, and the later one of the last event.
+    /// The time of the event, and that of the event before it, which is later.
     #[error("time-back {0} {1}")]
     TimeBack(u64, u64),
-    /// A node's number, and the number of nodes.
+    /// The number of a node that doesn't exist, or that doesn't have the port; and how many nodes there are.
     #[error("no-node {0} {1}")]
     NoNode(u32, u32),
-    /// A datagram's number, and how many were posted.
+    /// The datagram's number, which is too high, and how many were posted.
     #[error("no-datagram {0} {1}")]
     NoDatagram(u64, u64),
     /// The node that would act hasn't booted.
     #[error("not-up {0}")]
     NotUp(u32),
-    /// So many events were accepted and so many datagrams posted, and there is room for no more.
+    /// A limit of schedules is reached. So many events were accepted, and so many datagrams posted.
     #[error("limit {0} {1}")]
     Limit(u64, u64),
-    /// Memory was refused.
+    /// Out of memory.
     #[error("out of memory")]
     OutOfMemory,
 }

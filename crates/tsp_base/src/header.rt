@@ -24,31 +24,32 @@ pub struct NodeLine {
     pub may: bool,
 }
 
-/// Why a node or a network can't join a header; of several causes the first that stands here.
+/// Why a header refuses a node or a network. Where several causes apply, it is the first in this list.
 #[derive(Clone, Copy, PartialEq, Eq, Debug, Error)]
 pub enum HeaderFault {
-    /// 64 nodes are there.
+    /// The header has 64 nodes already.
     #[error("a schedule has at most 64 nodes")]
     Full,
     /// The rate's magnitude is above the drift.
     #[error("the rate is above the drift")]
     Rate,
-    /// The wall's magnitude is above 10^15.
+    /// The wall clock's magnitude is above 10^15.
     #[error("the wall clock is out of its range")]
     Wall,
-    /// 64 networks are there.
+    /// The header has 64 networks already.
     #[error("a schedule has at most 64 networks")]
     Nets,
-    /// These nodes make no network, or one of them is in 4 networks.
+    /// The numbers are no network (none, not strictly ascending, or of no node), or one of the nodes is in 4
+    /// networks already.
     #[error("a network joins nodes of the schedule in ascending order, each at most four times")]
     Net,
-    /// Memory was refused.
+    /// Out of memory.
     #[error("out of memory")]
     OutOfMemory,
 }
 
-/// The drift that no clock of a schedule passes (parts in a million), whether elections are strict, at
-/// most 64 nodes, and at most 64 networks of them. Without a network all nodes are on one.
+/// The bound of all clocks' drift (parts in a million), whether elections are strict, at most 64 nodes, and
+/// at most 64 networks of them. Where no network is named, all nodes are on one.
 #[derive(Drop)]
 pub struct Header {
     drift: u32,
@@ -91,9 +92,9 @@ impl Header {
         }
     }
 
-    /// One node more: `Full` exactly where 64 are there, else `Rate` exactly where the rate's magnitude is
-    /// above the drift, else `Wall` exactly where the wall's magnitude is above 10^15. A refusal changes
-    /// nothing.
+    /// Adds a node. `Full` comes where 64 are there already, else `Rate` where the rate's magnitude is above the
+    /// drift, else `Wall` where the wall clock's magnitude is above 10^15. Else it fails only if out of memory. A
+    /// refusal changes nothing.
     pub fn push(&mut self, line: NodeLine) -> Result<(), HeaderFault>
         requires { self.old.nets ≡ [] }
         ensures { Pushes self.old line result self.new }
@@ -114,9 +115,9 @@ impl Header {
         }
     }
 
-    /// One network more, of these nodes: `Nets` exactly where 64 are there, else `Net` exactly where the
-    /// list is empty, isn't strictly ascending, has a number that no node has, or would put a node into a
-    /// fifth network. A refusal changes nothing.
+    /// Adds a network of these nodes. `Nets` comes where 64 are there already, else `Net` where the list is
+    /// empty, isn't strictly ascending, has a number that no node has, or would put a node into a fifth
+    /// network. Else it fails only if out of memory. A refusal changes nothing.
     pub fn net(&mut self, nodes: &[u32]) -> Result<(), HeaderFault>
         ensures { AddsNet self.old nodes.now result self.new }
     {
@@ -158,7 +159,7 @@ impl Header {
         self.nodes.as_slice()
     }
 
-    /// The networks in the order of their lines; with none all nodes are on one.
+    /// The networks in the order of their lines. Where there is none, all nodes are on one network.
     pub fn nets(&self) -> &[Members]
         ensures nets { result.now ≡ self.now.nets }
         ensures valid { IsHeader self.now }

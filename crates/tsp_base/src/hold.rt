@@ -1,4 +1,4 @@
-//! Whom a port has backed, and when it may back or stand again.
+//! The hold: whom a port has backed, and when it may back a candidate or stand for election again.
 ghost use Rattle.std.specs.Prelude.{◌≡◌, Some, None};
 ghost use Rattle.tsp_base.specs.Hold.{may_back, may_stand};
 
@@ -23,7 +23,7 @@ impl Model for Hold {
 }
 
 impl Hold {
-    /// Nobody is backed since the boot at this tick.
+    /// The hold right after a boot at this tick: nobody was backed since.
     pub fn new(boot: u64) -> Hold
         ensures { result ≡ record { boot = boot; back = None; quit = None } }
     {
@@ -34,8 +34,8 @@ impl Hold {
         }
     }
 
-    /// Whether a peer may be backed: true exactly where the last backing was of it, or lies `HOLD` ticks or
-    /// more back, or there is none.
+    /// Whether a peer may be backed: true exactly where the last backing was of it, or is `HOLD` ticks or more
+    /// ago, or there was none.
     pub fn may_back(&self, tick: u64, p: PeerId) -> bool
         ensures { result ≡ may_back self.now tick p }
     {
@@ -45,22 +45,22 @@ impl Hold {
         }
     }
 
-    /// Backs a peer.
+    /// Notes that a peer is backed at this tick.
     pub fn back(&mut self, tick: u64, p: PeerId)
         ensures { self.new ≡ record self.old { back = Some (tick, p) } }
     {
         self.back = Some((tick, p));
     }
 
-    /// Notes a Quit.
+    /// Notes a QUIT that was taken at this tick.
     pub fn quit(&mut self, tick: u64)
         ensures { self.new ≡ record self.old { quit = Some tick } }
     {
         self.quit = Some(tick);
     }
 
-    /// Whether the node may stand: true exactly where the boot and the last Quit, if there is one, lie
-    /// `ELECT_MIN` ticks or more back, and it may back itself.
+    /// Whether the port may stand for election: true exactly where the boot and the last QUIT, if there was
+    /// one, are `ELECT_MIN` ticks or more ago, and it may back itself.
     pub fn may_stand(&self, tick: u64, own: PeerId) -> bool
         ensures { result ≡ may_stand self.now tick own }
     {

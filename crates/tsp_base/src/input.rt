@@ -1,11 +1,11 @@
-//! What a step is made with.
+//! What makes a node take a step.
 
 use crate::place::{Place, Port};
 
 /// What makes a node take a step.
 #[derive(Clone, Copy)]
 pub enum Input<'a> {
-    /// Its timers are looked at.
+    /// It looks at its timers: whatever is due is handled.
     Turn,
     /// Octets reached it.
     Bytes {

@@ -1,15 +1,16 @@
-//! The kinds of message: numbers 1 to 13 are the protocol's, 14 to 24 a profile of this project.
+//! The kinds of message, numbered as in 4.3BSD's `protocols/timed.h`. What 1 to 13 do is the protocol's
+//! specification; what 14 to 24 do is a profile of this project.
 ghost use Rattle.std.specs.Prelude.{◌≡◌, ◌≤◌, length, ℕ, IfSome, IfNone};
 ghost use Rattle.tsp_base.specs.Kinds.{kind_number, kind_of, carries_time, carries_hops, kind_word};
 ghost use Rattle.tsp_base.specs.SendFacts.{is_correction, is_numbered, sets_date};
 ghost use Rattle.tsp_base.specs.declared.kind.Kind.{Kind};
 
-/// The type of a message. (TSP specification, message types.)
+/// The kind of a message: its type octet. (TSP specification, message types.)
 #[derive(Clone, Copy, PartialEq, Eq, Debug)]
 pub enum Kind {
     /// The receiver adjusts its clock by the time carried.
     AdjTime = 1,
-    /// Answers a message by its number.
+    /// Acknowledges the message with this number.
     Ack,
     /// Asks whether there is a master.
     MasterReq,
@@ -23,11 +24,11 @@ pub enum Kind {
     SlaveUp,
     /// A candidate asks for backing.
     Election,
-    /// Backs a candidate.
+    /// The sender backs the candidate that asked.
     Accept,
-    /// Backs no candidate.
+    /// The sender doesn't back the candidate that asked.
     Refuse,
-    /// A slave tells its master of another one.
+    /// A slave reports another master to its own.
     Conflict,
     /// A master asks for its rivals.
     Resolve,
@@ -47,7 +48,7 @@ pub enum Kind {
     Msite,
     /// Asks whether the receiver is the master.
     MsiteReq,
-    /// Makes the receiver stand for master.
+    /// Asks the receiver to stand for election.
     Test,
     /// A client sets the date.
     SetDate,
@@ -152,7 +153,7 @@ impl Kind {
         None
     }
 
-    /// Whether its messages carry a hop count.
+    /// Whether its messages carry a hop count: those of LOOP alone.
     #[tactic(auto, unfolding(crate::specs::Kinds::carries_hops))]
     pub fn carries_hops(&self) -> bool
         ensures { result ≡ carries_hops self.now }
@@ -160,7 +161,7 @@ impl Kind {
         matches!(self, Kind::Loop)
     }
 
-    /// Whether its messages carry a time.
+    /// Whether its messages carry a time: ADJTIME, SETTIME and the four that set a date.
     #[tactic(auto, unfolding(crate::specs::Kinds::carries_time))]
     pub fn carries_time(&self) -> bool
         ensures { result ≡ carries_time self.now }
@@ -176,14 +177,14 @@ impl Kind {
         )
     }
 
-    /// Whether its messages correct a clock.
+    /// Whether its messages correct a clock: ADJTIME and SETTIME.
     pub fn is_correction(&self) -> bool
         ensures { result ≡ is_correction self.now }
     {
         matches!(self, Kind::AdjTime | Kind::SetTime)
     }
 
-    /// Whether its messages are numbered sends, which are repeated until they are acknowledged.
+    /// Whether its messages are numbered sends, which are repeated until they are acknowledged or given up.
     pub fn is_numbered(&self) -> bool
         ensures { result ≡ is_numbered self.now }
     {
@@ -198,7 +199,7 @@ impl Kind {
         )
     }
 
-    /// Whether its messages set the network's date, or pass one on that is to be set.
+    /// Whether its messages set the network's date: a client's, or one that a slave passes on.
     pub fn sets_date(&self) -> bool
         ensures { result ≡ sets_date self.now }
     {
@@ -209,7 +210,7 @@ impl Kind {
     }
 }
 
-/// A number names one kind, and each kind has a number.
+/// Each kind has a number of its own, and each number from 1 to 24 a kind.
 pub fn numbers_name_kinds()
     ensures back { (k : Kind) → kind_of (kind_number k) ≡ Some k }
     ensures only { (n : ℕ) (k : Kind) → kind_of n ≡ Some k → kind_number k ≡ n }

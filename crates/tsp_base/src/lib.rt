@@ -1,22 +1,35 @@
 //! The values of the protocol: names, messages, stamps, acts, the hold, the alarms, the desk, and the
-//! schedule's header and events. No text, no socket and no rule of a role stands here.
+//! schedule's header and events. Texts, sockets and the rules of roles are in the crates above.
 //!
-//! A crate above begins with these:
+//! What the crates above use first:
 //!
 //! - A [`name::Name`], a [`message::Message`] and a [`stamp::Stamp`] are made by their `of`, `new`
-//!   or `reply`, which refuse what can't stand in a datagram; [`datagram::Datagram`] is any of
-//!   them.
-//! - An [`act::Act`] is all that a node can do, and a step puts its acts on a [`desk::Desk`]: the
-//!   caller calls `reserve` for the step's room before it, and finds the acts in their order after
-//!   it ([`pad::Pad`] is such a desk).
+//!   or `reply`, and can hold only what a datagram can carry. A [`datagram::Datagram`] is a message
+//!   or a stamp.
+//! - Whatever a node does is an [`act::Act`]. A step puts its acts on a [`desk::Desk`]: the caller
+//!   calls `reserve` for the step's room before it, and finds the acts in their order after it.
+//!   [`pad::Pad`] is a desk in memory.
 //! - A [`header::Header`] is filled line by line, by `push` for each node and then `net` for each
 //!   network; `whole` says whether all nodes have a network.
 //!
-//! Times of schedules and ticks of nodes are microseconds from 0 to 2^61; wall clocks are
-//! microseconds since 1970.
+//! A node's ticks are microseconds of its own counter, at most 2^61. True times of schedules are
+//! microseconds, at most 10^15; wall clocks are microseconds since 1970.
 //!
-//! `specs/` has the language of all promises: histories, what each deed owes to its past, and the
-//! promises themselves.
+//! ```
+//! let mut header = Header::new(alloc, 100, false);
+//! header.push(NodeLine { name: Name::new(b"alpha"), rate: -40, wall: 1_000_000, may: true })?;
+//! header.push(NodeLine { name: Name::new(b"beta"), rate: 25, wall: 0, may: false })?;
+//! header.net(&[0, 1])?;
+//! assert!(header.whole());
+//!
+//! let mut pad = Pad::new(alloc);
+//! pad.reserve(1)?;
+//! pad.put(Port(0), Act::Boot);
+//! assert_eq!(pad.acts().len(), 1);
+//! ```
+//!
+//! `specs/` has the language of all rules and promises: histories, and the facts of a node and of a
+//! port that are read off them.
 #![tactic(auto)]
 
 pub mod act;

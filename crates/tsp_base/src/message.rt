@@ -12,13 +12,13 @@ use std::marker::Model;
 pub enum Body {
     /// Nothing.
     Nothing,
-    /// A time, in the kinds that have one.
+    /// A time, in the kinds that carry one: ADJTIME, SETTIME and the four that set a date.
     Time(Micros),
     /// A hop count, in LOOP.
     Hops(u8),
 }
 
-/// A message, whose body is the one that its kind carries.
+/// A message. Its body is always the one that its kind carries.
 #[derive(Drop)]
 pub struct Message {
     kind: Kind,
@@ -61,7 +61,7 @@ impl Message {
         }
     }
 
-    /// A message whose body is known to be its kind's.
+    /// A message, where the body is known to be the one that the kind carries.
     pub fn new(kind: Kind, number: u16, body: Body, name: Name) -> Message
         requires { body_fits kind body ≡ true }
         ensures { result ≡ record { kind = kind; number = number; body = body; name = name } }

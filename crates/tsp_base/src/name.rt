@@ -5,7 +5,7 @@ ghost use Rattle.tsp_base.specs.Names.{IsName, NameGives};
 use std::marker::Model;
 use thiserror::Error;
 
-/// Why octets are no name.
+/// Why octets aren't a valid name.
 #[derive(Clone, Copy, PartialEq, Eq, Debug, Error)]
 pub enum NameFault {
     /// More than 255 octets.
@@ -18,7 +18,7 @@ pub enum NameFault {
 
 /// A host's name: at most 255 octets without NUL; it may be empty. (RFC 1035 bounds a domain name so.)
 ///
-/// It lies in 256 octets of its own, so that a copy is one move of them.
+/// It always takes 256 octets, so that a copy is one move of them.
 #[derive(Drop)]
 pub struct Name {
     octets: [u8; 255],
@@ -74,7 +74,7 @@ impl Name {
         }
     }
 
-    /// The octets, without an end.
+    /// The octets, without a NUL at the end.
     pub fn octets(&self) -> &[u8]
         ensures value { result.now ≡ self.now }
         ensures valid { IsName self.now }

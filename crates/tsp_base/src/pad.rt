@@ -7,7 +7,7 @@ use crate::desk::Desk;
 use crate::place::Port;
 use std::alloc::{AllocError, Global};
 
-/// A desk over a vector. Its room is counted apart, since a vector may hold more than was asked for.
+/// A desk over a vector. It counts its room itself, since a vector may have more than was asked for.
 #[derive(Drop)]
 pub struct Pad {
     placed: Vec<Placed>,
@@ -36,7 +36,7 @@ impl Pad {
         self.placed.as_slice()
     }
 
-    /// Empties the list, whose length is room again.
+    /// Removes all acts. The room that they took is free again.
     pub fn clear(&mut self)
         ensures acts { acts_of self.new ≡ [] }
         ensures spare { spare_of self.new ≡ spare_of self.old + length (acts_of self.old) }

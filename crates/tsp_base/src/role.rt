@@ -11,7 +11,7 @@ pub enum Role {
     Loose,
     /// A slave of this master.
     Follow(PeerId),
-    /// Stands for master.
+    /// A candidate: it stands for election.
     Candidate,
     /// Leads the network.
     Master,

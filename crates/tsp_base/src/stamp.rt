@@ -75,10 +75,10 @@ pub enum Stamp {
     Request {
         /// The asking node's word.
         word: u64,
-        /// Tells the requests of one word apart.
+        /// Distinguishes requests with the same word.
         counter: u64,
     },
-    /// Tells a reading.
+    /// Gives a reading.
     Reply(StampReply),
 }
 

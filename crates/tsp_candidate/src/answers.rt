@@ -1,4 +1,4 @@
-//! What the answers of peers to a candidate's ELECTIONs do.
+//! The answers of peers to a candidate's ELECTIONs.
 ghost use Rattle.std.specs.Prelude.{ℕ, ◌≤◌};
 ghost use Rattle.tsp_base.specs.Frames.{IsTick, PutsAtMost};
 ghost use Rattle.tsp_base.specs.Performs.{Performs};
@@ -11,8 +11,8 @@ use tsp_acks::station::Station;
 use tsp_base::desk::Desk;
 use tsp_base::place::{PeerId, Port};
 
-/// Counts a peer among the backers of this candidature, where the ELECTION that is open to it has this
-/// number; any other ACCEPT is passed over.
+/// Counts a peer among the backers of this candidature, where the open ELECTION to it has this number; any
+/// other ACCEPT is ignored.
 pub(crate) fn take_accept<D: Desk>(
     station: &mut Station,
     from: PeerId,
@@ -32,8 +32,7 @@ pub(crate) fn take_accept<D: Desk>(
     }
 }
 
-/// Ends the candidature, where the ELECTION that is open to this peer has this number; any other REFUSE is
-/// passed over.
+/// Ends the candidature, where the open ELECTION to this peer has this number; any other REFUSE is ignored.
 pub(crate) fn take_refuse<D: Desk>(
     station: &mut Station,
     tick: u64,

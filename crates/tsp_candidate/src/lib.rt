@@ -1,8 +1,13 @@
-//! What a port does that stands for election.
+//! What a candidate does: a port that stands for election.
 //!
-//! [`candidature::begin_candidature`] begins the candidature, once the hold lets the port back
-//! itself. From then on each datagram goes to [`take::candidate_take`], and the alarm at which the
-//! election ends to [`ring::candidate_ring`], which makes the port master, or a slave again.
+//! In this order:
+//!
+//! 1. [`candidature::begin_candidature`] begins the election; the caller has checked that the port may
+//!    stand (`Hold::may_stand`).
+//! 2. Each message of a peer goes to [`take::candidate_take`]. An ACCEPT counts; a REFUSE, a master or a
+//!    QUIT ends the candidature.
+//! 3. The Window alarm, five seconds later, goes to [`ring::candidate_ring`]: the port becomes master, or
+//!    follows nobody again. Where elections are strict, a majority of the peers must have backed it.
 #![tactic(auto)]
 
 mod answers;

@@ -1,4 +1,4 @@
-//! How the time of a candidature ends: the port leads, or it gives way.
+//! The end of a candidature's time: the port becomes master or gives way.
 ghost use Rattle.std.specs.Prelude.{◌≡◌, ℕ, ◌+◌, ◌≤◌, length};
 ghost use Rattle.tsp_base.specs.Frames.{IsTick, PutsAtMost, PutsExactly};
 ghost use Rattle.tsp_base.specs.History.{Past};
@@ -16,8 +16,9 @@ use tsp_base::kind::Kind;
 use tsp_base::place::Port;
 use tsp_base::role::Role;
 
-/// Handles the Window of a candidate that is due: where it is in time, nobody has refused, and the port leads
-/// if enough peers back it; else the candidature ends. At most three acts, and one more for each peer.
+/// Handles a candidate's Window alarm, which is due. Nobody has refused so far; in time, the port becomes
+/// master if the election is won. Else, and if it is too late, the candidature ends. It puts at most three
+/// acts, and one more for each peer.
 pub fn candidate_ring<D: Desk>(station: &mut Station, tick: u64, port: Port, desk: &mut D)
     requires tick { IsTick tick }
     requires room { length station.old.peers + 3 ≤ D.spare desk.old }
@@ -36,7 +37,7 @@ pub fn candidate_ring<D: Desk>(station: &mut Station, tick: u64, port: Port, des
     }
 }
 
-/// Leads where the election is won, else ends the candidature.
+/// Becomes master where the election is won, else ends the candidature.
 fn lead_or_give_way<D: Desk>(station: &mut Station, tick: u64, port: Port, desk: &mut D)
     requires tick { IsTick tick }
     requires room { length station.old.peers + 2 ≤ D.spare desk.old }
@@ -54,14 +55,14 @@ fn lead_or_give_way<D: Desk>(station: &mut Station, tick: u64, port: Port, desk:
 }
 
 /// Whether the election is won: where elections are strict, more than half of the peers back the candidate,
-/// itself among them; else it is enough that nobody has refused.
+/// itself counted; else it is enough that nobody has refused.
 fn has_won(station: &Station) -> bool
     ensures { (x : ℕ) (past : Past) → Stands past station.now → has_won x past ≡ result }
 {
     !station.me.strict || station.peers().len() < 2 * station.backers as usize + 2
 }
 
-/// Becomes a master and says so to each other peer; its first round is due `ROUND` ticks from now.
+/// Becomes master and posts a MASTERUP to each other peer; its first round is due `ROUND` ticks from now.
 fn lead<D: Desk>(station: &mut Station, tick: u64, port: Port, desk: &mut D)
     requires tick { IsTick tick }
     requires room { length station.old.peers + 2 ≤ D.spare desk.old }
@@ -76,7 +77,7 @@ fn lead<D: Desk>(station: &mut Station, tick: u64, port: Port, desk: &mut D)
     station.post_to_others(Kind::MasterUp, 0, port, desk);
 }
 
-/// Ends the candidature: the port follows nobody, and waits for a master anew.
+/// Ends the candidature: the port follows nobody, and waits for a master again.
 pub(crate) fn give_way<D: Desk>(station: &mut Station, tick: u64, port: Port, desk: &mut D)
     requires tick { IsTick tick }
     requires room { 2 ≤ D.spare desk.old }

@@ -19,9 +19,9 @@ use tsp_slave::follow::follow;
 use tsp_slave::last::Last;
 use tsp_slave::quit::take_quit;
 
-/// Handles a message of another peer at a port that stands for election: a master is followed, and so is who
-/// asks the port to stop; any other candidate is refused, since a candidate holds itself, and answers to its
-/// own ELECTIONs count. At most five acts.
+/// Handles a message of another peer at a candidate. It follows a master, and whoever sends it a QUIT; it
+/// refuses any other candidate, since it has backed itself; and answers to its own ELECTIONs count. It puts
+/// at most five acts.
 pub fn candidate_take<D: Desk>(
     station: &mut Station,
     last: &mut Last,

@@ -1,4 +1,4 @@
--- What stands for a past where clients are answered.
+-- Which pasts the states of these calls stand for.
 use Rattle.std.specs.Prelude.{◌≡◌, Bool}
 use Rattle.tsp_base.specs.History.{Past, plain}
 use Rattle.tsp_base.specs.NodeFacts.{tracing}
@@ -11,7 +11,7 @@ use Rattle.tsp_slave.specs.Lasts.{LastValue, Remembers}
 abbrev pub TraceStands : Past → Bool → Type 0
 TraceStands past on = tracing (plain past.seen) ≡ on
 
--- a port's station, and what it remembers
+-- a port's station, and what it remembers of its master
 abbrev pub NamingStands : Past → Station × LastValue → Type 0
 NamingStands = Beside Stands Remembers
 

@@ -1,4 +1,4 @@
-//! How a client asks a port to stand for election.
+//! TEST: a client asks a port to stand for election.
 ghost use Rattle.std.specs.Prelude.{◌≡◌, ◌+◌, ◌≤◌, ◌&&◌, length};
 ghost use Rattle.tsp_base.specs.Frames.{IsTick, PutsAtMost};
 ghost use Rattle.tsp_base.specs.Hold.{may_stand};
@@ -15,8 +15,8 @@ use tsp_base::place::{Place, Port};
 use tsp_base::role::Role;
 use tsp_candidate::candidature::begin_candidature;
 
-/// Answers a TEST by an ACK once the quiet time is over, and then stands for election where it may. In this
-/// step a datagram was taken. At most four acts, and one more for each peer.
+/// Answers a TEST by an ACK, and then stands for election where it may. In the quiet time it does nothing. The
+/// datagram was taken before in the step. It puts at most four acts, and one more for each peer.
 pub fn take_test<D: Desk>(
     station: &mut Station,
     tick: u64,
@@ -42,7 +42,7 @@ pub fn take_test<D: Desk>(
     }
 }
 
-/// Stands for election, where the port is Loose or follows, may be master, and the hold lets it.
+/// Stands for election where the port is Loose or follows, may be master, and the hold allows it.
 fn begin_if_asked<D: Desk>(station: &mut Station, tick: u64, port: Port, desk: &mut D)
     requires tick { IsTick tick }
     requires room { length station.old.peers + 3 ≤ D.spare desk.old }
@@ -57,7 +57,7 @@ fn begin_if_asked<D: Desk>(station: &mut Station, tick: u64, port: Port, desk: &
     }
 }
 
-/// Whether the port is Loose or follows, may be master, and the hold lets it stand at this tick.
+/// Whether the port is Loose or follows, may be master, and the hold allows it to stand for election now.
 fn may_be_asked(station: &Station, tick: u64) -> bool
     ensures { result ≡ (is_idle station.now.role && (station.now.me.may && may_stand
         station.now.hold tick station.now.me.own)) }

@@ -1,8 +1,14 @@
-//! What a port answers to clients, whoever asks: which master it knows, whether it is one, that its trace is
-//! turned on or off, and that it stands for election where it may.
+//! What a port answers to clients, such as timedc, whoever asks:
 //!
-//! Each file is a question; the port hands over the datagrams that come from anywhere but its own
-//! node, and no answer changes its role but that to an election.
+//! | Message | Call | Answer |
+//! |---|---|---|
+//! | MSITE | [`naming::name_master`] | an ACK with the name of the master that the port knows |
+//! | MSITEREQ | [`naming::say_master`] | an ACK where the port is master, else nothing |
+//! | TRACEON, TRACEOFF | [`tracing::turn_trace`] | an ACK; the node's trace is turned on or off |
+//! | TEST | [`candidature::take_test`] | an ACK after the quiet time; the port stands for election where it may |
+//!
+//! The caller has put the Took of the message before, and doesn't call for messages that seem to come
+//! from the port itself. Only a TEST may change the role.
 #![tactic(auto)]
 
 pub mod candidature;

@@ -1,4 +1,4 @@
-//! Which master a port knows of, and whether it is one.
+//! MSITE and MSITEREQ: which master a port knows of, and whether it is one.
 ghost use Rattle.std.specs.Prelude.{◌≡◌, ℕ, ◌≤◌};
 ghost use Rattle.tsp_base.specs.Frames.{PutsAtMost, PutsExactly};
 ghost use Rattle.tsp_base.specs.Performs.{Performs};
@@ -17,8 +17,8 @@ use tsp_base::place::{Place, Port};
 use tsp_base::role::Role;
 use tsp_slave::last::Last;
 
-/// Answers an MSITE: the ACK carries the name of the master that the port knows of, in the place of the
-/// node's own. One act.
+/// Answers an MSITE by an ACK that has the name of the master that the port knows of, where others have the
+/// node's own name. It puts one act.
 pub fn name_master<D: Desk>(
     station: &Station,
     last: &Last,
@@ -38,8 +38,8 @@ pub fn name_master<D: Desk>(
     desk.put(port, Act::Post(from, Datagram::Message(message)));
 }
 
-/// The name of the master that the port knows of: its own where it leads, the kept one where it follows, else
-/// the empty one.
+/// The name of the master that the port knows of: its own where it is master, that of the followed one where
+/// it follows, else the empty name.
 fn known_master(station: &Station, last: &Last) -> Name
     ensures { result ≡ master_name_in station.now.role station.now.me.name last.now.name }
 {
@@ -50,7 +50,7 @@ fn known_master(station: &Station, last: &Last) -> Name
     }
 }
 
-/// Answers an MSITEREQ by an ACK, where the port leads; else nothing is done. At most one act.
+/// Answers an MSITEREQ by an ACK where the port is master; else it does nothing. It puts at most one act.
 pub fn say_master<D: Desk>(station: &Station, from: Place, number: u16, port: Port, desk: &mut D)
     requires room { 1 ≤ D.spare desk.old }
     ensures row { (x : ℕ) → Performs Stands Stands (says_master from number) x port station.now

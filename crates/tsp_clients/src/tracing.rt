@@ -1,4 +1,4 @@
-//! How a client turns a node's trace on and off.
+//! TRACEON and TRACEOFF: a client turns a node's trace on and off.
 ghost use Rattle.std.specs.Prelude.{◌≡◌, ℕ, ◌≤◌};
 ghost use Rattle.tsp_base.specs.Frames.{PutsExactly};
 ghost use Rattle.tsp_base.specs.Performs.{Performs};
@@ -11,8 +11,8 @@ use tsp_base::desk::Desk;
 use tsp_base::kind::Kind;
 use tsp_base::place::{Place, Port};
 
-/// Answers a TRACEON or a TRACEOFF: the node's trace is turned on or off from this act on, until the next
-/// one, or the next boot. Two acts.
+/// Answers a TRACEON or a TRACEOFF: the node's trace is on or off from this act until the next of them, or the
+/// next boot. It puts two acts.
 pub fn turn_trace<D: Desk>(
     station: &Station,
     tracing: &mut bool,

@@ -4,8 +4,8 @@ use Rattle.tsp_base.specs.declared.constants.TheConstants.{SLEW}
 use Rattle.tsp_base.specs.NodeFacts.{eased}
 use Rattle.tsp_rules.specs.ClockRows.{is_step}
 
--- how far the target stands ahead of the ticks, what was still to be slewed right after the last correction,
--- its tick (that of the boot where there was none), and the number that the next correction is to have
+-- how far the target is ahead of the ticks, what was still to be slewed right after the last correction,
+-- its tick (that of the boot where there was none), and the number that the next correction must have
 pub record ClockValue : Type 0 where
   pub offset : ℤ
   pub rest : ℤ
@@ -37,8 +37,8 @@ adjusted v x amount = record {
 abbrev pub set_to : ClockValue → ℕ → ℤ → ClockValue
 set_to v x value = record { offset = value -ℤ pos x; rest = pos 0; at = x; ticket = (v.ticket + 1) % 32768 }
 
--- ticks and tickets are in range, and so was the target at the last correction; what was shown then was no less than any
--- target before, and ahead of a target by no more than the ticks
+-- ticks and tickets are in range, and so was the target at the last correction; the value shown then was above the least value
+-- of a clock, and at most its greatest value and the ticks
 pub record IsClock (v : ClockValue) : Type 0 where
   pub early : v.at ≤ 2 ^ 61
   pub small : v.ticket < 32768

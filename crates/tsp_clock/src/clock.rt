@@ -15,17 +15,17 @@ use std::marker::Model;
 use thiserror::Error;
 use tsp_base::constants::{LIMIT, MAXADJ, SLEW};
 
-/// Why a clock isn't booted or corrected.
+/// Why a clock can't be booted or corrected.
 #[derive(Clone, Copy, PartialEq, Eq, Debug, Error)]
 pub enum ClockFault {
-    /// The target wouldn't lie strictly between -`LIMIT` and `LIMIT`.
+    /// The target would not be strictly between -`LIMIT` and `LIMIT`.
     #[error("the clock would leave its range")]
     Range,
 }
 
-/// A clock, in microseconds over a node's ticks. A correction moves its target at once; the value
-/// that it shows steps there where the correction is large, and else is slewed by a microsecond for
-/// each `SLEW` ticks.
+/// A clock in microseconds, driven by a node's ticks. A correction moves its target at once. The value that
+/// it shows steps to the target where the correction is large; else it moves there by one microsecond
+/// every `SLEW` ticks.
 #[derive(Drop)]
 pub struct Clock {
     offset: i64,
@@ -52,8 +52,8 @@ impl Model for Clock {
 impl Clock {
     ghost use Rattle.tsp_clock.specs.ClockStands.{ClockStands};
 
-    /// A clock that shows `wall` at a tick, of a node that boots with a word. `Range` exactly where the wall
-    /// doesn't lie strictly between -`LIMIT` and `LIMIT`.
+    /// The clock of a node that boots at a tick: it shows `wall` (microseconds since 1970), and its first ticket is
+    /// `word` modulo 32,768. `Range` comes exactly where `wall` isn't strictly between -`LIMIT` and `LIMIT`.
     pub fn boot(tick: u64, wall: i64, word: u64) -> Result<Clock, ClockFault>
         requires tick { IsTick tick }
         ensures ok { IfOk result (λ c. (is_clock_value wall ≡ true)
@@ -79,7 +79,7 @@ impl Clock {
         }
     }
 
-    /// The number that the next correction is to have.
+    /// The number that the next correction must have, 0 to 32,767.
     pub fn ticket(&self) -> u16
         ensures value { result ≡ self.now.ticket }
         ensures small { self.now.ticket < 32768 }
@@ -87,7 +87,7 @@ impl Clock {
         self.ticket
     }
 
-    /// The target at a tick, which isn't before the last correction.
+    /// The target at a tick, in microseconds. The tick must not be before the last correction.
     pub fn target(&self, tick: u64) -> i64
         requires tick { IsTick tick }
         requires later { self.now.at ≤ tick }
@@ -98,7 +98,7 @@ impl Clock {
         self.offset + tick as i64
     }
 
-    /// The value shown at a tick, which isn't before the last correction.
+    /// The value shown at a tick, in microseconds. The tick must not be before the last correction.
     pub fn shown(&self, tick: u64) -> i64
         requires tick { IsTick tick }
         requires later { self.now.at ≤ tick }
@@ -107,7 +107,7 @@ impl Clock {
         self.target(tick) - self.rest(tick)
     }
 
-    /// What is still to be slewed at a tick.
+    /// How many microseconds are still to be slewed at a tick.
     fn rest(&self, tick: u64) -> i64
         requires tick { IsTick tick }
         requires later { self.now.at ≤ tick }
@@ -118,9 +118,9 @@ impl Clock {
         eased(self.rest, (tick - self.at) / SLEW)
     }
 
-    /// Moves the target by an amount. True where the amount is larger than `MAXADJ` and the shown value
-    /// steps to the target; false where the shown value stays at this tick. `Range` exactly where the target
-    /// wouldn't lie strictly between -`LIMIT` and `LIMIT`; then nothing changes.
+    /// Moves the target by an amount, in microseconds. True says that its magnitude is above `MAXADJ` and the
+    /// shown value stepped to the target; false, that it will be slewed there. `Range` comes exactly where the
+    /// new target isn't strictly between -`LIMIT` and `LIMIT`; then nothing changes.
     pub fn adjust(&mut self, tick: u64, amount: i64) -> Result<bool, ClockFault>
         requires tick { IsTick tick }
         requires later { self.old.at ≤ tick }
@@ -159,7 +159,7 @@ impl Clock {
         }
     }
 
-    /// Takes a target and a rest at a tick.
+    /// Sets the target and what is still to be slewed at a tick, and moves on to the next ticket.
     fn correct(&mut self, tick: u64, target: i64, rest: i64)
         requires tick { IsTick tick }
         requires target { is_clock_value target ≡ true }
@@ -180,8 +180,8 @@ impl Clock {
         };
     }
 
-    /// Sets the target and the shown value, and gives the amount by which the target moved. `Range` exactly
-    /// where the value doesn't lie strictly between -`LIMIT` and `LIMIT`; then nothing changes.
+    /// Sets the target and the shown value, and gives the microseconds by which the target moved. `Range` comes
+    /// exactly where the value isn't strictly between -`LIMIT` and `LIMIT`; then nothing changes.
     pub fn set(&mut self, tick: u64, value: i64) -> Result<i64, ClockFault>
         requires tick { IsTick tick }
         requires later { self.old.at ≤ tick }
@@ -199,7 +199,7 @@ impl Clock {
     }
 }
 
-/// How far a target stands ahead of the ticks.
+/// How far a target is ahead of the ticks, in microseconds.
 fn offset_at(target: i64, tick: u64) -> i64
     requires tick { IsTick tick }
     requires range { is_clock_value target ≡ true }
@@ -209,14 +209,14 @@ fn offset_at(target: i64, tick: u64) -> i64
     target - tick as i64
 }
 
-/// Whether a clock may have this value.
+/// Whether a clock may have this value: it is strictly between -`LIMIT` and `LIMIT`.
 pub fn is_clock_value(value: i64) -> bool
     ensures { result ≡ is_clock_value value }
 {
     -LIMIT < value && value < LIMIT
 }
 
-/// Whether an amount is stepped and not slewed.
+/// Whether an amount is stepped, not slewed.
 fn is_step(amount: i64) -> bool
     ensures { result ≡ is_step amount }
 {

@@ -1,4 +1,4 @@
-//! Corrections as acts: each puts its Correct and moves the clock, in one place.
+//! Corrections as acts: each call puts a Correct on the desk and moves the clock.
 ghost use Rattle.std.specs.Prelude.{◌≡◌, ◌+◌, ◌≤◌, ◌+ℤ◌, ◌-ℤ◌, true};
 ghost use Rattle.tsp_base.specs.Frames.{IsTick, PutsExactly};
 ghost use Rattle.tsp_base.specs.Performs.{Performs};
@@ -13,7 +13,7 @@ use tsp_base::desk::Desk;
 use tsp_base::place::Port;
 
 impl Clock {
-    /// Whether the clock can be moved by an amount: the target stays in its range.
+    /// Whether the clock can be moved by an amount, so that the target is still in its range.
     pub fn can_adjust(&self, tick: u64, amount: i64) -> bool
         requires tick { IsTick tick }
         requires later { self.now.at ≤ tick }
@@ -25,7 +25,7 @@ impl Clock {
         }
     }
 
-    /// Corrects the clock by an amount that it can be moved by.
+    /// Corrects the clock by an amount. `can_adjust` must be true of it.
     pub fn correct_by<D: Desk>(&mut self, tick: u64, amount: i64, port: Port, desk: &mut D)
         requires tick { IsTick tick }
         requires later { self.old.at ≤ tick }
@@ -49,7 +49,7 @@ impl Clock {
         );
     }
 
-    /// Sets the clock to a value in its range.
+    /// Sets the clock to a value strictly between -`LIMIT` and `LIMIT`.
     pub fn correct_to<D: Desk>(&mut self, tick: u64, value: i64, port: Port, desk: &mut D)
         requires tick { IsTick tick }
         requires later { self.old.at ≤ tick }
@@ -72,7 +72,7 @@ impl Clock {
         );
     }
 
-    /// Adjusts a clock that can be adjusted; the answer is whether it stepped.
+    /// Adjusts a clock where `can_adjust` is true, and says whether it stepped.
     fn adjust_in_range(&mut self, tick: u64, amount: i64) -> bool
         requires tick { IsTick tick }
         requires later { self.old.at ≤ tick }
@@ -86,7 +86,7 @@ impl Clock {
         }
     }
 
-    /// Sets a clock to a value in its range; the answer is the amount by which its target moved.
+    /// Sets a clock to a value in its range, and gives the amount by which its target moved.
     fn set_in_range(&mut self, tick: u64, value: i64) -> i64
         requires tick { IsTick tick }
         requires later { self.old.at ≤ tick }

@@ -1,8 +1,8 @@
-//! How a rest is slewed away.
+//! How what is still to be slewed gets less.
 ghost use Rattle.std.specs.Prelude.{◌≡◌, ◌^◌, ◌<◌, nat_abs};
 ghost use Rattle.tsp_base.specs.NodeFacts.{eased};
 
-/// A rest in microseconds, moved towards zero by so many and not past it.
+/// A number of microseconds, moved towards zero by so many and not past it.
 pub fn eased(rest: i64, by: u64) -> i64
     requires { nat_abs rest < 2 ^ 63 }
     ensures { result ≡ eased rest by }

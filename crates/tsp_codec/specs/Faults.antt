@@ -1,4 +1,4 @@
--- Why octets spell no datagram: the faults, and the first of them.
+-- Why octets aren't a valid datagram: the faults, and the first of them.
 use Rattle.std.specs.Prelude.{◌≡◌, ◌≢◌, ℕ, ◌<◌, ◌≤◌, List, length, take, drop, true, None, Some, IsSome, Contains, ◌⊎◌, ℤ, pos, negsuc, ◌<ℤ◌}
 use Rattle.tsp_base.specs.Kinds.{kind_of, carries_time}
 use Rattle.tsp_base.specs.declared.kind.Kind.{Kind}
@@ -9,7 +9,7 @@ use Rattle.tsp_base.specs.declared.datagram.Taken.TheVariants.{Good, Bad}
 use Rattle.tsp_codec.specs.Numbers.{octet_at, be16_at, be64_at}
 use Rattle.tsp_codec.specs.Spelling.{Spells, IsTime, reading_field}
 
--- the first 256 octets of the name's place
+-- the octets in which a name must end: the first 256 from octet 12 on
 abbrev pub name_room : List ℕ → List ℕ
 name_room octets = take 256 (drop 12 octets)
 
@@ -42,7 +42,7 @@ Applies octets NameTooLong = HasKind octets × (256 ≤ length (drop 12 octets))
 Applies octets Reserved = ((octet_at octets 0 ≡ 128) × ((be16_at octets 2 ≢ 0) ⊎ (be64_at octets 20 ≢ 0))) ⊎ ((octet_at octets 0 ≡ 129) × (32767 < be16_at octets 2))
 Applies octets Time = (HasTimedKind octets × ¬ IsTime octets) ⊎ ((octet_at octets 0 ≡ 129) × ¬ IsReading (reading_field octets))
 
--- the place of a fault in the order of refusal
+-- the place of a fault in the order in which faults are looked for
 abbrev pub rank : DecodeFault → ℕ
 rank Short = 0
 rank Long = 1
@@ -54,12 +54,12 @@ rank NameTooLong = 6
 rank Reserved = 7
 rank Time = 8
 
--- the octets have this fault, and none that stands before it
+-- the octets have this fault, and none before it in the order
 pub record IsFault (octets : List ℕ) (fault : DecodeFault) : Type 0 where
   pub applies : Applies octets fault
   pub first : (earlier : DecodeFault) → rank earlier < rank fault → ¬ Applies octets earlier
 
--- what a reader takes from octets: the datagram that they spell, or else their first fault
+-- what a reader makes of octets: the datagram that they are, or else their first fault
 abbrev pub Reads : List ℕ → Taken → Type 0
 Reads octets (Good datagram) = Spells octets datagram
 Reads octets (Bad fault) = IsFault octets fault

@@ -43,7 +43,7 @@ SpellsBody octets kind (TimeBody t) = (carries_time kind ≡ true) × IsTime oct
 SpellsBody octets kind (Hops h) = (carries_time kind ≡ false) × (carries_hops kind ≡ true) × (h ≡ octet_at octets 4)
 SpellsBody octets kind Nothing = (carries_time kind ≡ false) × (carries_hops kind ≡ false)
 
--- what stands from octet 12 on is this name, a NUL and any rest
+-- the octets from 12 on are this name, a NUL and anything after it
 abbrev pub SpellsName : List ℕ → List ℕ → Type 0
 SpellsName octets name = IsName name × ((rest : List ℕ) × (drop 12 octets ≡ name ++ 0 ∷ rest))
 

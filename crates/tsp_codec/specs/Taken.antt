@@ -1,4 +1,4 @@
--- What a reader takes from octets, computed.
+-- What a reader makes of octets, as a computation.
 use Rattle.std.specs.Prelude.{ℕ, ℤ, pos, negsuc, List, [], ◌∷◌, length, Bool, ◌&&◌, ◌==◌, nat_lt, int_le, int_lt, if◌then◌else◌, Option, None, Some, option_map}
 use Rattle.tsp_base.specs.Kinds.{kind_of, carries_time, carries_hops}
 use Rattle.tsp_base.specs.declared.kind.Kind.{Kind}
@@ -44,15 +44,15 @@ request_taken o = if be16_at o 2 == 0 && be64_at o 20 == 0 then Good (Stamp (Req
 abbrev pub reply_taken : List ℕ → Taken
 reply_taken o = if nat_lt 32767 (be16_at o 2) then Bad Reserved else (if is_reading (reading_field o) then Good (Stamp (Reply (record { ticket = be16_at o 2; word = be64_at o 4; counter = be64_at o 12; reading = reading_field o }))) else Bad Time)
 
--- what isn't of a message's type
+-- octets whose type isn't a message's: a stamp, or a fault
 abbrev pub stamp_taken : List ℕ → Taken
 stamp_taken o = if octet_at o 0 == 128 then (if length o == 28 then request_taken o else Bad StampLength) else (if octet_at o 0 == 129 then (if length o == 28 then reply_taken o else Bad StampLength) else Bad BadKind)
 
--- by the kind that the type names, if it names one
+-- octets with a valid head, by the kind that their type names, if it names one
 abbrev pub kind_taken : List ℕ → Option Kind → Taken
 kind_taken o None = stamp_taken o
 kind_taken o (Some k) = message_taken o k (before_nul (name_room o)) (body_of o k)
 
--- what a reader takes from octets
+-- what a reader makes of octets
 unfoldable pub taken_of : List ℕ → Taken
 taken_of o = if nat_lt (length o) 13 then Bad Short else (if nat_lt 268 (length o) then Bad Long else (if octet_at o 1 == 1 then kind_taken o (kind_of (octet_at o 0)) else Bad Version))

@@ -18,7 +18,7 @@ use tsp_base::kind::Kind;
 use tsp_base::message::Message;
 use tsp_base::stamp::Stamp;
 
-/// Refuses what is shorter or longer than any datagram, or of another version.
+/// Refuses octets that are shorter or longer than any datagram, or whose version isn't 1.
 fn check_head(octets: &[u8]) -> Result<(), DecodeFault>
     ensures { MatchResult result (λ done. HasHead octets.now) (λ fault. IsFault octets.now fault) }
 {
@@ -105,7 +105,7 @@ fn datagram_of(octets: &[u8]) -> Result<Datagram, DecodeFault>
     }
 }
 
-/// The datagram, or the first fault; the clauses of `decode` but for its being the only answer.
+/// The datagram, or the first fault: `decode`, without the clauses that say that this answer is the only one.
 fn first_reading(octets: &[u8]) -> Result<Datagram, DecodeFault>
     ensures { MatchResult result (λ datagram. Spells octets.now datagram)
         (λ fault. IsFault octets.now fault) }
@@ -117,8 +117,9 @@ fn first_reading(octets: &[u8]) -> Result<Datagram, DecodeFault>
     }
 }
 
-/// The datagram that the octets spell. Where they spell none, the first of their faults, in the order
-/// in which `DecodeFault` lists them.
+/// The datagram that these octets are. Numbers are in network byte order, and a message has the layout of
+/// `struct tsp` in 4.3BSD's `protocols/timed.h`; stamps are this project's own. Octets that aren't a
+/// datagram give the first of their faults, in the order of `DecodeFault`.
 pub fn decode(octets: &[u8]) -> Result<Datagram, DecodeFault>
     ensures reads { MatchResult result (λ datagram. Spells octets.now datagram)
         (λ fault. IsFault octets.now fault) }
@@ -131,7 +132,7 @@ pub fn decode(octets: &[u8]) -> Result<Datagram, DecodeFault>
     }
 }
 
-/// The same as `decode`, as what a node takes.
+/// The same as `decode`, with datagram and fault alike as a value: what a node takes.
 pub fn read(octets: &[u8]) -> Taken
     ensures reads { Reads octets.now result }
     ensures value { result ≡ taken_of octets.now }
@@ -142,7 +143,7 @@ pub fn read(octets: &[u8]) -> Taken
     }
 }
 
-/// What is read back of the datagram's written octets: the same datagram.
+/// Writes a datagram and reads it again: the answer is always the same datagram.
 pub fn read_back(datagram: &Datagram) -> Result<Datagram, DecodeFault>
     ensures { result ≡ Ok datagram.now }
 {

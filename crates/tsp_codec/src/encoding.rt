@@ -18,10 +18,10 @@ use tsp_base::micros::Micros;
 use tsp_base::name::Name;
 use tsp_base::stamp::Stamp;
 
-/// What fills a spelling where it has nothing.
+/// The zeros that fill unused places.
 static ZEROS: [u8; 256] = [0; 256];
 
-/// Appends octets for which there is room.
+/// Appends octets.
 fn append(out: &mut ArrayVec<u8, 268>, piece: &[u8])
     requires { array_vec_len out.old + length piece.now ≤ 268 }
     ensures { out.new.items ≡ out.old.items ++ piece.now }
@@ -85,7 +85,7 @@ fn append_body(out: &mut ArrayVec<u8, 268>, body: &Body)
     }
 }
 
-/// The octets that a name of so many is written in.
+/// How many octets are written for a name of this length, its NUL and the fill included: 64 or 256.
 fn room_for(len: usize) -> usize
     ensures { result ≡ room_for len }
 {
@@ -96,7 +96,7 @@ fn room_for(len: usize) -> usize
     }
 }
 
-/// Appends a name, and zeros up to the end of its room.
+/// Appends a name, and zeros up to 64 or 256 octets.
 fn append_name(out: &mut ArrayVec<u8, 268>, name: &Name)
     requires { array_vec_len out.old + 256 ≤ 268 }
     ensures octets { out.new.items ≡ out.old.items ++ name_octets name.now }
@@ -144,8 +144,8 @@ fn stamp_spelling(stamp: &Stamp) -> ArrayVec<u8, 268>
     out
 }
 
-/// The one written spelling: 28 octets for a stamp, 76 for a message whose name has at most 63 octets,
-/// else 268, with zeros where it has nothing and after its name. A reader takes it as the same datagram.
+/// A datagram's octets: 28 for a stamp, 76 for a message whose name has at most 63 octets, else 268. Unused
+/// places and what follows the name are zeros. `decode` reads them as the same datagram.
 pub fn encode(datagram: &Datagram) -> ArrayVec<u8, 268>
     ensures octets { result.items ≡ canon datagram.now }
     ensures ranges { IsWritable datagram.now }

@@ -13,7 +13,7 @@ use tsp_base::message::Body;
 use tsp_base::micros::Micros;
 use tsp_base::name::Name;
 
-/// The number of two octets.
+/// The unsigned number of the two octets at this place, the highest first.
 pub fn u16_at(octets: &[u8], i: usize) -> u16
     requires { i + 2 ≤ length octets.now }
     ensures { result ≡ be16_at octets.now i }
@@ -21,7 +21,7 @@ pub fn u16_at(octets: &[u8], i: usize) -> u16
     u16::from_be_bytes([octets[i], octets[i + 1]])
 }
 
-/// The number of four octets in two's complement.
+/// The number of four octets, the highest first, in two's complement.
 fn i32_at(octets: &[u8], i: usize) -> i32
     requires { i + 4 ≤ length octets.now }
     ensures { result ≡ cast_signed w32 (be32_at octets.now i) }
@@ -30,7 +30,7 @@ fn i32_at(octets: &[u8], i: usize) -> i32
     number.cast_signed()
 }
 
-/// The number of eight octets.
+/// The unsigned number of eight octets, the highest first.
 pub fn u64_at(octets: &[u8], i: usize) -> u64
     requires { i + 8 ≤ length octets.now }
     ensures { result ≡ be64_at octets.now i }
@@ -47,7 +47,7 @@ pub fn u64_at(octets: &[u8], i: usize) -> u64
     ])
 }
 
-/// The number of eight octets in two's complement.
+/// The number of eight octets, the highest first, in two's complement.
 pub fn i64_at(octets: &[u8], i: usize) -> i64
     requires { i + 8 ≤ length octets.now }
     ensures { result ≡ cast_signed w64 (be64_at octets.now i) }
@@ -63,7 +63,8 @@ fn time_value(octets: &[u8]) -> i64
     i32_at(octets, 4) as i64 * SECOND + i32_at(octets, 8) as i64
 }
 
-/// The time of octets 4 to 11; None where the microseconds or the value are out of their range.
+/// The time of octets 4 to 11; None where the microseconds aren't from -999,999 to 999,999, or the time is out
+/// of its range.
 fn time_at(octets: &[u8]) -> Option<Micros>
     requires { 12 ≤ length octets.now }
     ensures { MatchOption result (¬ IsTime octets.now) (λ time. IsTime octets.now
@@ -107,7 +108,7 @@ fn front_of(octets: &[u8], count: usize) -> &[u8]
     }
 }
 
-/// The first 256 octets of the name's place.
+/// The octets in which a name must end: the first 256 from octet 12 on.
 fn room_of(octets: &[u8]) -> &[u8]
     requires { 12 ≤ length octets.now }
     ensures { result.now ≡ name_room octets.now }
@@ -124,7 +125,7 @@ fn nul_in(room: &[u8]) -> Option<usize>
     room.iter().position(|octet| *octet == 0)
 }
 
-/// The name, which the first NUL from octet 12 on ends; None where the first 256 octets have none.
+/// The name, from octet 12 up to the first NUL; None where the first 256 octets there have none.
 pub fn name_at(octets: &[u8]) -> Option<Name>
     requires { 12 ≤ length octets.now }
     ensures { MatchOption result (¬ Contains (name_room octets.now) 0)

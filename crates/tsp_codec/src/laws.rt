@@ -1,4 +1,4 @@
-//! Laws of the spelling.
+//! Theorems about octets and datagrams. Nothing here runs in the program.
 ghost use Rattle.std.specs.Prelude.{◌≡◌, ◌↔◌, ℕ, List, length};
 ghost use Rattle.tsp_codec.specs.Taken.{taken_of};
 ghost use Rattle.tsp_codec.specs.Spelling.{Spells};
@@ -8,28 +8,28 @@ ghost use Rattle.tsp_base.specs.declared.datagram.Datagram.{Datagram};
 ghost use Rattle.tsp_base.specs.declared.datagram.DecodeFault.{DecodeFault};
 ghost use Rattle.tsp_base.specs.declared.datagram.Taken.{Taken};
 
-/// Octets spell at most one datagram.
+/// The same octets are at most one datagram.
 pub fn one_datagram()
     ensures { (octets : List ℕ) (d e : Datagram) → Spells octets d → Spells octets e → d ≡ e }
 {}
 
-/// Octets have at most one first fault.
+/// The same octets have at most one first fault.
 pub fn one_fault()
     ensures { (octets : List ℕ) (f g : DecodeFault) → IsFault octets f → IsFault octets g → f ≡ g }
 {}
 
-/// What spells a datagram has no fault.
+/// Octets that are a datagram have no fault.
 pub fn spelled_without_fault()
     ensures { (octets : List ℕ) (d : Datagram) (f : DecodeFault) → Spells octets d
         → IsFault octets f → ⊥ }
 {}
 
-/// A reader takes one thing from the same octets.
+/// Reading the same octets always gives the same.
 pub fn one_reading()
     ensures { (octets : List ℕ) (t u : Taken) → Reads octets t → Reads octets u → t ≡ u }
 {}
 
-/// The written spelling spells its datagram.
+/// What is written for a datagram reads as that datagram.
 pub fn written_spells()
     ensures { (d : Datagram) → IsWritable d → Spells (canon d) d }
 {}
@@ -39,12 +39,12 @@ pub fn written_has_its_size()
     ensures { (d : Datagram) → IsWritable d → length (canon d) ≡ written_size d }
 {}
 
-/// What a reader takes from octets is computed: each list of octets is spelled or has a fault.
+/// Any octets either are a datagram or have a first fault, and `taken_of` computes which.
 pub fn reading_is_computed()
     ensures { (octets : List ℕ) (t : Taken) → (taken_of octets ≡ t) ↔ Reads octets t }
 {}
 
-/// What was written is taken as it was.
+/// A node that takes a written datagram takes the datagram that was written.
 pub fn written_is_taken()
     ensures { (d : Datagram) → IsWritable d → taken_of (canon d) ≡ Taken.Good d }
 {}

@@ -18,7 +18,7 @@ pub const LONGEST: usize = 268;
 /// The length of each stamp.
 pub const STAMP: usize = 28;
 
-/// Where the name stands in a message.
+/// The octet at which a message's name begins.
 pub const NAME_AT: usize = 12;
 
 /// The longest name that is written in `SHORT_ROOM` octets.
@@ -33,7 +33,7 @@ pub const NAME_ROOM: usize = 256;
 /// The greatest ticket of a reply.
 pub const LAST_TICKET: u16 = 32_767;
 
-/// The microseconds of a time are read from minus this to this, and written from 0 to this.
+/// The microseconds of a time are accepted from minus this to this, and written from 0 to this.
 pub const LAST_MICRO: i32 = 999_999;
 
 /// The microseconds of a second.

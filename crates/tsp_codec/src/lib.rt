@@ -1,8 +1,9 @@
-//! The octets of the protocol's datagrams: an exact reader and a writer of one spelling.
+//! The octets of the protocol's datagrams: a reader and a writer.
 //!
-//! Neither call takes memory. Octets that came are read by [`decode`], or by [`read`] where a fault
-//! is itself an input; a datagram that is to go is written by [`encode`]. What was written is read
-//! as the same datagram, and of octets that spell none the fault is named:
+//! Received octets are read by [`decode`], or by [`read`] where a fault is itself an input of a node. A
+//! datagram to send is written by [`encode`], always in the same octets, and reading these gives the
+//! same datagram. Octets that aren't a valid datagram get the first fault that they have. No call
+//! allocates memory:
 //!
 //! ```
 //! let name = Name::new(b"alpha");

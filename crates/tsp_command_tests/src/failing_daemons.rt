@@ -1,4 +1,4 @@
-//! A daemon of two turns, each of whose calls of link and sink fails in turn.
+//! A daemon of two turns, in which each call of link and sink fails once.
 use std::alloc::{AllocError, Global};
 use std::process::Abort;
 use tsp_args::command::{Command, command_of};
@@ -17,7 +17,7 @@ const REQUEST: &[u8] = &[
     0x80, 1, 0, 0, 0, 0, 0, 0, 0, 0, 0, 1, 0, 0, 0, 0, 0, 0, 0, 2, 0, 0, 0, 0, 0, 0, 0, 0,
 ];
 
-/// What the two turns show, a write each.
+/// What the two turns write, each in one write.
 const LINES: [&str; 5] = [
     "1 0 0 20 took - traceon 2 x\n",
     "1 0 0 20 trace on\n",
@@ -26,7 +26,7 @@ const LINES: [&str; 5] = [
     "2 0 0 40 post 1 - reply 2 1 2 1040\n",
 ];
 
-/// How a daemon ended, what it showed, and how many sends it tried.
+/// How a daemon ended, what it wrote, and how many sends it tried.
 #[derive(Drop)]
 struct Ran {
     end: DaemonExit,
@@ -34,9 +34,9 @@ struct Ran {
     tried: usize,
 }
 
-/// Runs a daemon that is told to trace and then asked for a stamp, where these calls of the link
-/// and these writes fail. The link's calls are the bind, and of each turn the receive and the send.
-/// None where the words are no daemon's.
+/// Runs a daemon whose trace is turned on and which is then asked for a stamp, where these calls of the
+/// link and these writes fail. The link's calls are the bind, and in each turn the receive and the send.
+/// None where the words aren't a daemon's.
 fn run_daemon(alloc: Global, calls: &[u32], writes: &[u32]) -> Result<Option<Ran>, AllocError> {
     let mut words = Vec::new(alloc);
     for word in ["serve", "127.0.0.1:525", "a", "m", "2"] {
@@ -58,7 +58,7 @@ fn run_daemon(alloc: Global, calls: &[u32], writes: &[u32]) -> Result<Option<Ran
     Ok(Some(Ran { end, shown, tried }))
 }
 
-/// Whether the daemon ends so, with the first so many lines shown and so many sends tried.
+/// Whether the daemon ends so, with this many lines written and this many sends tried.
 fn ends(
     alloc: Global,
     calls: &[u32],
@@ -78,8 +78,8 @@ fn ends(
     Ok(ran.end == end && shown && ran.tried == tried)
 }
 
-/// A bind or a receive that fails ends the daemon, behind what the turns before it sent and showed.
-/// A send that fails is a lost datagram.
+/// A bind or a receive that fails ends the daemon, after what the turns before it sent and wrote. A send that
+/// fails is a lost datagram.
 #[test]
 fn each_call_of_the_link_fails(rt: HostRuntime) {
     for (failing, end, lines, tried) in [
@@ -95,7 +95,7 @@ fn each_call_of_the_link_fails(rt: HostRuntime) {
     }
 }
 
-/// A write that fails ends the daemon, behind the lines before it; the sends of its turn were tried.
+/// A write that fails ends the daemon, after the lines before it; the sends of its turn were tried.
 #[test]
 fn each_write_fails(rt: HostRuntime) {
     for (failing, end, lines, tried) in [

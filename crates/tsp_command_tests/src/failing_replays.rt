@@ -1,12 +1,12 @@
-//! A replay each of whose reads and writes fails in turn.
+//! A replay in which each read and each write fails once.
 use std::alloc::{AllocError, Global};
 use std::process::Abort;
 use tsp_io::memory::{MemorySink, MemorySource};
 use tsp_lines::treat::Outcome;
 use tsp_replay::run::replay;
 
-/// A schedule of one node that boots, is turned, and answers a stranger's stamp: 143 octets, of
-/// which the header's lines are the first 39, the boot's the next 14, and the turn's the next 13.
+/// A schedule of one node that boots, looks at its timers, and answers a stranger's stamp request: 143 octets,
+/// of which the header's lines are the first 39, the boot's the next 14, and the turn's the next 13.
 const SCHEDULE: &str = "\
 tsp-schedule 1
 drift 0
@@ -17,7 +17,7 @@ at 20 bytes 0 - 80010000000000000000000100000000000000020000000000000000
 end
 ";
 
-/// What the boot comes to.
+/// The trace of the boot.
 const BOOTED: &str = "\
 1 0 0 0 boot
 1 0 0 0 become starting
@@ -33,8 +33,8 @@ const TRACE: &str = "\
 3 0 0 20 post 0 - reply 5 1 2 1020
 ";
 
-/// Whether a replay in reads of at most 40 octets, where these reads and writes fail, comes to this
-/// outcome and text.
+/// Whether a replay in reads of at most 40 octets, where these reads and writes fail, has this outcome and
+/// text.
 fn comes(
     alloc: Global,
     reads: &[u32],
@@ -48,8 +48,8 @@ fn comes(
     Ok(came == outcome && sink.written() == written.as_bytes())
 }
 
-/// The reads give 40, 40, 40 and 23 octets, and then the end. What the lines that were got come to
-/// is written before a read fails.
+/// The reads give 40, 40, 40 and 23 octets, and then the end. The output of the lines that were read is
+/// written before a read fails.
 #[test]
 fn each_read_fails(rt: HostRuntime) {
     for (failing, outcome, written) in [
@@ -65,7 +65,7 @@ fn each_read_fails(rt: HostRuntime) {
     }
 }
 
-/// What the lines of a read come to is one write.
+/// The output of the lines of one read is one write.
 #[test]
 fn each_write_fails(rt: HostRuntime) {
     for (failing, outcome, written) in [

@@ -1,4 +1,4 @@
-//! What no clause says: that a schedule is read.
+//! What no contract says: that a schedule is read to its end.
 ghost use Rattle.std.specs.Prelude.{None};
 
 use std::alloc::{AllocError, Global};
@@ -26,7 +26,7 @@ impl EventHandler for Open {
     }
 }
 
-/// A schedule of one node is read to its last line, and not on.
+/// A schedule of one node is read to its last line, and no further.
 #[test]
 fn reads_a_schedule(rt: HostRuntime) {
     let lines: [&[u8]; 5] = [
@@ -48,7 +48,7 @@ fn reads_a_schedule(rt: HostRuntime) {
     }
 }
 
-/// A line that is too long is refused by what it would have been.
+/// The cause for a line that is too long depends on how it begins.
 #[test]
 fn refuses_long_lines(rt: HostRuntime) {
     let mut stage: Stage<Open> = Stage::Untitled;

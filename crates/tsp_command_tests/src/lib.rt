@@ -1,7 +1,7 @@
-//! Tests of the commands over a source, a sink and a link in memory: worked inputs, and each call
-//! fails in turn.
+//! Tests of the commands over a source, a sink and a link in memory: inputs that were worked out by
+//! hand, and calls that fail, each once.
 //!
-//! They stand apart from the commands' crates, so that each of those is proved once.
+//! The tests are in a crate of their own, so that each crate that they try is proved once.
 #![tactic(auto)]
 
 #[cfg(test)]

@@ -1,4 +1,4 @@
-//! Worked queries over links and tickers in memory.
+//! Questions over links and tickers in memory, worked out by hand.
 use std::alloc::{AllocError, Global};
 use tsp_base::micros::Micros;
 use tsp_base::place::{PeerId, Place};
@@ -9,7 +9,7 @@ use tsp_query::query::{QueryEnd, clockdiff, election, msite, setdate, trace};
 /// The daemon.
 const DAEMON: Place = Place::Peer(PeerId(0));
 
-/// A message of this type with number 2 and a name of one letter, cut right behind its name's end.
+/// A message of this type with number 2 and a name of one letter, which ends right after the name's NUL.
 fn message(kind: u8, letter: u8) -> [u8; 14] {
     [kind, 1, 0, 2, 0, 0, 0, 0, 0, 0, 0, 0, letter, 0]
 }
@@ -44,7 +44,7 @@ fn sent(link: &MemoryLink, kind: u8) -> bool {
     link.tried_to(0) == DAEMON && octets == wanted.as_slice()
 }
 
-/// The master's name is the name that acknowledges; a datagram of another number, or none, is no answer.
+/// The master's name is that in the ACK; a datagram with another number, or none, is no answer.
 #[test]
 fn asks_who_is_master(rt: HostRuntime) -> Result<(), AllocError> {
     let alloc = rt.alloc();
@@ -64,7 +64,7 @@ fn asks_who_is_master(rt: HostRuntime) -> Result<(), AllocError> {
     Ok(())
 }
 
-/// An acknowledgment of the daemon's answers, a stranger's doesn't; the ninth arrival isn't received.
+/// An ACK of the daemon is an answer, a stranger's isn't; the ninth arrival isn't received.
 #[test]
 fn asks_whether_a_daemon_hears(rt: HostRuntime) -> Result<(), AllocError> {
     let alloc = rt.alloc();
@@ -87,7 +87,7 @@ fn asks_whether_a_daemon_hears(rt: HostRuntime) -> Result<(), AllocError> {
     Ok(())
 }
 
-/// A trace is switched on or off; a send or a receive that fails ends the query.
+/// A trace is turned on or off; a send or a receive that fails ends the question.
 #[test]
 fn switches_a_trace(rt: HostRuntime) -> Result<(), AllocError> {
     let alloc = rt.alloc();
@@ -109,7 +109,7 @@ fn switches_a_trace(rt: HostRuntime) -> Result<(), AllocError> {
     Ok(())
 }
 
-/// A reply that was 801 microseconds under way: 100 ahead, give or take 401.
+/// A reply that came after 801 microseconds: 100 ahead, give or take 401.
 #[test]
 fn asks_how_far_a_clock_is(rt: HostRuntime) -> Result<(), AllocError> {
     let alloc = rt.alloc();

@@ -1,4 +1,4 @@
-//! Questions over links in memory: what is sent, and what is written of what comes back.
+//! Questions over links in memory: what is sent, and what is written for the answer.
 
 use std::alloc::{AllocError, Global};
 use std::process::Abort;
@@ -15,22 +15,22 @@ use tsp_query::exit::QueryExit;
 /// The daemon that is asked.
 const DAEMON: Place = Place::Peer(PeerId(0));
 
-/// An acknowledgment of number 2, in the name `a`.
+/// An ACK with number 2 and the name `a`.
 const ACK: &[u8] = &[2, 1, 0, 2, 0, 0, 0, 0, 0, 0, 0, 0, b'a', 0];
 
-/// An acknowledgment of number 3, in the name `a`.
+/// An ACK with number 3 and the name `a`.
 const NAMED: &[u8] = &[2, 1, 0, 3, 0, 0, 0, 0, 0, 0, 0, 0, b'a', 0];
 
-/// An acknowledgment of number 3, in the empty name.
+/// An ACK with number 3 and the empty name.
 const NAMELESS: &[u8] = &[2, 1, 0, 3, 0, 0, 0, 0, 0, 0, 0, 0, 0];
 
-/// An acknowledgment of number 5, in the name `b`.
+/// An ACK with number 5 and the name `b`.
 const FORWARDED: &[u8] = &[2, 1, 0, 5, 0, 0, 0, 0, 0, 0, 0, 0, b'b', 0];
 
-/// A DATEACK of number 5, in the name `b`.
+/// A DATEACK with number 5 and the name `b`.
 const DATED: &[u8] = &[16, 1, 0, 5, 0, 0, 0, 0, 0, 0, 0, 0, b'b', 0];
 
-/// The reply with ticket 5, word 9, counter 0 and the reading 1000500.
+/// The reply with ticket 5, word 9, counter 0 and reading 1,000,500.
 const REPLY: &[u8] = &[
     0x81, 1, 0, 5, 0, 0, 0, 0, 0, 0, 0, 9, 0, 0, 0, 0, 0, 0, 0, 0, 0, 0, 0, 0, 0, 0x0f, 0x44, 0x34,
 ];
@@ -77,7 +77,7 @@ fn is_sent(link: &MemoryLink, tried: usize, kind: u8) -> bool {
     link.tried_to(0) == DAEMON && link.tried_octets(0).first() == Some(&kind)
 }
 
-/// Whether the question comes to what its row says.
+/// Whether the question ends as its row says.
 fn is_right(alloc: Global, row: &Row) -> Result<bool, AllocError> {
     let mut link = MemoryLink::new(alloc, row.calls)?;
     if !row.comes.is_empty() {
@@ -137,7 +137,7 @@ fn failing(
     }
 }
 
-/// Each question has its line, and the empty name is no master's.
+/// Each question has its line, and the empty name means that there is no master.
 #[test]
 fn lines_say_what_came(rt: HostRuntime) {
     let answered = QueryExit::Answered;

@@ -5,7 +5,7 @@ use tsp_icmp_command::average;
 use tsp_io::memory::{MemorySink, MemorySource};
 use tsp_lines::treat::Outcome;
 
-/// Whether the input comes to this outcome, with this written.
+/// Whether the input has this outcome, with this written.
 fn averages(alloc: Global, input: &[u8], outcome: Outcome, written: &[u8]) -> bool {
     let (Ok(mut source), Ok(mut sink)) = (
         MemorySource::new(alloc, input, &[]),
@@ -16,7 +16,7 @@ fn averages(alloc: Global, input: &[u8], outcome: Outcome, written: &[u8]) -> bo
     average(alloc, &mut source, &mut sink) == outcome && sink.written() == written
 }
 
-/// One exchange, none, and lines that are none.
+/// One exchange, none, and lines that aren't exchanges.
 #[test]
 fn takes_lines_of_exchanges(rt: HostRuntime) {
     let alloc = rt.alloc();
@@ -106,8 +106,8 @@ fn repeated(alloc: Global, piece: &[u8], times: usize) -> Option<Vec<u8>> {
     Some(octets)
 }
 
-/// Whether 1,000 lines of one clock and then these octets come to this outcome, with these words behind
-/// the 1,000 lines' own.
+/// Whether 1,000 lines of one clock and then these octets have this outcome, with these words after the
+/// output of the 1,000 lines.
 fn follow(alloc: Global, octets: &[u8], outcome: Outcome, words: &[u8]) -> bool {
     let line =
         b"b 0d00ef1400010002000003e80000000000000000 0E00E25C00010002000003E8000005DC000005DC 1801\n";

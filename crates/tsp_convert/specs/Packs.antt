@@ -1,4 +1,4 @@
--- What `pack` makes of lines.
+-- What lines mean to `pack`.
 use Rattle.std.specs.Prelude.{◌≡◌, ℕ, List, [], map, codes}
 use Rattle.std.specs.List.{All, AllZip}
 use Rattle.hex.specs.Hex.{encode_lower}
@@ -13,7 +13,7 @@ use Rattle.tsp_script.specs.Texts.{message_text}
 abbrev pub IsLineOf : List ℕ → Datagram → Type 0
 IsLineOf line d = IsDatagram d × (line ≡ message_text d)
 
--- the line is no datagram's message line
+-- the line isn't a datagram's message line
 abbrev pub RefusesMessage : List ℕ → List ℕ → Type 0
 RefusesMessage line cause = ((d : Datagram) → IsLineOf line d → ⊥) × (cause ≡ codes "message")
 
@@ -32,6 +32,6 @@ pack_meaning = record {
   lacks = λ lines cause. ⊥;
 }
 
--- octets are message lines of datagrams, a datagram a line
+-- octets are message lines, each that of a datagram
 abbrev pub AreMessageLines : List ℕ → Type 0
 AreMessageLines octets = (lines : List (List ℕ)) × (datagrams : List Datagram) × All NoFeed lines × AreLines octets lines × AllZip IsLineOf lines datagrams

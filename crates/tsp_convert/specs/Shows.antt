@@ -1,4 +1,4 @@
--- What `show` makes of lines.
+-- What lines mean to `show`.
 use Rattle.std.specs.Prelude.{◌≡◌, ℕ, ◌<◌, ◌≤◌, ◌⊎◌, List, [], length, map, codes, Ok, IsErr}
 use Rattle.std.specs.List.{All, AllZip}
 use Rattle.hex.specs.Hex.{decode_of}
@@ -15,15 +15,15 @@ use Rattle.tsp_script.specs.Traces.{fault_word}
 abbrev pub IsHex : List ℕ → List ℕ → Type 0
 IsHex line octets = (length line ≤ 1024) × (decode_of line ≡ Ok octets)
 
--- the line is longer than a line may be, or isn't pairs of hexadecimal digits
+-- the line has more than 1,024 octets, or isn't pairs of hexadecimal digits
 abbrev pub IsNoHex : List ℕ → Type 0
 IsNoHex line = (1024 < length line) ⊎ IsErr (decode_of line)
 
--- the line is octets that spell this datagram, in hexadecimal
+-- the line is octets of this datagram, in hexadecimal
 abbrev pub IsHexOf : List ℕ → Datagram → Type 0
 IsHexOf line d = (octets : List ℕ) × IsHex line octets × Spells octets d
 
--- the line isn't hexadecimal, or its octets spell no datagram and this is the word of their first fault
+-- the line isn't hexadecimal, or its octets aren't a datagram and this is the word of their first fault
 abbrev pub RefusesHex : List ℕ → List ℕ → Type 0
 RefusesHex line cause = (IsNoHex line × (cause ≡ codes "hex"))
     ⊎ ((octets : List ℕ) × (fault : DecodeFault) × IsHex line octets × IsFault octets fault × (cause ≡ fault_word fault))
@@ -43,6 +43,6 @@ show_meaning = record {
   lacks = λ lines cause. ⊥;
 }
 
--- octets are lines of datagrams in hexadecimal, a datagram a line
+-- octets are lines of hexadecimal, each a datagram
 abbrev pub AreHexLines : List ℕ → Type 0
 AreHexLines octets = (lines : List (List ℕ)) × (datagrams : List Datagram) × All NoFeed lines × AreLines octets lines × AllZip IsHexOf lines datagrams

@@ -9,7 +9,7 @@ use tsp_io::sink::Sink;
 use tsp_lines::output::Output;
 use tsp_lines::treatment::Stop;
 
-/// Hands the output of a line over, and nothing of it where that fails.
+/// Puts the output of a line into `output`, and nothing of it where that fails.
 pub(crate) fn hand_over<K: Sink>(text: &[u8], output: &mut Output, sink: &mut K) -> Result<(), Stop>
     requires { length text.now ≤ 1024 }
     ensures ok { OnOk result (Hands (K.written sink.old) output.old (K.written sink.new) output.new

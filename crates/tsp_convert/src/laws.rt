@@ -1,4 +1,4 @@
-//! Laws of the two conversions.
+//! Theorems about the two conversions. Nothing here runs.
 ghost use Rattle.std.specs.Prelude.{◌≡◌, ◌≤◌, ℕ, List, length};
 ghost use Rattle.std.specs.List.{All};
 ghost use Rattle.tsp_base.specs.declared.datagram.Datagram.{Datagram};
@@ -15,7 +15,7 @@ pub fn one_datagram_in_hex()
     ensures { (line : List ℕ) (d e : Datagram) → IsHexOf line d → IsHexOf line e → d ≡ e }
 {}
 
-/// `show` refuses no line that is a datagram's octets in hexadecimal.
+/// `show` doesn't refuse a line that is a datagram's octets in hexadecimal.
 pub fn hex_is_not_refused()
     ensures { (line cause : List ℕ) (d : Datagram) → IsHexOf line d → RefusesHex line cause → ⊥ }
 {}
@@ -37,25 +37,25 @@ pub fn one_output_of_pack()
         → pack_meaning.accepts lines other → text ≡ other }
 {}
 
-/// At each place of the lines one thing at most may follow, for `show`.
+/// After any lines, `show` can do at most one thing with the next line or the end.
 pub fn definite_show()
     ensures { IsDefinite show_meaning }
 {}
 
-/// At each place of the lines one thing at most may follow, for `pack`.
+/// After any lines, `pack` can do at most one thing with the next line or the end.
 pub fn definite_pack()
     ensures { IsDefinite pack_meaning }
 {}
 
-/// What `show` makes of written octets in lower case are lines of which `pack` makes these octets again.
+/// Octets as they are written, in lower case: `pack` of what `show` gives for them gives them again.
 pub fn packs_what_was_shown()
     ensures { (lines : List (List ℕ)) (text : List ℕ) → All IsWritten lines
         → show_meaning.accepts lines text → (back : List (List ℕ)) × All NoFeed back
         × (text ≡ closed back) × pack_meaning.accepts back (closed lines) }
 {}
 
-/// Where the answer of `show` to written lines in lower case, each with its line feed, is `Ok` with some
-/// output, the answer of `pack` to that output is `Ok` with these lines.
+/// The same of whole inputs: where the answer of `show` to such lines, each with its line feed, is `Ok`, the
+/// answer of `pack` to the output is `Ok` with these lines.
 pub fn answer_to_what_was_shown()
     ensures { (limit : ℕ) (lines : List (List ℕ)) (output : List ℕ) → All NoFeed lines
         → All IsWritten lines → IsAnswer show_meaning limit (closed lines) Outcome.Ok output

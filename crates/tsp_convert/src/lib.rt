@@ -1,7 +1,15 @@
-//! Datagrams as hexadecimal to message lines, and back.
+//! The commands `show` and `pack`: datagrams in hexadecimal to message lines, and back.
 //!
-//! [`run::show`] reads lines of hexadecimal and writes for each the line of its datagram;
-//! [`run::pack`] does the opposite. Both stop at the first line that they can't read.
+//! [`run::show`] reads lines of hexadecimal and writes the message line of each one's datagram;
+//! [`run::pack`] does the opposite. Both stop at the first line that they can't read:
+//!
+//! ```
+//! let hex = b"030100070000000000000000616c70686100\n00\n";
+//! let mut source = MemorySource::new(alloc, hex, &[])?;
+//! let mut sink = MemorySink::new(alloc, &[])?;
+//! assert!(matches!(show(alloc, &mut source, &mut sink), Outcome::Bad));
+//! assert_eq!(sink.written(), b"masterreq 7 alpha\nbad 2 short\n");
+//! ```
 #![tactic(auto)]
 
 mod hand_over;

@@ -16,8 +16,8 @@ use tsp_lines::output::Output;
 use tsp_lines::treatment::{Stop, Treatment};
 use tsp_script::message_reader::message_of;
 
-/// Writes the octets of the datagram of a message line to the front of a buffer, in hexadecimal and
-/// with a line feed; gives how many octets these are.
+/// Writes the octets of a message line's datagram to the front of a buffer, in hexadecimal and with a
+/// line feed, and gives the length of that text.
 fn packed(line: &[u8], text: &mut [u8; 1024]) -> Result<usize, Cause>
     ensures { MatchResult result (λ n. (n ≤ 1024) × ((d : Datagram) × IsLineOf line.now d
         × (take n text.new ≡ close (encode_lower (canon d))))) (λ cause. RefusesMessage line.now
@@ -29,8 +29,8 @@ fn packed(line: &[u8], text: &mut [u8; 1024]) -> Result<usize, Cause>
     }
 }
 
-/// Writes octets to the front of a buffer, in hexadecimal and with a line feed; gives how many
-/// octets these are.
+/// Writes octets to the front of a buffer, in hexadecimal and with a line feed, and gives the length of
+/// that text.
 fn digits_of(octets: &[u8], text: &mut [u8; 1024]) -> usize
     requires { length octets.now ≤ 268 }
     ensures short { result ≤ 1024 }
@@ -42,19 +42,19 @@ fn digits_of(octets: &[u8], text: &mut [u8; 1024]) -> usize
     count + 1
 }
 
-/// Takes message lines, and gives the octets that are written for each one's datagram in hexadecimal,
-/// in lower case.
+/// The command `pack`: takes message lines, and gives the octets of each one's datagram in hexadecimal, in
+/// lower case.
 ///
 /// A line is refused with the cause `message` where no datagram is written as this line.
 ///
-/// It keeps the place of a line's text, so that no line makes it.
+/// The buffer for a line's text is here, so that it isn't made anew for each line.
 #[derive(Drop)]
 pub(crate) struct Pack {
     text: [u8; 1024],
 }
 
 impl Pack {
-    /// No line was taken.
+    /// Before the first line.
     pub(crate) fn new() -> Pack {
         Pack { text: [0; 1024] }
     }

@@ -17,9 +17,10 @@ use tsp_lines::treat::{Outcome, treat_all};
 
 /// Reads lines of hexadecimal, and writes the message line of each one's datagram.
 ///
-/// The first line that isn't hexadecimal of a datagram ends it with `bad LINE CAUSE`, where the cause is
-/// `hex` or the word of the datagram's fault. An input of more than 64 MiB ends it with `limit LINE`.
-/// Where every line is a datagram's, the answer is `Ok`, if nothing fails and there is memory.
+/// The first line that isn't a datagram in hexadecimal ends it with `bad LINE CAUSE`: `hex` where it isn't
+/// hexadecimal, else the word of the datagram's fault, such as `short`. An input of more than 64 MiB ends
+/// it with `limit LINE`. Where every line is a datagram, the outcome is `Ok`, unless a read or a write
+/// fails or out of memory.
 pub fn show<S: Source, K: Sink>(alloc: Global, source: &mut S, sink: &mut K) -> Outcome
     requires open { S.ended source.old ≡ false }
     ensures comes { Comes show_meaning MOST_INPUT (S.left source.old) (S.left source.new)
@@ -47,9 +48,9 @@ pub fn show<S: Source, K: Sink>(alloc: Global, source: &mut S, sink: &mut K) -> 
 
 /// Reads message lines, and writes the octets of each one's datagram in hexadecimal.
 ///
-/// The first line that is no datagram's message line ends it with `bad LINE message`. An input of more
-/// than 64 MiB ends it with `limit LINE`. Where every line is a datagram's, the answer is `Ok`, if
-/// nothing fails and there is memory.
+/// The first line that isn't a datagram's message line ends it with `bad LINE message`. An input of more
+/// than 64 MiB ends it with `limit LINE`. Where every line is one, the outcome is `Ok`, unless a read or a
+/// write fails or out of memory.
 pub fn pack<S: Source, K: Sink>(alloc: Global, source: &mut S, sink: &mut K) -> Outcome
     requires open { S.ended source.old ≡ false }
     ensures comes { Comes pack_meaning MOST_INPUT (S.left source.old) (S.left source.new)

@@ -19,8 +19,8 @@ use tsp_script::acts::fault_word;
 use tsp_script::messages::append_datagram;
 use tsp_script::numbers::{append, octets_in};
 
-/// Writes the message line of the datagram whose octets the line has in hexadecimal, with a line
-/// feed. Its octets come into the buffer.
+/// Writes the message line of the datagram that a line is in hexadecimal, with a line feed. `buffer` gets
+/// its octets.
 fn shown(line: &[u8], buffer: &mut [u8; 512], text: &mut ArrayVec<u8, 1024>) -> Result<(), Cause>
     requires { length line.now ≤ 1024 }
     ensures { MatchResult result
@@ -41,12 +41,13 @@ fn shown(line: &[u8], buffer: &mut [u8; 512], text: &mut ArrayVec<u8, 1024>) -> 
     }
 }
 
-/// Takes lines of hexadecimal, in either case, and gives the message line of each one's datagram.
+/// The command `show`: takes lines of hexadecimal, in either case, and gives the message line of each
+/// one's datagram.
 ///
 /// A line is refused with the cause `hex` where it isn't pairs of hexadecimal digits or has more than
-/// 1,024 octets, and else with the word of the fault for which its octets spell no datagram.
+/// 1,024 octets, and else with the word of its octets' fault.
 ///
-/// It keeps the places of a line's octets and of its text, so that no line makes them.
+/// The buffers for a line's octets and its text are here, so that they aren't made anew for each line.
 #[derive(Drop)]
 pub(crate) struct Show {
     octets: [u8; 512],
@@ -54,7 +55,7 @@ pub(crate) struct Show {
 }
 
 impl Show {
-    /// No line was taken.
+    /// Before the first line.
     pub(crate) fn new() -> Show {
         Show {
             octets: [0; 512],

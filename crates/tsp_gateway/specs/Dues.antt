@@ -1,4 +1,4 @@
--- When a node of several ports is to be looked at next.
+-- When a gateway needs its next step.
 use Rattle.std.specs.Prelude.{◌≡◌, ℕ, List, [], ◌∷◌, length, Option, None, Some, slice_get}
 use Rattle.tsp_base.specs.Alarms.{earlier, least_deadline}
 use Rattle.tsp_base.specs.History.{Seen, view}
@@ -22,13 +22,13 @@ pub record IsPortDue (seen : List Seen) (due : Option ℕ) : Type 0 where
   pub first : IsEarliest (λ p. open_send p seen) sends
   pub due_is : due ≡ earlier (least_deadline (armed seen)) sends
 
--- the same, by what the node keeps of the port
+-- the same, from the state of the port
 pub record IsPartDue (part : Part) (due : Option ℕ) : Type 0 where
   pub sends : Option ℕ
   pub first : IsEarliest (sending_to part.station.sends) sends
   pub due_is : due ≡ earlier (least_deadline part.station.alarms) sends
 
--- the earliest deadline over all ports; the greatest number of 64 bits where nothing is armed
+-- the earliest deadline of all ports; the greatest number of 64 bits where there is none
 pub record IsNodeDue (past : NodePast) (at : ℕ) : Type 0 where
   pub dues : List (Option ℕ)
   pub many : length dues ≡ length past.ports

@@ -1,4 +1,4 @@
--- How a node of several ports is set up, and what a past of it has of that.
+-- The configuration of a gateway, and the pasts of a node with it.
 use Rattle.std.specs.Prelude.{◌≡◌, ℕ, ℤ, Bool, true, false, List, [], ◌∷◌, map}
 use Rattle.tsp_base.specs.declared.place.PeerId.{PeerId}
 use Rattle.tsp_base.specs.History.{Booted}
@@ -15,24 +15,24 @@ pub record GateConfigValue : Type 0 where
   pub strict : Bool
   pub ports : List PortSetup
 
--- a node can have each of these ports
+-- each of these ports is allowed
 abbrev pub ArePorts : List PortSetup → Type 0
 ArePorts [] = Unit {0}
 ArePorts (s ∷ rest) = IsPortSetup s × ArePorts rest
 
--- a past of a node that is set up so
+-- a past of a node with this configuration
 pub record IsOfNode (c : GateConfigValue) (past : NodePast) : Type 0 where
   pub name : past.name ≡ c.name
   pub may : past.may ≡ c.may
   pub strict : past.strict ≡ c.strict
   pub ports : past.ports ≡ c.ports
 
--- a node that is set up so and boots in this step, with this word and at this wall clock
+-- a node with this configuration boots in this step, with this word and at this wall clock
 pub record UnbootedNode (c : GateConfigValue) (word : ℕ) (wall : ℤ) (past : NodePast) (nobody : Unit {0}) : Type 0 where
   pub cause : past.step.cause ≡ Booted word wall
   pub of : IsOfNode c past
 
--- why a node that is set up so doesn't boot at this wall clock
+-- why a node with this configuration doesn't boot at this wall clock
 abbrev pub GateBootsNot : GateConfigValue → ℤ → BootFault → Type 0
 GateBootsNot c wall Peers = ArePorts c.ports → ⊥
 GateBootsNot c wall Range = ArePorts c.ports × (is_clock_value wall ≡ false)

@@ -1,4 +1,4 @@
--- What a step of a node with several ports is given by its input.
+-- The input of a gateway's step, as the rules have it.
 use Rattle.std.specs.Prelude.{ℕ, ◌<◌}
 use Rattle.tsp_base.specs.declared.datagram.Datagram.TheVariants.{Message}
 use Rattle.tsp_base.specs.declared.datagram.Taken.{Taken}
@@ -8,17 +8,17 @@ use Rattle.tsp_base.specs.declared.input.Input.TheVariants.{Turn, Bytes}
 use Rattle.tsp_codec.specs.Taken.{taken_of}
 use Rattle.tsp_rules.specs.GateRows.{NodeGiven, NodeTurn, GotOn}
 
--- nothing but the time, or octets on a port, as they are read
+-- nothing, or octets on a port, as they are read
 abbrev pub given_on : Input → NodeGiven
 given_on Turn = NodeTurn
 given_on (Bytes port from octets) = GotOn port from (taken_of octets.now)
 
--- octets come on one of so many ports
+-- if the input has octets, they come on one of so many ports
 abbrev pub ComesOn : ℕ → Input → Type 0
 ComesOn ports Turn = Unit {0}
 ComesOn ports (Bytes port from octets) = port.0 < ports
 
--- what was read is no message
+-- what was read isn't a message
 abbrev pub HoldsNoMessage : Taken → Type 0
 HoldsNoMessage (Good (Message m)) = ⊥
 HoldsNoMessage _ = Unit {0}

@@ -1,4 +1,4 @@
--- What a node of several ports stands for.
+-- Which pasts a gateway stands for.
 use Rattle.std.specs.Prelude.{◌≡◌, ℕ, ◌≤◌, false, List, length, None, Some, slice_get}
 use Rattle.tsp_base.specs.declared.place.Port.{Port}
 use Rattle.tsp_base.specs.History.{dids, view}
@@ -14,22 +14,22 @@ use Rattle.tsp_gateway.specs.declared.gateway.Gateway.{Gateway}
 abbrev pub port_at : ℕ → Port
 port_at q = record { 0 = q }
 
--- each port, with the node's clock, is what that port's past comes to
+-- each port's state, with the node's clock, has exactly the facts of that port's past
 abbrev pub PortsStand : NodePast → ClockValue → List Part → Type 0
 PortsStand past clock parts = (q : ℕ) (part : Part) → slice_get parts q ≡ Some part → PartStands (on_port (port_at q) past) (part, clock)
 
--- what a node stands for between its steps
+-- a node stands for this past, between its steps
 pub record GatewayStands (past : NodePast) (g : Gateway) : Type 0 where
   pub many : length g.ports.items ≡ length past.ports
   pub traces : tracing (dids past.lines) ≡ g.tracing
   pub ports : PortsStand past g.clock g.ports.items
 
--- no port's step has taken anything, and no alarm of the ports from this one on has rung or come late in it
+-- nothing was taken in this step, and no alarm of this port or a higher one was handled in it
 pub record TurnsFrom (q : ℕ) (past : NodePast) : Type 0 where
   pub untaken : (r : Port) → taken (view r past.lines) ≡ None
   pub still : (r : Port) → q ≤ r.0 → acting (view r past.lines) ≡ false
 
--- a node in a step in which the ports below this one have had their turn
+-- a node in a step, after the due sends and alarms of the ports below this one
 pub record GatewayTurning (q : ℕ) (past : NodePast) (g : Gateway) : Type 0 where
   pub stands : GatewayStands past g
   pub turns : TurnsFrom q past

@@ -1,4 +1,4 @@
--- What a node that boots is on its ports.
+-- The ports of a node that boots.
 use Rattle.std.specs.Prelude.{◌≡◌, ℕ, ℤ, List, [], ◌∷◌, length, Some, slice_get, slice_index_or}
 use Rattle.tsp_base.specs.declared.act.Act.TheVariants.{Boot}
 use Rattle.tsp_base.specs.History.{Past, Booted}
@@ -12,7 +12,7 @@ use Rattle.tsp_node.specs.declared.part.Part.{Part}
 use Rattle.tsp_node.specs.NodeStands.{PartStands}
 use Rattle.tsp_gateway.specs.GateConfigs.{GateConfigValue}
 
--- who the node is on a port, in a life that begins with this word
+-- who the node is on a port after a boot with this word
 abbrev pub me_on : GateConfigValue → ℕ → PortSetup → Me
 me_on c word s = record { own = s.own; name = c.name; word = word; may = c.may; strict = c.strict }
 

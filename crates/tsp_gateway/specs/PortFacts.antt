@@ -1,4 +1,4 @@
--- What a node asks of its other ports.
+-- Questions of one port about the others.
 use Rattle.std.specs.Prelude.{Bool}
 use Rattle.tsp_base.specs.declared.place.Port.{Port}
 use Rattle.tsp_rules.specs.GateRows.{any_port, follows_on, goes_on, leads_on, lower_ports, other_ports}

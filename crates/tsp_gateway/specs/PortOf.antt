@@ -1,4 +1,4 @@
--- On which port a peer is.
+-- Which port a peer is on.
 use Rattle.std.specs.Prelude.{ℕ, ◌+◌, ◌==◌, ◌&&◌, not, Bool, if◌then◌else◌, List, [], ◌∷◌, map}
 use Rattle.tsp_base.specs.declared.place.PeerId.{PeerId}
 use Rattle.tsp_base.specs.declared.place.Port.{Port}
@@ -8,19 +8,19 @@ use Rattle.tsp_rules.specs.NodeRows.{PortSetup}
 use Rattle.tsp_node.specs.declared.part.Part.{Part}
 use Rattle.tsp_gateway.specs.declared.gateway.Gateway.{Gateway}
 
--- whether a port has p as another's number
+-- whether p is a peer of a port and not the node itself
 abbrev pub has_other : PeerId → PortSetup → Bool
 has_other p s = is_among p s.peers && not (s.own.0 == p.0)
 
--- the lowest of these ports, from a number on, that has p as another's number, and the first port where none has
+-- the lowest of these ports, numbered from this number on, that has p as a peer other than the node itself; the first port where none has
 abbrev pub port_of_from : ℕ → PeerId → List PortSetup → Port
 port_of_from k p [] = first_port
 port_of_from k p (s ∷ rest) = if has_other p s then record { 0 = k } else port_of_from (k + 1) p rest
 
--- the lowest port that has p as another's number, and the first port where none has
+-- the lowest port that has p as a peer other than the node itself; the first port where none has
 abbrev pub port_of : PeerId → List PortSetup → Port
 port_of = port_of_from 0
 
--- how each port is set up
+-- the setup of each port
 abbrev pub setups_in : Gateway → List PortSetup
 setups_in g = map (λ (part : Part). record { own = part.station.me.own; peers = part.station.peers }) g.ports.items

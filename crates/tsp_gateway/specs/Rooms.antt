@@ -1,4 +1,4 @@
--- How much room a step of a node with several ports takes.
+-- How much room a gateway's step takes.
 use Rattle.std.specs.Prelude.{ℕ, ◌+◌, ◌*◌, List, [], ◌∷◌, length, map, slice_index_or}
 use Rattle.tsp_base.specs.declared.place.PeerId.{PeerId}
 use Rattle.tsp_rules.specs.Rooms.{room_for}
@@ -13,12 +13,12 @@ ports_in g = map (λ (part : Part). part.station.peers) g.ports.items
 abbrev pub peers_at : ℕ → List (List PeerId) → ℕ
 peers_at q ports = length (slice_index_or ports q [])
 
--- how many acts a step may take: as many as a node of each port alone, together
+-- how many acts a step may put: the sum over its ports of what a node with that port alone may put
 abbrev pub room_of_ports : List (List PeerId) → ℕ
 room_of_ports [] = 0
 room_of_ports (peers ∷ rest) = room_for (length peers) + room_of_ports rest
 
--- how many acts a port may take when its turn comes, and how many all together
+-- how many acts a port's due sends and alarms may put; and the sum over all ports
 abbrev pub turn_room : ℕ → ℕ
 turn_room peers = 20 * peers + 80
 

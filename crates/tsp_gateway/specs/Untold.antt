@@ -1,4 +1,4 @@
--- A node one of whose ports has corrected its clock, before the other ports are told.
+-- A node one of whose ports has corrected its clock, before the other ports have noted it.
 use Rattle.std.specs.Prelude.{◌≡◌, ◌≢◌, ◌==◌, ℕ, Bool, true, false, not, List, length, None, Some, slice_get}
 use Rattle.tsp_base.specs.declared.place.Port.{Port}
 use Rattle.tsp_base.specs.History.{dids}
@@ -11,11 +11,11 @@ use Rattle.tsp_node.specs.NodeStands.{PartStands, PortStands, PortValue, port_in
 use Rattle.tsp_gateway.specs.declared.gateway.Gateway.{Gateway}
 use Rattle.tsp_gateway.specs.GatewayStands.{port_at}
 
--- what a port is once it is told of a correction at this tick
+-- a port's state once it has noted a correction at this tick
 abbrev pub told : ℕ → Part → ClockValue → PortValue
 told x part clock = record (port_in (part, clock)) { last = record { tick = Some x; taken = None; name = part.last.name } }
 
--- port q stands, and each other port stands once it is told
+-- port q stands for its past, and each other port does so once it has noted the correction
 pub record Untold (q x : ℕ) (past : NodePast) (g : Gateway) : Type 0 where
   pub many : length g.ports.items ≡ length past.ports
   pub traces : tracing (dids past.lines) ≡ g.tracing
@@ -27,7 +27,7 @@ abbrev pub upset_ports : Bool → Port → ℕ → NodePast → List Port
 upset_ports true q x past = ports_from 0 past.ports
 upset_ports false q x past = other_ports q past
 
--- whether a port is one of these
+-- whether a port is one of them
 abbrev pub is_upset : Bool → ℕ → Port → Bool
 is_upset true q r = true
 is_upset false q r = not (r.0 == q)

@@ -1,4 +1,4 @@
-//! How a node of several ports begins a life.
+//! How a gateway boots.
 ghost use Rattle.std.specs.Prelude.{◌≡◌, ◌≤◌, ◌<◌, ◌*◌, ℤ, true, length, [], ◌∷◌, IfOk, IfErr};
 ghost use Rattle.tsp_base.specs.declared.act.Act.TheVariants.{Boot};
 ghost use Rattle.tsp_base.specs.declared.place.PeerId.{PeerId};
@@ -20,7 +20,7 @@ use tsp_base::desk::Desk;
 use tsp_clock::clock::Clock;
 use tsp_node::{BootFault, Part};
 
-/// What a node that boots is on each of its ports. Fails only where memory is refused.
+/// The state of each port of a node that boots. Fails only if out of memory.
 fn parts_of(
     alloc: Global,
     config: &GateConfig,
@@ -39,7 +39,7 @@ fn parts_of(
 }
 
 impl Gateway {
-    /// A node that has put Boot and nothing more, or why it doesn't boot.
+    /// A node right after its Boot, or why it doesn't boot.
     pub(crate) fn new(
         alloc: Global,
         config: &GateConfig,
@@ -72,7 +72,7 @@ impl Gateway {
         })
     }
 
-    /// Begins a life on every port, right after the boot.
+    /// Goes on right after the Boot on every port: Starting, until the quiet time ends.
     pub(crate) fn begin_all<D: Desk>(&mut self, tick: u64, desk: &mut D)
         requires tick { IsTick tick }
         requires room { 2 * length (ports_in self.old) ≤ D.spare desk.old }
@@ -89,7 +89,7 @@ impl Gateway {
         }
     }
 
-    /// Begins a life on a port.
+    /// Goes on right after the Boot on a port.
     fn begin<D: Desk>(&mut self, q: usize, tick: u64, desk: &mut D)
         requires port { q < length (ports_in self.old) }
         requires tick { IsTick tick }

@@ -1,4 +1,4 @@
-//! How a node of several ports is set up.
+//! The configuration of a gateway.
 ghost use Rattle.std.specs.Prelude.{◌≡◌, ◌<◌, ◌≤◌, ◌↔◌, true, length, [], ◌∷◌, ◌++◌};
 ghost use Rattle.std.specs.Prelude.{slice_index_or, IfOk, OnOk, OnErr, IfErr};
 ghost use Rattle.tsp_rules.specs.NodeRows.{PortSetup};
@@ -14,7 +14,7 @@ use tsp_base::name::Name;
 use tsp_base::place::PeerId;
 use tsp_node::is_port;
 
-/// How a port is set up: the node's own number on its network, and all peers there.
+/// The configuration of a port: the node's own number on its network, and all peers there.
 #[derive(Drop)]
 pub struct PortConfig {
     own: PeerId,
@@ -29,8 +29,8 @@ impl Model for PortConfig {
     ghost view = { λ c. record { own = c.own; peers = c.peers.items } };
 }
 
-/// How a node of several ports is set up, for all its lives: its host name, whether it may be master, whether
-/// a candidate needs more than half of a port's peers, and its ports, at most 4, in their order.
+/// The configuration of a gateway, for all its lives: its host name, whether it may be master, whether a
+/// candidate needs more than half of a port's peers to win, and its ports, at most 4, in their order.
 #[derive(Drop)]
 pub struct GateConfig {
     alloc: Global,
@@ -57,7 +57,7 @@ impl Model for GateConfig {
 }
 
 impl GateConfig {
-    /// A node that is set up so, as yet without ports. Fails only where memory is refused.
+    /// A configuration without ports. Fails only if out of memory.
     pub fn new(alloc: Global, name: Name, may: bool, strict: bool) -> Result<GateConfig, AllocError>
         ensures { IfOk result (λ c. c ≡ record {
           name = name;
@@ -76,9 +76,9 @@ impl GateConfig {
         })
     }
 
-    /// Gives it one port more, with its own number and all peers there; whether a node can have
-    /// these is known at its boot. `Full` exactly where 4 ports are there, else `OutOfMemory` only
-    /// where memory is refused; a refusal changes nothing.
+    /// Adds a port, with the node's own number and all peers there. The number must be among the peers, at
+    /// most 1,000 in ascending order; that is checked at the boot. `Full` comes exactly where there are 4
+    /// ports already. Else it fails only if out of memory. A refusal changes nothing.
     pub fn port(&mut self, own: PeerId, peers: &[PeerId]) -> Result<(), PortFault>
         ensures ok { OnOk result ((length self.old.ports < 4)
             × (self.new ≡ record self.old {
@@ -118,8 +118,8 @@ impl GateConfig {
         self.ports[q].peers.as_slice()
     }
 
-    /// Whether a node can have these ports: on each at most 1,000 peers, strictly ascending, its
-    /// own number among them.
+    /// Whether these ports are allowed: on each at most 1,000 peers, strictly ascending, the own
+    /// number among them.
     pub(crate) fn are_ports(&self) -> bool
         ensures value { (result ≡ true) ↔ ArePorts self.now.ports }
         ensures few { length self.now.ports ≤ 4 }
@@ -132,7 +132,7 @@ impl GateConfig {
         true
     }
 
-    /// Who the node is on a port in a life that begins with a word.
+    /// Who the node is on a port after a boot with this word.
     pub(crate) fn me(&self, q: usize, word: u64) -> Me
         requires { q < length self.now.ports }
         ensures { (d : PortSetup)
@@ -155,7 +155,7 @@ impl GateConfig {
 }
 
 impl PortConfig {
-    /// Whether a node can have this port: at most 1,000 peers, strictly ascending, its own number among them.
+    /// Whether this port is allowed: at most 1,000 peers, strictly ascending, the own number among them.
     fn is_port(&self) -> bool
         ensures { (result ≡ true) ↔ IsPortSetup self.now }
     {

@@ -1,4 +1,4 @@
-//! What a correction of a port makes of the others.
+//! What a correction of the clock by one port does to the others.
 ghost use Rattle.std.specs.Prelude.{◌≡◌, ◌≤◌, ◌<◌, ℕ, length};
 ghost use Rattle.tsp_base.specs.Frames.{PutsAtMost};
 ghost use Rattle.tsp_rules.specs.NodePerforms.{PerformsAll};
@@ -10,7 +10,7 @@ ghost use Rattle.tsp_gateway.specs.Untold.{Untold, is_upset, upset_ports};
 use crate::gateway::{Gateway, port_at};
 use tsp_base::desk::Desk;
 
-/// Whether a correction of port `q` ends the round of port `r`: it is another, or the correction ends all.
+/// Whether a correction by port `q` ends the round of port `r`: that is another port, or `whole` is true.
 fn is_upset(whole: bool, q: usize, r: usize) -> bool
     ensures { result ≡ is_upset whole q (port_at r) }
 {
@@ -18,8 +18,8 @@ fn is_upset(whole: bool, q: usize, r: usize) -> bool
 }
 
 impl Gateway {
-    /// Tells the other ports that this one has corrected the clock at this tick, and gives their
-    /// rounds up; where `whole` is true, its own too.
+    /// Notes at the other ports that this one has corrected the clock at this tick, and gives up their
+    /// rounds; where `whole` is true, its own too.
     pub(crate) fn upset<D: Desk>(&mut self, q: usize, whole: bool, tick: u64, desk: &mut D)
         requires room { length (ports_in self.old) ≤ D.spare desk.old }
         ensures row { (x : ℕ)
@@ -34,7 +34,7 @@ impl Gateway {
         self.abandon_each(q, whole, desk);
     }
 
-    /// Tells the other ports that this one has corrected the clock at this tick.
+    /// Notes at the other ports that this one has corrected the clock at this tick.
     fn tell(&mut self, q: usize, tick: u64)
         ensures stands { (past : NodePast) → Untold q tick past self.old
             → GatewayStands past self.new }
@@ -66,7 +66,7 @@ impl Gateway {
         }
     }
 
-    /// Gives up the round of a port, where one goes on.
+    /// Gives up the round of a port, where one is going.
     fn abandon<D: Desk>(&mut self, r: usize, desk: &mut D)
         requires port { r < length (ports_in self.old) }
         requires room { 1 ≤ D.spare desk.old }

@@ -1,14 +1,14 @@
-//! Why a port can't join a node that is set up.
+//! Why a configuration refuses a port.
 
 use thiserror::Error;
 
-/// Why a port can't join a node that is set up; of several causes the first that stands here.
+/// Why a configuration refuses a port. Where several causes apply, it is the first in this list.
 #[derive(Clone, Copy, PartialEq, Eq, Debug, Error)]
 pub enum PortFault {
-    /// 4 ports are there.
+    /// There are 4 ports already.
     #[error("a node has at most 4 ports")]
     Full,
-    /// Memory was refused.
+    /// Out of memory.
     #[error("out of memory")]
     OutOfMemory,
 }

@@ -1,4 +1,4 @@
-//! What a node does with a LOOP that a port took.
+//! What a gateway does with a LOOP that a port took.
 ghost use Rattle.std.specs.Prelude.{◌≡◌, ◌≤◌, ◌<◌, ◌+◌, ℕ, not, length};
 ghost use Rattle.tsp_base.specs.declared.kind.Kind.TheVariants.{Loop};
 ghost use Rattle.tsp_base.specs.declared.datagram.Datagram.TheVariants.{Message as MessageOf};
@@ -27,7 +27,7 @@ fn is_awake(role: Role) -> bool
 }
 
 impl Gateway {
-    /// Whether a port hears this sender: it is another of its peers, and the quiet time is over.
+    /// Whether a port heeds this sender: it is another one of its peers, and the quiet time is over.
     pub(crate) fn hears(&self, q: usize, from: Place) -> bool
         requires { q < length (ports_in self.now) }
         ensures { (x : ℕ) (past : NodePast) → GatewayStands past self.now
@@ -40,8 +40,8 @@ impl Gateway {
         }
     }
 
-    /// Passes a LOOP of another node on, or gives up its lead on a port where one of its own came back; else
-    /// nothing.
+    /// Passes on another node's LOOP, or stops leading on a port where an own one came back, as `judge` of
+    /// `tsp_loop` says.
     pub(crate) fn judge_loop<D: Desk>(&mut self, q: usize, m: &Message, tick: u64, desk: &mut D)
         requires kind { m.now.kind ≡ Loop }
         requires port { q < length (ports_in self.old) }
@@ -69,7 +69,7 @@ impl Gateway {
         self.ports.len() as u8
     }
 
-    /// A port that leads gives its lead up.
+    /// A port that is master stops leading.
     fn give_up<D: Desk>(&mut self, q: usize, tick: u64, desk: &mut D)
         requires port { q < length (ports_in self.old) }
         requires room { 2 ≤ D.spare desk.old }

@@ -14,7 +14,7 @@ use tsp_base::place::Port;
 use tsp_clock::clock::Clock;
 use tsp_node::{BootFault, Part};
 
-/// A node that is up: its clock, whether its trace is on, and what it is on each of its ports, from 1 to 4.
+/// A node that has booted: its clock, whether its trace is on, and the state of each of its 1 to 4 ports.
 #[derive(Drop)]
 pub struct Gateway {
     pub(crate) clock: Clock,
@@ -27,7 +27,7 @@ pub struct Gateway {
 /// The port on which a node boots.
 pub(crate) const FIRST: Port = Port(0);
 
-/// The port in a place.
+/// The port with this number.
 pub(crate) fn port_at(q: usize) -> Port
     requires { q ≤ 4 }
     ensures { result ≡ record { 0 = q } }
@@ -39,11 +39,10 @@ impl Gateway {
     ghost use Rattle.tsp_gateway.specs.GatewayStands.{GatewayStands, clock_at};
     ghost use Rattle.tsp_gateway.specs.Rooms.{ports_in};
 
-    /// Boots a node with a word, at a tick and a wall clock (microseconds): puts Boot, and
-    /// Become(Starting) and Arm(Quiet) on each of its ports. `Peers` exactly where the node can't
-    /// have one of these ports, else `Range` exactly where the wall doesn't lie strictly between
-    /// -2^31 and 2^31 seconds, else `OutOfMemory` only where memory is refused; then nothing is
-    /// put.
+    /// Boots a node with a word, at a tick and a wall clock (microseconds since 1970): puts Boot, and
+    /// Become(Starting) and Arm(Quiet) on each of its ports. `Peers` comes exactly where one of the ports
+    /// isn't allowed, else `Range` exactly where the wall clock isn't strictly between -2^31 and 2^31
+    /// seconds. Else it fails only if out of memory. Where it fails, nothing is put.
     pub fn boot<D: Desk>(
         alloc: Global,
         config: &GateConfig,

@@ -1,4 +1,4 @@
-//! Which of a node's ports steers its clock, and which leads it.
+//! Which of a node's ports steers its clock as a follower, and which leads it as a master.
 ghost use Rattle.std.specs.Prelude.{◌≡◌, ◌≤◌, ◌<◌, ℕ, length};
 ghost use Rattle.tsp_rules.specs.GateRows.{in_charge, leads_clock, steers};
 ghost use Rattle.tsp_rules.specs.NodeRows.{NodePast};
@@ -11,7 +11,7 @@ use crate::gateway::Gateway;
 use tsp_base::alarm::Alarm;
 use tsp_base::role::Role;
 
-/// What is asked of a port.
+/// A question about a port.
 #[derive(Clone, Copy)]
 pub(crate) enum Asked {
     /// Whether it follows a master.
@@ -37,7 +37,7 @@ fn leads(role: Role) -> bool
 }
 
 impl Gateway {
-    /// Whether what is asked is so of a port.
+    /// The answer for one port.
     pub(crate) fn is(&self, q: usize, asked: Asked) -> bool
         requires { q < length (ports_in self.now) }
         ensures { (past : NodePast) → GatewayStands past self.now
@@ -51,7 +51,7 @@ impl Gateway {
         }
     }
 
-    /// Whether what is asked is so of any port below this one.
+    /// Whether the answer is yes for any port below this one.
     pub(crate) fn any_lower(&self, q: usize, asked: Asked) -> bool
         requires { q ≤ length (ports_in self.now) }
         ensures { (past : NodePast) → GatewayStands past self.now
@@ -65,7 +65,7 @@ impl Gateway {
         false
     }
 
-    /// Whether what is asked is so of any other port.
+    /// Whether the answer is yes for any other port.
     pub(crate) fn any_other(&self, q: usize, asked: Asked) -> bool
         requires { q < length (ports_in self.now) }
         ensures { (past : NodePast) → GatewayStands past self.now
@@ -79,7 +79,7 @@ impl Gateway {
         false
     }
 
-    /// Whether a port steers the clock: it is the lowest that follows a master.
+    /// Whether a port steers the clock: it is the lowest that follows a master. Only its master corrects it.
     pub(crate) fn steers(&self, q: usize) -> bool
         requires { q < length (ports_in self.now) }
         ensures { (x : ℕ) (past : NodePast) → GatewayStands past self.now
@@ -88,7 +88,7 @@ impl Gateway {
         self.is(q, Asked::Follows) && !self.any_lower(q, Asked::Follows)
     }
 
-    /// Whether a close of a port moves the clock: no port follows, and no lower one is a master.
+    /// Whether a Close of a port moves the clock: no port follows a master, and no lower one is master.
     pub(crate) fn leads_clock(&self, q: usize) -> bool
         requires { q < length (ports_in self.now) }
         ensures { (x : ℕ) (past : NodePast) → GatewayStands past self.now

@@ -1,16 +1,16 @@
-//! A node on several networks: its clock, and what it is on each of its ports. Steps in, acts out.
+//! A node on 1 to 4 networks: its clock, and the state of each of its ports. Inputs go in, acts come out.
 //!
-//! Here is no socket and no clock of a machine: the caller brings ticks and octets, and does what
+//! There is no socket and no clock of a machine here: the caller brings ticks and octets, and does what
 //! the acts say. In this order:
 //!
 //! 1. Make a [`GateConfig`] with the node's name, and give it each [`port`](GateConfig::port): the
 //!    node's own number there, and all peers, ascending.
-//! 2. [`boot`](Gateway::boot) it at a tick and a wall clock, with a word that no earlier life had.
-//! 3. Before each step make room on the desk: [`room`](Gateway::room) acts at most are put.
+//! 2. [`boot`](Gateway::boot) it at a tick and a wall clock, with a word that no earlier boot had.
+//! 3. Before each step reserve room on the desk: a step puts at most [`room`](Gateway::room) acts.
 //! 4. [`step`](Gateway::step) it with the octets that came on a port, or with `Input::Turn` once
-//!    the tick is [`due`](Gateway::due). Ticks never fall.
-//! 5. Send each `Act::Post` of the desk on its port, and show the others where
-//!    [`tracing`](Gateway::tracing) says so.
+//!    the tick is [`due`](Gateway::due). Ticks must never fall.
+//! 5. Send each `Act::Post` of the desk on its port, and write the acts to the trace where
+//!    [`tracing`](Gateway::tracing) is true.
 //!
 //! ```
 //! let mut config = GateConfig::new(alloc, Name::new(b"alpha"), true, false)?;
@@ -23,8 +23,8 @@
 //! gateway.step(80_000_000, &Input::Turn, &mut desk);
 //! ```
 //!
-//! A step takes no memory and refuses nothing. What it puts is exactly what the rules say for its
-//! past: the clause `row` of each call.
+//! A step allocates no memory and can't fail. It puts exactly the acts that the rules give for its
+//! past: the clause `row` of each call says so.
 #![tactic(auto)]
 
 mod booting;

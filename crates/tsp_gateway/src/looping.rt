@@ -1,4 +1,4 @@
-//! The LOOPs that a node sends.
+//! The LOOPs that a gateway sends.
 ghost use Rattle.std.specs.Prelude.{◌≡◌, ◌≤◌, ◌<◌, ◌++◌, ℕ, length, map};
 ghost use Rattle.tsp_base.specs.Frames.{PutsAtMost};
 ghost use Rattle.tsp_base.specs.Rows.{others, placed};
@@ -35,8 +35,7 @@ pub(crate) fn repost<D: Desk>(station: &Station, message: &Message, port: Port, 
 }
 
 impl Gateway {
-    /// A LOOP sets out to each other peer of a port, with the port's number, the node's name and
-    /// all its hops.
+    /// Posts a LOOP to each other peer of a port, with the port's number, the node's name and `HOPS` hops.
     pub(crate) fn send_loops<D: Desk>(&self, q: usize, desk: &mut D)
         requires port { q < length (ports_in self.now) }
         requires room { peers_at q (ports_in self.now) ≤ D.spare desk.old }

@@ -1,4 +1,4 @@
-//! What is read of a node from outside.
+//! What a caller can read of a gateway.
 ghost use Rattle.std.specs.Prelude.{◌≡◌, ◌<◌, length};
 ghost use Rattle.tsp_base.specs.Frames.{IsTick};
 ghost use Rattle.tsp_base.specs.History.{dids};
@@ -19,7 +19,7 @@ impl Gateway {
     ghost use Rattle.tsp_gateway.specs.PortOf.{setups_in};
     ghost use Rattle.tsp_gateway.specs.Rooms.{ports_in, room_of_ports};
 
-    /// How many acts a step may take: room for so many is to be on the desk.
+    /// How many acts a step may put: the desk must have room for so many.
     pub fn room(&self) -> usize
         ensures { result ≡ room_of_ports (ports_in self.now) }
     {
@@ -30,8 +30,8 @@ impl Gateway {
         room
     }
 
-    /// When it is to be looked at next, in its own ticks: the earliest deadline of an armed alarm or an open
-    /// send of any port, which may lie in the past; `u64::MAX` where there is none.
+    /// The tick at which the node needs its next step, if nothing comes before: the earliest deadline of an armed
+    /// alarm or an open send of any port, which may be in the past; `u64::MAX` where there is none.
     pub fn due(&self) -> u64
         ensures past { (past : NodePast) → GatewayStands past self.now → IsNodeDue past result }
     {
@@ -54,7 +54,7 @@ impl Gateway {
         self.tracing
     }
 
-    /// The lowest port that has a peer other than as its own number, and port 0 where none has it.
+    /// The lowest port that has this peer, other than as the node itself; port 0 where none has.
     pub fn port_of(&self, p: PeerId) -> Port
         ensures value { result ≡ port_of p (setups_in self.now) }
         ensures past { (past : NodePast) → GatewayStands past self.now
@@ -64,7 +64,7 @@ impl Gateway {
         self.place_of(p)
     }
 
-    /// The same, by what the node keeps of its ports.
+    /// The same, from the states of the ports.
     fn place_of(&self, p: PeerId) -> Port
         ensures value { result ≡ port_of p (setups_in self.now) }
         ensures inside { result.0 < length (ports_in self.now) }

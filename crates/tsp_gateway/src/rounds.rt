@@ -1,4 +1,4 @@
-//! The alarms of a port's round, which other ports of its node feel.
+//! The alarms of a port's round, which affect the other ports of its node.
 ghost use Rattle.std.specs.Prelude.{◌≡◌, ℕ, ◌≤◌, ◌<◌, ◌+◌, ◌*◌, ◌&&◌, nat_le, not, true, false};
 ghost use Rattle.std.specs.Prelude.{length, Some, is_some, slice_get};
 ghost use Rattle.tsp_base.specs.declared.alarm.Alarm.TheVariants.{Close, Probe, Round};
@@ -19,7 +19,7 @@ use tsp_base::alarm::Alarm;
 use tsp_base::alarms::Alarms;
 use tsp_base::desk::Desk;
 
-/// Whether a round goes on that has no probe more to come.
+/// Whether a round is going, and its last Probe is over.
 fn asks_no_more(alarms: &Alarms) -> bool
     ensures { result ≡ (is_some (deadline alarms.now Close) && not
         (is_some (deadline alarms.now Probe))) }
@@ -28,8 +28,8 @@ fn asks_no_more(alarms: &Alarms) -> bool
 }
 
 impl Gateway {
-    /// Handles a port's Probe where it is due; after the last one of a round a LOOP sets out to
-    /// each other peer, where the node has several ports.
+    /// Handles a port's Probe where it is due. Where the node has several ports, it posts a LOOP to each
+    /// other peer of the port after the last Probe of a round.
     pub(crate) fn probe<D: Desk>(&mut self, q: usize, tick: u64, desk: &mut D)
         requires port { q < length (ports_in self.old) }
         requires room { 3 * peers_at q (ports_in self.old) + 16 ≤ D.spare desk.old }
@@ -52,7 +52,7 @@ impl Gateway {
         }
     }
 
-    /// Whether a port's Probe rings: it is due, and not late.
+    /// Whether a port's Probe is due and in time.
     fn probe_rings(&self, q: usize, tick: u64) -> bool
         requires { q < length (ports_in self.now) }
         ensures { (past : NodePast) → GatewayStands past self.now
@@ -63,7 +63,7 @@ impl Gateway {
         station.is_due(Alarm::Probe, tick) && station.is_in_time(Alarm::Probe, tick)
     }
 
-    /// Whether a port's round has no probe more to come, at a node of several ports.
+    /// Whether the last Probe of a port's round is over, at a node of several ports.
     fn ends_probes(&self, q: usize) -> bool
         requires { q < length (ports_in self.now) }
         ensures { (past : NodePast) → GatewayStands past self.now
@@ -92,8 +92,8 @@ impl Gateway {
         let _ = self.ports[q].ring(clock, Alarm::Probe, true, false, tick, port_at(q), desk);
     }
 
-    /// Handles a port's Close where it is due: it moves the clock where the port leads it, and
-    /// where it does the rounds of the other ports are given up. It comes after the port's Probe.
+    /// Handles a port's Close where it is due: it moves the clock where the port leads it, and then the
+    /// rounds of the other ports are given up. The caller handles a due Probe before.
     pub(crate) fn close<D: Desk>(&mut self, q: usize, tick: u64, desk: &mut D)
         requires port { q < length (ports_in self.old) }
         requires room { 2 * peers_at q (ports_in self.old) + 16 ≤ D.spare desk.old }
@@ -116,7 +116,7 @@ impl Gateway {
         }
     }
 
-    /// Handles a port's Round where it is due: it waits while another port has a round going.
+    /// Handles a port's Round where it is due: it is put off while another port has a round going.
     pub(crate) fn begin_round<D: Desk>(&mut self, q: usize, tick: u64, desk: &mut D)
         requires port { q < length (ports_in self.old) }
         requires room { 2 * peers_at q (ports_in self.old) + 16 ≤ D.spare desk.old }

@@ -1,4 +1,4 @@
-//! The steps of a node that is up.
+//! The steps of a node that has booted.
 ghost use Rattle.std.specs.Prelude.{◌≡◌, ◌≤◌, ◌<◌, length};
 ghost use Rattle.tsp_base.specs.Frames.{IsTick, PutsAtMost};
 ghost use Rattle.tsp_rules.specs.GateRows.{GotOn, NodeTurn, answers_all};
@@ -16,8 +16,8 @@ impl Gateway {
     ghost use Rattle.tsp_gateway.specs.GatewayStands.{GatewayBegun, GatewayStands, clock_at};
     ghost use Rattle.tsp_gateway.specs.Rooms.{ports_in, room_of_ports};
 
-    /// A step with an input on one of its ports: its timers are looked at, and what octets it
-    /// brings are read and taken.
+    /// A step: due sends and alarms of every port are handled, and then the input's octets are read and
+    /// taken. Their port must be one of the node's, and the tick not before that of an earlier step.
     pub fn step<D: Desk>(&mut self, tick: u64, input: &Input, desk: &mut D)
         requires port { ComesOn (length (ports_in self.old)) input.now }
         requires room { room_of_ports (ports_in self.old) ≤ D.spare desk.old }
@@ -42,7 +42,7 @@ impl Gateway {
         }
     }
 
-    /// A step in which only its timers are looked at.
+    /// A step without octets: due sends and alarms are handled.
     pub fn turn<D: Desk>(&mut self, tick: u64, desk: &mut D)
         requires room { room_of_ports (ports_in self.old) ≤ D.spare desk.old }
         requires tick { IsTick tick }
@@ -57,7 +57,7 @@ impl Gateway {
         self.turn_ports(tick, desk);
     }
 
-    /// A step that takes octets from somebody on one of its ports, as they were read.
+    /// A step that also takes, on one of the node's ports, what was read of octets from `from`.
     pub fn take<D: Desk>(&mut self, tick: u64, port: Port, from: Place, taken: &Taken, desk: &mut D)
         requires port { port.0 < length (ports_in self.old) }
         requires room { room_of_ports (ports_in self.old) ≤ D.spare desk.old }

@@ -1,4 +1,4 @@
-//! What a node takes on one of its ports.
+//! What a gateway does with octets that it takes on one of its ports.
 ghost use Rattle.std.specs.Prelude.{◌≡◌, ◌≢◌, ◌≤◌, ◌<◌, ◌+◌, ◌*◌, true, length};
 ghost use Rattle.tsp_base.specs.declared.act.Act.TheVariants.{Took};
 ghost use Rattle.tsp_base.specs.declared.datagram.Datagram.TheVariants.{Message as MessageOf};
@@ -23,7 +23,7 @@ use tsp_base::message::Message;
 use tsp_base::place::Place;
 
 impl Gateway {
-    /// Takes octets from somebody on a port, as they were read.
+    /// Takes, on a port, what was read of octets from `from`.
     pub(crate) fn take_in<D: Desk>(
         &mut self,
         tick: u64,
@@ -53,8 +53,8 @@ impl Gateway {
         }
     }
 
-    /// Takes a message that is no LOOP. Where that corrects the clock, the rounds of the other
-    /// ports are given up; where it was a date, the port's own too.
+    /// Takes a message that isn't a LOOP. Where that corrects the clock, the rounds of the other ports are
+    /// given up; where it was a date, the port's own too.
     fn take_message<D: Desk>(
         &mut self,
         tick: u64,
@@ -125,7 +125,7 @@ impl Gateway {
         }
     }
 
-    /// Notes that octets were taken, and does nothing with them.
+    /// Puts the Took of octets, and does nothing else with them.
     fn note<D: Desk>(&mut self, tick: u64, q: usize, from: Place, taken: &Taken, desk: &mut D)
         requires port { q < length (ports_in self.old) }
         requires room { 1 ≤ D.spare desk.old }
@@ -140,7 +140,7 @@ impl Gateway {
         desk.put(port_at(q), Act::Took(from, taken.copy()));
     }
 
-    /// Takes octets that spell no message, or nothing: they don't correct the clock.
+    /// Takes octets that aren't a message: a stamp, or no datagram. They don't correct the clock.
     fn take_other<D: Desk>(&mut self, tick: u64, q: usize, from: Place, taken: &Taken, desk: &mut D)
         requires other { HoldsNoMessage taken.now }
         requires port { q < length (ports_in self.old) }

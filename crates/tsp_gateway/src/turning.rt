@@ -14,7 +14,7 @@ use tsp_base::alarm::Alarm;
 use tsp_base::desk::Desk;
 
 impl Gateway {
-    /// Repeats the due sends and then handles the due alarms of every port, port by port.
+    /// For every port in turn: repeats its due sends, and then handles its due alarms.
     pub(crate) fn turn_ports<D: Desk>(&mut self, tick: u64, desk: &mut D)
         requires room { room_of_ports (ports_in self.old) ≤ D.spare desk.old }
         requires tick { IsTick tick }
@@ -71,7 +71,7 @@ impl Gateway {
         self.ports[q].sends(tick, port_at(q), desk);
     }
 
-    /// Handles one alarm of a port that is due and is none of a round.
+    /// Handles one alarm of a port where it is due. It isn't a Probe, a Close or a Round.
     fn ring<D: Desk>(&mut self, q: usize, alarm: Alarm, tick: u64, desk: &mut D)
         requires alarm { is_of_round alarm ≡ false }
         requires port { q < length (ports_in self.old) }

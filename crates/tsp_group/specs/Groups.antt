@@ -20,7 +20,7 @@ total values = fold ◌+ℤ◌ (pos 0) values
 unfoldable pub group_from : ℕ → List ℤ → ℤ → Group
 group_from span values lo = record { lo = lo; width = fold int_max lo (members span values lo) -ℤ lo; count = length (members span values lo); sum = total (members span values lo) }
 
--- whether g goes before h: more members, then the lesser width, then the lesser magnitude of lo, then the lesser lo
+-- whether g is better than h: more members, then the lesser width, then the lesser magnitude of lo, then the lesser lo
 unfoldable pub goes_before : Group → Group → Bool
 goes_before g h =
     if g.count == h.count
@@ -29,11 +29,11 @@ goes_before g h =
     else nat_lt (unsigned_abs g.width) (unsigned_abs h.width))
     else nat_lt h.count g.count
 
--- the one of two groups that goes before the other
+-- the better of two groups
 unfoldable pub better : Group → Group → Group
 better g h = if goes_before h g then h else g
 
--- a group without members, which goes before no other
+-- a group without members, which is worse than any other
 abbrev pub no_group : Group
 no_group = record { lo = pos 0; width = pos 0; count = 0; sum = pos 0 }
 
@@ -45,7 +45,7 @@ try_lo span values best lo = better best (group_from span values lo)
 abbrev pub group_of : ℕ → List ℤ → Group
 group_of span values = fold (try_lo span values) no_group values
 
--- g is the group of one of the values, and no other value's goes before it
+-- g is the group from one of the values on, and that of no other value is better
 pub record IsLargest (span : ℕ) (values : List ℤ) (g : Group) : Type 0 where
   pub from : Contains values g.lo
   pub whole : g ≡ group_from span values g.lo
@@ -60,12 +60,12 @@ floor_div (negsuc a) n = negsuc (a / n)
 abbrev pub mean_of : Group → ℤ
 mean_of g = floor_div g.sum g.count
 
--- a group has a member, and the sum of as many near values
+-- a group has at least one member, and its sum is less than 2 ^ 30 seconds for each member, so that it has a mean
 pub record HasMean (g : Group) : Type 0 where
   pub some : 0 < g.count
   pub near : unsigned_abs g.sum < g.count * 1073741824000000
 
--- x and y are at most n apart
+-- x and y differ by at most n
 pub record IsWithin (n : ℕ) (x y : ℤ) : Type 0 where
   pub low : x ≤ℤ (y +ℤ pos n)
   pub high : y ≤ℤ (x +ℤ pos n)

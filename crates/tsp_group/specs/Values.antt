@@ -13,11 +13,11 @@ pub record IsNear (x : ℤ) : Type 0 where
   pub low : negsuc 1073741823999998 ≤ℤ x
   pub high : x ≤ℤ pos 1073741823999999
 
--- no value stands before a lesser one
+-- no value comes before a lesser one
 abbrev pub IsAscending : List ℤ → Type 0
 IsAscending xs = (i j : ℕ) → i ≤ j → j < length xs → slice_index_or xs i (pos 0) ≤ℤ slice_index_or xs j (pos 0)
 
--- each value is near, and they fit into the room
+-- each value is one that is averaged, and there are no more than the room
 pub record IsValues (items : List ℤ) (room : ℕ) : Type 0 where
   pub near : All IsNear items
   pub short : length items ≤ room

@@ -3,7 +3,7 @@ ghost use Rattle.std.specs.Prelude.{◌≡◌, ◌-ℤ◌};
 ghost use Rattle.tsp_group.specs.Groups.{goes_before, better, no_group, mean_of, HasMean};
 ghost use Rattle.tsp_group.specs.Values.{IsNear};
 
-/// The values from `lo` to `lo` plus a span, in microseconds.
+/// The group of the values from `lo` to `lo` plus a span, in microseconds.
 #[derive(Clone, Copy, PartialEq, Eq, Debug)]
 pub struct Group {
     /// The least member.
@@ -17,7 +17,7 @@ pub struct Group {
 }
 
 impl Group {
-    /// A group without members, which goes before no other.
+    /// A group without members, which is worse than any other.
     pub(crate) const NONE: Group = Group {
         lo: 0,
         width: 0,
@@ -25,8 +25,8 @@ impl Group {
         sum: 0,
     };
 
-    /// Whether this group has more members than the other, or as many and the lesser width, then
-    /// the lesser magnitude of `lo`, then the lesser `lo`.
+    /// Whether this group is the better one: the one with more members; of equal ones that of lesser width,
+    /// then of lesser magnitude of `lo`, then of lesser `lo`.
     #[tactic(auto, unfolding(crate::specs::Groups::goes_before))]
     pub(crate) fn goes_before(&self, other: &Group) -> bool
         ensures { result ≡ goes_before self.now other.now }
@@ -45,7 +45,7 @@ impl Group {
         self.lo < other.lo
     }
 
-    /// The one of two groups that goes before the other.
+    /// The better of two groups.
     #[tactic(auto, unfolding(crate::specs::Groups::better))]
     pub(crate) fn better(self, other: Group) -> Group
         ensures { result ≡ better self other }
@@ -66,8 +66,8 @@ pub fn mean(g: &Group) -> i64
     g.sum.div_euclid(i128::from(g.count)) as i64
 }
 
-/// What brings a clock that differs by `diff` to the mean, in microseconds, both of less than 2^30
-/// seconds.
+/// The correction, in microseconds, that takes a clock with the difference `diff` to the mean. Both have a
+/// magnitude of less than 2^30 seconds.
 pub fn correction(mean: i64, diff: i64) -> i64
     requires mean { IsNear mean }
     requires diff { IsNear diff }

@@ -1,8 +1,8 @@
-//! The averaging: a largest set of clocks that agree, and its mean.
+//! The averaging: the largest set of clocks that agree, and its mean (as in the TEMPO method of timed).
 //!
-//! A caller adds each clock's difference to [`Values`], its own 0 among them, asks for the
-//! [`largest`] group within a span, and then for its [`mean`] and each clock's [`correction`]. All
-//! are microseconds:
+//! A caller adds to [`Values`] how far each clock is ahead of its own, and 0 for its own, asks for the
+//! [`largest`] group of clocks within a span, and then for its [`mean`] and each clock's [`correction`].
+//! All are microseconds:
 //!
 //! ```
 //! let mut values = Values::new(alloc, 4)?;
@@ -14,7 +14,7 @@
 //! assert_eq!(correction(433, 900), -467);
 //! ```
 //!
-//! One sort, and then each value is looked at twice at most.
+//! It takes one sort; then each value is looked at twice at most.
 #![tactic(auto)]
 
 mod group;

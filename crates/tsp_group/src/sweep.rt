@@ -12,9 +12,9 @@ use crate::group::Group;
 use crate::values::Values;
 use crate::window::Window;
 
-/// Moves the window on by a value, and gives the best group so far.
+/// Moves the window's end on by one value, and gives the best group so far.
 ///
-/// It never grows shorter: a group of fewer members than the best one is no better.
+/// The window never gets shorter, since a group of fewer members than the best one can't be better.
 fn advance(window: &mut Window, values: &mut Values, span: u64, best: Group) -> Group
     requires window { IsWindow values.old.items window.old }
     requires some { window.old.end < length values.old.items }
@@ -58,10 +58,10 @@ fn largest_sorted(values: &mut Values, span: u64) -> Group
     best
 }
 
-/// The largest group of the values that lie within a span, in microseconds, of their least.
+/// The largest group of values of which none is more than `span` microseconds above the least.
 ///
-/// Of two groups as large the lesser width decides, then the lesser magnitude of `lo`, then the
-/// lesser `lo`. Afterwards the list holds the same values, in another order.
+/// Of groups with as many members it is that of lesser width, then of lesser magnitude of `lo`, then of
+/// lesser `lo`. Afterwards the list has the same values, maybe in another order.
 pub fn largest(values: &mut Values, span: u64) -> Group
     requires some { 0 < length values.old.items }
     requires span { span ≤ 2 ^ 31 }

@@ -10,7 +10,7 @@ use std::marker::Model;
 
 /// Differences in microseconds, at most as many as its room, with a count of the looks at them.
 ///
-/// Nothing but [`Values::look`] tells a value, so the looks say what a computation over them cost.
+/// A value can be read by [`Values::look`] alone, so the count says what a computation over them cost.
 #[derive(Drop)]
 pub struct Values {
     items: Vec<i64>,
@@ -30,9 +30,9 @@ impl Model for Values {
 }
 
 impl Values {
-    /// The empty list with room for so many values, which no call has looked at.
+    /// An empty list with room for so many values, and no look counted yet.
     ///
-    /// Fails only where memory is refused; no later call takes any.
+    /// Fails only if out of memory. No later call allocates any.
     pub fn new(alloc: Global, room: usize) -> Result<Values, AllocError>
         requires { room < 2 ^ 32 }
         ensures { IfOk result (λ v. v ≡ record { items = []; room = room; looks = 0 }) }
@@ -54,7 +54,7 @@ impl Values {
         let _ = self.items.push(diff);
     }
 
-    /// Empties the list, and keeps its room and its count of looks.
+    /// Empties the list. Its room and its count of looks are unchanged.
     pub fn clear(&mut self)
         ensures { self.new ≡ record self.old { items = [] } }
     {

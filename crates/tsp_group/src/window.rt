@@ -8,7 +8,7 @@ ghost use Rattle.tsp_group.specs.Windows.{IsSmallSum, IsWindow, Moves};
 use crate::group::Group;
 use crate::values::Values;
 
-/// Values that stand together in the sorted list, as many as the largest group has so far.
+/// Adjacent values of the sorted list, as many as the largest group has so far.
 #[derive(Drop)]
 pub(crate) struct Window {
     /// The place of the first value.
@@ -51,7 +51,7 @@ impl Window {
         value - self.lo <= span as i64
     }
 
-    /// Takes in the value at its end.
+    /// Adds the value at its end.
     fn admit(&mut self, value: i64)
         requires fits { IsSmallSum self.old.sum }
         requires small { self.old.end < 2 ^ 32 }
@@ -65,7 +65,7 @@ impl Window {
         self.sum += i128::from(value);
     }
 
-    /// Lets the first value go.
+    /// Drops the first value.
     fn leave(&mut self, values: &mut Values)
         requires some { self.old.first + 1 < length values.old.items }
         requires small { self.old.first < 2 ^ 32 }
@@ -86,8 +86,8 @@ impl Window {
         self.lo = values.look(self.first);
     }
 
-    /// Takes in the value at its end, which it gives, and lets the first one go if that value lies
-    /// beyond the span.
+    /// Adds the value at its end, which it gives, and drops the first one if that value is more than the
+    /// span above it.
     pub(crate) fn slide(&mut self, values: &mut Values, span: u64) -> i64
         requires window { IsWindow values.old.items self.old }
         requires some { self.old.end < length values.old.items }

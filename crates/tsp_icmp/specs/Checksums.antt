@@ -1,4 +1,4 @@
--- The checksum of the Internet's messages (RFC 1071).
+-- The checksum of Internet messages (RFC 1071).
 use Rattle.std.specs.Prelude.{ℕ, ◌+◌, ◌-◌, ◌*◌, ◌/◌, ◌%◌, List, [], ◌∷◌}
 use Rattle.std.specs.List.{fold}
 

@@ -1,4 +1,4 @@
--- The octets of a Timestamp message (RFC 792), and why octets are none.
+-- The octets of a Timestamp message (RFC 792), and why octets aren't one.
 use Rattle.std.specs.Prelude.{◌≢◌, ℕ, ◌<◌, ◌^◌, List, [], ◌∷◌, ◌++◌, length, take, drop, slice_index_or, slice_range, Bool, true, false}
 use Rattle.std.specs.Int.{w16, w32, to_be_bytes}
 use Rattle.tsp_icmp.specs.Checksums.{checksum}
@@ -15,15 +15,15 @@ type_of true = 14
 abbrev pub head_octets : Timestamp → List ℕ
 head_octets t = type_of t.reply ∷ 0 ∷ []
 
--- what stands behind the checksum
+-- what follows the checksum
 abbrev pub body_octets : Timestamp → List ℕ
 body_octets t = to_be_bytes w16 t.ident ++ to_be_bytes w16 t.seq ++ to_be_bytes w32 t.originate ++ to_be_bytes w32 t.receive ++ to_be_bytes w32 t.transmit
 
--- the 20 octets of a message; its checksum is taken with zeros in its own place
+-- the 20 octets of a message; its checksum is computed with zeros in its own place
 abbrev pub icmp_octets : Timestamp → List ℕ
 icmp_octets t = head_octets t ++ to_be_bytes w16 (checksum (head_octets t ++ 0 ∷ 0 ∷ body_octets t)) ++ body_octets t
 
--- the numbers are in their ranges, as they are in each message of the program
+-- the numbers are in their ranges: so they are in each message that the program can hold
 pub record IsTimestamp (t : Timestamp) : Type 0 where
   pub ident : t.ident < 2 ^ 16
   pub seq : t.seq < 2 ^ 16
@@ -46,14 +46,14 @@ Applies octets Kind = (octet octets 0 ≢ 13) × (octet octets 0 ≢ 14)
 Applies octets Code = octet octets 1 ≢ 0
 Applies octets Checksum = slice_range octets 2 4 ≢ to_be_bytes w16 (checksum (without_checksum octets))
 
--- the place of a fault in the order of refusal
+-- the place of a fault in the order in which faults are looked for
 abbrev pub rank : IcmpFault → ℕ
 rank Length = 0
 rank Kind = 1
 rank Code = 2
 rank Checksum = 3
 
--- the octets have this fault, and none that stands before it
+-- the octets have this fault, and none before it in the order
 pub record IsFault (octets : List ℕ) (fault : IcmpFault) : Type 0 where
   pub applies : Applies octets fault
   pub first : (earlier : IcmpFault) → rank earlier < rank fault → ¬ Applies octets earlier

@@ -1,4 +1,4 @@
-//! The checksum of the Internet's messages (RFC 1071).
+//! The checksum of Internet messages (RFC 1071).
 ghost use Rattle.std.specs.Prelude.{◌≡◌, ◌+◌, ◌-◌, ◌<◌, ◌^◌, fold};
 ghost use Rattle.tsp_icmp.specs.Checksums.{ones_sum, words, checksum};
 

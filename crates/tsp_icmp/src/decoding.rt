@@ -13,7 +13,7 @@ use crate::timestamp::{IcmpFault, Timestamp};
 /// The length of a message, in octets.
 const SIZE: usize = 20;
 
-/// The number of the two octets at a place.
+/// The number of the two octets at a place, in network order.
 fn u16_at(octets: &[u8], place: usize) -> u16
     requires { place + 2 ≤ length octets.now }
     ensures { result ≡ from_be_bytes w16 (octet octets.now place ∷ octet octets.now
@@ -22,7 +22,7 @@ fn u16_at(octets: &[u8], place: usize) -> u16
     u16::from_be_bytes([octets[place], octets[place + 1]])
 }
 
-/// The number of the four octets at a place.
+/// The number of the four octets at a place, in network order.
 fn u32_at(octets: &[u8], place: usize) -> u32
     requires { place + 4 ≤ length octets.now }
     ensures { result ≡ from_be_bytes w32 (octet octets.now place ∷ octet octets.now
@@ -36,7 +36,7 @@ fn u32_at(octets: &[u8], place: usize) -> u32
     ])
 }
 
-/// The checksum that these octets are to have.
+/// The checksum that these octets should have.
 fn right_checksum(octets: &[u8]) -> u16
     requires { length octets.now ≡ 20 }
     ensures { result ≡ checksum (without_checksum octets.now) }
@@ -48,7 +48,8 @@ fn right_checksum(octets: &[u8]) -> u16
     checksum(&blank)
 }
 
-/// The message, or the first fault; the clauses of `icmp_decode` but for its being the only answer.
+/// The message, or the first fault: `icmp_decode`, without the clauses that say that this answer is the only
+/// one.
 fn first_reading(octets: &[u8]) -> Result<Timestamp, IcmpFault>
     ensures { MatchResult result (λ t. IsTimestamp t × (octets.now ≡ icmp_octets t))
         (λ fault. IsFault octets.now fault) }
@@ -77,8 +78,8 @@ fn first_reading(octets: &[u8]) -> Result<Timestamp, IcmpFault>
     })
 }
 
-/// The message that the octets are. Where they are none, the first of their faults, in the order in
-/// which `IcmpFault` lists them.
+/// The message that these octets are, from the ICMP type on, without the IP header. Where they aren't one,
+/// the answer is the first of their faults, in the order of `IcmpFault`.
 pub fn icmp_decode(octets: &[u8]) -> Result<Timestamp, IcmpFault>
     ensures reads { MatchResult result (λ t. IsTimestamp t × (octets.now ≡ icmp_octets t))
         (λ fault. IsFault octets.now fault) }

@@ -1,4 +1,4 @@
-//! What an exchange says of another clock.
+//! How far another clock is ahead, by an exchange of Timestamp messages.
 ghost use Rattle.std.specs.Prelude.{◌≡◌, ◌<◌, ◌≤ℤ◌, ◌↔◌, IsTrue, IfSome, pos};
 ghost use Rattle.tsp_icmp.specs.Days.{trip_of, shift_of, half_down, half_up, difference_of, IsAtMost, Dayside};
 
@@ -8,14 +8,15 @@ const DAY: u32 = 86_400_000;
 /// The milliseconds of half a day.
 const HALF_DAY: u32 = 43_200_000;
 
-/// Whether a stamp is a time: milliseconds since midnight UT, below 86,400,000.
+/// Whether a stamp is a standard time: milliseconds since midnight UT, below 86,400,000. (RFC 792 sets the
+/// highest bit of any other.)
 pub fn standard(v: u32) -> bool
     ensures { IsTrue result ↔ (v < 86400000) }
 {
     v < DAY
 }
 
-/// From `early` to `late`, in milliseconds of a day, where midnight may lie between.
+/// From `early` to `late`, in milliseconds, where midnight may be between them.
 pub fn trip(early: u32, late: u32) -> u32
     requires early { early < 86400000 }
     requires late { late < 86400000 }
@@ -25,7 +26,7 @@ pub fn trip(early: u32, late: u32) -> u32
     (late + DAY - early) % DAY
 }
 
-/// How far `r` lies ahead of `o`, in milliseconds, from minus half a day up to half a day.
+/// How far `r` is ahead of `o`, in milliseconds, from minus half a day to less than half a day.
 fn shift(o: u32, r: u32) -> i64
     requires o { o < 86400000 }
     requires r { r < 86400000 }
@@ -34,10 +35,10 @@ fn shift(o: u32, r: u32) -> i64
     i64::from((r + DAY + HALF_DAY - o) % DAY) - i64::from(HALF_DAY)
 }
 
-/// How far another clock stands ahead, and by how much that may be wrong, both in milliseconds.
+/// How far another clock is ahead, and by how much that may be wrong, both in milliseconds.
 ///
-/// The request was sent at `o`, and its reply came at `d`, by the asking clock; the other clock read
-/// `r` between. All three are milliseconds since midnight UT, and midnight may lie between them. None
+/// The request was sent at `o`, and its reply came at `d`, by the own clock; the other clock read `r` in
+/// between. All three are milliseconds since midnight UT, and midnight may be between them. None comes
 /// exactly where the reply came half a day or more after the request.
 pub fn difference(o: u32, r: u32, d: u32) -> Option<(i64, i64)>
     requires o { o < 86400000 }

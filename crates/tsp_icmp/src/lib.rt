@@ -1,6 +1,15 @@
-//! The Timestamp message of ICMP (RFC 792): its octets, and what an exchange of two says of another clock.
+//! The Timestamp message of ICMP (RFC 792), by which 4.3BSD's timed measured clocks: its octets, and how
+//! far another clock is ahead by a request and its reply.
 //!
-//! Nothing is sent here, and no call takes memory.
+//! Nothing is sent here, and no call allocates memory. A caller writes a request by [`icmp_encode`], reads
+//! the reply by [`icmp_decode`], and computes the difference in milliseconds:
+//!
+//! ```
+//! // The request was sent at 1000, its reply came at 1020, and the other clock read 1015 in between.
+//! assert!(standard(1000) && standard(1015));
+//! assert_eq!(trip(1000, 1020), 20);
+//! assert_eq!(difference(1000, 1015, 1020), Some((5, 11)));
+//! ```
 #![tactic(auto)]
 
 mod checksum;

@@ -1,9 +1,9 @@
-//! The Timestamp message, and why octets are none.
+//! The Timestamp message, and why octets aren't one.
 use thiserror::Error;
 
 /// A Timestamp message of ICMP, or the reply to one (RFC 792).
 ///
-/// The three stamps are milliseconds since midnight UT. One whose high bit is set is no such time.
+/// The three stamps are milliseconds since midnight UT. One whose highest bit is set is not such a time.
 #[derive(Clone, Copy, PartialEq, Eq, Debug)]
 pub struct Timestamp {
     /// Whether this is the reply.
@@ -20,10 +20,10 @@ pub struct Timestamp {
     pub transmit: u32,
 }
 
-/// Why octets are no Timestamp message; of several causes the first that stands here.
+/// Why octets aren't a Timestamp message. Where several causes apply, it is the first in this list.
 #[derive(Clone, Copy, PartialEq, Eq, Debug, Error)]
 pub enum IcmpFault {
-    /// There aren't 20 octets.
+    /// The octets aren't 20.
     #[error("length")]
     Length,
     /// The type is neither 13 nor 14.
@@ -32,7 +32,7 @@ pub enum IcmpFault {
     /// The code isn't 0.
     #[error("code")]
     Code,
-    /// The checksum is another.
+    /// The checksum is wrong.
     #[error("checksum")]
     Checksum,
 }

@@ -22,16 +22,16 @@ pub record BestValue : Type 0 where
 abbrev pub is_same_clock : BestValue → BestValue → Bool
 is_same_clock a b = bytes_eq a.name b.name
 
--- of two differences of one clock the one of lesser trip, and the earlier where they are equal; else the earlier
+-- of two differences of one clock the one with the shorter round trip, and the earlier where they are equal; of different clocks the earlier
 abbrev pub better : BestValue → BestValue → BestValue
 better earlier later = if is_same_clock earlier later && nat_lt later.trip earlier.trip then later else earlier
 
--- each clock's first difference of least trip, in the order of the clocks' first differences
+-- each clock's difference with the shortest round trip, the first of them, in the order of the clocks' first differences
 abbrev pub bests : List BestValue → List BestValue
 bests [] = []
 bests (first ∷ later) = fold better first later ∷ filter (λ b. not (is_same_clock first b)) (bests later)
 
--- the clock's earlier differences took a greater trip, and its later ones no lesser
+-- the clock's earlier differences took a longer round trip, and its later ones one at least as long
 pub record IsBestOf (all : List BestValue) (b : BestValue) : Type 0 where
   pub earlier : List BestValue
   pub later : List BestValue
@@ -64,7 +64,7 @@ with_difference all (Some later) = note all later
 abbrev pub micros_of : BestValue → ℤ
 micros_of b = pos 1000 *ℤ b.diff
 
--- the largest group of the own clock, which differs by nothing, and of these, within 20,000 microseconds
+-- the largest group of the own clock, whose difference is 0, and of these, within 20,000 microseconds
 abbrev pub group_in : List BestValue → Group
 group_in all = group_of 20000 (pos 0 ∷ map micros_of all)
 
@@ -72,16 +72,16 @@ group_in all = group_of 20000 (pos 0 ∷ map micros_of all)
 abbrev pub group_line : Group → List ℕ
 group_line g = codes "group " ++ decimal g.count ++ space ++ signed_decimal g.lo ++ space ++ signed_decimal g.width ++ space ++ signed_decimal (mean_of g)
 
--- the line of the correction that brings a clock to the mean
+-- the line of the correction that takes a clock to the mean
 abbrev pub correct_line : ℤ → BestValue → List ℕ
 correct_line mean b = codes "correct " ++ b.name ++ space ++ signed_decimal (mean -ℤ micros_of b)
 
--- the best of each clock so far, and how many lines may still come
+-- the best of each clock so far, and how many more lines are allowed
 pub record TallyValue : Type 0 where
   pub bests : List BestValue
   pub left : ℕ
 
--- what has come of the lines after one exchange more
+-- the tally after one exchange more
 abbrev pub taken : TallyValue → Exchange → TallyValue
 taken t e = record { bests = with_difference t.bests (difference_in e.name (finding_of e)); left = t.left - 1 }
 

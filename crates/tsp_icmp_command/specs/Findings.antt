@@ -8,11 +8,11 @@ use Rattle.tsp_icmp_command.specs.declared.exchange.Exchange.{Exchange}
 use Rattle.tsp_icmp_command.specs.declared.finding.Finding.{Finding}
 use Rattle.tsp_icmp_command.specs.declared.finding.Finding.TheVariants.{Unlike, NoTime, Late, Apart}
 
--- the reply repeats what the request has
+-- the reply repeats the request's identifier, sequence number and originate stamp
 abbrev pub is_answer : Timestamp → Timestamp → Bool
 is_answer request reply = (request.ident == reply.ident && request.seq == reply.seq) && request.originate == reply.originate
 
--- milliseconds since midnight
+-- whether a stamp is milliseconds since midnight, below 86,400,000
 abbrev pub is_time : ℕ → Bool
 is_time stamp = nat_lt stamp 86400000
 
@@ -21,14 +21,14 @@ abbrev pub apart_or_late : Option (ℤ × ℤ) → ℕ → Finding
 apart_or_late None trip = Late
 apart_or_late (Some x) trip = Apart (record { diff = x.0; err = x.1; trip = trip })
 
--- what an exchange comes to
+-- what an exchange says of another clock, or why it says nothing
 abbrev pub finding_of : Exchange → Finding
 finding_of e =
     if not (is_answer e.request e.reply) then Unlike
     else (if not (is_time e.request.originate && is_time e.reply.receive) then NoTime
     else apart_or_late (difference_of e.request.originate e.reply.receive e.arrival) (unsigned_abs (trip_of e.request.originate e.arrival)))
 
--- a difference is of at most three quarters of a day either way
+-- a difference is at most three quarters of a day, ahead or behind
 abbrev pub IsNear : Finding → Type 0
 IsNear (Apart a) = IsAtMost (pos 64800000) a.diff
 IsNear Unlike = Unit {0}

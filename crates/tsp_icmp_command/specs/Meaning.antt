@@ -1,4 +1,4 @@
--- What lines of exchanges come to.
+-- What lines of exchanges mean.
 use Rattle.std.specs.Prelude.{◌≡◌, ℕ, ◌≤◌, ◌-◌, List, length, map}
 use Rattle.std.specs.List.{All, AllZip}
 use Rattle.tsp_lines.specs.Lines.{NoFeed, closed, AreLines}
@@ -8,11 +8,11 @@ use Rattle.tsp_icmp_command.specs.Findings.{finding_of, line_of}
 use Rattle.tsp_icmp_command.specs.Bests.{TallyValue, bests, differences, summary}
 use Rattle.tsp_icmp_command.specs.declared.exchange.Exchange.{Exchange}
 
--- the line of what an exchange comes to
+-- the output line of an exchange
 abbrev pub exchange_line : Exchange → List ℕ
 exchange_line e = line_of e.name (finding_of e)
 
--- the tally is where these lines have brought it
+-- the tally stands for these lines: it is the one after them
 abbrev pub Stands : TallyValue → List (List ℕ) → Type 0
 Stands t lines = (exchanges : List Exchange) × AllZip IsExchange lines exchanges × (t.bests ≡ bests (differences exchanges)) × (t.left ≡ 1000 - length lines)
 
@@ -27,6 +27,6 @@ averaging = record {
   lacks = λ lines cause. ⊥;
 }
 
--- octets are at most 1,000 lines of exchanges, an exchange a line
+-- octets are at most 1,000 lines, each an exchange
 abbrev pub AreExchangeLines : List ℕ → Type 0
 AreExchangeLines octets = (lines : List (List ℕ)) × (exchanges : List Exchange) × All NoFeed lines × AreLines octets lines × AllZip IsExchange lines exchanges × (length lines ≤ 1000)

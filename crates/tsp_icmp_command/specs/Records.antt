@@ -1,4 +1,4 @@
--- The lines of exchanges, and why a line is none.
+-- The lines of exchanges, and why a line isn't one.
 use Rattle.std.specs.Prelude.{◌≡◌, ℕ, ◌<◌, ◌≤◌, ◌⊎◌, List, ◌∷◌, ◌++◌, length, Bool, true, false, if◌then◌else◌, decimal, codes}
 use Rattle.std.specs.declared.result.Result.{Result}
 use Rattle.std.specs.declared.result.Result.TheVariants.{Ok, Err}
@@ -11,12 +11,12 @@ use Rattle.tsp_script.specs.Schedules.{IsHost}
 use Rattle.tsp_icmp_command.specs.declared.record.Record.{Record}
 use Rattle.tsp_icmp_command.specs.declared.exchange.Exchange.{Exchange}
 
--- what octets are: a Timestamp message, or none for this first fault
+-- octets are this Timestamp message, or have this first fault
 abbrev pub Says : List ℕ → Result Timestamp IcmpFault → Type 0
 Says octets (Ok t) = IsTimestamp t × (octets ≡ icmp_octets t)
 Says octets (Err fault) = IsFault octets fault
 
--- a word is octets in hexadecimal, at least one, in either case of the letters, which are this
+-- a word is at least one octet in hexadecimal, with letters in either case, and the octets are this message or have this fault
 abbrev pub SaysInHex : List ℕ → Result Timestamp IcmpFault → Type 0
 SaysInHex word message = (octets : List ℕ) × (0 < length octets) × (decode_of word ≡ Ok octets) × Says octets message
 
@@ -27,7 +27,7 @@ pub record IsRecord (line : List ℕ) (r : Record) : Type 0 where
   pub arrival : r.arrival < 86400000
   pub words : (request : List ℕ) × (reply : List ℕ) × SaysInHex request r.request × SaysInHex reply r.reply × (line ≡ r.name ++ 32 ∷ (request ++ 32 ∷ (reply ++ 32 ∷ decimal r.arrival)))
 
--- the message, if it goes in this direction; another one is refused for its kind
+-- the message, if it is a reply (or, with the flag false, a request); the other one has the fault `Kind`
 abbrev pub expected : Bool → Result Timestamp IcmpFault → Result Timestamp IcmpFault
 expected true (Ok t) = if t.reply then Ok t else Err Kind
 expected false (Ok t) = if t.reply then Err Kind else Ok t
@@ -45,7 +45,7 @@ fault_word Kind = codes "kind"
 fault_word Code = codes "code"
 fault_word Checksum = codes "checksum"
 
--- the line isn't four such words; else its request is refused; else its reply
+-- why a line is refused: it isn't four such words; else its request is faulty; else its reply
 abbrev pub RefusesRecord : List ℕ → List ℕ → Type 0
 RefusesRecord line cause =
     (((r : Record) → IsRecord line r → ⊥) × (cause ≡ codes "record"))

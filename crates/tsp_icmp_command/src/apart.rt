@@ -1,8 +1,8 @@
 //! A difference between two clocks.
-/// How far another clock stands ahead.
+/// How far another clock is ahead.
 #[derive(Clone, Copy, PartialEq, Eq, Debug)]
 pub struct Apart {
-    /// How far it stands ahead, in milliseconds, at most 64,800,000 either way.
+    /// How far it is ahead, in milliseconds, from -64,800,000 to 64,800,000.
     pub diff: i64,
     /// By how much that may be wrong, in milliseconds.
     pub err: i64,

@@ -15,8 +15,8 @@ use tsp_lines::cause::Cause;
 use tsp_lines::output::Output;
 use tsp_lines::treatment::{Stop, Treatment};
 
-/// Takes lines of exchanges, hands over what each comes to, and at the end the group and the
-/// corrections to its mean.
+/// The command `icmp`: takes lines of exchanges, gives a line for each, and at the end the group of clocks
+/// that agree and the corrections to its mean.
 #[derive(Drop)]
 pub(crate) struct Averaging {
     alloc: Global,
@@ -26,7 +26,7 @@ pub(crate) struct Averaging {
 impl Averaging {
     ghost use Rattle.std.specs.Prelude.{◌≡◌, []};
 
-    /// No line was read. Takes no memory.
+    /// Before the first line. Takes no memory.
     pub(crate) fn new(alloc: Global) -> Averaging
         ensures { result.tally ≡ record { bests = []; left = 1000 } }
     {
@@ -58,7 +58,7 @@ impl Averaging {
     ghost use Rattle.tsp_icmp_command.specs.Bests.{taken};
     ghost use Rattle.tsp_icmp_command.specs.Meaning.{exchange_line};
 
-    /// Takes the exchange of a line, and hands over what it comes to.
+    /// Takes the exchange of a line, and gives its output line.
     fn take<K: Sink>(
         &mut self,
         exchange: Exchange,

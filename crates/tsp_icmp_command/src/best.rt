@@ -8,7 +8,7 @@ ghost use Rattle.tsp_icmp_command.specs.Bests.{micros_of};
 use std::marker::Model;
 use tsp_base::name::Name;
 
-/// A clock's name, how far it stands ahead, in milliseconds, and the round trip by which that is known.
+/// A clock's name, how far it is ahead, and the round trip of the exchange that says so, in milliseconds.
 #[derive(Drop)]
 pub(crate) struct Best {
     name: Name,
@@ -29,7 +29,7 @@ impl Model for Best {
 }
 
 impl Best {
-    /// A difference of at most 64,800,000 milliseconds either way.
+    /// A difference from -64,800,000 to 64,800,000 milliseconds, with its round trip.
     pub(crate) fn new(name: Name, diff: i64, trip: u32) -> Best
         requires { IsAtMost (pos 64800000) diff }
         ensures { result ≡ record { name = name; diff = diff; trip = trip } }
@@ -58,7 +58,7 @@ impl Best {
         self.trip
     }
 
-    /// How far the clock stands ahead, in microseconds.
+    /// How far the clock is ahead, in microseconds.
     pub(crate) fn micros(&self) -> i64
         ensures value { result ≡ micros_of self.now }
         ensures near { IsNear result }

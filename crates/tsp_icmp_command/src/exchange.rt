@@ -9,7 +9,7 @@ use tsp_base::name::Name;
 use tsp_icmp::{IcmpFault, Timestamp};
 use tsp_lines::cause::Cause;
 
-/// A request, its reply, and when that came.
+/// A request, its reply, and when the reply came.
 #[derive(Drop)]
 pub struct Exchange {
     /// The name of the other clock.
@@ -33,8 +33,8 @@ fn cause_of(part: &[u8], fault: IcmpFault) -> Cause
     Cause::new(words)
 }
 
-/// The exchange of a line, or why there is none: `record` where the line isn't in the grammar, else
-/// `request` or `reply` with the fault of the first of these that isn't what it should be.
+/// The exchange of a line, or why there is none: `record` where the grammar doesn't allow the line, else
+/// `request` with the fault of the request, else `reply` with that of the reply.
 pub(crate) fn exchange_of(line: &[u8]) -> Result<Exchange, Cause>
     requires { length line.now ≤ 1024 }
     ensures { MatchResult result (λ e. IsExchange line.now e) (λ cause. RefusesRecord line.now

@@ -11,12 +11,12 @@ use tsp_base::name::Name;
 use tsp_icmp::{Timestamp, difference, standard, trip};
 use tsp_script::numbers::{append, append_next_signed, append_signed};
 
-/// What an exchange comes to.
+/// What an exchange says of another clock, or why it says nothing.
 #[derive(Clone, Copy, PartialEq, Eq, Debug)]
 pub enum Finding {
-    /// The reply isn't that of the request.
+    /// The reply doesn't repeat the request's identifier, sequence number and originate stamp.
     Unlike,
-    /// The sender's or the replier's stamp is no time.
+    /// The request's originate stamp or the reply's receive stamp isn't a time of day.
     NoTime,
     /// The reply came half a day or more after the request.
     Late,
@@ -24,14 +24,14 @@ pub enum Finding {
     Apart(Apart),
 }
 
-/// Whether the reply repeats what the request has.
+/// Whether the reply repeats the request's identifier, sequence number and originate stamp.
 fn is_answer(request: &Timestamp, reply: &Timestamp) -> bool
     ensures { result ≡ is_answer request.now reply.now }
 {
     request.ident == reply.ident && request.seq == reply.seq && request.originate == reply.originate
 }
 
-/// What an exchange comes to.
+/// What an exchange says of another clock, or why it says nothing.
 pub(crate) fn finding_of(exchange: &Exchange) -> Finding
     requires { exchange.now.arrival < 86400000 }
     ensures value { result ≡ finding_of exchange.now }

@@ -1,4 +1,4 @@
-//! Laws of the averaging of exchanges.
+//! Theorems about the averaging of exchanges. Nothing here runs.
 ghost use Rattle.std.specs.Prelude.{◌≡◌, ℕ, List};
 ghost use Rattle.std.specs.List.{All};
 ghost use Rattle.tsp_lines.specs.Definite.{IsDefinite};
@@ -12,18 +12,18 @@ pub fn one_exchange_of_a_line()
     ensures { (line : List ℕ) (a b : Exchange) → IsExchange line a → IsExchange line b → a ≡ b }
 {}
 
-/// No line that is an exchange is refused.
+/// A line that is an exchange isn't refused.
 pub fn an_exchange_is_not_refused()
     ensures { (line cause : List ℕ) (e : Exchange) → IsExchange line e → RefusesRecord line cause
         → ⊥ }
 {}
 
-/// At each place of the lines one thing at most may follow.
+/// After any lines, at most one thing can come of the next line or of the end.
 pub fn definite_averaging()
     ensures { IsDefinite averaging }
 {}
 
-/// What counts for a clock in the group is the first of its differences of least trip.
+/// Each clock counts in the group by its difference with the shortest round trip, the first of them.
 pub fn first_of_least_trip()
     ensures { (differences : List BestValue) → All (IsBestOf differences) (bests differences) }
 {}

@@ -1,7 +1,17 @@
-//! Records of ICMP Timestamp exchanges to differences of clocks, their group and its corrections.
+//! The command `icmp`: from records of ICMP Timestamp exchanges (RFC 792) to the differences of clocks, the
+//! group of those that agree, and their corrections.
 //!
-//! [`average`] reads a line for each exchange, and writes each host's difference, then the group
-//! and the corrections.
+//! [`average`] reads a line `NAME REQUEST REPLY ARRIVAL` for each exchange: two messages in hexadecimal,
+//! and when the reply came, in milliseconds since midnight UT. It writes a line for each: the
+//! difference and its error in milliseconds, or why there is none. At the end it writes the group, with
+//! the own clock as 0, and the corrections, in microseconds. One exchange with alpha that takes 20
+//! milliseconds, after which alpha is 5 milliseconds ahead, gives
+//!
+//! ```
+//! alpha 5 11
+//! group 2 0 5000 2500
+//! correct alpha -2500
+//! ```
 #![tactic(auto)]
 
 mod apart;

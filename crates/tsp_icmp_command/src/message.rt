@@ -8,8 +8,8 @@ ghost use Rattle.tsp_icmp_command.specs.Records.{SaysInHex, expected, fault_word
 use tsp_icmp::{IcmpFault, Timestamp, icmp_decode};
 use tsp_script::numbers::octets_of;
 
-/// What the octets are that a word has in hexadecimal, in either case of the letters: a message, or
-/// none for a fault. None where the word isn't pairs of hexadecimal digits, at least one.
+/// The message of a word of hexadecimal, whose letters may be in either case, or its fault. None where the
+/// word isn't pairs of hexadecimal digits, at least one.
 pub(crate) fn message_in(word: &[u8]) -> Option<Result<Timestamp, IcmpFault>>
     requires { length word.now ≤ 1024 }
     ensures { MatchOption result ((message : Result Timestamp IcmpFault)
@@ -22,8 +22,7 @@ pub(crate) fn message_in(word: &[u8]) -> Option<Result<Timestamp, IcmpFault>>
     Some(icmp_decode(octets.as_slice()))
 }
 
-/// The message, if it is a reply or a request as is asked for. One that goes the other way is refused
-/// for its kind.
+/// The message, if it is a reply (or, with `reply` false, a request). The other one has the fault `Kind`.
 pub(crate) fn expected(
     message: Result<Timestamp, IcmpFault>,
     reply: bool,

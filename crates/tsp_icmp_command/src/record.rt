@@ -10,8 +10,8 @@ use tsp_script::head_line::host_of;
 use tsp_script::numbers::number_of;
 use tsp_script::words::cut;
 
-/// What a line says: whose clock was asked, what the octets of the request and of the reply are, and
-/// when the reply came, in milliseconds since midnight UT.
+/// A line's four words: whose clock was asked, the request and the reply, each a message or its fault, and
+/// when the reply came.
 #[derive(Drop)]
 pub struct Record {
     /// The name of the other clock.
@@ -20,11 +20,11 @@ pub struct Record {
     pub request: Result<Timestamp, IcmpFault>,
     /// The reply.
     pub reply: Result<Timestamp, IcmpFault>,
-    /// When the reply came, below 86,400,000.
+    /// When the reply came, in milliseconds since midnight UT, below 86,400,000.
     pub arrival: u32,
 }
 
-/// The time of the day that a word is the decimal text of.
+/// The time of day of a decimal text; None where it isn't one below 86,400,000.
 fn arrival_of(word: &[u8]) -> Option<u32>
     ensures { MatchOption result ((n : ℕ) → n < 86400000 → word.now ≡ decimal n
         → ⊥) (λ n. (n < 86400000) × (word.now ≡ decimal n)) }
@@ -38,7 +38,7 @@ fn arrival_of(word: &[u8]) -> Option<u32>
     }
 }
 
-/// What a line says; None where it isn't in the grammar.
+/// The words of a line; None where the grammar doesn't allow it.
 pub(crate) fn record_of(line: &[u8]) -> Option<Record>
     requires { length line.now ≤ 1024 }
     ensures { MatchOption result ((r : Record) → IsRecord line.now r

@@ -31,7 +31,7 @@ fn group_line(group: &Group, mean: i64) -> ArrayVec<u8, 1024>
     text
 }
 
-/// The line of the correction that brings a clock to the mean, with its line feed.
+/// The line of the correction that takes a clock to the mean, with its line feed.
 fn correct_line(mean: i64, best: &Best) -> ArrayVec<u8, 1024>
     requires { IsNear mean }
     ensures text { result.items ≡ close (correct_line mean best.now) }
@@ -45,7 +45,7 @@ fn correct_line(mean: i64, best: &Best) -> ArrayVec<u8, 1024>
     text
 }
 
-/// Hands the lines of the corrections over; where it fails, a part of them.
+/// Puts the lines of the corrections into `output`; where it fails, the beginning of them.
 fn tell_corrections<K: Sink>(
     mean: i64,
     bests: &[Best],
@@ -69,7 +69,8 @@ fn tell_corrections<K: Sink>(
     Ok(())
 }
 
-/// Hands the lines of a group and of the corrections to its mean over; where it fails, a part of them.
+/// Puts the lines of a group and of the corrections to its mean into `output`; where it fails, the beginning of
+/// them.
 pub(crate) fn tell_summary<K: Sink>(
     group: &Group,
     bests: &[Best],

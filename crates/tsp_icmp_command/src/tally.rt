@@ -11,7 +11,7 @@ use std::marker::Model;
 use tsp_base::name::Name;
 use tsp_group::{Group, Values, largest};
 
-/// The most lines of an input.
+/// The greatest number of lines of an input.
 const MOST: u32 = 1000;
 
 /// The width of a group of clocks that agree, in microseconds.
@@ -24,8 +24,8 @@ fn place_of(bests: &[Best], name: &Name) -> Option<usize>
     bests.iter().position(|best| best.is_of(name))
 }
 
-/// Takes one more difference: a clock's first is added, a later one replaces what is there where it
-/// took the lesser trip.
+/// Adds a difference: a clock's first one, or a later one in place of the one that is there, where its
+/// round trip is shorter. Fails only if out of memory.
 fn note(bests: &mut Vec<Best>, later: Best) -> Result<(), AllocError>
     ensures ok { OnOk result (bests.new.items ≡ note bests.old.items later) }
     ensures room { vec_len bests.new ≤ vec_len bests.old + 1 }
@@ -41,8 +41,8 @@ fn note(bests: &mut Vec<Best>, later: Best) -> Result<(), AllocError>
     Ok(())
 }
 
-/// The best difference of each clock, in the order of their first ones, and how many lines may still
-/// come.
+/// The best difference of each clock, in the order of their first ones, and how many more lines are
+/// allowed.
 #[derive(Drop)]
 pub(crate) struct Tally {
     bests: Vec<Best>,
@@ -61,7 +61,7 @@ impl Model for Tally {
 }
 
 impl Tally {
-    /// No line was read. Takes no memory.
+    /// Before the first line. Takes no memory.
     pub(crate) fn new(alloc: Global) -> Tally
         ensures { result ≡ record { bests = []; left = 1000 } }
     {
@@ -71,16 +71,14 @@ impl Tally {
         }
     }
 
-    /// Whether no line may follow.
+    /// Whether no further line is allowed.
     pub(crate) fn is_full(&self) -> bool
         ensures { result ≡ (self.now.left == 0) }
     {
         self.left == 0
     }
 
-    /// Takes one more line, with the difference that it gives, if it gives one.
-    ///
-    /// Fails only where memory is refused.
+    /// Adds a line, with the difference that it gives, if it gives one. Fails only if out of memory.
     pub(crate) fn take(&mut self, difference: Option<Best>) -> Result<(), AllocError>
         requires { 0 < self.old.left }
         ensures { OnOk result
@@ -105,9 +103,7 @@ impl Tally {
     }
 }
 
-/// The largest group of the own clock, which differs by nothing, and of these.
-///
-/// Fails only where memory is refused.
+/// The largest group of the own clock, whose difference is 0, and of these. Fails only if out of memory.
 pub(crate) fn group_in(alloc: Global, bests: &[Best]) -> Result<Group, AllocError>
     requires { length bests.now ≤ 1000 }
     ensures value { IfOk result (λ g. g ≡ group_in bests.now) }

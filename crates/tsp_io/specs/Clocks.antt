@@ -1,13 +1,13 @@
 -- What clocks answer.
 use Rattle.std.specs.Prelude.{◌≡◌, ℕ, ◌^◌, Bool, true, ◌&&◌, nat_le, List, [], ◌∷◌, None, Some, Option, ℤ, pos, negsuc, ◌≤ℤ◌}
 
--- the answer is the next reading, and the last one again once they are used up; what isn't told before isn't told after
+-- the answer is the next reading, or the last one again once they are used up; where the readings weren't known, they stay so
 abbrev pub TakesReading : Option (List ℕ) → Option (List ℕ) → ℕ → ℕ → Type 0
 TakesReading None rest last tick = rest ≡ None
 TakesReading (Some []) rest last tick = (rest ≡ Some []) × (tick ≡ last)
 TakesReading (Some (x ∷ xs)) rest last tick = (rest ≡ Some xs) × (tick ≡ x)
 
--- whether readings never fall, from this one on, and are at most 2 ^ 61
+-- whether these readings never fall, the first being at least this one, and are at most 2 ^ 61
 abbrev pub climbs : ℕ → List ℕ → Bool
 climbs last [] = true
 climbs last (x ∷ xs) = nat_le last x && (nat_le x (2 ^ 61) && climbs x xs)

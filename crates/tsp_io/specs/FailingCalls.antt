@@ -1,4 +1,4 @@
--- Calls that fail where that is asked for.
+-- Calls that a test lets fail.
 use Rattle.std.specs.Prelude.{◌≡◌, ◌+◌, ◌-◌, ◌^◌, min, Contains}
 use Rattle.tsp_io.specs.declared.failing.Failing.{Failing}
 
@@ -6,6 +6,6 @@ use Rattle.tsp_io.specs.declared.failing.Failing.{Failing}
 abbrev pub FailsNext : Failing → Type 0
 FailsNext failing = Contains failing.calls.items failing.next
 
--- one call more was counted, up to the last number that there is
+-- one call more was counted; the count stays at 2^32 - 1 once it is there
 abbrev pub CountsCall : Failing → Failing → Type 0
 CountsCall before now = (now.next ≡ min (before.next + 1) (2 ^ 32 - 1)) × (now.calls ≡ before.calls)

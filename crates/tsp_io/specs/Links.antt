@@ -11,7 +11,7 @@ use Rattle.tsp_io.specs.declared.link.Recv.TheVariants.{Datagram, Nothing, Faile
 use Rattle.tsp_io.specs.declared.link.Sent.{Sent}
 use Rattle.tsp_io.specs.declared.link.Sent.TheVariants.{Sent as Went, Failed as Lost, OutOfMemory}
 
--- what comes within a wait: a datagram with its sender, or nothing
+-- what one receive gets: a datagram with its sender, or nothing
 abbrev pub Arrival : Type 0
 Arrival = Option (Place × List ℕ)
 
@@ -29,24 +29,24 @@ abbrev pub is_stranger : Place → Bool
 is_stranger Stranger = true
 is_stranger (Peer p) = false
 
--- these octets are the next arrival's, cut to 512, and it came from there; what isn't told before isn't told after
+-- these are the first 512 octets of the next arrival, which came from this place; where the arrivals weren't known, they stay so
 abbrev pub TakesDatagram : Option (List Arrival) → Option (List Arrival) → Place → List ℕ → Type 0
 TakesDatagram None rest from octets = rest ≡ None
 TakesDatagram (Some left) rest from octets = (whole : List ℕ) × (after : List Arrival) × (left ≡ Some (from, whole) ∷ after) × (rest ≡ Some after) × (octets ≡ take 512 whole)
 
--- the next arrival is nothing, or none is left; what isn't told before isn't told after
+-- the next arrival is nothing, or none is left; where the arrivals weren't known, they stay so
 abbrev pub TakesNothing : Option (List Arrival) → Option (List Arrival) → Type 0
 TakesNothing None rest = rest ≡ None
 TakesNothing (Some []) rest = rest ≡ Some []
 TakesNothing (Some (a ∷ after)) rest = (a ≡ None) × (rest ≡ Some after)
 
--- what a receive gives, and whether the last datagram that came was a stranger's
+-- what a receive answers, and whether the last datagram that came was a stranger's
 abbrev pub Receives : Option (List Arrival) → Option (List Arrival) → Bool → Bool → Recv → List ℕ → Type 0
 Receives left rest stranger now_stranger (Datagram from count) buf = (count ≤ 512) × TakesDatagram left rest from (take count buf) × (now_stranger ≡ is_stranger from)
 Receives left rest stranger now_stranger Nothing buf = TakesNothing left rest × (now_stranger ≡ stranger)
 Receives left rest stranger now_stranger Failed buf = (rest ≡ left) × (now_stranger ≡ stranger)
 
--- one send more was tried; what isn't told before isn't told after
+-- one send more was tried; where the sends weren't known, they stay so
 abbrev pub Adds : Option (List Tried) → Option (List Tried) → Tried → Type 0
 Adds tried more t = more ≡ option_map (λ ts. ts ++ t ∷ []) tried
 
@@ -56,13 +56,13 @@ Sends tried more Went t = Adds tried more t
 Sends tried more Lost t = Adds tried more t
 Sends tried more OutOfMemory t = more ≡ tried
 
--- one more of what is noted call by call; what isn't told before isn't told after, and what was told may be told no more
+-- one call more is noted; where the calls weren't known, they stay so, and where they were, they may be unknown afterwards
 abbrev pub Notes : {A : Type 0} → Option (List A) → Option (List A) → A → Type 0
 Notes noted None x = Unit {0}
 Notes None (Some now) x = ⊥
 Notes (Some before) (Some now) x = now ≡ before ++ x ∷ []
 
--- a bind that is made is noted; one that isn't leaves what was noted
+-- a bind that was made is noted; after any other what was noted is unchanged
 abbrev pub NotesBind : Option (List Binding) → Option (List Binding) → Bound → Binding → Type 0
 NotesBind noted now Made b = Notes noted now b
 NotesBind noted now _ b = now ≡ noted

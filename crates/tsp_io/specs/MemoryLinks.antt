@@ -6,15 +6,15 @@ use Rattle.tsp_io.specs.declared.arrivals.Coming.TheVariants.{Datagram, Nothing}
 use Rattle.tsp_io.specs.declared.noted_calls.NotedBind.{NotedBind}
 use Rattle.tsp_io.specs.declared.tried_sends.TriedSend.{TriedSend}
 
--- what comes, without where it lies in memory
+-- an arrival as a value, whatever its place in memory
 abbrev pub arrival_of : Coming → Arrival
 arrival_of (Datagram from octets) = Some (from, octets.items)
 arrival_of Nothing = None
 
--- a send that was tried, without where it lies in memory
+-- a send that was tried as a value, whatever its place in memory
 abbrev pub tried_of : TriedSend → Tried
 tried_of t = (t.to, t.octets.items)
 
--- a bind, without where it lies in memory
+-- a bind as a value, whatever its place in memory
 abbrev pub binding_of : NotedBind → Binding
 binding_of b = record { local = b.local; peers = b.peers.items }

@@ -9,16 +9,16 @@ use std::alloc::{AllocError, Global};
 use std::marker::Model;
 use tsp_base::place::Place;
 
-/// What comes within a wait.
+/// What one receive is to get.
 #[derive(Drop)]
 pub(crate) enum Coming {
-    /// A datagram of somebody.
+    /// A datagram, and its sender.
     Datagram(Place, Vec<u8>),
     /// Nothing.
     Nothing,
 }
 
-/// What is still to come, in its order.
+/// What the receives to come get, in order.
 #[derive(Drop)]
 pub(crate) struct Arrivals {
     coming: Vec<Coming>,
@@ -52,7 +52,7 @@ impl Arrivals {
         Ok(())
     }
 
-    /// Takes the next arrival. A datagram is copied to the front of the buffer, as much of it as fits there.
+    /// Takes the next arrival. A datagram's first octets, at most 512, are copied to the front of the buffer.
     pub(crate) fn take(&mut self, buf: &mut [u8]) -> Option<(Place, usize)>
         requires { length buf.old ≡ 512 }
         ensures { MatchOption result (TakesNothing (Some self.old) (Some self.new))

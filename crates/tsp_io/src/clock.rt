@@ -5,14 +5,14 @@ use crate::ticker::Ticker;
 use std::rt::Clock;
 use std::time::{Instant, SystemTime};
 
-/// The last tick: 2^61 microseconds, some 73,000 years.
+/// The greatest tick: 2^61 microseconds, some 73,000 years.
 const LAST_TICK: u64 = 1 << 61;
 
-/// The last time of the wall clock: 2^62 microseconds.
+/// The greatest time of the wall clock: 2^62 microseconds.
 const LAST_WALL: u64 = 1 << 62;
 
-/// The machine's monotonic clock as a tick counter, and its wall clock. They tell nothing of what
-/// they will answer.
+/// The machine's monotonic clock as a tick counter, and its wall clock. What they will answer isn't
+/// known beforehand.
 ///
 /// The counter begins at 0 with its first reading. The wall clock is read once; that reading is the
 /// word too. Where the machine gives no reading, the counter answers its last one, and wall and

@@ -1,9 +1,9 @@
-//! Calls that fail where that is asked for.
+//! Calls that a test lets fail.
 ghost use Rattle.std.specs.Prelude.{◌≡◌, ◌↔◌, ◌+◌, ◌-◌, ◌^◌, IfOk, IsTrue, Contains, min};
 
 use std::alloc::{AllocError, Global};
 
-/// Calls that fail: each call has a number, from 0 on, and those listed fail.
+/// Calls that are to fail: each call has a number, from 0 on, and those listed fail.
 #[derive(Drop)]
 pub(crate) struct Failing {
     calls: Vec<u32>,
@@ -20,7 +20,7 @@ impl Failing {
         })
     }
 
-    /// Counts a call, and says whether it fails; the count stands still at 2^32 - 1.
+    /// Counts a call, and says whether it is to fail. The count stays at 2^32 - 1 once it is there.
     pub(crate) fn fails(&mut self) -> bool
         ensures listed { IsTrue result ↔ Contains self.old.calls.items self.old.next }
         ensures counted { self.new.next ≡ min (self.old.next + 1) (2 ^ 32 - 1) }

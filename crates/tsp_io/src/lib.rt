@@ -1,8 +1,8 @@
 //! The outside: octets that are read and written, datagrams that come and go, and clocks that tick.
 //!
-//! Four traits, each with a form in memory and one of the machine:
+//! Four traits, each with an implementation in memory, for tests, and one over the machine:
 //!
-//! | Trait | In memory | Of the machine |
+//! | Trait | In memory | Over the machine |
 //! |---|---|---|
 //! | [`source::Source`] | [`memory::MemorySource`] | [`machine::Reading`], over a reader |
 //! | [`sink::Sink`] | [`memory::MemorySink`] | [`machine::Writing`], over a writer |
@@ -10,10 +10,23 @@
 //! | [`ticker::Ticker`] | [`memory_ticker::MemoryTicker`] | [`clock::MachineTicker`], over the machine's clocks |
 //!
 //! The contracts of a trait speak of what an object holds: the octets left or written, the arrivals
-//! to come, the sends that were tried, the readings to come. A form in memory tells these, so all
-//! of a call's answer is known. A form of the machine doesn't, since nothing can be proved of the
-//! operating system; what is claimed of it is which calls fail, and the bounds of what it answers.
-//! A call that can fail answers `Failed` only where its object's count of faults rose in that call.
+//! to come, the sends that were tried, the readings to come. In memory these are known (`Some`), so a
+//! contract says exactly what a call answers. Over the machine they aren't (`None`), since nothing can
+//! be proved of the operating system: the contract says only which calls fail and what range an answer
+//! has. A call answers `Failed` only where its object's count of faults rose in that call.
+//!
+//! A caller binds a link once, with its peers in the order of their numbers, and then sends and waits:
+//!
+//! ```
+//! let mut link = MemoryLink::new(alloc, &[])?;
+//! link.arrive(Place::Peer(PeerId(1)), b"pong")?;
+//! let peers = [Addr { ip: [10, 0, 0, 1], port: 525 }, Addr { ip: [10, 0, 0, 2], port: 525 }];
+//! assert!(matches!(link.bind(peers[0], &peers), Bound::Bound));
+//! assert!(matches!(link.send(Place::Peer(PeerId(1)), b"ping"), Sent::Sent));
+//! let mut buf = [0; 512];
+//! assert!(matches!(link.recv(&mut buf, 1_000_000), Recv::Datagram(Place::Peer(_), 4)));
+//! assert!(matches!(link.recv(&mut buf, 1_000_000), Recv::Nothing));
+//! ```
 #![tactic(auto)]
 
 pub mod addr;

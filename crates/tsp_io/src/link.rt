@@ -7,21 +7,21 @@ ghost use Rattle.tsp_io.specs.Links.{Arrival, Binding, Tried, Notes, NotesBind, 
 use crate::addr::Addr;
 use tsp_base::place::Place;
 
-/// What binding answers.
+/// What a bind answers.
 #[derive(Clone, Copy, PartialEq, Eq, Debug)]
 pub enum Bound {
-    /// The link has its address, and knows its peers.
+    /// The link has its address and its peers.
     Bound,
-    /// The address wasn't to be had, as where another socket has it.
+    /// The system refused the address, for instance since another socket has it.
     Failed,
-    /// There was no memory for the peers.
+    /// Out of memory for the list of peers.
     OutOfMemory,
 }
 
 /// What one receive answers.
 #[derive(Clone, Copy, PartialEq, Eq, Debug)]
 pub enum Recv {
-    /// A datagram of somebody came: so many octets stand at the front of the buffer, at most 512.
+    /// A datagram came from there: it is so many octets at the front of the buffer, at most 512.
     Datagram(Place, usize),
     /// None came within the wait.
     Nothing,
@@ -32,47 +32,47 @@ pub enum Recv {
 /// What one send answers.
 #[derive(Clone, Copy, PartialEq, Eq, Debug)]
 pub enum Sent {
-    /// The datagram was handed over. Nobody says that it arrives.
+    /// The system took the datagram. Whether it arrives isn't known.
     Sent,
-    /// It was tried, and is lost.
+    /// The send failed, and the datagram is lost.
     Failed,
-    /// It wasn't tried, for lack of memory.
+    /// Nothing was tried: out of memory.
     OutOfMemory,
 }
 
-/// Something that datagrams come and go over.
+/// Something over which datagrams come and go.
 ///
-/// A caller binds it once, and then receives and sends. Its two counts of faults are apart, since a
-/// lost datagram is no reason to end a daemon, and a receive that fails is.
+/// A caller binds it once, and then receives and sends. Failed sends are counted apart from failed binds
+/// and receives, since a lost datagram is no reason to end a daemon, and a receive that fails is one.
 pub trait Link {
-    /// The arrivals to come, where the implementation tells them.
+    /// The arrivals to come; None where they aren't known.
     ghost arrivals: { Self → Option (List Arrival) };
 
-    /// The sends that were tried, where the implementation tells them.
+    /// The sends that were tried; None where they aren't known.
     ghost tried: { Self → Option (List Tried) };
 
-    /// What it was bound to, bind by bind, where the implementation tells it.
+    /// What it was bound to, bind by bind; None where that isn't known.
     ghost binds: { Self → Option (List Binding) };
 
-    /// How many microseconds each receive was to wait, where the implementation tells it.
+    /// How many microseconds each receive was to wait; None where that isn't known.
     ghost waits: { Self → Option (List ℕ) };
 
-    /// How many binds and receives were made, where the implementation tells it; it stands still at 2^64 - 1.
+    /// How many binds and receives were made, at most 2^64 - 1; None where that isn't known.
     ghost calls: { Self → Option ℕ };
 
     /// Whether the last datagram that came was a stranger's.
     ghost stranger: { Self → Bool };
 
-    /// How often a bind or a receive failed; it never falls, and stands still at 2^64 - 1.
+    /// How often a bind or a receive failed; it never falls, and stays at 2^64 - 1 once it is there.
     ghost faults: { Self → ℕ };
 
-    /// How often a send failed; it never falls, and stands still at 2^64 - 1.
+    /// How often a send failed; it never falls, and stays at 2^64 - 1 once it is there.
     ghost send_faults: { Self → ℕ };
 
-    /// Takes an address of this machine, and the addresses of the peers: the first has number 0, and so on.
+    /// Binds to an address of this machine, with the addresses of the peers: the first is peer 0, and so on.
     ///
-    /// `Failed` comes only where the count of faults rose in this call; where it doesn't come, the
-    /// count stays as it was.
+    /// `Failed` comes only where the count of faults rose in this call; with any other answer the count is
+    /// unchanged.
     fn bind(&mut self, local: Addr, peers: &[Addr]) -> Bound
         ensures binds { NotesBind (binds self.old) (binds self.new) result
             (record { local = local; peers = peers.now }) }
@@ -84,11 +84,11 @@ pub trait Link {
         ensures cause { result ≡ Bound.Failed → Rose (faults self.old) (faults self.new) }
         ensures still { result ≢ Bound.Failed → faults self.new ≡ faults self.old };
 
-    /// Waits so many microseconds for a datagram, of which at most 512 octets are given; what is
-    /// longer is cut.
+    /// Waits at most `wait` microseconds for a datagram, and gives its first 512 octets; of a longer one the
+    /// rest is lost.
     ///
-    /// `Failed` comes only where the count of faults rose in this call; where it doesn't come, the
-    /// count stays as it was.
+    /// `Failed` comes only where the count of faults rose in this call; with any other answer the count is
+    /// unchanged.
     fn recv(&mut self, buf: &mut [u8], wait: u64) -> Recv
         requires { length buf.old ≡ 512 }
         ensures receives { Receives (arrivals self.old) (arrivals self.new) (stranger self.old)
@@ -103,8 +103,8 @@ pub trait Link {
 
     /// Sends a datagram to a peer, or to the stranger whose datagram came last.
     ///
-    /// `Failed` comes only where the count of failed sends rose in this call; where it doesn't
-    /// come, that count stays as it was.
+    /// `Failed` comes only where the count of failed sends rose in this call; with any other answer that count
+    /// is unchanged.
     fn send(&mut self, to: Place, octets: &[u8]) -> Sent
         requires { to ≡ Place.Stranger → stranger self.old ≡ true }
         ensures sends { Sends (tried self.old) (tried self.new) result (to, octets.now) }

@@ -1,4 +1,4 @@
-//! A source and a sink in memory, whose calls fail where that is asked for.
+//! A source and a sink in memory. A test says which of their calls fail.
 ghost use Rattle.std.specs.Prelude.{◌≡◌, ◌≢◌, ◌↔◌, ◌⊎◌, ℕ, ◌≤◌, ◌<◌, ◌+◌, ◌-◌, ◌^◌, [], ◌++◌};
 ghost use Rattle.std.specs.Prelude.{length, drop, None, Some, false, IfOk, IsTrue, Contains, true};
 ghost use Rattle.std.specs.Prelude.{vec_len, min, take};
@@ -11,7 +11,7 @@ use crate::sink::{Sink, Wrote};
 use crate::source::{Got, Source};
 use std::alloc::{AllocError, Global};
 
-/// Copies as many octets as fit to the front of the buffer, at most so many, and counts them.
+/// Copies octets to the front of the buffer: as many as it has room for, at most `most`. Gives their count.
 pub(crate) fn copy_front(octets: &[u8], buf: &mut [u8], most: usize) -> usize
     ensures count { result ≡ min (length octets.now) (min (length buf.old) most) }
     ensures split { octets.now ≡ take result buf.new ++ drop result octets.now }
@@ -36,7 +36,8 @@ pub struct MemorySource {
 }
 
 impl MemorySource {
-    /// A source of these octets. The reads whose numbers are listed fail; they are counted from 0.
+    /// A source of these octets. The reads whose numbers are listed fail; they are counted from 0. Fails only if
+    /// out of memory.
     pub fn new(alloc: Global, octets: &[u8], failing: &[u32]) -> Result<MemorySource, AllocError>
         ensures left { IfOk result (λ s. drop s.at s.octets.items ≡ octets.now) }
         ensures calls { IfOk result (λ s. (s.failing.calls.items ≡ failing.now)
@@ -54,7 +55,7 @@ impl MemorySource {
         })
     }
 
-    /// The same source, but that no read gives more than so many octets.
+    /// The same source, but no read gives more than `most` octets.
     pub fn in_pieces(mut self, most: usize) -> MemorySource
         requires { 0 < most }
         ensures most { result.most ≡ most }
@@ -111,7 +112,8 @@ pub struct MemorySink {
 }
 
 impl MemorySink {
-    /// A sink with nothing written. The writes whose numbers are listed fail; they are counted from 0.
+    /// A sink with nothing written. The writes whose numbers are listed fail; they are counted from 0. Fails only
+    /// if out of memory.
     pub fn new(alloc: Global, failing: &[u32]) -> Result<MemorySink, AllocError>
         ensures { IfOk result (λ s. (s.octets.items ≡ []) × (s.failing.calls.items ≡ failing.now)
             × (s.failing.next ≡ 0) × (s.faults ≡ 0)) }

@@ -1,4 +1,4 @@
-//! A link in memory, whose calls fail where that is asked for.
+//! A link in memory. A test says what comes over it and which of its calls fail.
 ghost use Rattle.std.specs.Prelude.{◌≡◌, ◌≢◌, ◌↔◌, ◌≤◌, ◌<◌, [], ◌++◌, ◌∷◌, length, Some, None};
 ghost use Rattle.std.specs.Prelude.{IfOk, MatchResult, false, true, slice_get};
 ghost use Rattle.std.specs.Option.{option_map};
@@ -31,8 +31,8 @@ pub struct MemoryLink {
 }
 
 impl MemoryLink {
-    /// A link over which nothing comes, until `arrive` or `nothing` is called. The calls whose
-    /// numbers are listed fail; they are counted from 0, over binds, receives and sends.
+    /// A link over which nothing comes, until `arrive` is called. The calls whose numbers are listed
+    /// fail; binds, receives and sends are counted together, from 0. Fails only if out of memory.
     pub fn new(alloc: Global, failing: &[u32]) -> Result<MemoryLink, AllocError>
         ensures lists { IfOk result (λ s. (s.arrivals ≡ []) × (s.tried ≡ [])) }
         ensures notes { IfOk result (λ s. (s.binds ≡ Some []) × (s.waits ≡ Some [])) }
@@ -55,7 +55,7 @@ impl MemoryLink {
         })
     }
 
-    /// A datagram is to come, behind what comes already. Where memory is refused, nothing changes.
+    /// Adds a datagram to what the receives will get. Fails only if out of memory, and then changes nothing.
     pub fn arrive(&mut self, from: Place, octets: &[u8]) -> Result<(), AllocError>
         ensures { MatchResult result (λ _. self.new ≡ record self.old
             { arrivals = self.old.arrivals ++ Some (from, octets.now) ∷ [] })
@@ -66,7 +66,7 @@ impl MemoryLink {
         Ok(())
     }
 
-    /// One receive is to wait in vain, behind what comes already. Where memory is refused, nothing changes.
+    /// Adds a receive that will get nothing within its wait. Fails only if out of memory, and then changes nothing.
     pub fn nothing(&mut self) -> Result<(), AllocError>
         ensures { MatchResult result (λ _. self.new ≡ record self.old
             { arrivals = self.old.arrivals ++ None ∷ [] }) (λ _. self.new ≡ self.old) }
@@ -75,7 +75,7 @@ impl MemoryLink {
         Ok(())
     }
 
-    /// How many microseconds each receive was to wait; None once memory to note one was refused.
+    /// How many microseconds each receive was to wait; None once memory for one of them was lacking.
     pub fn waits(&self) -> Option<&[u64]>
         ensures { option_map (λ waits. waits.now) result ≡ self.now.waits }
     {
@@ -89,7 +89,7 @@ impl MemoryLink {
         self.tried.len()
     }
 
-    /// To whom the send with this number was tried; they are counted from 0.
+    /// To whom the send with this number went; they are counted from 0.
     pub fn tried_to(&self, i: usize) -> Place
         requires { i < length self.now.tried }
         ensures { option_map (λ t. t.0) (slice_get self.now.tried i) ≡ Some result }

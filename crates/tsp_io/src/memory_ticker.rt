@@ -1,4 +1,4 @@
-//! A tick counter in memory.
+//! A tick counter and a wall clock in memory.
 ghost use Rattle.std.specs.Prelude.{◌≡◌, ℕ, ◌≤◌, ◌<◌, ◌^◌, length, true, drop, IfOk, None, Some, vec_len};
 ghost use Rattle.std.specs.Option.{option_map};
 ghost use Rattle.tsp_io.specs.Clocks.{climbs, IsWall};
@@ -6,7 +6,7 @@ ghost use Rattle.tsp_io.specs.Clocks.{climbs, IsWall};
 use crate::ticker::Ticker;
 use std::alloc::{AllocError, Global};
 
-/// The readings to come, and what the wall clock and the word are.
+/// A counter whose readings are known, and a fixed wall clock and word.
 #[derive(Drop)]
 pub struct MemoryTicker {
     ticks: Vec<u64>,
@@ -22,7 +22,8 @@ pub struct MemoryTicker {
 }
 
 impl MemoryTicker {
-    /// A counter that gives these readings, and then the last one again and again.
+    /// A counter that gives these readings (microseconds), and then the last one again and again. Fails only if
+    /// out of memory.
     pub fn new(
         alloc: Global,
         ticks: &[u64],
@@ -46,7 +47,7 @@ impl MemoryTicker {
         })
     }
 
-    /// How many readings weren't used yet.
+    /// How many of the readings weren't given yet.
     pub fn left(&self) -> usize
         ensures { result ≡ length (drop self.now.at self.now.ticks.items) }
     {

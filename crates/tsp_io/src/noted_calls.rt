@@ -1,4 +1,4 @@
-//! What a link in memory notes of its binds and receives.
+//! What a link in memory remembers of its binds and receives.
 ghost use Rattle.std.specs.Prelude.{◌≡◌, ℕ, List, [], Option, Some, map};
 ghost use Rattle.std.specs.Option.{option_map};
 ghost use Rattle.tsp_io.specs.Links.{Binding, Notes};
@@ -8,7 +8,7 @@ use crate::addr::Addr;
 use std::alloc::Global;
 use std::marker::Model;
 
-/// How long each receive was to wait, in microseconds; nothing, once memory for one was refused.
+/// How long each receive was to wait, in microseconds; None once memory for one of them was lacking.
 #[derive(Drop)]
 pub(crate) struct NotedWaits {
     waits: Option<Vec<u64>>,
@@ -30,7 +30,7 @@ impl NotedWaits {
         }
     }
 
-    /// Notes a receive that was to wait so long.
+    /// Adds a receive that was to wait so long.
     pub(crate) fn note(&mut self, wait: u64)
         ensures { Notes self.old self.new wait }
     {
@@ -61,7 +61,7 @@ pub(crate) struct NotedBind {
     pub peers: Vec<Addr>,
 }
 
-/// What the link was to be bound to; nothing, once memory for a bind was refused.
+/// What the link was bound to, bind by bind; None once memory for one of them was lacking.
 #[derive(Drop)]
 pub(crate) struct NotedBinds {
     alloc: Global,
@@ -85,7 +85,7 @@ impl NotedBinds {
         }
     }
 
-    /// Notes a bind.
+    /// Adds a bind.
     pub(crate) fn note(&mut self, local: Addr, peers: &[Addr])
         ensures { Notes self.old self.new (record { local = local; peers = peers.now }) }
     {

@@ -1,4 +1,4 @@
-//! A UDP socket that waits so long for a datagram as it is told.
+//! A UDP socket whose receives wait for a given time.
 ghost use Rattle.std.specs.Prelude.{◌≡◌, ◌≤◌, length, IfOk, IfSome};
 
 use crate::addr::Addr;
@@ -7,7 +7,7 @@ use std::io::ErrorKind;
 use std::net::{IpAddr, Ipv4Addr, Net, SocketAddr, UdpSocket};
 use std::time::Duration;
 
-/// A bound socket, and the wait in microseconds that the system knows of it; 0 where it waits for ever.
+/// A bound socket, and the wait in microseconds that was last set for it; 0 where it waits for ever.
 #[derive(Drop)]
 pub(crate) struct Socket {
     udp: UdpSocket,
@@ -15,13 +15,13 @@ pub(crate) struct Socket {
 }
 
 impl Socket {
-    /// A socket at this address.
+    /// A socket bound to this address.
     pub(crate) fn bind(rt: &impl Net, local: Addr) -> io::Result<Socket> {
         let udp = UdpSocket::bind(rt, socket_addr(local))?;
         Ok(Socket { udp, wait: 0 })
     }
 
-    /// Tells the system how long receives wait, at least a microsecond.
+    /// Sets how many microseconds receives wait, at least one.
     fn set_wait(&mut self, wait: u64) -> io::Result<()> {
         let wait = wait.max(1);
         if wait != self.wait {
@@ -32,7 +32,7 @@ impl Socket {
         Ok(())
     }
 
-    /// A datagram with its sender; none where none came within the wait.
+    /// The size and the sender of a datagram that came; None where none came within the wait.
     pub(crate) fn receive(
         &mut self,
         buf: &mut [u8],
@@ -58,8 +58,8 @@ impl Socket {
     }
 }
 
-/// Whether a receive that ends so has only had no datagram: the wait was over, a signal came, or
-/// the network told that an earlier datagram of this socket couldn't be delivered.
+/// Whether a receive with this error just had no datagram: the wait was over, a signal came, or the
+/// network reported that an earlier datagram of this socket couldn't be delivered.
 fn is_no_datagram(kind: ErrorKind) -> bool {
     matches!(
         kind,
@@ -73,12 +73,12 @@ fn is_no_datagram(kind: ErrorKind) -> bool {
     )
 }
 
-/// The address as the standard library has it.
+/// The address as a value of the standard library.
 pub(crate) fn socket_addr(addr: Addr) -> SocketAddr {
     SocketAddr::new(IpAddr::V4(Ipv4Addr::from_octets(addr.ip)), addr.port)
 }
 
-/// The address, where it is an IPv4 one.
+/// The address; None where it isn't an IPv4 one.
 pub(crate) fn addr_of(from: SocketAddr) -> Option<Addr> {
     match from.ip() {
         IpAddr::V4(ip) => Some(Addr {

@@ -1,21 +1,21 @@
-//! A machine's tick counter, and the wall clock and the word that a node is handed at its boot.
+//! A machine's tick counter, and the wall clock and the word that a node gets at its boot.
 ghost use Rattle.std.specs.Prelude.{◌≡◌, ℕ, ℤ, ◌≤◌, ◌^◌, List, IfSome, Option, Some};
 ghost use Rattle.std.specs.Option.{option_map};
 ghost use Rattle.tsp_io.specs.Clocks.{TakesReading, IsWall};
 
-/// Something that ticks. It refuses nothing.
+/// Clocks: a tick counter and a wall clock. No call fails.
 pub trait Ticker {
-    /// The readings that `tick` has left, where the implementation tells them.
+    /// The readings that `tick` has left; None where they aren't known.
     ghost readings: { Self → Option (List ℕ) };
 
-    /// What `wall` answers, where the implementation tells it.
+    /// What `wall` answers; None where that isn't known.
     ghost wall_is: { Self → Option ℤ };
 
-    /// What `word` answers, where the implementation tells it.
+    /// What `word` answers; None where that isn't known.
     ghost word_is: { Self → Option ℕ };
 
-    /// The readings that `tick` had left when the wall clock was last read, where the implementation
-    /// tells them; None where it wasn't read.
+    /// The readings that `tick` had left when the wall clock was last read: None where they aren't known,
+    /// Some None before `wall` was read.
     ghost left_at_wall: { Self → Option (Option (List ℕ)) };
 
     /// The last answer of `tick`; 0 before one.
@@ -41,7 +41,7 @@ pub trait Ticker {
             × (wall_is self.new ≡ wall_is self.old) × (word_is self.new ≡ word_is self.old)
             × (last self.new ≡ last self.old) };
 
-    /// A word that is to differ from boot to boot.
+    /// A number that should differ from boot to boot: the word of a node's life.
     fn word(&mut self) -> u64
         ensures answers { IfSome (word_is self.old) (λ word. result ≡ word) }
         ensures same { (readings self.new ≡ readings self.old)

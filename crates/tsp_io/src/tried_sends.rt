@@ -1,4 +1,4 @@
-//! What was sent over a link in memory.
+//! The sends over a link in memory.
 ghost use Rattle.std.specs.Prelude.{◌≡◌, ◌<◌, List, [], ◌∷◌, ◌++◌, length, map, Some, MatchResult, slice_get};
 ghost use Rattle.tsp_io.specs.Links.{Tried};
 ghost use Rattle.tsp_io.specs.MemoryLinks.{tried_of};
@@ -53,7 +53,7 @@ impl TriedSends {
         self.sends.len()
     }
 
-    /// To whom the send with this number went, and the datagram; they are counted from 0.
+    /// To whom the send with this number went, and its datagram; sends are counted from 0.
     pub(crate) fn get(&self, i: usize) -> (Place, &[u8])
         requires { i < length self.now }
         ensures { slice_get self.now i ≡ Some (result.0, result.1.now) }

@@ -1,4 +1,4 @@
--- The answer to an input, and what an outcome says beside it.
+-- The answer to an input, and what an outcome says of it.
 use Rattle.std.specs.Prelude.{◌≡◌, ℕ, ◌<◌, List, ◌++◌, length, All, Some}
 use Rattle.std.specs.declared.option.Option.{Option}
 use Rattle.tsp_io.specs.Streams.{Grows}
@@ -23,18 +23,18 @@ pub record IsAnswer (m : Meaning) (limit : ℕ) (octets : List ℕ) (outcome : O
   pub lines : List (List ℕ)
   -- their output
   pub text : List ℕ
-  -- what is written behind it
+  -- what is written after it
   pub said : List ℕ
   pub feedless : All NoFeed lines
   pub accepted : m.accepts lines text
   pub ending : IsEnding m limit (Some octets) lines outcome said
   pub whole : output ≡ text ++ said
 
--- what was written is a part of an output, which goes on with these octets
+-- what was written is the beginning of an output, and these octets are the rest of it
 abbrev pub IsPart : List ℕ → Option (List ℕ) → Option (List ℕ) → List ℕ → Type 0
 IsPart output written now rest = (part : List ℕ) × (output ≡ part ++ rest) × Grows written now part
 
--- what an outcome says of an output that is the whole of the answer with this other outcome: they are the same and it was written, or a part of it was, which after a failed write isn't the whole
+-- what an outcome says, given the answer's output and outcome: the outcomes are equal and the output was written, or its beginning was, which after a failed write isn't the whole
 abbrev pub Agrees : Outcome → List ℕ → Option (List ℕ) → Option (List ℕ) → Outcome → Type 0
 Agrees outcome output written now Done = (outcome ≡ Done) × Grows written now output
 Agrees outcome output written now Bad = (outcome ≡ Bad) × Grows written now output
@@ -43,6 +43,6 @@ Agrees outcome output written now WriteFault = (rest : List ℕ) × (0 < length 
 Agrees outcome output written now Limit = (outcome ≡ Limit) × Grows written now output
 Agrees outcome output written now OutOfMemory = (rest : List ℕ) × IsPart output written now rest
 
--- an outcome agrees with the answer to the input, if the input is told
+-- an outcome agrees with the answer to the input, if the input is known
 abbrev pub Answers : Meaning → ℕ → Option (List ℕ) → Option (List ℕ) → Option (List ℕ) → Outcome → Type 0
 Answers m limit input written now result = (octets : List ℕ) (outcome : Outcome) (output : List ℕ) → input ≡ Some octets → IsAnswer m limit octets outcome output → Agrees outcome output written now result

@@ -1,14 +1,14 @@
--- Meanings that give an input one answer.
+-- Meanings for which an input has at most one answer.
 use Rattle.std.specs.Prelude.{◌≡◌, ℕ, List, [], ◌∷◌, ◌++◌}
 use Rattle.tsp_lines.specs.Meanings.{Meaning}
 
--- at each place of the lines one thing at most may follow, with one output or one cause
+-- after any lines, at most one thing can come of the next line or of the end, with one output or one cause
 pub record IsDefinite (m : Meaning) : Type 0 where
   -- lines have one output
   pub one_output : (lines : List (List ℕ)) (text other : List ℕ) → m.accepts lines text → m.accepts lines other → text ≡ other
-  -- a line is accepted after accepted lines, which are not full and whose output stands before its own
+  -- a line is accepted only after accepted lines that allow a further line, and its output follows theirs
   pub before : (lines : List (List ℕ)) (line text : List ℕ) → m.accepts (lines ++ line ∷ []) text → (¬ m.full lines) × ((front : List ℕ) × (more : List ℕ) × m.accepts lines front × (text ≡ front ++ more))
-  -- an accepted line is not refused, and passes no limit
+  -- an accepted line isn't refused, and passes no limit
   pub not_refused : (lines : List (List ℕ)) (line text cause : List ℕ) → m.accepts (lines ++ line ∷ []) text → m.refuses lines line cause → ⊥
   pub not_limited : (lines : List (List ℕ)) (line text : List ℕ) → m.accepts (lines ++ line ∷ []) text → m.limits lines line → ⊥
   -- a refused line has one cause, and passes no limit

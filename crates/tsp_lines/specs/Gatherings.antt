@@ -1,4 +1,4 @@
--- What comes of an input that is read whole before any of it is treated.
+-- What comes of an input that is read whole first.
 use Rattle.std.specs.Prelude.{◌≡◌, ℕ, ◌<◌, ◌≤◌, ◌+◌, ◌⊎◌, List, [], ◌++◌, length, Bool, true, false}
 use Rattle.std.specs.declared.option.Option.{Option}
 use Rattle.tsp_io.specs.Streams.{Gives}
@@ -12,7 +12,7 @@ use Rattle.tsp_lines.specs.declared.gathered.Gathered.{Gathered}
 use Rattle.tsp_lines.specs.declared.treat.Outcome.{Outcome}
 use Rattle.tsp_lines.specs.declared.treat.Outcome.TheVariants.{Ok as Done, Bad, ReadFault, WriteFault, Limit, OutOfMemory}
 
--- what one read adds to the octets that were read: some, at most so many, or none at the input's end; where there is no memory for them they are lost
+-- what one read adds to the octets that were read: at most this many, or none at the input's end; if out of memory, the octets are lost
 abbrev pub Adds : ℕ → Option (List ℕ) → Option (List ℕ) → Bool → List ℕ → List ℕ → Added → Type 0
 Adds most left rest ended octets now More = (ended ≡ false) × ((more : List ℕ) × Gives left rest more × (0 < length more) × (length more ≤ most) × (now ≡ octets ++ more))
 Adds most left rest ended octets now End = (ended ≡ true) × IsOver rest × Gives left rest [] × (now ≡ octets)
@@ -23,11 +23,11 @@ Adds most left rest ended octets now (Fault NoMemory) = Unit {0}
 abbrev pub Gathers : ℕ → Option (List ℕ) → Option (List ℕ) → Bool → List ℕ → Type 0
 Gathers limit input left ended octets = Gives input left octets × (((length octets ≤ limit) × IsOver left × (ended ≡ true)) ⊎ ((length octets ≡ limit + 1) × (ended ≡ false)))
 
--- the same, of octets that are held and of which none was given yet
+-- the same of octets in memory, none of which was given yet
 abbrev pub GathersAs : ℕ → Option (List ℕ) → Option (List ℕ) → Bool → Gathered → Type 0
 GathersAs limit input left ended g = Gathers limit input left ended g.octets.items × (g.at ≡ 0) × (g.ended ≡ false)
 
--- octets of the input were got, none past the limit
+-- octets of the input were read, none past the limit
 abbrev pub ReadsPart : ℕ → Option (List ℕ) → Option (List ℕ) → Type 0
 ReadsPart limit input left = (octets : List ℕ) × Gives input left octets × (length octets ≤ limit)
 
@@ -35,7 +35,7 @@ ReadsPart limit input left = (octets : List ℕ) × Gives input left octets × (
 abbrev pub IsGathered : ℕ → Option (List ℕ) → Option (List ℕ) → Bool → Type 0
 IsGathered limit input left ended = (octets : List ℕ) × Gathers limit input left ended octets
 
--- no octet past the limit was got, and nothing was written
+-- no octet past the limit was read, and nothing was written
 abbrev pub WritesNone : ℕ → Option (List ℕ) → Option (List ℕ) → Option (List ℕ) → Option (List ℕ) → Type 0
 WritesNone limit input left written now = ReadsPart limit input left × (now ≡ written)
 

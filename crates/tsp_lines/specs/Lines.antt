@@ -1,4 +1,4 @@
--- Lines of octets, and an input that is told or not. What counts of an input lies within its limit.
+-- Lines of octets, and an input that is known or not. Only the octets within the limit count.
 use Rattle.std.specs.Prelude.{◌≡◌, ℕ, ◌<◌, ◌≤◌, ◌+◌, ◌⊎◌, List, [], ◌∷◌, ◌++◌, length, Contains, flat_map, IfSome}
 use Rattle.std.specs.declared.option.Option.{Option}
 
@@ -14,15 +14,15 @@ close line = line ++ 10 ∷ []
 abbrev pub closed : List (List ℕ) → List ℕ
 closed lines = flat_map close lines
 
--- these octets lie within the limit, and the input begins with them, if it is told
+-- these octets lie within the limit, and the input begins with them, if it is known
 abbrev pub Begins : ℕ → Option (List ℕ) → List ℕ → Type 0
 Begins limit input octets = (length octets ≤ limit) × IfSome input (λ xs. (rest : List ℕ) × (xs ≡ octets ++ rest))
 
--- these octets lie within the limit, and the input is them, if it is told
+-- these octets lie within the limit, and they are the input, if it is known
 abbrev pub IsInput : ℕ → Option (List ℕ) → List ℕ → Type 0
 IsInput limit input octets = (length octets ≤ limit) × IfSome input (λ xs. xs ≡ octets)
 
--- nothing is left of the input, if it is told
+-- nothing is left of the input, if it is known
 abbrev pub IsOver : Option (List ℕ) → Type 0
 IsOver input = IfSome input (λ xs. xs ≡ [])
 
@@ -46,6 +46,6 @@ HasNext limit input lines line = NoFeed line × (Begins limit input (closed line
 abbrev pub HasMore : ℕ → Option (List ℕ) → List (List ℕ) → Type 0
 HasMore limit input lines = (x : ℕ) × Begins (limit + 1) input (closed lines ++ x ∷ [])
 
--- the first octet past the limit stands in the line that follows these lines
+-- the first octet past the limit is in the line after these lines
 abbrev pub IsPast : ℕ → Option (List ℕ) → List (List ℕ) → Type 0
 IsPast limit input lines = (part : List ℕ) × (x : ℕ) × NoFeed part × (length (closed lines ++ part) ≡ limit) × Begins (limit + 1) input (closed lines ++ (part ++ x ∷ []))

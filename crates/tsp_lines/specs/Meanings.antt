@@ -1,4 +1,4 @@
--- What a treatment of lines means, and what its calls come to.
+-- What lines mean to a command, and what the calls of its treatment answer.
 use Rattle.std.specs.Prelude.{◌≡◌, ℕ, ◌⊎◌, List, [], ◌∷◌, ◌++◌}
 use Rattle.std.specs.declared.option.Option.{Option}
 use Rattle.tsp_lines.specs.Outputs.{Hands}
@@ -12,26 +12,26 @@ abbrev pub stop_of : Unwritten → Stop
 stop_of NotWritten = WriteFault
 stop_of NoMemory = OutOfMemory
 
--- what lists of lines mean to a treatment
+-- what lists of lines mean to a command
 pub record Meaning : Type 1 where
   -- these lines are accepted, each after those before it, and this is their output
   pub accepts : List (List ℕ) → List ℕ → Type 0
   -- after these lines this line is refused, with this cause
   pub refuses : List (List ℕ) → List ℕ → List ℕ → Type 0
-  -- after these lines this line is past a limit of the treatment's own
+  -- after these lines this line is past a limit of the command's own
   pub limits : List (List ℕ) → List ℕ → Type 0
-  -- after these lines any line is past a limit of the treatment's own, from its first octet on
+  -- after these lines any line is past a limit of the command's own, from its first octet on
   pub full : List (List ℕ) → Type 0
-  -- the input may end after these lines, and this is then the output besides
+  -- the input may end after these lines, and this is then the output of its end
   pub ends : List (List ℕ) → List ℕ → Type 0
   -- the input may not end after these lines, with this cause
   pub lacks : List (List ℕ) → List ℕ → Type 0
 
--- the line is accepted and its output handed over; the treatment has come to one line more
+-- the line is accepted and its output handed over; the treatment stands for one line more
 abbrev pub Goes : Meaning → (List (List ℕ) → Type 0) → List (List ℕ) → List ℕ → List ℕ → Option (List ℕ) → List ℕ → Option (List ℕ) → List ℕ → Type 0
 Goes m Stands lines text line written held now keeps = (more : List ℕ) × Hands written held now keeps more × m.accepts (lines ++ line ∷ []) (text ++ more) × Stands (lines ++ line ∷ [])
 
--- nothing was handed over, or a part of an output that is then told whole
+-- nothing was handed over, or the beginning of an output of this kind
 abbrev pub Breaks : (List ℕ → Type 0) → Option (List ℕ) → List ℕ → Option (List ℕ) → List ℕ → Type 0
 Breaks IsWhole written held now keeps = (part : List ℕ) × Hands written held now keeps part × ((part ≡ []) ⊎ ((rest : List ℕ) × IsWhole (part ++ rest)))
 

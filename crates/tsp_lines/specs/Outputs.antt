@@ -1,4 +1,4 @@
--- What is handed to an output.
+-- What is handed over to an output.
 use Rattle.std.specs.Prelude.{◌≡◌, ℕ, List, ◌++◌}
 use Rattle.std.specs.declared.option.Option.{Option}
 use Rattle.tsp_io.specs.Streams.{Grows}

@@ -8,7 +8,7 @@ use Rattle.tsp_lines.specs.declared.next.Next.TheVariants.{Line, Last, Long, Lon
 use Rattle.tsp_lines.specs.declared.next.Fill.{Fill}
 use Rattle.tsp_lines.specs.declared.next.Fill.TheVariants.{More, Over, NotRead}
 
--- a reader: the line last given, the first octets of the long line last given, the octets read and not used yet, how many were got in all, and how many may be
+-- a reader: the line last given, the first octets of the long line last given, the octets read and not used yet, how many were read in all, and the limit
 pub record ReaderValue : Type 0 where
   pub line : List ℕ
   pub start : List ℕ
@@ -20,7 +20,7 @@ pub record ReaderValue : Type 0 where
 abbrev pub IsUsed : ReaderValue → Type 0
 IsUsed r = (r.got ≤ r.limit + length r.held) × (length r.held < 65536)
 
--- what a reader gives of the octets ahead, which it held or read
+-- what a reader gives, where these are the next octets of the input, held or read
 abbrev pub IsNext : ReaderValue → List ℕ → Next → Type 0
 IsNext r ahead Line = NoFeed r.line × (length r.line ≤ 1024) × (ahead ≡ close r.line ++ r.held) × IsUsed r
 IsNext r ahead Last = NoFeed r.line × (0 < length r.line) × (length r.line ≤ 1024) × (ahead ≡ r.line) × (r.held ≡ []) × IsUsed r
@@ -30,7 +30,7 @@ IsNext r ahead End = (ahead ≡ []) × (r.held ≡ []) × IsUsed r
 IsNext r ahead Limit = (r.got ≡ r.limit + 1) × ((part : List ℕ) × (x : ℕ) × NoFeed part × (ahead ≡ part ++ x ∷ []))
 IsNext r ahead Failed = NoFeed ahead × (r.got ≤ r.limit)
 
--- what is given where these octets were read behind a part of a long line
+-- what a reader gives of a long line that goes on with these octets
 abbrev pub IsPassed : ReaderValue → List ℕ → Next → Type 0
 IsPassed r octets Line = ⊥
 IsPassed r octets Last = ⊥
@@ -40,7 +40,7 @@ IsPassed r octets End = ⊥
 IsPassed r octets Limit = (r.got ≡ r.limit + 1) × ((part : List ℕ) × (x : ℕ) × NoFeed part × (octets ≡ part ++ x ∷ []))
 IsPassed r octets Failed = (octets ≡ []) × (r.got ≤ r.limit)
 
--- what is given where a long line goes on to this
+-- what is given for a long line that goes on up to this
 abbrev pub long_of : Next → Next
 long_of Limit = Limit
 long_of Line = Long
@@ -66,7 +66,7 @@ IsFill More octets = 0 < length octets
 IsFill Over octets = octets ≡ []
 IsFill NotRead octets = octets ≡ []
 
--- the input's end was met
+-- the input is at its end
 abbrev pub meets_end : Fill → Bool
 meets_end More = false
 meets_end Over = true

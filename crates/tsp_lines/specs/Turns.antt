@@ -1,4 +1,4 @@
--- The turns of a treatment: how far it has come, and how it ends.
+-- A treatment of lines under way: how far it is, and how it ends.
 use Rattle.std.specs.Prelude.{◌≡◌, ℕ, ◌<◌, ◌≤◌, ◌+◌, ◌⊎◌, List, [], ◌∷◌, ◌++◌, length, All}
 use Rattle.std.specs.declared.option.Option.{Option}
 use Rattle.tsp_io.specs.Streams.{Gives}
@@ -12,7 +12,7 @@ use Rattle.tsp_lines.specs.declared.treatment.Stop.TheVariants.{Bad as Refused, 
 use Rattle.tsp_lines.specs.declared.treat.Outcome.{Outcome}
 use Rattle.tsp_lines.specs.declared.treat.Outcome.TheVariants.{Ok as Done, Bad, ReadFault, WriteFault, Limit, OutOfMemory}
 
--- what may be written at a place of the input
+-- what may be written at a line of the input, or at its end
 pub record Sayings : Type 1 where
   -- where its end is accepted
   pub done : List ℕ → Type 0
@@ -53,7 +53,7 @@ end_sayings m lines number = record {
   more = λ w. ⊥;
 }
 
--- how it ends: a saying was written whole, or a part of one, and the rest is held
+-- how it ends: one of these was written whole, or the beginning of it, and the rest is held
 abbrev pub Ends : Sayings → Option (List ℕ) → List ℕ → Option (List ℕ) → Outcome → Type 0
 Ends s written held now Done = (said : List ℕ) × s.done said × Hands written held now [] said
 Ends s written held now Bad = (said : List ℕ) × s.bad said × Hands written held now [] said
@@ -69,7 +69,7 @@ Stopped number written held now keeps Limited outcome = Ends (only_limited (limi
 Stopped number written held now keeps Unwrote outcome = (outcome ≡ WriteFault) × (now ≡ written) × (keeps ≡ held)
 Stopped number written held now keeps Unheld outcome = (outcome ≡ OutOfMemory) × (now ≡ written) × (keeps ≡ held)
 
--- the treatment has come so far: these lines were got and accepted, and this is their output
+-- how far a treatment is: these lines were read and accepted, and this is their output
 pub record IsAt (m : Meaning) (Stands : List (List ℕ) → Type 0) (input left written now : Option (List ℕ)) (reader : ReaderValue) (held : List ℕ) (number : ℕ) (lines : List (List ℕ)) (text : List ℕ) : Type 0 where
   pub feedless : All NoFeed lines
   pub accepted : m.accepts lines text

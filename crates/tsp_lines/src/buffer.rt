@@ -1,4 +1,4 @@
-//! A buffer that is read into.
+//! The buffer of a reader.
 ghost use Rattle.std.specs.Prelude.{◌≡◌, ◌≢◌, ℕ, List, ◌≤◌, ◌<◌, ◌+◌, ◌-◌, ◌++◌, length, take};
 ghost use Rattle.std.specs.Prelude.{slice_range, true, if◌then◌else◌};
 ghost use Rattle.tsp_io.specs.Counts.{Rose};
@@ -8,7 +8,7 @@ ghost use Rattle.tsp_lines.specs.Readings.{count_of, is_end};
 
 use tsp_io::source::{Got, Source};
 
-/// Moves the octets from one place up to another to the front.
+/// Moves the octets from place `from` up to `to` to the front.
 fn move_front(buf: &mut [u8], from: usize, to: usize)
     requires ordered { from ≤ to }
     requires within { to ≤ length buf.old }
@@ -17,7 +17,7 @@ fn move_front(buf: &mut [u8], from: usize, to: usize)
     buf.copy_within(from..to, 0);
 }
 
-/// Reads octets, at most so many, behind those that are held at the front.
+/// Reads at most `most` octets, and puts them after the first `held`.
 fn read_behind<S: Source>(source: &mut S, buf: &mut [u8], held: usize, most: usize) -> Got
     requires some { 0 < most }
     requires room { held + most ≤ length buf.old }
@@ -34,7 +34,7 @@ fn read_behind<S: Source>(source: &mut S, buf: &mut [u8], held: usize, most: usi
     source.read(&mut buf[held..held + most])
 }
 
-/// Moves the octets from one place up to another to the front, and reads more behind them, at most so many.
+/// Moves the octets from place `from` up to `to` to the front, and reads at most `most` octets after them.
 pub(crate) fn refill<S: Source>(
     source: &mut S,
     buf: &mut [u8],

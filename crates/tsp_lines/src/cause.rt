@@ -4,7 +4,7 @@ ghost use Rattle.std.specs.Prelude.{◌≡◌, ◌≤◌, length};
 use arrayvec::ArrayVec;
 use std::marker::Model;
 
-/// The words for which a line is refused, at most 64 octets without a line feed at their end.
+/// Why a line is refused, as words: at most 64 octets, without a line feed at the end.
 #[derive(Drop)]
 pub struct Cause {
     words: ArrayVec<u8, 64>,

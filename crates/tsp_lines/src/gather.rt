@@ -1,4 +1,4 @@
-//! The reading of an input whole, before any of it is treated.
+//! Reads an input whole, before any of it is treated.
 ghost use Rattle.std.specs.Prelude.{◌≡◌, ◌≢◌, ◌≤◌, ◌<◌, ◌^◌, length, false, IfOk};
 ghost use Rattle.tsp_io.specs.Counts.{Rose};
 ghost use Rattle.tsp_lines.specs.Gatherings.{Adds, GathersAs, ReadsPart};
@@ -10,26 +10,26 @@ use tsp_io::source::{Got, Source};
 /// How many octets are read at once, at most.
 const ROOM: usize = 65536;
 
-/// Why an input wasn't gathered.
+/// Why an input couldn't be read whole.
 #[derive(Clone, Copy, PartialEq, Eq, Debug)]
 pub(crate) enum Ungathered {
     /// A read failed.
     ReadFault,
-    /// There was no memory.
+    /// Out of memory.
     OutOfMemory,
 }
 
 /// What one read adds to the octets of an input.
 pub(crate) enum Added {
-    /// Some.
+    /// At least one octet.
     More,
-    /// None: the input has ended.
+    /// Nothing: the input is at its end.
     End,
-    /// None: the read failed, or there was no memory.
+    /// Nothing: the read failed, or out of memory.
     Fault(Ungathered),
 }
 
-/// Reads octets behind those that were read, at most so many.
+/// Reads at most `most` octets more.
 fn read_more<S: Source>(octets: &mut Vec<u8>, buf: &mut [u8], most: usize, source: &mut S) -> Added
     requires some { 0 < most }
     requires room { most ≤ length buf.old }

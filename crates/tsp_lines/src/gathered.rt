@@ -1,9 +1,9 @@
-//! Octets of an input that are held in memory, and given as a source.
+//! An input that was read into memory, as a source.
 ghost use Rattle.std.specs.Prelude.{◌≡◌, ◌≤◌, ◌++◌, length, take, drop, vec_len, Some, min};
 
 use tsp_io::source::{Got, Source};
 
-/// Octets that were read of an input, and how far they are given again.
+/// The octets of an input, and how many of them were given.
 #[derive(Drop)]
 pub(crate) struct Gathered {
     octets: Vec<u8>,
@@ -27,7 +27,7 @@ impl Gathered {
     }
 }
 
-/// Copies as many octets as fit to the front of the buffer, and counts them.
+/// Copies octets to the front of the buffer, as many as it has room for, and gives their count.
 fn copy_front(octets: &[u8], buf: &mut [u8]) -> usize
     ensures count { result ≡ min (length octets.now) (length buf.old) }
     ensures split { octets.now ≡ take result buf.new ++ drop result octets.now }

@@ -1,4 +1,4 @@
-//! Laws of what comes of an input.
+//! Theorems about the answer to an input. Nothing here runs in the program.
 ghost use Rattle.std.specs.Prelude.{◌≡◌, ◌*◌, ℕ, List};
 ghost use Rattle.tsp_lines.specs.Answers.{IsAnswer};
 ghost use Rattle.tsp_lines.specs.Definite.{IsDefinite};
@@ -7,7 +7,7 @@ ghost use Rattle.tsp_lines.specs.declared.limits.TheConstants.{MOST_INPUT};
 
 use crate::treatment::Treatment;
 
-/// An input has one answer at most: one outcome, and one output.
+/// An input has at most one answer: one outcome and one output.
 pub fn one_answer<T: Treatment>()
     ensures { IsDefinite T.meaning → (limit : ℕ) (octets : List ℕ) (outcome another : Outcome)
         (output other : List ℕ) → IsAnswer T.meaning limit octets outcome output

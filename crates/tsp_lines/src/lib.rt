@@ -1,9 +1,22 @@
-//! Lines as a stream: each line is treated as soon as its line feed was got, and its output is written
-//! before more of the input is read.
+//! Commands that read lines and write text. Each line is treated as soon as its line feed was read, and
+//! its output is written before more of the input is read.
 //!
-//! Whoever has a command of lines makes a [`treatment::Treatment`] with its meaning, and calls
-//! [`treat::treat_all`]; the limit of octets, long lines, refusals, write faults and lack of memory
-//! are dealt with here, alike for all commands.
+//! A command implements [`treatment::Treatment`], with its meaning: which lines it accepts and what it
+//! writes for them. Then it calls [`treat::treat_all`], or [`treat_gathered::treat_gathered`] where the
+//! whole input has to be read first. The limit of octets, long lines, refusals, faults of reads and
+//! writes and lack of memory are handled here, for all commands alike.
+//!
+//! ```
+//! let mut source = MemorySource::new(alloc, b"first\nsecond\n", &[])?;
+//! let mut sink = MemorySink::new(alloc, &[])?;
+//! // `treatment` writes each line as it is, and refuses `second` for the cause `word`.
+//! let outcome = treat_all(alloc, MOST_INPUT, &mut source, &mut sink, &mut treatment);
+//! assert!(matches!(outcome, Outcome::Bad));
+//! assert_eq!(sink.written(), b"first\nbad 2 word\n");
+//! ```
+//!
+//! A [`reader::LineReader`] gives the lines, and an [`output::Output`] gathers what is to be written.
+//! `docs/LINES.md` says more.
 #![tactic(auto)]
 
 mod buffer;

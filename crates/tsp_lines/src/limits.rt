@@ -1,4 +1,4 @@
 //! The limits of inputs.
 
-/// The most octets of a command's input: 64 MiB.
+/// The greatest input of a command, in octets: 64 MiB.
 pub const MOST_INPUT: u64 = 67_108_864;

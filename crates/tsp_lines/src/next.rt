@@ -5,27 +5,27 @@
 pub enum Next {
     /// A line that a line feed ended.
     Line,
-    /// A line that the end of the input ended.
+    /// The last line, without a line feed.
     Last,
-    /// A line of more than 1,024 octets, which was passed over to its line feed.
+    /// A line of more than 1,024 octets, which was skipped up to its line feed.
     Long,
-    /// A line of more than 1,024 octets, which was passed over to the end of the input.
+    /// A line of more than 1,024 octets, which was skipped up to the end of the input.
     LongLast,
     /// The end of the input.
     End,
-    /// The line in which the first octet past the limit stands.
+    /// The line with the first octet past the limit.
     Limit,
     /// A read failed.
     Failed,
 }
 
-/// What is there of the input.
+/// Whether there is more of the input.
 #[derive(Clone, Copy, PartialEq, Eq, Debug)]
 pub enum Fill {
-    /// At least one octet.
+    /// There is at least one octet.
     More,
-    /// Its end.
+    /// No: it is at its end.
     Over,
-    /// Nothing yet: a read failed.
+    /// Unknown: a read failed.
     NotRead,
 }

@@ -9,7 +9,7 @@ use std::alloc::{AllocError, Global};
 use std::marker::Model;
 use tsp_io::sink::{Sink, Wrote};
 
-/// The room of the buffer, in octets.
+/// The size of the buffer, in octets.
 const ROOM: usize = 65536;
 
 /// Why octets weren't written.
@@ -17,11 +17,11 @@ const ROOM: usize = 65536;
 pub enum Unwritten {
     /// A write failed.
     WriteFault,
-    /// There was no memory.
+    /// Out of memory.
     OutOfMemory,
 }
 
-/// Where a write was cut off, and why.
+/// How far a write came, and why it ended.
 #[derive(Clone, Copy)]
 pub struct Cut {
     /// How many octets were written before.
@@ -30,7 +30,7 @@ pub struct Cut {
     pub fault: Unwritten,
 }
 
-/// Writes the octets whole, or up to the place of a fault, with no buffer between.
+/// Writes all octets, or up to a fault, without a buffer.
 pub fn write_all<K: Sink>(sink: &mut K, octets: &[u8]) -> Result<(), Cut>
     ensures ok { OnOk result (Grows (K.written sink.old) (K.written sink.new) octets.now) }
     ensures cut { IfErr result (λ cut. (cut.at < length octets.now)
@@ -66,7 +66,7 @@ fn drop_front(octets: &mut Vec<u8>, count: usize)
     octets.truncate(left);
 }
 
-/// Octets on their way to a sink. They are held until the buffer of 64 KiB is full or is flushed.
+/// A buffer of 64 KiB before a sink. Octets are held until it is full or is flushed.
 #[derive(Drop)]
 pub struct Output {
     octets: Vec<u8>,
@@ -83,7 +83,7 @@ impl Model for Output {
 }
 
 impl Output {
-    /// An output that holds nothing.
+    /// An empty buffer. Fails only if out of memory.
     pub fn new(alloc: Global) -> Result<Output, AllocError>
         ensures { IfOk result (λ o. o ≡ []) }
     {
@@ -92,9 +92,9 @@ impl Output {
         })
     }
 
-    /// Hands a piece over, and writes what was held before where the buffer has no room for the piece.
+    /// Puts a piece, at most 64 KiB, into the buffer. Where it has no room, what it holds is written first.
     ///
-    /// Where it fails nothing of the piece is handed over.
+    /// Fails where that write fails; then nothing of the piece is taken, and what wasn't written is still held.
     pub fn put<K: Sink>(&mut self, sink: &mut K, piece: &[u8]) -> Result<(), Unwritten>
         requires { length piece.now ≤ 65536 }
         ensures ok { OnOk result (Hands (K.written sink.old) self.old (K.written sink.new) self.new
@@ -117,7 +117,7 @@ impl Output {
 
     /// Writes all that is held.
     ///
-    /// Where it fails, what wasn't written is still held.
+    /// Where a write fails, what wasn't written is still held.
     pub fn flush<K: Sink>(&mut self, sink: &mut K) -> Result<(), Unwritten>
         ensures ok { OnOk result (self.new ≡ []) }
         ensures hands { Hands (K.written sink.old) self.old (K.written sink.new) self.new [] }

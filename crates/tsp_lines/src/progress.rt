@@ -1,4 +1,4 @@
-//! How far a treatment has come, and how it ends.
+//! A treatment of lines under way: how far it is, and how it ends.
 ghost use Rattle.std.specs.Prelude.{◌≡◌, ◌≢◌, ℕ, List, ◌≤◌, ◌<◌, ◌+◌, ◌-◌, ◌^◌, [], ◌++◌, ◌⊎◌};
 ghost use Rattle.std.specs.Prelude.{length, take, true, false, IfOk, IfErr, OnOk, OnErr, IfSome};
 ghost use Rattle.std.specs.Prelude.{MatchOption, MatchResult};
@@ -21,7 +21,7 @@ use crate::treatment::{Stop, Treatment};
 use tsp_io::sink::Sink;
 use tsp_io::source::Source;
 
-/// Hands words over and writes all that is held.
+/// Writes all that is held, and then these words.
 fn say<K: Sink>(output: &mut Output, sink: &mut K, words: &[u8]) -> Result<(), Unwritten>
     requires { length words.now ≤ 65536 }
     ensures ok { OnOk result (Hands (K.written sink.old) output.old (K.written sink.new) []
@@ -37,7 +37,7 @@ fn say<K: Sink>(output: &mut Output, sink: &mut K, words: &[u8]) -> Result<(), U
     output.flush(sink)
 }
 
-/// Says that the input is refused.
+/// Writes that the input is refused.
 fn refuse<K: Sink>(output: &mut Output, sink: &mut K, words: &[u8]) -> Outcome
     requires { length words.now ≤ 65536 }
     ensures ends { Ends (only_bad words.now) (K.written sink.old) output.old (K.written sink.new)
@@ -54,7 +54,7 @@ fn refuse<K: Sink>(output: &mut Output, sink: &mut K, words: &[u8]) -> Outcome
     }
 }
 
-/// Says that a limit is passed.
+/// Writes that a limit is passed.
 fn refuse_limit<K: Sink>(output: &mut Output, sink: &mut K, words: &[u8]) -> Outcome
     requires { length words.now ≤ 65536 }
     ensures ends { Ends (only_limited words.now) (K.written sink.old) output.old
@@ -71,7 +71,7 @@ fn refuse_limit<K: Sink>(output: &mut Output, sink: &mut K, words: &[u8]) -> Out
     }
 }
 
-/// How far a treatment has come: what was read, what is to be written, and the next line's number, from 1 on.
+/// A treatment under way: what was read, what is to be written, and the next line's number, from 1 on.
 #[derive(Drop)]
 pub(crate) struct Progress {
     reader: LineReader,
@@ -80,7 +80,7 @@ pub(crate) struct Progress {
 }
 
 impl Progress {
-    /// Nothing was read yet.
+    /// Before the first line.
     pub(crate) fn new(reader: LineReader, output: Output) -> Progress
         ensures { (result.reader ≡ reader) × (result.output ≡ output) × (result.number ≡ 1) }
     {
@@ -123,7 +123,7 @@ impl Progress {
         Ok(self.reader.next(source))
     }
 
-    /// Says what stopped the treatment.
+    /// Writes what stopped the treatment.
     fn stop<K: Sink>(&mut self, sink: &mut K, stop: Stop) -> Outcome
         ensures stops { Stopped self.old.number (K.written sink.old) self.old.output
             (K.written sink.new) self.new.output stop result }
@@ -148,7 +148,7 @@ impl Progress {
         }
     }
 
-    /// Treats the line last read; none where it is accepted.
+    /// Treats the line last read; None where it is accepted.
     fn treat<K: Sink, T: Treatment>(&mut self, sink: &mut K, treatment: &mut T) -> Option<Outcome>
         requires short { length self.old.reader.line ≤ 1024 }
         requires feedless { NoFeed self.old.reader.line }
@@ -196,7 +196,7 @@ impl Progress {
         refuse(&mut self.output, sink, words.as_slice())
     }
 
-    /// Refuses the line in which the first octet past the limit stands.
+    /// Refuses the line with the first octet past the limit.
     fn refuse_past<K: Sink>(&mut self, sink: &mut K) -> Outcome
         ensures ends { Ends (only_limited (limit_line self.old.number)) (K.written sink.old)
             self.old.output (K.written sink.new) result }
@@ -232,7 +232,7 @@ impl Progress {
         }
     }
 
-    /// Whether the input goes on. What is held is written before more of the input is read.
+    /// Whether the input goes on. What is held is written before more of it is read.
     fn peek<S: Source, K: Sink>(&mut self, source: &mut S, sink: &mut K) -> Result<Fill, Unwritten>
         requires open { S.ended source.old ≡ false }
         ensures fills { IfOk result (λ fill. ((octets : List ℕ)
@@ -264,7 +264,7 @@ impl Progress {
         }
     }
 
-    /// Ends the treatment where no line may follow: with the input's end, or past the limit.
+    /// Ends a treatment that allows no further line: well where the input is at its end, else past the limit.
     pub(crate) fn close<S: Source, K: Sink, T: Treatment>(
         &mut self,
         source: &mut S,
@@ -305,7 +305,7 @@ impl Progress {
         }
     }
 
-    /// Reads and treats the next line; none where the treatment goes on.
+    /// Reads and treats the next line; None where the treatment goes on.
     pub(crate) fn turn<S: Source, K: Sink, T: Treatment>(
         &mut self,
         source: &mut S,

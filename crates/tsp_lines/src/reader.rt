@@ -15,16 +15,16 @@ use std::alloc::{AllocError, Global};
 use std::marker::Model;
 use tsp_io::source::{Got, Source};
 
-/// The room of the buffer, in octets.
+/// The size of the buffer, in octets.
 const ROOM: usize = 65536;
 
-/// The most octets of a line, without its line feed.
+/// The greatest length of a line, in octets, without its line feed.
 const LONGEST: usize = 1024;
 
-/// How many octets of a long line are kept.
+/// How many octets of a long line are remembered.
 const START: usize = 8;
 
-/// What is given where a long line goes on to this.
+/// What is given for a long line that goes on up to this.
 fn long_of(next: Next) -> Next
     ensures { result ≡ long_of next }
 {
@@ -34,8 +34,8 @@ fn long_of(next: Next) -> Next
     }
 }
 
-/// Octets that were read from a source and not used yet, the line last given, and the first octets of
-/// the long line last given.
+/// A reader of lines: octets that were read and not used yet, the line last given, and the first octets
+/// of the long line last given.
 #[derive(Drop)]
 pub struct LineReader {
     buf: Vec<u8>,
@@ -68,7 +68,8 @@ impl Model for LineReader {
 }
 
 impl LineReader {
-    /// A reader that has read nothing, and reads no octet behind the first one past the limit.
+    /// A reader before its first read. It never reads past the first octet after `limit`. Fails only if out
+    /// of memory.
     pub fn new(alloc: Global, limit: u64) -> Result<LineReader, AllocError>
         requires { limit < 2 ^ 63 }
         ensures { IfOk result (λ r. r ≡ record {
@@ -105,7 +106,7 @@ impl LineReader {
         self.start.as_slice()
     }
 
-    /// The first octets of the long line that is held.
+    /// The first octets of a long line whose beginning is held.
     fn start_of_held(&self) -> ArrayVec<u8, START>
         requires { 1024 < length self.now.held }
         ensures { result.items ≡ take 8 self.now.held }
@@ -115,7 +116,7 @@ impl LineReader {
         start
     }
 
-    /// Keeps the first octets of a long line.
+    /// Remembers the first octets of a long line.
     fn keep(&mut self, start: ArrayVec<u8, START>)
         ensures { self.new ≡ record self.old { start = start.items } }
     {
@@ -169,7 +170,7 @@ impl LineReader {
         Next::Line
     }
 
-    /// The next line, or the limit's, where its end is held; none where more has to be read first.
+    /// The next line, or `Limit`, where that needs no read; None where more has to be read first.
     pub fn next_held(&mut self) -> Option<Next>
         ensures next { MatchOption result (NoFeed self.old.held × (self.new.held ≡ self.old.held)
             × (self.new.got ≤ self.new.limit)) (λ next. IsNext self.new self.old.held next
@@ -190,7 +191,7 @@ impl LineReader {
         Some(self.give(place))
     }
 
-    /// Reads more behind what is held.
+    /// Reads more after what is held.
     fn fill<S: Source>(&mut self, source: &mut S) -> Fill
         requires room { length self.old.held ≤ 1024 }
         requires within { self.old.got ≤ self.old.limit }
@@ -224,7 +225,7 @@ impl LineReader {
         }
     }
 
-    /// The last line, where the input's end was read.
+    /// The last line, once the input's end was read.
     fn last(&mut self) -> Next
         requires last { NoFeed self.old.held }
         requires short { length self.old.held ≤ 1024 }
@@ -258,7 +259,7 @@ impl LineReader {
         self.end - self.at
     }
 
-    /// Passes over what is held of a long line, and reads on; none where the line goes on still.
+    /// Skips what is held of a long line, and reads on; None where the line still goes on.
     fn pass<S: Source>(&mut self, source: &mut S) -> Option<Next>
         requires within { self.old.got ≤ self.old.limit }
         requires open { S.ended source.old ≡ false }
@@ -288,7 +289,7 @@ impl LineReader {
         }
     }
 
-    /// Passes over a long line, of which what is held is the beginning.
+    /// Skips a long line whose beginning is held.
     fn pass_over<S: Source>(&mut self, source: &mut S) -> Next
         requires line { NoFeed self.old.held }
         requires long { 1024 < length self.old.held }
@@ -313,7 +314,7 @@ impl LineReader {
         }
     }
 
-    /// Whether an octet is there that isn't used yet. Reads where none is held.
+    /// Whether there is an octet that isn't used yet. Reads where none is held.
     pub fn peek<S: Source>(&mut self, source: &mut S) -> Fill
         requires open { S.ended source.old ≡ false }
         ensures fills { (octets : List ℕ) × Gives (S.left source.old) (S.left source.new) octets
@@ -334,7 +335,7 @@ impl LineReader {
         self.fill(source)
     }
 
-    /// The next line, which may need reads.
+    /// The next line. Reads as often as it needs.
     pub fn next<S: Source>(&mut self, source: &mut S) -> Next
         requires open { S.ended source.old ≡ false }
         ensures next { (octets : List ℕ) × Gives (S.left source.old) (S.left source.new) octets

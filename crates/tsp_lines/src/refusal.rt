@@ -5,7 +5,7 @@ ghost use Rattle.tsp_lines.specs.Outcomes.{bad_line, limit_line};
 use arrayvec::ArrayVec;
 use itoa::Buffer;
 
-/// The words of a refused line: its number, from 1 on, and the cause, at most 64 octets.
+/// The words for a refused line, `bad LINE CAUSE`: its number, from 1 on, and the cause, at most 64 octets.
 pub fn bad_line(number: u64, cause: &[u8]) -> ArrayVec<u8, 128>
     requires { length cause.now ≤ 64 }
     ensures { result.items ≡ bad_line number cause.now }
@@ -20,7 +20,7 @@ pub fn bad_line(number: u64, cause: &[u8]) -> ArrayVec<u8, 128>
     words
 }
 
-/// The words of a line past a limit: its number, from 1 on.
+/// The words for a line past a limit, `limit LINE`: its number, from 1 on.
 pub fn limit_line(number: u64) -> ArrayVec<u8, 128>
     ensures { result.items ≡ limit_line number }
 {

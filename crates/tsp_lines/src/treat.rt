@@ -13,7 +13,7 @@ use std::alloc::Global;
 use tsp_io::sink::Sink;
 use tsp_io::source::Source;
 
-/// What the treatment of an input comes to.
+/// How the treatment of an input ends.
 #[derive(Clone, Copy, PartialEq, Eq, Debug)]
 pub enum Outcome {
     /// The input was read to its end, and all its lines were accepted.
@@ -26,18 +26,18 @@ pub enum Outcome {
     WriteFault,
     /// A limit was passed.
     Limit,
-    /// There was no memory.
+    /// Out of memory.
     OutOfMemory,
 }
 
-/// Treats all lines of an input, each as soon as its line feed was got, and writes its output before
-/// more is read.
+/// Treats all lines of an input, each as soon as its line feed was read, and writes its output before more
+/// is read.
 ///
-/// A refused line ends the treatment with the words `bad LINE CAUSE`, and a limit with `limit LINE`.
-/// An input of more octets than the limit is treated up to the line in which the first octet past the
-/// limit stands, and no octet behind that one is read. `ReadFault` and `WriteFault` come only where the
-/// source's or the sink's count of faults rose in this call, and a count that rose ends it so. With any
-/// other outcome, or with a part of its output and lack of memory, the input's answer was written.
+/// At a refused line it writes `bad LINE CAUSE` and ends; at a limit, `limit LINE`. An input of more than
+/// `limit` octets is treated up to the line with the first octet past the limit, and nothing after that
+/// octet is read. `ReadFault` comes only where the source's count of faults rose in this call, `WriteFault`
+/// only where the sink's did, and a count that rose ends the call so. With `Ok`, `Bad` and `Limit` the whole
+/// output was written, with any other outcome the beginning of it.
 pub fn treat_all<S: Source, K: Sink, T: Treatment>(
     alloc: Global,
     limit: u64,

@@ -1,4 +1,4 @@
-//! The treatment of an input that is read whole before.
+//! The treatment of an input that is read whole first.
 ghost use Rattle.std.specs.Prelude.{◌≡◌, ◌≢◌, ◌≤◌, ◌<◌, ◌^◌, [], true, false};
 ghost use Rattle.tsp_io.specs.Counts.{Rose};
 ghost use Rattle.tsp_lines.specs.Answers.{Answers};
@@ -14,8 +14,8 @@ use tsp_io::source::Source;
 
 /// Reads an input to its end, or up to the first octet past the limit, and then treats its lines.
 ///
-/// It ends as `treat_all` does, but that no line is treated and nothing is written where a read
-/// fails. The octets are held in memory, at most one more than the limit.
+/// It ends as `treat_all` does, except that no line is treated and nothing is written where a read fails. The
+/// octets are held in memory, at most one more than the limit.
 pub fn treat_gathered<S: Source, K: Sink, T: Treatment>(
     alloc: Global,
     limit: u64,

@@ -1,4 +1,4 @@
-//! What is done with lines.
+//! What a command does with lines.
 ghost use Rattle.std.specs.Prelude.{◌≡◌, ◌≢◌, ℕ, ◌≤◌, ◌<◌, length, take, List, MatchBool, MatchResult};
 ghost use Rattle.tsp_io.specs.Counts.{Rose};
 ghost use Rattle.tsp_lines.specs.Lines.{NoFeed};
@@ -8,16 +8,16 @@ use crate::cause::Cause;
 use crate::output::{Output, Unwritten};
 use tsp_io::sink::Sink;
 
-/// Why no more lines are treated.
+/// Why a treatment ends early.
 #[derive(Drop)]
 pub enum Stop {
     /// The line, or the end of the input, is refused.
     Bad(Cause),
-    /// The line is past a limit of the treatment's own.
+    /// The line is past a limit of the command's own.
     Limit,
     /// A write failed.
     WriteFault,
-    /// There was no memory.
+    /// Out of memory.
     OutOfMemory,
 }
 
@@ -32,24 +32,24 @@ impl From<Unwritten> for Stop {
     }
 }
 
-/// Something that takes lines one after the other and hands over their output.
+/// A command of lines: it takes one line after the other, and puts their output into an `Output`.
 pub trait Treatment {
-    /// Which lines are accepted after which, and their output.
+    /// The meaning of the command: which lines it accepts after which, and their output.
     ghost meaning: { Meaning };
 
-    /// The treatment is where these lines, all accepted, have brought it.
+    /// The treatment stands for these lines: it is in the state after them, and all were accepted.
     ghost stands: { Self → List (List ℕ) → Type 0 };
 
-    /// Whether no line may follow. It is asked before each line; where it is so, the first octet of
-    /// another line passes a limit.
+    /// Whether no further line is allowed. It is asked before each line; where it is true, the first octet
+    /// of another line passes a limit.
     fn is_full(&self) -> bool
         ensures { (lines : List (List ℕ)) → stands self.now lines
             → MatchBool result (meaning.full lines) (¬ meaning.full lines) };
 
-    /// Treats a line, which is given without its line feed: hands its output over, or says why not.
+    /// Treats a line, which comes without its line feed: puts its output into `output`, or says why not.
     ///
-    /// `Bad` and `Limit` come before anything is handed over, `WriteFault` and `OutOfMemory` at any
-    /// place of the output; after any of them no call is made. A write that fails ends the call.
+    /// With `Bad` and `Limit` nothing of its output was put, with `WriteFault` and `OutOfMemory` a part of it.
+    /// After any of them the treatment gets no further call. A write that fails must end the call.
     fn treat<K: Sink>(&mut self, line: &[u8], output: &mut Output, sink: &mut K) -> Result<(), Stop>
         requires short { length line.now ≤ 1024 }
         requires feedless { NoFeed line.now }
@@ -64,16 +64,15 @@ pub trait Treatment {
             × (0 < length output.new) }
         ensures still { result ≢ Err Stop.WriteFault → K.faults sink.new ≡ K.faults sink.old };
 
-    /// The cause for which a line of more than 1,024 octets is refused, of which only the first 8
-    /// octets are given.
+    /// The cause for which a line of more than 1,024 octets is refused; `start` is its first 8 octets.
     fn refuse_long(&mut self, start: &[u8]) -> Cause
         ensures { (lines : List (List ℕ)) → (text : List ℕ) → (line : List ℕ)
             → stands self.old lines → meaning.accepts lines text → ¬ meaning.full lines
             → NoFeed line → 1024 < length line → start.now ≡ take 8 line
             → meaning.refuses lines line result };
 
-    /// Says whether the input may end here, and hands over the output of its end. A write that fails ends
-    /// the call.
+    /// Ends the treatment at the end of the input: puts the last output, or says why the input may not end here.
+    /// A write that fails must end the call.
     fn end<K: Sink>(&mut self, output: &mut Output, sink: &mut K) -> Result<(), Stop>
         ensures ends { (lines : List (List ℕ)) → (text : List ℕ) → stands self.old lines
             → meaning.accepts lines text

@@ -1,4 +1,4 @@
--- What a node does with a LOOP, as the rules have it.
+-- What a node does with a LOOP, by the rules.
 use Rattle.std.specs.Prelude.{ℕ, nat_le, nat_lt, Bool, ◌&&◌, if◌then◌else◌}
 use Rattle.tsp_base.specs.declared.constants.TheConstants.{HOPS}
 use Rattle.tsp_base.specs.declared.place.Port.{Port}
@@ -16,6 +16,6 @@ step_of (Forwards m) = Forward m
 abbrev pub judge_own : ℕ → Port → LoopStep
 judge_own number port = if nat_lt number port.0 then GiveUp else PassOver
 
--- whether a LOOP may go on
+-- whether a LOOP may be passed on: it has 1 to 10 hops
 abbrev pub has_hops : MessageValue → Bool
 has_hops m = nat_le 1 (hops_in m.body) && nat_le (hops_in m.body) HOPS

@@ -1,6 +1,16 @@
-//! What a node does with a LOOP: it says whether two networks are joined twice.
+//! What a gateway does with a LOOP: the message that finds out whether two networks are joined twice.
 //!
-//! [`judge`] is asked for each LOOP that came, and answers what is to be done with it; the gateway does it.
+//! The caller asks [`judge`] about each LOOP that came from a peer, and does what it answers. A node
+//! sends LOOPs with its own name and the number of the port; others pass them on. One that comes back on
+//! a higher port shows that another gateway joins the same networks:
+//!
+//! ```
+//! match judge(&own, ports, port, &message) {
+//!     LoopStep::PassOver => (),
+//!     LoopStep::GiveUp => stop_leading_on(port),
+//!     LoopStep::Forward(next) => post_to_peers_of_other_ports(port, next), // with one hop less
+//! }
+//! ```
 #![tactic(auto)]
 
 mod step;

@@ -14,16 +14,16 @@ use tsp_base::place::Port;
 pub enum LoopStep {
     /// Nothing.
     PassOver,
-    /// It stops leading on the port: another node joins this port's network to one of a lower port.
+    /// It stops leading on the port: another gateway joins this port's network to that of a lower port.
     GiveUp,
-    /// It passes this message on to its other ports.
+    /// It posts this message to the peers of its other ports.
     Forward(Message),
 }
 
-/// What a node of this name and with so many ports does with a LOOP that a port took. Its own that
-/// came back on a higher port than it set out from makes it give up; another node's that has 1 to
-/// `HOPS` hops goes on with one less; every other is passed over, and so is any where there is one
-/// port.
+/// What a node with this name and so many ports does with a LOOP that it took on a port. An own LOOP
+/// that came back on a higher port than it was sent from makes it give up. Another node's with 1 to
+/// `HOPS` hops is passed on with one less. Every other one is ignored, and so are all where the node
+/// has one port.
 pub fn judge(own: &Name, ports: u8, port: Port, m: &Message) -> LoopStep
     requires { m.now.kind ≡ Loop }
     ensures { step_of result ≡ judge own.now ports port m.now }
@@ -51,7 +51,7 @@ fn back(number: u16, port: Port) -> LoopStep
     }
 }
 
-/// Whether two names are one.
+/// Whether two names are the same.
 fn is_same(name: &Name, own: &Name) -> bool
     ensures { result ≡ same_name name.now own.now }
 {

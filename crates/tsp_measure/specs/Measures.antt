@@ -18,12 +18,12 @@ pub record IsStamp (x : ℤ) : Type 0 where
   pub low : negsuc 2147483647999998 ≤ℤ x
   pub high : x ≤ℤ pos 2147483647999999
 
--- the exchanges with a peer: those without an answer as they began, and the samples as their answers came
+-- the exchanges with a peer: the open ones in the order of their requests, and the samples in the order of their replies
 pub record Measured : Type 0 where
   pub pending : List Exchange
   pub samples : List TimedSample
 
--- no exchange was begun
+-- no exchange
 abbrev pub nothing_measured : Measured
 nothing_measured = record { pending = []; samples = [] }
 
@@ -36,7 +36,7 @@ pub record IsNewCounter (counter : ℕ) (m : Measured) : Type 0 where
   pub pending : All (λ (e : Exchange). e.counter ≡ counter → ⊥) m.pending
   pub samples : All (λ (t : TimedSample). t.sample.counter ≡ counter → ⊥) m.samples
 
--- the sample of a request at a that was answered at d, where the other clock read s
+-- the sample of a request that was sent at a and answered at d, where the other clock read s
 abbrev pub timed_sample : ℤ → ℤ → ℤ → ℕ → ℕ → TimedSample
 timed_sample a s d ticket counter = record { sample = record { diff = sample_diff a s d; err = sample_err a d; ticket = ticket; counter = counter }; trip = d -ℤ a }
 
@@ -55,12 +55,12 @@ pub record IsAnswered (word counter : ℕ) (ticket : ℕ) (s d : ℤ) (old new :
   pub samples : new.samples ≡ old.samples ++ timed_sample exchange.a s d ticket counter ∷ []
   pub told : answer ≡ (timed_sample exchange.a s d ticket counter).sample
 
--- what an answer does
+-- what a reply changes, and what it was
 abbrev pub Replies : ℕ → ℕ → ℕ → ℤ → ℤ → Measured → Measured → Reply → Type 0
 Replies word counter ticket s d old new NotStarted = All (λ e. asks word counter e ≡ false) old.pending × (new ≡ old)
 Replies word counter ticket s d old new (SampleOf sample) = IsAnswered word counter ticket s d old new sample
 
--- of two samples the one of the lesser round trip, and the earlier where they are equal
+-- of two samples the one with the shorter round trip, and the earlier where they are equal
 abbrev pub better : Option TimedSample → TimedSample → Option TimedSample
 better None late = Some late
 better (Some early) late = if int_lt late.trip early.trip then Some late else Some early
@@ -69,7 +69,7 @@ better (Some early) late = if int_lt late.trip early.trip then Some late else So
 abbrev pub best_of : List TimedSample → Option TimedSample
 best_of samples = fold better None samples
 
--- the sample at place i is the first of least round trip
+-- the sample at place i is the first with the shortest round trip
 pub record IsFirstOfLeastTrip (samples : List TimedSample) (best : TimedSample) (i : ℕ) : Type 0 where
   pub inside : i < length samples
   pub is : slice_index_or samples i best ≡ best

@@ -7,7 +7,7 @@ pub record MeasuredPeers : Type 0 where
   pub peers : List ℕ
   pub measured : List Measured
 
--- what stands at the place of a peer's number
+-- what is at the place of a peer's number
 abbrev pub at_peer : List ℕ → List Measured → ℕ → Measured
 at_peer (q ∷ peers) (m ∷ measured) p = if q == p then m else at_peer peers measured p
 at_peer _ _ p = nothing_measured
@@ -16,6 +16,6 @@ at_peer _ _ p = nothing_measured
 abbrev pub with_peer : MeasuredPeers → ℕ → Measured
 with_peer x p = at_peer x.peers x.measured p
 
--- no peer's number stands before a lesser or equal one
+-- no peer's number comes before a lesser or equal one
 abbrev pub IsAscending : List ℕ → Type 0
 IsAscending peers = (i j : ℕ) → i < j → j < length peers → slice_index peers i < slice_index peers j

@@ -1,12 +1,12 @@
-//! An exchange of stamps that was begun.
+//! An open exchange of stamps.
 
-/// A request without an answer yet.
+/// A stamp request that wasn't answered yet.
 #[derive(Clone, Copy, Default, PartialEq, Eq, Debug)]
 pub struct Exchange {
-    /// The word of the node that sent it.
+    /// The word that the request carries: that of its sender's boot.
     pub word: u64,
-    /// The request's number.
+    /// The counter that the request carries.
     pub counter: u64,
-    /// The sender's clock when it went off, in microseconds.
+    /// The sender's clock when the request was sent, in microseconds.
     pub a: i64,
 }

@@ -13,7 +13,7 @@ use std::alloc::{AllocError, Global};
 use std::marker::Model;
 use tsp_base::place::PeerId;
 
-/// At most four exchanges with each peer since they were last forgotten, and their samples.
+/// The exchanges with each peer, at most four since the last `clear`, and their samples.
 #[derive(Drop)]
 pub struct Exchanges {
     peers: Vec<u32>,
@@ -39,7 +39,7 @@ fn numbers_of(alloc: Global, peers: &[PeerId]) -> Result<Vec<u32>, AllocError>
     peers.iter().map(|peer| peer.0).collect(alloc)
 }
 
-/// The place of a number in an ascending list.
+/// The place of a number in an ascending list; None where it isn't there.
 fn place_of(peers: &[u32], peer: u32) -> Option<usize>
     requires { IsAscending peers.now }
     ensures { MatchOption result (Contains peers.now peer → ⊥) (λ i. (i < length peers.now)
@@ -49,9 +49,9 @@ fn place_of(peers: &[u32], peer: u32) -> Option<usize>
 }
 
 impl Exchanges {
-    /// No exchange with any of the peers, which stand in ascending order.
+    /// No exchange with any of the peers, which must be in ascending order.
     ///
-    /// Fails only where memory is refused; no later call takes any.
+    /// Fails only if out of memory. No later call allocates any.
     pub fn new(alloc: Global, peers: &[PeerId]) -> Result<Exchanges, AllocError>
         requires { IsAscending (map (λ p. p.0) peers.now) }
         ensures peers { IfOk result (λ x. x.peers ≡ map (λ p. p.0) peers.now) }
@@ -68,8 +68,8 @@ impl Exchanges {
         })
     }
 
-    /// Begins an exchange: a request of this word and counter went off at `a`, in microseconds by
-    /// the own clock.
+    /// Begins an exchange: a request with this word and counter was sent at `a`, in microseconds of the own
+    /// clock. The counter must be new, and the exchange at most the peer's fourth since the last `clear`.
     pub fn start(&mut self, peer: PeerId, word: u64, counter: u64, a: i64)
         requires peer { Contains self.old.peers peer.0 }
         requires few { begun (with_peer self.old peer.0) < 4 }
@@ -91,10 +91,11 @@ impl Exchanges {
         }
     }
 
-    /// Takes an answer: the other clock read `s` and the own one `d` when it came, in microseconds.
+    /// Takes a reply: it says that the other clock read `s`, and the own clock read `d` when it came, both in
+    /// microseconds.
     ///
-    /// It is a sample of the exchange without an answer that has this peer, word and counter, and
-    /// [`Reply::NotStarted`] where there is none; then nothing changes.
+    /// It ends the open exchange with this peer, word and counter, and gives its sample. Where there is none it
+    /// is [`Reply::NotStarted`], and nothing changes.
     pub fn reply(
         &mut self,
         peer: PeerId,
@@ -117,7 +118,7 @@ impl Exchanges {
         }
     }
 
-    /// The first of a peer's samples of least round trip; none where it has none.
+    /// The peer's sample with the shortest round trip, the first of them; None where it has no sample.
     pub fn best(&self, peer: PeerId) -> Option<Sample>
         ensures value { result ≡ option_map (λ t. t.sample)
             (best_of (with_peer self.now peer.0).samples) }

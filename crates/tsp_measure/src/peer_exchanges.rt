@@ -29,7 +29,7 @@ impl Model for PeerExchanges {
         × AllReadings e.pending.items };
 }
 
-/// The place of the exchange of this word and counter.
+/// The place of the exchange with this word and counter; None where there is none.
 fn place_of(pending: &[Exchange], word: u64, counter: u64) -> Option<usize>
     ensures { MatchOption result (All (λ e. asks word counter e ≡ false) pending.now)
         (λ i. (i < length pending.now) × HoldsAt (λ e. asks word counter e ≡ true) pending.now i) }
@@ -38,7 +38,7 @@ fn place_of(pending: &[Exchange], word: u64, counter: u64) -> Option<usize>
 }
 
 impl PeerExchanges {
-    /// No exchange was begun.
+    /// No exchange.
     pub(crate) fn new() -> PeerExchanges
         ensures { result ≡ nothing_measured }
     {
@@ -57,7 +57,7 @@ impl PeerExchanges {
         self.pending.push(exchange);
     }
 
-    /// Answers the open exchange of this word and counter, if there is one.
+    /// Answers the open exchange with this word and counter, if there is one.
     pub(crate) fn reply(&mut self, word: u64, counter: u64, ticket: u16, s: i64, d: i64) -> Reply
         requires s { IsStamp s }
         requires d { IsReading d }
@@ -74,7 +74,7 @@ impl PeerExchanges {
         }
     }
 
-    /// The first of the samples of least round trip.
+    /// The sample with the shortest round trip, the first of them.
     pub(crate) fn best(&self) -> Option<Sample>
         ensures { result ≡ option_map (λ t. t.sample) (best_of self.now.samples) }
     {

@@ -6,22 +6,22 @@ ghost use Rattle.tsp_measure.specs.Measures.{IsReading, IsStamp, timed_sample};
 /// What one exchange says of another node's clock.
 #[derive(Clone, Copy, Default, PartialEq, Eq, Debug)]
 pub struct Sample {
-    /// How far that clock stands ahead, in microseconds.
+    /// How far that clock is ahead of the own one, in microseconds; negative where it is behind.
     pub diff: i64,
     /// By how much `diff` may be wrong, in microseconds: half the round trip, rounded up.
     pub err: i64,
-    /// The number that the node's next correction is to have.
+    /// The number that the node's next correction must have.
     pub ticket: u16,
-    /// The number of the request.
+    /// The counter of the request.
     pub counter: u64,
 }
 
-/// What came of an answer.
+/// What a reply was.
 #[derive(Clone, Copy, PartialEq, Eq, Debug)]
 pub enum Reply {
-    /// No exchange without an answer has that peer, word and counter.
+    /// No open exchange has this peer, word and counter.
     NotStarted,
-    /// The exchange has its answer.
+    /// It answered an open exchange, which gives this sample.
     Sample(Sample),
 }
 
@@ -30,7 +30,7 @@ pub enum Reply {
 pub struct TimedSample {
     /// The sample.
     pub sample: Sample,
-    /// From the request to the answer, in microseconds by the asking clock.
+    /// The round trip: from the request to the reply, in microseconds of the own clock.
     pub trip: i64,
 }
 
@@ -42,8 +42,8 @@ fn half_down(z: i64) -> i64
 }
 
 impl TimedSample {
-    /// The sample of a request that went off at `a` and was answered at `d`, both by the asking
-    /// clock, where the other clock read `s` between; all in microseconds, and `d` may lie below `a`.
+    /// The sample of a request that was sent at `a` and whose reply came at `d`, both by the own clock, where
+    /// the other clock read `s` in between. All are microseconds; `d` may be below `a`.
     pub fn new(a: i64, s: i64, d: i64, ticket: u16, counter: u64) -> TimedSample
         requires a { IsReading a }
         requires s { IsStamp s }

@@ -1,9 +1,18 @@
 //! Which networks the nodes of a schedule are on, and by which ports.
 //!
-//! A header names its networks, or has one of all its nodes: [`networks_of`] gives them, over
-//! [`all_nodes`] where it names none. Where a datagram goes that a port posts, [`address_of`] says,
-//! and how many acts a node's step may put [`room_of`]. [`refusals`] has the causes for which an
-//! event of the schedule is refused by its time, by what it names and by who is up.
+//! A header names its networks; where it names none, all nodes are on one. [`networks_of`] gives them;
+//! [`all_nodes`] makes that one network. [`address_of`] says where a datagram goes that a port posts, and
+//! [`room_of`] how many acts a node's step may put. [`refusals`] has the causes for which an event of
+//! the schedule is refused: by its time, by what it names and by who is up.
+//!
+//! ```
+//! let all = all_nodes(alloc, header.nodes().len() as u32)?;
+//! let nets = networks_of(&header, all.as_slice());
+//! // Node 0 posts to peer 1 on its first port.
+//! if let Some(address) = address_of(nets, 0, Port(0), Place::Peer(PeerId(1))) {
+//!     arrives(address.node, address.port);
+//! }
+//! ```
 #![tactic(auto)]
 
 ghost use Rattle.std.specs.Prelude.{◌≡◌, ◌≤◌, [], ◌∷◌, length, true, IfOk};
@@ -19,7 +28,7 @@ use tsp_run::address::Address;
 
 pub mod refusals;
 
-/// The network of so many nodes. Fails only if out of memory.
+/// One network of so many nodes, at most 64. Fails only if out of memory.
 pub fn all_nodes(alloc: Global, count: u32) -> Result<Vec<Members>, AllocError>
     requires { count ≤ 64 }
     ensures { IfOk result (λ v. v.items ≡ numbers_below count ∷ []) }
@@ -36,7 +45,7 @@ pub fn all_nodes(alloc: Global, count: u32) -> Result<Vec<Members>, AllocError>
     Ok(one)
 }
 
-/// The networks of a header: its own, or this one of all nodes where it names none.
+/// The networks of a header: those that it names, or `one`, of all nodes, where it names none.
 pub fn networks_of<'a>(header: &'a Header, one: &'a [Members]) -> &'a [Members]
     requires { one.now ≡ numbers_below (length header.now.nodes) ∷ [] }
     ensures networks { result.now ≡ networks header.now }
@@ -82,7 +91,7 @@ pub fn port_count(nets: &[Members], n: u32) -> usize
     count
 }
 
-/// How many acts a node puts in a step at the most.
+/// How many acts a node puts in a step at most.
 pub fn room_of(nets: &[Members], n: u32) -> u64
     requires { length nets.now ≤ 64 }
     ensures room { result ≡ room (ports_on n nets.now) }
@@ -116,7 +125,7 @@ fn network_at(nets: &[Members], n: u32, port: Port) -> Option<u32>
     None
 }
 
-/// By which port a node is on a network; None where it isn't on it.
+/// The port by which a node is on a network; None where it isn't on it.
 fn port_on(nets: &[Members], n: u32, network: u32) -> Option<u8>
     requires { length nets.now ≤ 64 }
     ensures { result ≡ port_from n network 0 0 nets.now }
@@ -136,7 +145,7 @@ fn port_on(nets: &[Members], n: u32, network: u32) -> Option<u8>
 }
 
 /// Where a datagram goes that a node posts on a port: to its addressee's port on the same network. None where
-/// the addressee is no node, or has no port there.
+/// the addressee isn't a node of that network.
 pub fn address_of(nets: &[Members], from: u32, port: Port, to: Place) -> Option<Address>
     requires { length nets.now ≤ 64 }
     ensures { result ≡ address_of nets.now from port to }

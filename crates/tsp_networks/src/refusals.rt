@@ -1,5 +1,5 @@
-//! The causes for which an event is refused by what is there: the last event's time, the nodes,
-//! their networks, and who is up.
+//! Why an event is refused, so far as that depends on the last event's time, the nodes, their
+//! networks, and who is up.
 ghost use Rattle.std.specs.Prelude.{◌≡◌, ◌≤◌, length};
 ghost use Rattle.tsp_run.specs.Refusals.{Scene, down_at, first_of, lacks_port, no_node, time_back};
 ghost use Rattle.tsp_run.specs.Refusals.{unknown, unknown_place};
@@ -32,8 +32,8 @@ pub fn time_of(e: &Event) -> u64
     }
 }
 
-/// `TimeBack` with both times, in microseconds, exactly where that of the event lies before that of
-/// the last one.
+/// `TimeBack` with both times, in microseconds, exactly where the event's time is before that of the last
+/// event.
 pub fn time_back(at: u64, last: u64) -> Option<EventFault>
     ensures { result ≡ time_back at last }
 {
@@ -44,7 +44,7 @@ pub fn time_back(at: u64, last: u64) -> Option<EventFault>
     }
 }
 
-/// No node has this number.
+/// `NoNode` where no node has this number.
 fn unknown(nodes: u32, n: u32) -> Option<EventFault>
     ensures { result ≡ unknown nodes n }
 {
@@ -55,7 +55,7 @@ fn unknown(nodes: u32, n: u32) -> Option<EventFault>
     }
 }
 
-/// The peer that octets seem to come from is no node.
+/// `NoNode` where the peer that octets seem to come from isn't a node.
 fn unknown_place(nodes: u32, from: Place) -> Option<EventFault>
     ensures { result ≡ unknown_place nodes from }
 {
@@ -65,7 +65,7 @@ fn unknown_place(nodes: u32, from: Place) -> Option<EventFault>
     }
 }
 
-/// The node has no such port.
+/// `NoNode` where the node doesn't have this port.
 fn lacks_port(nodes: u32, nets: &[Members], n: u32, port: Port) -> Option<EventFault>
     requires { length nets.now ≤ 64 }
     ensures { (s : Scene) → s.nodes ≡ nodes → s.networks ≡ nets.now → result ≡ lacks_port s n port }
@@ -77,9 +77,9 @@ fn lacks_port(nodes: u32, nets: &[Members], n: u32, port: Port) -> Option<EventF
     }
 }
 
-/// `NoNode` exactly where an event names a node that isn't there, a port that its node lacks on
-/// these networks, or a sender that is no node; with the first number of them that is wrong, of a
-/// port its node's, and how many nodes there are. A take names none.
+/// `NoNode` exactly where an event names a node that doesn't exist, a port that its node doesn't have on
+/// these networks, or a sender that isn't a node. It has the number of the first of these that is
+/// wrong (for a port, of its node), and how many nodes there are. A take names none.
 pub fn no_node(nodes: u32, nets: &[Members], e: &Event) -> Option<EventFault>
     requires { length nets.now ≤ 64 }
     ensures { (s : Scene) → s.nodes ≡ nodes → s.networks ≡ nets.now → result ≡ no_node s e.now }
@@ -103,7 +103,7 @@ pub fn no_node(nodes: u32, nets: &[Members], e: &Event) -> Option<EventFault>
     }
 }
 
-/// `NotUp` with the node's number, exactly where it isn't up.
+/// `NotUp` with the node's number, exactly where the node isn't up.
 pub fn down_at(up: bool, n: u32) -> Option<EventFault>
     ensures { result ≡ down_at up n }
 {

@@ -1,10 +1,10 @@
--- Who answers a message of a kind.
+-- Who handles a message of a kind.
 use Rattle.tsp_base.specs.declared.kind.Kind.{Kind}
 use Rattle.tsp_base.specs.declared.kind.Kind.TheVariants.{Date, DateAck, DateReq, Loop, Msite, MsiteReq, SetDate, SetDateReq, Test, TraceOff, TraceOn}
 use Rattle.tsp_node.specs.declared.audience.Audience.{Audience}
 use Rattle.tsp_node.specs.declared.audience.Audience.TheVariants.{OfClients, OfDates, OfNode, OfRoles}
 
--- clients ask some, dates are set by others, a LOOP is its node's, and all else is for the roles
+-- clients ask some, others set dates, a LOOP is for the node, and all else is for the roles
 abbrev pub audience_of : Kind → Audience
 audience_of Msite = OfClients
 audience_of MsiteReq = OfClients

@@ -1,4 +1,4 @@
--- How a node is set up, and what a past of it has of that.
+-- The configuration of a node, and the pasts of a node with it.
 use Rattle.std.specs.Prelude.{◌≡◌, ℕ, ℤ, Bool, true, false, List}
 use Rattle.tsp_base.specs.declared.place.PeerId.{PeerId}
 use Rattle.tsp_base.specs.History.{Past}
@@ -17,16 +17,16 @@ pub record ConfigValue : Type 0 where
   pub may : Bool
   pub strict : Bool
 
--- a node can have such a port: at most 1,000 peers, strictly ascending, its own number among them
+-- an allowed port: at most 1,000 peers, strictly ascending, the own number among them
 pub record IsPortSetup (s : PortSetup) : Type 0 where
   pub peers : IsPeers s.peers
   pub own : is_among s.own s.peers ≡ true
 
--- a node that is set up so can have its port
+-- a configuration whose port is allowed
 abbrev pub IsPort : ConfigValue → Type 0
 IsPort c = IsPortSetup (record { own = c.own; peers = c.peers })
 
--- a past of a node that is set up so
+-- a past of a node with this configuration
 pub record IsOf (c : ConfigValue) (past : Past) : Type 0 where
   pub own : past.own ≡ c.own
   pub name : past.name ≡ c.name
@@ -34,7 +34,7 @@ pub record IsOf (c : ConfigValue) (past : Past) : Type 0 where
   pub strict : past.strict ≡ c.strict
   pub peers : past.peers ≡ c.peers
 
--- why a node that is set up so doesn't boot at this wall clock
+-- why a node with this configuration doesn't boot at this wall clock
 abbrev pub BootsNot : ConfigValue → ℤ → BootFault → Type 0
 BootsNot c wall Peers = IsPort c → ⊥
 BootsNot c wall Range = IsPort c × (is_clock_value wall ≡ false)

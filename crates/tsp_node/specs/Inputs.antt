@@ -1,10 +1,10 @@
--- What a step is given by its input.
+-- The input of a step, as the rules have it.
 use Rattle.tsp_base.specs.declared.input.Input.{Input}
 use Rattle.tsp_base.specs.declared.input.Input.TheVariants.{Turn as OfTurn, Bytes}
 use Rattle.tsp_codec.specs.Taken.{taken_of}
 use Rattle.tsp_rules.specs.Answers.{Given, Turn, Got}
 
--- nothing but the time, or octets as they are read; a node has one port, so it doesn't matter on which they came
+-- nothing, or octets as they are read; the node has one port, so it doesn't matter on which they came
 abbrev pub given : Input → Given
 given OfTurn = Turn
 given (Bytes port from octets) = Got from (taken_of octets.now)

@@ -1,4 +1,4 @@
--- What a node stands for.
+-- Which pasts a node and its parts stand for.
 use Rattle.std.specs.Prelude.{◌≡◌, ℕ, ◌-◌, ◌^◌, ℤ, Bool, false, List, ◌∷◌, Option, None, Some}
 use Rattle.tsp_base.specs.declared.act.Act.TheVariants.{Correct}
 use Rattle.tsp_base.specs.declared.place.PeerId.{PeerId}
@@ -21,7 +21,7 @@ use Rattle.tsp_node.specs.declared.node.Node.{Node}
 use Rattle.tsp_node.specs.declared.part.Part.{Part}
 use Rattle.tsp_node.specs.Configs.{ConfigValue, IsOf}
 
--- all that a node keeps on a port, with its clock
+-- the state of a port, with its node's clock
 pub record PortValue : Type 0 where
   pub station : Station
   pub last : LastValue
@@ -30,7 +30,7 @@ pub record PortValue : Type 0 where
   pub dates : DatesValue
   pub clock : ClockValue
 
--- it is what the port's past comes to
+-- the state has exactly the facts of the port's past
 pub record PortStands (past : Past) (v : PortValue) : Type 0 where
   pub station : Stands past v.station
   pub last : Remembers past v.last
@@ -44,7 +44,7 @@ pub record PortUntaken (past : Past) (v : PortValue) : Type 0 where
   pub stands : PortStands past v
   pub untaken : taken past.seen ≡ None
 
--- the same in a step in which nothing has rung or come late either
+-- the same in a step in which no alarm was handled either
 pub record PortBegun (past : Past) (v : PortValue) : Type 0 where
   pub stands : PortStands past v
   pub untaken : taken past.seen ≡ None
@@ -55,11 +55,11 @@ pub record PortTook (r : Received) (past : Past) (v : PortValue) : Type 0 where
   pub stands : PortStands past v
   pub took : taken past.seen ≡ Some r
 
--- a part of a node and its clock, together
+-- a port's state and its node's clock, together
 abbrev pub port_in : Part × ClockValue → PortValue
 port_in both = record { station = both.0.station; last = both.0.last; master = both.0.master; resolve = both.0.resolve; dates = both.0.dates; clock = both.1 }
 
--- what a node is on a port, and its clock, are what the port's past comes to
+-- a port's state and its node's clock have exactly the facts of the port's past
 abbrev pub PartStands : Past → Part × ClockValue → Type 0
 PartStands past both = PortStands past (port_in both)
 
@@ -67,7 +67,7 @@ PartStands past both = PortStands past (port_in both)
 abbrev pub PartUntaken : Past → Part × ClockValue → Type 0
 PartUntaken past both = PortUntaken past (port_in both)
 
--- a port whose step has just begun: nothing has rung, come late or been taken
+-- a port whose step has just begun: no alarm was handled and nothing taken
 abbrev pub PartBegun : Past → Part × ClockValue → Type 0
 PartBegun past both = PortBegun past (port_in both)
 
@@ -79,7 +79,7 @@ PartTook r past both = PortTook r past (port_in both)
 abbrev pub corrected_elsewhere : Step → ℕ → ℤ → Bool → ℤ → Past → Past
 corrected_elsewhere step x amount stepped shown past = record past { seen = Elsewhere (record { step = step; tick = x; deed = Acts (Correct amount stepped shown) }) ∷ past.seen }
 
--- a port that takes, and whether its node's trace is on
+-- a port with its node's clock, and whether the trace is on
 abbrev pub TakeStands : Past → (Part × ClockValue) × Bool → Type 0
 TakeStands = Beside PartStands TraceStands
 
@@ -91,7 +91,7 @@ TookStands r = Beside (PartTook r) TraceStands
 abbrev pub all_of : Node → (Part × ClockValue) × Bool
 all_of node = ((node.part, node.clock), node.tracing)
 
--- what a node stands for between its steps
+-- a node stands for this past, between its steps
 abbrev pub NodeStands : Past → Node → Type 0
 NodeStands past node = Beside PartStands TraceStands past (all_of node)
 
@@ -103,7 +103,7 @@ NodeUntaken past node = Beside PartUntaken TraceStands past (all_of node)
 abbrev pub Begun : Past → Node → Type 0
 Begun past node = Beside PartBegun TraceStands past (all_of node)
 
--- a node that is set up so and boots in this step, with this word and at this wall clock
+-- a node with this configuration boots in this step, with this word and at this wall clock
 pub record Unbooted (config : ConfigValue) (word : ℕ) (wall : ℤ) (past : Past) (node : Unit {0}) : Type 0 where
   pub cause : past.step.cause ≡ Booted word wall
   pub of : IsOf config past
@@ -116,7 +116,7 @@ peers_in node = node.part.station.peers
 abbrev pub clock_at : Node → ℕ
 clock_at node = node.clock.at
 
--- the tick at which a node is to be looked at next; the greatest number of 64 bits where nothing is armed
+-- the tick at which a node needs its next step; the greatest number of 64 bits where there is no deadline
 abbrev pub due_of : Option ℕ → ℕ
 due_of None = 2 ^ 64 - 1
 due_of (Some at) = at

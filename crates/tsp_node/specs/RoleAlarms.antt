@@ -3,7 +3,7 @@ use Rattle.std.specs.Prelude.{Bool, true, false}
 use Rattle.tsp_base.specs.declared.alarm.Alarm.{Alarm}
 use Rattle.tsp_base.specs.declared.alarm.Alarm.TheVariants.{Quiet, Search, Elect}
 
--- whether an alarm is one of a port that is Starting, Loose or follows; the others are a candidate's and a master's
+-- whether an alarm belongs to a port that is Starting, Loose or follows; the others belong to a candidate or a master
 abbrev pub is_of_slave : Alarm → Bool
 is_of_slave Quiet = true
 is_of_slave Search = true

@@ -4,12 +4,12 @@ use Rattle.tsp_base.specs.declared.place.PeerId.{PeerId}
 use Rattle.tsp_resolve.specs.declared.resolve.Resolve.{Resolve}
 use Rattle.tsp_resolve.specs.Marked.{marked}
 
--- nobody is marked any more
+-- no peer is marked any more
 pub record Unmarked (old new : Resolve) : Type 0 where
   pub none : (peers : List PeerId) → marked peers new.marks ≡ []
   pub many : length new.marks ≡ length old.marks
 
--- the same, where it is asked for
+-- the same where the flag is true; where it is false, nothing changed
 abbrev pub Unmarks : Bool → Resolve → Resolve → Type 0
 Unmarks true old new = Unmarked old new
 Unmarks false old new = new ≡ old

@@ -23,10 +23,10 @@ use tsp_clock::clock::Clock;
 impl Part {
     ghost use Rattle.tsp_node.specs.NodeStands.{PartUntaken};
 
-    /// Handles one alarm where it is due. Where this port doesn't lead its node's clock
-    /// (`group_mean` is false), a close uses the mean 0 and leaves the clock; where `wait` is true,
-    /// a round that is in time is put off for `WAIT` ticks. A Close comes after its Probe. The
-    /// answer is whether the clock was corrected.
+    /// Handles one alarm where it is due, and says whether that corrected the clock. `group_mean` says
+    /// whether a Close moves the node's clock by the group's mean; where it is false, the Close uses the mean
+    /// 0 and doesn't move the clock. `wait` says whether a Round that is in time is put off for `WAIT`
+    /// ticks. The caller handles a due Probe before the Close.
     pub fn ring<D: Desk>(
         &mut self,
         clock: &mut Clock,
@@ -111,7 +111,7 @@ impl Part {
         }
     }
 
-    /// Handles an alarm of a round that is due.
+    /// Handles a due Probe, Close or Round.
     fn ring_round<D: Desk>(
         &mut self,
         clock: &mut Clock,
@@ -146,7 +146,7 @@ impl Part {
         corrected
     }
 
-    /// Handles an alarm that is due of a port that is Starting, Loose or follows.
+    /// Handles a due alarm of a port that is Starting, Loose or follows.
     fn ring_role<D: Desk>(&mut self, alarm: Alarm, tick: u64, port: Port, desk: &mut D)
         requires alarm { is_of_slave alarm ≡ true }
         requires tick { IsTick tick }

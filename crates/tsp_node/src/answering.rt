@@ -22,8 +22,7 @@ use tsp_clients::naming::{name_master, say_master};
 use tsp_clients::tracing::turn_trace;
 
 impl Part {
-    /// Answers a client: who is master, whether the port leads, that the trace is turned on or off,
-    /// and a test.
+    /// Answers a client's message: MSITE, MSITEREQ, TRACEON, TRACEOFF and TEST.
     pub(crate) fn answer<D: Desk>(
         &mut self,
         tracing: &mut bool,
@@ -56,7 +55,7 @@ impl Part {
         }
     }
 
-    /// Stands for election where a client asks for it and the port may.
+    /// Answers a TEST, and stands for election where the port may.
     fn test<D: Desk>(&mut self, tick: u64, from: Place, number: u16, port: Port, desk: &mut D)
         requires room { length self.old.station.peers + 4 ≤ D.spare desk.old }
         requires tick { IsTick tick }

@@ -1,24 +1,24 @@
-//! Who answers a message.
+//! Who handles a message.
 ghost use Rattle.std.specs.Prelude.{◌≡◌};
 
 use tsp_base::kind::Kind;
 
-/// Who answers a message.
+/// Who handles a message.
 #[derive(Clone, Copy)]
 pub(crate) enum Audience {
-    /// It is a client's question, which anybody may ask.
+    /// A question that anybody may ask, such as a client.
     OfClients,
-    /// It sets the network's date, passes one on, or says that one was set.
+    /// The message sets the network's date, passes one on, or says that one was set.
     OfDates,
-    /// It is for the node as a whole: a port passes it over.
+    /// The message is for the node as a whole, and its port ignores it: a LOOP.
     OfNode,
-    /// A peer says it to the port's role.
+    /// A peer's message to the port's role.
     OfRoles,
 }
 
 ghost use Rattle.tsp_node.specs.Audiences.{audience_of};
 
-/// Who answers a message of this kind.
+/// Who handles messages of this kind.
 pub(crate) fn audience_of(kind: Kind) -> Audience
     ensures { result ≡ audience_of kind }
 {

@@ -1,4 +1,4 @@
-//! How a node is set up.
+//! The configuration of a node with one port.
 ghost use Rattle.std.specs.Prelude.{◌≡◌, ◌↔◌, true, IfOk};
 ghost use Rattle.tsp_sends.specs.Slots.{IsAscending};
 ghost use Rattle.tsp_node.specs.Configs.{IsPort, IsPortSetup};
@@ -9,8 +9,8 @@ use tsp_acks::me::Me;
 use tsp_base::name::Name;
 use tsp_base::place::PeerId;
 
-/// How a node is set up, for all its lives: its host name, its own number, all peers, whether it may be
-/// master, and whether a candidate needs more than half of the peers.
+/// The configuration of a node, for all its lives: its host name, its own number, all peers, whether it may be
+/// master, and whether a candidate needs more than half of the peers to win.
 #[derive(Drop)]
 pub struct Config {
     name: Name,
@@ -35,8 +35,8 @@ impl Model for Config {
 }
 
 impl Config {
-    /// A node that is set up so; whether it can have these peers is known at its boot. Fails only where
-    /// memory is refused.
+    /// A configuration. `own` must be among the peers, at most 1,000 in ascending order; that is checked at the
+    /// boot. Fails only if out of memory.
     pub fn new(
         alloc: Global,
         name: Name,
@@ -70,14 +70,14 @@ impl Config {
         self.peers.as_slice()
     }
 
-    /// Whether a node can have these peers: at most 1,000, strictly ascending, its own number among them.
+    /// Whether these peers are allowed: at most 1,000, strictly ascending, the own number among them.
     pub(crate) fn is_port(&self) -> bool
         ensures { (result ≡ true) ↔ IsPort self.now }
     {
         is_port(self.own, self.peers.as_slice())
     }
 
-    /// Who the node is in a life that begins with a word.
+    /// Who the node is after a boot with this word.
     pub(crate) fn me(&self, word: u64) -> Me
         ensures { result ≡ record {
           own = self.now.own;
@@ -97,8 +97,8 @@ impl Config {
     }
 }
 
-/// Whether a node can have a port with this number of its own and these peers: at most 1,000 peers, strictly
-/// ascending, its own number among them.
+/// Whether a port may have this own number and these peers: at most 1,000 peers, strictly ascending, the own
+/// number among them.
 pub fn is_port(own: PeerId, peers: &[PeerId]) -> bool
     ensures { (result ≡ true) ↔ IsPortSetup (record { own = own; peers = peers.now }) }
 {

@@ -1,4 +1,4 @@
-//! What a port does with a message, by what it is, who sent it and what the port is.
+//! What a port does with a message, by its kind, its sender and the port's role.
 ghost use Rattle.std.specs.Prelude.{◌≡◌, ◌≢◌, ◌+◌, ◌*◌, ◌≤◌, ◌&&◌, not, length};
 ghost use Rattle.std.specs.List.{Contains};
 ghost use Rattle.tsp_base.specs.declared.datagram.Datagram.TheVariants.{Message as MessageOf};
@@ -36,8 +36,8 @@ use tsp_slave::quit::take_quit;
 use tsp_slave::take::slave_take;
 
 impl Part {
-    /// Hears a message: some are anybody's, others a peer's to the port's role. A master's corrections are
-    /// passed over where the port doesn't steer.
+    /// Handles a message: some may come from anybody, others only from a peer. Where the port doesn't steer the
+    /// clock, it ignores the corrections of the master that it follows.
     pub(crate) fn hear<D: Desk>(
         &mut self,
         clock: &mut Clock,
@@ -75,7 +75,7 @@ impl Part {
         }
     }
 
-    /// Hears a message that sets the date, passes one on or says that one was set.
+    /// Handles a message that sets the date, passes one on or says that one was set.
     fn hear_date<D: Desk>(
         &mut self,
         clock: &mut Clock,
@@ -116,8 +116,8 @@ impl Part {
         }
     }
 
-    /// Hears a message of a peer, once the quiet time is over: an ACK is handled alike by every role.
-    /// Strangers' messages are passed over.
+    /// Handles a message of a peer, once the quiet time is over: an ACK in the same way in every role, any other
+    /// by the role. A stranger's message is ignored.
     fn hear_peer<D: Desk>(
         &mut self,
         clock: &mut Clock,
@@ -154,7 +154,7 @@ impl Part {
         }
     }
 
-    /// Handles a message of a peer that is no ACK by the port's role.
+    /// Handles a message of a peer by the port's role. It isn't an ACK.
     fn hear_by_role<D: Desk>(
         &mut self,
         clock: &mut Clock,
@@ -192,8 +192,8 @@ impl Part {
         }
     }
 
-    /// Handles a message of a peer that is no ACK at a master. Another master is asked who it is, and marked
-    /// where it answers; after a QUIT the port leads no more.
+    /// Handles a message of a peer at a master. It isn't an ACK. A hint of another master makes it ask all peers
+    /// who is one; an answer notes a rival; a QUIT ends its role.
     fn hear_as_master<D: Desk>(
         &mut self,
         clock: &Clock,
@@ -232,7 +232,7 @@ impl Part {
         }
     }
 
-    /// Takes a QUIT of a peer at a master, which follows it.
+    /// Takes a QUIT at a master, which then follows its sender.
     fn take_quit<D: Desk>(
         &mut self,
         clock: &Clock,
@@ -268,7 +268,8 @@ impl Part {
         self.part_from(true);
     }
 
-    /// Hears a stamp of a peer, once the quiet time is over: a reply tells a master of the peer's clock.
+    /// Handles a stamp reply of a peer, once the quiet time is over: to a master it gives a sample of the peer's
+    /// clock. Requests are answered elsewhere (`reply`).
     pub(crate) fn hear_stamp<D: Desk>(
         &mut self,
         clock: &Clock,
@@ -301,8 +302,8 @@ impl Part {
     }
 }
 
-/// Whether a port of this role passes this kind of message over since it doesn't steer: a correction by the
-/// master that it follows.
+/// Whether a port of this role ignores this kind of message, since it doesn't steer the clock: a correction
+/// by the master that it follows.
 fn leaves(role: Role, steer: bool, kind: Kind) -> bool
     ensures { result ≡ (not steer && (is_correction kind && is_follow role)) }
 {

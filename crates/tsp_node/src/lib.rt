@@ -1,8 +1,28 @@
-//! A node: its clock, and what it is on its port. Steps in, acts out.
+//! A node with one port: its clock and its state. Inputs go in, acts come out; there is no socket and no
+//! clock of a machine here.
 //!
-//! [`Node`] is a node of one port. The caller boots it with a [`Config`], and then steps it with
-//! what came or because it is `due`, each time with `room` acts of room on the desk. [`Part`] is
-//! what a node is on one port; nodes of several ports (`tsp_gateway`) put theirs together of it.
+//! In this order:
+//!
+//! 1. Make a [`Config`]: the node's name, its own number, all peers in ascending order.
+//! 2. [`boot`](Node::boot) it at a tick and a wall clock, with a word that no earlier boot had.
+//! 3. Before each step reserve [`room`](Node::room) on the desk.
+//! 4. [`step`](Node::step) it with the octets that came, or with `Input::Turn` once the tick is
+//!    [`due`](Node::due). Ticks must never fall.
+//! 5. Send each `Act::Post` of the desk.
+//!
+//! ```
+//! let config = Config::new(alloc, Name::new(b"alpha"), PeerId(0), &[PeerId(0), PeerId(1)], true, false)?;
+//! let mut desk = Pad::new(alloc);
+//! desk.reserve(3)?;
+//! let mut node = Node::boot(alloc, &config, 0, 1_000_000, 17, &mut desk)?;
+//! assert_eq!(node.due(), 80_000_000); // the end of the quiet time
+//! desk.clear();
+//! desk.reserve(node.room())?;
+//! node.step(80_000_000, &Input::Turn, &mut desk);
+//! ```
+//!
+//! A node with several ports is `Gateway` of `tsp_gateway`. Both have a [`Part`] for each port: all of its
+//! state but the clock.
 #![tactic(auto)]
 
 mod alarms;

@@ -18,7 +18,7 @@ use tsp_base::desk::Desk;
 use tsp_base::place::Port;
 use tsp_clock::clock::Clock;
 
-/// A node that is up: its clock, whether its trace is on, and what it is on its port.
+/// A node that has booted: its clock, whether its trace is on, and the state of its port.
 #[derive(Drop)]
 pub struct Node {
     pub(crate) clock: Clock,
@@ -32,10 +32,10 @@ pub(crate) const PORT: Port = Port(0);
 impl Node {
     ghost use Rattle.tsp_node.specs.NodeStands.{NodeStands, Unbooted, peers_in, clock_at};
 
-    /// Boots a node with a word, at a tick and a wall clock (microseconds): puts Boot, Become(Starting) and
-    /// Arm(Quiet). `Peers` exactly where the node can't have its peers, else `Range` exactly where the wall
-    /// doesn't lie strictly between -2^31 and 2^31 seconds, else `OutOfMemory` only where memory is refused;
-    /// then nothing is put.
+    /// Boots a node with a word, at a tick and a wall clock (microseconds since 1970): puts Boot,
+    /// Become(Starting) and Arm(Quiet). `Peers` comes exactly where the node can't have its peers, else `Range`
+    /// exactly where the wall clock isn't strictly between -2^31 and 2^31 seconds. Else it fails only if out
+    /// of memory. Where it fails, nothing is put.
     pub fn boot<D: Desk>(
         alloc: Global,
         config: &Config,
@@ -61,7 +61,7 @@ impl Node {
         Ok(node)
     }
 
-    /// A node that has put Boot and nothing more, or why it doesn't boot.
+    /// A node right after its Boot, or why it doesn't boot.
     fn new(
         alloc: Global,
         config: &Config,

@@ -1,4 +1,4 @@
-//! What a node is on a port.
+//! The state of a port.
 ghost use Rattle.std.specs.Prelude.{◌≡◌, ◌≤◌, ◌&&◌, not, length, ℕ, ℤ, Bool, true, Some, None, [], ◌∷◌, IfOk};
 ghost use Rattle.tsp_base.specs.declared.act.Act.TheVariants.{Boot, Become};
 ghost use Rattle.tsp_base.specs.declared.alarm.Alarm.TheVariants.{Quiet};
@@ -32,8 +32,8 @@ use tsp_master::master::Master;
 use tsp_resolve::resolve::Resolve;
 use tsp_slave::last::Last;
 
-/// What a node is on a port: what all its roles share, what it remembers of corrections and of dates, and
-/// what it keeps that leads: its slaves and its rivals.
+/// The state of a port: what all roles share, what it remembers of corrections and of dates, and what a
+/// master has: its slaves and its rivals.
 #[derive(Drop)]
 pub struct Part {
     pub(crate) station: Station,
@@ -51,8 +51,7 @@ impl Part {
     ghost use Rattle.tsp_node.specs.NodeStands.{PartStands, corrected_elsewhere};
     ghost use Rattle.tsp_node.specs.Unmarking.{Unmarks};
 
-    /// A port of a node that boots at this tick. Fails only where memory is
-    /// refused.
+    /// A port of a node that boots at this tick. Fails only if out of memory.
     pub fn new(alloc: Global, me: Me, peers: &[PeerId], tick: u64) -> Result<Part, AllocError>
         requires { IsPeers peers.now }
         ensures peers { IfOk result (λ part. part.station.peers ≡ peers.now) }
@@ -74,7 +73,8 @@ impl Part {
         })
     }
 
-    /// Begins a life right after its boot, at that tick: Starting, until the quiet time ends.
+    /// Goes on right after the Boot, at its tick: the port is Starting until the quiet time ends. It puts two
+    /// acts.
     pub fn begin<D: Desk>(&mut self, tick: u64, port: Port, desk: &mut D)
         requires room { 2 ≤ D.spare desk.old }
         requires tick { IsTick tick }
@@ -91,7 +91,7 @@ impl Part {
         self.resolve.clear();
     }
 
-    /// Notes a correction that another port of its node made.
+    /// Notes that another port of the node has corrected its clock at this tick.
     pub fn moved(&mut self, tick: u64)
         ensures stands { (past : Past) (step : Step) (amount shown : ℤ) (stepped : Bool)
             (before after : ClockValue) → PartStands past (self.old, before)
@@ -111,7 +111,7 @@ impl Part {
         self.last.moved(tick);
     }
 
-    /// Gives up the round that goes on, if there is one. At most one act.
+    /// Gives up the round that is going, if there is one. It puts at most one act.
     pub fn abandon<D: Desk>(&mut self, port: Port, desk: &mut D)
         requires room { 1 ≤ D.spare desk.old }
         ensures row { (x : ℕ) (clock : ClockValue)
@@ -126,8 +126,8 @@ impl Part {
         }
     }
 
-    /// Gives its lead up where it leads: the port follows nobody, and waits for a master anew. At
-    /// most two acts.
+    /// Stops leading, if the port is master: it follows nobody, and waits for a master again. It puts at most
+    /// two acts.
     pub fn loosen<D: Desk>(&mut self, tick: u64, port: Port, desk: &mut D)
         requires room { 2 ≤ D.spare desk.old }
         requires tick { IsTick tick }
@@ -144,14 +144,14 @@ impl Part {
         }
     }
 
-    /// Whether it leads.
+    /// Whether it is master.
     pub(crate) fn leads(&self) -> bool
         ensures { result ≡ is_master self.now.station.role }
     {
         matches!(self.station.role, Role::Master)
     }
 
-    /// Forgets its slaves and rivals where it led before and leads no more.
+    /// Forgets its slaves and rivals where it was master before (`led`) and isn't any more.
     pub(crate) fn part_from(&mut self, led: bool)
         ensures slaves { Clears (led && not (is_master self.old.station.role)) self.old.master
             self.new.master }
@@ -167,7 +167,7 @@ impl Part {
         }
     }
 
-    /// What all its roles share.
+    /// What all roles share.
     pub fn station(&self) -> &Station
         ensures { result.now ≡ self.now.station }
     {

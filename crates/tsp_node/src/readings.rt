@@ -1,4 +1,4 @@
-//! What is read of a node from outside.
+//! What a caller can read of a node.
 ghost use Rattle.std.specs.Prelude.{◌≡◌, ℕ, ◌≤◌, Option};
 ghost use Rattle.tsp_base.specs.Alarms.{earlier, least_deadline};
 ghost use Rattle.tsp_base.specs.Frames.{IsTick};
@@ -17,8 +17,8 @@ use tsp_base::role::Role;
 impl Node {
     ghost use Rattle.tsp_node.specs.NodeStands.{NodeStands, clock_at, due_of};
 
-    /// When it is to be looked at next, in its own ticks: the earliest deadline of an armed alarm or an open
-    /// send, which may lie in the past; `u64::MAX` where there is none.
+    /// The tick at which the node needs its next step, if nothing comes before: the earliest deadline of an armed
+    /// alarm or an open send, which may be in the past; `u64::MAX` where there is none.
     pub fn due(&self) -> u64
         ensures value { (o : Option ℕ) × IsEarliest (sending_to self.now.part.station.sends) o
             × (result ≡ due_of (earlier (least_deadline self.now.part.station.alarms) o)) }
@@ -33,7 +33,7 @@ impl Node {
         }
     }
 
-    /// What it is on its port.
+    /// Its role.
     pub fn role(&self) -> Role
         ensures value { result ≡ self.now.part.station.role }
         ensures past { (past : Past) → NodeStands past self.now → result ≡ role past.seen }
@@ -50,7 +50,7 @@ impl Node {
         self.tracing
     }
 
-    /// What its clock shows at a tick, in microseconds.
+    /// What its clock shows at a tick, in microseconds. The tick must not be before its last correction or boot.
     pub fn shown(&self, tick: u64) -> i64
         requires tick { IsTick tick }
         requires later { clock_at self.now ≤ tick }

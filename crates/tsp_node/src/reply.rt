@@ -15,7 +15,7 @@ use tsp_base::place::{Place, Port};
 use tsp_base::stamp::Stamp;
 use tsp_clock::clock::{Clock, is_clock_value};
 
-/// Answers a request with the clock's ticket and target, unless the target has left the range of clocks.
+/// Answers a request with the clock's ticket and target, unless the target is out of the range of clocks.
 pub(crate) fn reply<D: Desk>(
     clock: &Clock,
     tick: u64,
@@ -39,7 +39,7 @@ pub(crate) fn reply<D: Desk>(
     }
 }
 
-/// The reply to a request at a tick; None exactly where the target isn't a clock's value.
+/// The reply to a request at a tick; None exactly where the target is out of the range of clocks.
 fn stamp_at(clock: &Clock, tick: u64, word: u64, counter: u64) -> Option<Stamp>
     requires tick { IsTick tick }
     requires later { clock.now.at ≤ tick }

@@ -1,4 +1,4 @@
-//! How the alarms of a port's station ring.
+//! The alarms of a port that need only its station.
 ghost use Rattle.std.specs.Prelude.{◌≡◌, Bool, ◌+◌, ◌≤◌, true, length};
 ghost use Rattle.tsp_base.specs.Frames.{IsTick, PutsAtMost};
 ghost use Rattle.tsp_base.specs.Performs.{Performs};
@@ -17,7 +17,7 @@ use tsp_base::place::Port;
 use tsp_candidate::candidature::begin_candidature;
 use tsp_slave::ring::{becomes_candidate, slave_ring};
 
-/// Handles an alarm that is due of a port that is Starting, Loose or follows.
+/// Handles a due alarm of a port that is Starting, Loose or follows.
 pub(crate) fn ring_slave<D: Desk>(
     station: &mut Station,
     alarm: Alarm,
@@ -40,7 +40,7 @@ pub(crate) fn ring_slave<D: Desk>(
     }
 }
 
-/// Nothing was heard of a master for long: the node stands for election where it may.
+/// No master was heard for the election delay: the port stands for election where it may, else it searches.
 fn ring_elect<D: Desk>(station: &mut Station, tick: u64, port: Port, desk: &mut D)
     requires tick { IsTick tick }
     requires room { length station.old.peers + 4 ≤ D.spare desk.old }
@@ -58,7 +58,7 @@ fn ring_elect<D: Desk>(station: &mut Station, tick: u64, port: Port, desk: &mut 
     }
 }
 
-/// Puts off a round that waits for that of another port of its node.
+/// A due Round that waits for the round of another port of its node: in time it is put off by `WAIT` ticks.
 pub(crate) fn wait_round<D: Desk>(station: &mut Station, tick: u64, port: Port, desk: &mut D)
     requires tick { IsTick tick }
     requires room { 2 ≤ D.spare desk.old }

@@ -25,8 +25,8 @@ use tsp_sends::Due;
 impl Part {
     ghost use Rattle.tsp_node.specs.NodeStands.{PartBegun};
 
-    /// Repeats every due send, ascending peers: each is posted again or given up, and a slave that doesn't
-    /// acknowledge a correction leaves. It is the first thing that a step does.
+    /// Repeats every due send, in the order of the peers: each is posted again or given up, and a slave that
+    /// didn't acknowledge a correction leaves. A step does this first.
     pub fn sends<D: Desk>(&mut self, tick: u64, port: Port, desk: &mut D)
         requires tick { IsTick tick }
         requires room { 2 * length self.old.station.peers + 16 ≤ D.spare desk.old }
@@ -47,7 +47,7 @@ impl Part {
         }
     }
 
-    /// Repeats the due send to the least peer after this one. None exactly where none is due.
+    /// Repeats the first due send to a peer after `after`. None exactly where there is none.
     fn repeat_next<D: Desk>(
         &mut self,
         after: Option<PeerId>,
@@ -98,7 +98,7 @@ impl Part {
         }
     }
 
-    /// Lets a slave leave that didn't acknowledge a send of this kind, if that was a correction.
+    /// Removes a slave that didn't acknowledge a send of this kind, if that was a correction.
     fn give_up<D: Desk>(&mut self, peer: PeerId, kind: Kind, port: Port, desk: &mut D)
         requires room { 1 ≤ D.spare desk.old }
         ensures row { (x : ℕ) → Performs MasterStands MasterStands (leaves_after peer kind) x port

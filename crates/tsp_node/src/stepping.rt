@@ -1,4 +1,4 @@
-//! The steps of a node that is up.
+//! The steps of a node that has booted.
 ghost use Rattle.std.specs.Prelude.{◌≡◌, ◌+◌, ◌*◌, ◌≤◌, true, false, length};
 ghost use Rattle.tsp_base.specs.declared.alarm.Alarm.TheVariants.{Probe, Close};
 ghost use Rattle.tsp_base.specs.Frames.{IsTick, PutsAtMost};
@@ -21,14 +21,15 @@ use tsp_rules::room::room_for;
 impl Node {
     ghost use Rattle.tsp_node.specs.NodeStands.{NodeStands, NodeUntaken, Begun, peers_in, clock_at};
 
-    /// How many acts a step may take: room for so many is to be on the desk.
+    /// How many acts a step may put: the desk must have room for so many.
     pub fn room(&self) -> usize
         ensures { result ≡ room_for (length (peers_in self.now)) }
     {
         room_for(self.part.station().peers().len())
     }
 
-    /// A step with an input: its timers are looked at, and what octets it brings are read and taken.
+    /// A step: due sends and alarms are handled, and then the input's octets are read and taken. The tick must
+    /// not be before that of an earlier step.
     pub fn step<D: Desk>(&mut self, tick: u64, input: &Input, desk: &mut D)
         requires room { room_for (length (peers_in self.old)) ≤ D.spare desk.old }
         requires tick { IsTick tick }
@@ -46,7 +47,7 @@ impl Node {
         }
     }
 
-    /// A step in which only its timers are looked at.
+    /// A step without octets: due sends and alarms are handled.
     pub fn turn<D: Desk>(&mut self, tick: u64, desk: &mut D)
         requires room { room_for (length (peers_in self.old)) ≤ D.spare desk.old }
         requires tick { IsTick tick }
@@ -62,7 +63,7 @@ impl Node {
         self.ring_alarms(tick, desk);
     }
 
-    /// A step that takes octets from somebody, as they were read.
+    /// A step that also takes what was read of octets from `from`.
     pub fn take<D: Desk>(&mut self, tick: u64, from: Place, taken: &Taken, desk: &mut D)
         requires room { room_for (length (peers_in self.old)) ≤ D.spare desk.old }
         requires tick { IsTick tick }
@@ -79,8 +80,8 @@ impl Node {
         self.take_in(tick, from, taken, desk);
     }
 
-    /// Takes octets from somebody, as they were read; where that corrects the clock, the round that goes on
-    /// is given up.
+    /// Takes what was read of octets from `from`; where that corrects the clock, the round that is going is
+    /// given up.
     fn take_in<D: Desk>(&mut self, tick: u64, from: Place, taken: &Taken, desk: &mut D)
         requires tick { IsTick tick }
         requires later { clock_at self.old ≤ tick }
@@ -102,7 +103,7 @@ impl Node {
         }
     }
 
-    /// Handles the due alarms, each when its turn comes.
+    /// Handles the due alarms, in the order of `Alarm`.
     fn ring_alarms<D: Desk>(&mut self, tick: u64, desk: &mut D)
         requires tick { IsTick tick }
         requires later { clock_at self.old ≤ tick }
@@ -124,7 +125,7 @@ impl Node {
         self.ring(Alarm::Round, tick, desk);
     }
 
-    /// Handles one alarm where it is due; a Close comes after its Probe.
+    /// Handles one alarm where it is due. The caller handles a due Probe before the Close.
     fn ring<D: Desk>(&mut self, alarm: Alarm, tick: u64, desk: &mut D)
         requires tick { IsTick tick }
         requires later { clock_at self.old ≤ tick }

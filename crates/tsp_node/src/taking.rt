@@ -1,4 +1,4 @@
-//! What a port does with what it takes: whose it is, what it is, and what the role makes of it.
+//! What a port does with octets that it takes.
 ghost use Rattle.std.specs.Prelude.{◌≡◌, ℕ, ◌+◌, ◌*◌, ◌≤◌, length};
 ghost use Rattle.tsp_base.specs.Frames.{IsTick, PutsAtMost};
 ghost use Rattle.tsp_base.specs.History.{Past};
@@ -19,9 +19,9 @@ use tsp_base::stamp::Stamp;
 use tsp_clock::clock::Clock;
 
 impl Part {
-    /// Takes octets from somebody, as they were read. Where the port doesn't steer its node's clock, it
-    /// passes over the corrections of a master that it follows; where it isn't in charge of its node's date,
-    /// it sets none. The answer is whether the clock was corrected.
+    /// Takes what was read of octets from `from`, and says whether that corrected the clock. Where the port
+    /// doesn't `steer` its node's clock, it ignores the corrections of the master that it follows; where it
+    /// isn't in `charge` of its node's date, it sets none.
     pub fn take<D: Desk>(
         &mut self,
         clock: &mut Clock,
@@ -48,15 +48,15 @@ impl Part {
             (D.spare desk.new) (D.acts desk.old) (D.acts desk.new) }
     {
         let ticket = clock.ticket();
-        // At most 1,000 peers: so few acts don't bring the ticket round to what it was.
+        // At most 1,000 peers, and so too few acts to correct the clock so often that its ticket is the same again.
         let _peers = self.station.peers();
         desk.put(port, Act::Took(from, taken.copy()));
         self.handle(clock, tracing, steer, charge, tick, from, taken, port, desk);
         clock.ticket() != ticket
     }
 
-    /// Passes over what seems to come from the port itself and what spells nothing, answers a stamp request,
-    /// and hears a message or a stamp reply.
+    /// Ignores what seems to come from the port itself and octets that aren't a datagram, answers a stamp
+    /// request, and handles a message or a stamp reply.
     fn handle<D: Desk>(
         &mut self,
         clock: &mut Clock,
@@ -101,7 +101,7 @@ impl Part {
     }
 }
 
-/// Whether a datagram seems to come from the peer of this number.
+/// Whether a datagram seems to come from the peer with this number.
 fn is_own(from: Place, own: PeerId) -> bool
     ensures { (x : ℕ) (past : Past) → own ≡ past.own → is_own from x past ≡ result }
 {

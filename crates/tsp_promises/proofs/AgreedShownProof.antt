@@ -1,4 +1,4 @@
--- What users read of clocks agrees where the clocks do.
+-- What clocks show agrees where the clocks do.
 use Rattle.std.specs.Prelude.{◌≡◌, ◌≤◌, ◌≤ℤ◌, ℕ, ◌+◌, ◌-◌, ℤ, pos, ◌+ℤ◌, ◌-ℤ◌, nat_abs, true, List, [], ◌∷◌}
 use Rattle.std.proofs.Common.{sym, arith, subst, ◌∙◌}
 use Rattle.std.proofs.lemmas.Int.{ints}

@@ -43,7 +43,7 @@ use Rattle.tsp_promises.proofs.WindowLeads.{window_leads}
 use Rattle.tsp_promises.proofs.RoundLeads.{probe_leads, round_leads}
 use Rattle.tsp_promises.proofs.CloseLeads.{close_leads}
 use Rattle.tsp_promises.proofs.CorrectionLeads.{due_sends_lead}
-use Rattle.tsp_promises.proofs.TakenLeads.{Heard, HeardIn, rests_of, took_awake, names_master_leads, says_master_leads, traces_leads, tests_leads, replies_lead, quits_lead}
+use Rattle.tsp_promises.proofs.TakenLeads.{Heard, HeardIn, Unanswered, rests_of, took_awake, names_master_leads, says_master_leads, traces_leads, tests_leads, replies_lead, quits_lead}
 use Rattle.tsp_promises.proofs.SlaveLeads.{quit_follower, idle_heard}
 use Rattle.tsp_promises.proofs.RoleLeads.{slave_leads, candidate_leads, master_leads}
 use Rattle.tsp_promises.proofs.SampleLeads.{samples_lead}
@@ -112,8 +112,8 @@ answers_any : (from : Place) (m : MessageValue) (k : Kind) → m.kind ≡ k → 
 answers_any from m k e a seen = subst (λ i. Answers i from seen m.number) (sym e) (a seen)
 
 module _ {from : Place} {m : MessageValue} where
-  pub freely : {dates : Bool} {row : Row} → Leads (Early (Is from (Good (Message m)))) row Rests → Upsets dates (Foreign from (Good (Message m))) row
-  freely k = upsets_of (Leads_from (λ x past h. h.just.free) k)
+  pub freely : {dates : Bool} {row : Row} → Leads (Unanswered (Early (Is from (Good (Message m))))) row Rests → Upsets dates (Foreign from (Good (Message m))) row
+  freely k = upsets_of (Leads_from (λ x past h. record { was = h.just.free; none = h.just.unanswered }) k)
 
   -- by the kind of the message
   pub handles_kind_upsets : (charge : Bool) (k : Kind) → m.kind ≡ k → Upsets (sets_date m.kind) (Foreign from (Good (Message m))) (handles_kind charge from m k)
@@ -142,7 +142,7 @@ unfolding handles
 handles_upsets steer charge from (Bad fault) = upsets_of (passes_over (λ x past h. h.just))
 handles_upsets steer charge from (Good (Message m)) = upsets_either (is_left steer m.kind) nothing (handles_kind charge from m m.kind)
     (upsets_of (passes_over (λ x past h. h.0.just))) (upsets_from (λ x past h. h.0) (handles_kind_upsets charge m.kind refl))
-handles_upsets steer charge from (Good (Stamp (Request word counter))) = upsets_of (Leads_from (λ x past h. h.just.free) (replies_lead from word counter))
+handles_upsets steer charge from (Good (Stamp (Request word counter))) = upsets_of (Leads_from (λ x past h. record { was = h.just.free; none = h.just.unanswered }) (replies_lead from word counter))
 handles_upsets steer charge from (Good (Stamp (Reply r))) = from_peer_upsets from (Good (Stamp (Reply r))) (peer_replies r) (λ p i. upsets_of peer_replies_lead)
 
 -- a datagram is taken
@@ -154,7 +154,7 @@ takes_upsets steer charge from t =
     record { run = λ x past h. k.run x (grown x past (Took from t ∷ [])) (take from t h) }
 
 pub open_rests : (x : ℕ) (past : Past) → Open x past → Rests x past
-open_rests x past h = record { fits = h.fits; knows = h.knows; backs = h.backs; follows = λ p e. none-some p (sym h.owed ∙ e) }
+open_rests x past h = record { fits = h.fits; knows = h.knows; backs = h.backs; follows = λ p e. none-some p (sym h.owed ∙ e); paid = h.paid }
 
 pub input_leads : (g : Given) → Leads Open (input_row g) Rests
 unfolding input_row

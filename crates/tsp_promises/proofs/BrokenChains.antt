@@ -19,6 +19,7 @@ use Rattle.tsp_base.specs.History.{Came, Turned, Line, of, view}
 use Rattle.tsp_promises.specs.Throughout.{Throughout}
 use Rattle.tsp_promises.specs.OneError.{OneError}
 use Rattle.tsp_base.specs.Takings.{peer_of}
+use Rattle.tsp_promises.proofs.BrokenAnswers.{answers_break}
 use Rattle.tsp_promises.proofs.BrokenClocks.{clocks_break, left_alone, relays_wrong, stray, strays, wrong}
 use Rattle.tsp_promises.proofs.BrokenEstimates.{estimates_apart, master_near}
 use Rattle.tsp_promises.proofs.BrokenReadings.{readings_break}
@@ -165,4 +166,4 @@ chains_break = record { down = down; across = across; tree = tree; throughout = 
 
 -- each promise is broken by some history
 pub all_break : AllBreak
-all_break = record { setting = still false; roles = roles_break; sends = sends_break; clocks = clocks_break; readings = readings_break; chains = chains_break }
+all_break = record { setting = still false; roles = roles_break; sends = sends_break; clocks = clocks_break; readings = readings_break; chains = chains_break; answers = answers_break }

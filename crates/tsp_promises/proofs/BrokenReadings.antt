@@ -1,11 +1,12 @@
--- Small histories that break the promises of what users read.
-use Rattle.std.specs.Prelude.{◌≤◌, ◌≤ℤ◌, false, true, ℤ, pos, negsuc, List, [], ◌∷◌, refl}
-use Rattle.std.proofs.Common.{arith, inl}
+-- Small histories that break the promises of shown values.
+use Rattle.std.specs.Prelude.{◌≡◌, ◌≤◌, ◌≤ℤ◌, false, true, ℤ, pos, negsuc, List, [], ◌∷◌, refl}
+use Rattle.std.proofs.Common.{arith, inl, sym, true≢false}
 use Rattle.std.proofs.lemmas.Int.{ints}
 use Rattle.tsp_base.specs.declared.act.Act.TheVariants.{Boot, Correct}
 use Rattle.tsp_promises.specs.AgreedShown.{AgreedShown, ShownNear, Waited}
 use Rattle.tsp_promises.specs.Broken.{Breaks, ReadingsBreak}
 use Rattle.tsp_base.specs.History.{Booted, Turned, Line}
+use Rattle.tsp_promises.specs.Shows.{Shows}
 use Rattle.tsp_promises.specs.Steady.{Steady}
 use Rattle.tsp_promises.proofs.BrokenClocks.{left_alone, stray, strays}
 use Rattle.tsp_promises.proofs.Histories.{does, skip, still}
@@ -46,5 +47,17 @@ boots_apart = does 0 1 (Booted 9 (pos 1000)) Boot ∷ (does 0 0 (Booted 7 (pos 0
 shown_near : Breaks (ShownNear (still false))
 shown_near = record { world = boots_apart; broken = λ h. (let k : pos 1000 ≤ℤ pos 0 = (h.0 0 1 0 (pos 0) refl refl (omega (arith, ints))).within in omega (arith, ints)) }
 
+falls : Breaks Shows
+falls = record { world = does 0 0 Turned (Correct (negsuc 249) false (negsuc 249)) ∷ []; broken = λ h. (let k : negsuc 249 ≡ pos 0 = (h.0.prints (negsuc 249) false (negsuc 249) refl).value in omega (arith, ints)) }
+
+leaps : Breaks Shows
+leaps = record { world = does 0 0 Turned (Correct (pos 250) false (pos 250)) ∷ []; broken = λ h. (let k : pos 250 ≡ pos 0 = (h.0.prints (pos 250) false (pos 250) refl).value in omega (arith, ints)) }
+
+steps : Breaks Shows
+steps = record { world = does 0 0 Turned (Correct (pos 250) true (pos 250)) ∷ []; broken = λ h. true≢false (h.0.prints (pos 250) true (pos 250) refl).flag }
+
+slews : Breaks Shows
+slews = record { world = does 0 0 Turned (Correct (pos 20000001) false (pos 0)) ∷ []; broken = λ h. true≢false (sym (h.0.prints (pos 20000001) false (pos 0) refl).flag) }
+
 pub readings_break : ReadingsBreak (still false)
-readings_break = record { steady = steady; waited = waited; agreed_shown = agreed_shown; shown_near = shown_near }
+readings_break = record { steady = steady; waited = waited; agreed_shown = agreed_shown; shown_near = shown_near; falls = falls; leaps = leaps; steps = steps; slews = slews }

@@ -1,23 +1,25 @@
 -- Small histories that break the promises of sends.
 use Rattle.std.specs.Prelude.{◌≡◌, ◌≤◌, false, true, ℕ, ◌+◌, pos, List, [], ◌∷◌, is_some, refl}
-use Rattle.std.proofs.Common.{arith, inl, inr}
+use Rattle.std.proofs.Common.{ap, arith, inl, inr}
 use Rattle.tsp_base.specs.declared.act.Act.TheVariants.{Boot, Took, Post, Become, Ring, Acked, Correct}
-use Rattle.tsp_base.specs.declared.alarm.Alarm.TheVariants.{Round}
+use Rattle.tsp_base.specs.declared.alarm.Alarm.TheVariants.{Elect, Round}
 use Rattle.tsp_base.specs.declared.constants.TheConstants.{GAP}
 use Rattle.tsp_base.specs.declared.datagram.Datagram.TheVariants.{Message}
 use Rattle.tsp_base.specs.declared.datagram.Taken.TheVariants.{Good}
-use Rattle.tsp_base.specs.declared.kind.Kind.TheVariants.{AdjTime, SetTime, SetDateReq}
-use Rattle.tsp_base.specs.declared.message.Body.TheVariants.{Time}
+use Rattle.tsp_base.specs.declared.kind.Kind.TheVariants.{AdjTime, Election, SetTime, SetDateReq}
+use Rattle.tsp_base.specs.declared.message.Body.TheVariants.{Nothing, Time}
 use Rattle.tsp_base.specs.declared.place.Place.TheVariants.{Peer}
 use Rattle.tsp_base.specs.declared.role.Role.TheVariants.{Follow}
 use Rattle.tsp_promises.specs.Fits.{node_of}
-use Rattle.tsp_base.specs.History.{Acts, Booted, Came, Handed, Turned, Line, dids, of, view}
+use Rattle.tsp_base.specs.History.{Acts, Booted, Came, Handed, Turned, Line, dids, of, plain, view}
 use Rattle.tsp_base.specs.Messages.{MessageValue}
+use Rattle.tsp_base.specs.NodeFacts.{tick_of}
 use Rattle.tsp_promises.specs.Once.{ActsOn, OfSend, OnceConfirmed, OnceCorrected, OnceObeyed, OnceSpaced, OnceSpacedOverLives, OnceTaken}
 use Rattle.tsp_base.specs.Places.{Within}
 use Rattle.tsp_base.specs.Takings.{heard, peer_of, posted}
 use Rattle.tsp_promises.proofs.EverywhereLemmas.{Everywhere-at}
 use Rattle.tsp_promises.specs.Broken.{Breaks, SendsBreak}
+use Rattle.tsp_promises.specs.Thrice.{Thrice}
 use Rattle.tsp_promises.proofs.Histories.{begins, does, line, msg, step_at, still}
 use Rattle.tsp_promises.proofs.StepChecks.{port0, port1}
 
@@ -147,6 +149,31 @@ confirmed = record {
       omega (arith, own, a.node);
 }
 
+abbrev asks : MessageValue
+asks = msg Election 32775 Nothing
+
+abbrev posts : ℕ → Line
+posts at = does at 0 Turned (Post (Peer (peer_of 1)) (Message asks))
+
+abbrev posts-again : ℕ → List Line → List Line
+posts-again at h = posts at ∷ (begins at 0 Turned ∷ h)
+
+abbrev asked : List Line
+asked = posts 0 ∷ (does 0 0 Turned (Ring Elect) ∷ [])
+
+fourth : Breaks Thrice
+fourth = record { world = posts-again 3000000 (posts-again 2000000 (posts-again 1000000 asked)); broken = λ h. (let k : 4 ≤ 3 = (h.0 (peer_of 1) asks refl refl).few in omega arith) }
+
+late : Breaks Thrice
+late = record {
+  world = posts-again 4000001 asked;
+  broken = λ h.
+      let o = h.0 (peer_of 1) asks refl refl in
+      let first : 0 ≡ o.first.did.tick = ap (λ s. tick_of (plain s)) o.is in
+      let soon = o.soon in
+      omega (arith, first, soon);
+}
+
 pub sends_break : SendsBreak (still false)
 sends_break = record {
   spaced = spaced;
@@ -157,4 +184,6 @@ sends_break = record {
   elsewhere = elsewhere;
   dated = dated;
   confirmed = confirmed;
+  fourth = fourth;
+  late = late;
 }

@@ -84,7 +84,7 @@ chain-length x (y ∷ rest) c = omega (arith, c.1.0, chain-length y rest c.1.1)
 -- a LOOP has few hops, to whomever it is posted
 hops-by : (setting : Setting) (l : Line) (world : List Line) (to : Place) (m : MessageValue) → LineFits setting l world → l.did.deed ≡ Acts (Post to (Message m)) → m.kind ≡ LoopKind → (hops : ℕ) × ((m.body ≡ Hops hops) × (hops ≤ HOPS))
 hops-by setting l world Stranger m f deed kind =
-    absurd (subst (λ k. StrangerFits k l.did (view l.port (of (node_of l) world)) m.number) kind (deed_fits setting l world (Acts (Post Stranger (Message m))) deed f).fits)
+    absurd (subst (λ k. StrangerFits k l.did (view l.port (of (node_of l) world)) m.number) kind (deed_fits setting l world (Acts (Post Stranger (Message m))) deed f).fits.0)
 hops-by setting l world (Peer p) m f deed kind = of-fits (loop_fits setting l world p m f deed kind) where
   of-fits : LoopFits (setup_of setting (node_of l) l.port) (view l.port (of (node_of l) world)) m → (hops : ℕ) × ((m.body ≡ Hops hops) × (hops ≤ HOPS))
   of-fits (inl s) = (HOPS, (s.hops, omega arith))
@@ -93,7 +93,7 @@ hops-by setting l world (Peer p) m f deed kind = of-fits (loop_fits setting l wo
 -- its post ends a chain
 chain-by : (setting : Setting) (l : Line) (world : List Line) → Fits setting (l ∷ world) → Honest (l ∷ world) → ChainAt l world
 chain-by setting l world f honest Stranger m deed kind =
-    absurd (subst (λ k. StrangerFits k l.did (view l.port (of (node_of l) world)) m.number) kind (deed_fits setting l world (Acts (Post Stranger (Message m))) deed f.0).fits)
+    absurd (subst (λ k. StrangerFits k l.did (view l.port (of (node_of l) world)) m.number) kind (deed_fits setting l world (Acts (Post Stranger (Message m))) deed f.0).fits.0)
 chain-by setting l world f honest (Peer p) m deed kind =
     let h = hops-by setting l world (Peer p) m f.0 deed kind in
     let x : LoopPost = record { post = l; older = world; to = p; message = m; deed = deed; kind = kind; hops = h.0; hops_is = h.1.0 } in

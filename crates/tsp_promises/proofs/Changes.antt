@@ -1,6 +1,6 @@
 -- What changes of the role, backings and takings make of what is known of a port.
 use Rattle.std.specs.Prelude.{◌≡◌, ◌≢◌, ◌≤◌, ℕ, ◌+◌, ◌==◌, Bool, true, false, if◌then◌else◌, List, [], ◌∷◌, Option, None, Some, refl}
-use Rattle.std.proofs.Common.{sym, inl, inr, ◌∙◌, eq-eqb, true≢false}
+use Rattle.std.proofs.Common.{sym, ap, inl, inr, ◌∙◌, eq-eqb, true≢false}
 use Rattle.tsp_base.specs.declared.act.Act.TheVariants.{Took, Post, Become, Back, Quit}
 use Rattle.tsp_base.specs.declared.constants.TheConstants.{QUIET, ELECT_MIN}
 use Rattle.tsp_base.specs.declared.datagram.Datagram.TheVariants.{Message}
@@ -12,16 +12,18 @@ use Rattle.tsp_base.specs.declared.role.Role.{Role}
 use Rattle.tsp_base.specs.declared.role.Role.TheVariants.{Loose, Follow, Candidate, Master}
 use Rattle.tsp_promises.specs.DeedFits.{MessageFits}
 use Rattle.tsp_promises.specs.HoldFits.{BackFits, LeadFits, YieldFits}
+use Rattle.tsp_promises.specs.QuitFits.{QuitFits}
 use Rattle.tsp_base.specs.History.{Did, Acts, Seen, Here, Past, plain}
 use Rattle.tsp_base.specs.Messages.{MessageValue}
 use Rattle.tsp_base.specs.NodeFacts.{boot_tick}
-use Rattle.tsp_base.specs.PortFacts.{Received, role, held, armed, acting, taken}
+use Rattle.tsp_base.specs.PortFacts.{Received, Said, role, held, armed, acting, said, taken}
 use Rattle.tsp_base.specs.Rows.{grown}
-use Rattle.tsp_promises.specs.StepFacts.{is_unbacked, owes, owes_after}
+use Rattle.tsp_promises.specs.StepFacts.{acked_by, is_ack, is_answered, is_unbacked, owes, owes_after, unacknowledged}
 use Rattle.tsp_base.specs.Takings.{heard}
 use Rattle.tsp_promises.specs.PortFits.{PortFits, setup_in}
 use Rattle.tsp_promises.proofs.Known.{TimesOf, KnowsOf, During, Open}
 use Rattle.tsp_promises.proofs.Leaves.{then_seen, made, none-some, nil-cons}
+use Rattle.tsp_promises.proofs.StrangerFacts.{unanswered}
 use Rattle.tsp_rules.proofs.Asides.{now}
 
 -- a change of the role turns all alarms off, and ends all sends
@@ -41,13 +43,13 @@ either_false false = refl
 
 module _ {stirred owing acts : Bool} {follow : Option PeerId} {T : Option Received → Option Received → Type 0} {x : ℕ} {past : Past} where
   pub become_loose : (role past.seen ≡ Master → YieldFits (setup_in past) past.seen) → During stirred true owing follow acts T x past → During stirred true owing follow acts T x (grown x past (Become Loose ∷ []))
-  become_loose f h = made (Become Loose) h.own f h.fits (knows_become x past Loose h.knows.times (h.rested refl) (λ e. let bad : ⊥ = cc in absurd bad)) h.rested h.backs h.owed h.acting_is h.took
+  become_loose f h = made (Become Loose) h.own f h.fits (knows_become x past Loose h.knows.times (h.rested refl) (λ e. let bad : ⊥ = cc in absurd bad)) h.rested h.backs h.owed h.paid h.acting_is h.took
 
   pub become_candidate : boot_tick (plain past.seen) + ELECT_MIN ≤ x → ((t : ℕ) → (held past.seen).quit ≡ Some t → t + ELECT_MIN ≤ x) → During stirred true owing follow acts T x past → During stirred true true follow acts T x (grown x past (Become Candidate ∷ []))
-  become_candidate long quit h = made (Become Candidate) h.own tt h.fits (knows_become x past Candidate h.knows.times (h.rested refl) (λ e. (long, quit))) h.rested refl h.owed h.acting_is h.took
+  become_candidate long quit h = made (Become Candidate) h.own tt h.fits (knows_become x past Candidate h.knows.times (h.rested refl) (λ e. (long, quit))) h.rested refl h.owed h.paid h.acting_is h.took
 
   pub become_master : LeadFits (setup_in past) (now x past (Become Master)) past.seen → During stirred true owing follow acts T x past → During stirred true owing follow acts T x (grown x past (Become Master ∷ []))
-  become_master f h = made (Become Master) h.own f h.fits (knows_become x past Master h.knows.times (h.rested refl) (λ e. let bad : ⊥ = cc in absurd bad)) h.rested h.backs h.owed h.acting_is h.took
+  become_master f h = made (Become Master) h.own f h.fits (knows_become x past Master h.knows.times (h.rested refl) (λ e. let bad : ⊥ = cc in absurd bad)) h.rested h.backs h.owed h.paid h.acting_is h.took
 
 module _ {stirred awake acts : Bool} {follow : Option PeerId} {T : Option Received → Option Received → Type 0} {x : ℕ} {past : Past} where
   -- a port that has just become a candidate backs itself
@@ -57,7 +59,7 @@ module _ {stirred awake acts : Bool} {follow : Option PeerId} {T : Option Receiv
       let same : (past.own.0 == past.step.node) ≡ true = eq-eqb past.own.0 past.step.node h.own in
       made (Back past.own) h.own f h.fits
       (record { times = k.times; quiet = k.quiet; vote = record { stands = k.vote.stands; windows = λ n e. none-some n (sym shut ∙ e); votes = k.vote.votes }; round = k.round })
-      h.rested (rw same refl) h.owed h.acting_is h.took
+      h.rested (rw same refl) h.owed h.paid h.acting_is h.took
 
   -- a port that isn't a candidate backs another
   pub back_other : (p : PeerId) → role past.seen ≢ Candidate → BackFits (now x past (Back p)) past.seen p → During stirred awake false follow acts T x past → During stirred awake false follow acts T x (grown x past (Back p ∷ []))
@@ -65,24 +67,17 @@ module _ {stirred awake acts : Bool} {follow : Option PeerId} {T : Option Receiv
       let k = h.knows in
       made (Back p) h.own f h.fits
       (record { times = k.times; quiet = k.quiet; vote = record { stands = k.vote.stands; windows = λ n e. absurd (other (k.vote.windows n e).stands); votes = k.vote.votes }; round = k.round })
-      h.rested (rw h.backs (either_false (p.0 == past.step.node))) h.owed h.acting_is h.took
+      h.rested (rw h.backs (either_false (p.0 == past.step.node))) h.owed h.paid h.acting_is h.took
 
-  -- a port that isn't a candidate takes a QUIT
-  pub quit_other : (p : PeerId) → role past.seen ≢ Candidate → owes (then_seen x past (Quit p)) ≡ follow → During stirred awake false follow acts T x past → During stirred awake false follow acts T x (grown x past (Quit p ∷ []))
-  quit_other p other owed h =
-      let k = h.knows in
-      made (Quit p) h.own tt h.fits
-      (record { times = k.times; quiet = k.quiet; vote = record { stands = λ e. absurd (other e); windows = k.vote.windows; votes = k.vote.votes }; round = k.round })
-      h.rested h.backs owed h.acting_is h.took
-
--- a port that took a QUIT, or is about to follow
-pub record Quitting (follow : Option PeerId) (T : Option Received → Option Received → Type 0) (x : ℕ) (past : Past) : Type 0 where
+-- a port that took a QUIT, which it acknowledges or has acknowledged, or is about to follow
+pub record Quitting (due : Option Said) (follow : Option PeerId) (T : Option Received → Option Received → Type 0) (x : ℕ) (past : Past) : Type 0 where
   pub own : past.own.0 ≡ past.step.node
   pub fits : PortFits (setup_in past) past.seen
   pub times : TimesOf x past.seen
   pub rested : boot_tick (plain past.seen) + QUIET ≤ x
   pub backs : is_unbacked past.seen ≡ false
   pub owed : owes past.seen ≡ follow
+  pub paid : unacknowledged past.seen ≡ due
   pub acting_is : acting past.seen ≡ true
   pub took : T (taken past.seen) (heard (plain past.seen))
 
@@ -91,20 +86,39 @@ pub record FreeIn (follow : Option PeerId) (T : Option Received → Option Recei
   pub free : During false true false follow true T x past
   pub role_is : role past.seen ≡ r
 
+-- an ACK of its number ends it
+acked-here : (p : PeerId) (m ack : MessageValue) → is_ack ack.kind ≡ true → ack.number ≡ m.number → acked_by p ack (Some (record { from = p; message = m })) ≡ None
+acked-here p m ack kind number =
+    let same : (p.0 == p.0) ≡ true = eq-eqb p.0 p.0 refl in
+    let count : (ack.number == m.number) ≡ true = eq-eqb ack.number m.number number in
+    rw (same, kind, count) refl
+
 module _ {follow : Option PeerId} {T : Option Received → Option Received → Type 0} {x : ℕ} {past : Past} where
-  pub quitting_of : During false true false follow true T x past → Quitting follow T x past
-  quitting_of h = record { own = h.own; fits = h.fits; times = h.knows.times; rested = h.rested refl; backs = h.backs; owed = h.owed; acting_is = h.acting_is; took = h.took }
+  pub quitting_of : During false true false follow true T x past → Quitting None follow T x past
+  quitting_of h = record { own = h.own; fits = h.fits; times = h.knows.times; rested = h.rested refl; backs = h.backs; owed = h.owed; paid = h.paid; acting_is = h.acting_is; took = h.took }
 
-  pub quit_taken : (p : PeerId) (then_follow : Option PeerId) → owes_after (Acts (Quit p)) (role past.seen) (owes past.seen) ≡ then_follow → During false true false follow true T x past →
-      Quitting then_follow T x (grown x past (Quit p ∷ []))
-  quit_taken p then_follow e h = record { own = h.own; fits = (tt, h.fits); times = h.knows.times; rested = h.rested refl; backs = h.backs; owed = e; acting_is = h.acting_is; took = h.took }
+  pub quit_taken : (p : PeerId) (due : Option Said) (then_follow : Option PeerId) → QuitFits past.seen p → said (taken past.seen) ≡ due → owes_after (Acts (Quit p)) (role past.seen) (owes past.seen) ≡ then_follow → During false true false follow true T x past →
+      Quitting due then_follow T x (grown x past (Quit p ∷ []))
+  quit_taken p due then_follow f says e h = record { own = h.own; fits = (f, h.fits); times = h.knows.times; rested = h.rested refl; backs = h.backs; owed = e; paid = says; acting_is = h.acting_is; took = h.took }
 
-  pub quitting_post : (p : PeerId) (m : MessageValue) → MessageFits (setup_in past) m.kind (now x past (Post (Peer p) (Message m))) past.seen p m → Quitting follow T x past → Quitting follow T x (grown x past (Post (Peer p) (Message m) ∷ []))
-  quitting_post p m f h = record { own = h.own; fits = (record { rested = inl h.rested; fits = f }, h.fits); times = h.times; rested = h.rested; backs = h.backs; owed = h.owed; acting_is = h.acting_is; took = h.took }
+  -- its ACK
+  pub quit_acked : (p : PeerId) (m ack : MessageValue) → is_ack ack.kind ≡ true → ack.number ≡ m.number → MessageFits (setup_in past) ack.kind (now x past (Post (Peer p) (Message ack))) past.seen p ack →
+      Quitting (Some (record { from = p; message = m })) follow T x past → Quitting None follow T x (grown x past (Post (Peer p) (Message ack) ∷ []))
+  quit_acked p m ack kind number f h = record {
+    own = h.own;
+    fits = (record { rested = inl h.rested; fits = f }, h.fits);
+    times = h.times;
+    rested = h.rested;
+    backs = h.backs;
+    owed = h.owed;
+    paid = ap (acked_by p ack) h.paid ∙ acked-here p m ack kind number;
+    acting_is = h.acting_is;
+    took = h.took;
+  }
 
-  pub become_follow : (p : PeerId) → Quitting follow T x past → FreeIn follow T (Follow p) x (grown x past (Become (Follow p) ∷ []))
+  pub become_follow : (p : PeerId) → Quitting None follow T x past → FreeIn follow T (Follow p) x (grown x past (Become (Follow p) ∷ []))
   become_follow p h = record {
-    free = made (Become (Follow p)) h.own tt h.fits (knows_become x past (Follow p) h.times h.rested (λ e. let bad : ⊥ = cc in absurd bad)) (λ e. h.rested) h.backs h.owed h.acting_is h.took;
+    free = made (Become (Follow p)) h.own tt h.fits (knows_become x past (Follow p) h.times h.rested (λ e. let bad : ⊥ = cc in absurd bad)) (λ e. h.rested) h.backs h.owed h.paid h.acting_is h.took;
     role_is = refl;
   }
 
@@ -119,12 +133,14 @@ pub record JustTook (awake : Bool) (from : Place) (t : Taken) (x : ℕ) (past : 
   pub rest : List Seen
   pub is : past.seen ≡ Here took ∷ rest
   pub deed : took.deed ≡ Acts (Took from t)
+  pub unanswered : is_answered past.seen ≡ false
 
 pub take : (from : Place) (t : Taken) {x : ℕ} {past : Past} → Open x past → JustTook false from t x (grown x past (Took from t ∷ []))
 take from t {x = x} {past = past} h = record {
-  free = made {x = x} {past = past} (Took from t) h.own h.took.1 h.fits h.knows (λ e. let bad : ⊥ = cc in absurd bad) h.backs h.owed refl refl;
+  free = made {x = x} {past = past} (Took from t) h.own h.took.1 h.fits h.knows (λ e. let bad : ⊥ = cc in absurd bad) h.backs h.owed h.paid refl refl;
   took = now x past (Took from t);
   rest = past.seen;
   is = refl;
   deed = refl;
+  unanswered = unanswered (setup_in past) past.seen h.fits h.took.0;
 }

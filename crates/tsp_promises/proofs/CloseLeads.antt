@@ -6,20 +6,20 @@ use Rattle.tsp_base.specs.declared.alarm.Alarm.TheVariants.{Close}
 use Rattle.tsp_base.specs.declared.constants.TheConstants.{CLOSE, SLACK, GAP, QUIET, SPAN}
 use Rattle.tsp_base.specs.declared.place.PeerId.{PeerId}
 use Rattle.tsp_base.specs.declared.role.Role.TheVariants.{Master}
-use Rattle.tsp_promises.specs.CorrectFits.{ByRound}
+use Rattle.tsp_promises.specs.CorrectFits.{ByRound, is_stepped}
 use Rattle.tsp_base.specs.History.{Did, Acts, Seen, Here, Past, plain}
 use Rattle.tsp_base.specs.Leads.{Leads}
-use Rattle.tsp_base.specs.NodeFacts.{boot_tick, last_correct}
+use Rattle.tsp_base.specs.NodeFacts.{boot_tick, last_correct, shown}
 use Rattle.tsp_base.specs.PortFacts.{role, armed}
 use Rattle.tsp_base.specs.RoundFacts.{started}
 use Rattle.tsp_base.specs.Rows.{grown, nothing, puts, ◌followed_by◌, reading, for_each}
 use Rattle.tsp_promises.specs.StepFacts.{closed, closed_after}
-use Rattle.tsp_base.specs.Takings.{Undisturbed}
+use Rattle.tsp_base.specs.Takings.{Undisturbed, heard}
 use Rattle.tsp_base.proofs.LeadsLemmas.{Leads_then, Leads_either, Leads_reading, Leads_nothing, Leads_puts, Leads_to}
 use Rattle.tsp_group.specs.Groups.{group_of, mean_of}
 use Rattle.tsp_group.specs.declared.group.Group.{Group}
 use Rattle.tsp_rules.specs.Answers.{alarm_rings, rings}
-use Rattle.tsp_rules.specs.ClockRows.{can_adjust, adjusts}
+use Rattle.tsp_rules.specs.ClockRows.{can_adjust, adjusts, is_step}
 use Rattle.tsp_rules.specs.RoundRows.{Standing, standing, round_at, measured_at, estimates, corrects_peer, mean_by, close_act, moves, closes_with, closes, close_rings, abandons}
 use Rattle.tsp_rules.specs.Guards.{is_due, is_in_time}
 use Rattle.tsp_promises.proofs.Known.{Free, Open, Untaken}
@@ -30,6 +30,7 @@ use Rattle.tsp_rules.proofs.GuardFacts.{due_is, met_is}
 use Rattle.tsp_promises.proofs.AlarmLeads.{rings_lead, master_rested}
 use Rattle.tsp_promises.proofs.RoundLeads.{Probed}
 use Rattle.tsp_promises.proofs.PeerCorrections.{CorrectingPeers, peers_lead}
+use Rattle.tsp_promises.proofs.Printed.{adjusts_prints}
 
 -- a round that closes now, with what it has come to
 record Closing (round : List Standing) (x : ℕ) (past : Past) : Type 0 where
@@ -90,16 +91,19 @@ closes_here d before count lo size mean e = ap (λ t. closed_after t (Here d ∷
 -- the own clock's correction comes right after the Close
 adjusts_lead : (mean : ℤ) (round : List Standing) → Leads (Closed mean round) (adjusts mean) (CorrectingRound mean round)
 unfolding adjusts
-adjusts_lead mean round = record { run = λ x past h. corrected x past h _ _ } where
-  corrected : (x : ℕ) (past : Past) → Closed mean round x past → (stepped : Bool) (shown : ℤ) → CorrectingRound mean round x (grown x past (Correct mean stepped shown ∷ []))
-  corrected x past h stepped shown = record {
+adjusts_lead mean round = record { run = λ x past h. corrected x past h (is_step mean) _ (ap (is_stepped mean) (sym h.free.took.1)) (adjusts_prints x past mean (is_step mean)) } where
+  corrected : (x : ℕ) (past : Past) → Closed mean round x past → (stepped : Bool) (printed : ℤ) → stepped ≡ is_stepped mean (heard (plain past.seen)) → printed ≡ shown (now x past (Correct mean stepped printed) ∷ plain past.seen) x →
+      CorrectingRound mean round x (grown x past (Correct mean stepped printed ∷ []))
+  corrected x past h stepped printed flag prints = record {
     close = h.close;
     before = h.before;
     correcting = record {
-      free = correct mean stepped shown h.closed (record {
+      free = correct mean stepped printed h.closed (record {
         gap = h.gap;
         rested = h.free.rested refl;
         why = ByRound (record { close = h.close; past = h.before; is = h.newest; count = h.count; lo = h.lo; size = h.size; deed = h.deed; untaken = h.free.took.1 });
+        flag = flag;
+        prints = prints;
       }) h.free;
       leads = h.leads;
       close_is = ap closed h.newest ∙ closes_here h.close h.before h.count h.lo h.size mean h.deed;
@@ -114,10 +118,10 @@ adjusts_lead mean round = record { run = λ x past h. corrected x past h _ _ } w
       soon = h.soon;
       undisturbed = h.undisturbed;
       followed = inr (record {
-        next = now x past (Correct mean stepped shown);
-        place = inl (ap (λ z. Here (now x past (Correct mean stepped shown)) ∷ z) (sym h.newest));
+        next = now x past (Correct mean stepped printed);
+        place = inl (ap (λ z. Here (now x past (Correct mean stepped printed)) ∷ z) (sym h.newest));
         stepped = stepped;
-        shown = shown;
+        shown = printed;
         deed = refl;
       });
     };

@@ -70,7 +70,7 @@ module _ {stirred owing acts : Bool} {follow : Option PeerId} {T : Option Receiv
       (Leads_others MasterReq 0 (λ x past p h. post_message p (bare MasterReq 0 past.name) refl tt h))
 
 -- the port follows p
-pub follow_leads : {follow : Option PeerId} {T : Option Received → Option Received → Type 0} (p : PeerId) → Leads (Quitting follow T) (follow_row p) (FreeIn follow T (Follow p))
+pub follow_leads : {follow : Option PeerId} {T : Option Received → Option Received → Type 0} (p : PeerId) → Leads (Quitting None follow T) (follow_row p) (FreeIn follow T (Follow p))
 unfolding follow_row
 follow_leads p = Leads_then (puts (Become (Follow p))) (arms_elect followed_by tells_ticket p)
     (Leads_puts (Become (Follow p)) (λ x past h. become_follow p h))

@@ -1,6 +1,6 @@
 -- When a correction may begin, and what a repeat owes.
-use Rattle.std.specs.Prelude.{◌≡◌, ◌⊎◌, ◌≤◌, ℕ, ◌+◌, ◌%◌, ◌==◌, ◌&&◌, ◌||◌, nat_lt, nat_le, cond, Bool, true, false, if◌then◌else◌, List, [], ◌∷◌, Option, None, Some, refl}
-use Rattle.std.proofs.Common.{sym, subst, inl, inr, ap, arith, true≢false, eqb-true, ltb-false, ◌∙◌}
+use Rattle.std.specs.Prelude.{◌≡◌, ◌⊎◌, ◌≤◌, ◌<◌, ℕ, ◌+◌, ◌%◌, ◌==◌, ◌&&◌, ◌||◌, nat_lt, nat_le, cond, Bool, true, false, if◌then◌else◌, List, [], ◌∷◌, Option, None, Some, refl}
+use Rattle.std.proofs.Common.{sym, subst, inl, inr, ap, arith, true≢false, eqb-true, leb-false, ltb-false, ◌∙◌}
 use Rattle.tsp_base.specs.declared.act.Act.TheVariants.{Boot, Post, Become, Acked, Gave, Leave}
 use Rattle.tsp_base.specs.declared.constants.TheConstants.{LAST, REUSE, TRIES}
 use Rattle.tsp_base.specs.declared.datagram.Datagram.TheVariants.{Message}
@@ -130,14 +130,15 @@ may_fits p number x past d m tick_is number_is e = elim (or-cases (is_past (last
       })
 ]
 
--- a repeat of the open send, no later than LAST after its beginning
-repeat_of : (setup : Setup) (p : PeerId) (seen : List Seen) (d : Did) (s : Sending) → OpenIs setup p seen s → d.tick ≤ s.began + LAST → RepeatFits d seen p s.message
-repeat_of setup p seen d s o soon = record {
+-- a repeat of the open send, no later than LAST after its beginning, and one of few
+repeat_of : (setup : Setup) (p : PeerId) (seen : List Seen) (d : Did) (s : Sending) → OpenIs setup p seen s → d.tick ≤ s.began + LAST → s.posts < TRIES → RepeatFits d seen p s.message
+repeat_of setup p seen d s o soon few = record {
   first = o.began.first;
   older = o.began.older;
   is = o.began.is;
   same = subst (λ m. o.began.first.deed ≡ Acts (Post (Peer p) (Message m))) (sym o.message_is) o.began.deed;
   soon = (let e = o.tick_is in omega (arith, e, soon));
+  few = subst (λ n. n < TRIES) o.posts_is few;
 }
 
 fits_kind : (setup : Setup) (k : Kind) (p : PeerId) (seen : List Seen) (d first : Did) (older : List Seen) (m : MessageValue) → is_numbered k ≡ true → MessageFits setup k first older p m → role seen ≡ role older → is_unbacked seen ≡ false → acting seen ≡ false →
@@ -153,14 +154,14 @@ fits_kind setup SetDateReq p seen d first older m n f r u a again = record {
 }
 fits_kind setup _ p seen d first older m n f r u a again = absurd (true≢false (sym n))
 
-repeat_fits : (setup : Setup) (p : PeerId) (seen : List Seen) (d : Did) (s : Sending) → PortFits setup seen → open_send p seen ≡ Some s → is_unbacked seen ≡ false → acting seen ≡ false → d.tick ≤ s.began + LAST → MessageFits setup s.message.kind d seen p s.message
-repeat_fits setup p seen d s f e u a soon =
+repeat_fits : (setup : Setup) (p : PeerId) (seen : List Seen) (d : Did) (s : Sending) → PortFits setup seen → open_send p seen ≡ Some s → is_unbacked seen ≡ false → acting seen ≡ false → d.tick ≤ s.began + LAST → s.posts < TRIES → MessageFits setup s.message.kind d seen p s.message
+repeat_fits setup p seen d s f e u a soon few =
     let o = open_is setup p seen s f e in
     let m = o.message_is in
     fits_kind setup s.message.kind p seen d o.began.first o.began.older s.message
     (subst (λ t. is_numbered t.kind ≡ true) (sym m) o.began.numbered)
     (subst (λ t. MessageFits setup t.kind o.began.first o.began.older p t) (sym m) o.began.fits)
-    o.began.role_is u a (repeat_of setup p seen d s o soon)
+    o.began.role_is u a (repeat_of setup p seen d s o soon few)
 
 -- the same port, which has a send open, so its quiet time is over
 abbrev Sending_on : ℕ → Past → Type 0
@@ -185,12 +186,18 @@ soon_of s x past e = ltb-false (s.began + LAST) x (or-false (nat_lt (s.began + L
   or-false true b e = absurd (true≢false e)
   or-false false b e = refl
 
+few_of : (s : Sending) (x : ℕ) (past : Past) → is_spent s x past ≡ false → s.posts < TRIES
+few_of s x past e = leb-false TRIES s.posts (or-false (nat_lt (s.began + LAST) x) (nat_le TRIES s.posts) e) where
+  or-false : (a b : Bool) → (a || b) ≡ false → b ≡ false
+  or-false true b e = absurd (true≢false e)
+  or-false false b e = e
+
 -- an open send that is due and not spent is posted again
 pub repeats_lead : (p : PeerId) (s : Sending) → Leads (λ x past. ((Fresh x past × (open_at p x past ≡ Some s)) × (is_send_due s x past ≡ true)) × (is_spent s x past ≡ false)) (repeats p s.message) Fresh
 unfolding repeats
 repeats_lead p s = Leads_puts (Post (Peer p) (Message s.message)) (λ x past h.
     let f = h.0.0.0 in
-    forget (post_again p s.message (repeat_fits (setup_in past) p past.seen (now x past (Post (Peer p) (Message s.message))) s f.fits h.0.0.1 f.backs f.acting_is (soon_of s x past h.1)) (awake_open p s x past f h.0.0.1)))
+    forget (post_again p s.message (repeat_fits (setup_in past) p past.seen (now x past (Post (Peer p) (Message s.message))) s f.fits h.0.0.1 f.backs f.acting_is (soon_of s x past h.1) (few_of s x past h.1)) (awake_open p s x past f h.0.0.1)))
 
 -- an open send that is due and spent is given up
 gives_up_leads : (p : PeerId) (s : Sending) → Leads (λ x past. ((Fresh x past × (open_at p x past ≡ Some s)) × (is_send_due s x past ≡ true)) × (is_spent s x past ≡ true)) (puts (Gave p)) Sending_on

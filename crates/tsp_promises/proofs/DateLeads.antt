@@ -31,6 +31,7 @@ use Rattle.tsp_rules.specs.ClockRows.{sets}
 use Rattle.tsp_rules.specs.DateRows.{may_pass_on, passes_on, all_settled, may_date, leaves, leaves_all, new_date, sets_date_where, date_in, date_of, is_last, is_dated, sets_in_charge, date_request_in, date_request_of, answers_date, has_date, date_acked_in, date_acked}
 use Rattle.tsp_rules.specs.SendRows.{begins_timed, next_number, is_free}
 use Rattle.tsp_rules.specs.Guards.{is_clock_value, role_at, table_at}
+use Rattle.tsp_promises.specs.StepFacts.{is_answered}
 use Rattle.tsp_promises.specs.PortFits.{setup_in}
 use Rattle.tsp_promises.proofs.Known.{Free, Rests, RestsIn, Stirred}
 use Rattle.tsp_promises.proofs.Leaves.{leave, acked, correct_stirring}
@@ -40,7 +41,8 @@ use Rattle.tsp_promises.proofs.Changes.{Is, JustTook}
 use Rattle.tsp_promises.proofs.LeadsLeaves.{Leads_posts, Leads_posts_back, Leads_posts_time, Leads_others}
 use Rattle.tsp_rules.proofs.GuardFacts.{and-cases, past_is}
 use Rattle.tsp_promises.proofs.CommonLeads.{own_number}
-use Rattle.tsp_promises.proofs.TakenLeads.{Heard, HeardIn, rests_of, wake_role, took_awake, ack_fits, open_known}
+use Rattle.tsp_promises.proofs.Printed.{date_sets, flag_of, sets_prints}
+use Rattle.tsp_promises.proofs.TakenLeads.{Heard, HeardIn, Unanswered, rests_of, wake_role, took_awake, ack_fits, open_known}
 use Rattle.tsp_promises.proofs.SlaveLeads.{idle_heard, gap_of}
 use Rattle.tsp_promises.proofs.Upsets.{Upsets, upsets_of, upsets_from, upsets_either, upsets_reading}
 
@@ -65,10 +67,10 @@ request_sets Date e = refl
 request_sets SetDate e = refl
 request_sets _ e = e
 
-ack_to : (from : Place) (m : MessageValue) (x : ℕ) (past : Past) → IsClient m.kind → taken past.seen ≡ Some (record { from = from; taken = Good (Message m) }) →
+ack_to : (from : Place) (m : MessageValue) (x : ℕ) (past : Past) → IsClient m.kind → taken past.seen ≡ Some (record { from = from; taken = Good (Message m) }) → is_answered past.seen ≡ false →
     PostFits (setup_in past) from (Message (bare Ack m.number past.name)) (now x past (Post from (Message (bare Ack m.number past.name)))) past.seen
-ack_to (Peer p) m x past client took = ack_fits (Peer p) m past.seen took (client_answers m.kind client (Peer p) past.seen m.number)
-ack_to Stranger m x past client took = ack_fits Stranger m past.seen took (client_answers m.kind client Stranger past.seen m.number)
+ack_to (Peer p) m x past client took none = ack_fits (Peer p) m past.seen took (client_answers m.kind client (Peer p) past.seen m.number)
+ack_to Stranger m x past client took none = (ack_fits Stranger m past.seen took (client_answers m.kind client Stranger past.seen m.number), none)
 
 -- a follower passes a client's date on
 record Passing (from : Place) (m : MessageValue) (x : ℕ) (past : Past) : Type 0 where
@@ -76,14 +78,14 @@ record Passing (from : Place) (m : MessageValue) (x : ℕ) (past : Past) : Type 
   pub seldom : is_past (last_asked past.seen) REUSE x ≡ true
 
 module _ {from : Place} {m : MessageValue} where
-  answered : (x : ℕ) (past : Past) → IsClient m.kind → Passing from m x past → Passing from m x (grown x past (Post from (Message (bare Ack m.number past.name)) ∷ []))
-  answered x past client h = record { free = post_back from (bare Ack m.number past.name) refl (ack_to from m x past client h.free.took) h.free; seldom = h.seldom }
+  answered : (x : ℕ) (past : Past) → IsClient m.kind → is_answered past.seen ≡ false → Passing from m x past → Passing from m x (grown x past (Post from (Message (bare Ack m.number past.name)) ∷ []))
+  answered x past client none h = record { free = post_back from (bare Ack m.number past.name) refl (ack_to from m x past client h.free.took none) h.free; seldom = h.seldom }
 
-  pub passes_on_leads : (q : PeerId) (time : ℤ) → IsClient m.kind → Leads (Free (Is from (Good (Message m)))) (passes_on from q m.number time) Rests
+  pub passes_on_leads : (q : PeerId) (time : ℤ) → IsClient m.kind → Leads (Unanswered (Free (Is from (Good (Message m))))) (passes_on from q m.number time) Rests
   unfolding passes_on begins_timed
   passes_on_leads q time client = Leads_either (may_pass_on q) (posts_back from Ack m.number followed_by begins_timed SetDateReq q time) nothing
       (Leads_then {Q = Passing from m} (posts_back from Ack m.number) (begins_timed SetDateReq q time)
-      (Leads_posts_back from Ack m.number (λ x past h. answered x past client (record { free = h.0; seldom = (and-cases (is_past (last_asked past.seen) REUSE x) (is_free q x past) h.1).0 })))
+      (Leads_posts_back from Ack m.number (λ x past h. answered x past client h.0.none (record { free = h.0.was; seldom = (and-cases (is_past (last_asked past.seen) REUSE x) (is_free q x past) h.1).0 })))
       (Leads_reading next_number (λ n. posts_time q SetDateReq n time) (λ n. Leads_posts_time q SetDateReq n time (λ x past h.
       let d = timed SetDateReq n time past.name in
       let here = now x past (Post (Peer q) (Message d)) in
@@ -91,7 +93,7 @@ module _ {from : Place} {m : MessageValue} where
         numbered = own_number x past q here d h.0.free h.1;
         begins = λ acts. record { rested = h.0.free.rested refl; seldom = λ t e. past_is (last_asked past.seen) REUSE x h.0.seldom t e };
       }) h.0.free)))))
-      (Leads_from (λ x past h. rests_of h.0) Leads_nothing)
+      (Leads_from (λ x past h. rests_of h.0.was) Leads_nothing)
 
 -- a master that has just taken a date that it may set
 pub record Dating_now (from : Place) (m : MessageValue) (x : ℕ) (past : Past) : Type 0 where
@@ -132,9 +134,9 @@ date_ack (Peer p) m here x after seen tick (ByPeer q is request) took last = inr
 date_ack Stranger m here x after seen tick (ByClient client) took last = record { message = m; took = took; kind = client; number_is = refl }
 date_ack Stranger m here x after seen tick (ByPeer q is request) took last = let bad : ⊥ = cc in absurd bad
 
-ack_post : (setup : Setup) (from : Place) (m : MessageValue) (name : List ℕ) (here : Did) (seen : List Seen) → DateAckFits from here seen m.number → PostFits setup from (Message (bare DateAck m.number name)) here seen
-ack_post setup (Peer p) m name here seen f = f
-ack_post setup Stranger m name here seen f = f
+ack_post : (setup : Setup) (from : Place) (m : MessageValue) (name : List ℕ) (here : Did) (seen : List Seen) → DateAckFits from here seen m.number → is_answered seen ≡ false → PostFits setup from (Message (bare DateAck m.number name)) here seen
+ack_post setup (Peer p) m name here seen f none = f
+ack_post setup Stranger m name here seen f none = (f, none)
 
 module _ {from : Place} {m : MessageValue} where
   corrected : (x : ℕ) (past : Past) → WhoDates from m → is_past (correct_tick (plain past.seen)) GAP x ≡ true → Dating_now from m x past → Dated from m x (grown x past (Correct (time_in m.body -ℤ target (plain past.seen) x) true (time_in m.body) ∷ []))
@@ -159,9 +161,11 @@ module _ {from : Place} {m : MessageValue} where
             amount_is = refl;
             again = h.again;
           });
+          flag = flag_of from m (time_in m.body -ℤ target (plain past.seen) x) h.just.took h.just.rest past.seen true h.just.is h.just.deed (date_sets m.kind h.date);
+          prints = sets_prints x past (time_in m.body);
         }) free;
         answers = ack_post (setup_in past) from m past.name here later.seen (date_ack from m here x (now x past a) past.seen refl who free.took (λ p is request.
-            dated-is p m x (last_date p past.seen) (taken past.seen) (free.took ∙ ap (λ f. Some (record { from = f; taken = Good (Message m) })) is) request));
+            dated-is p m x (last_date p past.seen) (taken past.seen) (free.took ∙ ap (λ f. Some (record { from = f; taken = Good (Message m) })) is) request)) h.just.unanswered;
       }
 
   -- after the clock is set
@@ -190,7 +194,7 @@ module _ {from : Place} {m : MessageValue} where
 
   pub date_in_upsets : (r : Role) → IsClient m.kind → Upsets (sets_date m.kind) (λ x past. JustTook false from (Good (Message m)) x past × (role_at x past ≡ r)) (date_in from m.number (time_in m.body) r)
   unfolding date_in
-  date_in_upsets (Follow q) client = upsets_of (Leads_from (λ x past h. wake_role (λ e. let r = h.1 in let bad : ⊥ = cc in absurd bad) h.0.free) (passes_on_leads q (time_in m.body) client))
+  date_in_upsets (Follow q) client = upsets_of (Leads_from (λ x past h. record { was = wake_role (λ e. let r = h.1 in let bad : ⊥ = cc in absurd bad) h.0.free; none = h.0.unanswered }) (passes_on_leads q (time_in m.body) client))
   date_in_upsets Master client = upsets_from (λ x past h. record {
     just = took_awake (λ e. let r = h.1 in let bad : ⊥ = cc in absurd bad) h.0;
     leads = h.1;

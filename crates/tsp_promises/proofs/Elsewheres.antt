@@ -68,7 +68,7 @@ fresh-aside : {stirred : Bool} (x : ℕ) (past : Past) (a : Act) → is_still a 
 fresh-aside x past Boot e h = absurd (true≢false (sym e))
 fresh-aside x past (Took from t) e h = absurd (true≢false (sym e))
 fresh-aside x past (Correct amount stepped shown) e h = absurd (true≢false (sym e))
-fresh-aside x past _ e h = record { own = h.own; fits = h.fits; knows = h.knows; rested = h.rested; backs = h.backs; owed = h.owed; acting_is = h.acting_is; took = h.took }
+fresh-aside x past _ e h = record { own = h.own; fits = h.fits; knows = h.knows; rested = h.rested; backs = h.backs; owed = h.owed; paid = h.paid; acting_is = h.acting_is; took = h.took }
 
 fresh-moved : (x : ℕ) (past : Past) (a : Act) → is_correct a ≡ true → FreshIn true x past → FreshIn true x (aside x past a)
 fresh-moved x past (Correct amount stepped shown) e h = record {
@@ -78,6 +78,7 @@ fresh-moved x past (Correct amount stepped shown) e h = record {
   rested = h.rested;
   backs = h.backs;
   owed = h.owed;
+  paid = h.paid;
   acting_is = h.acting_is;
   took = h.took;
 }
@@ -88,19 +89,19 @@ pub fresh_family : Family FreshIn
 fresh_family = record {
   still = fresh-aside;
   moved = fresh-moved;
-  weaken = λ x past h. record { own = h.own; fits = h.fits; knows = stirring x past h.knows; rested = h.rested; backs = h.backs; owed = h.owed; acting_is = h.acting_is; took = h.took };
+  weaken = λ x past h. record { own = h.own; fits = h.fits; knows = stirring x past h.knows; rested = h.rested; backs = h.backs; owed = h.owed; paid = h.paid; acting_is = h.acting_is; took = h.took };
   abandons = λ x past h. abandon h;
-  shut = λ x past e h. record { own = h.own; fits = h.fits; knows = calmed x past.own past.seen e h.knows; rested = h.rested; backs = h.backs; owed = h.owed; acting_is = h.acting_is; took = h.took };
+  shut = λ x past e h. record { own = h.own; fits = h.fits; knows = calmed x past.own past.seen e h.knows; rested = h.rested; backs = h.backs; owed = h.owed; paid = h.paid; acting_is = h.acting_is; took = h.took };
 }
 
 open-aside : {stirred : Bool} {T : Option Received → Option Received → Type 0} (x : ℕ) (past : Past) (a : Act) → is_still a ≡ true → OpenIn stirred T x past → OpenIn stirred T x (aside x past a)
 open-aside x past Boot e h = absurd (true≢false (sym e))
 open-aside x past (Took from t) e h = absurd (true≢false (sym e))
 open-aside x past (Correct amount stepped shown) e h = absurd (true≢false (sym e))
-open-aside x past _ e h = record { own = h.own; fits = h.fits; knows = h.knows; backs = h.backs; owed = h.owed; took = h.took }
+open-aside x past _ e h = record { own = h.own; fits = h.fits; knows = h.knows; backs = h.backs; owed = h.owed; paid = h.paid; took = h.took }
 
 open-moved : {T : Option Received → Option Received → Type 0} (x : ℕ) (past : Past) (a : Act) → is_correct a ≡ true → OpenIn true T x past → OpenIn true T x (aside x past a)
-open-moved x past (Correct amount stepped shown) e h = record { own = h.own; fits = h.fits; knows = knows-moved x past (Correct amount stepped shown) e h.knows; backs = h.backs; owed = h.owed; took = h.took }
+open-moved x past (Correct amount stepped shown) e h = record { own = h.own; fits = h.fits; knows = knows-moved x past (Correct amount stepped shown) e h.knows; backs = h.backs; owed = h.owed; paid = h.paid; took = h.took }
 open-moved x past _ e h = absurd (true≢false (sym e))
 
 -- after its turn
@@ -108,18 +109,18 @@ pub open_family : {T : Option Received → Option Received → Type 0} → Famil
 open_family = record {
   still = open-aside;
   moved = open-moved;
-  weaken = λ x past h. record { own = h.own; fits = h.fits; knows = stirring x past h.knows; backs = h.backs; owed = h.owed; took = h.took };
-  abandons = λ x past h. record { own = h.own; fits = (tt, h.fits); knows = abandoned x past h.knows; backs = h.backs; owed = h.owed; took = h.took };
-  shut = λ x past e h. record { own = h.own; fits = h.fits; knows = calmed x past.own past.seen e h.knows; backs = h.backs; owed = h.owed; took = h.took };
+  weaken = λ x past h. record { own = h.own; fits = h.fits; knows = stirring x past h.knows; backs = h.backs; owed = h.owed; paid = h.paid; took = h.took };
+  abandons = λ x past h. record { own = h.own; fits = (tt, h.fits); knows = abandoned x past h.knows; backs = h.backs; owed = h.owed; paid = h.paid; took = h.took };
+  shut = λ x past e h. record { own = h.own; fits = h.fits; knows = calmed x past.own past.seen e h.knows; backs = h.backs; owed = h.owed; paid = h.paid; took = h.took };
 }
 
 rests-aside : {stirred : Bool} (x : ℕ) (past : Past) (a : Act) → is_apart a ≡ true → RestsIn stirred x past → RestsIn stirred x (aside x past a)
 rests-aside x past Boot e h = absurd (true≢false (sym e))
 rests-aside x past (Correct amount stepped shown) e h = absurd (true≢false (sym e))
-rests-aside x past _ e h = record { fits = h.fits; knows = h.knows; backs = h.backs; follows = h.follows }
+rests-aside x past _ e h = record { fits = h.fits; knows = h.knows; backs = h.backs; follows = h.follows; paid = h.paid }
 
 rests-moved : (x : ℕ) (past : Past) (a : Act) → is_correct a ≡ true → RestsIn true x past → RestsIn true x (aside x past a)
-rests-moved x past (Correct amount stepped shown) e h = record { fits = h.fits; knows = knows-moved x past (Correct amount stepped shown) e h.knows; backs = h.backs; follows = h.follows }
+rests-moved x past (Correct amount stepped shown) e h = record { fits = h.fits; knows = knows-moved x past (Correct amount stepped shown) e h.knows; backs = h.backs; follows = h.follows; paid = h.paid }
 rests-moved x past _ e h = absurd (true≢false (sym e))
 
 -- at the end of the step; a taking elsewhere changes nothing then
@@ -127,9 +128,9 @@ pub rests_family : Family RestsIn
 rests_family = record {
   still = λ x past a e h. rests-aside x past a (still-apart a e) h;
   moved = rests-moved;
-  weaken = λ x past h. record { fits = h.fits; knows = stirring x past h.knows; backs = h.backs; follows = h.follows };
-  abandons = λ x past h. record { fits = (tt, h.fits); knows = abandoned x past h.knows; backs = h.backs; follows = h.follows };
-  shut = λ x past e h. record { fits = h.fits; knows = calmed x past.own past.seen e h.knows; backs = h.backs; follows = h.follows };
+  weaken = λ x past h. record { fits = h.fits; knows = stirring x past h.knows; backs = h.backs; follows = h.follows; paid = h.paid };
+  abandons = λ x past h. record { fits = (tt, h.fits); knows = abandoned x past h.knows; backs = h.backs; follows = h.follows; paid = h.paid };
+  shut = λ x past e h. record { fits = h.fits; knows = calmed x past.own past.seen e h.knows; backs = h.backs; follows = h.follows; paid = h.paid };
 }
 
 pub rests_took : {stirred : Bool} (x : ℕ) (past : Past) (a : Act) → is_apart a ≡ true → RestsIn stirred x past → RestsIn stirred x (aside x past a)

@@ -11,7 +11,7 @@ use Rattle.tsp_base.specs.Peers.{is_among}
 use Rattle.tsp_base.specs.PortFacts.{Received, role, held, armed, acting, taken, backers, stood}
 use Rattle.tsp_base.specs.RoundFacts.{started, exchange, word_asked, probes}
 use Rattle.tsp_base.specs.SendFacts.{open_to, message_at}
-use Rattle.tsp_promises.specs.StepFacts.{is_unbacked, owes}
+use Rattle.tsp_promises.specs.StepFacts.{is_unbacked, owes, unacknowledged}
 use Rattle.tsp_base.specs.Takings.{heard}
 use Rattle.tsp_rules.specs.SendRows.{is_kind_election}
 use Rattle.tsp_promises.specs.PortFits.{PortFits, setup_in}
@@ -114,7 +114,7 @@ RoundsOf stirred seen = Rounds stirred (last_correct (plain seen)) (role seen) (
 abbrev pub KnowsOf : Bool → ℕ → PeerId → List Seen → Type 0
 KnowsOf stirred x own seen = Knows (TimesOf x seen) (QuietsOf x seen) (VotesOf x own seen) (RoundsOf stirred seen)
 
--- a port in a step: whether it is stirred, whether its quiet time is known to be over, whether it owes a backing of itself, whom it must follow, whether it acts, what was taken here and anywhere
+-- a port in a step: whether it is stirred, whether its quiet time is known to be over, whether it owes a backing of itself, whom it must follow, that no QUIT waits for its ACK, whether it acts, what was taken here and anywhere
 pub record During (stirred awake owing : Bool) (follow : Option PeerId) (acts : Bool) (T : Option Received → Option Received → Type 0) (x : ℕ) (past : Past) : Type 0 where
   pub own : past.own.0 ≡ past.step.node
   pub fits : PortFits (setup_in past) past.seen
@@ -122,6 +122,7 @@ pub record During (stirred awake owing : Bool) (follow : Option PeerId) (acts : 
   pub rested : awake ≡ true → boot_tick (plain past.seen) + QUIET ≤ x
   pub backs : is_unbacked past.seen ≡ owing
   pub owed : owes past.seen ≡ follow
+  pub paid : unacknowledged past.seen ≡ None
   pub acting_is : acting past.seen ≡ acts
   pub took : T (taken past.seen) (heard (plain past.seen))
 
@@ -155,6 +156,7 @@ pub record OpenIn (stirred : Bool) (T : Option Received → Option Received → 
   pub knows : KnowsOf stirred x past.own past.seen
   pub backs : is_unbacked past.seen ≡ false
   pub owed : owes past.seen ≡ None
+  pub paid : unacknowledged past.seen ≡ None
   pub took : T (taken past.seen) (heard (plain past.seen))
 
 abbrev pub Open : ℕ → Past → Type 0
@@ -166,6 +168,7 @@ pub record RestsIn (stirred : Bool) (x : ℕ) (past : Past) : Type 0 where
   pub knows : KnowsOf stirred x past.own past.seen
   pub backs : is_unbacked past.seen ≡ false
   pub follows : (p : PeerId) → owes past.seen ≡ Some p → role past.seen ≡ Follow p
+  pub paid : unacknowledged past.seen ≡ None
 
 abbrev pub Rests : ℕ → Past → Type 0
 Rests = RestsIn false

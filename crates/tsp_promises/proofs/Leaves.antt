@@ -20,7 +20,7 @@ use Rattle.tsp_base.specs.PortFacts.{Received, role, armed, acting, taken, backe
 use Rattle.tsp_base.specs.RoundFacts.{exchange, probes}
 use Rattle.tsp_base.specs.Rows.{grown}
 use Rattle.tsp_base.specs.SendFacts.{open_to, message_at}
-use Rattle.tsp_promises.specs.StepFacts.{is_unbacked, owes}
+use Rattle.tsp_promises.specs.StepFacts.{is_unbacked, owes, unacknowledged}
 use Rattle.tsp_base.specs.Takings.{heard}
 use Rattle.tsp_promises.specs.PortFits.{PortFits, setup_in}
 use Rattle.tsp_promises.proofs.Known.{Asked, Probing, Candidature, asks_vote, KnowsOf, During}
@@ -59,43 +59,43 @@ pub stir : {stirred : Bool} {close : Option ℕ} {nc nl nd nm w : ℕ} {s : Seen
 stir a = record { post = a.post; is = a.is; at = a.at; goes = a.goes; word_is = a.word_is; corrects = λ calm. absurd (true≢false calm); life = λ calm. absurd (true≢false calm) }
 
 pub made : {stirred awake owing acts : Bool} {follow : Option PeerId} {T : Option Received → Option Received → Type 0} {x : ℕ} {past : Past} (a : Act) → past.own.0 ≡ past.step.node → ActFits (setup_in past) a (now x past a) past.seen → PortFits (setup_in past) past.seen →
-    KnowsOf stirred x past.own (then_seen x past a) → (awake ≡ true → boot_tick (plain (then_seen x past a)) + QUIET ≤ x) → is_unbacked (then_seen x past a) ≡ owing → owes (then_seen x past a) ≡ follow → acting (then_seen x past a) ≡ acts → T (taken (then_seen x past a)) (heard (plain (then_seen x past a))) →
+    KnowsOf stirred x past.own (then_seen x past a) → (awake ≡ true → boot_tick (plain (then_seen x past a)) + QUIET ≤ x) → is_unbacked (then_seen x past a) ≡ owing → owes (then_seen x past a) ≡ follow → unacknowledged (then_seen x past a) ≡ None → acting (then_seen x past a) ≡ acts → T (taken (then_seen x past a)) (heard (plain (then_seen x past a))) →
     During stirred awake owing follow acts T x (grown x past (a ∷ []))
-made a own f fits knows rested backs owed acting_is took = record { own = own; fits = (f, fits); knows = knows; rested = rested; backs = backs; owed = owed; acting_is = acting_is; took = took }
+made a own f fits knows rested backs owed paid acting_is took = record { own = own; fits = (f, fits); knows = knows; rested = rested; backs = backs; owed = owed; paid = paid; acting_is = acting_is; took = took }
 
 -- acts that change nothing that is known
 module _ {stirred awake owing acts : Bool} {follow : Option PeerId} {T : Option Received → Option Received → Type 0} {x : ℕ} {past : Past} where
   pub join : (p : PeerId) → During stirred awake owing follow acts T x past → During stirred awake owing follow acts T x (grown x past (Join p ∷ []))
-  join p h = made (Join p) h.own tt h.fits h.knows h.rested h.backs h.owed h.acting_is h.took
+  join p h = made (Join p) h.own tt h.fits h.knows h.rested h.backs h.owed h.paid h.acting_is h.took
 
   pub leave : (p : PeerId) → During stirred awake owing follow acts T x past → During stirred awake owing follow acts T x (grown x past (Leave p ∷ []))
-  leave p h = made (Leave p) h.own tt h.fits h.knows h.rested h.backs h.owed h.acting_is h.took
+  leave p h = made (Leave p) h.own tt h.fits h.knows h.rested h.backs h.owed h.paid h.acting_is h.took
 
   pub rival : (p : PeerId) → During stirred awake owing follow acts T x past → During stirred awake owing follow acts T x (grown x past (Rival p ∷ []))
-  rival p h = made (Rival p) h.own tt h.fits h.knows h.rested h.backs h.owed h.acting_is h.took
+  rival p h = made (Rival p) h.own tt h.fits h.knows h.rested h.backs h.owed h.paid h.acting_is h.took
 
   pub trace : (on : Bool) → During stirred awake owing follow acts T x past → During stirred awake owing follow acts T x (grown x past (Trace on ∷ []))
-  trace on h = made (Trace on) h.own tt h.fits h.knows h.rested h.backs h.owed h.acting_is h.took
+  trace on h = made (Trace on) h.own tt h.fits h.knows h.rested h.backs h.owed h.paid h.acting_is h.took
 
   pub close_act : (count : ℕ) (lo size mean : ℤ) → role past.seen ≡ Master → During stirred awake owing follow acts T x past → During stirred awake owing follow acts T x (grown x past (CloseAct count lo size mean ∷ []))
-  close_act count lo size mean f h = made (CloseAct count lo size mean) h.own f h.fits h.knows h.rested h.backs h.owed h.acting_is h.took
+  close_act count lo size mean f h = made (CloseAct count lo size mean) h.own f h.fits h.knows h.rested h.backs h.owed h.paid h.acting_is h.took
 
 -- acts of a port whose quiet time is over
 module _ {stirred owing acts : Bool} {follow : Option PeerId} {T : Option Received → Option Received → Type 0} {x : ℕ} {past : Past} where
   pub arm_search : (at : ℕ) → During stirred true owing follow acts T x past → During stirred true owing follow acts T x (grown x past (Arm Search at ∷ []))
   arm_search at h =
       let k = h.knows in
-      made (Arm Search at) h.own tt h.fits (record { times = k.times; quiet = record { rested = inr (h.rested refl); silent = k.quiet.silent }; vote = k.vote; round = k.round }) h.rested h.backs h.owed h.acting_is h.took
+      made (Arm Search at) h.own tt h.fits (record { times = k.times; quiet = record { rested = inr (h.rested refl); silent = k.quiet.silent }; vote = k.vote; round = k.round }) h.rested h.backs h.owed h.paid h.acting_is h.took
 
   pub arm_elect : (at : ℕ) → During stirred true owing follow acts T x past → During stirred true owing follow acts T x (grown x past (Arm Elect at ∷ []))
   arm_elect at h =
       let k = h.knows in
-      made (Arm Elect at) h.own tt h.fits (record { times = k.times; quiet = record { rested = inr (h.rested refl); silent = k.quiet.silent }; vote = k.vote; round = k.round }) h.rested h.backs h.owed h.acting_is h.took
+      made (Arm Elect at) h.own tt h.fits (record { times = k.times; quiet = record { rested = inr (h.rested refl); silent = k.quiet.silent }; vote = k.vote; round = k.round }) h.rested h.backs h.owed h.paid h.acting_is h.took
 
   pub arm_resolve : (at : ℕ) → During stirred true owing follow acts T x past → During stirred true owing follow acts T x (grown x past (Arm Resolve at ∷ []))
   arm_resolve at h =
       let k = h.knows in
-      made (Arm Resolve at) h.own tt h.fits (record { times = k.times; quiet = record { rested = inr (h.rested refl); silent = k.quiet.silent }; vote = k.vote; round = k.round }) h.rested h.backs h.owed h.acting_is h.took
+      made (Arm Resolve at) h.own tt h.fits (record { times = k.times; quiet = record { rested = inr (h.rested refl); silent = k.quiet.silent }; vote = k.vote; round = k.round }) h.rested h.backs h.owed h.paid h.acting_is h.took
 
   pub gave : (p : PeerId) → During stirred true owing follow acts T x past → During stirred true owing follow acts T x (grown x past (Gave p ∷ []))
   gave p h =
@@ -107,7 +107,7 @@ module _ {stirred owing acts : Bool} {follow : Option PeerId} {T : Option Receiv
         vote = record { stands = k.vote.stands; windows = k.vote.windows; votes = λ q e. kept-vote (p.0 == q.0) (open_to q past.seen) (k.vote.votes q) e };
         round = k.round;
       })
-      h.rested h.backs h.owed h.acting_is h.took
+      h.rested h.backs h.owed h.paid h.acting_is h.took
 
   pub acked : (p : PeerId) → AckedFits past.seen p → During stirred true owing follow acts T x past → During stirred true owing follow acts T x (grown x past (Acked p ∷ []))
   acked p f h =
@@ -119,7 +119,7 @@ module _ {stirred owing acts : Bool} {follow : Option PeerId} {T : Option Receiv
         vote = record { stands = k.vote.stands; windows = k.vote.windows; votes = λ q e. kept-vote (p.0 == q.0) (open_to q past.seen) (k.vote.votes q) e };
         round = k.round;
       })
-      h.rested h.backs h.owed h.acting_is h.took
+      h.rested h.backs h.owed h.paid h.acting_is h.took
 
   pub backer : (p : PeerId) → BackerFits (setup_in past) (now x past (Backer p)) past.seen p → open_to p past.seen ≡ [] → During stirred true owing follow acts T x past → During stirred true owing follow acts T x (grown x past (Backer p ∷ []))
   backer p f ended h =
@@ -135,7 +135,7 @@ module _ {stirred owing acts : Bool} {follow : Option PeerId} {T : Option Receiv
         };
         round = k.round;
       })
-      h.rested h.backs h.owed h.acting_is h.took
+      h.rested h.backs h.owed h.paid h.acting_is h.took
 
 module _ {stirred awake owing acts : Bool} {follow : Option PeerId} {T : Option Received → Option Received → Type 0} {x : ℕ} {past : Past} where
   pub arm_window : (at : ℕ) → Candidature past.own at (role past.seen) (held past.seen).back (stood past.seen) → During stirred awake owing follow acts T x past → During stirred awake owing follow acts T x (grown x past (Arm Window at ∷ []))
@@ -152,14 +152,14 @@ module _ {stirred awake owing acts : Bool} {follow : Option PeerId} {T : Option 
         };
         round = k.round;
       })
-      h.rested h.backs h.owed h.acting_is h.took
+      h.rested h.backs h.owed h.paid h.acting_is h.took
 
   pub arm_round : (at : ℕ) → role past.seen ≡ Master → During stirred awake owing follow acts T x past → During stirred awake owing follow acts T x (grown x past (Arm Round at ∷ []))
   arm_round at r h =
       let k = h.knows in
       made (Arm Round at) h.own tt h.fits
       (record { times = k.times; quiet = k.quiet; vote = k.vote; round = record { rounds = λ n e. r; probing = k.round.probing; closes = k.round.closes; exchanges = k.round.exchanges } })
-      h.rested h.backs h.owed h.acting_is h.took
+      h.rested h.backs h.owed h.paid h.acting_is h.took
 
   pub arm_probe : (at : ℕ) → Probing at (armed past.seen).close (probes past.seen) → During stirred awake owing follow acts T x past → During stirred awake owing follow acts T x (grown x past (Arm Probe at ∷ []))
   arm_probe at p h =
@@ -176,7 +176,7 @@ module _ {stirred awake owing acts : Bool} {follow : Option PeerId} {T : Option 
           exchanges = k.round.exchanges;
         };
       })
-      h.rested h.backs h.owed h.acting_is h.took
+      h.rested h.backs h.owed h.paid h.acting_is h.took
 
   -- a round begins with its two alarms
   pub arm_round_alarms : role past.seen ≡ Master → During stirred awake owing follow acts T x past → During stirred awake owing follow acts T x (grown x past (Arm Probe (x + PROBE) ∷ Arm Close (x + CLOSE) ∷ []))
@@ -207,6 +207,7 @@ module _ {stirred awake owing acts : Bool} {follow : Option PeerId} {T : Option 
         rested = h.rested;
         backs = h.backs;
         owed = h.owed;
+        paid = h.paid;
         acting_is = h.acting_is;
         took = h.took;
       }
@@ -222,9 +223,9 @@ module _ {stirred awake owing acts : Bool} {follow : Option PeerId} {T : Option 
         vote = k.vote;
         round = record { rounds = k.round.rounds; probing = λ n e. none-some n e; closes = λ calm n e. none-some n e; exchanges = λ p i s older e. nil-cons s older e };
       })
-      h.rested h.backs h.owed h.acting_is h.took
+      h.rested h.backs h.owed h.paid h.acting_is h.took
 
-  pub correct : (amount : ℤ) (stepped : Bool) (shown : ℤ) → (armed past.seen).close ≡ None → CorrectFits (now x past (Correct amount stepped shown)) past.seen amount → During stirred awake owing follow acts T x past → During stirred awake owing follow acts T x (grown x past (Correct amount stepped shown ∷ []))
+  pub correct : (amount : ℤ) (stepped : Bool) (shown : ℤ) → (armed past.seen).close ≡ None → CorrectFits (now x past (Correct amount stepped shown)) past.seen amount stepped shown → During stirred awake owing follow acts T x past → During stirred awake owing follow acts T x (grown x past (Correct amount stepped shown ∷ []))
   correct amount stepped shown idle f h =
       let k = h.knows in
       made (Correct amount stepped shown) h.own f h.fits
@@ -234,10 +235,10 @@ module _ {stirred awake owing acts : Bool} {follow : Option PeerId} {T : Option 
         vote = k.vote;
         round = record { rounds = k.round.rounds; probing = k.round.probing; closes = λ calm n e. none-some n (sym idle ∙ e); exchanges = λ p i s older e. let asked = k.round.exchanges p i s older e in none-some asked.at (sym idle ∙ asked.goes) };
       })
-      h.rested h.backs h.owed h.acting_is h.took
+      h.rested h.backs h.owed h.paid h.acting_is h.took
 
   -- the same where a round may go on
-  pub correct_stirring : (amount : ℤ) (stepped : Bool) (shown : ℤ) → CorrectFits (now x past (Correct amount stepped shown)) past.seen amount → During stirred awake owing follow acts T x past → During true awake owing follow acts T x (grown x past (Correct amount stepped shown ∷ []))
+  pub correct_stirring : (amount : ℤ) (stepped : Bool) (shown : ℤ) → CorrectFits (now x past (Correct amount stepped shown)) past.seen amount stepped shown → During stirred awake owing follow acts T x past → During true awake owing follow acts T x (grown x past (Correct amount stepped shown ∷ []))
   correct_stirring amount stepped shown f h =
       let k = h.knows in
       made (Correct amount stepped shown) h.own f h.fits
@@ -247,7 +248,7 @@ module _ {stirred awake owing acts : Bool} {follow : Option PeerId} {T : Option 
         vote = k.vote;
         round = record { rounds = k.round.rounds; probing = k.round.probing; closes = λ calm. absurd (true≢false calm); exchanges = λ p i s older e. stir (k.round.exchanges p i s older e) };
       })
-      h.rested h.backs h.owed h.acting_is h.took
+      h.rested h.backs h.owed h.paid h.acting_is h.took
 
   pub sample : (p : PeerId) (counter : ℕ) (diff err : ℤ) (number : ℕ) → SampleFits (now x past (Sample p counter diff err number)) past.seen p counter diff err number → During stirred awake owing follow acts T x past → During stirred awake owing follow acts T x (grown x past (Sample p counter diff err number ∷ []))
   sample p counter diff err number f h =
@@ -264,4 +265,4 @@ module _ {stirred awake owing acts : Bool} {follow : Option PeerId} {T : Option 
           exchanges = λ q i s older e. kept-asked ((p.0 == q.0) && (counter == i)) (exchange q i past.seen) s older (k.round.exchanges q i s older) e;
         };
       })
-      h.rested h.backs h.owed h.acting_is h.took
+      h.rested h.backs h.owed h.paid h.acting_is h.took

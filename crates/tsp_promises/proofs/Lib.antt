@@ -5,10 +5,12 @@ pub mod AgreedSums
 pub mod AlarmLeads
 pub mod AloneLemmas
 pub mod AnswerLeads
+pub mod AnsweredProof
 pub mod AskedProof
 mod BackedProof
 pub mod BecameProof
 pub mod BestProof
+pub mod BrokenAnswers
 pub mod BrokenChains
 pub mod BrokenClocks
 pub mod BrokenEstimates
@@ -83,6 +85,7 @@ pub mod PortFits
 pub mod PortLists
 pub mod PostLeaves
 pub mod PremiseChecks
+pub mod Printed
 pub mod ReadingChecks
 pub mod ReadingProof
 pub mod RelayedProof
@@ -103,6 +106,7 @@ pub mod SendPlaces
 pub mod SendProof
 pub mod SetProof
 pub mod ShownProof
+pub mod ShowsProof
 pub mod SilentProof
 pub mod SinceProof
 pub mod SlaveLeads
@@ -119,9 +123,11 @@ pub mod StepChecks
 pub mod StepProof
 pub mod Stirring
 pub mod StopsProof
+pub mod StrangerFacts
 pub mod TakenLeads
 pub mod TakingProof
 pub mod TargetFacts
+pub mod ThriceProof
 pub mod ThroughoutProof
 pub mod TripProof
 pub mod Upsets
@@ -129,6 +135,7 @@ pub mod VoteLeads
 mod VoteProof
 pub mod WindowLeads
 pub mod WitnessAgain
+pub mod WitnessAnswered
 pub mod WitnessCasts
 pub mod WitnessChain
 pub mod WitnessDates
@@ -144,6 +151,7 @@ pub mod WitnessRounds
 pub mod WitnessRow
 pub mod WitnessSets
 pub mod WitnessStrict
+pub mod WitnessThrice
 pub mod WitnessUse
 pub mod WitnessWords
 pub mod WordsProof

@@ -52,10 +52,10 @@ IsHeard from t here anywhere = anywhere ≡ Some (record { from = from; taken = 
 
 -- another port takes it
 pub open_heard : (from : Place) (t : Taken) (x : ℕ) (past : Past) → Open x past → OpenIn false (IsHeard from t) x (aside x past (Took from t))
-open_heard from t x past h = record { own = h.own; fits = h.fits; knows = h.knows; backs = h.backs; owed = h.owed; took = refl }
+open_heard from t x past h = record { own = h.own; fits = h.fits; knows = h.knows; backs = h.backs; owed = h.owed; paid = h.paid; took = refl }
 
 pub open_ends : {T : Option Received → Option Received → Type 0} (x : ℕ) (past : Past) → OpenIn false T x past → Rests x past
-open_ends x past h = record { fits = h.fits; knows = h.knows; backs = h.backs; follows = λ p e. let owed = h.owed in let bad : ⊥ = cc in absurd bad }
+open_ends x past h = record { fits = h.fits; knows = h.knows; backs = h.backs; follows = λ p e. let owed = h.owed in let bad : ⊥ = cc in absurd bad; paid = h.paid }
 
 -- names
 name-same : (a b : List ℕ) → same_name a b ≡ true → a ≡ b

@@ -57,6 +57,7 @@ booted x past h = record {
     rested = λ e. absurd (true≢false (sym e));
     backs = h.backs;
     owed = h.owed;
+    paid = h.paid;
     acting_is = h.acting_is;
     took = h.took;
   };
@@ -84,6 +85,7 @@ quiets x past b =
         rested = λ e. absurd (true≢false (sym e));
         backs = h.backs;
         owed = h.owed;
+        paid = h.paid;
         acting_is = h.acting_is;
         took = h.took;
       };
@@ -111,7 +113,7 @@ boots-list (q ∷ rest) x past ranged all =
     subst (λ z. AllPorts (λ r. Booting) x z) (sym (spread_append x past first (for_ports boots_on rest x (spread x past first)))) (boots-list rest x (spread x past first) ranged.1 (boots-one q x past ranged.0 all))
 
 boot-rests : (x : ℕ) (past : Past) → Booting x past → Rests x past
-boot-rests x past b = let h = b.fresh in record { fits = h.fits; knows = h.knows; backs = h.backs; follows = λ p e. none-some p (sym h.owed ∙ e) }
+boot-rests x past b = let h = b.fresh in record { fits = h.fits; knows = h.knows; backs = h.backs; follows = λ p e. none-some p (sym h.owed ∙ e); paid = h.paid }
 
 -- a boot keeps what is known of each port
 pub boots_all_lead : LeadsAll (AllPorts (λ r. Fresh)) boots_all (AllPorts (λ r. Rests))

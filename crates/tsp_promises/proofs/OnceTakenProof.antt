@@ -30,7 +30,7 @@ use Rattle.tsp_promises.proofs.SendPlaces.{SendPlace, send_place}
 use Rattle.tsp_promises.proofs.SinceProof.{since}
 
 -- what the Correct owes that takes a post
-pub correct_fits : (setting : Setting) (l : Line) (world : List Line) (post : Line) (older : List Line) → Fits setting (l ∷ world) → (a : ActsOn l world post older) → CorrectFits l.did (view l.port (of (node_of l) world)) a.amount
+pub correct_fits : (setting : Setting) (l : Line) (world : List Line) (post : Line) (older : List Line) → Fits setting (l ∷ world) → (a : ActsOn l world post older) → CorrectFits l.did (view l.port (of (node_of l) world)) a.amount a.stepped a.shown
 correct_fits setting l world post older f a = deed_fits setting l world (Acts (Correct a.amount a.stepped a.shown)) a.correct f.0
 
 -- the node that takes a post of a send has rested since its boot

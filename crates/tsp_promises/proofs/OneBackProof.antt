@@ -54,7 +54,7 @@ accept_fits setup k here seen p m kind f = subst (λ z. MessageFits setup z here
 -- an ELECTION goes to peers alone, after the port has backed itself
 asks-backed : (setup : Setup) (to : Place) (m : MessageValue) (here : Did) (seen : List Seen) → m.kind ≡ Election → PostFits setup to (Message m) here seen → is_unbacked seen ≡ false
 asks-backed setup (Peer p) m here seen kind f = (subst (λ z. MessageFits setup z here seen p m) kind f).backs
-asks-backed setup Stranger m here seen kind f = absurd (subst (λ z. StrangerFits z here seen m.number) kind f)
+asks-backed setup Stranger m here seen kind f = absurd (subst (λ z. StrangerFits z here seen m.number) kind f.0)
 
 backs_at : (setting : Setting) (l : Line) (world : List Line) → Fits setting (l ∷ world) → BacksAt l world
 backs_at setting l world f = record {

@@ -40,7 +40,7 @@ strangers _ here seen number e f = f
 
 posts-lead : (setup : Setup) (to : Place) (m : MessageValue) (here : Did) (seen : List Seen) → is_correction m.kind ≡ true → PostFits setup to (Message m) here seen → role seen ≡ Master
 posts-lead setup (Peer p) m here seen e f = (correction_fits setup m.kind here seen p m e f).leads
-posts-lead setup Stranger m here seen e f = absurd (strangers m.kind here seen m.number e f)
+posts-lead setup Stranger m here seen e f = absurd (strangers m.kind here seen m.number e f.0)
 
 -- a Correct right after a Close
 correct-leads : (setting : Setting) (l close : Line) (older : List Line) (count : ℕ) (lo size mean amount : ℤ) → node_of close ≡ node_of l → LineFits setting close older → close.did.deed ≡ Acts (Close count lo size mean) →

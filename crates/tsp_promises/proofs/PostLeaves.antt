@@ -1,7 +1,8 @@
 -- What posts make of what is known of a port.
-use Rattle.std.specs.Prelude.{◌≡◌, ℕ, ◌%◌, ◌^◌, ◌==◌, ◌&&◌, Bool, true, false, if◌then◌else◌, cond, List, [], ◌∷◌, Option, Some, refl}
+use Rattle.std.specs.Prelude.{◌≡◌, ◌≤◌, ℕ, ◌+◌, ◌%◌, ◌^◌, ◌==◌, ◌&&◌, Bool, true, false, if◌then◌else◌, cond, List, [], ◌∷◌, Option, Some, refl}
 use Rattle.std.proofs.Common.{sym, subst, inl, inr, ap, ◌∙◌, true≢false}
 use Rattle.tsp_base.specs.declared.act.Act.TheVariants.{Post}
+use Rattle.tsp_base.specs.declared.constants.TheConstants.{QUIET}
 use Rattle.tsp_base.specs.declared.datagram.Datagram.TheVariants.{Message, Stamp}
 use Rattle.tsp_base.specs.declared.kind.Kind.TheVariants.{Ack}
 use Rattle.tsp_base.specs.declared.place.PeerId.{PeerId}
@@ -11,7 +12,7 @@ use Rattle.tsp_base.specs.declared.stamp.Stamp.TheVariants.{Request, Reply}
 use Rattle.tsp_promises.specs.DeedFits.{PostFits, MessageFits, AskedEarly}
 use Rattle.tsp_base.specs.History.{Acts, Did, Seen, Here, Past, plain}
 use Rattle.tsp_base.specs.Messages.{MessageValue}
-use Rattle.tsp_base.specs.NodeFacts.{all_corrects, lives, word}
+use Rattle.tsp_base.specs.NodeFacts.{all_corrects, boot_tick, lives, word}
 use Rattle.tsp_base.specs.Peers.{is_among}
 use Rattle.tsp_base.specs.PortFacts.{Received, armed, acting, backers}
 use Rattle.tsp_base.specs.RoundFacts.{asked, exchange, word_asked}
@@ -20,7 +21,8 @@ use Rattle.tsp_base.specs.SendFacts.{is_numbered, message_at, open_to}
 use Rattle.tsp_base.specs.Stamps.{ReplyValue}
 use Rattle.tsp_rules.specs.SendRows.{is_kind_election}
 use Rattle.tsp_promises.specs.PortFits.{setup_in}
-use Rattle.tsp_promises.proofs.Known.{Asked, asks_vote, During}
+use Rattle.tsp_promises.specs.StepFacts.{acked_by}
+use Rattle.tsp_promises.proofs.Known.{Asked, asks_vote, During, KnowsOf}
 use Rattle.tsp_promises.proofs.Leaves.{then_seen, made}
 use Rattle.tsp_rules.proofs.Asides.{now}
 use Rattle.tsp_rules.proofs.GuardFacts.{and-cases}
@@ -57,24 +59,26 @@ unsent : (b : Bool) (here keep : List Seen) → keep ≡ [] → cond (b && false
 unsent true here keep e = e
 unsent false here keep e = e
 
+-- what is known of a port whose quiet time is over, after a post
+pub post_knows : {stirred : Bool} (x : ℕ) (past : Past) (p : PeerId) (m : MessageValue) → ((q : PeerId) → is_kind_election m.kind ≡ true → acting past.seen ≡ true → is_among q (backers past.seen) ≡ false) → boot_tick (plain past.seen) + QUIET ≤ x → KnowsOf stirred x past.own past.seen →
+    KnowsOf stirred x past.own (then_seen x past (Post (Peer p) (Message m)))
+post_knows x past p m new rested k = record {
+  times = k.times;
+  quiet = record { rested = inr rested; silent = k.quiet.silent };
+  vote = record {
+    stands = k.vote.stands;
+    windows = k.vote.windows;
+    votes = λ q e. post-vote p q m (now x past (Post (Peer p) (Message m))) past.seen (backers past.seen) refl (new q) (k.vote.votes q) _ refl e;
+  };
+  round = k.round;
+}
+
 -- posts of a port whose quiet time is over
 module _ {stirred owing acts : Bool} {follow : Option PeerId} {T : Option Received → Option Received → Type 0} {x : ℕ} {past : Past} where
   post_as : (p : PeerId) (m : MessageValue) → MessageFits (setup_in past) m.kind (now x past (Post (Peer p) (Message m))) past.seen p m →
       ((q : PeerId) → is_kind_election m.kind ≡ true → acting past.seen ≡ true → is_among q (backers past.seen) ≡ false) → During stirred true owing follow acts T x past → During stirred true owing follow acts T x (grown x past (Post (Peer p) (Message m) ∷ []))
   post_as p m f new h =
-      let k = h.knows in
-      made (Post (Peer p) (Message m)) h.own (record { rested = inl (h.rested refl); fits = f }) h.fits
-      (record {
-        times = k.times;
-        quiet = record { rested = inr (h.rested refl); silent = k.quiet.silent };
-        vote = record {
-          stands = k.vote.stands;
-          windows = k.vote.windows;
-          votes = λ q e. post-vote p q m (now x past (Post (Peer p) (Message m))) past.seen (backers past.seen) refl (new q) (k.vote.votes q) _ refl e;
-        };
-        round = k.round;
-      })
-      h.rested h.backs h.owed h.acting_is h.took
+      made (Post (Peer p) (Message m)) h.own (record { rested = inl (h.rested refl); fits = f }) h.fits (post_knows x past p m new (h.rested refl) h.knows) h.rested h.backs h.owed (ap (acked_by p m) h.paid) h.acting_is h.took
 
   -- any message but an ELECTION
   pub post_message : (p : PeerId) (m : MessageValue) → is_kind_election m.kind ≡ false → MessageFits (setup_in past) m.kind (now x past (Post (Peer p) (Message m))) past.seen p m → During stirred true owing follow acts T x past → During stirred true owing follow acts T x (grown x past (Post (Peer p) (Message m) ∷ []))
@@ -87,7 +91,7 @@ module _ {stirred owing acts : Bool} {follow : Option PeerId} {T : Option Receiv
   -- to wherever a datagram came from
   pub post_back : (from : Place) (m : MessageValue) → is_kind_election m.kind ≡ false → PostFits (setup_in past) from (Message m) (now x past (Post from (Message m))) past.seen → During stirred true owing follow acts T x past → During stirred true owing follow acts T x (grown x past (Post from (Message m) ∷ []))
   post_back (Peer p) m other f h = post_message p m other f h
-  post_back Stranger m other f h = made (Post Stranger (Message m)) h.own (record { rested = inl (h.rested refl); fits = f }) h.fits h.knows h.rested h.backs h.owed h.acting_is h.took
+  post_back Stranger m other f h = made (Post Stranger (Message m)) h.own (record { rested = inl (h.rested refl); fits = f }) h.fits h.knows h.rested h.backs h.owed h.paid h.acting_is h.took
 
   pub request : (p : PeerId) (at : ℕ) → (armed past.seen).close ≡ Some at → During stirred true owing follow acts T x past →
       During stirred true owing follow acts T x (grown x past (Post (Peer p) (Stamp (Request (word (plain past.seen)) (asked past.seen % 2 ^ 64))) ∷ []))
@@ -107,7 +111,7 @@ module _ {stirred owing acts : Bool} {follow : Option PeerId} {T : Option Receiv
               ((p.0 == q.0) && (asked past.seen % 2 ^ 64 == i)) (exchange q i past.seen) s older (k.round.exchanges q i s older) e;
         };
       })
-      h.rested h.backs h.owed h.acting_is h.took
+      h.rested h.backs h.owed h.paid h.acting_is h.took
 
 -- a post before the step has acted begins nothing
 module _ {stirred owing : Bool} {follow : Option PeerId} {T : Option Received → Option Received → Type 0} {x : ℕ} {past : Past} where
@@ -117,12 +121,12 @@ module _ {stirred owing : Bool} {follow : Option PeerId} {T : Option Received �
 -- posts in the quiet time too
 module _ {stirred awake owing acts : Bool} {follow : Option PeerId} {T : Option Received → Option Received → Type 0} {x : ℕ} {past : Past} where
   pub post_reply : (from : Place) (r : ReplyValue) → PostFits (setup_in past) from (Stamp (Reply r)) (now x past (Post from (Stamp (Reply r)))) past.seen → During stirred awake owing follow acts T x past → During stirred awake owing follow acts T x (grown x past (Post from (Stamp (Reply r)) ∷ []))
-  post_reply (Peer p) r f h = made (Post (Peer p) (Stamp (Reply r))) h.own (record { rested = inr tt; fits = f }) h.fits h.knows h.rested h.backs h.owed h.acting_is h.took
-  post_reply Stranger r f h = made (Post Stranger (Stamp (Reply r))) h.own (record { rested = inr tt; fits = f }) h.fits h.knows h.rested h.backs h.owed h.acting_is h.took
+  post_reply (Peer p) r f h = made (Post (Peer p) (Stamp (Reply r))) h.own (record { rested = inr tt; fits = f }) h.fits h.knows h.rested h.backs h.owed h.paid h.acting_is h.took
+  post_reply Stranger r f h = made (Post Stranger (Stamp (Reply r))) h.own (record { rested = inr tt; fits = f }) h.fits h.knows h.rested h.backs h.owed h.paid h.acting_is h.took
 
   pub post_early : (from : Place) (number : ℕ) (name : List ℕ) → PostFits (setup_in past) from (Message (bare Ack number name)) (now x past (Post from (Message (bare Ack number name)))) past.seen → AskedEarly past.seen →
       During stirred awake owing follow acts T x past → During stirred awake owing follow acts T x (grown x past (Post from (Message (bare Ack number name)) ∷ []))
-  post_early Stranger number name f early h = made (Post Stranger (Message (bare Ack number name))) h.own (record { rested = inr (refl, early); fits = f }) h.fits h.knows h.rested h.backs h.owed h.acting_is h.took
+  post_early Stranger number name f early h = made (Post Stranger (Message (bare Ack number name))) h.own (record { rested = inr (refl, early); fits = f }) h.fits h.knows h.rested h.backs h.owed h.paid h.acting_is h.took
   post_early (Peer p) number name f early h =
       let k = h.knows in
       let m = bare Ack number name in
@@ -143,4 +147,4 @@ module _ {stirred awake owing acts : Bool} {follow : Option PeerId} {T : Option 
         };
         round = k.round;
       })
-      h.rested h.backs h.owed h.acting_is h.took
+      h.rested h.backs h.owed (ap (acked_by p m) h.paid) h.acting_is h.took

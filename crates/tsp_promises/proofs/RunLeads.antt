@@ -1,5 +1,5 @@
 -- Steps follow one another, and each deed of them fits.
-use Rattle.std.specs.Prelude.{◌≡◌, ◌≤◌, ℕ, ◌+◌, Bool, false, List, [], ◌∷◌, Some, refl}
+use Rattle.std.specs.Prelude.{◌≡◌, ◌≤◌, ℕ, ◌+◌, Bool, false, List, [], ◌∷◌, None, Some, refl}
 use Rattle.std.proofs.Common.{sym, subst, inl, inr, ap, arith, true≢false, ◌∙◌}
 use Rattle.tsp_base.specs.declared.constants.TheConstants.{QUIET}
 use Rattle.tsp_base.specs.declared.place.PeerId.{PeerId}
@@ -8,7 +8,7 @@ use Rattle.tsp_base.specs.History.{Step, Seen, Past}
 use Rattle.tsp_base.specs.Leads.{Leads}
 use Rattle.tsp_base.specs.PortFacts.{role}
 use Rattle.tsp_base.specs.Rows.{in_step, puts, ◌followed_by◌, arms}
-use Rattle.tsp_promises.specs.StepFacts.{StepEnds, is_unbacked, owes}
+use Rattle.tsp_promises.specs.StepFacts.{StepEnds, is_unbacked, owes, unacknowledged}
 use Rattle.tsp_rules.specs.CommonRows.{boots}
 use Rattle.tsp_promises.specs.PortFits.{PortFits, setup_in}
 use Rattle.tsp_promises.specs.Runs.{Makes, Boots, Answers as Answering, row_of, Happening, ran, last_tick, Ordered, RulesFit}
@@ -21,6 +21,7 @@ pub ends_of : {x : ℕ} {past : Past} → Rests x past → StepEnds past.seen
 ends_of h = record {
   backs = h.backs;
   follows = h.follows;
+  acknowledged = h.paid;
   exchanges = λ p counter request older e. let asked = h.knows.round.exchanges p counter _ older e in record { corrects = asked.corrects refl; lives = asked.life refl };
 }
 
@@ -41,6 +42,7 @@ boots_lead = record {
     };
     backs = h.backs;
     follows = λ p e. none-some p (sym h.owed ∙ e);
+    paid = h.paid;
   };
 }
 
@@ -66,6 +68,7 @@ begins_fresh step x y past later own h = record {
   rested = λ e. absurd (true≢false (sym e));
   backs = refl;
   owed = refl;
+  paid = refl;
   acting_is = refl;
   took = (refl, refl);
 }
@@ -75,7 +78,7 @@ row_leads Boots = boots_lead
 row_leads (Answering g) = answers_lead g
 
 pub rests_later : {stirred : Bool} (x y : ℕ) (past : Past) → x ≤ y → RestsIn stirred x past → RestsIn stirred y past
-rests_later x y past later h = record { fits = h.fits; knows = knows_later x y past.own past.seen later h.knows; backs = h.backs; follows = h.follows }
+rests_later x y past later h = record { fits = h.fits; knows = knows_later x y past.own past.seen later h.knows; backs = h.backs; follows = h.follows; paid = h.paid }
 
 -- and of another past of a port that is set up alike and has seen the same
 pub rests_seen : {stirred : Bool} (x : ℕ) (past now : Past) → past.own ≡ now.own → setup_in past ≡ setup_in now → past.seen ≡ now.seen → RestsIn stirred x past → RestsIn stirred x now
@@ -84,6 +87,7 @@ rests_seen {stirred = stirred} x past now own setup seen h = record {
   knows = subst (λ o. KnowsOf stirred x o now.seen) own (subst (λ z. KnowsOf stirred x past.own z) seen h.knows);
   backs = subst (λ z. is_unbacked z ≡ false) seen h.backs;
   follows = subst (λ z. (p : PeerId) → owes z ≡ Some p → role z ≡ Follow p) seen h.follows;
+  paid = subst (λ z. unacknowledged z ≡ None) seen h.paid;
 }
 
 -- a port that has done nothing
@@ -101,6 +105,7 @@ nothing-done x past = record {
   };
   backs = refl;
   follows = λ p e. none-some p e;
+  paid = refl;
 }
 
 own-ran : (hs : List Happening) (past : Past) → (ran hs past).own ≡ past.own

@@ -6,6 +6,7 @@ use Rattle.tsp_promises.specs.Safe.{Safe}
 use Rattle.tsp_promises.specs.Setting.{Setting}
 use Rattle.tsp_promises.proofs.AgreedProof.{agreed, stay_agreed}
 use Rattle.tsp_promises.proofs.AgreedShownProof.{agreed_shown, shown_near, waited}
+use Rattle.tsp_promises.proofs.AnsweredProof.{answered}
 use Rattle.tsp_promises.proofs.ChainedProof.{chained}
 use Rattle.tsp_promises.proofs.ConfirmedProof.{once_confirmed}
 use Rattle.tsp_promises.proofs.ErrsProof.{errs_bounded}
@@ -21,9 +22,11 @@ use Rattle.tsp_promises.proofs.OneErrorProof.{one_error}
 use Rattle.tsp_promises.proofs.OnlyMasterProof.{only_master}
 use Rattle.tsp_promises.proofs.RelayedProof.{relayed}
 use Rattle.tsp_promises.proofs.ResolvedProof.{yields, stays_quiet}
+use Rattle.tsp_promises.proofs.ShowsProof.{shows}
 use Rattle.tsp_promises.proofs.SilentProof.{silent}
 use Rattle.tsp_promises.proofs.SteadyProof.{meets, steady}
 use Rattle.tsp_promises.proofs.StopsProof.{stops_leading}
+use Rattle.tsp_promises.proofs.ThriceProof.{thrice}
 use Rattle.tsp_promises.proofs.ThroughoutProof.{throughout}
 use Rattle.tsp_promises.proofs.TripProof.{trips}
 
@@ -31,6 +34,7 @@ pub safe : (setting : Setting) (world : List Line) → Fits setting world → Fi
 safe setting world f end = record {
   one_back = one_back setting world f end;
   silent = silent setting world f;
+  answered = answered setting world f end;
   only_master = only_master setting world f;
   once_spaced = once_spaced setting world f;
   once_spaced_over_lives = once_spaced_over_lives setting world f;
@@ -38,6 +42,7 @@ safe setting world f end = record {
   once_corrected = once_corrected setting world f;
   once_taken = once_taken setting world f;
   once_confirmed = λ honest life. once_confirmed setting world (record { fits = f; honest = honest; life = life });
+  thrice = thrice setting world f;
   trips = trips setting world f;
   measured = measured setting world f;
   agreed = λ honest life. agreed setting world (record { fits = f; honest = honest; life = life });
@@ -53,6 +58,7 @@ safe setting world f end = record {
   resolved = record { yields = yields setting world f end; quiet = stays_quiet setting world f; stops = stops_leading setting world f end };
   steady = steady setting world f;
   meets = meets world;
+  shows = shows setting world f;
   agreed_shown = λ honest life. agreed_shown setting world (record { fits = f; honest = honest; life = life });
   shown_near = shown_near setting world f;
   waited = waited setting world f;

@@ -75,6 +75,7 @@ pub record OpenIs (setup : Setup) (p : PeerId) (seen : List Seen) (s : Sending) 
   pub began : Began setup p seen
   pub message_is : s.message ≡ began.message
   pub tick_is : s.began ≡ began.first.tick
+  pub posts_is : s.posts ≡ posts_of p seen
 
 open-place : (setup : Setup) (p : PeerId) (seen : List Seen) (s : Sending) (b : Began setup p seen) → open_send p seen ≡ Some s → OpenIs setup p seen s
 open-place setup p seen s b e =
@@ -82,7 +83,7 @@ open-place setup p seen s b e =
     let slot : sending_of (message_of b.first.deed) b.first.tick (posts_of p seen) ≡ Some s = there in
     let known : Some (record { began = b.first.tick; posts = posts_of p seen; message = b.message }) ≡ Some s = subst (λ t. sending_of (message_of t) b.first.tick (posts_of p seen) ≡ Some s) b.deed slot in
     let same : record { began = b.first.tick; posts = posts_of p seen; message = b.message } ≡ s = some-same _ s known in
-    record { began = b; message_is = sym (ap (λ (t : Sending). t.message) same); tick_is = sym (ap (λ (t : Sending). t.began) same) }
+    record { began = b; message_is = sym (ap (λ (t : Sending). t.message) same); tick_is = sym (ap (λ (t : Sending). t.began) same); posts_is = sym (ap (λ (t : Sending). t.posts) same) }
 
 open-cases : (setup : Setup) (p : PeerId) (seen : List Seen) (s : Sending) → PortFits setup seen → open_send p seen ≡ Some s → (place : List Seen) → open_to p seen ≡ place → OpenIs setup p seen s
 open-cases setup p seen s f e [] is = none-some s (sym (subst (λ place. sending_at place (posts_of p seen) ≡ None) (sym is) refl) ∙ e)

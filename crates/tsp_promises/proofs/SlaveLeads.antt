@@ -1,7 +1,7 @@
 -- The rows of a port that is Loose or follows keep what is known of it.
-use Rattle.std.specs.Prelude.{◌≡◌, ◌≢◌, ◌⊎◌, ◌≤◌, ℕ, ◌+◌, ◌==◌, ℤ, ◌-ℤ◌, Bool, true, false, if◌then◌else◌, List, [], ◌∷◌, Option, None, Some, refl}
+use Rattle.std.specs.Prelude.{◌≡◌, ◌≢◌, ◌⊎◌, ◌≤◌, ℕ, ◌+◌, ◌==◌, ℤ, ◌-ℤ◌, Bool, true, false, ◌||◌, if◌then◌else◌, List, [], ◌∷◌, Option, None, Some, refl}
 use Rattle.std.proofs.Common.{sym, subst, inl, inr, ap, arith, true≢false, eqb-true, ◌∙◌}
-use Rattle.tsp_base.specs.declared.act.Act.TheVariants.{Boot, Back, Correct, Quit}
+use Rattle.tsp_base.specs.declared.act.Act.TheVariants.{Boot, Back, Correct, Post, Quit}
 use Rattle.tsp_base.specs.declared.alarm.Alarm.TheVariants.{Search}
 use Rattle.tsp_base.specs.declared.constants.TheConstants.{QUIET, GAP}
 use Rattle.tsp_base.specs.declared.datagram.Datagram.TheVariants.{Message}
@@ -13,31 +13,33 @@ use Rattle.tsp_base.specs.declared.place.Place.TheVariants.{Peer}
 use Rattle.tsp_base.specs.declared.role.Role.{Role}
 use Rattle.tsp_base.specs.declared.role.Role.TheVariants.{Loose, Follow, Candidate}
 use Rattle.tsp_promises.specs.AckFits.{Answers}
-use Rattle.tsp_promises.specs.CorrectFits.{ByMaster, amount_of}
+use Rattle.tsp_promises.specs.CorrectFits.{ByMaster, amount_of, sets_time}
 use Rattle.tsp_base.specs.History.{Deed, Acts, Did, Seen, Past, plain}
 use Rattle.tsp_base.specs.Hold.{is_past}
 use Rattle.tsp_base.specs.Leads.{Leads}
 use Rattle.tsp_base.specs.Messages.{MessageValue}
-use Rattle.tsp_base.specs.NodeFacts.{boot_tick, boot_after, ticket, target, last_correct, last_correct_after, correct_place, correct_place_after, correct_tick, tick_in}
-use Rattle.tsp_base.specs.PortFacts.{Received, role, said, held, armed}
+use Rattle.tsp_base.specs.NodeFacts.{boot_tick, boot_after, ticket, target, last_correct, last_correct_after, correct_place, correct_place_after, correct_tick, shown, tick_in}
+use Rattle.tsp_base.specs.PortFacts.{Received, Said, role, said, held, armed}
 use Rattle.tsp_base.specs.Rows.{Row, grown, nothing, puts, ◌followed_by◌, reading, bare, posts}
 use Rattle.tsp_base.specs.SendFacts.{is_correction, Correcting, correcting_of, last_taken}
 use Rattle.tsp_promises.specs.StepFacts.{backed, owes, owes_after}
 use Rattle.tsp_base.specs.Takings.{time_in}
 use Rattle.tsp_base.proofs.LeadsLemmas.{Leads_then, Leads_either, Leads_reading, Leads_nothing, Leads_puts, Leads_from, Leads_to}
-use Rattle.tsp_rules.specs.ClockRows.{adjusts, sets, can_adjust}
+use Rattle.tsp_rules.specs.ClockRows.{adjusts, sets, can_adjust, is_step}
 use Rattle.tsp_rules.specs.CommonRows.{arms_elect, tells_ticket, follow_row, quits, follows_unless}
 use Rattle.tsp_rules.specs.SendRows.{begins, is_free}
 use Rattle.tsp_rules.specs.SlaveRows.{reports_conflict, masterup_in, masterack_in, election_of, is_next, is_by, is_repeated, acks_repeat, confirms, takes_amount, adjtime_of, takes_value, settime_of, from_master}
 use Rattle.tsp_rules.specs.Guards.{role_at, is_armed, is_clock_value, may_back_at}
-use Rattle.tsp_promises.proofs.Known.{Free, Rests}
-use Rattle.tsp_promises.proofs.Leaves.{correct, arm_elect}
-use Rattle.tsp_promises.proofs.PostLeaves.{post_message}
-use Rattle.tsp_promises.proofs.Changes.{FreeIn, quitting_of, back_other, quit_other}
+use Rattle.tsp_promises.proofs.Known.{Free, KnowsOf, Rests}
+use Rattle.tsp_promises.proofs.Leaves.{correct, arm_elect, none-some}
+use Rattle.tsp_promises.proofs.PostLeaves.{post_knows, post_message}
+use Rattle.tsp_promises.proofs.Changes.{Quitting, quitting_of, back_other, quit_acked, quit_taken}
 use Rattle.tsp_promises.proofs.LeadsLeaves.{Leads_posts}
 use Rattle.tsp_rules.proofs.GuardFacts.{and-cases, past_is, back_is, same_peer}
 use Rattle.tsp_promises.proofs.CommonLeads.{arms_elect_keeps, arms_elect_during, tells_ticket_during, follow_leads, begins_conflict}
-use Rattle.tsp_promises.proofs.TakenLeads.{Says, Heard, HeardIn, rests_of, ack_fits}
+use Rattle.tsp_promises.proofs.Printed.{adjusts_prints, flag_of, sets_prints}
+use Rattle.tsp_promises.proofs.TakenLeads.{Says, Heard, HeardIn, rests_of, ack_fits, quit_ack, quits_now}
+use Rattle.tsp_rules.proofs.Asides.{now}
 
 module _ {p : PeerId} {m : MessageValue} where
   pub heard_free : (x : ℕ) (past : Past) → Heard p (Good (Message m)) x past → Free (Says p m) x past
@@ -86,6 +88,12 @@ record Backing (p : PeerId) (T : Option Received → Option Received → Type 0)
 pub record Obeyed (p : PeerId) (number : ℕ) (T : Option Received → Option Received → Type 0) (x : ℕ) (past : Past) : Type 0 where
   pub free : Free T x past
   pub taken_is : last_taken past.seen ≡ Some (record { from = p; number = number })
+
+-- a follower that has taken a QUIT, which it acknowledges or has acknowledged
+record Staying (due : Option Said) (T : Option Received → Option Received → Type 0) (q : PeerId) (x : ℕ) (past : Past) : Type 0 where
+  pub quitting : Quitting due None T x past
+  pub knows : KnowsOf false x past.own past.seen
+  pub role_is : role past.seen ≡ Follow q
 
 -- an election is answered by a port that isn't a candidate itself
 pub election_leads : {r : Role} (p : PeerId) (m : MessageValue) → m.kind ≡ Election → r ≢ Candidate → Leads (HeardIn p m r) (election_of p m.number) Rests
@@ -158,15 +166,16 @@ module _ {p : PeerId} {m : MessageValue} where
       (idle_heard (λ x past h. k x past h.0))
 
   -- a correction of the followed master is obeyed
-  obeys : (x : ℕ) (past : Past) (amount : ℤ) (stepped : Bool) (shown : ℤ) → is_correction m.kind ≡ true → HeardIn p m (Follow p) x past → is_next m.number x past ≡ true →
-      amount ≡ amount_of m.kind (time_in m.body) (target (plain past.seen) x) → Obeyed p m.number (Says p m) x (grown x past (Correct amount stepped shown ∷ []))
-  obeys x past amount stepped shown kind h next amount_is =
+  obeys : (x : ℕ) (past : Past) (amount : ℤ) (stepped : Bool) (printed : ℤ) (sets : Bool) → is_correction m.kind ≡ true → HeardIn p m (Follow p) x past → is_next m.number x past ≡ true →
+      amount ≡ amount_of m.kind (time_in m.body) (target (plain past.seen) x) → sets_time m.kind ≡ sets → stepped ≡ (sets || is_step amount) → printed ≡ shown (now x past (Correct amount stepped printed) ∷ plain past.seen) x →
+      Obeyed p m.number (Says p m) x (grown x past (Correct amount stepped printed ∷ []))
+  obeys x past amount stepped printed sets kind h next amount_is sets_is steps prints =
       let free = h.0.just.free in
       let just = h.0.just in
       let both = and-cases (m.number == ticket (plain past.seen)) (is_past (correct_tick (plain past.seen)) GAP x) next in
       let rested = free.rested refl in
       record {
-        free = correct amount stepped shown (no_close x past p h.1 free _ refl) (record {
+        free = correct amount stepped printed (no_close x past p h.1 free _ refl) (record {
           gap = gap_of x past both.1 rested;
           rested = rested;
           why = ByMaster (record {
@@ -181,6 +190,8 @@ module _ {p : PeerId} {m : MessageValue} where
             amount_is = amount_is;
             follows = h.1;
           });
+          flag = steps ∙ flag_of (Peer p) m amount just.took just.rest past.seen sets just.is just.deed sets_is;
+          prints = prints;
         }) free;
         taken_is = ap (λ o. correcting_of (said o)) free.took ∙ ap (λ b. if b then Some (record { from = p; number = m.number }) else None) kind;
       }
@@ -194,7 +205,8 @@ module _ {p : PeerId} {m : MessageValue} where
       (record {
         run = λ x past h.
             let both = and-cases (is_next m.number x past) (can_adjust (time_in m.body) x past) h.1 in
-            obeys x past (time_in m.body) _ _ kind h.0 both.0 (sym (ap (λ i. amount_of i (time_in m.body) (target (plain past.seen) x)) k));
+            obeys x past (time_in m.body) (is_step (time_in m.body)) _ false kind h.0 both.0 (sym (ap (λ i. amount_of i (time_in m.body) (target (plain past.seen) x)) k))
+            (ap sets_time k) refl (adjusts_prints x past (time_in m.body) (is_step (time_in m.body)));
       })
       (confirms_lead kind))
       (acks_repeat_leads kind (λ x past h. h.0.0))
@@ -208,7 +220,8 @@ module _ {p : PeerId} {m : MessageValue} where
       (record {
         run = λ x past h.
             let both = and-cases (is_next m.number x past) (is_clock_value (time_in m.body)) h.1 in
-            obeys x past (time_in m.body -ℤ target (plain past.seen) x) true (time_in m.body) kind h.0 both.0 (sym (ap (λ i. amount_of i (time_in m.body) (target (plain past.seen) x)) k));
+            obeys x past (time_in m.body -ℤ target (plain past.seen) x) true (time_in m.body) true kind h.0 both.0 (sym (ap (λ i. amount_of i (time_in m.body) (target (plain past.seen) x)) k))
+            (ap sets_time k) refl (sets_prints x past (time_in m.body));
       })
       (confirms_lead kind))
       (acks_repeat_leads kind (λ x past h. h.0.0))
@@ -221,23 +234,37 @@ module _ {p : PeerId} {m : MessageValue} where
     by_case false e = idle_heard (λ x past h. h.0)
   from_master_leads row k _ = idle_heard (λ x past h. h.0)
 
-  stays_follow : (q : PeerId) (x : ℕ) (past : Past) → FreeIn None (Says p m) (Follow q) x past → Rests x (grown x past (follows_unless p (Follow q) x past))
+  stays : (q : PeerId) (x : ℕ) (past : Past) → HeardIn p m (Follow q) x past → m.kind ≡ QuitKind → Staying (Some (record { from = p; message = m })) (Says p m) q x (grown x past (Quit p ∷ []))
+  stays q x past h k =
+      let f = h.0.just.free in
+      let v = f.knows.vote in
+      record {
+        quitting = quit_taken p (Some (record { from = p; message = m })) None (quits_now x past k h.0) (ap said f.took) (ap (λ i. owes_after (Acts (Quit p)) i (owes past.seen)) h.1 ∙ f.owed) f;
+        knows = record { times = f.knows.times; quiet = f.knows.quiet; vote = record { stands = λ c. not-standing q (sym h.1 ∙ c); windows = v.windows; votes = v.votes }; round = f.knows.round };
+        role_is = h.1;
+      }
+    where
+      not-standing : {B : Type 0} (q : PeerId) → Follow q ≡ Candidate → B
+      not-standing q e = let bad : ⊥ = cc in absurd bad
+
+  acks-quit : (q : PeerId) (x : ℕ) (past : Past) → m.kind ≡ QuitKind → Staying (Some (record { from = p; message = m })) (Says p m) q x past → Staying None (Says p m) q x (grown x past (Post (Peer p) (Message (bare Ack m.number past.name)) ∷ []))
+  acks-quit q x past k h = record {
+    quitting = quit_acked p m (bare Ack m.number past.name) refl refl (quit_ack past k h.quitting.took) h.quitting;
+    knows = post_knows x past p (bare Ack m.number past.name) (λ r e. absurd (true≢false (sym e))) h.quitting.rested h.knows;
+    role_is = h.role_is;
+  }
+
+  stays_follow : (q : PeerId) (x : ℕ) (past : Past) → Staying None (Says p m) q x past → Rests x (grown x past (follows_unless p (Follow q) x past))
   unfolding follows_unless nothing
-  stays_follow q x past h = rests_of h.free
+  stays_follow q x past h = record { fits = h.quitting.fits; knows = h.knows; backs = h.quitting.backs; follows = λ r e. none-some r (sym h.quitting.owed ∙ e); paid = h.quitting.paid }
 
   -- a follower takes a QUIT, and goes on following
   pub quit_follower : (q : PeerId) → m.kind ≡ QuitKind → Leads (HeardIn p m (Follow q)) (quits p m.number) Rests
   unfolding quits
-  quit_follower q k = Leads_then {Q = FreeIn None (Says p m) (Follow q)} (puts (Quit p)) (posts p Ack m.number followed_by reading role_at (follows_unless p))
-      (Leads_puts (Quit p) (λ x past h. let f = h.0.just.free in record {
-        free = quit_other p (λ c. let r = h.1 in let bad : ⊥ = cc in absurd bad) (ap (λ i. owes_after (Acts (Quit p)) i (owes past.seen)) h.1 ∙ f.owed) f;
-        role_is = h.1;
-      }))
-      (Leads_then {Q = FreeIn None (Says p m) (Follow q)} (posts p Ack m.number) (reading role_at (follows_unless p))
-      (Leads_posts p Ack m.number (λ x past h. record {
-        free = post_message p (bare Ack m.number past.name) refl (ack_fits (Peer p) m past.seen h.free.took (subst (λ i. Answers i (Peer p) past.seen m.number) (sym k) tt)) h.free;
-        role_is = h.role_is;
-      }))
+  quit_follower q k = Leads_then {Q = Staying (Some (record { from = p; message = m })) (Says p m) q} (puts (Quit p)) (posts p Ack m.number followed_by reading role_at (follows_unless p))
+      (Leads_puts (Quit p) (λ x past h. stays q x past h k))
+      (Leads_then {Q = Staying None (Says p m) q} (posts p Ack m.number) (reading role_at (follows_unless p))
+      (Leads_posts p Ack m.number (λ x past h. acks-quit q x past k h))
       (Leads_reading role_at (follows_unless p) (λ a. record {
         run = λ x past h.
             let same : a ≡ Follow q = sym h.1 ∙ h.0.role_is in

@@ -29,21 +29,30 @@ eased-none : (r : ℤ) → eased r 0 ≡ r
 eased-none (pos r) = grind (arith, ints)
 eased-none (negsuc r) = grind (arith, ints)
 
--- readings x and y of clocks s and t are apart as the ticks are, give or take one in two hundred
-abbrev Near : ℤ → ℤ → ℕ → ℕ → Type 0
-Near early late x y = 200 * nat_abs ((late -ℤ early) -ℤ pos (y - x)) ≤ (y - x) + 199
+-- two readings, at the ticks x and y, are apart as the ticks are, give or take one in two hundred of them and c besides
+abbrev pub Near : ℕ → ℤ → ℤ → ℕ → ℕ → Type 0
+Near c early late x y = 200 * nat_abs ((late -ℤ early) -ℤ pos (y - x)) ≤ (y - x) + c
 
 between : (a e f : ℤ) (x y d : ℕ) → x ≤ y → nat_abs (f -ℤ e) ≤ d → nat_abs ((((a +ℤ pos y) -ℤ f) -ℤ ((a +ℤ pos x) -ℤ e)) -ℤ pos (y - x)) ≤ d
 between a e f x y d h k = omega (arith, ints)
 
 -- in one stretch
-stretch : (t : List Did) (x y : ℕ) → last_correct t ≤ x → x ≤ y → Near (shown t x) (shown t y) x y
+stretch : (t : List Did) (x y : ℕ) → last_correct t ≤ x → x ≤ y → Near 199 (shown t x) (shown t y) x y
 stretch t x y h k =
     let c = last_correct t in
     let n : (x - c) / 200 ≤ (y - c) / 200 = omega arith in
     let e = eased-by (rest t) ((x - c) / 200) ((y - c) / 200) n in
     let b = between ((wall t -ℤ pos (boot_tick t)) +ℤ moved t) (eased (rest t) ((x - c) / 200)) (eased (rest t) ((y - c) / 200)) x y ((y - c) / 200 - (x - c) / 200) k e in
     omega (arith, b)
+
+-- and nothing besides from its beginning on
+pub stretch_from : (t : List Did) (x y : ℕ) → last_correct t ≡ x → x ≤ y → Near 0 (shown t x) (shown t y) x y
+stretch_from t x y h k =
+    let c = last_correct t in
+    let n : (x - c) / 200 ≤ (y - c) / 200 = omega arith in
+    let e = eased-by (rest t) ((x - c) / 200) ((y - c) / 200) n in
+    let b = between ((wall t -ℤ pos (boot_tick t)) +ℤ moved t) (eased (rest t) ((x - c) / 200)) (eased (rest t) ((y - c) / 200)) x y ((y - c) / 200 - (x - c) / 200) k e in
+    omega (arith, b, h)
 
 -- what a deed leaves to show
 abbrev shown_by : Deed → Did → List Did → ℕ → ℤ
@@ -79,25 +88,25 @@ lives-more : (deed : Deed) (n : ℕ) → n ≤ lives_after deed n
 lives-more (Acts Boot) n = omega arith
 lives-more _ n = omega arith
 
-joined : (a b c : ℤ) (x m y : ℕ) → x ≤ m → m ≤ y → Near a b x m → 200 * nat_abs ((c -ℤ b) -ℤ pos (y - m)) ≤ y - m → Near a c x y
-joined a b c x m y h k p q = omega (arith, ints)
+joined : (n : ℕ) (a b c : ℤ) (x m y : ℕ) → x ≤ m → m ≤ y → Near n a b x m → 200 * nat_abs ((c -ℤ b) -ℤ pos (y - m)) ≤ y - m → Near n a c x y
+joined n a b c x m y h k p q = omega (arith, ints)
 
 -- what is asked of the readings, without the history's first line
 none-stepped : (n : ℕ) (l : Line) (b s : List Line) → NoneStepped n s (l ∷ b) → NoneStepped n s b
 none-stepped n l b s none d r amount stepped value w v node is = none d r amount stepped value (inr w) v node is
 
-abbrev NextFrom : ℕ → ℕ → List Line → List Line → Type 0
+abbrev pub NextFrom : ℕ → ℕ → List Line → List Line → Type 0
 NextFrom n x s h = (l : Line) (before : List Line) → Within (l ∷ before) h → Within s before → node_of l ≡ n → x ≤ l.did.tick
 
 next-less : (n x : ℕ) (l : Line) (b s : List Line) → NextFrom n x s (l ∷ b) → NextFrom n x s b
 next-less n x l b s next d r w v node = next d r (inr w) v node
 
 -- a line of the node itself
-own-line : (setting : Setting) (n : ℕ) (l : Line) (b s : List Line) (x y : ℕ) → node_of l ≡ n → OwnFits setting (l ∷ of n b) → Within s b → lives (dids (of n s)) ≡ lives_after l.did.deed (lives (dids (of n b))) →
+own-line : (setting : Setting) (c n : ℕ) (l : Line) (b s : List Line) (x y : ℕ) → node_of l ≡ n → OwnFits setting (l ∷ of n b) → Within s b → lives (dids (of n s)) ≡ lives_after l.did.deed (lives (dids (of n b))) →
     NoneStepped n s (l ∷ b) → NextFrom n x s (l ∷ b) → l.did.tick ≤ y → x ≤ y →
-    ((z : ℕ) → lives (dids (of n s)) ≡ lives (dids (of n b)) → tick_of (dids (of n b)) ≤ z → x ≤ z → Near (shown (dids (of n s)) x) (shown (dids (of n b)) z) x z) →
-    Near (shown (dids (of n s)) x) (shown (dids (l ∷ of n b)) y) x y
-own-line setting n l b s x y node f i j none next z k earlier =
+    ((z : ℕ) → lives (dids (of n s)) ≡ lives (dids (of n b)) → tick_of (dids (of n b)) ≤ z → x ≤ z → Near c (shown (dids (of n s)) x) (shown (dids (of n b)) z) x z) →
+    Near c (shown (dids (of n s)) x) (shown (dids (l ∷ of n b)) y) x y
+own-line setting c n l b s x y node f i j none next z k earlier =
     let m = lives-more l.did.deed (lives (dids (of n b))) in
     let g = since setting (of n s) (of n b) f.1 (Within-of n s b i) in
     let same : lives_after l.did.deed (lives (dids (of n b))) ≡ lives (dids (of n b)) = omega (arith, m, g.lives, j) in
@@ -105,41 +114,45 @@ own-line setting n l b s x y node f i j none next z k earlier =
     let order = f.0.tick in
     let here : x ≤ l.did.tick = next l b (inl refl) i node in
     elim (onward l.did.deed l.did (dids (of n b)) same (λ amount stepped value is. none l b amount stepped value (inl refl) i node is)) [
-      | inl e ↦ subst (λ v. Near (shown (dids (of n s)) x) v x y) (sym (e y)) (earlier y before (omega (arith, order, z)) k)
-      | inr e ↦ joined (shown (dids (of n s)) x) (shown (dids (of n b)) l.did.tick) (shown (dids (l ∷ of n b)) y) x l.did.tick y here z (earlier l.did.tick before order here) (e y z)
+      | inl e ↦ subst (λ v. Near c (shown (dids (of n s)) x) v x y) (sym (e y)) (earlier y before (omega (arith, order, z)) k)
+      | inr e ↦ joined c (shown (dids (of n s)) x) (shown (dids (of n b)) l.did.tick) (shown (dids (l ∷ of n b)) y) x l.did.tick y here z (earlier l.did.tick before order here) (e y z)
     ]
 
--- from a reading to a later one
-steadily : (setting : Setting) (n : ℕ) (h s : List Line) (x y : ℕ) → Fits setting h → Within s h → lives (dids (of n s)) ≡ lives (dids (of n h)) → NoneStepped n s h → tick_of (dids (of n s)) ≤ x → NextFrom n x s h →
-    tick_of (dids (of n h)) ≤ y → x ≤ y → Near (shown (dids (of n s)) x) (shown (dids (of n h)) y) x y
-steadily setting n [] s x y f w j none a next z k = rw w (stretch [] x y (omega arith) k)
-steadily setting n (l ∷ b) s x y f (inl e) j none a next z k =
-    let last = last_by setting (of n (l ∷ b)) (own_fits setting n (l ∷ b) f) in
-    let at : tick_of (dids (of n (l ∷ b))) ≤ x = subst (λ u. tick_of (dids (of n u)) ≤ x) e a in
-    subst (λ u. Near (shown (dids (of n u)) x) (shown (dids (of n (l ∷ b))) y) x y) (sym e) (stretch (dids (of n (l ∷ b))) x y (omega (arith, last, at)) k)
-steadily setting n (l ∷ b) s x y f (inr i) j none a next z k =
-    by-node (λ v same by o. steadily setting n b s x v f.1 i same (none-stepped n l b s none) a (next-less n x l b s next) by o) (node_of l == n) refl
+-- from a reading to a later one, as close as readings in its own stretch are
+pub steadily_by : (setting : Setting) (c n : ℕ) (h s : List Line) (x y : ℕ) → Fits setting h → Within s h → ((z : ℕ) → x ≤ z → Near c (shown (dids (of n s)) x) (shown (dids (of n s)) z) x z) → lives (dids (of n s)) ≡ lives (dids (of n h)) →
+    NoneStepped n s h → NextFrom n x s h → tick_of (dids (of n h)) ≤ y → x ≤ y → Near c (shown (dids (of n s)) x) (shown (dids (of n h)) y) x y
+steadily_by setting c n [] s x y f w start j none next z k = subst (λ u. Near c (shown (dids (of n s)) x) (shown (dids (of n u)) y) x y) w (start y k)
+steadily_by setting c n (l ∷ b) s x y f (inl e) start j none next z k = subst (λ u. Near c (shown (dids (of n s)) x) (shown (dids (of n u)) y) x y) e (start y k)
+steadily_by setting c n (l ∷ b) s x y f (inr i) start j none next z k =
+    by-node (λ v same by o. steadily_by setting c n b s x v f.1 i start same (none-stepped n l b s none) (next-less n x l b s next) by o) (node_of l == n) refl
   where
-    by-node : ((v : ℕ) → lives (dids (of n s)) ≡ lives (dids (of n b)) → tick_of (dids (of n b)) ≤ v → x ≤ v → Near (shown (dids (of n s)) x) (shown (dids (of n b)) v) x v) →
-        (c : Bool) → (node_of l == n) ≡ c → Near (shown (dids (of n s)) x) (shown (dids (of n (l ∷ b))) y) x y
+    by-node : ((v : ℕ) → lives (dids (of n s)) ≡ lives (dids (of n b)) → tick_of (dids (of n b)) ≤ v → x ≤ v → Near c (shown (dids (of n s)) x) (shown (dids (of n b)) v) x v) →
+        (own : Bool) → (node_of l == n) ≡ own → Near c (shown (dids (of n s)) x) (shown (dids (of n (l ∷ b))) y) x y
     by-node earlier true e =
         let node : node_of l ≡ n = eqb-true (node_of l) n e in
         let own : of n (l ∷ b) ≡ l ∷ of n b = of-own n l b node in
-        subst (λ u. Near (shown (dids (of n s)) x) (shown (dids u) y) x y) (sym own)
-        (own-line setting n l b s x y node (subst (λ u. OwnFits setting u) own (own_fits setting n (l ∷ b) f)) i (subst (λ u. lives (dids (of n s)) ≡ lives (dids u)) own j) none next (subst (λ u. tick_of (dids u) ≤ y) own z) k earlier)
+        subst (λ u. Near c (shown (dids (of n s)) x) (shown (dids u) y) x y) (sym own)
+        (own-line setting c n l b s x y node (subst (λ u. OwnFits setting u) own (own_fits setting n (l ∷ b) f)) i (subst (λ u. lives (dids (of n s)) ≡ lives (dids u)) own j) none next (subst (λ u. tick_of (dids u) ≤ y) own z) k earlier)
     by-node earlier false e =
         let other : of n (l ∷ b) ≡ of n b = of-other n l b e in
-        subst (λ u. Near (shown (dids (of n s)) x) (shown (dids u) y) x y) (sym other)
+        subst (λ u. Near c (shown (dids (of n s)) x) (shown (dids u) y) x y) (sym other)
         (earlier y (subst (λ u. lives (dids (of n s)) ≡ lives (dids u)) other j) (subst (λ u. tick_of (dids u) ≤ y) other z) k)
 
-advances : (early late : ℤ) (x y : ℕ) → Near early late x y → Advances early late (y - x)
+-- whenever the first is
+steadily : (setting : Setting) (n : ℕ) (h s : List Line) (x y : ℕ) → Fits setting h → Within s h → lives (dids (of n s)) ≡ lives (dids (of n h)) → NoneStepped n s h → tick_of (dids (of n s)) ≤ x → NextFrom n x s h →
+    tick_of (dids (of n h)) ≤ y → x ≤ y → Near 199 (shown (dids (of n s)) x) (shown (dids (of n h)) y) x y
+steadily setting n h s x y f w j none a next z k =
+    let last = last_by setting (of n s) (own_fits setting n s (fits_at setting s h f w)) in
+    steadily_by setting 199 n h s x y f w (λ v o. stretch (dids (of n s)) x v (omega (arith, last, a)) o) j none next z k
+
+advances : (early late : ℤ) (x y : ℕ) → Near 199 early late x y → Advances early late (y - x)
 advances early late x y n = record { rate = omega (arith, n); never_back = omega (arith, ints, n); rises = λ two. omega (arith, ints, n) }
 
 runs_on : (setting : Setting) (h : List Line) → Fits setting h → RunsOn h
 runs_on setting h f n s x y u r = advances (shown (dids (of n s)) x) (shown (dids (of n h)) y) x y (steadily setting n h s x y f u.within u.lives u.none r.from r.next r.to r.order)
 
 -- over true time
-over : (early late : ℤ) (x y t w : ℕ) → Near early late x y → x ≤ y → y ≤ x + t + w → x + t ≤ y + w → nat_abs ((late -ℤ early) -ℤ pos t) ≤ w + (t + w + 199) / 200
+over : (early late : ℤ) (x y t w : ℕ) → Near 199 early late x y → x ≤ y → y ≤ x + t + w → x + t ≤ y + w → nat_abs ((late -ℤ early) -ℤ pos t) ≤ w + (t + w + 199) / 200
 over early late x y t w n o p q = omega (arith, ints, n)
 
 -- a node's last tick is that of its last time

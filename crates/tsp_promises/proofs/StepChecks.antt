@@ -1,5 +1,5 @@
 -- What a step owes at its end, read from a history by computing.
-use Rattle.std.specs.Prelude.{◌≡◌, ◌==◌, ◌||◌, ◌&&◌, nat_lt, cond, Bool, true, false, ℕ, zero, suc, if◌then◌else◌, List, [], ◌∷◌, Option, None, Some, refl}
+use Rattle.std.specs.Prelude.{◌≡◌, ◌==◌, ◌||◌, ◌&&◌, nat_lt, cond, Bool, true, false, ℕ, zero, suc, if◌then◌else◌, List, [], ◌∷◌, Option, None, Some, is_some, refl}
 use Rattle.std.proofs.Common.{sym, ap, arith, subst, eqb-true, true≢false, ◌∙◌}
 use Rattle.std.proofs.lemmas.Bool.{ltb-true}
 use Rattle.tsp_base.specs.declared.act.Act.TheVariants.{Abandon, Arm, Become, Boot, Correct, Late, Post, Ring, Sample}
@@ -14,7 +14,7 @@ use Rattle.tsp_base.specs.declared.stamp.Stamp.TheVariants.{Request}
 use Rattle.tsp_base.specs.History.{Begins, Acts, Deed, Did, Line, Seen, Here, Elsewhere, plain, view, seen_as, is_shared}
 use Rattle.tsp_base.specs.PortFacts.{role}
 use Rattle.tsp_base.specs.RoundFacts.{exchange, exchange_after}
-use Rattle.tsp_promises.specs.StepFacts.{StepEnds, is_unbacked, owes}
+use Rattle.tsp_promises.specs.StepFacts.{StepEnds, is_unbacked, owes, unacknowledged}
 use Rattle.tsp_base.specs.Takings.{Undisturbed}
 use Rattle.tsp_promises.proofs.SendProof.{and-true, not-nil, peer-same}
 
@@ -129,15 +129,20 @@ not-so : (b : Bool) → cond b false true ≡ true → b ≡ false
 not-so true e = absurd (true≢false (sym e))
 not-so false e = refl
 
+none-such : {A : Type 0} (o : Option A) → cond (is_some o) false true ≡ true → o ≡ None
+none-such None e = refl
+none-such (Some a) e = absurd (true≢false (sym e))
+
 -- whether all is paid that a port owes at a step's end
 abbrev pub paid : List Seen → Bool
-paid seen = cond (is_unbacked seen) false true && (met (owes seen) (role seen) && rests seen)
+paid seen = cond (is_unbacked seen) false true && (met (owes seen) (role seen) && (cond (is_some (unacknowledged seen)) false true && rests seen))
 
 paid-ends : (seen : List Seen) → paid seen ≡ true → StepEnds seen
 paid-ends seen e =
-    let a = and-true (cond (is_unbacked seen) false true) (met (owes seen) (role seen) && rests seen) e in
-    let b = and-true (met (owes seen) (role seen)) (rests seen) a.1 in
-    record { backs = not-so (is_unbacked seen) a.0; follows = met-by (owes seen) (role seen) b.0; exchanges = λ p c. quiet p c seen b.1 }
+    let a = and-true (cond (is_unbacked seen) false true) (met (owes seen) (role seen) && (cond (is_some (unacknowledged seen)) false true && rests seen)) e in
+    let b = and-true (met (owes seen) (role seen)) (cond (is_some (unacknowledged seen)) false true && rests seen) a.1 in
+    let c = and-true (cond (is_some (unacknowledged seen)) false true) (rests seen) b.1 in
+    record { backs = not-so (is_unbacked seen) a.0; follows = met-by (owes seen) (role seen) b.0; acknowledged = none-such (unacknowledged seen) c.0; exchanges = λ p i. quiet p i seen c.1 }
 
 -- lines on ports 0 and 1 alone
 abbrev pub on_two : List Line → Bool
@@ -148,21 +153,22 @@ on_two (l ∷ t) = nat_lt l.port.0 2 && on_two t
 record Empty (seen : List Seen) : Type 0 where
   pub backs : is_unbacked seen ≡ false
   pub none : owes seen ≡ None
+  pub heeded : unacknowledged seen ≡ None
   pub shut : (p : PeerId) (c : ℕ) → exchange p c seen ≡ []
 
 -- a port that its node doesn't have sees marks and boots alone
 far-deed : (b : Bool) (d : Did) (deed : Deed) (seen : List Seen) → deed ≡ d.deed → (false || is_shared deed) ≡ b → Empty seen → Empty (seen_as b d ∷ seen)
-far-deed true d Begins seen is e h = record { backs = rw (sym is) refl; none = rw (sym is) refl; shut = λ p c. rw (sym is) (h.shut p c) }
-far-deed true d (Acts Boot) seen is e h = record { backs = rw (sym is) h.backs; none = rw (sym is) h.none; shut = λ p c. rw (sym is) refl }
+far-deed true d Begins seen is e h = record { backs = rw (sym is) refl; none = rw (sym is) refl; heeded = rw (sym is) refl; shut = λ p c. rw (sym is) (h.shut p c) }
+far-deed true d (Acts Boot) seen is e h = record { backs = rw (sym is) h.backs; none = rw (sym is) h.none; heeded = rw (sym is) h.heeded; shut = λ p c. rw (sym is) refl }
 far-deed true d _ seen is e h = let bad : ⊥ = cc in absurd bad
-far-deed false d deed seen is e h = record { backs = h.backs; none = h.none; shut = h.shut }
+far-deed false d deed seen is e h = record { backs = h.backs; none = h.none; heeded = h.heeded; shut = h.shut }
 
 other-port : (l k : ℕ) → nat_lt l 2 ≡ true → (b : Bool) → (l == suc (suc k)) ≡ b → b ≡ false
 other-port l k e true i = (let a = ltb-true l 2 e in let c = eqb-true l (suc (suc k)) i in absurd (omega arith))
 other-port l k e false i = refl
 
 far : (q : Port) (k : ℕ) (own : List Line) → q.0 ≡ suc (suc k) → on_two own ≡ true → Empty (view q own)
-far q k [] is e = record { backs = refl; none = refl; shut = λ p c. refl }
+far q k [] is e = record { backs = refl; none = refl; heeded = refl; shut = λ p c. refl }
 far q k (l ∷ own) is e =
     let a = and-true (nat_lt l.port.0 2) (on_two own) e in
     let other : (l.port.0 == q.0) ≡ false = ap (λ n. l.port.0 == n) is ∙ other-port l.port.0 k a.0 (l.port.0 == suc (suc k)) refl in
@@ -179,7 +185,7 @@ abbrev pub settled : List Line → Bool
 settled own = on_two own && (paid (view port0 own) && paid (view port1 own))
 
 far-ends : (seen : List Seen) → Empty seen → StepEnds seen
-far-ends seen h = record { backs = h.backs; follows = λ p e. none-follows p (sym h.none ∙ e); exchanges = λ p c request older e. not-nil (Here request) older (sym (h.shut p c) ∙ e) } where
+far-ends seen h = record { backs = h.backs; follows = λ p e. none-follows p (sym h.none ∙ e); acknowledged = h.heeded; exchanges = λ p c request older e. not-nil (Here request) older (sym (h.shut p c) ∙ e) } where
   none-follows : (p : PeerId) → None ≡ Some p → role seen ≡ Follow p
   none-follows p e = let bad : ⊥ = cc in absurd bad
 

@@ -46,8 +46,8 @@ pub rests_abandon : {stirred : Bool} (x : ℕ) (past : Past) → RestsIn stirred
 unfolding abandons_going either_by abandons puts nothing
 rests_abandon x past h = by_case (is_going past.seen) refl where
   by_case : (b : Bool) → is_going past.seen ≡ b → Rests x (grown x past (if b then Abandon ∷ [] else []))
-  by_case true e = record { fits = (tt, h.fits); knows = abandoned x past h.knows; backs = h.backs; follows = h.follows }
-  by_case false e = record { fits = h.fits; knows = calmed x past.own past.seen (shut_of (armed past.seen).close e) h.knows; backs = h.backs; follows = h.follows }
+  by_case true e = record { fits = (tt, h.fits); knows = abandoned x past h.knows; backs = h.backs; follows = h.follows; paid = h.paid }
+  by_case false e = record { fits = h.fits; knows = calmed x past.own past.seen (shut_of (armed past.seen).close e) h.knows; backs = h.backs; follows = h.follows; paid = h.paid }
 
 -- a row after which the port's own round is given up, where it has corrected the clock
 pub upsetting_lead : {dates : Bool} {P : ℕ → Past → Type 0} (row : Row) → Upsets dates P row → Leads P (upsetting row) Rests

@@ -15,17 +15,18 @@ use Rattle.tsp_base.specs.declared.role.Role.TheVariants.{Starting, Follow, Mast
 use Rattle.tsp_base.specs.declared.stamp.Stamp.TheVariants.{Request, Reply}
 use Rattle.tsp_promises.specs.AckFits.{AckFits, AckedFits, Answers}
 use Rattle.tsp_promises.specs.DeedFits.{PostFits, is_answered_early}
+use Rattle.tsp_promises.specs.QuitFits.{QuitFits}
 use Rattle.tsp_base.specs.History.{Did, Acts, Seen, Here, Past, plain}
 use Rattle.tsp_base.specs.Hold.{may_stand}
 use Rattle.tsp_base.specs.Leads.{Leads}
 use Rattle.tsp_base.specs.Messages.{MessageValue}
 use Rattle.tsp_base.specs.NodeFacts.{boot_tick, ticket, target}
 use Rattle.tsp_base.specs.Peers.{is_among}
-use Rattle.tsp_base.specs.PortFacts.{Received, role, taken, held}
+use Rattle.tsp_base.specs.PortFacts.{Received, Said, role, said, taken, held}
 use Rattle.tsp_base.specs.Rows.{grown, nothing, puts, ◌followed_by◌, either_by, reading, bare, posts, posts_back}
 use Rattle.tsp_base.specs.SendFacts.{is_correction, open_send, open_to, posts_of, sending_at, sending_of, message_of}
 use Rattle.tsp_base.specs.Setup.{Setup}
-use Rattle.tsp_promises.specs.StepFacts.{owes, owes_after}
+use Rattle.tsp_promises.specs.StepFacts.{is_answered, owes, owes_after}
 use Rattle.tsp_base.specs.Takings.{peer_of}
 use Rattle.tsp_base.proofs.LeadsLemmas.{Leads_then, Leads_either, Leads_reading, Leads_nothing, Leads_puts, Leads_from, Leads_to}
 use Rattle.tsp_rules.specs.CommonRows.{quits, follows_unless, follow_row, posts_reply, replies, master_name, names_master, says_master, traces, tests, is_awake, is_idle, may_be_asked, candidature_row}
@@ -37,7 +38,7 @@ use Rattle.tsp_promises.proofs.Leaves.{none-some, trace, acked}
 use Rattle.tsp_rules.proofs.Asides.{now}
 use Rattle.tsp_promises.proofs.PostLeaves.{post_back, post_reply, post_early}
 use Rattle.tsp_promises.proofs.Rings.{rested_of, wake}
-use Rattle.tsp_promises.proofs.Changes.{Quitting, FreeIn, quit_taken, quitting_post, Is, JustTook}
+use Rattle.tsp_promises.proofs.Changes.{Quitting, FreeIn, quit_acked, quit_taken, Is, JustTook}
 use Rattle.tsp_promises.proofs.LeadsLeaves.{Leads_posts, Leads_posts_back}
 use Rattle.tsp_rules.proofs.GuardFacts.{and-cases, not-true, stand_is, awake_is, master_is}
 use Rattle.tsp_promises.proofs.CommonLeads.{follow_leads, candidature_leads}
@@ -47,14 +48,14 @@ abbrev pub Says : PeerId → MessageValue → Option Received → Option Receive
 Says p m = Is (Peer p) (Good (Message m))
 
 pub rests_of : {stirred awake : Bool} {T : Option Received → Option Received → Type 0} {x : ℕ} {past : Past} → During stirred awake false None true T x past → RestsIn stirred x past
-rests_of h = record { fits = h.fits; knows = h.knows; backs = h.backs; follows = λ p e. none-some p (sym h.owed ∙ e) }
+rests_of h = record { fits = h.fits; knows = h.knows; backs = h.backs; follows = λ p e. none-some p (sym h.owed ∙ e); paid = h.paid }
 
 -- a port that isn't Starting
 pub wake_role : {stirred awake owing acts : Bool} {follow : Option PeerId} {T : Option Received → Option Received → Type 0} {x : ℕ} {past : Past} → role past.seen ≢ Starting → During stirred awake owing follow acts T x past → During stirred true owing follow acts T x past
 wake_role {x = x} {past = past} n h = wake (rested_of x (boot_tick (plain past.seen)) h.knows.quiet.rested n) h
 
 pub took_awake : {from : Place} {t : Taken} {x : ℕ} {past : Past} → role past.seen ≢ Starting → JustTook false from t x past → JustTook true from t x past
-took_awake n h = record { free = wake_role n h.free; took = h.took; rest = h.rest; is = h.is; deed = h.deed }
+took_awake n h = record { free = wake_role n h.free; took = h.took; rest = h.rest; is = h.is; deed = h.deed; unanswered = h.unanswered }
 
 pub master_awake : (r : Role) → r ≡ Master → r ≢ Starting
 master_awake r e s = let bad : ⊥ = cc in absurd bad
@@ -63,61 +64,66 @@ master_awake r e s = let bad : ⊥ = cc in absurd bad
 pub ack_fits : (from : Place) (m : MessageValue) (seen : List Seen) → taken seen ≡ Some (record { from = from; taken = Good (Message m) }) → Answers m.kind from seen m.number → AckFits from seen m.number
 ack_fits from m seen took a = record { message = m; took = took; number_is = refl; answers = a }
 
-ack_back : (setup : Setup) (from : Place) (m : MessageValue) (name : List ℕ) (d : Did) (seen : List Seen) → taken seen ≡ Some (record { from = from; taken = Good (Message m) }) → Answers m.kind from seen m.number →
+ack_back : (setup : Setup) (from : Place) (m : MessageValue) (name : List ℕ) (d : Did) (seen : List Seen) → taken seen ≡ Some (record { from = from; taken = Good (Message m) }) → Answers m.kind from seen m.number → is_answered seen ≡ false →
     PostFits setup from (Message (bare Ack m.number name)) d seen
-ack_back setup (Peer p) m name d seen took a = ack_fits (Peer p) m seen took a
-ack_back setup Stranger m name d seen took a = ack_fits Stranger m seen took a
+ack_back setup (Peer p) m name d seen took a none = ack_fits (Peer p) m seen took a
+ack_back setup Stranger m name d seen took a none = (ack_fits Stranger m seen took a, none)
+
+-- a port that has posted nothing to a stranger in this step
+pub record Unanswered (C : ℕ → Past → Type 0) (x : ℕ) (past : Past) : Type 0 where
+  pub was : C x past
+  pub none : is_answered past.seen ≡ false
 
 -- the kinds that anybody may send are answered
 module _ {from : Place} (m : MessageValue) (answers : (seen : List Seen) → Answers m.kind from seen m.number) where
-  pub acks_back : Leads (Free (Is from (Good (Message m)))) (posts_back from Ack m.number) (Free (Is from (Good (Message m))))
+  pub acks_back : Leads (Unanswered (Free (Is from (Good (Message m))))) (posts_back from Ack m.number) (Free (Is from (Good (Message m))))
   acks_back = Leads_posts_back from Ack m.number (λ x past h.
-      post_back from (bare Ack m.number past.name) refl (ack_back (setup_in past) from m past.name (now x past (Post from (Message (bare Ack m.number past.name)))) past.seen h.took (answers past.seen)) h)
+      post_back from (bare Ack m.number past.name) refl (ack_back (setup_in past) from m past.name (now x past (Post from (Message (bare Ack m.number past.name)))) past.seen h.was.took (answers past.seen) h.none) h.was)
 
-  pub says_master_leads : Leads (Early (Is from (Good (Message m)))) (says_master from m.number) Rests
+  pub says_master_leads : Leads (Unanswered (Early (Is from (Good (Message m))))) (says_master from m.number) Rests
   unfolding says_master
   says_master_leads = Leads_either is_master_at (posts_back from Ack m.number) nothing
-      (Leads_from (λ x past h. wake_role (master_awake (role past.seen) (master_is (role past.seen) h.1)) h.0) (Leads_to (λ x past h. rests_of h) acks_back))
-      (Leads_from (λ x past h. rests_of h.0) Leads_nothing)
+      (Leads_from (λ x past h. record { was = wake_role (master_awake (role past.seen) (master_is (role past.seen) h.1)) h.0.was; none = h.0.none }) (Leads_to (λ x past h. rests_of h) acks_back))
+      (Leads_from (λ x past h. rests_of h.0.was) Leads_nothing)
 
-  pub tests_leads : Leads (Early (Is from (Good (Message m)))) (tests from m.number) Rests
+  pub tests_leads : Leads (Unanswered (Early (Is from (Good (Message m))))) (tests from m.number) Rests
   unfolding tests
   tests_leads = Leads_either is_awake (posts_back from Ack m.number followed_by either_by may_be_asked candidature_row nothing) nothing
-      (Leads_from (λ x past h. wake_role (awake_is (role past.seen) (not-true (is_starting_role (role past.seen)) h.1)) h.0) (Leads_then (posts_back from Ack m.number) (either_by may_be_asked candidature_row nothing) acks_back
+      (Leads_from (λ x past h. record { was = wake_role (awake_is (role past.seen) (not-true (is_starting_role (role past.seen)) h.1)) h.0.was; none = h.0.none }) (Leads_then (posts_back from Ack m.number) (either_by may_be_asked candidature_row nothing) acks_back
       (Leads_either may_be_asked candidature_row nothing
       (Leads_from (λ x past h.
       let asked = and-cases (is_idle (role past.seen)) (may_stand_at x past) h.1 in
       record { free = h.0; may = stand_is (held past.seen) x past.own (and-cases past.may (may_stand (held past.seen) x past.own) asked.1).1 })
       (Leads_to (λ x past h. rests_of h.free) candidature_leads))
       (Leads_from (λ x past h. rests_of h.0) Leads_nothing))))
-      (Leads_from (λ x past h. rests_of h.0) Leads_nothing)
+      (Leads_from (λ x past h. rests_of h.0.was) Leads_nothing)
 
 -- so they are in the quiet time too
 module _ {from : Place} (m : MessageValue) (early : is_answered_early m.kind ≡ true) (answers : (seen : List Seen) → Answers m.kind from seen m.number) where
-  names : (x : ℕ) (past : Past) (name : List ℕ) → Early (Is from (Good (Message m))) x past → Rests x (grown x past (Post from (Message (bare Ack m.number name)) ∷ []))
+  names : (x : ℕ) (past : Past) (name : List ℕ) → Unanswered (Early (Is from (Good (Message m)))) x past → Rests x (grown x past (Post from (Message (bare Ack m.number name)) ∷ []))
   names x past name h = rests_of (post_early from m.number name
-      (ack_back (setup_in past) from m name (now x past (Post from (Message (bare Ack m.number name)))) past.seen h.took (answers past.seen))
-      (record { from = from; message = m; took = h.took; kind = early }) h)
+      (ack_back (setup_in past) from m name (now x past (Post from (Message (bare Ack m.number name)))) past.seen h.was.took (answers past.seen) h.none)
+      (record { from = from; message = m; took = h.was.took; kind = early }) h.was)
 
-  pub names_master_leads : Leads (Early (Is from (Good (Message m)))) (names_master from m.number) Rests
+  pub names_master_leads : Leads (Unanswered (Early (Is from (Good (Message m))))) (names_master from m.number) Rests
   unfolding names_master
   names_master_leads = Leads_reading master_name (λ name. puts (Post from (Message (bare Ack m.number name)))) (λ name. Leads_puts (Post from (Message (bare Ack m.number name))) (λ x past h. names x past name h.0))
 
-  pub traces_leads : (on : Bool) → Leads (Early (Is from (Good (Message m)))) (traces from m.number on) Rests
+  pub traces_leads : (on : Bool) → Leads (Unanswered (Early (Is from (Good (Message m))))) (traces from m.number on) Rests
   unfolding traces
-  traces_leads on = Leads_then (puts (Trace on)) (posts_back from Ack m.number) (Leads_puts (Trace on) (λ x past h. trace on h)) (Leads_posts_back from Ack m.number (λ x past h. names x past past.name h))
+  traces_leads on = Leads_then {Q = Unanswered (Early (Is from (Good (Message m))))} (puts (Trace on)) (posts_back from Ack m.number) (Leads_puts (Trace on) (λ x past h. record { was = trace on h.was; none = h.none })) (Leads_posts_back from Ack m.number (λ x past h. names x past past.name h))
 
-reply_fits : (setup : Setup) (from : Place) (word counter x : ℕ) (past : Past) → taken past.seen ≡ Some (record { from = from; taken = Good (Stamp (Request word counter)) }) →
+reply_fits : (setup : Setup) (from : Place) (word counter x : ℕ) (past : Past) → taken past.seen ≡ Some (record { from = from; taken = Good (Stamp (Request word counter)) }) → is_answered past.seen ≡ false →
     PostFits setup from (Stamp (Reply (record { ticket = ticket (plain past.seen); word = word; counter = counter; reading = target (plain past.seen) x })))
     (now x past (Post from (Stamp (Reply (record { ticket = ticket (plain past.seen); word = word; counter = counter; reading = target (plain past.seen) x }))))) past.seen
-reply_fits setup (Peer p) word counter x past took = record { took = took; ticket_is = refl; reading_is = refl }
-reply_fits setup Stranger word counter x past took = record { took = took; ticket_is = refl; reading_is = refl }
+reply_fits setup (Peer p) word counter x past took none = record { took = took; ticket_is = refl; reading_is = refl }
+reply_fits setup Stranger word counter x past took none = (record { took = took; ticket_is = refl; reading_is = refl }, none)
 
-pub replies_lead : (from : Place) (word counter : ℕ) → Leads (Early (Is from (Good (Stamp (Request word counter))))) (replies from word counter) Rests
+pub replies_lead : (from : Place) (word counter : ℕ) → Leads (Unanswered (Early (Is from (Good (Stamp (Request word counter)))))) (replies from word counter) Rests
 unfolding replies posts_reply
 replies_lead from word counter = Leads_either is_in_range (posts_reply from word counter) nothing
-    (record { run = λ x past h. rests_of (post_reply from (record { ticket = ticket (plain past.seen); word = word; counter = counter; reading = target (plain past.seen) x }) (reply_fits (setup_in past) from word counter x past h.0.took) h.0) })
-    (Leads_from (λ x past h. rests_of h.0) Leads_nothing)
+    (record { run = λ x past h. rests_of (post_reply from (record { ticket = ticket (plain past.seen); word = word; counter = counter; reading = target (plain past.seen) x }) (reply_fits (setup_in past) from word counter x past h.0.was.took h.0.none) h.0.was) })
+    (Leads_from (λ x past h. rests_of h.0.was) Leads_nothing)
 
 -- the open send that stands at this place
 pub open_known : (p : PeerId) (seen : List Seen) (first : Did) (older : List Seen) (m : MessageValue) → open_to p seen ≡ Here first ∷ older → first.deed ≡ Acts (Post (Peer p) (Message m)) →
@@ -169,8 +175,8 @@ abbrev pub HeardIn : PeerId → MessageValue → Role → ℕ → Past → Type 
 HeardIn p m r x past = Heard p (Good (Message m)) x past × (role past.seen ≡ r)
 
 -- a port that quits, in its old role
-record QuitIn (follow : Option PeerId) (T : Option Received → Option Received → Type 0) (r : Role) (x : ℕ) (past : Past) : Type 0 where
-  pub quitting : Quitting follow T x past
+record QuitIn (due : Option Said) (follow : Option PeerId) (T : Option Received → Option Received → Type 0) (r : Role) (x : ℕ) (past : Past) : Type 0 where
+  pub quitting : Quitting due follow T x past
   pub role_is : role past.seen ≡ r
 
 rests_follow : {T : Option Received → Option Received → Type 0} {x : ℕ} {past : Past} (follow : Option PeerId) (p : PeerId) → ((q : PeerId) → follow ≡ Some q → q ≡ p) → FreeIn follow T (Follow p) x past → Rests x past
@@ -179,6 +185,7 @@ rests_follow follow p k h = record {
   knows = h.free.knows;
   backs = h.free.backs;
   follows = λ q e. h.role_is ∙ ap Follow (sym (k q (sym h.free.owed ∙ e)));
+  paid = h.free.paid;
 }
 
 is_no_follow : (p : PeerId) (r : Role) (x : ℕ) (past : Past) → ((q : PeerId) → r ≢ Follow q) → follows_unless p r ≡ follow_row p
@@ -187,20 +194,23 @@ is_no_follow p (Follow q) x past n = absurd (n q refl)
 is_no_follow p _ x past n = refl
 
 module _ {p : PeerId} {m : MessageValue} where
-  quit_ack : (past : Past) → m.kind ≡ QuitKind → taken past.seen ≡ Some (record { from = Peer p; taken = Good (Message m) }) → AckFits (Peer p) past.seen m.number
+  pub quits_now : (x : ℕ) (past : Past) → m.kind ≡ QuitKind → Heard p (Good (Message m)) x past → QuitFits past.seen p
+  quits_now x past k h = record { message = m; took = h.just.took; past = h.just.rest; is = h.just.is; deed = h.just.deed; kind = k }
+
+  pub quit_ack : (past : Past) → m.kind ≡ QuitKind → taken past.seen ≡ Some (record { from = Peer p; taken = Good (Message m) }) → AckFits (Peer p) past.seen m.number
   quit_ack past k took = ack_fits (Peer p) m past.seen took (subst (λ i. Answers i (Peer p) past.seen m.number) (sym k) tt)
 
   -- a QUIT is taken by a port that doesn't follow
   pub quits_lead : (r : Role) (follow : Option PeerId) → ((q : PeerId) → r ≢ Follow q) → owes_after (Acts (Quit p)) r None ≡ follow → ((q : PeerId) → follow ≡ Some q → q ≡ p) → m.kind ≡ QuitKind →
       Leads (HeardIn p m r) (quits p m.number) Rests
   unfolding quits
-  quits_lead r follow other owed only k = Leads_then {Q = QuitIn follow (Says p m) r} (puts (Quit p)) (posts p Ack m.number followed_by reading role_at (follows_unless p))
+  quits_lead r follow other owed only k = Leads_then {Q = QuitIn (Some (record { from = p; message = m })) follow (Says p m) r} (puts (Quit p)) (posts p Ack m.number followed_by reading role_at (follows_unless p))
       (Leads_puts (Quit p) (λ x past h. let f = h.0.just.free in record {
-        quitting = quit_taken p follow (ap (λ i. owes_after (Acts (Quit p)) i (owes past.seen)) h.1 ∙ ap (λ o. owes_after (Acts (Quit p)) r o) f.owed ∙ owed) f;
+        quitting = quit_taken p (Some (record { from = p; message = m })) follow (quits_now x past k h.0) (ap said f.took) (ap (λ i. owes_after (Acts (Quit p)) i (owes past.seen)) h.1 ∙ ap (λ o. owes_after (Acts (Quit p)) r o) f.owed ∙ owed) f;
         role_is = h.1;
       }))
-      (Leads_then {Q = QuitIn follow (Says p m) r} (posts p Ack m.number) (reading role_at (follows_unless p))
-      (Leads_posts p Ack m.number (λ x past h. record { quitting = quitting_post p (bare Ack m.number past.name) (quit_ack past k h.quitting.took) h.quitting; role_is = h.role_is }))
+      (Leads_then {Q = QuitIn None follow (Says p m) r} (posts p Ack m.number) (reading role_at (follows_unless p))
+      (Leads_posts p Ack m.number (λ x past h. record { quitting = quit_acked p m (bare Ack m.number past.name) refl refl (quit_ack past k h.quitting.took) h.quitting; role_is = h.role_is }))
       (Leads_reading role_at (follows_unless p) (λ a. record {
         run = λ x past h.
             let same : a ≡ r = sym h.1 ∙ h.0.role_is in

@@ -78,7 +78,7 @@ abbrev pub v6 : List Line
 v6 = then_step (step_at 905000002 1 (Came 15)) av6 v5
 
 fv6 : Fits (still false) v6
-fv6 = step-fits false (step_at 905000002 1 (Came 15)) av6 v5 fv5 refl ((refl, (refl, came refl refl refl refl refl)), ((refl, corrects-by (peer_of 0) (msg SetTime 11 (Time (pos 905000001))) (omega arith) (omega arith) refl refl refl refl refl refl), ((refl, record { rested = inl (omega arith); fits = record { message = (msg SetTime 11 (Time (pos 905000001))); took = refl; number_is = refl; answers = refl } }), tt)))
+fv6 = step-fits false (step_at 905000002 1 (Came 15)) av6 v5 fv5 refl ((refl, (refl, came refl refl refl refl refl)), ((refl, corrects-by (peer_of 0) (msg SetTime 11 (Time (pos 905000001))) (omega arith) (omega arith) refl refl refl refl refl refl refl refl), ((refl, record { rested = inl (omega arith); fits = record { message = (msg SetTime 11 (Time (pos 905000001))); took = refl; number_is = refl; answers = refl } }), tt)))
 
 abbrev pub av7 : List Placed
 av7 = on port0 (Took (Peer (peer_of 1)) (Good (Message (msg Ack 11 Nothing)))) ∷ (on port0 (Acked (peer_of 1)) ∷ [])
@@ -123,7 +123,7 @@ abbrev pub v11 : List Line
 v11 = then_step (step_at 1008000000 0 Turned) av11 v10
 
 fv11 : Fits (still false) v11
-fv11 = step-fits false (step_at 1008000000 0 Turned) av11 v10 fv10 refl ((refl, tt), ((refl, refl), ((refl, record { gap = omega arith; rested = omega arith; why = ByRound (record { close = _; past = _; is = refl; count = 2; lo = negsuc 100; size = pos 101; deed = refl; untaken = refl }) }), ((refl, record { rested = inl (omega arith); fits = adjusts-by (negsuc 49) (msg SetTime 11 (Time (pos 905000001))) (omega arith) refl refl refl refl refl refl refl (omega arith) (record { corrects = refl; lives = refl }) refl refl refl (inr (record { next = _; place = inl refl; stepped = false; shown = pos 1008000000; deed = refl })) refl refl refl refl }), tt))))
+fv11 = step-fits false (step_at 1008000000 0 Turned) av11 v10 fv10 refl ((refl, tt), ((refl, refl), ((refl, record { gap = omega arith; rested = omega arith; why = ByRound (record { close = _; past = _; is = refl; count = 2; lo = negsuc 100; size = pos 101; deed = refl; untaken = refl }); flag = refl; prints = refl }), ((refl, record { rested = inl (omega arith); fits = adjusts-by (negsuc 49) (msg SetTime 11 (Time (pos 905000001))) (omega arith) refl refl refl refl refl refl refl (omega arith) (record { corrects = refl; lives = refl }) refl refl refl (inr (record { next = _; place = inl refl; stepped = false; shown = pos 1008000000; deed = refl })) refl refl refl refl }), tt))))
 
 abbrev pub av12 : List Placed
 av12 = on port0 (Took (Peer (peer_of 0)) (Good (Message (msg AdjTime 12 (Time (pos 51)))))) ∷ (on port0 (Correct (pos 51) false (pos 1008000399)) ∷ (on port0 (Post (Peer (peer_of 0)) (Message (msg Ack 12 Nothing))) ∷ []))
@@ -132,7 +132,7 @@ abbrev pub v12 : List Line
 v12 = then_step (step_at 1008000400 1 (Came 19)) av12 v11
 
 fv12 : Fits (still false) v12
-fv12 = step-fits false (step_at 1008000400 1 (Came 19)) av12 v11 fv11 refl ((refl, (refl, came refl refl refl refl refl)), ((refl, corrects-by (peer_of 0) (msg AdjTime 12 (Time (pos 51))) (omega arith) (omega arith) refl refl refl refl refl refl), ((refl, record { rested = inl (omega arith); fits = record { message = (msg AdjTime 12 (Time (pos 51))); took = refl; number_is = refl; answers = refl } }), tt)))
+fv12 = step-fits false (step_at 1008000400 1 (Came 19)) av12 v11 fv11 refl ((refl, (refl, came refl refl refl refl refl)), ((refl, corrects-by (peer_of 0) (msg AdjTime 12 (Time (pos 51))) (omega arith) (omega arith) refl refl refl refl refl refl refl refl), ((refl, record { rested = inl (omega arith); fits = record { message = (msg AdjTime 12 (Time (pos 51))); took = refl; number_is = refl; answers = refl } }), tt)))
 
 abbrev pub av13 : List Placed
 av13 = on port0 (Took (Peer (peer_of 1)) (Good (Message (msg Ack 12 Nothing)))) ∷ (on port0 (Acked (peer_of 1)) ∷ [])

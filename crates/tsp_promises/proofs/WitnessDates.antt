@@ -40,7 +40,7 @@ abbrev pub d7 : List Line
 d7 = then_step (step_at 310000000 1 Handed) ad7 d6
 
 f7 : Fits (still false) d7
-f7 = step-fits false (step_at 310000000 1 Handed) ad7 d6 f6 refl ((refl, (refl, tt)), ((refl, record { rested = inl (omega arith); fits = record { message = (msg Date 5 (Time (pos 600000000))); took = refl; number_is = refl; answers = tt } }), ((refl, record { rested = inl (omega arith); fits = record { numbered = record { number = omega arith; next = λ e. refl; repeats = λ e. absurd (true≢false e) }; begins = λ e. record { rested = omega arith; seldom = λ x e. none-some x e } } }), tt)))
+f7 = step-fits false (step_at 310000000 1 Handed) ad7 d6 f6 refl ((refl, (refl, tt)), ((refl, record { rested = inl (omega arith); fits = (record { message = (msg Date 5 (Time (pos 600000000))); took = refl; number_is = refl; answers = tt }, refl) }), ((refl, record { rested = inl (omega arith); fits = record { numbered = record { number = omega arith; next = λ e. refl; repeats = λ e. absurd (true≢false e) }; begins = λ e. record { rested = omega arith; seldom = λ x e. none-some x e } } }), tt)))
 
 abbrev pub ad8 : List Placed
 ad8 = on port0 (Took (Peer (peer_of 1)) (Good (Message (msg SetDateReq 32777 (Time (pos 600000000)))))) ∷ (on port0 (Correct (pos 289999999) true (pos 600000000)) ∷ (on port0 (Post (Peer (peer_of 1)) (Message (msg DateAck 32777 Nothing))) ∷ []))
@@ -49,7 +49,7 @@ abbrev pub d8 : List Line
 d8 = then_step (step_at 310000001 0 (Came 1)) ad8 d7
 
 f8 : Fits (still false) d8
-f8 = step-fits false (step_at 310000001 0 (Came 1)) ad8 d7 f7 refl ((refl, (refl, came refl refl refl refl refl)), ((refl, record { gap = omega arith; rested = omega arith; why = ByDate (record { from = Peer (peer_of 1); message = (msg SetDateReq 32777 (Time (pos 600000000))); took = _; past = _; is = refl; deed = refl; kind = refl; leads = refl; amount_is = refl; again = λ p d f r l n. none-some d l }) }), ((refl, record { rested = inl (omega arith); fits = inr (record { message = (msg SetDateReq 32777 (Time (pos 600000000))); took = refl; kind = refl; number_is = refl; last = _; last_is = refl; same = refl; fresh = omega arith }) }), tt)))
+f8 = step-fits false (step_at 310000001 0 (Came 1)) ad8 d7 f7 refl ((refl, (refl, came refl refl refl refl refl)), ((refl, record { gap = omega arith; rested = omega arith; why = ByDate (record { from = Peer (peer_of 1); message = (msg SetDateReq 32777 (Time (pos 600000000))); took = _; past = _; is = refl; deed = refl; kind = refl; leads = refl; amount_is = refl; again = λ p d f r l n. none-some d l }); flag = refl; prints = refl }), ((refl, record { rested = inl (omega arith); fits = inr (record { message = (msg SetDateReq 32777 (Time (pos 600000000))); took = refl; kind = refl; number_is = refl; last = _; last_is = refl; same = refl; fresh = omega arith }) }), tt)))
 
 abbrev pub ad9 : List Placed
 ad9 = on port0 (Took (Peer (peer_of 0)) (Good (Message (msg DateAck 32777 Nothing)))) ∷ (on port0 (Acked (peer_of 0)) ∷ [])
@@ -67,7 +67,7 @@ abbrev pub d10 : List Line
 d10 = then_step (step_at 312000000 0 Handed) ad10 d9
 
 f10 : Fits (still false) d10
-f10 = step-fits false (step_at 312000000 0 Handed) ad10 d9 f9 refl ((refl, (refl, tt)), ((refl, record { gap = omega arith; rested = omega arith; why = ByDate (record { from = Peer (peer_of 1); message = (msg SetDateReq 100 (Time (pos 500000000))); took = _; past = _; is = refl; deed = refl; kind = refl; leads = refl; amount_is = refl; again = λ p d f r l n. other-date (view port0 (of 0 (does 312000000 0 Handed (Took (Peer (peer_of 1)) (Good (Message (msg SetDateReq 100 (Time (pos 500000000)))))) ∷ (begins 312000000 0 Handed ∷ d9)))) (peer_of 1) p d (record { at = 310000001; number = 32777 }) 100 f refl l n (λ e. not-same 100 32777 (omega arith) (sym e)) }) }), ((refl, record { rested = inl (omega arith); fits = inr (record { message = (msg SetDateReq 100 (Time (pos 500000000))); took = refl; kind = refl; number_is = refl; last = _; last_is = refl; same = refl; fresh = omega arith }) }), tt)))
+f10 = step-fits false (step_at 312000000 0 Handed) ad10 d9 f9 refl ((refl, (refl, tt)), ((refl, record { gap = omega arith; rested = omega arith; why = ByDate (record { from = Peer (peer_of 1); message = (msg SetDateReq 100 (Time (pos 500000000))); took = _; past = _; is = refl; deed = refl; kind = refl; leads = refl; amount_is = refl; again = λ p d f r l n. other-date (view port0 (of 0 (does 312000000 0 Handed (Took (Peer (peer_of 1)) (Good (Message (msg SetDateReq 100 (Time (pos 500000000)))))) ∷ (begins 312000000 0 Handed ∷ d9)))) (peer_of 1) p d (record { at = 310000001; number = 32777 }) 100 f refl l n (λ e. not-same 100 32777 (omega arith) (sym e)) }); flag = refl; prints = refl }), ((refl, record { rested = inl (omega arith); fits = inr (record { message = (msg SetDateReq 100 (Time (pos 500000000))); took = refl; kind = refl; number_is = refl; last = _; last_is = refl; same = refl; fresh = omega arith }) }), tt)))
 
 abbrev pub ad11 : List Placed
 ad11 = on port0 (Took (Peer (peer_of 1)) (Good (Message (msg SetDateReq 32777 (Time (pos 600000000)))))) ∷ (on port0 (Correct (pos 98000000) true (pos 600000000)) ∷ (on port0 (Post (Peer (peer_of 1)) (Message (msg DateAck 32777 Nothing))) ∷ []))
@@ -76,7 +76,7 @@ abbrev pub d11 : List Line
 d11 = then_step (step_at 314000000 0 (Came 1)) ad11 d10
 
 f11 : Fits (still false) d11
-f11 = step-fits false (step_at 314000000 0 (Came 1)) ad11 d10 f10 refl ((refl, (refl, came refl refl refl refl refl)), ((refl, record { gap = omega arith; rested = omega arith; why = ByDate (record { from = Peer (peer_of 1); message = (msg SetDateReq 32777 (Time (pos 600000000))); took = _; past = _; is = refl; deed = refl; kind = refl; leads = refl; amount_is = refl; again = λ p d f r l n. other-date (view port0 (of 0 (does 314000000 0 (Came 1) (Took (Peer (peer_of 1)) (Good (Message (msg SetDateReq 32777 (Time (pos 600000000)))))) ∷ (begins 314000000 0 (Came 1) ∷ d10)))) (peer_of 1) p d (record { at = 312000000; number = 100 }) 32777 f refl l n (not-same 100 32777 (omega arith)) }) }), ((refl, record { rested = inl (omega arith); fits = inr (record { message = (msg SetDateReq 32777 (Time (pos 600000000))); took = refl; kind = refl; number_is = refl; last = _; last_is = refl; same = refl; fresh = omega arith }) }), tt)))
+f11 = step-fits false (step_at 314000000 0 (Came 1)) ad11 d10 f10 refl ((refl, (refl, came refl refl refl refl refl)), ((refl, record { gap = omega arith; rested = omega arith; why = ByDate (record { from = Peer (peer_of 1); message = (msg SetDateReq 32777 (Time (pos 600000000))); took = _; past = _; is = refl; deed = refl; kind = refl; leads = refl; amount_is = refl; again = λ p d f r l n. other-date (view port0 (of 0 (does 314000000 0 (Came 1) (Took (Peer (peer_of 1)) (Good (Message (msg SetDateReq 32777 (Time (pos 600000000)))))) ∷ (begins 314000000 0 (Came 1) ∷ d10)))) (peer_of 1) p d (record { at = 312000000; number = 100 }) 32777 f refl l n (not-same 100 32777 (omega arith)) }); flag = refl; prints = refl }), ((refl, record { rested = inl (omega arith); fits = inr (record { message = (msg SetDateReq 32777 (Time (pos 600000000))); took = refl; kind = refl; number_is = refl; last = _; last_is = refl; same = refl; fresh = omega arith }) }), tt)))
 
 abbrev pub ae10 : List Placed
 ae10 = on port0 Boot ∷ []
@@ -112,7 +112,7 @@ abbrev pub e13 : List Line
 e13 = then_step (step_at 710000000 1 Handed) ae13 e12
 
 g13 : Fits (still false) e13
-g13 = step-fits false (step_at 710000000 1 Handed) ae13 e12 g12 refl ((refl, (refl, tt)), ((refl, record { rested = inl (omega arith); fits = record { message = (msg Date 6 (Time (pos 900000000))); took = refl; number_is = refl; answers = tt } }), ((refl, record { rested = inl (omega arith); fits = record { numbered = record { number = omega arith; next = λ e. refl; repeats = λ e. absurd (true≢false e) }; begins = λ e. record { rested = omega arith; seldom = λ x e. long-ago 310000000 x REUSE 710000000 e (omega arith) } } }), tt)))
+g13 = step-fits false (step_at 710000000 1 Handed) ae13 e12 g12 refl ((refl, (refl, tt)), ((refl, record { rested = inl (omega arith); fits = (record { message = (msg Date 6 (Time (pos 900000000))); took = refl; number_is = refl; answers = tt }, refl) }), ((refl, record { rested = inl (omega arith); fits = record { numbered = record { number = omega arith; next = λ e. refl; repeats = λ e. absurd (true≢false e) }; begins = λ e. record { rested = omega arith; seldom = λ x e. long-ago 310000000 x REUSE 710000000 e (omega arith) } } }), tt)))
 
 abbrev pub ae14 : List Placed
 ae14 = on port0 (Took (Peer (peer_of 1)) (Good (Message (msg SetDateReq 32778 (Time (pos 900000000)))))) ∷ (on port0 (Correct (pos 189999999) true (pos 900000000)) ∷ (on port0 (Post (Peer (peer_of 1)) (Message (msg DateAck 32778 Nothing))) ∷ []))
@@ -121,7 +121,7 @@ abbrev pub e14 : List Line
 e14 = then_step (step_at 710000001 0 (Came 4)) ae14 e13
 
 g14 : Fits (still false) e14
-g14 = step-fits false (step_at 710000001 0 (Came 4)) ae14 e13 g13 refl ((refl, (refl, came refl refl refl refl refl)), ((refl, record { gap = omega arith; rested = omega arith; why = ByDate (record { from = Peer (peer_of 1); message = (msg SetDateReq 32778 (Time (pos 900000000))); took = _; past = _; is = refl; deed = refl; kind = refl; leads = refl; amount_is = refl; again = λ p d f r l n. none-some d l }) }), ((refl, record { rested = inl (omega arith); fits = inr (record { message = (msg SetDateReq 32778 (Time (pos 900000000))); took = refl; kind = refl; number_is = refl; last = _; last_is = refl; same = refl; fresh = omega arith }) }), tt)))
+g14 = step-fits false (step_at 710000001 0 (Came 4)) ae14 e13 g13 refl ((refl, (refl, came refl refl refl refl refl)), ((refl, record { gap = omega arith; rested = omega arith; why = ByDate (record { from = Peer (peer_of 1); message = (msg SetDateReq 32778 (Time (pos 900000000))); took = _; past = _; is = refl; deed = refl; kind = refl; leads = refl; amount_is = refl; again = λ p d f r l n. none-some d l }); flag = refl; prints = refl }), ((refl, record { rested = inl (omega arith); fits = inr (record { message = (msg SetDateReq 32778 (Time (pos 900000000))); took = refl; kind = refl; number_is = refl; last = _; last_is = refl; same = refl; fresh = omega arith }) }), tt)))
 
 abbrev pub ae15 : List Placed
 ae15 = on port0 (Took (Peer (peer_of 0)) (Good (Message (msg DateAck 32778 Nothing)))) ∷ (on port0 (Acked (peer_of 0)) ∷ [])

@@ -1,5 +1,5 @@
 -- What the deeds of small histories owe, as far as it doesn't compute.
-use Rattle.std.specs.Prelude.{◌≡◌, ◌≢◌, ◌≤◌, ◌<◌, ◌⊎◌, ◌<ℤ◌, ◌-ℤ◌, neg_ℤ, true, false, ℕ, ◌+◌, ◌%◌, ℤ, pos, List, ◌∷◌, Some, None}
+use Rattle.std.specs.Prelude.{◌≡◌, ◌≢◌, ◌≤◌, ◌<◌, ◌⊎◌, ◌<ℤ◌, ◌-ℤ◌, neg_ℤ, Bool, true, false, ℕ, ◌+◌, ◌%◌, ℤ, pos, List, ◌∷◌, Some, None}
 use Rattle.std.proofs.Common.{sym, ap, arith, subst, inl, inr, true≢false, ◌∙◌}
 use Rattle.tsp_base.specs.declared.act.Act.TheVariants.{Close, Post, Took}
 use Rattle.tsp_base.specs.declared.constants.TheConstants.{CLOSE, GAP, LIMIT, QUIET, SLACK}
@@ -12,19 +12,19 @@ use Rattle.tsp_base.specs.declared.place.Place.TheVariants.{Peer}
 use Rattle.tsp_base.specs.declared.role.Role.TheVariants.{Follow, Master}
 use Rattle.tsp_base.specs.declared.stamp.Stamp.TheVariants.{Reply}
 use Rattle.tsp_promises.specs.AckFits.{AckedFits, EndsFits}
-use Rattle.tsp_promises.specs.CorrectFits.{CorrectFits, ByMaster, amount_of}
+use Rattle.tsp_promises.specs.CorrectFits.{CorrectFits, ByMaster, amount_of, is_stepped}
 use Rattle.tsp_promises.specs.CorrectionFits.{CorrectionFits, FollowedBy}
 use Rattle.tsp_base.specs.History.{Acts, Did, Seen, Here, plain}
 use Rattle.tsp_promises.specs.MeasureFits.{SampleFits}
 use Rattle.tsp_base.specs.Messages.{MessageValue}
-use Rattle.tsp_base.specs.NodeFacts.{boot_tick, last_correct, target, ticket, word}
+use Rattle.tsp_base.specs.NodeFacts.{boot_tick, last_correct, shown, target, ticket, word}
 use Rattle.tsp_base.specs.PortFacts.{acting, role}
 use Rattle.tsp_base.specs.RoundFacts.{Sampled, best, exchange, is_going, started}
 use Rattle.tsp_base.specs.Samples.{sample_diff, sample_err}
 use Rattle.tsp_base.specs.SendFacts.{Dating, is_acknowledged, is_correction, is_set_date_request, last_date, last_post, last_to, open_to}
 use Rattle.tsp_base.specs.Stamps.{ReplyValue}
 use Rattle.tsp_promises.specs.StepFacts.{closed}
-use Rattle.tsp_base.specs.Takings.{Receives, Undisturbed, time_in}
+use Rattle.tsp_base.specs.Takings.{Receives, Undisturbed, heard, time_in}
 use Rattle.tsp_promises.proofs.SendProof.{one-message}
 
 pub none-some : {A B : Type 0} (x : A) → None ≡ Some x → B
@@ -112,12 +112,15 @@ adjusts-by mean message rested leads acts kind is deed at start_is soon undistur
   no-setting e = let bad : ⊥ = cc in absurd bad
 
 -- a Correct that takes a correction
-pub corrects-by : {here took : Did} {before past : List Seen} {amount : ℤ} (from : PeerId) (m : MessageValue) → last_correct (plain before) + GAP ≤ here.tick → boot_tick (plain before) + QUIET ≤ here.tick → before ≡ Here took ∷ past → took.deed ≡ Acts (Took (Peer from) (Good (Message m))) →
-    is_correction m.kind ≡ true → m.number ≡ ticket (plain before) → amount ≡ amount_of m.kind (time_in m.body) (target (plain before) here.tick) → role before ≡ Follow from → CorrectFits here before amount
-corrects-by from m gap rested is deed kind number amount follows = record {
+pub corrects-by : {here took : Did} {before past : List Seen} {amount : ℤ} {stepped : Bool} {printed : ℤ} (from : PeerId) (m : MessageValue) → last_correct (plain before) + GAP ≤ here.tick → boot_tick (plain before) + QUIET ≤ here.tick → before ≡ Here took ∷ past → took.deed ≡ Acts (Took (Peer from) (Good (Message m))) →
+    is_correction m.kind ≡ true → m.number ≡ ticket (plain before) → amount ≡ amount_of m.kind (time_in m.body) (target (plain before) here.tick) → role before ≡ Follow from →
+    stepped ≡ is_stepped amount (heard (plain before)) → printed ≡ shown (here ∷ plain before) here.tick → CorrectFits here before amount stepped printed
+corrects-by from m gap rested is deed kind number amount follows flag prints = record {
   gap = gap;
   rested = rested;
   why = ByMaster (record { from = from; message = m; took = _; past = _; is = is; deed = deed; kind = kind; number = number; amount_is = amount; follows = follows });
+  flag = flag;
+  prints = prints;
 }
 
 -- a Sample of this reply

@@ -40,6 +40,9 @@ w3 = then_step (step_at 0 2 (Booted 11 (pos 0))) aw3 w2
 f3 : Fits (still false) w3
 f3 = step-fits false (step_at 0 2 (Booted 11 (pos 0))) aw3 w2 f2 refl ((11, refl), tt)
 
+pub booted : Fits (still false) w3
+booted = f3
+
 abbrev pub aw4 : List Placed
 aw4 = on port0 (Ring Elect) ∷ (on port0 (Become Candidate) ∷ (on port0 (Back (peer_of 0)) ∷ []))
 

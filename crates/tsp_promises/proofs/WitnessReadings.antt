@@ -1,7 +1,8 @@
--- What is promised of what users read, of first settings and of single corrections isn't empty.
+-- What is promised of shown values, of first settings and of single corrections isn't empty.
 use Rattle.std.specs.Prelude.{◌≢◌, false, true, pos, negsuc, refl}
 use Rattle.std.proofs.Common.{arith}
 use Rattle.std.proofs.lemmas.Int.{ints}
+use Rattle.tsp_promises.specs.PrintsUse.{PrintsUse}
 use Rattle.tsp_promises.specs.SetUse.{SetUse}
 use Rattle.tsp_promises.specs.ShownUse.{ShownUse}
 use Rattle.tsp_promises.proofs.CastProof.{reading_of, taking_of}
@@ -46,6 +47,31 @@ shown_use = record {
   reads = read_at-by 1 14 w23 408000300 408100300 (omega arith) refl (omega arith) (omega arith);
   near = omega (arith, ints);
   enough = omega (arith, ints);
+}
+
+-- node 1 is set by -1, and slewed by 17 in its round
+pub prints_use : PrintsUse
+prints_use = record {
+  setting = still false;
+  world = w23;
+  kept = kept-by false w23 fits refl refl refl refl;
+  set = set-by (negsuc 0) true (pos 305000001);
+  past = skip 2 w9;
+  set_in = skipped 51 w23;
+  back = negsuc 0;
+  shown_then = pos 305000001;
+  sets = refl;
+  small = omega arith;
+  correct = first;
+  before = skip 2 w20;
+  correct_in = skipped 11 w23;
+  after = skipped 39 (skip 2 w20);
+  node = refl;
+  amount = pos 17;
+  shown_now = pos 408000399;
+  slews = refl;
+  moves = some-left;
+  unstepped = unstepped-by 1 40 (skip 11 w23) refl refl;
 }
 
 -- node 1 is set by the SETTIME that answers its SLAVEUP, and corrected by the round's ADJTIME

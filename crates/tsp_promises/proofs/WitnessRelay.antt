@@ -125,7 +125,7 @@ abbrev pub g11 : List Line
 g11 = then_step (step_at 305000002 1 (Came 2)) ag11 g10
 
 f11 : Fits (still false) g11
-f11 = step-fits false (step_at 305000002 1 (Came 2)) ag11 g10 f10 refl ((refl, (refl, came refl refl refl refl refl)), ((refl, corrects-by (peer_of 0) (msg SetTime 9 (Time (pos 305000001))) (omega arith) (omega arith) refl refl refl refl refl refl), ((refl, record { rested = inl (omega arith); fits = record { message = (msg SetTime 9 (Time (pos 305000001))); took = refl; number_is = refl; answers = refl } }), tt)))
+f11 = step-fits false (step_at 305000002 1 (Came 2)) ag11 g10 f10 refl ((refl, (refl, came refl refl refl refl refl)), ((refl, corrects-by (peer_of 0) (msg SetTime 9 (Time (pos 305000001))) (omega arith) (omega arith) refl refl refl refl refl refl refl refl), ((refl, record { rested = inl (omega arith); fits = record { message = (msg SetTime 9 (Time (pos 305000001))); took = refl; number_is = refl; answers = refl } }), tt)))
 
 abbrev pub ag12 : List Placed
 ag12 = on port0 (Took (Peer (peer_of 1)) (Good (Message (msg Ack 9 Nothing)))) ∷ (on port0 (Acked (peer_of 1)) ∷ [])
@@ -152,7 +152,7 @@ abbrev pub g14 : List Line
 g14 = then_step (step_at 305000005 3 (Came 4)) ag14 g13
 
 f14 : Fits (still false) g14
-f14 = step-fits false (step_at 305000005 3 (Came 4)) ag14 g13 f13 refl ((refl, (refl, came refl refl refl refl refl)), ((refl, corrects-by (peer_of 1) (msg SetTime 11 (Time (pos 305000003))) (omega arith) (omega arith) refl refl refl refl refl refl), ((refl, record { rested = inl (omega arith); fits = record { message = (msg SetTime 11 (Time (pos 305000003))); took = refl; number_is = refl; answers = refl } }), tt)))
+f14 = step-fits false (step_at 305000005 3 (Came 4)) ag14 g13 f13 refl ((refl, (refl, came refl refl refl refl refl)), ((refl, corrects-by (peer_of 1) (msg SetTime 11 (Time (pos 305000003))) (omega arith) (omega arith) refl refl refl refl refl refl refl refl), ((refl, record { rested = inl (omega arith); fits = record { message = (msg SetTime 11 (Time (pos 305000003))); took = refl; number_is = refl; answers = refl } }), tt)))
 
 abbrev pub ag15 : List Placed
 ag15 = on port1 (Took (Peer (peer_of 3)) (Good (Message (msg Ack 11 Nothing)))) ∷ (on port1 (Acked (peer_of 3)) ∷ [])
@@ -197,7 +197,7 @@ abbrev pub g19 : List Line
 g19 = then_step (step_at 408000000 0 Turned) ag19 g18
 
 f19 : Fits (still false) g19
-f19 = step-fits false (step_at 408000000 0 Turned) ag19 g18 f18 refl ((refl, tt), ((refl, refl), ((refl, record { gap = omega arith; rested = omega arith; why = ByRound (record { close = _; past = _; is = refl; count = 2; lo = negsuc 100; size = pos 101; deed = refl; untaken = refl }) }), ((refl, record { rested = inl (omega arith); fits = adjusts-by (negsuc 49) (msg SetTime 9 (Time (pos 305000001))) (omega arith) refl refl refl refl refl refl refl (omega arith) (record { corrects = refl; lives = refl }) refl refl refl (inr (record { next = _; place = inl refl; stepped = false; shown = pos 408000000; deed = refl })) refl refl refl refl }), tt))))
+f19 = step-fits false (step_at 408000000 0 Turned) ag19 g18 f18 refl ((refl, tt), ((refl, refl), ((refl, record { gap = omega arith; rested = omega arith; why = ByRound (record { close = _; past = _; is = refl; count = 2; lo = negsuc 100; size = pos 101; deed = refl; untaken = refl }); flag = refl; prints = refl }), ((refl, record { rested = inl (omega arith); fits = adjusts-by (negsuc 49) (msg SetTime 9 (Time (pos 305000001))) (omega arith) refl refl refl refl refl refl refl (omega arith) (record { corrects = refl; lives = refl }) refl refl refl (inr (record { next = _; place = inl refl; stepped = false; shown = pos 408000000; deed = refl })) refl refl refl refl }), tt))))
 
 abbrev pub ag20 : List Placed
 ag20 = on port0 (Took (Peer (peer_of 0)) (Good (Message (msg AdjTime 10 (Time (pos 51)))))) ∷ (on port0 (Correct (pos 51) false (pos 408000399)) ∷ (on port0 (Post (Peer (peer_of 0)) (Message (msg Ack 10 Nothing))) ∷ []))
@@ -206,7 +206,7 @@ abbrev pub g20 : List Line
 g20 = then_step (step_at 408000400 1 (Came 8)) ag20 g19
 
 f20 : Fits (still false) g20
-f20 = step-fits false (step_at 408000400 1 (Came 8)) ag20 g19 f19 refl ((refl, (refl, came refl refl refl refl refl)), ((refl, corrects-by (peer_of 0) (msg AdjTime 10 (Time (pos 51))) (omega arith) (omega arith) refl refl refl refl refl refl), ((refl, record { rested = inl (omega arith); fits = record { message = (msg AdjTime 10 (Time (pos 51))); took = refl; number_is = refl; answers = refl } }), tt)))
+f20 = step-fits false (step_at 408000400 1 (Came 8)) ag20 g19 f19 refl ((refl, (refl, came refl refl refl refl refl)), ((refl, corrects-by (peer_of 0) (msg AdjTime 10 (Time (pos 51))) (omega arith) (omega arith) refl refl refl refl refl refl refl refl), ((refl, record { rested = inl (omega arith); fits = record { message = (msg AdjTime 10 (Time (pos 51))); took = refl; number_is = refl; answers = refl } }), tt)))
 
 abbrev pub ag21 : List Placed
 ag21 = on port0 (Took (Peer (peer_of 1)) (Good (Message (msg Ack 10 Nothing)))) ∷ (on port0 (Acked (peer_of 1)) ∷ [])
@@ -260,7 +260,7 @@ abbrev pub g26 : List Line
 g26 = then_step (step_at 508000400 3 (Came 12)) ag26 g25
 
 f26 : Fits (still false) g26
-f26 = step-fits false (step_at 508000400 3 (Came 12)) ag26 g25 f25 refl ((refl, (refl, came refl refl refl refl refl)), ((refl, corrects-by (peer_of 1) (msg AdjTime 12 (Time (pos 152))) (omega arith) (omega arith) refl refl refl refl refl refl), ((refl, record { rested = inl (omega arith); fits = record { message = (msg AdjTime 12 (Time (pos 152))); took = refl; number_is = refl; answers = refl } }), tt)))
+f26 = step-fits false (step_at 508000400 3 (Came 12)) ag26 g25 f25 refl ((refl, (refl, came refl refl refl refl refl)), ((refl, corrects-by (peer_of 1) (msg AdjTime 12 (Time (pos 152))) (omega arith) (omega arith) refl refl refl refl refl refl refl refl), ((refl, record { rested = inl (omega arith); fits = record { message = (msg AdjTime 12 (Time (pos 152))); took = refl; number_is = refl; answers = refl } }), tt)))
 
 abbrev pub ag27 : List Placed
 ag27 = on port1 (Took (Peer (peer_of 3)) (Good (Message (msg Ack 12 Nothing)))) ∷ (on port1 (Acked (peer_of 3)) ∷ [])

@@ -102,7 +102,7 @@ abbrev pub r9 : List Line
 r9 = then_step (step_at 400000001 1 (Came 2)) ar9 r8
 
 f9 : Fits (still false) r9
-f9 = step-fits false (step_at 400000001 1 (Came 2)) ar9 r8 f8 refl ((refl, (refl, came refl refl refl refl refl)), ((refl, tt), ((refl, record { rested = inl (omega arith); fits = record { message = (msg QuitKind 32776 Nothing); took = refl; number_is = refl; answers = tt } }), ((refl, tt), tt))))
+f9 = step-fits false (step_at 400000001 1 (Came 2)) ar9 r8 f8 refl ((refl, (refl, came refl refl refl refl refl)), ((refl, record { message = msg QuitKind 32776 Nothing; took = _; past = _; is = refl; deed = refl; kind = refl }), ((refl, record { rested = inl (omega arith); fits = record { message = (msg QuitKind 32776 Nothing); took = refl; number_is = refl; answers = tt } }), ((refl, tt), tt))))
 
 abbrev pub ar10 : List Placed
 ar10 = on port0 (Took (Peer (peer_of 1)) (Good (Message (msg Ack 32776 Nothing)))) ∷ (on port0 (Acked (peer_of 1)) ∷ [])
@@ -130,6 +130,9 @@ r12 = then_step (step_at 715000000 1 Turned) ar12 r11
 
 f12 : Fits (still false) r12
 f12 = step-fits false (step_at 715000000 1 Turned) ar12 r11 f11 refl ((refl, tt), ((refl, record { rested = omega arith; quiet = λ x e. long-ago 400000001 x ELECT_MIN 715000000 e (omega arith); stands = refl; start = _; idle = _; start_is = refl; soon = omega arith; backs = refl; wins = λ e. absurd (true≢false (sym e)) }), tt))
+
+pub met : Fits (still false) r12
+met = f12
 
 -- rivals meet: r9 ends with Follow, ACK, Quit, Took and the mark, and r8 with QUIT, Ring and the mark
 pub rivals_meet : RivalsMeet

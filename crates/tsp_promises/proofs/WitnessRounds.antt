@@ -62,7 +62,7 @@ abbrev pub y4 : List Line
 y4 = then_step (step_at 1008000000 0 Turned) ay4 y3
 
 fy4 : Fits (still false) y4
-fy4 = step-fits false (step_at 1008000000 0 Turned) ay4 y3 fy3 refl ((refl, tt), ((refl, refl), ((refl, record { gap = omega arith; rested = omega arith; why = ByRound (record { close = _; past = _; is = refl; count = 2; lo = negsuc 9; size = pos 10; deed = refl; untaken = refl }) }), ((refl, record { rested = inl (omega arith); fits = adjusts-by (negsuc 9) (msg AdjTime 10 (Time (pos 17))) (omega arith) refl refl refl refl refl refl refl (omega arith) (record { corrects = refl; lives = refl }) refl refl refl (inr (record { next = _; place = inl refl; stepped = false; shown = pos 1007999916; deed = refl })) refl refl refl refl }), tt))))
+fy4 = step-fits false (step_at 1008000000 0 Turned) ay4 y3 fy3 refl ((refl, tt), ((refl, refl), ((refl, record { gap = omega arith; rested = omega arith; why = ByRound (record { close = _; past = _; is = refl; count = 2; lo = negsuc 9; size = pos 10; deed = refl; untaken = refl }); flag = refl; prints = refl }), ((refl, record { rested = inl (omega arith); fits = adjusts-by (negsuc 9) (msg AdjTime 10 (Time (pos 17))) (omega arith) refl refl refl refl refl refl refl (omega arith) (record { corrects = refl; lives = refl }) refl refl refl (inr (record { next = _; place = inl refl; stepped = false; shown = pos 1007999916; deed = refl })) refl refl refl refl }), tt))))
 
 abbrev pub ay5 : List Placed
 ay5 = on port0 (Took (Peer (peer_of 0)) (Good (Message (msg AdjTime 11 (Time (negsuc 9)))))) ∷ (on port0 (Correct (negsuc 9) false (pos 1008000416)) ∷ (on port0 (Post (Peer (peer_of 0)) (Message (msg Ack 11 Nothing))) ∷ []))
@@ -71,7 +71,7 @@ abbrev pub y5 : List Line
 y5 = then_step (step_at 1008000400 1 (Came 16)) ay5 y4
 
 fy5 : Fits (still false) y5
-fy5 = step-fits false (step_at 1008000400 1 (Came 16)) ay5 y4 fy4 refl ((refl, (refl, came refl refl refl refl refl)), ((refl, corrects-by (peer_of 0) (msg AdjTime 11 (Time (negsuc 9))) (omega arith) (omega arith) refl refl refl refl refl refl), ((refl, record { rested = inl (omega arith); fits = record { message = (msg AdjTime 11 (Time (negsuc 9))); took = refl; number_is = refl; answers = refl } }), tt)))
+fy5 = step-fits false (step_at 1008000400 1 (Came 16)) ay5 y4 fy4 refl ((refl, (refl, came refl refl refl refl refl)), ((refl, corrects-by (peer_of 0) (msg AdjTime 11 (Time (negsuc 9))) (omega arith) (omega arith) refl refl refl refl refl refl refl refl), ((refl, record { rested = inl (omega arith); fits = record { message = (msg AdjTime 11 (Time (negsuc 9))); took = refl; number_is = refl; answers = refl } }), tt)))
 
 abbrev pub ay6 : List Placed
 ay6 = on port0 (Took (Peer (peer_of 1)) (Good (Message (msg Ack 11 Nothing)))) ∷ (on port0 (Acked (peer_of 1)) ∷ [])

@@ -77,7 +77,7 @@ abbrev pub r6 : List Line
 r6 = then_step (step_at 905000002 2 (Came 15)) ar6 r5
 
 f6 : Fits (still false) r6
-f6 = step-fits false (step_at 905000002 2 (Came 15)) ar6 r5 f5 refl ((refl, (refl, came refl refl refl refl refl)), ((refl, corrects-by (peer_of 3) (msg SetTime 13 (Time (pos 905000151))) (omega arith) (omega arith) refl refl refl refl refl refl), ((refl, record { rested = inl (omega arith); fits = record { message = (msg SetTime 13 (Time (pos 905000151))); took = refl; number_is = refl; answers = refl } }), tt)))
+f6 = step-fits false (step_at 905000002 2 (Came 15)) ar6 r5 f5 refl ((refl, (refl, came refl refl refl refl refl)), ((refl, corrects-by (peer_of 3) (msg SetTime 13 (Time (pos 905000151))) (omega arith) (omega arith) refl refl refl refl refl refl refl refl), ((refl, record { rested = inl (omega arith); fits = record { message = (msg SetTime 13 (Time (pos 905000151))); took = refl; number_is = refl; answers = refl } }), tt)))
 
 abbrev pub ar7 : List Placed
 ar7 = on port1 (Took (Peer (peer_of 2)) (Good (Message (msg Ack 13 Nothing)))) ∷ (on port1 (Acked (peer_of 2)) ∷ [])
@@ -131,7 +131,7 @@ abbrev pub r12 : List Line
 r12 = then_step (step_at 1008000400 2 (Came 19)) ar12 r11
 
 f12 : Fits (still false) r12
-f12 = step-fits false (step_at 1008000400 2 (Came 19)) ar12 r11 f11 refl ((refl, (refl, came refl refl refl refl refl)), ((refl, corrects-by (peer_of 3) (msg AdjTime 14 (Time (pos 101))) (omega arith) (omega arith) refl refl refl refl refl refl), ((refl, record { rested = inl (omega arith); fits = record { message = (msg AdjTime 14 (Time (pos 101))); took = refl; number_is = refl; answers = refl } }), tt)))
+f12 = step-fits false (step_at 1008000400 2 (Came 19)) ar12 r11 f11 refl ((refl, (refl, came refl refl refl refl refl)), ((refl, corrects-by (peer_of 3) (msg AdjTime 14 (Time (pos 101))) (omega arith) (omega arith) refl refl refl refl refl refl refl refl), ((refl, record { rested = inl (omega arith); fits = record { message = (msg AdjTime 14 (Time (pos 101))); took = refl; number_is = refl; answers = refl } }), tt)))
 
 abbrev pub ar13 : List Placed
 ar13 = on port1 (Took (Peer (peer_of 2)) (Good (Message (msg Ack 14 Nothing)))) ∷ (on port1 (Acked (peer_of 2)) ∷ [])

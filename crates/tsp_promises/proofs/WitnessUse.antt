@@ -63,7 +63,7 @@ abbrev pub w9 : List Line
 w9 = then_step (step_at 305000002 1 (Came 2)) aw9 w8
 
 f9 : Fits (still false) w9
-f9 = step-fits false (step_at 305000002 1 (Came 2)) aw9 w8 f8 refl ((refl, (refl, came refl refl refl refl refl)), ((refl, corrects-by (peer_of 0) (msg SetTime 9 (Time (pos 305000001))) (omega arith) (omega arith) refl refl refl refl refl refl), ((refl, record { rested = inl (omega arith); fits = record { message = (msg SetTime 9 (Time (pos 305000001))); took = refl; number_is = refl; answers = refl } }), tt)))
+f9 = step-fits false (step_at 305000002 1 (Came 2)) aw9 w8 f8 refl ((refl, (refl, came refl refl refl refl refl)), ((refl, corrects-by (peer_of 0) (msg SetTime 9 (Time (pos 305000001))) (omega arith) (omega arith) refl refl refl refl refl refl refl refl), ((refl, record { rested = inl (omega arith); fits = record { message = (msg SetTime 9 (Time (pos 305000001))); took = refl; number_is = refl; answers = refl } }), tt)))
 
 abbrev pub aw10 : List Placed
 aw10 = on port0 (Took (Peer (peer_of 1)) (Good (Message (msg Ack 9 Nothing)))) ∷ (on port0 (Acked (peer_of 1)) ∷ [])
@@ -90,7 +90,7 @@ abbrev pub w12 : List Line
 w12 = then_step (step_at 305000005 2 (Came 4)) aw12 w11
 
 f12 : Fits (still false) w12
-f12 = step-fits false (step_at 305000005 2 (Came 4)) aw12 w11 f11 refl ((refl, (refl, came refl refl refl refl refl)), ((refl, corrects-by (peer_of 0) (msg SetTime 11 (Time (pos 305000004))) (omega arith) (omega arith) refl refl refl refl refl refl), ((refl, record { rested = inl (omega arith); fits = record { message = (msg SetTime 11 (Time (pos 305000004))); took = refl; number_is = refl; answers = refl } }), tt)))
+f12 = step-fits false (step_at 305000005 2 (Came 4)) aw12 w11 f11 refl ((refl, (refl, came refl refl refl refl refl)), ((refl, corrects-by (peer_of 0) (msg SetTime 11 (Time (pos 305000004))) (omega arith) (omega arith) refl refl refl refl refl refl refl refl), ((refl, record { rested = inl (omega arith); fits = record { message = (msg SetTime 11 (Time (pos 305000004))); took = refl; number_is = refl; answers = refl } }), tt)))
 
 abbrev pub aw13 : List Placed
 aw13 = on port0 (Took (Peer (peer_of 2)) (Good (Message (msg Ack 11 Nothing)))) ∷ (on port0 (Acked (peer_of 2)) ∷ [])
@@ -153,7 +153,7 @@ abbrev pub w19 : List Line
 w19 = then_step (step_at 408000000 0 Turned) aw19 w18
 
 f19 : Fits (still false) w19
-f19 = step-fits false (step_at 408000000 0 Turned) aw19 w18 f18 refl ((refl, tt), ((refl, refl), ((refl, record { gap = omega arith; rested = omega arith; why = ByRound (record { close = _; past = _; is = refl; count = 3; lo = negsuc 150; size = pos 151; deed = refl; untaken = refl }) }), ((refl, record { rested = inl (omega arith); fits = adjusts-by (negsuc 83) (msg SetTime 9 (Time (pos 305000001))) (omega arith) refl refl refl refl refl refl refl (omega arith) (record { corrects = refl; lives = refl }) refl refl refl (inr (record { next = _; place = inl refl; stepped = false; shown = pos 408000000; deed = refl })) refl refl refl refl }), ((refl, record { rested = inl (omega arith); fits = adjusts-by (negsuc 83) (msg SetTime 11 (Time (pos 305000004))) (omega arith) refl refl refl refl refl refl refl (omega arith) (record { corrects = refl; lives = refl }) refl refl refl (inr (record { next = _; place = inr (inl refl); stepped = false; shown = pos 408000000; deed = refl })) refl refl refl refl }), tt)))))
+f19 = step-fits false (step_at 408000000 0 Turned) aw19 w18 f18 refl ((refl, tt), ((refl, refl), ((refl, record { gap = omega arith; rested = omega arith; why = ByRound (record { close = _; past = _; is = refl; count = 3; lo = negsuc 150; size = pos 151; deed = refl; untaken = refl }); flag = refl; prints = refl }), ((refl, record { rested = inl (omega arith); fits = adjusts-by (negsuc 83) (msg SetTime 9 (Time (pos 305000001))) (omega arith) refl refl refl refl refl refl refl (omega arith) (record { corrects = refl; lives = refl }) refl refl refl (inr (record { next = _; place = inl refl; stepped = false; shown = pos 408000000; deed = refl })) refl refl refl refl }), ((refl, record { rested = inl (omega arith); fits = adjusts-by (negsuc 83) (msg SetTime 11 (Time (pos 305000004))) (omega arith) refl refl refl refl refl refl refl (omega arith) (record { corrects = refl; lives = refl }) refl refl refl (inr (record { next = _; place = inr (inl refl); stepped = false; shown = pos 408000000; deed = refl })) refl refl refl refl }), tt)))))
 
 abbrev pub aw20 : List Placed
 aw20 = on port0 (Took (Peer (peer_of 0)) (Good (Message (msg AdjTime 10 (Time (pos 17)))))) ∷ (on port0 (Correct (pos 17) false (pos 408000399)) ∷ (on port0 (Post (Peer (peer_of 0)) (Message (msg Ack 10 Nothing))) ∷ []))
@@ -162,7 +162,7 @@ abbrev pub w20 : List Line
 w20 = then_step (step_at 408000400 1 (Came 10)) aw20 w19
 
 f20 : Fits (still false) w20
-f20 = step-fits false (step_at 408000400 1 (Came 10)) aw20 w19 f19 refl ((refl, (refl, came refl refl refl refl refl)), ((refl, corrects-by (peer_of 0) (msg AdjTime 10 (Time (pos 17))) (omega arith) (omega arith) refl refl refl refl refl refl), ((refl, record { rested = inl (omega arith); fits = record { message = (msg AdjTime 10 (Time (pos 17))); took = refl; number_is = refl; answers = refl } }), tt)))
+f20 = step-fits false (step_at 408000400 1 (Came 10)) aw20 w19 f19 refl ((refl, (refl, came refl refl refl refl refl)), ((refl, corrects-by (peer_of 0) (msg AdjTime 10 (Time (pos 17))) (omega arith) (omega arith) refl refl refl refl refl refl refl refl), ((refl, record { rested = inl (omega arith); fits = record { message = (msg AdjTime 10 (Time (pos 17))); took = refl; number_is = refl; answers = refl } }), tt)))
 
 abbrev pub aw21 : List Placed
 aw21 = on port0 (Took (Peer (peer_of 0)) (Good (Message (msg AdjTime 12 (Time (pos 67)))))) ∷ (on port0 (Correct (pos 67) false (pos 408000499)) ∷ (on port0 (Post (Peer (peer_of 0)) (Message (msg Ack 12 Nothing))) ∷ []))
@@ -171,7 +171,7 @@ abbrev pub w21 : List Line
 w21 = then_step (step_at 408000500 2 (Came 11)) aw21 w20
 
 f21 : Fits (still false) w21
-f21 = step-fits false (step_at 408000500 2 (Came 11)) aw21 w20 f20 refl ((refl, (refl, came refl refl refl refl refl)), ((refl, corrects-by (peer_of 0) (msg AdjTime 12 (Time (pos 67))) (omega arith) (omega arith) refl refl refl refl refl refl), ((refl, record { rested = inl (omega arith); fits = record { message = (msg AdjTime 12 (Time (pos 67))); took = refl; number_is = refl; answers = refl } }), tt)))
+f21 = step-fits false (step_at 408000500 2 (Came 11)) aw21 w20 f20 refl ((refl, (refl, came refl refl refl refl refl)), ((refl, corrects-by (peer_of 0) (msg AdjTime 12 (Time (pos 67))) (omega arith) (omega arith) refl refl refl refl refl refl refl refl), ((refl, record { rested = inl (omega arith); fits = record { message = (msg AdjTime 12 (Time (pos 67))); took = refl; number_is = refl; answers = refl } }), tt)))
 
 abbrev pub aw22 : List Placed
 aw22 = on port0 (Took (Peer (peer_of 1)) (Good (Message (msg Ack 10 Nothing)))) ∷ (on port0 (Acked (peer_of 1)) ∷ [])

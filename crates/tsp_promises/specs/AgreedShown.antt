@@ -1,4 +1,4 @@
--- The promise that what users read of clocks agrees where the clocks do, and what a wait is good for.
+-- The promise that what clocks show agrees where the clocks do, and what a wait is good for.
 use Rattle.std.specs.Prelude.{◌≡◌, ◌≤◌, ◌≤ℤ◌, ℕ, ◌+◌, ◌-◌, ◌*◌, ℤ, pos, ◌+ℤ◌, ◌-ℤ◌, nat_abs, true, List, ◌∷◌}
 use Rattle.tsp_promises.specs.Agreed.{Cast, Unchanged, UnchangedBut}
 use Rattle.tsp_promises.specs.Chained.{Hop, Hops, IsChain, bound, hop_bound, last_hop, node_at}

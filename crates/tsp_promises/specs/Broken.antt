@@ -2,6 +2,7 @@
 use Rattle.std.specs.Prelude.{List}
 use Rattle.tsp_promises.specs.Agreed.{Agreed, StayAgreed}
 use Rattle.tsp_promises.specs.AgreedShown.{AgreedShown, ShownNear, Waited}
+use Rattle.tsp_promises.specs.Answered.{Answered}
 use Rattle.tsp_promises.specs.Chained.{Chained}
 use Rattle.tsp_promises.specs.ErrsBounded.{ErrsBounded}
 use Rattle.tsp_promises.specs.Estimates.{EstimatesHold}
@@ -16,8 +17,10 @@ use Rattle.tsp_promises.specs.OnlyMaster.{OnlyMaster}
 use Rattle.tsp_promises.specs.Relayed.{Relayed}
 use Rattle.tsp_promises.specs.Resolved.{StaysQuiet, StopsLeading, Yields}
 use Rattle.tsp_promises.specs.Setting.{Setting}
+use Rattle.tsp_promises.specs.Shows.{Shows}
 use Rattle.tsp_promises.specs.Silent.{Silent}
 use Rattle.tsp_promises.specs.Steady.{Steady}
+use Rattle.tsp_promises.specs.Thrice.{Thrice}
 use Rattle.tsp_promises.specs.Throughout.{Throughout}
 
 -- some history breaks the promise
@@ -76,6 +79,10 @@ pub record SendsBreak (setting : Setting) : Type 0 where
   pub dated : Breaks OnceTaken
   -- an Acked that nobody caused
   pub confirmed : Breaks OnceConfirmed
+  -- a message that is posted four times
+  pub fourth : Breaks Thrice
+  -- one that is posted again more than LAST after the first time
+  pub late : Breaks Thrice
 
 -- what breaks the promises of clocks
 pub record ClocksBreak (setting : Setting) : Type 0 where
@@ -104,7 +111,7 @@ pub record ClocksBreak (setting : Setting) : Type 0 where
   -- a relayed clock that moves by another amount than the ADJTIME says
   pub relayed : Breaks (Relayed setting)
 
--- what breaks the promises of what users read; that a clock meets its target is how its value is defined, and nothing breaks it
+-- what breaks the promises of shown values; that a clock meets its target is how its value is defined, and nothing breaks it
 pub record ReadingsBreak (setting : Setting) : Type 0 where
   -- a node whose ticks go back, so that it slews twice in one time
   pub steady : Breaks (Steady setting)
@@ -114,6 +121,14 @@ pub record ReadingsBreak (setting : Setting) : Type 0 where
   pub agreed_shown : Breaks (AgreedShown setting)
   -- a boot that shows another wall clock than the node's
   pub shown_near : Breaks (ShownNear setting)
+  -- a Correct of -250 that says it is slewed, and prints the new target
+  pub falls : Breaks Shows
+  -- the same of 250
+  pub leaps : Breaks Shows
+  -- a Correct of 250, in a step that took nothing, that says it is stepped, and prints the new target
+  pub steps : Breaks Shows
+  -- a Correct of 20.000001 s that says it is slewed
+  pub slews : Breaks Shows
 
 -- what breaks the promises of chains and of single corrections
 pub record ChainsBreak (setting : Setting) : Type 0 where
@@ -140,6 +155,19 @@ pub record ChainsBreak (setting : Setting) : Type 0 where
   -- likewise, by more than a datagram's life
   pub first_set_soon : Breaks (FirstSetSoon setting)
 
+-- what breaks the promise of answers
+pub record AnswersBreak : Type 0 where
+  -- two datagrams in one step
+  pub takes_two : Breaks Answered
+  -- two Quits in one step, the first of another peer than the QUIT's
+  pub quits_twice : Breaks Answered
+  -- a QUIT that is heeded and not acknowledged
+  pub unacknowledged : Breaks Answered
+  -- two replies to one stranger's request
+  pub replies_twice : Breaks Answered
+  -- a reply to a stranger that nobody asked for
+  pub unasked : Breaks Answered
+
 -- each promise is broken by some history, in one setting
 pub record AllBreak : Type 0 where
   pub setting : Setting
@@ -148,3 +176,4 @@ pub record AllBreak : Type 0 where
   pub clocks : ClocksBreak setting
   pub readings : ReadingsBreak setting
   pub chains : ChainsBreak setting
+  pub answers : AnswersBreak

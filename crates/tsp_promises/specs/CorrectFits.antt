@@ -1,7 +1,7 @@
 -- What a Correct owes to its port's past.
-use Rattle.std.specs.Prelude.{◌≡◌, ◌≤◌, ℕ, ◌+◌, ℤ, ◌-ℤ◌, true, List, ◌∷◌, None, Some}
+use Rattle.std.specs.Prelude.{◌≡◌, ◌≤◌, ℕ, ◌+◌, nat_lt, nat_abs, ℤ, ◌-ℤ◌, Bool, true, false, ◌||◌, List, ◌∷◌, Option, None, Some}
 use Rattle.tsp_base.specs.declared.act.Act.TheVariants.{Took, Close}
-use Rattle.tsp_base.specs.declared.constants.TheConstants.{DATEHOLD, GAP, QUIET}
+use Rattle.tsp_base.specs.declared.constants.TheConstants.{DATEHOLD, GAP, MAXADJ, QUIET}
 use Rattle.tsp_base.specs.declared.datagram.Datagram.TheVariants.{Message}
 use Rattle.tsp_base.specs.declared.datagram.Taken.TheVariants.{Good}
 use Rattle.tsp_base.specs.declared.kind.Kind.{Kind}
@@ -12,8 +12,8 @@ use Rattle.tsp_base.specs.declared.place.Place.TheVariants.{Peer}
 use Rattle.tsp_base.specs.declared.role.Role.TheVariants.{Follow, Master}
 use Rattle.tsp_base.specs.History.{Did, Acts, Seen, Here, plain}
 use Rattle.tsp_base.specs.Messages.{MessageValue}
-use Rattle.tsp_base.specs.NodeFacts.{last_correct, boot_tick, ticket, target}
-use Rattle.tsp_base.specs.PortFacts.{role}
+use Rattle.tsp_base.specs.NodeFacts.{last_correct, boot_tick, shown, ticket, target}
+use Rattle.tsp_base.specs.PortFacts.{Received, message_in, role}
 use Rattle.tsp_base.specs.SendFacts.{Dating, is_correction, is_date_request, last_date, sets_date}
 use Rattle.tsp_base.specs.Takings.{heard, time_in}
 
@@ -65,8 +65,28 @@ pub data WhyCorrect (here : Did) (before : List Seen) (amount : ℤ) : Type 0 wh
   ByMaster : TakesCorrection here before amount → WhyCorrect here before amount
   ByDate : TakesDate here before amount → WhyCorrect here before amount
 
--- a Correct comes GAP after the last one or the boot, and QUIET after the boot
-pub record CorrectFits (here : Did) (before : List Seen) (amount : ℤ) : Type 0 where
+-- whether messages of this kind set a clock to the time that they carry: a SETTIME, and a date
+abbrev pub sets_time : Kind → Bool
+sets_time SetTime = true
+sets_time kind = sets_date kind
+
+abbrev pub sets_time_in : Option MessageValue → Bool
+sets_time_in None = false
+sets_time_in (Some m) = sets_time m.kind
+
+-- whether a Correct in a step that has taken this sets the clock to a time; one in a step that has taken nothing moves it by an amount, and so does one that takes an ADJTIME
+abbrev pub sets_clock : Option Received → Bool
+sets_clock None = false
+sets_clock (Some r) = sets_time_in (message_in r.taken)
+
+-- whether a Correct of this amount is stepped, in a step that has taken this: it sets the clock, or the amount is more than MAXADJ
+abbrev pub is_stepped : ℤ → Option Received → Bool
+is_stepped amount took = sets_clock took || nat_lt MAXADJ (nat_abs amount)
+
+-- a Correct comes GAP after the last one or the boot, and QUIET after the boot; it says that it is stepped exactly where it is, and prints what the clock shows right after it
+pub record CorrectFits (here : Did) (before : List Seen) (amount : ℤ) (stepped : Bool) (printed : ℤ) : Type 0 where
   pub gap : last_correct (plain before) + GAP ≤ here.tick
   pub rested : boot_tick (plain before) + QUIET ≤ here.tick
   pub why : WhyCorrect here before amount
+  pub flag : stepped ≡ is_stepped amount (heard (plain before))
+  pub prints : printed ≡ shown (here ∷ plain before) here.tick

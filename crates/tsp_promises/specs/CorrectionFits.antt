@@ -1,7 +1,7 @@
 -- What the post of a correction, an ADJTIME or a SETTIME, owes to its port's past.
-use Rattle.std.specs.Prelude.{◌≡◌, ◌≤◌, ◌⊎◌, ℕ, ◌+◌, ◌%◌, ℤ, pos, neg_ℤ, ◌-ℤ◌, ◌<ℤ◌, Bool, true, false, List, ◌∷◌, Some}
+use Rattle.std.specs.Prelude.{◌≡◌, ◌≤◌, ◌<◌, ◌⊎◌, ℕ, ◌+◌, ◌%◌, ℤ, pos, neg_ℤ, ◌-ℤ◌, ◌<ℤ◌, Bool, true, false, List, ◌∷◌, Some}
 use Rattle.tsp_base.specs.declared.act.Act.TheVariants.{Post, Close, Correct}
-use Rattle.tsp_base.specs.declared.constants.TheConstants.{CLOSE, LAST, LIMIT, QUIET, REUSE, SLACK}
+use Rattle.tsp_base.specs.declared.constants.TheConstants.{CLOSE, LAST, LIMIT, QUIET, REUSE, SLACK, TRIES}
 use Rattle.tsp_base.specs.declared.datagram.Datagram.TheVariants.{Message}
 use Rattle.tsp_base.specs.declared.kind.Kind.TheVariants.{AdjTime, SetTime, SlaveUp}
 use Rattle.tsp_base.specs.declared.place.PeerId.{PeerId}
@@ -13,17 +13,18 @@ use Rattle.tsp_base.specs.NodeFacts.{boot_tick, target}
 use Rattle.tsp_base.specs.Places.{Within}
 use Rattle.tsp_base.specs.PortFacts.{role, acting}
 use Rattle.tsp_base.specs.RoundFacts.{Sampled, best, started}
-use Rattle.tsp_base.specs.SendFacts.{open_to, last_to, last_post, is_acknowledged}
+use Rattle.tsp_base.specs.SendFacts.{open_to, posts_of, last_to, last_post, is_acknowledged}
 use Rattle.tsp_promises.specs.StepFacts.{closed}
 use Rattle.tsp_base.specs.Takings.{Receives, Undisturbed, time_in}
 
--- a repeat posts what the open send's beginning posted, at most LAST after it
+-- a repeat posts what the open send's beginning posted, at most LAST after it, and that was posted fewer than TRIES times before
 pub record RepeatFits (here : Did) (before : List Seen) (p : PeerId) (m : MessageValue) : Type 0 where
   pub first : Did
   pub older : List Seen
   pub is : open_to p before ≡ Here first ∷ older
   pub same : first.deed ≡ Acts (Post (Peer p) (Message m))
   pub soon : here.tick ≤ first.tick + LAST
+  pub few : posts_of p before < TRIES
 
 -- a SETTIME whose number is that of the SLAVEUP of p which the step took
 pub record AnswersSlaveUp (before : List Seen) (p : PeerId) (m : MessageValue) : Type 0 where

@@ -1,7 +1,7 @@
 -- What each deed owes to its port's past, and to what the port is set up with.
 use Rattle.std.specs.Prelude.{◌≡◌, ℕ, ◌≤◌, ◌⊎◌, ◌+◌, ◌%◌, Bool, true, false, List, None, Some}
 use Rattle.tsp_base.specs.declared.act.Act.{Act}
-use Rattle.tsp_base.specs.declared.act.Act.TheVariants.{Took, Post, Become, Back, Backer, Sample, Acked, Close, Correct}
+use Rattle.tsp_base.specs.declared.act.Act.TheVariants.{Took, Post, Become, Back, Backer, Quit as QuitAct, Sample, Acked, Close, Correct}
 use Rattle.tsp_base.specs.declared.constants.TheConstants.{QUIET}
 use Rattle.tsp_base.specs.declared.datagram.Datagram.{Datagram}
 use Rattle.tsp_base.specs.declared.datagram.Datagram.TheVariants.{Message, Stamp}
@@ -21,12 +21,13 @@ use Rattle.tsp_base.specs.History.{Deed, Begins, Acts, Did, Seen, plain}
 use Rattle.tsp_promises.specs.HoldFits.{AcceptFits, BackFits, BackerFits, BecomeFits}
 use Rattle.tsp_promises.specs.LoopFits.{LoopFits}
 use Rattle.tsp_promises.specs.MeasureFits.{RequestFits, ReplyFits, SampleFits}
+use Rattle.tsp_promises.specs.QuitFits.{QuitFits}
 use Rattle.tsp_base.specs.Messages.{MessageValue}
 use Rattle.tsp_base.specs.NodeFacts.{boot_tick, ticket, word}
 use Rattle.tsp_base.specs.PortFacts.{role, acting, taken}
 use Rattle.tsp_base.specs.SendFacts.{begun}
 use Rattle.tsp_base.specs.Setup.{Setup}
-use Rattle.tsp_promises.specs.StepFacts.{StepEnds, is_unbacked}
+use Rattle.tsp_promises.specs.StepFacts.{StepEnds, is_answered, is_unbacked}
 use Rattle.tsp_base.specs.Takings.{heard}
 
 -- a numbered send that is no correction: its number is no ticket but the port's next own one, and it begins a send or repeats the open one
@@ -78,13 +79,14 @@ StrangerFits Ack here before number = AckFits Stranger before number
 StrangerFits DateAck here before number = DateAckFits Stranger here before number
 StrangerFits _ here before number = ⊥
 
--- what a post owes, by its addressee; strangers get answers alone
+-- what a post owes, by its addressee; strangers get answers alone, and one in a step
 abbrev pub PostFits : Setup → Place → Datagram → Did → List Seen → Type 0
 PostFits setup (Peer p) (Message m) here before = MessageFits setup m.kind here before p m
 PostFits setup (Peer p) (Stamp (Request word counter)) here before = RequestFits before word counter
-PostFits setup Stranger (Message m) here before = StrangerFits m.kind here before m.number
+PostFits setup Stranger (Message m) here before = StrangerFits m.kind here before m.number × (is_answered before ≡ false)
 PostFits setup Stranger (Stamp (Request word counter)) here before = ⊥
-PostFits setup to (Stamp (Reply reply)) here before = ReplyFits here before to reply
+PostFits setup (Peer p) (Stamp (Reply reply)) here before = ReplyFits here before (Peer p) reply
+PostFits setup Stranger (Stamp (Reply reply)) here before = ReplyFits here before Stranger reply × (is_answered before ≡ false)
 
 -- questions that are answered in the quiet time too
 abbrev pub is_answered_early : Kind → Bool
@@ -118,9 +120,10 @@ ActFits setup (Took from taken) here before = heard (plain before) ≡ None
 ActFits setup (Become r) here before = BecomeFits setup r here before
 ActFits setup (Back p) here before = BackFits here before p
 ActFits setup (Backer p) here before = BackerFits setup here before p
+ActFits setup (QuitAct p) here before = QuitFits before p
 ActFits setup (Sample p counter diff err number) here before = SampleFits here before p counter diff err number
 ActFits setup (Close count lo size mean) here before = role before ≡ Master
-ActFits setup (Correct amount stepped shown) here before = CorrectFits here before amount
+ActFits setup (Correct amount stepped shown) here before = CorrectFits here before amount stepped shown
 ActFits setup (Acked p) here before = AckedFits before p
 ActFits setup _ here before = Unit {0}
 

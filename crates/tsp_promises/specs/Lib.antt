@@ -2,6 +2,8 @@ pub mod AckFits
 pub mod Agreed
 pub mod AgreedShown
 pub mod Alone
+pub mod Answered
+pub mod AnsweredUse
 pub mod Became
 pub mod Broken
 pub mod ChainUse
@@ -35,8 +37,10 @@ pub mod OnlyMaster
 pub mod OrdinaryUse
 pub mod OwnFits
 pub mod PortFits
+pub mod PrintsUse
 pub mod Premises
 pub mod QuietUse
+pub mod QuitFits
 pub mod Relayed
 pub mod Relays
 pub mod Resolved
@@ -49,10 +53,13 @@ pub mod SetUse
 pub mod Setting
 pub mod ShownAt
 pub mod ShownUse
+pub mod Shows
 pub mod Silent
 pub mod Since
 pub mod Sound
 pub mod Steady
 pub mod StepFacts
 pub mod StrictElections
+pub mod Thrice
+pub mod ThriceUse
 pub mod Throughout

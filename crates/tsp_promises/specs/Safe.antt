@@ -2,6 +2,7 @@
 use Rattle.std.specs.Prelude.{◌⊎◌, List}
 use Rattle.tsp_promises.specs.Agreed.{Agreed, StayAgreed}
 use Rattle.tsp_promises.specs.AgreedShown.{AgreedShown, ShownNear, Waited}
+use Rattle.tsp_promises.specs.Answered.{Answered}
 use Rattle.tsp_promises.specs.Chained.{Chained}
 use Rattle.tsp_promises.specs.ErrsBounded.{ErrsBounded}
 use Rattle.tsp_promises.specs.Estimates.{EstimatesHold}
@@ -16,14 +17,17 @@ use Rattle.tsp_promises.specs.Premises.{Honest, Life, OwnWords}
 use Rattle.tsp_promises.specs.Relayed.{Relayed}
 use Rattle.tsp_promises.specs.Resolved.{Resolved}
 use Rattle.tsp_promises.specs.Setting.{Setting}
+use Rattle.tsp_promises.specs.Shows.{Shows}
 use Rattle.tsp_promises.specs.Silent.{Silent}
 use Rattle.tsp_promises.specs.Steady.{Meets, Steady}
+use Rattle.tsp_promises.specs.Thrice.{Thrice}
 use Rattle.tsp_promises.specs.Throughout.{Throughout}
 
--- who is backed and who corrects, how the shown clock runs, and how far off a setting is, is safe whatever is delivered; the rest rests on who sends and on how long datagrams live; a measurement, where they may live longer, on words of a node's boots that differ
+-- who is backed and who corrects, what is answered and how often a message is posted, how the shown clock runs and what is printed of it, and how far off a setting is, is safe whatever is delivered; the rest rests on who sends and on how long datagrams live; a measurement, where they may live longer, on words of a node's boots that differ
 pub record Safe (setting : Setting) (world : List Line) : Type 0 where
   pub one_back : OneBack world
   pub silent : Silent world
+  pub answered : Answered world
   pub only_master : OnlyMaster world
   pub once_spaced : OnceSpaced world
   pub once_spaced_over_lives : OnceSpacedOverLives world
@@ -31,6 +35,7 @@ pub record Safe (setting : Setting) (world : List Line) : Type 0 where
   pub once_corrected : Life world → OnceCorrected world
   pub once_taken : Honest world → Life world → OnceTaken world
   pub once_confirmed : Honest world → Life world → OnceConfirmed world
+  pub thrice : Thrice world
   pub trips : Trips world
   pub measured : Honest world → Life world ⊎ OwnWords world → Measured setting world
   pub agreed : Honest world → Life world → Agreed setting world
@@ -46,6 +51,7 @@ pub record Safe (setting : Setting) (world : List Line) : Type 0 where
   pub resolved : Resolved world
   pub steady : Steady setting world
   pub meets : Meets world
+  pub shows : Shows world
   pub agreed_shown : Honest world → Life world → AgreedShown setting world
   pub shown_near : ShownNear setting world
   pub waited : Waited setting world

@@ -1,4 +1,4 @@
--- What users read of a node's clock at a place of the history.
+-- What a node's clock shows at a place of the history.
 use Rattle.std.specs.Prelude.{ℕ, ℤ, List}
 use Rattle.tsp_base.specs.History.{Line, of, dids}
 use Rattle.tsp_base.specs.NodeFacts.{rest_at, shown}

@@ -1,4 +1,4 @@
--- A slewed clock: the promises of what users read aren't empty.
+-- A slewed clock: the promises of shown values aren't empty.
 use Rattle.std.specs.Prelude.{◌≡◌, ◌≢◌, ◌≤◌, ◌≤ℤ◌, ◌<ℤ◌, ℕ, ◌+◌, ◌*◌, ℤ, pos, ◌-ℤ◌, nat_abs, false, List, ◌∷◌}
 use Rattle.tsp_base.specs.declared.act.Act.TheVariants.{Correct}
 use Rattle.tsp_promises.specs.Fits.{node_of}

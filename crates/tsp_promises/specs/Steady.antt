@@ -1,4 +1,4 @@
--- The promises that the clock which users read runs on between steps, and that it meets its target.
+-- The promises that the shown clock runs on between steps, and that it meets its target.
 use Rattle.std.specs.Prelude.{◌≡◌, ◌≤◌, ◌≤ℤ◌, ◌<ℤ◌, ℕ, ◌+◌, ◌-◌, ◌*◌, ◌/◌, ℤ, pos, ◌-ℤ◌, nat_abs, Bool, false, List, ◌∷◌}
 use Rattle.tsp_base.specs.declared.act.Act.TheVariants.{Correct}
 use Rattle.tsp_promises.specs.Everywhere.{Everywhere}

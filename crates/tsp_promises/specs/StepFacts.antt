@@ -1,11 +1,16 @@
 -- Facts of the step that a port is in.
-use Rattle.std.specs.Prelude.{◌≡◌, ℕ, ◌==◌, Bool, true, false, if◌then◌else◌, List, [], ◌∷◌, Option, None, Some}
-use Rattle.tsp_base.specs.declared.act.Act.TheVariants.{Become, Back, Close, Quit}
+use Rattle.std.specs.Prelude.{◌≡◌, ℕ, ◌==◌, Bool, true, false, ◌&&◌, if◌then◌else◌, List, [], ◌∷◌, Option, None, Some}
+use Rattle.tsp_base.specs.declared.act.Act.TheVariants.{Become, Back, Close, Post, Quit}
+use Rattle.tsp_base.specs.declared.datagram.Datagram.TheVariants.{Message}
+use Rattle.tsp_base.specs.declared.kind.Kind.{Kind}
+use Rattle.tsp_base.specs.declared.kind.Kind.TheVariants.{Ack}
 use Rattle.tsp_base.specs.declared.place.PeerId.{PeerId}
+use Rattle.tsp_base.specs.declared.place.Place.TheVariants.{Peer, Stranger}
 use Rattle.tsp_base.specs.declared.role.Role.{Role}
 use Rattle.tsp_base.specs.declared.role.Role.TheVariants.{Candidate, Follow, Master}
 use Rattle.tsp_base.specs.History.{Did, Deed, Begins, Acts, Seen, Here, Elsewhere, plain}
-use Rattle.tsp_base.specs.PortFacts.{role}
+use Rattle.tsp_base.specs.Messages.{MessageValue}
+use Rattle.tsp_base.specs.PortFacts.{Received, Said, role, said, taken}
 use Rattle.tsp_base.specs.RoundFacts.{exchange}
 use Rattle.tsp_base.specs.Takings.{Undisturbed}
 
@@ -54,8 +59,41 @@ owes [] = None
 owes (Here d ∷ before) = owes_after d.deed (role before) (owes before)
 owes (Elsewhere d ∷ before) = owes before
 
--- what a port owes at the end of each step: a candidate has backed itself, a master that took a QUIT follows its sender, and since an exchange that is open was begun the node neither booted nor corrected its clock
+abbrev pub is_ack : Kind → Bool
+is_ack Ack = true
+is_ack _ = false
+
+-- a message that was to be acknowledged, after this one was posted to q
+abbrev pub acked_by : PeerId → MessageValue → Option Said → Option Said
+acked_by q m None = None
+acked_by q m (Some s) = if (s.from.0 == q.0) && (is_ack m.kind && (m.number == s.message.number)) then None else Some s
+
+abbrev pub unacknowledged_after : Deed → Option Received → Option Said → Option Said
+unacknowledged_after Begins took keep = None
+unacknowledged_after (Acts (Quit p)) took keep = said took
+unacknowledged_after (Acts (Post (Peer q) (Message m))) took keep = acked_by q m keep
+unacknowledged_after _ took keep = keep
+
+-- the message for which this step has a Quit, as long as no ACK of its number was posted to its sender since
+abbrev pub unacknowledged : List Seen → Option Said
+unacknowledged [] = None
+unacknowledged (Here d ∷ before) = unacknowledged_after d.deed (taken before) (unacknowledged before)
+unacknowledged (Elsewhere d ∷ before) = unacknowledged before
+
+abbrev pub is_answered_after : Deed → Bool → Bool
+is_answered_after Begins keep = false
+is_answered_after (Acts (Post Stranger datagram)) keep = true
+is_answered_after _ keep = keep
+
+-- whether this step has posted something to a stranger, on this port
+abbrev pub is_answered : List Seen → Bool
+is_answered [] = false
+is_answered (Here d ∷ before) = is_answered_after d.deed (is_answered before)
+is_answered (Elsewhere d ∷ before) = is_answered before
+
+-- what a port owes at the end of each step: a candidate has backed itself, a master that took a QUIT follows its sender, each QUIT that was heeded is acknowledged, and since an exchange that is open was begun the node neither booted nor corrected its clock
 pub record StepEnds (before : List Seen) : Type 0 where
   pub backs : is_unbacked before ≡ false
   pub follows : (p : PeerId) → owes before ≡ Some p → role before ≡ Follow p
+  pub acknowledged : unacknowledged before ≡ None
   pub exchanges : (p : PeerId) (counter : ℕ) (request : Did) (older : List Seen) → exchange p counter before ≡ Here request ∷ older → Undisturbed (plain older) (plain before)

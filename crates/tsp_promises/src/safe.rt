@@ -7,6 +7,8 @@ ghost use Rattle.tsp_base.specs.History.{Line};
 ghost use Rattle.tsp_base.specs.Ticks.{tick_at, width};
 ghost use Rattle.tsp_promises.specs.Agreed.{Agreed, StayAgreed};
 ghost use Rattle.tsp_promises.specs.AgreedShown.{AgreedShown, ShownNear, Waited};
+ghost use Rattle.tsp_promises.specs.Answered.{Answered};
+ghost use Rattle.tsp_promises.specs.AnsweredUse.{AnsweredUse};
 ghost use Rattle.tsp_promises.specs.Became.{BecomesAfter};
 ghost use Rattle.tsp_promises.specs.Broken.{AllBreak};
 ghost use Rattle.tsp_promises.specs.ChainUse.{ChainUse};
@@ -34,10 +36,14 @@ ghost use Rattle.tsp_promises.specs.Safe.{Safe};
 ghost use Rattle.tsp_promises.specs.SameWords.{MeasuresWrongly, SameWords};
 ghost use Rattle.tsp_promises.specs.SetUse.{SetUse};
 ghost use Rattle.tsp_promises.specs.Setting.{Setting};
+ghost use Rattle.tsp_promises.specs.PrintsUse.{PrintsUse};
 ghost use Rattle.tsp_promises.specs.ShownUse.{ShownUse};
+ghost use Rattle.tsp_promises.specs.Shows.{Shows};
 ghost use Rattle.tsp_promises.specs.Silent.{Silent};
 ghost use Rattle.tsp_promises.specs.Steady.{Meets, Steady};
 ghost use Rattle.tsp_promises.specs.StrictElections.{StrictElections};
+ghost use Rattle.tsp_promises.specs.Thrice.{Thrice};
+ghost use Rattle.tsp_promises.specs.ThriceUse.{ThriceUse};
 ghost use Rattle.tsp_promises.specs.Throughout.{Throughout};
 ghost use Rattle.tsp_promises.specs.Estimates.{EstimatesHold};
 ghost use Rattle.tsp_promises.specs.EstimatesUse.{EstimatesUse};
@@ -58,6 +64,15 @@ pub fn one_back()
 /// MSITE, TRACEON and TRACEOFF alone, and doesn't correct its clock.
 pub fn silent_after_boot()
     ensures { (setting : Setting) (world : List Line) → Fits setting world → Silent world }
+{}
+
+/// A step takes one datagram at most. A port heeds a QUIT right after it took it, once in a step,
+/// and acknowledges it in that step, in every role. What goes to a stranger answers the datagram
+/// that the step took from one on that port, and is the only thing that it posts to strangers; so
+/// strangers never get more datagrams than they send.
+pub fn answered()
+    ensures { (setting : Setting) (world : List Line) → Fits setting world → Finished world
+        → Answered world }
 {}
 
 /// Only masters post corrections, close rounds and correct their clocks right after.
@@ -98,6 +113,12 @@ pub fn once_taken()
 pub fn once_confirmed()
     ensures { (setting : Setting) (world : List Line) → Fits setting world → Honest world
         → Life world → OnceConfirmed world }
+{}
+
+/// A numbered message is posted at most three times, the last time at most 4 s of its node's count
+/// after the first.
+pub fn thrice()
+    ensures { (setting : Setting) (world : List Line) → Fits setting world → Thrice world }
 {}
 
 /// A measurement ends an open exchange of the going round, and the error that it states is half
@@ -180,10 +201,19 @@ pub fn relayed()
         → Life world → Relayed setting world }
 {}
 
-/// The clock that users read never falls between steps and boots, and is off in rate by at most one
-/// in two hundred, beside its node's drift; forged datagrams or not.
+/// The shown clock never falls between steps and boots, and is off in rate by at most one in two
+/// hundred, beside its node's drift; forged datagrams or not.
 pub fn runs_steadily()
     ensures { (setting : Setting) (world : List Line) → Fits setting world → Steady setting world }
+{}
+
+/// A Correct prints the value that its clock shows right after it. It says that it is stepped
+/// exactly where it sets the clock, by a SETTIME or a date, or where its amount is more than
+/// `MAXADJ`; then the clock shows its new target, and else what it showed before. So a trace can be
+/// checked: as long as a node doesn't boot and none is stepped after the first, what two of its
+/// Corrects print differs by the ticks between them, give or take one in two hundred.
+pub fn shows()
+    ensures { (setting : Setting) (world : List Line) → Fits setting world → Shows world }
 {}
 
 /// It meets its target: what is left to slew is less by a microsecond each 200 ticks. No deed can
@@ -192,8 +222,8 @@ pub fn meets_target()
     ensures { (world : List Line) → Meets world }
 {}
 
-/// What users read of clocks agrees as the clocks do, wherever a Close or a chain bounds them:
-/// within the same errors and drift, and what is still to be slewed on each. Whatever else bounds
+/// What clocks show agrees as the clocks do, wherever a Close or a chain bounds them: within the
+/// same errors and drift, and what is still to be slewed on each. Whatever else bounds
 /// the clocks of two nodes that have booted bounds what they show likewise, and as closely once
 /// both have met their targets; forged datagrams or not.
 pub fn agreed_shown()
@@ -284,16 +314,34 @@ pub fn set_use()
     ensures { SetUse }
 {}
 
-/// Nor are those of what users read: a history that fits sees a clock slewed until it meets its
-/// target, and a wait that is long enough.
+/// Nor are those of shown values: a history that fits sees a clock slewed until it meets its target,
+/// and a wait that is long enough.
 pub fn shown_use()
     ensures { ShownUse }
+{}
+
+/// Nor is the promise of what a Correct prints: a history that fits sees a clock set, and slewed by
+/// a later Correct of the same life.
+pub fn prints_use()
+    ensures { PrintsUse }
 {}
 
 /// Nor is the promise of silence after a boot: a history that fits sees a node answer a stranger in
 /// its quiet time.
 pub fn quiet_use()
     ensures { QuietUse }
+{}
+
+/// Nor is the promise of few posts: a history that fits sees a candidate ask a peer for its vote
+/// three times.
+pub fn thrice_use()
+    ensures { ThriceUse }
+{}
+
+/// Nor is the promise of answers: a history that fits sees a port heed a QUIT, and a stranger
+/// answered.
+pub fn answered_use()
+    ensures { AnsweredUse }
 {}
 
 /// Nor are the promises of backings and of resolutions empty: a history that fits sees a node back

@@ -1,4 +1,4 @@
--- What answers a question, and the first answer among what comes.
+-- What answers a question, and the first answer among the arrivals.
 use Rattle.std.specs.Prelude.{ℕ, Bool, true, false, ◌&&◌, ◌==◌, if◌then◌else◌, List, [], ◌∷◌, take, Option, Some, None, zero, suc, ◌+◌}
 use Rattle.tsp_base.specs.declared.datagram.Datagram.{Datagram}
 use Rattle.tsp_base.specs.declared.datagram.Datagram.TheVariants.{Message, Stamp as StampOf}
@@ -14,18 +14,18 @@ use Rattle.tsp_io.specs.Links.{Arrival}
 use Rattle.tsp_query.specs.declared.question.Question.{Question}
 use Rattle.tsp_query.specs.declared.question.Question.TheVariants.{OfNumber, OfDate, OfWord}
 
--- whether a message acknowledges
+-- whether messages of this kind are ACKs
 abbrev pub is_ack : Kind → Bool
 is_ack Ack = true
 is_ack _ = false
 
--- whether a message acknowledges, or says that the date was set
+-- whether messages of this kind are ACKs or DATEACKs
 abbrev pub is_date_answer : Kind → Bool
 is_date_answer Ack = true
 is_date_answer DateAck = true
 is_date_answer _ = false
 
--- an acknowledgment with the question's number, where it sets the date a DATEACK too, or a reply with its word and counter 0
+-- whether a datagram answers a question: an ACK with its number (for a date a DATEACK too), or a stamp reply with its word and counter 0
 abbrev pub answers : Question → Datagram → Bool
 answers (OfNumber number) (Message m) = is_ack m.kind && (m.number == number)
 answers (OfNumber number) (StampOf s) = false
@@ -35,7 +35,7 @@ answers (OfWord word) (Message m) = false
 answers (OfWord word) (StampOf (Request w c)) = false
 answers (OfWord word) (StampOf (Reply r)) = (r.word == word) && (r.counter == 0)
 
--- the datagram that octets spell, where it is an answer
+-- the datagram that was read, where it is an answer
 abbrev pub answer_of : Question → Taken → Option Datagram
 answer_of q (Good d) = if answers q d then Some d else None
 answer_of q (Bad fault) = None
@@ -50,12 +50,12 @@ abbrev pub answer_in : Question → Arrival → Option Datagram
 answer_in q None = None
 answer_in q (Some r) = if is_daemon r.0 then answer_of q (taken_of (take 512 r.1)) else None
 
--- what comes next; nothing does where nothing is left
+-- what comes next: nothing where no arrival is left
 abbrev pub next_arrival : List Arrival → Arrival
 next_arrival [] = None
 next_arrival (a ∷ rest) = a
 
--- what comes after it
+-- what comes after that
 abbrev pub rest_of : {A : Type 0} → List A → List A
 rest_of [] = []
 rest_of (x ∷ rest) = rest

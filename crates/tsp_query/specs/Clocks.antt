@@ -1,7 +1,7 @@
--- The clock of whoever asks.
+-- The clock of this machine, as a question reads it.
 use Rattle.std.specs.Prelude.{ℕ, ◌-◌, ℤ, pos, ◌+ℤ◌, List, [], ◌∷◌, zero, suc}
 
--- the reading with this number, counted from 0, of a counter whose last answer was this one; the last reading comes again and again
+-- the reading with this number, counted from 0, of a counter with these readings, whose last answer was this one; after the last of them it repeats
 abbrev pub reading : ℕ → List ℕ → ℕ → ℕ
 reading last [] k = last
 reading last (x ∷ xs) zero = x

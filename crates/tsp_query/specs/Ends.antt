@@ -1,4 +1,4 @@
--- What asking a daemon comes to.
+-- How asking a daemon ends.
 use Rattle.std.specs.Prelude.{◌≡◌, ◌⊎◌, ℕ, ◌+◌, ◌<◌, ◌≤◌, ◌^◌, true, List, [], ◌∷◌, ◌++◌, All, Option, Some, None, zero, suc}
 use Rattle.tsp_base.specs.declared.datagram.Datagram.{Datagram}
 use Rattle.tsp_base.specs.declared.place.Place.TheVariants.{Peer}
@@ -13,7 +13,7 @@ use Rattle.tsp_query.specs.declared.ask.Heard.{Heard}
 use Rattle.tsp_query.specs.declared.ask.Heard.TheVariants.{Answer as HeardAnswer, Other, Failed}
 use Rattle.tsp_query.specs.declared.question.Question.{Question}
 
--- what a link and a ticker hold, where they tell it
+-- what a link and a ticker hold, where all of it is known
 pub record Outside : Type 0 where
   pub arrivals : List Arrival
   pub tried : List Tried
@@ -21,7 +21,7 @@ pub record Outside : Type 0 where
   pub readings : List ℕ
   pub last : ℕ
 
--- they tell this
+-- what is known of a link and a ticker is exactly this
 pub record Tells (o : Outside) (arrivals : Option (List Arrival)) (tried : Option (List Tried)) (calls : Option ℕ) (readings : Option (List ℕ)) (last : ℕ) : Type 0 where
   pub arrivals_are : arrivals ≡ Some o.arrivals
   pub tried_are : tried ≡ Some o.tried
@@ -29,7 +29,7 @@ pub record Tells (o : Outside) (arrivals : Option (List Arrival)) (tried : Optio
   pub readings_are : readings ≡ Some o.readings
   pub last_is : last ≡ o.last
 
--- what is held once a wait is over, and the tick read right after it, if it was
+-- what is held once a wait is over and the tick right after it is read
 abbrev pub heard : Outside → Outside
 heard o = record { arrivals = rest_of o.arrivals; tried = o.tried; calls = one_more o.calls; readings = rest_of o.readings; last = reading o.last o.readings 0 }
 
@@ -47,18 +47,18 @@ abbrev pub receives : Option (ℕ × Datagram) → ℕ
 receives None = 8
 receives (Some r) = r.0 + 1
 
--- what one receive comes to
+-- what one receive gives
 abbrev pub Hears : Question → Outside → Option (List Arrival) → Option (List Tried) → Option ℕ → Option (List ℕ) → ℕ → Heard → Type 0
 Hears q o arrivals tried calls readings last (HeardAnswer d tick) = Tells (heard o) arrivals tried calls readings last × (answer_in q (next_arrival o.arrivals) ≡ Some d) × (tick ≡ last)
 Hears q o arrivals tried calls readings last Other = Tells (heard o) arrivals tried calls readings last × (answer_in q (next_arrival o.arrivals) ≡ None)
 Hears q o arrivals tried calls readings last Failed = Tells (failed o) arrivals tried calls readings last
 
--- a heard answer is one, and its tick isn't below the last one nor above 2 ^ 61
+-- a heard answer answers the question, and its tick is from the last tick to 2 ^ 61
 abbrev pub HearsWell : Question → ℕ → Heard → Type 0
 HearsWell q last (HeardAnswer d tick) = (answers q d ≡ true) × (last ≤ tick) × (tick ≤ 2 ^ 61)
 HearsWell q last _ = Unit {0}
 
--- what eight receives come to: the first answer among them, unless one fails before; nothing happens after either
+-- what eight receives give: the first answer among them, unless one fails before; nothing happens after either
 abbrev pub Listens : Question → Outside → Option (List Arrival) → Option (List Tried) → Option ℕ → Option (List ℕ) → ℕ → AskEnd → Type 0
 Listens q o arrivals tried calls readings last (Answer d tick) = (i : ℕ) × (asked q o.arrivals ≡ Some (i, d)) × (tick ≡ reading o.last o.readings i) × Tells (heard_times (i + 1) o) arrivals tried calls readings last
 Listens q o arrivals tried calls readings last NoAnswer = (asked q o.arrivals ≡ None) × Tells (heard_times 8 o) arrivals tried calls readings last
@@ -69,20 +69,20 @@ Listens q o arrivals tried calls readings last OutOfMemory = ⊥
 abbrev pub sent : Datagram → Outside → Outside
 sent request o = record o { tried = o.tried ++ (Peer (record { 0 = 0 }), canon request) ∷ [] }
 
--- what asking comes to, where so many sends had failed before and have now: the one datagram was tried, unless there was no memory for it; where the send failed, nothing more happened
+-- how asking ends, with the number of failed sends before and after: the one datagram was tried, unless out of memory; where the send failed, nothing more happened
 abbrev pub Asks : Datagram → Question → Outside → Option (List Arrival) → Option (List Tried) → Option ℕ → Option (List ℕ) → ℕ → ℕ → ℕ → AskEnd → Type 0
 Asks request q o arrivals tried calls readings last sends sends_now OutOfMemory = Tells o arrivals tried calls readings last
 Asks request q o arrivals tried calls readings last sends sends_now LinkFault =
     (Tells (sent request o) arrivals tried calls readings last × Rose sends sends_now) ⊎ (Listens q (sent request o) arrivals tried calls readings last LinkFault × (sends_now ≡ sends))
 Asks request q o arrivals tried calls readings last sends sends_now end = Listens q (sent request o) arrivals tried calls readings last end
 
--- each receive waited a second, where the waits are told before and after
+-- each receive waited a second, where the waits are known before and after
 abbrev pub WaitsSeconds : Option (List ℕ) → Option (List ℕ) → Type 0
 WaitsSeconds waits None = Unit {0}
 WaitsSeconds None (Some now) = ⊥
 WaitsSeconds (Some before) (Some now) = (more : List ℕ) × (now ≡ before ++ more) × All (λ wait. wait ≡ 1000000) more
 
--- an answer is one, and its tick isn't below the last one nor above 2 ^ 61
+-- an answer answers the question, and its tick is from the last tick to 2 ^ 61
 abbrev pub AsksWell : Question → ℕ → AskEnd → Type 0
 AsksWell q last (Answer d tick) = (answers q d ≡ true) × (last ≤ tick) × (tick ≤ 2 ^ 61)
 AsksWell q last _ = Unit {0}

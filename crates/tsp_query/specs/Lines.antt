@@ -1,4 +1,4 @@
--- The lines that say what came of a question.
+-- The lines that say how a question ended.
 use Rattle.std.specs.Prelude.{ℕ, ℤ, Bool, true, false, List, [], ◌∷◌, ◌++◌, codes}
 use Rattle.std.specs.Fmt.{signed_decimal}
 use Rattle.tsp_query.specs.declared.query.QueryEnd.{QueryEnd}
@@ -8,12 +8,12 @@ use Rattle.tsp_args.specs.Queries.{switch_word}
 use Rattle.tsp_args.specs.declared.query.Query.{Query}
 use Rattle.tsp_args.specs.declared.query.Query.TheVariants.{Trace}
 
--- the line of a master's name; the empty name is none's
+-- the line of a master's name; the empty name means that there is none
 abbrev pub master_line : List ℕ → List ℕ
 master_line [] = codes "no master\n"
 master_line (c ∷ cs) = codes "master " ++ name_text (c ∷ cs) ++ 10 ∷ []
 
--- the line of how far a clock is, and by how much this may be wrong
+-- the line of how far a clock is ahead, and by how much that may be wrong
 abbrev pub diff_line : ℤ → ℤ → List ℕ
 diff_line diff err = codes "clockdiff " ++ signed_decimal diff ++ space ++ signed_decimal err ++ 10 ∷ []
 
@@ -27,7 +27,7 @@ abbrev pub date_line : Bool → List ℕ
 date_line true = codes "date set\n"
 date_line false = codes "date forwarded\n"
 
--- the line of what came of a question; none where it was given up
+-- the line that says how a question ended; empty where the link failed or out of memory
 abbrev pub end_line : Query → QueryEnd → List ℕ
 end_line q (Master name) = master_line name
 end_line q (Diff diff err) = diff_line diff err

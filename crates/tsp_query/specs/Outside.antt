@@ -1,11 +1,11 @@
--- What is told of the outside of a command: of a link, a ticker and a sink.
+-- What is known of the outside of a command: of a link, a ticker and a sink.
 use Rattle.std.specs.Prelude.{◌≡◌, ◌⊎◌, ◌<◌, ℕ, ℤ, List, ◌++◌, length, Option, Some}
 use Rattle.tsp_io.specs.Counts.{one_more}
 use Rattle.tsp_io.specs.Links.{Arrival, Binding, Tried}
 use Rattle.tsp_io.specs.Streams.{Grows}
 use Rattle.tsp_query.specs.Ends.{Outside, Tells}
 
--- what they hold, where they tell it
+-- what they hold, where that is known
 pub record Observed : Type 0 where
   pub arrivals : Option (List Arrival)
   pub tried : Option (List Tried)
@@ -19,21 +19,21 @@ pub record Observed : Type 0 where
   pub waits : Option (List ℕ)
   pub left_at_wall : Option (Option (List ℕ))
 
--- all of them tell: this of the link and of the tick counter, this wall clock, this word, and these octets written
+-- all of it is known: this of the link and of the tick counter, this wall clock, this word, and these octets written
 pub record Knows (o : Outside) (wall : ℤ) (word : ℕ) (written : List ℕ) (t : Observed) : Type 0 where
   pub tells : Tells o t.arrivals t.tried t.calls t.readings t.last
   pub wall_is : t.wall ≡ Some wall
   pub word_is : t.word ≡ Some word
   pub written_is : t.written ≡ Some written
 
--- a bind was made, whatever came of it
+-- a bind was tried, whether it failed or not
 abbrev pub bound : Outside → Outside
 bound o = record o { calls = one_more o.calls }
 
--- a part of this text was written that isn't the whole
+-- the beginning of this text was written, and not the whole
 abbrev pub IsCutShort : List ℕ → Option (List ℕ) → Option (List ℕ) → Type 0
 IsCutShort text written now = (part : List ℕ) × (rest : List ℕ) × (0 < length rest) × (text ≡ part ++ rest) × Grows written now part
 
--- a text was to be written, and then a command to end as was meant: it does, and all of it was written, or it ends for a failed write or for lack of memory, and a part was
+-- a command was to write a text and then end in a certain way: it does, and all of the text was written, or a write failed or out of memory, and the beginning of it was
 abbrev pub Says : {E : Type 0} → List ℕ → E → E → E → Option (List ℕ) → Option (List ℕ) → E → Type 0
 Says text meant fault memory written now end = ((end ≡ meant) × Grows written now text) ⊎ (((end ≡ fault) ⊎ (end ≡ memory)) × IsCutShort text written now)

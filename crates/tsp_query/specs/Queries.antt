@@ -1,4 +1,4 @@
--- The queries of a daemon, and what each comes to.
+-- The questions to a daemon, and how each ends.
 use Rattle.std.specs.Prelude.{◌≡◌, ℕ, ℤ, pos, ◌%◌, Bool, true, false, List, [], Option, codes}
 use Rattle.tsp_base.specs.Samples.{sample_diff, sample_err}
 use Rattle.tsp_base.specs.declared.datagram.Datagram.{Datagram}
@@ -23,12 +23,12 @@ use Rattle.tsp_query.specs.declared.query.QueryEnd.TheVariants.{Master, Diff, He
 abbrev pub read_twice : Outside → Outside
 read_twice o = record o { readings = rest_of (rest_of o.readings); last = reading o.last o.readings 1 }
 
--- the message that switches a trace on or off
+-- the message that turns a trace on or off
 abbrev pub trace_kind : Bool → Kind
 trace_kind true = TraceOn
 trace_kind false = TraceOff
 
--- the message that asks, with this body and numbered by the word
+-- the message that asks, with this body and a number made of the word
 abbrev pub message_with : Kind → Body → ℕ → Datagram
 message_with kind body word = Message (record { kind = kind; number = word % 65536; body = body; name = codes "timedc" })
 
@@ -40,7 +40,7 @@ message kind word = message_with kind Nothing word
 abbrev pub date_message : ℤ → ℕ → Datagram
 date_message time word = message_with SetDate (Time time) word
 
--- what an answer repeats of a message with this number, which sets the date or doesn't
+-- what the answer to a message with this number must repeat; the flag says whether the message sets the date
 abbrev pub question_of : Bool → ℕ → Question
 question_of true number = OfDate number
 question_of false number = OfNumber number
@@ -49,21 +49,21 @@ question_of false number = OfNumber number
 abbrev pub stamp : ℕ → Datagram
 stamp word = StampOf (Request word 0)
 
--- what asking comes to in a query's words, which reads its answer so
+-- the end of a question, given how it reads an answer
 abbrev pub end_of : (Datagram → ℕ → QueryEnd) → AskEnd → QueryEnd
 end_of answer (Answer d tick) = answer d tick
 end_of answer Unanswered = NoAnswer
 end_of answer Faulty = LinkFault
 end_of answer Refused = OutOfMemory
 
--- what a query comes to that asks so, and reads its answer so
+-- how a question ends that sends this request and reads its answer so
 abbrev pub QueryEnds : Datagram → Question → (Datagram → ℕ → QueryEnd) → Outside → Option (List Arrival) → Option (List Tried) → Option ℕ → Option (List ℕ) → ℕ → ℕ → ℕ → QueryEnd → Type 0
 QueryEnds request q answer o arrivals tried calls readings last sends sends_now NoAnswer = Asks request q (read_twice o) arrivals tried calls readings last sends sends_now Unanswered
 QueryEnds request q answer o arrivals tried calls readings last sends sends_now LinkFault = Asks request q (read_twice o) arrivals tried calls readings last sends sends_now Faulty
 QueryEnds request q answer o arrivals tried calls readings last sends sends_now OutOfMemory = Asks request q (read_twice o) arrivals tried calls readings last sends sends_now Refused
 QueryEnds request q answer o arrivals tried calls readings last sends sends_now end = (d : Datagram) × (tick : ℕ) × Asks request q (read_twice o) arrivals tried calls readings last sends sends_now (Answer d tick) × (end ≡ answer d tick)
 
--- the name of whoever acknowledges
+-- the name in an answer
 abbrev pub name_in : Datagram → List ℕ
 name_in (Message m) = m.name
 name_in (StampOf s) = []
@@ -72,16 +72,16 @@ name_in (StampOf s) = []
 abbrev pub master_in : Datagram → ℕ → QueryEnd
 master_in d tick = Master (name_in d)
 
--- the answer to whether a daemon hears
+-- the answer that says that a daemon has heard
 abbrev pub heard_in : Datagram → ℕ → QueryEnd
 heard_in d tick = Heard
 
--- whether a message says that the date was set
+-- whether messages of this kind say that the date was set: DATEACKs
 abbrev pub is_date_ack : Kind → Bool
 is_date_ack DateAck = true
 is_date_ack _ = false
 
--- whether a datagram says that the date was set; an acknowledgment says that it was passed on
+-- whether a datagram says that the date was set; an ACK says that it was passed on
 abbrev pub says_set : Datagram → Bool
 says_set (Message m) = is_date_ack m.kind
 says_set (StampOf s) = false

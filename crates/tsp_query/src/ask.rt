@@ -1,4 +1,4 @@
-//! A question is asked: one datagram out, and the first answer among eight receives.
+//! Asks a question: one datagram out, and the first answer among eight receives.
 ghost use Rattle.std.specs.Prelude.{◌≡◌, ◌≢◌, ◌⊎◌, ◌≤◌, None, true, IfSome, if◌then◌else◌};
 ghost use Rattle.tsp_codec.specs.Taken.{taken_of};
 ghost use Rattle.tsp_io.specs.Counts.{Rose};
@@ -14,26 +14,26 @@ use tsp_codec::encode;
 use tsp_io::link::{Link, Recv, Sent};
 use tsp_io::ticker::Ticker;
 
-/// How long a receive waits, in microseconds.
+/// How long a receive waits, in microseconds: a second.
 const WAIT: u64 = 1_000_000;
 
 /// How many receives there are at most.
 const RECEIVES: usize = 8;
 
-/// What asking comes to.
+/// How asking ends.
 #[derive(Drop)]
 pub enum AskEnd {
     /// The answer, and the tick right after it came.
     Answer(Datagram, u64),
-    /// None of eight receives gave one.
+    /// No answer came in eight receives.
     NoAnswer,
     /// The send or a receive failed.
     LinkFault,
-    /// There was no memory for the send.
+    /// Out of memory for the send.
     OutOfMemory,
 }
 
-/// What one receive comes to.
+/// What one receive gives.
 #[derive(Drop)]
 pub(crate) enum Heard {
     /// The answer, and the tick right after it came.
@@ -78,7 +78,7 @@ fn hear<L: Link, T: Ticker>(link: &mut L, ticker: &mut T, question: Question) ->
     }
 }
 
-/// The datagram that octets from there spell, where it is an answer of the daemon's.
+/// The datagram of octets from this sender; None where they aren't the daemon's answer to the question.
 fn answer_from(question: Question, from: Place, octets: &[u8]) -> Option<Datagram>
     ensures answer { result ≡ (if is_daemon from then answer_of question (taken_of octets.now) else
         None) }

@@ -23,7 +23,7 @@ const ANYWHERE: Addr = Addr {
     port: 0,
 };
 
-/// Asks over a link that is bound.
+/// Asks over a link that is bound to the daemon.
 fn ask_bound<L: Link, T: Ticker>(query: &Query, link: &mut L, ticker: &mut T) -> QueryEnd
     ensures comes { (o : Outside) (wall : ℤ) (word : ℕ)
         → Tells o (L.arrivals link.old) (L.tried link.old) (L.calls link.old)
@@ -53,7 +53,7 @@ fn ask_bound<L: Link, T: Ticker>(query: &Query, link: &mut L, ticker: &mut T) ->
     }
 }
 
-/// Writes the line of what came of a question.
+/// Writes the line that says how a question ended.
 fn tell<K: Sink>(query: &Query, end: &QueryEnd, sink: &mut K) -> QueryExit
     ensures says { Says (end_line query.now end.now) (asking_of end.now) QueryExit.WriteFault
         QueryExit.OutOfMemory (K.written sink.old) (K.written sink.new) result }
@@ -72,13 +72,13 @@ fn tell<K: Sink>(query: &Query, end: &QueryEnd, sink: &mut K) -> QueryExit
     }
 }
 
-/// Asks the daemon at an address, and writes what came of it as one line.
+/// Asks the daemon at an address, and writes the answer as one line.
 ///
-/// The link is bound at any address, with the daemon as peer 0. The lines are `master NAME`, or `no
+/// The link is bound to any address, with the daemon as peer 0. The lines are `master NAME`, or `no
 /// master` for the empty name; `clockdiff DIFF ERR` in microseconds; `trace on` or `trace off`;
 /// `election heard`; `date set` or `date forwarded`; and `no answer`. `LinkFault` comes only where
-/// one of the link's counts of faults rose, and `WriteFault` only where the sink's did; where the
-/// link failed, nothing is written.
+/// one of the link's counts of faults rose, and `WriteFault` only where the sink's did. With
+/// `LinkFault` nothing is written.
 pub fn ask<K: Sink, L: Link, T: Ticker>(
     daemon: Addr,
     query: &Query,

@@ -1,4 +1,4 @@
-//! How a question ends.
+//! How a question ends as a command.
 ghost use Rattle.std.specs.Prelude.{◌≡◌};
 ghost use Rattle.tsp_query.specs.Asks.{asking_of};
 
@@ -7,20 +7,20 @@ use crate::query::QueryEnd;
 /// How a question ends as a command.
 #[derive(Clone, Copy, PartialEq, Eq, Debug)]
 pub enum QueryExit {
-    /// It was answered, and the answer's line is written.
+    /// The answer came, and its line is written.
     Answered,
-    /// None of eight receives gave an answer, and a line says so.
+    /// No answer came in eight receives, and `no answer` is written.
     NoAnswer,
     /// The bind, the send or a receive failed.
     LinkFault,
     /// A write failed.
     WriteFault,
-    /// There was no memory.
+    /// Out of memory.
     OutOfMemory,
 }
 
 impl QueryExit {
-    /// How a question ends whose line is written whole.
+    /// How a question ends once its line is written.
     pub(crate) fn of(end: &QueryEnd) -> QueryExit
         ensures { result ≡ asking_of end.now }
     {

@@ -1,9 +1,19 @@
-//! The questions to a running daemon: one datagram goes out, and the first answer among eight
-//! receives comes back.
+//! The questions to a running daemon, as timedc of 4.3BSD asks them: one datagram goes out, and the first
+//! answer counts that comes within eight receives of at most a second each.
 //!
-//! Each call of [`query`] is a question, over a link that is bound with the daemon as its only
+//! Each function of [`query`] is a question, over a link that is bound with the daemon as its only
 //! peer. [`command::ask`] is a question as a command: it binds the link, asks once, and writes the
-//! answer's line, which `specs/Lines.antt` lays down.
+//! answer's line, which `specs/Lines.antt` defines.
+//!
+//! ```
+//! link.bind(local, &[daemon]);
+//! match query::clockdiff(&mut link, &mut ticker) {
+//!     // The daemon's clock is `diff` microseconds ahead of this machine's, give or take `err`.
+//!     QueryEnd::Diff(diff, err) => show(diff, err),
+//!     QueryEnd::NoAnswer => retry(),
+//!     other => fail(other),
+//! }
+//! ```
 #![tactic(auto)]
 
 pub mod ask;

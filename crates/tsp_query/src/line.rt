@@ -1,4 +1,4 @@
-//! The line that says what came of a question.
+//! The line that says how a question ended.
 ghost use Rattle.std.specs.Prelude.{◌≡◌, ◌≤◌, length};
 ghost use Rattle.tsp_query.specs.Lines.{master_line, diff_line, heard_line, date_line, end_line};
 
@@ -9,7 +9,7 @@ use tsp_base::name::Name;
 use tsp_script::names::append_name;
 use tsp_script::numbers::{append, append_next_signed, append_signed};
 
-/// A text of its own.
+/// A copy of a text.
 fn text_of(text: &[u8]) -> ArrayVec<u8, 1024>
     requires { length text.now ≤ 1024 }
     ensures { result.items ≡ text.now }
@@ -19,7 +19,7 @@ fn text_of(text: &[u8]) -> ArrayVec<u8, 1024>
     line
 }
 
-/// The line of the master's name.
+/// The line of the master's name, or `no master` for the empty name.
 fn master_line(name: &Name) -> ArrayVec<u8, 1024>
     ensures { result.items ≡ master_line name.now }
 {
@@ -33,7 +33,7 @@ fn master_line(name: &Name) -> ArrayVec<u8, 1024>
     line
 }
 
-/// The line of how far a clock is, and by how much this may be wrong.
+/// The line of a clock's difference and of its error, in microseconds.
 fn diff_line(diff: i64, err: i64) -> ArrayVec<u8, 1024>
     ensures { result.items ≡ diff_line diff err }
 {
@@ -45,7 +45,7 @@ fn diff_line(diff: i64, err: i64) -> ArrayVec<u8, 1024>
     line
 }
 
-/// The line of a question that was heard.
+/// The line of a question that the daemon has heard.
 fn heard_line(query: &Query) -> &'static [u8]
     ensures text { result.now ≡ heard_line query.now }
     ensures short { length result.now ≤ 1024 }
@@ -69,7 +69,7 @@ fn date_line(set: bool) -> &'static [u8]
     }
 }
 
-/// The line of what came of a question; none where it was given up.
+/// The line that says how a question ended; empty where the link failed or out of memory.
 pub(crate) fn line_of(query: &Query, end: &QueryEnd) -> ArrayVec<u8, 1024>
     ensures { result.items ≡ end_line query.now end.now }
 {

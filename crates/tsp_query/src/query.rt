@@ -1,4 +1,4 @@
-//! The queries of a running daemon.
+//! The questions to a running daemon, each a function.
 ghost use Rattle.std.specs.Prelude.{◌≡◌, ◌≢◌, ◌⊎◌, ◌≤◌, ◌^◌, ◌%◌, ℕ, ℤ, List, Some, IfSome, codes};
 ghost use Rattle.std.specs.Prelude.{true, pos, negsuc, ◌<ℤ◌};
 ghost use Rattle.tsp_base.specs.Messages.{body_fits};
@@ -25,26 +25,26 @@ use tsp_base::stamp::Stamp;
 use tsp_io::link::Link;
 use tsp_io::ticker::Ticker;
 
-/// What a query comes to.
+/// The answer to a question, or why there is none.
 #[derive(Drop)]
 pub enum QueryEnd {
-    /// The daemon's master has this name; the empty name is none's.
+    /// The daemon's master has this name. The empty name means that it knows none.
     Master(Name),
-    /// So many microseconds the daemon's clock is ahead of the own one, and by how many this may be wrong.
+    /// How many microseconds the daemon's clock is ahead of this machine's, and by how many that may be wrong.
     Diff(i64, i64),
-    /// The daemon hears.
+    /// The daemon has heard the question.
     Heard,
-    /// The network's date was set (true), or is passed on to whoever sets it (false).
+    /// The network's date was set (true), or is being passed on to the master (false).
     Date(bool),
-    /// None of eight receives gave an answer, and none failed.
+    /// No answer came in eight receives, and none of them failed.
     NoAnswer,
     /// The send or a receive failed.
     LinkFault,
-    /// There was no memory.
+    /// Out of memory.
     OutOfMemory,
 }
 
-/// What is read when a query begins.
+/// What is read of the ticker when a question begins.
 #[derive(Clone, Copy, PartialEq, Eq, Debug)]
 struct Start {
     /// The first tick.
@@ -53,7 +53,7 @@ struct Start {
     sent: u64,
     /// The wall clock.
     wall: i64,
-    /// The word.
+    /// The number that makes this question differ from others.
     word: u64,
 }
 
@@ -84,7 +84,7 @@ fn begin<T: Ticker>(ticker: &mut T) -> Start
     }
 }
 
-/// The name that queries carry.
+/// The name that questions carry: `timedc`.
 fn client() -> Name
     ensures { result ≡ codes "timedc" }
 {
@@ -94,7 +94,7 @@ fn client() -> Name
     }
 }
 
-/// What an answer repeats of a message with this number, which sets the date or doesn't.
+/// What the answer to a message with this number must repeat; `dates` says whether the message sets the date.
 fn question_of(dates: bool, number: u16) -> Question
     ensures { result ≡ question_of dates number }
 {
@@ -105,7 +105,7 @@ fn question_of(dates: bool, number: u16) -> Question
     }
 }
 
-/// Asks by a message with this body, the client's name and a number; it sets the date or doesn't.
+/// Asks by a message of this kind with this body. `dates` says whether it sets the date.
 fn ask_by_message<L: Link, T: Ticker>(
     link: &mut L,
     ticker: &mut T,
@@ -139,7 +139,7 @@ fn ask_by_message<L: Link, T: Ticker>(
     ask(link, ticker, &request, question_of(dates, number))
 }
 
-/// What asking comes to where each answer says the same: that the daemon hears.
+/// The end of a question whose every answer means the same: the daemon has heard it.
 fn heard_end(asked: AskEnd) -> QueryEnd
     ensures { result ≡ end_of heard_in asked }
 {
@@ -151,7 +151,7 @@ fn heard_end(asked: AskEnd) -> QueryEnd
     }
 }
 
-/// What asking comes to where the answer's name is the master's.
+/// The end of a question whose answer has the master's name.
 fn master_end(asked: AskEnd) -> QueryEnd
     ensures { result ≡ end_of master_in asked }
 {
@@ -164,9 +164,9 @@ fn master_end(asked: AskEnd) -> QueryEnd
     }
 }
 
-/// Asks who is master.
+/// Asks who is master (MSITE).
 ///
-/// The link is bound with the daemon as peer 0, here and in the other queries. `LinkFault` comes
+/// Here and in the other questions the link must be bound with the daemon as peer 0, and `LinkFault` comes
 /// only where one of the link's counts of faults rose in this call.
 pub fn msite<L: Link, T: Ticker>(link: &mut L, ticker: &mut T) -> QueryEnd
     ensures asks { (o : Outside) (word : ℕ)
@@ -191,7 +191,7 @@ pub fn msite<L: Link, T: Ticker>(link: &mut L, ticker: &mut T) -> QueryEnd
     master_end(ask_by_message(link, ticker, Kind::Msite, Body::Nothing, false))
 }
 
-/// Asks whether the daemon hears.
+/// Asks the daemon to stand for election (TEST). It does so where it may; the answer says only that it heard.
 pub fn election<L: Link, T: Ticker>(link: &mut L, ticker: &mut T) -> QueryEnd
     ensures asks { (o : Outside) (word : ℕ)
         → Tells o (L.arrivals link.old) (L.tried link.old) (L.calls link.old)
@@ -215,14 +215,14 @@ pub fn election<L: Link, T: Ticker>(link: &mut L, ticker: &mut T) -> QueryEnd
     heard_end(ask_by_message(link, ticker, Kind::Test, Body::Nothing, false))
 }
 
-/// The message that switches a trace on or off.
+/// The kind of message that turns a trace on or off.
 fn trace_kind(on: bool) -> Kind
     ensures { result ≡ trace_kind on }
 {
     if on { Kind::TraceOn } else { Kind::TraceOff }
 }
 
-/// Switches the daemon's trace on or off.
+/// Turns the daemon's trace on or off (TRACEON, TRACEOFF).
 pub fn trace<L: Link, T: Ticker>(on: bool, link: &mut L, ticker: &mut T) -> QueryEnd
     ensures asks { (o : Outside) (word : ℕ)
         → Tells o (L.arrivals link.old) (L.tried link.old) (L.calls link.old)
@@ -247,7 +247,7 @@ pub fn trace<L: Link, T: Ticker>(on: bool, link: &mut L, ticker: &mut T) -> Quer
     heard_end(ask_by_message(link, ticker, kind, Body::Nothing, false))
 }
 
-/// What asking comes to where the answer says whether the date was set.
+/// The end of a question whose answer says whether the date was set.
 fn date_end(asked: AskEnd) -> QueryEnd
     ensures { result ≡ end_of date_in asked }
 {
@@ -262,8 +262,8 @@ fn date_end(asked: AskEnd) -> QueryEnd
     }
 }
 
-/// Sets the network's date, in microseconds. A daemon that leads sets it, one that follows passes
-/// it on to its master.
+/// Sets the network's date, in microseconds since 1970 (SETDATE). A daemon that is master sets it, one that
+/// follows passes it on to its master.
 pub fn setdate<L: Link, T: Ticker>(time: Micros, link: &mut L, ticker: &mut T) -> QueryEnd
     ensures asks { (o : Outside) (word : ℕ)
         → Tells o (L.arrivals link.old) (L.tried link.old) (L.calls link.old)
@@ -303,7 +303,7 @@ fn reading_of(reply: &Datagram) -> i64
     }
 }
 
-/// How far the daemon's clock is ahead by a reply that came at this tick, and by how much this may be wrong.
+/// How far the daemon's clock is ahead by a reply that came at this tick, and by how much that may be wrong.
 fn sample(start: &Start, reply: &Datagram, came: u64) -> QueryEnd
     requires wall { IsWall start.now.wall }
     requires reply { IsReplied reply.now }
@@ -318,7 +318,7 @@ fn sample(start: &Start, reply: &Datagram, came: u64) -> QueryEnd
     QueryEnd::Diff(reading_of(reply) - own - half as i64, (trip - half) as i64)
 }
 
-/// Asks how far the daemon's clock is from this machine's.
+/// Asks how far the daemon's clock is ahead of this machine's (a stamp request with counter 0).
 pub fn clockdiff<L: Link, T: Ticker>(link: &mut L, ticker: &mut T) -> QueryEnd
     ensures asks { (o : Outside) (word : ℕ) (wall : ℤ)
         → Tells o (L.arrivals link.old) (L.tried link.old) (L.calls link.old)

@@ -8,12 +8,12 @@ use tsp_base::kind::Kind;
 use tsp_base::stamp::Stamp;
 use tsp_codec::read;
 
-/// What an answer repeats of its question.
+/// What an answer must repeat of its question.
 #[derive(Clone, Copy, PartialEq, Eq, Debug)]
 pub enum Question {
-    /// The number of a message, which an acknowledgment answers.
+    /// The number of a message, which an ACK answers.
     OfNumber(u16),
-    /// The number of a message that sets the date, which an acknowledgment or a DATEACK answers.
+    /// The number of a message that sets the date, which an ACK or a DATEACK answers.
     OfDate(u16),
     /// The word of a stamp request with counter 0, which a reply answers.
     OfWord(u64),
@@ -43,7 +43,7 @@ fn answers(question: Question, datagram: &Datagram) -> bool
     }
 }
 
-/// The datagram that octets spell, where it answers the question.
+/// The datagram of these octets; None where they don't answer the question.
 pub(crate) fn answer_of(question: Question, octets: &[u8]) -> Option<Datagram>
     ensures { result ≡ answer_of question (taken_of octets.now) }
 {

@@ -1,4 +1,4 @@
--- What a stage of the replay tells, and what it stands for.
+-- What a stage of the replay stands for, and the lines that it gives.
 use Rattle.std.specs.Prelude.{◌≡◌, ℕ, if◌then◌else◌, List, [], ◌++◌, Option}
 use Rattle.tsp_base.specs.declared.event.Event.{Event}
 use Rattle.tsp_base.specs.Headers.{HeaderValue}
@@ -14,11 +14,11 @@ use Rattle.tsp_replay.specs.Schedules.{refused}
 use Rattle.tsp_run.specs.declared.line.Line.{Line}
 use Rattle.tsp_world.specs.WorldStands.{WorldStands}
 
--- a world is where a header and events have brought it
+-- a world stands for a header and events
 abbrev pub stands : HeaderValue → List Event → Replayed → Type 0
 stands header events replayed = WorldStands header events replayed.world
 
--- the stage is where these lines have brought it, whichever way they are read
+-- the stage stands for these lines, however they are read
 abbrev pub Stands : Stage Replayed → List (List ℕ) → Type 0
 Stands stage lines = StandsBy refused stands stage lines
 
@@ -33,7 +33,7 @@ told_at (AtDrifted header) = []
 told_at (AtHeading header) = []
 told_at (AtRunning run) = told_by run
 
--- an output was handed over in part
+-- only the beginning of an output was handed over
 abbrev pub Untold : List ℕ → Option (List ℕ) → List ℕ → Option (List ℕ) → List ℕ → Stop → Type 0
 Untold all written held now keeps (Bad cause) = ⊥
 Untold all written held now keeps Limit = ⊥

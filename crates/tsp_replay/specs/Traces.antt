@@ -7,7 +7,7 @@ use Rattle.tsp_run.specs.declared.line.Line.{Line}
 use Rattle.tsp_run.specs.Run.{told}
 use Rattle.tsp_schedule.specs.Schedules.{Progress, Untitled, Titled, Drifted, Heading, Running, Ended}
 
--- a post's number; other acts have none, and their lines show none
+-- a post's number; 0 for other acts, whose lines don't show it
 abbrev pub number_in : Option ℕ → ℕ
 number_in None = 0
 number_in (Some k) = k
@@ -20,11 +20,11 @@ line_text l = trace_text l.event l.node l.tick (number_in l.number) l.placed ++ 
 abbrev pub lines_text : List Line → List ℕ
 lines_text lines = flat_map line_text lines
 
--- the trace of a schedule: all that is told of its run
+-- the trace of a schedule: all lines of its run
 abbrev pub trace : HeaderValue → List Event → List ℕ
 trace header events = lines_text (told header events)
 
--- what is written so far
+-- what is written up to this progress
 abbrev pub written_at : Progress → List ℕ
 written_at Untitled = []
 written_at (Titled version) = []

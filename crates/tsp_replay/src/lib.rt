@@ -1,7 +1,18 @@
-//! The replay of a schedule: its lines in, the trace of its run out.
+//! The command `replay`: a schedule's lines go in, the trace of its run comes out.
 //!
-//! [`run::replay`] is the whole command. Under it [`replay::Replay`] is the treatment of the lines,
-//! and [`stage::Stage`] what they have come to: a header in the making, then a world.
+//! [`run::replay`] is the whole command. [`replay::Replay`] is its treatment of the lines: it reads them by
+//! `Stage` of `tsp_schedule`, and hands each event to a `World` of `tsp_world`.
+//!
+//! ```
+//! let schedule = b"tsp-schedule 1\ndrift 0\nnode a 0 1000 m\nat 0 boot 0 5\nend\n";
+//! let mut source = MemorySource::new(alloc, schedule, &[])?;
+//! let mut sink = MemorySink::new(alloc, &[])?;
+//! assert!(matches!(replay(alloc, &mut source, &mut sink), Outcome::Ok));
+//! assert_eq!(
+//!     sink.written(),
+//!     b"1 0 0 0 boot\n1 0 0 0 become starting\n1 0 0 0 arm quiet 80000000\n"
+//! );
+//! ```
 #![tactic(auto)]
 
 pub mod laws;

@@ -10,7 +10,7 @@ use tsp_lines::output::Output;
 use tsp_lines::treatment::{Stop, Treatment};
 use tsp_schedule::stage::Stage;
 
-/// Takes a schedule's lines, and hands the trace of its run over.
+/// Takes a schedule's lines, and gives the trace of its run.
 #[derive(Drop)]
 pub struct Replay {
     alloc: Global,
@@ -18,7 +18,7 @@ pub struct Replay {
 }
 
 impl Replay {
-    /// No line was read. Takes no memory.
+    /// Before the first line. Takes no memory.
     pub fn new(alloc: Global) -> Replay
         ensures { result.stage ≡ Stage.Untitled }
     {

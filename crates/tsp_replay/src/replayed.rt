@@ -1,4 +1,4 @@
-//! The world of a replay, as what the events of a schedule meet.
+//! The world of a replay, as a handler of a schedule's events.
 
 use std::alloc::{AllocError, Global};
 use tsp_base::event::{Event, EventFault};
@@ -9,7 +9,7 @@ use tsp_world::world::World;
 /// The world of a replay.
 #[derive(Drop)]
 pub struct Replayed {
-    /// Its nodes, and the lines of the last event.
+    /// The nodes, and the lines of the last event.
     pub world: World,
 }
 

@@ -15,11 +15,12 @@ use tsp_lines::treat::{Outcome, treat_all};
 
 /// Reads a schedule, and writes the trace of its run.
 ///
-/// The first line that can't follow those before it ends it with `bad LINE CAUSE`: `header`, `line`,
-/// `after-end`, or the words of the event's fault; where the input ends too soon, LINE is one more than
-/// the number of lines, and the cause `header` or `no-end`. An event for which there is no room, and an
-/// input of more than 64 MiB, end it with `limit LINE`. Where the input is the text of a schedule of which
-/// no event is refused, the answer is `Ok`, if nothing fails and there is memory.
+/// The first line that is refused ends it with `bad LINE CAUSE`: `header`, `line`, `after-end`, or the words
+/// of the event's fault, such as `not-up 0`. Where the input ends too soon, LINE is one more than the
+/// number of lines, and the cause `header` or `no-end`. An event past a limit (200,000 events, 1,000,000
+/// posts) and an input of more than 64 MiB end it with `limit LINE`. Where the input is the text of a
+/// schedule of which no event is refused, the outcome is `Ok`, unless a read or a write fails or out of
+/// memory.
 pub fn replay<S: Source, K: Sink>(alloc: Global, source: &mut S, sink: &mut K) -> Outcome
     requires open { S.ended source.old ≡ false }
     ensures comes { Comes replaying MOST_INPUT (S.left source.old) (S.left source.new)

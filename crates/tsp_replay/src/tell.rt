@@ -1,4 +1,4 @@
-//! The lines of an event's acts, as they are handed over.
+//! Writes the lines of an event's acts.
 ghost use Rattle.std.specs.Prelude.{◌≡◌, ◌≢◌, ◌≤◌, ◌<◌, ◌++◌, ℕ, List, [], length, OnOk, OnErr, MatchResult};
 ghost use Rattle.tsp_io.specs.Counts.{Rose};
 ghost use Rattle.tsp_lines.specs.Outputs.{Hands};
@@ -15,7 +15,7 @@ use tsp_schedule::run::Run;
 use tsp_schedule::stage::Stage;
 use tsp_script::trace::append_placed;
 
-/// The lines of the last event's acts; none where the last line was no event.
+/// The lines of the last event's acts; none where the last line wasn't an event.
 fn told(stage: &Stage<Replayed>) -> &[Line]
     ensures { result.now ≡ told_at stage.now }
 {
@@ -25,7 +25,7 @@ fn told(stage: &Stage<Replayed>) -> &[Line]
     }
 }
 
-/// The same, behind the header.
+/// The same, after the header.
 fn told_by(run: &Run<Replayed>) -> &[Line]
     ensures { result.now ≡ told_by run.now }
 {
@@ -35,7 +35,7 @@ fn told_by(run: &Run<Replayed>) -> &[Line]
     run.course.world.acts()
 }
 
-/// Hands over the lines of the last event's acts.
+/// Puts the lines of the last event's acts into `output`.
 pub(crate) fn tell_stage<K: Sink>(
     stage: &Stage<Replayed>,
     output: &mut Output,
@@ -57,7 +57,7 @@ pub(crate) fn tell_stage<K: Sink>(
     }
 }
 
-/// Hands lines of the trace over; where it fails, a part of them.
+/// Puts lines of the trace into `output`; where it fails, the beginning of them.
 fn tell<K: Sink>(lines: &[Line], output: &mut Output, sink: &mut K) -> Result<(), Unwritten>
     ensures ok { OnOk result (Hands (K.written sink.old) output.old (K.written sink.new) output.new
         (lines_text lines.now)) }
@@ -75,7 +75,7 @@ fn tell<K: Sink>(lines: &[Line], output: &mut Output, sink: &mut K) -> Result<()
     Ok(())
 }
 
-/// Hands a line of the trace over; where it fails, a part of it.
+/// Puts a line of the trace into `output`; where it fails, the beginning of it.
 fn tell_one<K: Sink>(line: &Line, output: &mut Output, sink: &mut K) -> Result<(), Unwritten>
     ensures ok { OnOk result (Hands (K.written sink.old) output.old (K.written sink.new) output.new
         (line_text line.now)) }

@@ -2,7 +2,7 @@
 use Rattle.std.specs.Prelude.{Bool, if◌then◌else◌, List, [], ◌∷◌}
 use Rattle.tsp_base.specs.declared.place.PeerId.{PeerId}
 
--- the peers whose mark is set, where the marks stand in the order of the peers
+-- the peers whose mark is set; the marks are in the order of the peers
 abbrev pub marked : List PeerId → List Bool → List PeerId
 marked [] marks = []
 marked (p ∷ peers) [] = []

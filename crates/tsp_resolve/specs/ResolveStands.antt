@@ -1,4 +1,4 @@
--- What a port's marks of rivals stand for.
+-- Which pasts a port's marks of rivals stand for.
 use Rattle.std.specs.Prelude.{◌≡◌, ◌≢◌, false, length}
 use Rattle.tsp_base.specs.declared.place.PeerId.{PeerId}
 use Rattle.tsp_base.specs.declared.role.Role.TheVariants.{Master}
@@ -11,7 +11,7 @@ use Rattle.tsp_acks.specs.Stands.{Stands, StandsActing}
 use Rattle.tsp_resolve.specs.declared.resolve.Resolve.{Resolve}
 use Rattle.tsp_resolve.specs.Marked.{marked}
 
--- there is a mark for each peer, the marked ones are the rivals, and a port that doesn't lead has none
+-- there is a mark for each peer, the marked ones are the rivals, and a port that isn't master has none
 pub record ResolveStands (past : Past) (resolve : Resolve) : Type 0 where
   pub many : length resolve.marks ≡ length past.peers
   pub rivals : (p : PeerId) → is_among p (marked past.peers resolve.marks) ≡ is_rival p past.seen
@@ -21,6 +21,6 @@ pub record ResolveStands (past : Past) (resolve : Resolve) : Type 0 where
 abbrev pub ResolvingStands : Past → Resolve × Station → Type 0
 ResolvingStands = Beside ResolveStands Stands
 
--- the same in a step that has acted
+-- the same in a step in which an alarm was handled or a datagram taken
 abbrev pub ResolvingActs : Past → Resolve × (Station × Unit {0}) → Type 0
 ResolvingActs = Beside ResolveStands StandsActing

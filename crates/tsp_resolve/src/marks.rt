@@ -18,7 +18,7 @@ impl Model for Marks {
     ghost view = { λ m. m.items.items };
 }
 
-/// No mark is set any more.
+/// Removes all marks.
 fn unset_each(marks: &mut [bool])
     ensures { marks.new ≡ replicate (length marks.old) false }
 {
@@ -28,7 +28,7 @@ fn unset_each(marks: &mut [bool])
 }
 
 impl Marks {
-    /// So many places, none of which is marked. Fails only where memory is refused.
+    /// So many places, none of which is marked. Fails only if out of memory.
     pub(crate) fn new(alloc: Global, count: usize) -> Result<Marks, AllocError>
         ensures { IfOk result (λ m. m ≡ replicate count false) }
     {
@@ -52,7 +52,7 @@ impl Marks {
         self.items[place] = true;
     }
 
-    /// No place is marked any more.
+    /// Removes all marks.
     pub(crate) fn clear(&mut self)
         ensures { self.new ≡ replicate (length self.old) false }
     {

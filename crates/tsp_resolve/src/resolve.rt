@@ -26,7 +26,7 @@ use tsp_base::desk::Desk;
 use tsp_base::kind::Kind;
 use tsp_base::place::{PeerId, Port};
 
-/// Which of a port's peers were found to be rivals since its role changed last.
+/// Which of a port's peers were found to be rivals since the last change of its role.
 #[derive(Drop)]
 pub struct Resolve {
     pub(crate) marks: Marks,
@@ -35,9 +35,9 @@ pub struct Resolve {
 impl Resolve {
     ghost use Rattle.tsp_resolve.specs.ResolveStands.{ResolveStands, ResolvingActs, ResolvingStands};
 
-    /// No rival was found yet on a port with these peers.
+    /// No rival found yet, on a port with these peers.
     ///
-    /// Fails only where memory is refused; no later call takes any.
+    /// Fails only if out of memory. No later call allocates any.
     pub fn new(alloc: Global, peers: &[PeerId]) -> Result<Resolve, AllocError>
         ensures many { IfOk result (λ r. length r.marks ≡ length peers.now) }
         ensures stands { IfOk result (λ r. (x : ℕ) (past : Past) → past.peers ≡ peers.now
@@ -47,8 +47,9 @@ impl Resolve {
         Ok(Resolve { marks })
     }
 
-    /// Asks each other peer whether it is a master, and waits `WINDOW` ticks for answers; nothing is done
-    /// while an earlier resolution waits for them. At most one act, and one more for each peer.
+    /// Asks each other peer by a RESOLVE whether it is a master, and waits `WINDOW` ticks for answers. While it
+    /// still waits for those of an earlier call it does nothing. It puts at most one act, and one more for
+    /// each peer.
     pub fn start<D: Desk>(&mut self, station: &mut Station, tick: u64, port: Port, desk: &mut D)
         requires tick { IsTick tick }
         requires room { length station.old.peers + 1 ≤ D.spare desk.old }
@@ -68,8 +69,8 @@ impl Resolve {
         }
     }
 
-    /// A peer answers that it is a master: while a resolution waits for answers it becomes a rival, unless it
-    /// is one already. At most one act.
+    /// A peer answers that it is a master. While answers are waited for, it is noted as a rival, unless it is
+    /// one already. It puts at most one act.
     pub fn rival<D: Desk>(&mut self, station: &Station, from: PeerId, port: Port, desk: &mut D)
         requires room { 1 ≤ D.spare desk.old }
         requires many { length self.old.marks ≡ length station.now.peers }
@@ -91,7 +92,7 @@ impl Resolve {
         }
     }
 
-    /// Marks a peer, and tells whether it wasn't marked before.
+    /// Marks a peer, and says whether it wasn't marked before.
     fn find(&mut self, peers: &[PeerId], p: PeerId) -> bool
         requires peers { IsPeers peers.now }
         requires many { length self.old.marks ≡ length peers.now }
@@ -110,8 +111,8 @@ impl Resolve {
         !was
     }
 
-    /// The time for answers is over: where it is met in time, a QUIT begins to each rival, ascending. At most
-    /// one act, and one more for each peer.
+    /// The Resolve alarm is due: the time for answers is over. In time, a QUIT begins to each rival, ascending.
+    /// It puts at most one act, and one more for each peer.
     pub fn ring<D: Desk>(&mut self, station: &mut Station, tick: u64, port: Port, desk: &mut D)
         requires tick { IsTick tick }
         requires room { length station.old.peers + 1 ≤ D.spare desk.old }
@@ -131,7 +132,7 @@ impl Resolve {
         }
     }
 
-    /// Begins a QUIT to each rival, ascending. In this step an alarm has rung.
+    /// Begins a QUIT to each rival, ascending. The alarm has rung before it in the step.
     fn quit_rivals<D: Desk>(&self, station: &mut Station, tick: u64, port: Port, desk: &mut D)
         requires tick { IsTick tick }
         requires room { length station.old.peers ≤ D.spare desk.old }

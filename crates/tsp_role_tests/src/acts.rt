@@ -1,17 +1,17 @@
-//! Acts as a trace tells them.
+//! Acts as lines of a trace.
 
 use arrayvec::ArrayVec;
 use tsp_base::act::{Act, Placed};
 use tsp_script::acts::append_act;
 
-/// Whether a trace tells an act so, where each datagram that is posted has the number 0.
+/// Whether an act has this text in a trace, where each posted datagram has the number 0.
 fn is_told(act: &Act, text: &str) -> bool {
     let mut told = ArrayVec::new();
     append_act(&mut told, 0, act);
     told.as_slice() == text.as_bytes()
 }
 
-/// Whether a trace tells these acts so, each by one text.
+/// Whether these acts have these texts in a trace, one each.
 pub(crate) fn are_told(acts: &[Placed], texts: &[&str]) -> bool {
     if acts.len() != texts.len() {
         return false;

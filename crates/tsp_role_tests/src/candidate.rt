@@ -1,4 +1,4 @@
-//! A candidate that leads, one that is refused, one that looks too late, and one that finds a master.
+//! A candidate that becomes master, one that is refused, one that is too late, and one that finds a master.
 
 use crate::acts::are_told;
 use crate::candidate::Step::{Hears, Rings, Stands};
@@ -15,18 +15,18 @@ use tsp_candidate::candidature::begin_candidature;
 use tsp_candidate::ring::candidate_ring;
 use tsp_candidate::take::candidate_take;
 
-/// What a port does, or is told.
+/// What a port does, or hears.
 #[derive(Clone, Copy)]
 enum Step {
     /// It stands for election.
     Stands,
-    /// It looks at its window.
+    /// It looks at its Window alarm.
     Rings,
-    /// A message of this kind and number comes of the other peer, whose name is `b`.
+    /// A message of this kind and number comes from the other peer, whose name is `b`.
     Hears(Kind, u16),
 }
 
-/// A step at a tick, and what a trace tells of it.
+/// A step at a tick, and its acts as texts of a trace.
 type Row = (u32, Step, &'static [&'static str]);
 
 /// The first candidature.
@@ -80,8 +80,8 @@ fn goes(node: &mut Node, tick: u32, step: Step) -> Result<(), AllocError> {
     Ok(())
 }
 
-/// Goes through steps one after the other. The index of the first row that tells something else
-/// than its step does.
+/// Goes through steps one after the other. The index of the first row whose texts aren't those of its step's
+/// acts.
 fn first_wrong(node: &mut Node, rows: &[Row]) -> Result<Option<usize>, AllocError> {
     for (i, (tick, step, acts)) in rows.iter().enumerate() {
         goes(node, *tick, *step)?;
@@ -195,7 +195,7 @@ fn follows_a_master(rt: HostRuntime) -> Result<(), Fail> {
     Ok(())
 }
 
-/// One of two is no majority, and two of two are one.
+/// One of two isn't a majority, and two of two are one.
 #[test]
 fn wins_strictly_with_more_than_half(rt: HostRuntime) -> Result<(), Fail> {
     let mut node = node(rt.alloc(), true)?;

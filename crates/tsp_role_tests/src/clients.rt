@@ -19,7 +19,7 @@ use tsp_slave::follow::follow;
 enum Step {
     /// Which master it knows of.
     Names(u16),
-    /// Whether it leads.
+    /// Whether it is master.
     Says(u16),
     /// That it turns the node's trace on or off.
     Traces(bool, u16),
@@ -29,11 +29,11 @@ enum Step {
     Follows,
     /// It follows nobody.
     Loosens,
-    /// It leads.
+    /// It is master.
     Leads,
 }
 
-/// A step, and what a trace tells of it.
+/// A step, and its acts as texts of a trace.
 type Row = (Step, &'static [&'static str]);
 
 /// Peer 0 of two.
@@ -78,8 +78,8 @@ fn goes(node: &mut Node, tracing: &mut bool, step: Step) -> Result<(), AllocErro
     Ok(())
 }
 
-/// Goes through steps one after the other. The index of the first row that tells something else
-/// than its step does.
+/// Goes through steps one after the other. The index of the first row whose texts aren't those of its step's
+/// acts.
 fn first_wrong(
     node: &mut Node,
     tracing: &mut bool,
@@ -130,7 +130,7 @@ fn turns_the_trace(rt: HostRuntime) -> Result<(), Fail> {
     Ok(())
 }
 
-/// It may stand 300 seconds after its boot.
+/// It may stand for election 300 seconds after its boot.
 #[test]
 fn stands_when_it_is_asked_to(rt: HostRuntime) -> Result<(), Fail> {
     let mut node = node(rt.alloc())?;

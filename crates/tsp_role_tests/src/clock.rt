@@ -8,7 +8,7 @@ use tsp_base::pad::Pad;
 use tsp_base::place::Port;
 use tsp_clock::clock::{Clock, ClockFault};
 
-/// A clock that is booted at tick 0 and shows as much as a clock can.
+/// A clock that boots at tick 0 and shows the greatest value that a clock can.
 fn latest() -> Result<Clock, ClockFault>
     ensures { IfOk result (λ c. c.at ≡ 0) }
 {

@@ -1,4 +1,4 @@
-//! Groups that were worked by hand, and the sweep beside a program that tries every value.
+//! Groups that were worked out by hand, and the sweep compared with a program that tries every value.
 ghost use Rattle.std.specs.Prelude.{◌^◌, ◌<◌, length};
 
 use std::alloc::{AllocError, Global};

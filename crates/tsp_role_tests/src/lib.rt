@@ -1,9 +1,9 @@
-//! Tests of a port's roles, of what it answers to clients, and of what all roles stand on: the
-//! clock and the station.
+//! Tests of a port's roles, of what it answers to clients, and of what all roles use: the clock
+//! and the station.
 //!
-//! They stand apart from the crates that they try, so that each of those is proved once. Each is a
-//! table of steps with what a trace tells of them, and one function for each kind of steps goes
-//! through its tables.
+//! The tests are in a crate of their own, so that each crate that they try is proved once. Most are a
+//! table of steps with their acts as texts of a trace, and one function for each kind of steps
+//! goes through its tables.
 #![tactic(auto)]
 
 #[cfg(test)]

@@ -1,4 +1,4 @@
-//! The worked rows of LOOPs, and their edges.
+//! What a node does with LOOPs, and the edges of that.
 use std::test::Fail;
 use tsp_base::kind::Kind;
 use tsp_base::message::{Body, Message};
@@ -6,7 +6,7 @@ use tsp_base::name::Name;
 use tsp_base::place::Port;
 use tsp_loop::{LoopStep, judge};
 
-/// What a node `g` does with a LOOP on a port, in a letter and the hops with which it goes on.
+/// What a node `g` does with a LOOP on a port, as a letter, and the hops with which it is passed on.
 fn judged(ports: u8, port: u8, number: u16, hops: u8, name: &[u8]) -> (char, u8) {
     let (Ok(own), Ok(name)) = (Name::of(b"g".as_slice()), Name::of(name)) else {
         return ('?', 0);

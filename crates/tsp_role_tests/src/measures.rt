@@ -1,4 +1,4 @@
-//! Exchanges that were worked by hand.
+//! Exchanges that were worked out by hand.
 use std::test::Fail;
 use tsp_base::place::PeerId;
 use tsp_measure::{Exchanges, Reply, Sample, TimedSample};

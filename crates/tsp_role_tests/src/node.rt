@@ -1,4 +1,4 @@
-//! A node with one port, which is handed steps.
+//! A node with one port, step by step.
 ghost use Rattle.std.specs.Prelude.{◌≡◌, IfOk, IfSome};
 ghost use Rattle.std.specs.List.{Contains};
 ghost use Rattle.tsp_acks.specs.Peers.{IsPeers};

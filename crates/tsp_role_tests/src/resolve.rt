@@ -1,4 +1,4 @@
-//! A master that asks who leads too, and sends away who says so.
+//! A master that asks who else is master, and sends away those who say so.
 ghost use Rattle.std.specs.Prelude.{◌≡◌, ◌≤◌, length};
 ghost use Rattle.tsp_base.specs.Pad.{spare_of};
 
@@ -12,12 +12,12 @@ use tsp_base::place::PeerId;
 use tsp_base::role::Role;
 use tsp_resolve::resolve::Resolve;
 
-/// What a port does, or is told.
+/// What a port does, or hears.
 #[derive(Clone, Copy)]
 enum Step {
-    /// It leads.
+    /// It is master.
     Leads,
-    /// It asks at this tick who leads too.
+    /// It asks at this tick who else is master.
     Starts(u32),
     /// The first peer answers that it is a master, where the port is one.
     Answers,
@@ -27,7 +27,7 @@ enum Step {
     Forgets,
 }
 
-/// A step, and what a trace tells of it.
+/// A step, and its acts as texts of a trace.
 type Row = (Step, &'static [&'static str]);
 
 /// The first peer is found to be a rival.
@@ -59,8 +59,8 @@ fn goes(node: &mut Node, resolve: &mut Resolve, step: Step) -> Result<(), AllocE
     Ok(())
 }
 
-/// Lets peer 2 of three go through steps one after the other. The index of the first row that tells
-/// something else than its step does.
+/// Lets peer 2 of three go through steps one after the other. The index of the first row whose texts aren't
+/// those of its step's acts.
 fn first_wrong(alloc: Global, rows: &[Row]) -> Result<Option<usize>, Fail> {
     let mut node = Node::new(alloc, PeerId(2), &[PeerId(1), PeerId(2), PeerId(4)])?;
     let mut resolve = Resolve::new(alloc, node.station.peers())?;

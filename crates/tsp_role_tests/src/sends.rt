@@ -69,7 +69,7 @@ fn sends_are_repeated_and_given_up(rt: HostRuntime) {
     ] {
         assert_eq!(rt; repeat_of(sends.due(after, tick)), again, "at {tick}");
     }
-    // The one was posted three times, and the other one's time is over.
+    // The send to peer 9 was posted three times, and the one to peer 1 began too long ago.
     for (after, tick, peer) in [(Some(PeerId(1)), 3_000_000, 9), (None, 4_000_101, 1)] {
         assert_eq!(rt;
             loss_of(sends.due(after, tick)),

@@ -31,8 +31,8 @@ enum Told {
     Timed(Kind, u16, i64),
 }
 
-/// At this tick the peer at this place tells the port this; what a trace tells of it, and what the
-/// clock shows then.
+/// At this tick the port takes this message of the peer at this place; its acts as texts of a trace, and
+/// what the clock shows then.
 type Row = (u32, usize, Told, &'static [&'static str], i64);
 
 /// What the port does when it begins to follow its master at tick 81,000,000.
@@ -91,8 +91,8 @@ fn takes(node: &mut Node, tick: u64, place: usize, m: &Message) -> Result<(), Al
     Ok(())
 }
 
-/// Hands messages over one after the other. The index of the first row that tells something else
-/// than the node does, or that stands behind a later one.
+/// Lets the port take messages one after the other. The index of the first row whose texts aren't those of
+/// the acts, or whose tick is before that of the row before it.
 fn first_wrong(node: &mut Node, rows: &[Row]) -> Result<Option<usize>, AllocError>
     requires { node.old.clock.at ≤ 0 }
 {

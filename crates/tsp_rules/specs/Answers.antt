@@ -1,4 +1,4 @@
--- What a port answers in a step: its due sends, its due alarms, and then what it is given.
+-- What a port does in a step: its due sends, its due alarms, and then its input.
 use Rattle.std.specs.Prelude.{ℕ, Bool, true, false, not, ◌&&◌}
 use Rattle.tsp_base.specs.declared.act.Act.TheVariants.{Took}
 use Rattle.tsp_base.specs.declared.alarm.Alarm.{Alarm}
@@ -29,7 +29,7 @@ use Rattle.tsp_rules.specs.SendRows.{due_sends}
 use Rattle.tsp_rules.specs.SlaveRows.{quiet_rings, search_rings, elect_rings, slave_takes}
 use Rattle.tsp_rules.specs.Guards.{role_at, follows_at, is_due, is_own, is_heard}
 
--- what a port does where this alarm is due; its close moves the clock where the port leads it, and its round waits for another port's
+-- what a port does where this alarm is due: `own` says whether its Close moves the node's clock, `wait` whether its Round waits for another port's
 unfoldable pub alarm_rings : Bool → Bool → Alarm → Row
 alarm_rings own wait Quiet = quiet_rings
 alarm_rings own wait Search = search_rings
@@ -72,12 +72,12 @@ replies_in p r _ = nothing
 unfoldable pub peer_replies : ReplyValue → PeerId → Row
 peer_replies r p = reading role_at (replies_in p r)
 
--- what only a peer may say, to a port that isn't Starting
+-- a row for peers alone, at a port that isn't Starting
 unfoldable pub from_peer : Place → (PeerId → Row) → Row
 from_peer (Peer p) row = either_by (is_heard p) (row p) nothing
 from_peer Stranger row = nothing
 
--- what is done with this kind of message: some are answered to anybody; a LOOP is its node's matter
+-- what is done with this kind of message: some are answered to anybody; a LOOP is handled by the node and not by its port
 unfoldable pub handles_kind : Bool → Place → MessageValue → Kind → Row
 handles_kind charge from m Msite = names_master from m.number
 handles_kind charge from m MsiteReq = says_master from m.number
@@ -92,31 +92,31 @@ handles_kind charge from m DateAck = from_peer from (date_acked m)
 handles_kind charge from m Loop = nothing
 handles_kind charge from m _ = from_peer from (peer_says m)
 
--- whether a follower passes a correction over, since another port of its node steers the clock
+-- whether a follower ignores a correction, since another port of its node steers the clock
 abbrev pub is_left : Bool → Kind → ℕ → Past → Bool
 is_left steer kind x past = not steer && (is_correction kind && follows_at x past)
 
--- what is done with a datagram that was taken, by a port that steers the clock or doesn't, and is in charge of the date or isn't
+-- what is done with a datagram that was taken: `steer` says whether the port steers the clock, `charge` whether it is in charge of the date
 unfoldable pub handles : Bool → Bool → Place → Taken → Row
 handles steer charge from (Bad fault) = nothing
 handles steer charge from (Good (Message m)) = either_by (is_left steer m.kind) nothing (handles_kind charge from m m.kind)
 handles steer charge from (Good (Stamp (Request word counter))) = replies from word counter
 handles steer charge from (Good (Stamp (Reply r))) = from_peer from (peer_replies r)
 
--- a datagram is taken; what seems to come from the port itself is passed over
+-- a datagram is taken; what seems to come from the port itself is then ignored
 unfoldable pub takes : Bool → Bool → Place → Taken → Row
 takes steer charge from t = puts (Took from t) followed_by either_by (is_own from) nothing (handles steer charge from t)
 
--- what a step is given: nothing but the time, or octets from a sender as they were read
+-- the input of a step: nothing, or octets from a sender as they were read
 pub data Given : Type 0 where
   Turn : Given
   Got : (from : Place) → (taken : Taken) → Given
 
--- the input of a node's only port, which steers and is in charge; a date that it sets ends its round
+-- what a node's only port does with its input: it steers the clock and is in charge of the date; a date that it sets ends its round
 unfoldable pub input_row : Given → Row
 input_row Turn = nothing
 input_row (Got from t) = upsetting (takes true true from t)
 
--- what a node's only port answers
+-- what a node's only port does in a step
 unfoldable pub answers : Given → Row
 answers g = due_sends followed_by (due_alarms followed_by input_row g)

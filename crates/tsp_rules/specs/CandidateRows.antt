@@ -1,4 +1,4 @@
--- What a port does that stands for election.
+-- What a candidate does: a port that stands for election.
 use Rattle.std.specs.Prelude.{ℕ, ◌+◌, ◌*◌, nat_lt, Bool, not, ◌||◌, length}
 use Rattle.tsp_base.specs.declared.act.Act.TheVariants.{Become, Backer, Ring, Late, Acked}
 use Rattle.tsp_base.specs.declared.alarm.Alarm.TheVariants.{Window, Round}
@@ -27,7 +27,7 @@ yields = puts (Become Loose) followed_by arms_elect
 abbrev pub has_won : ℕ → Past → Bool
 has_won x past = not past.strict || nat_lt (length past.peers) (2 * length (backers past.seen) + 2)
 
--- the window ends: the election is won or lost, or nobody looked in time
+-- the window ends: the election is won or lost; it is lost where the alarm is handled late
 unfoldable pub window_rings : Row
 window_rings = either_by (is_in_time Window) (puts (Ring Window) followed_by either_by has_won lead_row yields) (puts (Late Window) followed_by yields)
 
@@ -35,11 +35,11 @@ window_rings = either_by (is_in_time Window) (puts (Ring Window) followed_by eit
 unfoldable pub accepted_by : PeerId → ℕ → Row
 accepted_by p number = either_by (has_election p number) (puts (Acked p) followed_by puts (Backer p)) nothing
 
--- p backs another one
+-- p refuses to back this candidature
 unfoldable pub refused_by : PeerId → ℕ → Row
 refused_by p number = either_by (has_election p number) (puts (Acked p) followed_by yields) nothing
 
--- what a candidate does with this kind of message of a peer: it always holds itself, and so refuses any other
+-- what a candidate does with this kind of message of a peer: it has backed itself, and so refuses any other candidate
 unfoldable pub candidate_takes_kind : PeerId → MessageValue → Kind → Row
 candidate_takes_kind p m MasterUp = follow_row p
 candidate_takes_kind p m MasterAck = follow_row p

@@ -1,4 +1,4 @@
--- What anybody is answered: in the quiet time, at a follower, and at a master.
+-- How anybody's questions are answered: in the quiet time, by a follower, and by a master.
 use Rattle.std.specs.Prelude.{pos, true, false, List, [], ◌∷◌}
 use Rattle.tsp_base.specs.declared.act.Act.TheVariants.{Boot, Post, Become, Back, Arm, Ring, Gave, Trace}
 use Rattle.tsp_base.specs.declared.alarm.Alarm.TheVariants.{Quiet as QuietAlarm, Search, Elect, Window, Round}

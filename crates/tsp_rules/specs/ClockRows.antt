@@ -7,7 +7,7 @@ use Rattle.tsp_base.specs.NodeFacts.{shown}
 use Rattle.tsp_base.specs.Rows.{Row}
 use Rattle.tsp_rules.specs.Guards.{target_at, is_clock_value}
 
--- whether an amount is stepped and not slewed
+-- whether an amount is stepped, not slewed
 abbrev pub is_step : ℤ → Bool
 is_step amount = nat_lt MAXADJ (nat_abs amount)
 
@@ -15,7 +15,7 @@ is_step amount = nat_lt MAXADJ (nat_abs amount)
 abbrev pub can_adjust : ℤ → ℕ → Past → Bool
 can_adjust amount x past = is_clock_value (target_at x past +ℤ amount)
 
--- the clock is moved by an amount: a large one steps the shown value to the new target, any other leaves it for the moment
+-- the clock is moved by an amount: a large one steps the shown value to the new target, any other is slewed from now on
 unfoldable pub adjusts : ℤ → Row
 adjusts amount x past =
     Correct amount (is_step amount) (if is_step amount then target_at x past +ℤ amount else shown (plain past.seen) x) ∷ []

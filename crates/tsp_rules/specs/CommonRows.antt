@@ -28,7 +28,7 @@ arms_elect = reading delay_at (arms Elect)
 unfoldable pub searches : Row
 searches = arms Search WINDOW followed_by posts_to_others MasterReq 0
 
--- the port tells a master that it is followed, and its ticket
+-- the port reports to the master that it follows, with its ticket
 unfoldable pub tells_ticket : PeerId → Row
 tells_ticket p = reading ticket_at (posts p SlaveUp)
 
@@ -50,7 +50,7 @@ unfoldable pub follows_unless : PeerId → Role → Row
 follows_unless p (Follow q) = nothing
 follows_unless p _ = follow_row p
 
--- p quits this port: it is acknowledged, and followed unless the port follows somebody
+-- a QUIT of p: it is acknowledged, and p is followed unless the port follows a master already
 unfoldable pub quits : PeerId → ℕ → Row
 quits p number = puts (Quit p) followed_by (posts p Ack number followed_by reading role_at (follows_unless p))
 
@@ -68,7 +68,7 @@ master_name_in Master own kept = own
 master_name_in (Follow q) own kept = kept
 master_name_in _ own kept = []
 
--- the name of the master that the port knows of: its own where it is master, the kept one where it follows, else none
+-- the name of the master that the port knows of: its own where it is master, that of the followed one where it follows, else the empty name
 abbrev pub master_name : ℕ → Past → List ℕ
 master_name x past = master_name_in (role past.seen) past.name (kept_name past.seen)
 
@@ -76,7 +76,7 @@ master_name x past = master_name_in (role past.seen) past.name (kept_name past.s
 unfoldable pub names_master : Place → ℕ → Row
 names_master from number = reading master_name (λ name. puts (Post from (Message (bare Ack number name))))
 
--- a master says that it is there
+-- a master answers that it is one
 unfoldable pub says_master : Place → ℕ → Row
 says_master from number = either_by is_master_at (posts_back from Ack number) nothing
 
@@ -96,6 +96,6 @@ may_be_asked x past = is_idle (role past.seen) && may_stand_at x past
 abbrev pub is_awake : ℕ → Past → Bool
 is_awake x past = not (is_starting_role (role past.seen))
 
--- somebody asks for an election
+-- somebody asks the port to stand for election
 unfoldable pub tests : Place → ℕ → Row
 tests from number = either_by is_awake (posts_back from Ack number followed_by either_by may_be_asked candidature_row nothing) nothing

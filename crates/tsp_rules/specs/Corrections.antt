@@ -65,7 +65,7 @@ corrected_a =
 abbrev pub fresh_corrected : Past
 fresh_corrected = fresh 0 a_name false (peer 0 ∷ peer 1 ∷ [])
 
--- the rules give the claimed acts at each event, and this is what they come to
+-- the rules give the claimed acts at each event, and lead to these states
 pub record CorrectsOnce : Type 0 where
   pub acts : Answered corrected_a fresh_corrected
   -- one second has slewed 5,000 of the first 10,000 microseconds

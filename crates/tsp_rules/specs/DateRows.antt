@@ -19,7 +19,7 @@ use Rattle.tsp_rules.specs.ClockRows.{sets}
 use Rattle.tsp_rules.specs.SendRows.{begins_timed, is_free, open_at}
 use Rattle.tsp_rules.specs.Guards.{is_clock_value, role_at, table_at}
 
--- whether a follower of q passes a date on: it began no such send for REUSE, and no send to q is open
+-- whether a follower of q passes a date on: it began no such send within REUSE, and no send to q is open
 abbrev pub may_pass_on : PeerId → ℕ → Past → Bool
 may_pass_on q x past = is_past (last_asked past.seen) REUSE x && is_free q x past
 
@@ -27,7 +27,7 @@ may_pass_on q x past = is_past (last_asked past.seen) REUSE x && is_free q x pas
 unfoldable pub passes_on : Place → PeerId → ℕ → ℤ → Row
 passes_on from q number time = either_by (may_pass_on q) (posts_back from Ack number followed_by begins_timed SetDateReq q time) nothing
 
--- whether a correction of p can't come on its way any more, or was acknowledged
+-- whether no correction of p can still be under way: the last one was acknowledged or is long ago
 abbrev pub is_settled : PeerId → ℕ → Past → Bool
 is_settled p x past = is_past (last_post p past.seen) REUSE x || is_acknowledged p past.seen
 
@@ -50,7 +50,7 @@ leaves p = puts (Leave p)
 unfoldable pub leaves_all : Row
 leaves_all = reading table_at (for_each leaves)
 
--- the date is set: the clock steps to it, the sender is answered, and the slaves have to report anew
+-- the date is set: the clock steps to it, the sender is answered, and all slaves leave, so that each has to report again
 unfoldable pub new_date : Place → ℕ → ℤ → Row
 new_date from number time = sets time followed_by (posts_back from DateAck number followed_by (leaves_all followed_by posts_to_others MasterUp 0))
 
@@ -62,7 +62,7 @@ date_in from number time (Follow q) = passes_on from q number time
 date_in from number time Master = sets_date_where from number time
 date_in from number time _ = nothing
 
--- a client sets the date, on a port that is in charge or isn't
+-- a client sets the date; the flag says whether the port is in charge of it
 unfoldable pub date_of : Bool → Place → MessageValue → Row
 date_of true from m = reading role_at (date_in from m.number (time_in m.body))
 date_of false from m = nothing
@@ -86,7 +86,7 @@ unfoldable pub date_request_in : Bool → MessageValue → PeerId → Role → R
 date_request_in charge m p Master = either_by (is_dated p m.number) (posts p DateAck m.number) (sets_in_charge charge p m)
 date_request_in charge m p _ = nothing
 
--- a peer passes a date on: the last one is answered again, another is set by a port that is in charge
+-- a peer passes a date on: a repeat of the last one is answered again; another date is set where the port is in charge
 unfoldable pub date_request_of : Bool → MessageValue → PeerId → Row
 date_request_of charge m p = reading role_at (date_request_in charge m p)
 

@@ -1,4 +1,4 @@
--- A client sets the date by a follower, and it is set once.
+-- A client sets the date through a follower, and it is set once.
 use Rattle.std.specs.Prelude.{pos, negsuc, true, List, [], ◌∷◌, ◌++◌}
 use Rattle.tsp_base.specs.declared.act.Act.TheVariants.{Post, Arm, Join, Leave, Acked, Correct}
 use Rattle.tsp_base.specs.declared.alarm.Alarm.TheVariants.{Elect}

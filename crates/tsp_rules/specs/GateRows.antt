@@ -1,4 +1,4 @@
--- What a node answers in a step, over all its ports: port by port its due sends and its due alarms, and then what it is given.
+-- What a node does in a step, over all its ports: port by port the due sends and due alarms, and then the input.
 use Rattle.std.specs.Prelude.{ℕ, ◌+◌, ◌-◌, ◌==◌, nat_le, nat_lt, Bool, true, false, not, ◌&&◌, ◌||◌, if◌then◌else◌, List, [], ◌∷◌, filter, length, map, is_some}
 use Rattle.tsp_base.specs.declared.act.Act.{Act}
 use Rattle.tsp_base.specs.declared.act.Act.TheVariants.{Become, Boot, Post, Ring, Took}
@@ -80,11 +80,11 @@ in_charge q x past = steers q x past || leads_clock q x past
 abbrev pub waits : Port → ℕ → NodePast → Bool
 waits q x past = any_port (goes_on past) (other_ports q past)
 
--- a LOOP to a peer of port q: with the port's number and the node's name, and all its hops
+-- a LOOP to a peer of port q: with the port's number, the node's name and HOPS hops
 abbrev pub loop_to : Port → List ℕ → PeerId → Act
 loop_to q name p = Post (Peer p) (Message (record { kind = LoopKind; number = q.0; body = Hops HOPS; name = name }))
 
--- a LOOP sets out to each other peer of port q
+-- a LOOP is sent to each other peer of port q
 unfoldable pub sends_loops : Port → Row
 sends_loops q x past = map (loop_to q past.name) (others past.own past.peers)
 
@@ -100,7 +100,7 @@ has_rung _ = false
 abbrev pub is_last_probe : Past → Bool
 is_last_probe past = is_some (deadline (armed past.seen) Close) && not (is_some (deadline (armed past.seen) Probe))
 
--- whether a row's probe rang as the last one of its round, at a node of several ports
+-- whether these acts are those of a round's last Probe, at a node of several ports
 abbrev pub ends_probes : List Act → Past → List PortSetup → Bool
 ends_probes acts past ports = has_rung acts && (is_last_probe past && nat_le 2 (length ports))
 
@@ -158,7 +158,7 @@ pub data LoopStep : Type 0 where
 abbrev pub one_hop_less : MessageValue → MessageValue
 one_hop_less m = record m { body = Hops (hops_in m.body - 1) }
 
--- a LOOP that came back on a higher port than it set out from makes the node give up there; another node's is passed on while it has hops, 10 at most
+-- what is done with a LOOP: an own one on a higher port than it was sent from makes the node give up there; another node's with 1 to 10 hops is passed on
 abbrev pub judge : List ℕ → ℕ → Port → MessageValue → LoopStep
 judge own ports port m =
     if nat_le 2 ports
@@ -180,7 +180,7 @@ is_awake_on past q = not (is_starting_role (role (view q past.lines)))
 unfoldable pub reposts_on : MessageValue → Port → NodeRow
 reposts_on m q x past = if is_awake_on past q then on q (reposts m) x past else []
 
--- a master gives its lead up
+-- a master stops leading
 unfoldable pub loosens_master : Row
 loosens_master = either_by is_master_at yields nothing
 
@@ -208,7 +208,7 @@ heeds_loop q m false = nothing_at_all
 unfoldable pub takes_loop : Port → Place → MessageValue → NodeRow
 takes_loop q from m = on q (puts (Took from (Good (Message m)))) and_then reading_all (hears_on from q) (heeds_loop q m)
 
--- whose rounds a port's correction by such a message ends: a date's its own too
+-- the ports whose rounds a correction by such a message ends: all others, and for a date the port's own too
 abbrev pub stirred_ports : Port → Kind → NodePast → List Port
 stirred_ports q kind past = if sets_date kind then ports_from 0 past.ports else other_ports q past
 
@@ -224,7 +224,7 @@ unfoldable pub takes_on : Port → Place → Taken → NodeRow
 takes_on q from (Good (Message m)) = takes_kind q from m m.kind
 takes_on q from t = on q (takes true true from t)
 
--- what a node's step is given: nothing but the time, or octets from a sender on a port, as they were read
+-- the input of a node's step: nothing, or octets from a sender on a port, as they were read
 pub data NodeGiven : Type 0 where
   NodeTurn : NodeGiven
   GotOn : (q : Port) → (from : Place) → (taken : Taken) → NodeGiven
@@ -233,7 +233,7 @@ unfoldable pub input_all : NodeGiven → NodeRow
 input_all NodeTurn = nothing_at_all
 input_all (GotOn q from t) = takes_on q from t
 
--- what a node answers over its ports
+-- what a node does in a step
 unfoldable pub answers_all : NodeGiven → NodeRow
 answers_all g = reading_all all_ports (for_ports turns_on) and_then input_all g
 

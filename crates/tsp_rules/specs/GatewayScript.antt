@@ -24,14 +24,14 @@ g_name = codes "g"
 abbrev pub h_name : List ℕ
 h_name = codes "h"
 
--- an event: a step, its tick, the row that the node is given, and the acts that are claimed
+-- an event: a step, its tick, the row that is to be checked, and the acts that are claimed of it
 pub record NodeEvent : Type 0 where
   pub step : Step
   pub tick : ℕ
   pub row : NodeRow
   pub acts : List Placed
 
--- the row of each event puts the acts that are claimed
+-- the row of each event puts exactly the claimed acts
 abbrev pub AllAnswered : List NodeEvent → NodePast → Type 0
 AllAnswered [] past = Unit {0}
 AllAnswered (e ∷ later) past = (e.row e.tick (in_node_step e.step e.tick past) ≡ e.acts) × AllAnswered later (spread e.tick (in_node_step e.step e.tick past) e.acts)
@@ -47,11 +47,11 @@ on_1 = placed (record { 0 = 1 })
 abbrev pub boots_node : ℕ → ℕ → ℕ → List Placed → NodeEvent
 boots_node n at word acts = record { step = step at n (Booted word (pos at)); tick = at; row = boots_all; acts = acts }
 
--- its timers are looked at
+-- it looks at its timers
 abbrev pub turns_node : ℕ → ℕ → List Placed → NodeEvent
 turns_node n at acts = record { step = step at n Turned; tick = at; row = answers_all NodeTurn; acts = acts }
 
--- it is handed this message of a peer on a port
+-- it takes this message of a peer on a port
 abbrev pub hands_node : ℕ → ℕ → ℕ → ℕ → MessageValue → List Placed → NodeEvent
 hands_node n at q p m acts = record { step = step at n Handed; tick = at; row = answers_all (GotOn (record { 0 = q }) (Peer (peer p)) (Good (Message m))); acts = record { port = record { 0 = q }; act = Took (Peer (peer p)) (Good (Message m)) } ∷ acts }
 

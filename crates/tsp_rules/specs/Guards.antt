@@ -1,4 +1,4 @@
--- What rows read of a past at a tick.
+-- What rows ask of a past at a tick.
 use Rattle.std.specs.Prelude.{ℕ, ◌+◌, ◌%◌, ◌==◌, nat_le, ℤ, neg_ℤ, int_lt, Bool, true, false, not, ◌&&◌, List, filter, Option, None, Some, is_some}
 use Rattle.tsp_base.specs.declared.alarm.Alarm.{Alarm}
 use Rattle.tsp_base.specs.declared.constants.TheConstants.{LIMIT, SLACK, ELECT_MIN, ELECT_SPREAD}
@@ -74,7 +74,7 @@ may_stand_at x past = past.may && may_stand (held past.seen) x past.own
 abbrev pub table_at : ℕ → Past → List PeerId
 table_at x past = filter (λ p. in_table p past.seen) past.peers
 
--- whether p stands in the slave table
+-- whether p is in the slave table
 abbrev pub is_slave_at : PeerId → ℕ → Past → Bool
 is_slave_at p x past = in_table p past.seen
 
@@ -111,7 +111,7 @@ abbrev pub is_own : Place → ℕ → Past → Bool
 is_own (Peer p) x past = p.0 == past.own.0
 is_own Stranger x past = false
 
--- whether what p says is heard: it is a peer, and the port isn't Starting
+-- whether the port heeds p: it is a peer, and the port isn't Starting
 abbrev pub is_heard : PeerId → ℕ → Past → Bool
 is_heard p x past = is_among p past.peers && not (is_starting_role (role past.seen))
 

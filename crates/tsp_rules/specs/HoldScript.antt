@@ -73,14 +73,14 @@ hold_a =
 abbrev pub fresh_held : Past
 fresh_held = fresh 0 a_name false (peer 0 ∷ peer 1 ∷ peer 2 ∷ [])
 
--- the rules give the claimed acts at each event, and this is what they come to
+-- the rules give the claimed acts at each event, and lead to these states
 pub record HoldsOne : Type 0 where
   pub acts : Answered hold_a fresh_held
-  -- the first candidate is held when the second comes, and the second is backed as soon as the hold is over
+  -- the port still holds the first candidate when the second asks, and backs the second as soon as the hold is over
   pub first : held (after (take 5 hold_a) fresh_held).seen ≡ record { boot = 0; back = Some (90000000, peer 1); quit = None }
   pub second : held (after (take 6 hold_a) fresh_held).seen ≡ record { boot = 0; back = Some (150000000, peer 2); quit = None }
   pub loose : Is (after (take 6 hold_a) fresh_held) Loose 0 150000000 (pos 150000000) (pos 150000000)
-  -- after a boot nothing is remembered, and nobody is answered in the quiet time
+  -- after a boot nothing is remembered, and no candidate is answered in the quiet time
   pub reboots : Is (after hold_a fresh_held) Starting 1 160000000 (pos 160000000) (pos 160000000)
   pub forgets : held (after hold_a fresh_held).seen ≡ record { boot = 151000000; back = None; quit = None }
   pub silent : open_send (peer 1) (after hold_a fresh_held).seen ≡ None

@@ -1,4 +1,4 @@
--- A round that is closed as late as it may be, and one that is too late.
+-- A round that is closed at the last tick that is in time, and one that is closed too late.
 use Rattle.std.specs.Prelude.{pos, true, false, List, [], ◌∷◌, ◌++◌, take}
 use Rattle.tsp_base.specs.declared.act.Act.TheVariants.{Boot, Become, Back, Arm, Ring, Late, Close, Correct, Abandon}
 use Rattle.tsp_base.specs.declared.alarm.Alarm.TheVariants.{Quiet, Search, Elect, Window, Probe, Round, Close as CloseAlarm}
@@ -9,7 +9,7 @@ use Rattle.tsp_rules.specs.Answers.{Turn, answers}
 use Rattle.tsp_rules.specs.CommonRows.{boots}
 use Rattle.tsp_rules.specs.Scripts.{Event, step, a_name, fresh, after, Answered, Is}
 
--- a node alone, whose close is met one second after its deadline
+-- a node alone, whose Close is handled one second after its deadline
 abbrev pub late_close_in_time : List Event
 late_close_in_time =
     record {
@@ -74,7 +74,7 @@ late_close_in_time =
     } ∷
     []
 
--- the same, whose close is met one tick later still
+-- the same, with the Close handled one tick later
 abbrev pub late_close_too_late : List Event
 late_close_too_late = take 9 late_close_in_time ++
     record {
@@ -89,7 +89,7 @@ late_close_too_late = take 9 late_close_in_time ++
 abbrev pub fresh_alone : Past
 fresh_alone = fresh 0 a_name true (peer 0 ∷ [])
 
--- the rules give the claimed acts at each event, and this is what they come to
+-- the rules give the claimed acts at each event, and lead to these states
 pub record ClosesLate : Type 0 where
   pub in_time : Answered late_close_in_time fresh_alone
   pub too_late : Answered late_close_too_late fresh_alone

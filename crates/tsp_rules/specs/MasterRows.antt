@@ -12,15 +12,15 @@ use Rattle.tsp_rules.specs.ResolveRows.{resolves, finds_rival}
 use Rattle.tsp_rules.specs.SendRows.{begins, begins_settime, has_quit, acknowledges}
 use Rattle.tsp_rules.specs.Guards.{is_slave_at}
 
--- whether a number is a ticket, and its sender no slave yet
+-- whether a number is a ticket, and its sender isn't a slave yet
 abbrev pub may_join : PeerId → ℕ → ℕ → Past → Bool
 may_join p number x past = nat_lt number 32768 && not (is_slave_at p x past)
 
--- p joins the slaves and is sent the time, under the number that it told
+-- p joins the slaves and is sent the time, under the number that it reported
 unfoldable pub joins : PeerId → ℕ → Row
 joins p number = either_by (may_join p number) (puts (Join p) followed_by begins_settime p number) nothing
 
--- a candidate is sent away, unless it is being sent away already
+-- a candidate is sent a QUIT, unless one to it is open already
 unfoldable pub sends_away : PeerId → Row
 sends_away p = either_by (has_quit p) nothing (begins Quit p)
 

@@ -24,7 +24,7 @@ pub record NodePast : Type 0 where
   pub step : Step
   pub lines : List Line
 
--- what a port is that the node doesn't have
+-- the setup of a port that the node doesn't have
 abbrev pub no_port : PortSetup
 no_port = record { own = record { 0 = 0 }; peers = [] }
 
@@ -70,7 +70,7 @@ infixr 20 ◌and_then◌
 unfoldable pub ◌and_then◌ : NodeRow → NodeRow → NodeRow
 (r and_then s) x past = r x past ++ s x (spread x past (r x past))
 
--- what is done rests on a fact of the node's past
+-- the row is chosen by a fact of the node's past
 unfoldable pub reading_all : {A : Type 0} → (ℕ → NodePast → A) → (A → NodeRow) → NodeRow
 reading_all fact rows x past = rows (fact x past) x past
 
@@ -83,7 +83,7 @@ for_ports r (q ∷ rest) = r q and_then for_ports r rest
 unfoldable pub abandons_on : Port → NodeRow
 abandons_on q x past = if is_going (view q past.lines) then record { port = q; act = Abandon } ∷ [] else []
 
--- a port's row, after which the round of each of these ports is given up where it has corrected the clock
+-- a port's row; where it has corrected the clock, the round of each of these ports is then given up
 unfoldable pub stirring : Port → List Port → Row → NodeRow
 stirring q others row x past =
     on q row x past ++ (if corrects (row x (on_port q past)) then for_ports abandons_on others x (spread x past (on q row x past)) else [])

@@ -171,15 +171,15 @@ fresh_a = fresh 0 a_name true (peer 0 ∷ peer 1 ∷ [])
 abbrev pub fresh_b : Past
 fresh_b = fresh 1 b_name false (peer 0 ∷ peer 1 ∷ [])
 
--- the rules give the claimed acts at each event, and this is what they come to
+-- the rules give the claimed acts at each event, and lead to these states
 pub record OrdinaryUse : Type 0 where
   pub acts_a : Answered ordinary_use_a fresh_a
   pub acts_b : Answered ordinary_use_b fresh_b
   -- a's SETTIME is open after its seventh event, and not after its eighth
   pub sets : open_send (peer 1) (after (take 7 ordinary_use_a) fresh_a).seen ≡ Some (record { began = 390001000; posts = 1; message = timed SetTime 9 (pos 390001000) a_name })
   pub is_set : open_send (peer 1) (after (take 8 ordinary_use_a) fresh_a).seen ≡ None
-  -- at the end a is 250 behind the true time and b 150; each still shows a part of its correction
+  -- at the end a's target is 250 microseconds behind the true time and b's 150; each clock still has a part of its correction to slew
   pub end_a : Is (after ordinary_use_a fresh_a) Master 1 638000700 (pos 638000450) (pos 638000697)
   pub end_b : Is (after ordinary_use_b fresh_b) (Follow (peer 0)) 11 638000400 (pos 638000250) (pos 638000000)
-  -- 200 ticks later for each microsecond b shows its target
+  -- once 200 ticks have passed for each microsecond of it, b shows its target
   pub slewed_b : Is (after ordinary_use_b fresh_b) (Follow (peer 0)) 11 638050400 (pos 638050250) (pos 638050250)

@@ -1,4 +1,4 @@
--- Two masters, of which one sends the other away, and what the winner is told besides.
+-- Two masters, of which one sends the other away, and what else the winner hears.
 use Rattle.std.specs.Prelude.{pos, true, List, [], ◌∷◌, ◌++◌}
 use Rattle.tsp_base.specs.declared.act.Act.TheVariants.{Boot, Post, Become, Back, Quit, Arm, Ring, Late, Join, Leave, Rival, Acked, Gave}
 use Rattle.tsp_base.specs.declared.alarm.Alarm.TheVariants.{Quiet as QuietAlarm, Search, Elect, Window, Resolve as ResolveAlarm, Round}
@@ -38,7 +38,7 @@ told_master_a =
     turn_at 0 401600001 (Gave (peer 1) ∷ Late ResolveAlarm ∷ []) ∷
     []
 
--- or: the slave acknowledges nothing and leaves; when it reports again no correction may begin yet
+-- or: the slave acknowledges nothing and leaves; when it reports again, no correction is allowed yet
 abbrev pub left_a : List Event
 left_a =
     turn_at 0 400000000 (Gave (peer 1) ∷ Leave (peer 1) ∷ []) ∷

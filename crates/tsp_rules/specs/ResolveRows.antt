@@ -10,7 +10,7 @@ use Rattle.tsp_base.specs.Rows.{Row, nothing, puts, ◌followed_by◌, either_by
 use Rattle.tsp_rules.specs.SendRows.{begins}
 use Rattle.tsp_rules.specs.Guards.{is_in_time, is_armed, is_rival_at, rivals_at}
 
--- a master that may have rivals asks who is one, unless it is asking already
+-- a master asks all peers who else is master, unless it is asking already
 unfoldable pub resolves : Row
 resolves = either_by (is_armed ResolveAlarm) nothing (arms ResolveAlarm WINDOW followed_by posts_to_others Resolve 0)
 

@@ -1,4 +1,4 @@
--- Two masters, of which the one sends the other away.
+-- Two masters, of which one sends the other away.
 use Rattle.std.specs.Prelude.{◌≡◌, pos, true, List, [], ◌∷◌, take, Some, None}
 use Rattle.tsp_base.specs.declared.act.Act.TheVariants.{Boot, Took, Post, Become, Back, Quit, Arm, Ring, Rival, Acked, Gave}
 use Rattle.tsp_base.specs.declared.alarm.Alarm.TheVariants.{Quiet, Search, Elect, Window, Round, Resolve as ResolveAlarm}
@@ -97,7 +97,7 @@ rivals_a =
 abbrev pub fresh_rival : Past
 fresh_rival = fresh 0 a_name true (peer 0 ∷ peer 1 ∷ [])
 
--- the rules give the claimed acts at each event, and this is what they come to
+-- the rules give the claimed acts at each event, and lead to these states
 pub record MeetsRival : Type 0 where
   pub acts : Answered rivals_a fresh_rival
   pub found : is_rival (peer 1) (after (take 7 rivals_a) fresh_rival).seen ≡ true
@@ -106,5 +106,5 @@ pub record MeetsRival : Type 0 where
   pub repeats : open_send (peer 1) (after (take 9 rivals_a) fresh_rival).seen ≡ Some (record { began = 396000000; posts = 2; message = bare QuitKind 32769 a_name })
   pub ends : open_send (peer 1) (after (take 10 rivals_a) fresh_rival).seen ≡ None
   pub leads : Is (after (take 10 rivals_a) fresh_rival) Master 0 397500000 (pos 397500000) (pos 397500000)
-  -- a QUIT taken ends the mastership
+  -- taking a QUIT ends the role of master
   pub follows : Is (after rivals_a fresh_rival) (Follow (peer 1)) 0 398500000 (pos 398500000) (pos 398500000)

@@ -43,13 +43,13 @@ late_a =
     turn_at 0 392000002 (Gave (peer 1) ∷ Gave (peer 2) ∷ Late Window ∷ Become Loose ∷ Arm Elect 692000002 ∷ []) ∷
     []
 
--- node a: what a candidate hears that is followed at once, each after its election began
+-- node a, after its election began: it hears a MASTERUP and follows its sender at once
 abbrev pub meets_master_a : List Event
 meets_master_a =
     hands 0 386500000 (Peer (peer 1)) (Message (bare MasterUp 0 b_name)) (Become (Follow (peer 1)) ∷ Arm Elect 686500000 ∷ Post (Peer (peer 1)) (Message (bare SlaveUp 0 a_name)) ∷ []) ∷
     []
 
--- the same for an answer to a search
+-- the same for a MASTERACK
 abbrev pub finds_master_a : List Event
 finds_master_a =
     hands 0 386500000 (Peer (peer 1)) (Message (bare MasterAck 0 b_name)) (Become (Follow (peer 1)) ∷ Arm Elect 686500000 ∷ Post (Peer (peer 1)) (Message (bare SlaveUp 0 a_name)) ∷ []) ∷

@@ -29,11 +29,11 @@ asks p x past = Post (Peer p) (Stamp (Request (word (plain past.seen)) (asked pa
 unfoldable pub asks_slaves : Row
 asks_slaves = reading table_at (for_each asks)
 
--- a round begins, and the next one is put off
+-- a round begins, and the alarm of the next one is armed
 unfoldable pub round_begins : Row
 round_begins = arms Round ROUND followed_by (arms Probe PROBE followed_by (arms Close CLOSE followed_by (posts_to_others MasterUp 0 followed_by asks_slaves)))
 
--- a round begins, unless it waits for that of another port of the node
+-- a round begins, unless it has to wait for that of another port of the node
 unfoldable pub begins_or_waits : Bool → Row
 begins_or_waits true = arms Round WAIT
 begins_or_waits false = round_begins
@@ -66,7 +66,7 @@ probe_rings = either_by (is_in_time Probe) (puts (Ring Probe) followed_by (asks_
 abbrev pub request_at : PeerId → ℕ → ℕ → Past → Option OpenRequest
 request_at p counter x past = request_open p counter past.seen
 
--- what a reply says of the peer's clock, where its request was posted at this target and the clock's is that one now
+-- the sample that a reply gives: the clock's target was the first value when its request was posted, and is the second now
 abbrev pub sample_of : PeerId → ReplyValue → ℤ → ℤ → Act
 sample_of p r a d = Sample p r.counter (sample_diff a r.reading d) (sample_err a d) r.ticket
 
@@ -86,7 +86,7 @@ pub record Standing : Type 0 where
 abbrev pub standing : List Seen → PeerId → Standing
 standing seen p = record { peer = p; best = estimate p seen }
 
--- what a round has come to: each measured peer with its best sample, ascending
+-- the result of a round: each measured peer with its best sample, ascending
 abbrev pub round_at : ℕ → Past → List Standing
 round_at x past = map (standing past.seen) (measured_at x past)
 
@@ -103,7 +103,7 @@ abbrev pub near_diffs : List Standing → List ℤ
 near_diffs [] = []
 near_diffs (s ∷ rest) = diff_before s.best (near_diffs rest)
 
--- the estimates of a round: none for the own clock, and the differences of the others
+-- the estimates of a round: 0 for the own clock, and the differences of the others
 abbrev pub estimates : List Standing → List ℤ
 estimates round = pos 0 ∷ near_diffs round
 
@@ -138,7 +138,7 @@ closes_with own g round = either_by (can_adjust (mean_by own g))
 unfoldable pub closes : Bool → List Standing → Row
 closes own round = puts (Ring Close) followed_by closes_with own (group_of SPAN (estimates round)) round
 
--- the round is read once, before its first act
+-- a round's Close: the result of the round is taken before the first act
 unfoldable pub close_rings : Bool → Row
 close_rings own = either_by (is_in_time Close) (reading round_at (closes own)) (puts (Late Close) followed_by abandons)
 
@@ -155,6 +155,6 @@ abbrev pub corrects : List Act → Bool
 corrects [] = false
 corrects (a ∷ rest) = is_correct a || corrects rest
 
--- a row, after which the port's own round is given up where it has corrected the clock
+-- a row; where it has corrected the clock, the port's own round is then given up
 unfoldable pub upsetting : Row → Row
 upsetting r x past = r x past ++ (if corrects (r x past) then abandons_going x (grown x past (r x past)) else [])

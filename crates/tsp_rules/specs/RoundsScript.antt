@@ -1,4 +1,4 @@
--- Rounds that end otherwise: with a reply too many, too late, out of reach, without a sample, and at the edge of a clock's range.
+-- Rounds that end otherwise: with a repeated reply, too late, with a clock too far away, without a sample, and at the edge of a clock's range.
 use Rattle.std.specs.Prelude.{pos, true, false, List, [], ◌∷◌, ◌++◌, take}
 use Rattle.tsp_base.specs.declared.act.Act.TheVariants.{Boot, Post, Become, Back, Arm, Ring, Late, Join, Leave, Acked, Gave, Sample, Close, Correct, Abandon}
 use Rattle.tsp_base.specs.declared.alarm.Alarm.TheVariants.{Quiet as QuietAlarm, Search, Elect, Window, Probe, Close as CloseAlarm, Round}
@@ -26,7 +26,7 @@ late_probe_a =
     hands 0 639000002 (Peer (peer 1)) (Stamp (Reply (record { ticket = 10; word = 0; counter = 0; reading = (pos 629999900) }))) [] ∷
     []
 
--- the other clock stands so far away that it is set and not averaged
+-- the other clock is so far away that it is set and not averaged
 abbrev pub far_a : List Event
 far_a =
     hands 0 630000801 (Peer (peer 1)) (Stamp (Reply (record { ticket = 10; word = 0; counter = 0; reading = (pos 1073742454000400) }))) (Sample (peer 1) 0 (pos 1073741824000000) (pos 401) 10 ∷ []) ∷

@@ -1,4 +1,4 @@
--- Runs of one node, written out: what it is given, and the acts that are claimed of it.
+-- Runs of one node, written out: its inputs, and the acts that are claimed of it.
 use Rattle.std.specs.Prelude.{◌≡◌, ℕ, ℤ, Bool, false, List, [], ◌∷◌, ◌++◌, codes}
 use Rattle.tsp_base.specs.declared.act.Act.{Act}
 use Rattle.tsp_base.specs.declared.act.Act.TheVariants.{Took}
@@ -29,7 +29,7 @@ b_name = codes "b"
 abbrev pub c_name : List ℕ
 c_name = codes "c"
 
--- an event: a step, its tick, the row that it is given, and the acts that are claimed
+-- an event: a step, its tick, the row that is to be checked, and the acts that are claimed of it
 pub record Event : Type 0 where
   pub step : Step
   pub tick : ℕ
@@ -40,12 +40,12 @@ pub record Event : Type 0 where
 abbrev pub begun : Event → Past → Past
 begun e past = in_step e.step e.tick past
 
--- the past after some events, oldest first, that put the claimed acts
+-- the past after these events, oldest first, if each puts the claimed acts
 abbrev pub after : List Event → Past → Past
 after [] past = past
 after (e ∷ later) past = after later (grown e.tick (begun e past) e.acts)
 
--- the row of each event puts the acts that are claimed
+-- the row of each event puts exactly the claimed acts
 abbrev pub Answered : List Event → Past → Type 0
 Answered [] past = Unit {0}
 Answered (e ∷ later) past = (e.row e.tick (begun e past) ≡ e.acts) × Answered later (grown e.tick (begun e past) e.acts)
@@ -68,11 +68,11 @@ x_name = codes "x"
 abbrev pub boots_at : ℕ → ℕ → ℕ → ℤ → List Act → Event
 boots_at n at word wall acts = record { step = step at n (Booted word wall); tick = at; row = boots; acts = acts }
 
--- its timers are looked at
+-- it looks at its timers
 abbrev pub turn_at : ℕ → ℕ → List Act → Event
 turn_at n at acts = record { step = step at n Turned; tick = at; row = answers Turn; acts = acts }
 
--- it is handed this datagram as from there, after such acts as are due
+-- it takes this datagram from there, after the first acts, which were due
 abbrev pub hands_late : ℕ → ℕ → List Act → Place → Datagram → List Act → Event
 hands_late n at due from d acts = record { step = step at n Handed; tick = at; row = answers (Got from (Good d)); acts = due ++ Took from (Good d) ∷ acts }
 

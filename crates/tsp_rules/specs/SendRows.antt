@@ -15,7 +15,7 @@ use Rattle.tsp_base.specs.Rows.{Row, nothing, puts, ◌followed_by◌, either_by
 use Rattle.tsp_base.specs.SendFacts.{is_correction, Sending, deadline_of, is_given_up, open_send, begun, last_post, is_acknowledged, last_number}
 use Rattle.tsp_rules.specs.Guards.{target_at, is_in_range, is_slave_at}
 
--- the port's next own number: 32768 and, modulo 32768, the word and the sends that have begun with such numbers
+-- the port's next own number: 32768, plus the word and the number of such sends so far, modulo 32768
 abbrev pub next_number : ℕ → Past → ℕ
 next_number x past = 32768 + (word (plain past.seen) + begun past.seen) % 32768
 
@@ -34,7 +34,7 @@ begins_timed kind p time = reading next_number (λ n. posts_time p kind n time)
 unfoldable pub begins_to_others : Kind → Row
 begins_to_others kind = reading others_at (for_each (begins kind))
 
--- whether a correction with this number may begin to p: none was posted to p lately, or the last one was acknowledged and this is the next number
+-- whether a correction with this number may begin to p: none was posted to p within REUSE, or the last one was acknowledged and this is the next number
 abbrev pub may_correct : PeerId → ℕ → ℕ → Past → Bool
 may_correct p number x past =
     is_past (last_post p past.seen) REUSE x || (is_acknowledged p past.seen && (number == (last_number p past.seen + 1) % 32768))
@@ -74,7 +74,7 @@ answers_election number (Some s) = is_kind_election s.message.kind && (s.message
 abbrev pub has_election : PeerId → ℕ → ℕ → Past → Bool
 has_election p number x past = answers_election number (open_at p x past)
 
--- whether an ACK ends sends of this kind: an ELECTION is ended by its own answers, and so is a date that is passed on
+-- whether an ACK ends sends of this kind: an ELECTION and a date that is passed on have answers of their own
 abbrev pub ends_by_ack : Kind → Bool
 ends_by_ack Election = false
 ends_by_ack SetDateReq = false
@@ -120,7 +120,7 @@ gives_up p kind = puts (Gave p) followed_by leaves_after p kind
 unfoldable pub repeats : PeerId → MessageValue → Row
 repeats p m = puts (Post (Peer p) (Message m))
 
--- a send that is due, without what its end does to the slave table
+-- a send that is due, without the change that its end may make to the slave table
 unfoldable pub repeats_bare_send : PeerId → Option Sending → Row
 repeats_bare_send p None = nothing
 repeats_bare_send p (Some s) = either_by (is_send_due s) (either_by (is_spent s) (puts (Gave p)) (repeats p s.message)) nothing

@@ -1,4 +1,4 @@
--- What a port does that is Loose or follows a master, and what ends the quiet time.
+-- What a slave does: a port that is Loose or follows a master; and how the quiet time ends.
 use Rattle.std.specs.Prelude.{ℕ, ◌==◌, ℤ, Bool, false, ◌&&◌, if◌then◌else◌, Option, None, Some}
 use Rattle.tsp_base.specs.declared.act.Act.TheVariants.{Become, Back, Ring, Late}
 use Rattle.tsp_base.specs.declared.alarm.Alarm.{Alarm}
@@ -21,7 +21,7 @@ use Rattle.tsp_rules.specs.CommonRows.{arms_elect, searches, tells_ticket, follo
 use Rattle.tsp_rules.specs.SendRows.{begins, is_free, acknowledges}
 use Rattle.tsp_rules.specs.Guards.{role_at, is_in_time, is_armed, is_clock_value, may_back_at, may_stand_at, follows_at}
 
--- the quiet time ends, however late
+-- the quiet time ends, however late the alarm is handled
 unfoldable pub quiet_rings : Row
 quiet_rings = puts (Ring Quiet) followed_by (puts (Become Loose) followed_by searches)
 
@@ -37,13 +37,13 @@ search_rings = rings_or_late Search followed_by arms_elect
 unfoldable pub loosens : Row
 loosens = either_by follows_at (puts (Become Loose)) nothing
 
--- nothing was heard of a master for long: the node stands for election where it may, else it searches
+-- no master was heard for the election delay: the node stands for election where it may, else it searches
 unfoldable pub elect_rings : Row
 elect_rings = either_by (is_in_time Elect)
     (puts (Ring Elect) followed_by either_by may_stand_at candidature_row (loosens followed_by searches))
     (puts (Late Elect) followed_by arms_elect)
 
--- a master is heard of beside the one that is followed, who is told
+-- another master is heard than the one that is followed, and reported to that one
 unfoldable pub reports_conflict : PeerId → Row
 reports_conflict q = either_by (is_free q) (begins Conflict q) nothing
 
@@ -62,7 +62,7 @@ unfoldable pub election_of : PeerId → ℕ → Row
 election_of p number =
     either_by (may_back_at p) (puts (Back p) followed_by (arms_elect followed_by posts p Accept number)) (posts p Refuse number)
 
--- whether a correction with this number is the next one, and the last one isn't too near
+-- whether a correction with this number is the next one, and the last one is at least GAP ago
 abbrev pub is_next : ℕ → ℕ → Past → Bool
 is_next number x past = (number == ticket (plain past.seen)) && is_past (correct_tick (plain past.seen)) GAP x
 
@@ -70,7 +70,7 @@ abbrev pub is_by : PeerId → ℕ → Option Correcting → Bool
 is_by p number None = false
 is_by p number (Some c) = (c.from.0 == p.0) && (c.number == number)
 
--- whether the clock's last correction took this number from this peer
+-- whether the clock's last correction was taken from this peer under this number
 abbrev pub is_repeated : PeerId → ℕ → ℕ → Past → Bool
 is_repeated p number x past = is_by p number (last_taken past.seen)
 
@@ -78,7 +78,7 @@ is_repeated p number x past = is_by p number (last_taken past.seen)
 unfoldable pub acks_repeat : PeerId → ℕ → Row
 acks_repeat p number = either_by (is_repeated p number) (posts p Ack number) nothing
 
--- after a correction the master counts as heard, and gets its answer
+-- after a correction the election alarm is armed anew, and the master gets its ACK
 unfoldable pub confirms : PeerId → ℕ → Row
 confirms p number = arms_elect followed_by posts p Ack number
 

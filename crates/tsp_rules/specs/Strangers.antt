@@ -1,4 +1,4 @@
--- Posts to strangers: only what answers one goes to one.
+-- Posts to strangers: a stranger gets answers and nothing else.
 use Rattle.std.specs.Prelude.{◌≡◌, ℕ, Bool, true, false, All}
 use Rattle.tsp_base.specs.declared.act.Act.{Act}
 use Rattle.tsp_base.specs.declared.act.Act.TheVariants.{Post}
@@ -7,12 +7,12 @@ use Rattle.tsp_base.specs.declared.place.Place.TheVariants.{Peer, Stranger}
 use Rattle.tsp_base.specs.History.{Past}
 use Rattle.tsp_rules.specs.Answers.{Given, Turn, Got, answers}
 
--- whether a datagram comes from, or goes to, somebody who isn't among the peers
+-- whether a sender or an addressee isn't among the peers
 abbrev pub is_stranger : Place → Bool
 is_stranger (Peer p) = false
 is_stranger Stranger = true
 
--- whether what a step is given comes from a stranger
+-- whether a step's input comes from a stranger
 abbrev pub is_strange : Given → Bool
 is_strange Turn = false
 is_strange (Got from t) = is_stranger from
@@ -22,6 +22,6 @@ abbrev pub IsKnown : Bool → Act → Type 0
 IsKnown strange (Post Stranger datagram) = strange ≡ true
 IsKnown strange _ = Unit {0}
 
--- a step posts to strangers only where it is given a stranger's datagram
+-- a step posts to strangers only where it takes a stranger's datagram
 abbrev pub StrangersAreAnswered : Type 0
 StrangersAreAnswered = (g : Given) (x : ℕ) (past : Past) → All (IsKnown (is_strange g)) (answers g x past)

@@ -1,4 +1,4 @@
--- Strict elections: a majority wins, half of the peers doesn't.
+-- Strict elections: a majority wins, and half of the peers doesn't.
 use Rattle.std.specs.Prelude.{true, List, [], ◌∷◌, ◌++◌, take}
 use Rattle.tsp_base.specs.declared.act.Act.TheVariants.{Become, Arm, Ring, Gave}
 use Rattle.tsp_base.specs.declared.alarm.Alarm.TheVariants.{Elect, Window}
@@ -9,7 +9,7 @@ use Rattle.tsp_rules.specs.OrdinaryUse.{ordinary_use_a, fresh_a}
 use Rattle.tsp_rules.specs.RivalsScript.{rivals_a, fresh_rival}
 use Rattle.tsp_rules.specs.Scripts.{Event, turn_at, Answered}
 
--- the window of a candidate ends that nobody of two backs but itself
+-- a candidate of two peers, backed by itself alone, when its window ends
 abbrev pub outvoted_a : List Event
 outvoted_a =
     turn_at 0 390000000 (Gave (peer 1) ∷ Ring Window ∷ Become Loose ∷ Arm Elect 690000000 ∷ []) ∷

@@ -1,9 +1,20 @@
-//! The rules of a port as rows: what it does at each alarm and for each datagram. They are
-//! definitions alone, but for [`room::room_for`], which says how much room a step takes.
+//! The rules of the protocol: what a port does at each alarm and for each datagram. A rule is a row, a
+//! definition that gives the acts for a tick and a past. The only code here is [`room::room_for`],
+//! which says how much room a step takes; all other functions are theorems.
 //!
-//! Read `specs/` from the bottom up: a role's file has its rows, `NodeRows` puts them together for
-//! a port, `GateRows` for a node of several. [`worked`] shows them at work, event by event, and
-//! [`strangers`] says to whom nothing is posted unasked.
+//! Where to read in `specs/`:
+//!
+//! | File | What it has |
+//! |---|---|
+//! | `Guards` | what rows ask of a past: the role, the ticket, whether an alarm is due |
+//! | `SlaveRows`, `CandidateRows`, `MasterRows` | a role's answer to each kind of message, and its alarms |
+//! | `RoundRows`, `ResolveRows`, `DateRows` | a master's rounds and rivals, and the network's date |
+//! | `SendRows`, `ClockRows`, `CommonRows` | numbered sends, corrections, and what several roles do |
+//! | `Answers` | a step of a node with one port: due sends, due alarms, then the input |
+//! | `NodeRows`, `GateRows` | the same over all ports of a node |
+//!
+//! [`worked`] has twelve small runs, event by event, with the acts that the rules give, and
+//! [`strangers`] says that nothing is posted to a stranger unasked.
 #![tactic(auto)]
 
 pub mod room;

@@ -2,7 +2,7 @@
 ghost use Rattle.std.specs.Prelude.{◌≡◌, ◌≤◌};
 ghost use Rattle.tsp_rules.specs.Rooms.{room_for};
 
-/// How many acts a step may put on a port of so many peers, at most 1,000.
+/// How many acts a step may put on a port with so many peers, at most 1,000: 24 for each peer and 256 more.
 pub fn room_for(peers: usize) -> usize
     requires { peers ≤ 1000 }
     ensures { result ≡ room_for peers }

@@ -1,4 +1,5 @@
-//! Scripts that the rules are checked against, as laws: none of these functions does anything.
+//! Theorems: small runs, written out, in which the rules give exactly the acts that are claimed. Nothing
+//! here runs.
 ghost use Rattle.tsp_rules.specs.Corrections.{CorrectsOnce};
 ghost use Rattle.tsp_rules.specs.HoldScript.{HoldsOne};
 ghost use Rattle.tsp_rules.specs.LateClose.{ClosesLate};
@@ -17,8 +18,8 @@ pub fn ordinary_use()
     ensures { OrdinaryUse }
 {}
 
-/// A node holds the first of two candidates, backs the second when the hold is over, and forgets
-/// all at a boot.
+/// A node backs the first of two candidates, and the second once its hold of the first is over; at a boot it
+/// forgets both.
 pub fn holds_one()
     ensures { HoldsOne }
 {}
@@ -28,43 +29,43 @@ pub fn meets_rival()
     ensures { MeetsRival }
 {}
 
-/// A close that is a second late still acts, one tick later it doesn't.
+/// A Close that comes one second after its deadline still acts; one tick later it doesn't.
 pub fn closes_late()
     ensures { ClosesLate }
 {}
 
-/// A follower is corrected once by a repeated message, not too soon again, and its clock slews.
+/// A follower takes a repeated correction once, ignores one that comes too soon, and slews its clock.
 pub fn corrects_once()
     ensures { CorrectsOnce }
 {}
 
-/// Anybody is answered, in the quiet time too, as far as the rules say.
+/// Anybody's questions are answered, some of them in the quiet time too.
 pub fn answers_clients()
     ensures { AnswersClients }
 {}
 
-/// A follower tells its master of another one; a candidate gives way; alarms that come late do little.
+/// A follower reports another master to its own, a candidate gives way, and alarms come late.
 pub fn hears_masters()
     ensures { HearsMasters }
 {}
 
-/// Of two masters one sends the other away, and learns of slaves, conflicts and candidates.
+/// Of two masters one sends the other away, and then hears of slaves, conflicts and candidates.
 pub fn resolves_once()
     ensures { ResolvesOnce }
 {}
 
-/// Rounds that end with a reply too many, too late, out of reach, without a sample, or at the edge
-/// of a clock.
+/// Rounds with a repeated reply, a probe that comes too late, a clock too far away to be averaged, a peer that
+/// never answers, and a mean that would take the clock out of its range.
 pub fn closes_otherwise()
     ensures { ClosesOtherwise }
 {}
 
-/// A client sets the date of the network by a follower, and it is set once.
+/// A client sets the network's date through a follower, and it is set once.
 pub fn dates_once()
     ensures { DatesOnce }
 {}
 
-/// A strict election is won by a majority alone.
+/// A strict election is won by a majority, and by half of the peers it isn't.
 pub fn wins_by_majority()
     ensures { WinsByMajority }
 {}

@@ -14,11 +14,11 @@ use Rattle.tsp_promises.specs.Fits.{Alive, TookFits, LineFits, Fits}
 use Rattle.tsp_base.specs.History.{Cause, Booted, Turned, Came, Handed, Step, Deed, Begins, Acts, Did, Line, Seen, Here, of, view, seen_as, is_shared, dids}
 use Rattle.tsp_base.specs.NodeFacts.{time_of, up, up_after}
 use Rattle.tsp_base.specs.Places.{Within}
-use Rattle.tsp_base.specs.PortFacts.{role}
+use Rattle.tsp_base.specs.PortFacts.{role, taken}
 use Rattle.tsp_promises.specs.Setting.{Setting, setup_of}
 use Rattle.tsp_base.specs.Setup.{Setup}
 use Rattle.tsp_base.specs.RoundFacts.{exchange, exchange_after}
-use Rattle.tsp_promises.specs.StepFacts.{StepEnds, is_unbacked, is_unbacked_after, owes, owes_after}
+use Rattle.tsp_promises.specs.StepFacts.{StepEnds, is_unbacked, is_unbacked_after, owes, owes_after, unacknowledged, unacknowledged_after}
 use Rattle.tsp_base.specs.Takings.{posted, posted_after}
 use Rattle.tsp_base.specs.Ticks.{tick_at}
 use Rattle.std.proofs.lemmas.Bool.{cases_lt}
@@ -57,11 +57,12 @@ ActsOn ports (p ∷ rest) = (is_shared (Acts p.act) ≡ false → p.port.0 < por
 record Bystander (seen : List Seen) : Type 0 where
   pub backs : is_unbacked seen ≡ false
   pub owed : owes seen ≡ None
+  pub paid : unacknowledged seen ≡ None
   pub idle : (p : PeerId) (c : ℕ) → exchange p c seen ≡ []
 
 shared-here : (d : Did) (seen : List Seen) → Bystander seen → (deed : Deed) → deed ≡ d.deed → is_shared deed ≡ true → Bystander (Here d ∷ seen)
-shared-here d seen b Begins is e = record { backs = (let i = is in subst (λ k. is_unbacked_after k d.step.node (is_unbacked seen) ≡ false) is refl); owed = subst (λ k. owes_after k (role seen) (owes seen) ≡ None) is refl; idle = λ p c. subst (λ k. exchange_after p c k (Here d ∷ seen) (exchange p c seen) ≡ []) is (b.idle p c) }
-shared-here d seen b (Acts Boot) is e = record { backs = subst (λ k. is_unbacked_after k d.step.node (is_unbacked seen) ≡ false) is b.backs; owed = subst (λ k. owes_after k (role seen) (owes seen) ≡ None) is b.owed; idle = λ p c. subst (λ k. exchange_after p c k (Here d ∷ seen) (exchange p c seen) ≡ []) is refl }
+shared-here d seen b Begins is e = record { backs = (let i = is in subst (λ k. is_unbacked_after k d.step.node (is_unbacked seen) ≡ false) is refl); owed = subst (λ k. owes_after k (role seen) (owes seen) ≡ None) is refl; paid = subst (λ k. unacknowledged_after k (taken seen) (unacknowledged seen) ≡ None) is refl; idle = λ p c. subst (λ k. exchange_after p c k (Here d ∷ seen) (exchange p c seen) ≡ []) is (b.idle p c) }
+shared-here d seen b (Acts Boot) is e = record { backs = subst (λ k. is_unbacked_after k d.step.node (is_unbacked seen) ≡ false) is b.backs; owed = subst (λ k. owes_after k (role seen) (owes seen) ≡ None) is b.owed; paid = subst (λ k. unacknowledged_after k (taken seen) (unacknowledged seen) ≡ None) is b.paid; idle = λ p c. subst (λ k. exchange_after p c k (Here d ∷ seen) (exchange p c seen) ≡ []) is refl }
 shared-here d seen b _ is e = absurd (true≢false (sym e))
 
 or-true : (a : Bool) → (a || true) ≡ true
@@ -69,17 +70,18 @@ or-true true = refl
 or-true false = refl
 
 bystands : (ports : ℕ) (q : Port) → ports ≤ q.0 → (ls : List Line) → AreOn ports ls → Bystander (view q ls)
-bystands ports q past [] f = record { backs = refl; owed = refl; idle = λ p c. refl }
+bystands ports q past [] f = record { backs = refl; owed = refl; paid = refl; idle = λ p c. refl }
 bystands ports q past (l ∷ before) f = by_case (l.port.0 == q.0) refl (is_shared l.did.deed) refl (bystands ports q past before f.1) where
   by_case : (a : Bool) → (l.port.0 == q.0) ≡ a → (b : Bool) → is_shared l.did.deed ≡ b → Bystander (view q before) → Bystander (seen_as (a || b) l.did ∷ view q before)
   by_case a e true i s = subst (λ b. Bystander (seen_as b l.did ∷ view q before)) (sym (or-true a)) (shared-here l.did (view q before) s l.did.deed refl i)
   by_case true e false i s = let same = eqb-true l.port.0 q.0 e in let less = f.0 i in absurd (omega (arith, same, less, past))
-  by_case false e false i s = record { backs = s.backs; owed = s.owed; idle = s.idle }
+  by_case false e false i s = record { backs = s.backs; owed = s.owed; paid = s.paid; idle = s.idle }
 
 bystander_ends : (seen : List Seen) → Bystander seen → StepEnds seen
 bystander_ends seen b = record {
   backs = b.backs;
   follows = λ p e. let o = b.owed in let bad : ⊥ = cc in absurd bad;
+  acknowledged = b.paid;
   exchanges = λ p c request older e. let i = b.idle p c in let bad : ⊥ = cc in absurd bad;
 }
 

@@ -40,7 +40,7 @@ spelled kind letter = kind ∷ 1 ∷ 0 ∷ 0 ∷ 0 ∷ 0 ∷ 0 ∷ 0 ∷ 0 ∷ 0
 abbrev pub spelled_adjtime : ℕ → ℕ → List ℕ
 spelled_adjtime micros letter = 1 ∷ 1 ∷ 0 ∷ 7 ∷ 0 ∷ 0 ∷ 0 ∷ 0 ∷ 0 ∷ 0 ∷ 0 ∷ micros ∷ letter ∷ 0 ∷ []
 
--- g is handed this on a port, as from a node
+-- g takes these octets on a port, and they seem to come from a node
 abbrev pub hands_g : ℕ → ℕ → ℕ → List ℕ → Event
 hands_g at port from octets = Bytes at 0 (record { 0 = port }) (Peer (peer from)) octets
 
@@ -59,7 +59,7 @@ six_events =
 abbrev pub g_line : ℕ → ℕ → ℕ → Option ℕ → Act → Line
 g_line event tick port number act = record { event = event; node = 0; tick = tick; number = number; placed = record { port = record { 0 = port }; act = act } }
 
--- the line of a taking
+-- the line of a Took
 abbrev pub g_takes : ℕ → ℕ → ℕ → ℕ → MessageValue → Line
 g_takes event tick port from m = g_line event tick port None (Took (Peer (peer from)) (Good (Message m)))
 
@@ -67,7 +67,7 @@ g_takes event tick port from m = g_line event tick port None (Took (Peer (peer f
 abbrev pub g_posts : ℕ → ℕ → ℕ → ℕ → ℕ → MessageValue → Line
 g_posts event tick port k to m = g_line event tick port (Some k) (Post (Peer (peer to)) (Message m))
 
--- what is told of it
+-- the lines of its trace
 abbrev pub told_of_six : List Line
 told_of_six =
     g_line 1 0 0 None Boot ∷
@@ -98,7 +98,7 @@ told_of_six =
     g_posts 6 84000000 0 4 1 (bare Ack 7 (codes "g")) ∷
     []
 
--- nothing refuses the six events, they do what is told of them, and an event on a port that g lacks is refused
+-- nothing refuses the six events, their trace has these lines, and an event on a port that g doesn't have is refused
 pub record JoinsTwoNetworks : Type 0 where
   pub valid : Valid two_networks six_events
   pub told_is : told two_networks six_events ≡ told_of_six

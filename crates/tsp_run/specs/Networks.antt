@@ -15,7 +15,7 @@ abbrev pub numbers_below : ℕ → List ℕ
 numbers_below zero = []
 numbers_below (suc n) = numbers_below n ++ n ∷ []
 
--- these networks; where there is none, one of so many nodes
+-- these networks; where there is none, one network of so many nodes
 abbrev pub networks_among : ℕ → List (List ℕ) → List (List ℕ)
 networks_among nodes [] = numbers_below nodes ∷ []
 networks_among nodes (net ∷ rest) = net ∷ rest
@@ -24,7 +24,7 @@ networks_among nodes (net ∷ rest) = net ∷ rest
 abbrev pub networks : HeaderValue → List (List ℕ)
 networks header = networks_among (length header.nodes) header.nets
 
--- the members of a network, as its ports have them as peers
+-- the members of a network, as the peers of a port on it
 abbrev pub peers_on : List ℕ → List PeerId
 peers_on net = map peer_of net
 
@@ -65,7 +65,7 @@ abbrev pub address_of : List (List ℕ) → ℕ → Port → Place → Option Ad
 address_of nets from port (Peer p) = address_at p.0 (port_at p.0 (network_at from port nets) nets)
 address_of nets from port Stranger = None
 
--- how many acts a node puts in a step at the most, by its ports
+-- how many acts a node puts in a step at most, the sum over its ports
 abbrev pub room : List PortSetup → ℕ
 room [] = 0
 room (s ∷ rest) = room_for (length s.peers) + room rest

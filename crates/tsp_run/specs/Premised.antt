@@ -1,4 +1,4 @@
--- What the promises ask, said of the text of a schedule: its header and its events, of which the newest is the first.
+-- The premises of the promises, as statements about the text of a schedule: its header and its events, the newest first.
 use Rattle.std.specs.Prelude.{◌≡◌, ◌≢◌, ◌<◌, ◌≤◌, ℕ, ◌+◌, List, [], ◌∷◌, length, Some, slice_get}
 use Rattle.tsp_base.specs.declared.constants.TheConstants.{LIFE}
 use Rattle.tsp_base.specs.declared.event.Event.{Event}
@@ -13,7 +13,7 @@ use Rattle.tsp_run.specs.Run.{posts, run}
 use Rattle.tsp_run.specs.Setting.{SetBy}
 use Rattle.tsp_run.specs.Setup.{node_line}
 
--- an event hands a node no octets as a peer's
+-- an event isn't octets that seem to come from a peer
 abbrev pub IsSealed : Event → Type 0
 IsSealed (Bytes at node port (Peer p) octets) = ⊥
 IsSealed _ = Unit {0}
@@ -33,12 +33,12 @@ abbrev pub Prompt : HeaderValue → List Event → Type 0
 Prompt header [] = Unit {0}
 Prompt header (e ∷ before) = IsPrompt header before e × Prompt header before
 
--- an event is no boot with this word
+-- an event isn't a boot with this word
 abbrev pub BootsOtherwise : ℕ → Event → Type 0
 BootsOtherwise w (Boot at node word) = word ≢ w
 BootsOtherwise w _ = Unit {0}
 
--- none of these events is
+-- none of these events is a boot with this word
 abbrev pub AllBootOtherwise : ℕ → List Event → Type 0
 AllBootOtherwise w [] = Unit {0}
 AllBootOtherwise w (e ∷ before) = BootsOtherwise w e × AllBootOtherwise w before
@@ -48,7 +48,7 @@ abbrev pub IsApart : Event → List Event → Type 0
 IsApart (Boot at node word) before = AllBootOtherwise word before
 IsApart _ before = Unit {0}
 
--- no two `boot` events have one word
+-- no two `boot` events have the same word
 abbrev pub Apart : List Event → Type 0
 Apart [] = Unit {0}
 Apart (e ∷ before) = IsApart e before × Apart before
@@ -57,7 +57,7 @@ Apart (e ∷ before) = IsApart e before × Apart before
 abbrev pub Short : HeaderValue → List Event → Type 0
 Short header events = length (posts (run header events)) < 32768
 
--- no two nodes of the header have one name
+-- no two nodes of the header have the same name
 abbrev pub NamesDiffer : HeaderValue → Type 0
 NamesDiffer header = (m n : ℕ) → m < length header.nodes → n < length header.nodes → (node_line header m).name ≡ (node_line header n).name → m ≡ n
 
@@ -70,6 +70,6 @@ pub record KeptByText (header : HeaderValue) (events : List Event) : Type 0 wher
   pub few : Short header events → Few (run header events)
   pub names : (setting : Setting) → SetBy header setting → NamesDiffer header → NamesApart setting (run header events)
 
--- whatever the schedule
+-- the same of every schedule
 abbrev pub RunsKeepPremises : Type 0
 RunsKeepPremises = (header : HeaderValue) (events : List Event) → Accepted header events → KeptByText header events

@@ -8,7 +8,7 @@ use Rattle.tsp_promises.specs.Setting.{Setting}
 use Rattle.tsp_promises.specs.Dated.{Dated}
 use Rattle.tsp_promises.specs.Looped.{Looped}
 
--- all that is safe, what is promised of dates and of LOOPs; and where elections are strict, one candidate wins
+-- the history is Safe, and keeps what is promised of dates and of LOOPs; and where elections are strict, each has one winner
 pub record Promises (setting : Setting) (world : List Line) : Type 0 where
   pub safe : Safe setting world
   pub one_winner : setting.strict ≡ true → Honest world → Life world → Few world → OneWinner setting world

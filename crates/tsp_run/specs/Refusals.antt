@@ -1,4 +1,4 @@
--- When an event is refused after a schedule, and for what: the first cause of their order.
+-- When an event is refused after the events before it, and why: the first cause that applies.
 use Rattle.std.specs.Prelude.{◌≡◌, ◌⊎◌, ℕ, ◌+◌, ◌<◌, ◌≤◌, nat_lt, nat_le, ◌||◌, Bool, false, if◌then◌else◌, List, [], ◌∷◌, length, Option, None, Some, slice_get}
 use Rattle.tsp_base.specs.declared.event.Event.{Event}
 use Rattle.tsp_base.specs.declared.event.Event.TheVariants.{Boot, Turn, Take, Bytes}
@@ -15,7 +15,7 @@ use Rattle.tsp_run.specs.declared.address.Address.{Address}
 use Rattle.tsp_run.specs.Networks.{networks, ports_on, room}
 use Rattle.tsp_run.specs.Run.{event_at, goes_to, last_at, posts, run}
 
--- how many events and posts a world has room for
+-- how many events and posts a schedule may have at most
 abbrev pub most_events : ℕ
 most_events = 200000
 
@@ -62,7 +62,7 @@ first_of (Some fault) second = Some fault
 abbrev pub time_back : ℕ → ℕ → Option EventFault
 time_back at last = if nat_lt at last then Some (TimeBack at last) else None
 
--- a number that no node has
+-- a node's number is too high
 abbrev pub unknown : ℕ → ℕ → Option EventFault
 unknown nodes n = if nat_lt n nodes then None else Some (NoNode n nodes)
 
@@ -74,7 +74,7 @@ unknown_place nodes Stranger = None
 abbrev pub port_count : ℕ → List (List ℕ) → ℕ
 port_count n nets = length (ports_on n nets)
 
--- a port that the node lacks
+-- the node doesn't have this port
 abbrev pub lacks_port : Scene → ℕ → Port → Option EventFault
 lacks_port s n port = if nat_lt port.0 (port_count n s.networks) then None else Some (NoNode n s.nodes)
 
@@ -103,17 +103,17 @@ abbrev pub not_up : Scene → Event → Option EventFault
 not_up s (Boot at node word) = None
 not_up s e = down s.up (actor s e)
 
--- the room that a node wants, where one acts
+-- how many acts a node may put, where one acts
 abbrev pub room_at : List (List ℕ) → Option ℕ → Option ℕ
 room_at nets None = None
 room_at nets (Some n) = Some (room (ports_on n nets))
 
--- there is room for no more posts, where a node acts that wants so much
+-- whether a node's step might pass the greatest number of posts
 abbrev pub is_crowded : ℕ → Option ℕ → Bool
 is_crowded posted None = false
 is_crowded posted (Some wanted) = nat_lt most_posts (posted + wanted)
 
--- there is room for no more events, or for no more posts where a node would act
+-- one event more passes the greatest number of events, or the step of its node might pass that of posts
 abbrev pub limit : ℕ → ℕ → Option ℕ → Option EventFault
 limit events posted wanted = if nat_le most_events events || is_crowded posted wanted then Some (Limit events posted) else None
 
@@ -127,18 +127,18 @@ abbrev pub Valid : HeaderValue → List Event → Type 0
 Valid header [] = Unit {0}
 Valid header (e ∷ before) = (refusal (scene header before) e ≡ None) × Valid header before
 
--- this is the cause of a refusal; lack of memory comes last, where there is no other
+-- this is why an event is refused: the first cause, or lack of memory where there is none
 abbrev pub IsRefusal : Option EventFault → EventFault → Type 0
 IsRefusal cause fault = (cause ≡ Some fault) ⊎ ((cause ≡ None) × (fault ≡ OutOfMemory))
 
--- what an event names is there: its node, and the port on which it hands something over
+-- what an event names exists: its node, and the port on which octets come
 abbrev pub Names : Scene → Event → Type 0
 Names s (Boot at node word) = node < s.nodes
 Names s (Turn at node) = node < s.nodes
 Names s (Take at datagram) = Unit {0}
 Names s (Bytes at node port from octets) = (node < s.nodes) × (port.0 < length (ports_on node s.networks))
 
--- what is known where nothing refuses an event
+-- what holds where nothing refuses an event
 pub record Allowed (s : Scene) (e : Event) : Type 0 where
   pub time : s.last ≤ event_at e
   pub events : s.events < most_events

@@ -1,4 +1,4 @@
--- The run of a schedule: what each event makes its node do, and the history and the posts that come of it. A schedule's newest event is its first.
+-- The run of a schedule: what each event makes its node do, and the history and the posts that come of it. Lists of events have the newest first.
 use Rattle.std.specs.Prelude.{ℕ, ◌+◌, pos, ◌+ℤ◌, List, [], ◌∷◌, ◌++◌, length, Option, None, Some, slice_get}
 use Rattle.tsp_base.specs.declared.act.Act.{Act}
 use Rattle.tsp_base.specs.declared.act.Act.TheVariants.{Post}
@@ -79,7 +79,7 @@ steps header history row step =
 abbrev pub boot_step : HeaderValue → ℕ → ℕ → ℕ → Step
 boot_step header at node word = record { at = at; node = node; cause = Booted word ((node_line header node).wall +ℤ pos (tick_at (node_line header node).rate at)) }
 
--- a datagram that reaches a node has its poster as sender, and is what a reader takes from its written spelling
+-- a posted datagram as it reaches a node: its sender is the node that posted it, and its octets are read again
 abbrev pub arrives_at : Posted → Option Address → Option Arrival
 arrives_at p None = None
 arrives_at p (Some a) = Some (record { node = a.node; port = a.port; from = Peer (peer_of p.from); taken = taken_of (canon p.datagram) })
@@ -138,12 +138,12 @@ abbrev pub told_of : ℕ → ℕ → Option Happening → List ToldLine
 told_of event k None = []
 told_of event k (Some h) = told_from event h.step.node h.tick k h.acts
 
--- what the last event of a schedule adds to what is told
+-- the lines that the last event of a schedule adds to the trace
 abbrev pub gained : HeaderValue → List Event → List ToldLine
 gained header [] = []
 gained header (e ∷ before) = told_of (length before + 1) (length (posts (run header before))) (happening header (run header before) e)
 
--- all that is told of a schedule's run, in order: each act, with the numbers of its event and of its post
+-- the lines of the trace of a schedule's run, in order: each act, with the numbers of its event and of its post
 abbrev pub told : HeaderValue → List Event → List ToldLine
 told header [] = []
 told header (e ∷ before) = told header before ++ gained header (e ∷ before)

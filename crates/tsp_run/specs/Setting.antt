@@ -1,4 +1,4 @@
--- What a schedule's run is set in.
+-- The setting of a schedule's run: what the promises need to know of its header.
 use Rattle.std.specs.Prelude.{◌≡◌, ℕ, List, [], ◌∷◌, Option, None, Some, slice_index_or}
 use Rattle.tsp_base.specs.declared.event.Event.{Event}
 use Rattle.tsp_base.specs.declared.place.PeerId.{PeerId}
@@ -17,16 +17,16 @@ abbrev pub named_or : Network → Option ℕ → Network
 named_or alone None = alone
 named_or alone (Some k) = Named k
 
--- the network of a node's port: the header's network that makes it, and nobody else's for a port that the node doesn't have
+-- the network of a node's port; a port that the node doesn't have is alone on a network of its own
 abbrev pub network_of : List (List ℕ) → ℕ → Port → Network
 network_of nets n q = named_or (Alone n q.0) (network_at n q nets)
 
--- who is on it
+-- the members of a network
 abbrev pub members_of : List (List ℕ) → Network → List PeerId
 members_of nets (Named k) = peers_on (slice_index_or nets k [])
 members_of nets (Alone n q) = peer_of n ∷ []
 
--- a setting has the header's drift, rates, walls, names and networks, and elections are as strict as the header says
+-- a setting has the header's drift, rates, wall clocks, names and networks, and elections are strict where the header says so
 pub record SetBy (header : HeaderValue) (setting : Setting) : Type 0 where
   pub rate_is : (n : ℕ) → setting.rate n ≡ (node_line header n).rate
   pub wall_is : (n : ℕ) → setting.wall n ≡ (node_line header n).wall
@@ -44,6 +44,6 @@ RunsFit = (header : HeaderValue) (setting : Setting) (events : List Event) → S
 abbrev pub RunsKeepPromises : Type 0
 RunsKeepPromises = (header : HeaderValue) (setting : Setting) (events : List Event) → SetBy header setting → Accepted header events → Promises setting (run header events)
 
--- every header sets its nodes up somehow
+-- every header has a setting
 abbrev pub EachIsSet : Type 0
 EachIsSet = (header : HeaderValue) → IsHeader header → (setting : Setting) × SetBy header setting

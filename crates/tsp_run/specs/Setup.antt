@@ -6,7 +6,7 @@ use Rattle.tsp_base.specs.History.{Step, Turned, Line, of}
 use Rattle.tsp_rules.specs.NodeRows.{NodePast}
 use Rattle.tsp_run.specs.Networks.{networks, ports_on}
 
--- a node without a name, which stands for a number that no node has
+-- a node without a name, for a number that no node has
 abbrev pub nobody : NodeLine
 nobody = record { name = []; rate = pos 0; wall = pos 0; may = false }
 
@@ -25,6 +25,6 @@ past_of header step history = record {
   lines = of step.node history;
 }
 
--- no step: what a node's past is told with outside of any
+-- an empty step, for a node's past outside of any step
 abbrev pub rests : ℕ → Step
 rests n = record { at = 0; node = n; cause = Turned }

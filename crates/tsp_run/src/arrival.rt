@@ -1,4 +1,4 @@
-//! What a posted datagram brings to a node.
+//! A posted datagram that reaches a node.
 
 use tsp_base::datagram::Taken;
 use tsp_base::place::{Place, Port};
@@ -10,8 +10,8 @@ pub struct Arrival {
     pub node: u32,
     /// Its port on the network of the post.
     pub port: Port,
-    /// Its poster, as the sender.
+    /// Its sender: the node that posted it.
     pub from: Place,
-    /// What its written spelling is read as.
+    /// What the node reads in its octets.
     pub taken: Taken,
 }

@@ -1,4 +1,4 @@
-//! A line of the history, as it is told.
+//! A line of the trace, as values.
 
 use tsp_base::act::Placed;
 
@@ -11,7 +11,7 @@ pub struct Line {
     pub node: u32,
     /// The node's tick.
     pub tick: u64,
-    /// The datagram's number, of a post; from 0, over all nodes.
+    /// The number of the posted datagram, counted from 0 over all nodes; None where the act is no post.
     pub number: Option<u64>,
     /// The act and its port.
     pub placed: Placed,

@@ -1,4 +1,4 @@
--- Reading a schedule line by line: how far a list of lines has come, which line may follow, and why one is refused. By what events are refused is left open.
+-- Reading a schedule line by line: how far it is after a list of lines, which line may come next, and why one is refused. Why events are refused is a parameter.
 use Rattle.std.specs.Prelude.{◌≡◌, ◌⊎◌, ℕ, ◌<◌, ◌==◌, if◌then◌else◌, false, List, [], ◌∷◌, ◌++◌, length, Some, None, codes, decimal, ◌&&◌, not, Bool, true}
 use Rattle.tsp_base.specs.declared.event.Event.{Event}
 use Rattle.tsp_base.specs.declared.event.EventFault.{EventFault}
@@ -12,28 +12,28 @@ use Rattle.tsp_script.specs.declared.head_line.HeadItem.TheVariants.{Title, Drif
 use Rattle.tsp_script.specs.Schedules.{SpellsEvent, SpellsHead}
 use Rattle.tsp_schedule.specs.Refusing.{Refusing}
 
--- how far the lines of a schedule have come; the events are newest first
+-- how far the reading of a schedule is; the events are newest first
 pub data Progress : Type 0 where
   -- no line was read
   Untitled : Progress
   -- the title of this version was read
   Titled : (version : ℕ) → Progress
-  -- the title of the second version and the drift were read: `strict` has to follow
+  -- the title of the second version and the drift were read: `strict` must follow
   Drifted : (drift : ℕ) → Progress
-  -- the header up to some nodes and networks, maybe none, was read
+  -- the header was read up to these nodes and networks, maybe none
   Heading : (header : HeaderValue) → Progress
-  -- the header ended, and these events, one at least, were read
+  -- the header is complete, and these events, at least one, were read
   Running : (header : HeaderValue) → (events : List Event) → Progress
   -- the last line was read
   Ended : (header : HeaderValue) → (events : List Event) → Progress
 
--- a header can take one node more: nodes come before networks
+-- a node may be added to the header: nodes come before networks
 pub record Takes (header : HeaderValue) (node : NodeLine) : Type 0 where
   pub unjoined : header.nets ≡ []
   pub few : length header.nodes < 64
   pub kept : Keeps header.drift node
 
--- a header can take one network more
+-- a network may be added to the header
 pub record TakesNet (header : HeaderValue) (members : List ℕ) : Type 0 where
   pub few : length header.nets < 64
   pub joins : Joins (length header.nodes) header.nets members
@@ -43,25 +43,25 @@ pub record IsComplete (header : HeaderValue) : Type 0 where
   pub some : 0 < length header.nodes
   pub whole : is_whole header ≡ true
 
--- the place of the next line in a header: the third, or a later one; where elections are strict, that was said in the third
+-- the number of the next line of a header: 3 or 4, which means any later one; where elections are strict, the third line said so
 abbrev pub next_place : HeaderValue → ℕ
 next_place header = if length header.nodes == 0 && not header.strict then 3 else 4
 
--- behind the header a line is an event that nothing refuses, or the last
+-- after the header, a line is an event that isn't refused, or the last line
 abbrev pub RunsOn : Refusing → HeaderValue → List Event → List ℕ → Progress → Type 0
 RunsOn refused header events line next =
     ((e : Event) × SpellsEvent line (EventOf e) × (refused header events e ≡ None) × (next ≡ Running header (e ∷ events)))
     ⊎ (SpellsEvent line End × (next ≡ Ended header events))
 
--- a header without nodes, in whose elections a majority is wanted or isn't
+-- a header without nodes; the flag says whether elections are strict
 abbrev pub new_header : ℕ → Bool → HeaderValue
 new_header drift strict = record { drift = drift; strict = strict; nodes = []; nets = [] }
 
--- how far the drift's line brings a schedule of this version
+-- how far a schedule of this version is after the line of its drift
 abbrev pub drifted : ℕ → ℕ → Progress
 drifted version drift = if version == 2 then Drifted drift else Heading (new_header drift false)
 
--- a line may follow, and this is how far it brings the schedule
+-- a line may come next, and this is how far the schedule is after it
 abbrev pub GoesOn : Refusing → Progress → List ℕ → Progress → Type 0
 GoesOn refused Untitled line next = (version : ℕ) × SpellsHead 1 line (Title version) × (next ≡ Titled version)
 GoesOn refused (Titled version) line next = (drift : ℕ) × SpellsHead 2 line (Drift drift) × (next ≡ drifted version drift)
@@ -73,12 +73,12 @@ GoesOn refused (Heading header) line next =
 GoesOn refused (Running header events) line next = RunsOn refused header events line next
 GoesOn refused (Ended header events) line next = ⊥
 
--- these lines, the newest first, bring a schedule so far
+-- after these lines, the newest first, a schedule is so far
 abbrev pub Reaches : Refusing → List (List ℕ) → Progress → Type 0
 Reaches refused [] p = p ≡ Untitled
 Reaches refused (line ∷ before) p = (q : Progress) × Reaches refused before q × GoesOn refused q line p
 
--- the words for a refused event, with the numbers that the fault keeps; a limit has words of its own
+-- the words for a refused event, with the numbers of its fault; a limit has words of its own
 abbrev pub IsCause : EventFault → List ℕ → Type 0
 IsCause (TimeBack a b) words = words ≡ codes "time-back " ++ decimal a ++ codes " " ++ decimal b
 IsCause (NoNode a b) words = words ≡ codes "no-node " ++ decimal a ++ codes " " ++ decimal b
@@ -87,13 +87,13 @@ IsCause (NotUp a) words = words ≡ codes "not-up " ++ decimal a
 IsCause (Limit a b) words = ⊥
 IsCause OutOfMemory words = ⊥
 
--- behind the header a line is refused: it is no event's and not the last, or its event is refused
+-- after the header, a line is refused: it is neither an event nor the last line, or its event is refused
 abbrev pub RefusesRun : Refusing → HeaderValue → List Event → List ℕ → List ℕ → Type 0
 RefusesRun refused header events line cause =
     (((item : EventItem) → SpellsEvent line item → ⊥) × (cause ≡ codes "line"))
     ⊎ ((e : Event) × (fault : EventFault) × SpellsEvent line (EventOf e) × (refused header events e ≡ Some fault) × IsCause fault cause)
 
--- a line of the header is refused: it is none of the header's, or a node or a network that the header can't take, or it ends a header that may not end, or it is a `strict` that comes too late
+-- a line of the header is refused: the grammar doesn't allow it, or it is a node or a network that can't be added, or it ends a header that isn't complete, or it is a `strict` that comes too late
 abbrev pub RefusesHeading : HeaderValue → List ℕ → Type 0
 RefusesHeading header line =
     ((item : HeadItem) → SpellsHead (next_place header) line item → ⊥)
@@ -101,7 +101,7 @@ RefusesHeading header line =
     ⊎ (((members : List ℕ) × SpellsHead (next_place header) line (Net members) × ¬ TakesNet header members)
     ⊎ ((SpellsHead (next_place header) line NotHead × ¬ IsComplete header) ⊎ SpellsHead (next_place header) line Strict)))
 
--- a line may not follow, for this cause
+-- a line is refused for this cause
 abbrev pub Refuses : Refusing → Progress → List ℕ → List ℕ → Type 0
 Refuses refused Untitled line cause = ((version : ℕ) → SpellsHead 1 line (Title version) → ⊥) × (cause ≡ codes "header")
 Refuses refused (Drifted drift) line cause = (SpellsHead 3 line Strict → ⊥) × (cause ≡ codes "header")
@@ -112,11 +112,11 @@ Refuses refused (Heading header) line cause =
 Refuses refused (Running header events) line cause = RefusesRun refused header events line cause
 Refuses refused (Ended header events) line cause = cause ≡ codes "after-end"
 
--- behind the header a line is an event for which there is no room
+-- after the header, a line is an event that passes a limit
 abbrev pub LimitsRun : Refusing → HeaderValue → List Event → List ℕ → Type 0
 LimitsRun refused header events line = (e : Event) × (a : ℕ) × (b : ℕ) × SpellsEvent line (EventOf e) × (refused header events e ≡ Some (Limit a b))
 
--- a line may not follow, since it passes a limit
+-- a line passes a limit
 abbrev pub Limits : Refusing → Progress → List ℕ → Type 0
 Limits refused Untitled line = ⊥
 Limits refused (Titled version) line = ⊥
@@ -125,7 +125,7 @@ Limits refused (Heading header) line = SpellsHead (next_place header) line NotHe
 Limits refused (Running header events) line = LimitsRun refused header events line
 Limits refused (Ended header events) line = ⊥
 
--- the input may not end yet, for this cause: the header may not end, or the last line is missing
+-- the input may not end here, for this cause: the header isn't complete, or the last line is missing
 abbrev pub Lacks : Progress → List ℕ → Type 0
 Lacks Untitled cause = cause ≡ codes "header"
 Lacks (Titled version) cause = cause ≡ codes "header"

@@ -13,7 +13,7 @@ use Rattle.tsp_schedule.specs.Schedules.{Progress, Untitled, Titled, Drifted, He
 use Rattle.tsp_lines.specs.declared.treatment.Stop.{Stop}
 use Rattle.tsp_lines.specs.declared.treatment.Stop.TheVariants.{Bad, Limit, WriteFault, OutOfMemory}
 
--- a stage stands for how far the lines have come
+-- a stage stands for this progress
 abbrev pub StageStands : {C : Type 0} → (HeaderValue → List Event → C → Type 0) → Progress → Stage C → Type 0
 StageStands stands Untitled AtUntitled = Unit {0}
 StageStands stands (Titled version) (AtTitled read) = read ≡ version
@@ -23,47 +23,47 @@ StageStands stands (Running header events) (AtRunning run) = (run.over ≡ false
 StageStands stands (Ended header events) (AtRunning run) = (run.over ≡ true) × stands header events run.course
 StageStands stands _ _ = ⊥
 
--- what the lines behind a header met stands for how far they have come
+-- the part after a header stands for this progress
 abbrev pub RunStands : {C : Type 0} → (HeaderValue → List Event → C → Type 0) → Progress → Run C → Type 0
 RunStands stands p run = StageStands stands p (AtRunning run)
 
--- a line was accepted: this is how far it brings the schedule, and nothing else is
+-- a line was accepted: this is how far the schedule is after it, and no other progress is possible
 pub record Advances {C : Type 0} (refused : Refusing) (stands : HeaderValue → List Event → C → Type 0) (p : Progress) (line : List ℕ) (next : Stage C) : Type 0 where
   pub to : Progress
   pub goes : GoesOn refused p line to
   pub stands_for : StageStands stands to next
   pub only : (other : Progress) → GoesOn refused p line other → other ≡ to
 
--- a line behind the header was accepted
+-- a line after the header was accepted
 abbrev pub RunAdvances : {C : Type 0} → Refusing → (HeaderValue → List Event → C → Type 0) → Progress → List ℕ → Run C → Type 0
 RunAdvances refused stands p line run = Advances refused stands p line (AtRunning run)
 
--- a line was not accepted
+-- a line was refused
 abbrev pub Halts : Refusing → Progress → List ℕ → Stop → Type 0
 Halts refused p line (Bad cause) = Refuses refused p line cause
 Halts refused p line Limit = Limits refused p line
 Halts refused p line WriteFault = ⊥
 Halts refused p line OutOfMemory = Unit {0}
 
--- the stage is where these lines have brought it, whichever way they are read
+-- the stage stands for these lines, however they are read
 abbrev pub Stands : {C : Type 0} → Refusing → (HeaderValue → List Event → C → Type 0) → Stage C → List (List ℕ) → Type 0
 Stands refused stands stage lines = (p : Progress) → Reaches refused (reverse lines) p → StageStands stands p stage
 
--- the first line behind the header was not accepted: the header may not end, or as any line behind it
+-- the first line after the header was refused: the header isn't complete, or for a cause of any later line
 abbrev pub HaltsFirst : Refusing → HeaderValue → List ℕ → Stop → Type 0
 HaltsFirst refused header line (Bad cause) = ((¬ IsComplete header) × (cause ≡ codes "header")) ⊎ (IsComplete header × RefusesRun refused header [] line cause)
 HaltsFirst refused header line Limit = IsComplete header × LimitsRun refused header [] line
 HaltsFirst refused header line WriteFault = ⊥
 HaltsFirst refused header line OutOfMemory = Unit {0}
 
--- a node was not accepted
+-- a node was refused
 abbrev pub HaltsNode : HeaderValue → NodeLine → Stop → Type 0
 HaltsNode header node (Bad cause) = (¬ Takes header node) × (cause ≡ codes "header")
 HaltsNode header node Limit = ⊥
 HaltsNode header node WriteFault = ⊥
 HaltsNode header node OutOfMemory = Unit {0}
 
--- a network was not accepted
+-- a network was refused
 abbrev pub HaltsNet : HeaderValue → List ℕ → Stop → Type 0
 HaltsNet header members (Bad cause) = (¬ TakesNet header members) × (cause ≡ codes "header")
 HaltsNet header members Limit = ⊥
@@ -77,7 +77,7 @@ HaltsEvent refused header events e Limit = (a : ℕ) × (b : ℕ) × (refused he
 HaltsEvent refused header events e WriteFault = ⊥
 HaltsEvent refused header events e OutOfMemory = Unit {0}
 
--- how a refused event stops the reading
+-- why the reading stops at a refused event
 abbrev pub StopsFor : EventFault → Stop → Type 0
 StopsFor (TimeBack a b) (Bad cause) = IsCause (TimeBack a b) cause
 StopsFor (NoNode a b) (Bad cause) = IsCause (NoNode a b) cause

@@ -1,4 +1,4 @@
-//! How a refused event stops the reading of a schedule.
+//! What the fault of a refused event means for the reading of a schedule.
 ghost use Rattle.std.specs.Prelude.{◌≡◌, ◌≢◌, ◌≤◌, ◌+◌, ◌++◌, length, codes, decimal};
 ghost use Rattle.tsp_base.specs.declared.event.EventFault.{EventFault};
 ghost use Rattle.tsp_schedule.specs.Stages.{StopsFor};
@@ -9,7 +9,7 @@ use tsp_lines::cause::Cause;
 use tsp_lines::treatment::Stop;
 use tsp_script::numbers::{append, append_number};
 
-/// How a refused event stops the reading.
+/// Why the reading stops at a refused event: `Bad` with the fault's words, or `Limit`, or out of memory.
 pub(crate) fn stop_of(fault: EventFault) -> Stop
     ensures stops { StopsFor fault result }
     ensures kind { result ≢ Stop.WriteFault }

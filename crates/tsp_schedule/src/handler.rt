@@ -1,4 +1,4 @@
-//! What the events of a schedule meet.
+//! What a command does with the events of a schedule.
 ghost use Rattle.std.specs.Prelude.{◌≡◌, ◌≤◌, List, [], ◌∷◌, length, true, IfOk, OnOk, MatchResult, None};
 ghost use Rattle.tsp_base.specs.Headers.{HeaderValue, is_whole};
 ghost use Rattle.tsp_base.specs.declared.event.Event.{Event};
@@ -10,21 +10,21 @@ use std::alloc::{AllocError, Global};
 use tsp_base::event::{Event, EventFault};
 use tsp_base::header::Header;
 
-/// What the events of a schedule meet, one after the other.
+/// A handler of a schedule's events. It gets the header once, and then one event after the other.
 pub trait EventHandler: Drop {
-    /// By what an event is refused.
+    /// For which cause it refuses an event, if for one.
     ghost refused: { Refusing };
 
-    /// It is where a header and these events, of which the newest is the first, have brought it.
+    /// It stands for this header and these events, the newest first: it is in the state after them.
     ghost stands: { HeaderValue → List Event → Self → Type 0 };
 
-    /// No event has happened. Fails only if out of memory, and then drops the header.
+    /// A handler before the first event. Fails only if out of memory, and then drops the header.
     fn begin(alloc: Global, header: Header) -> Result<Self, AllocError>
         requires some { 1 ≤ length header.nodes }
         requires whole { is_whole header ≡ true }
         ensures { IfOk result (λ course. stands header [] course) };
 
-    /// Lets an event happen, or says for what cause it can't.
+    /// Lets an event happen, or refuses it: with the cause that `refused` gives, or if out of memory.
     fn event(&mut self, e: &Event) -> Result<(), EventFault>
         requires { IsEvent e.now }
         ensures happens { (header : HeaderValue) (events : List Event)

@@ -1,4 +1,4 @@
-//! What the events of a schedule met.
+//! The part of a schedule after its header.
 ghost use Rattle.std.specs.Prelude.{◌≡◌, ◌≢◌, ◌≤◌, ◌<◌, ℕ, List, [], ◌∷◌, length, true, false};
 ghost use Rattle.std.specs.Prelude.{IfOk, MatchOption, MatchResult, None, Err};
 ghost use Rattle.tsp_base.specs.Headers.{HeaderValue, is_whole};
@@ -16,17 +16,17 @@ use tsp_lines::cause::Cause;
 use tsp_lines::treatment::Stop;
 use tsp_script::event_line::{EventItem, event_line};
 
-/// What the lines behind a header met.
+/// The state after the lines that follow a header.
 #[derive(Drop)]
 pub struct Run<C> {
-    /// What the events met.
+    /// The handler of the events.
     pub course: C,
-    /// Whether the last line was read.
+    /// Whether the last line, `end`, was read.
     pub over: bool,
 }
 
 impl<C: EventHandler> Run<C> {
-    /// No line behind the header was read.
+    /// Before the first line after the header. Fails only if out of memory.
     pub(crate) fn begin(alloc: Global, header: Header) -> Result<Run<C>, AllocError>
         requires some { 1 ≤ length header.nodes }
         requires whole { is_whole header ≡ true }
@@ -41,7 +41,7 @@ impl<C: EventHandler> Run<C> {
         }
     }
 
-    /// Reads a line behind the header: an event, or the last line.
+    /// Reads a line after the header: an event, or the last line.
     pub(crate) fn advance(&mut self, line: &[u8]) -> Result<(), Stop>
         ensures next { (p : Progress) → RunStands C.stands p self.old
             → MatchResult result (λ _. RunAdvances C.refused C.stands p line.now self.new)
@@ -54,7 +54,7 @@ impl<C: EventHandler> Run<C> {
         self.go_on(line)
     }
 
-    /// For what cause a line of more than 1,024 octets is refused.
+    /// The cause for which a line of more than 1,024 octets is refused.
     pub(crate) fn refuse_long(&self) -> Cause
         ensures { (p : Progress) → RunStands C.stands p self.now → (line : List ℕ)
             → 1024 < length line → Refuses C.refused p line result }
@@ -65,7 +65,7 @@ impl<C: EventHandler> Run<C> {
         Cause::of(b"line")
     }
 
-    /// Whether the input may end, and else for what cause it may not.
+    /// None where the input may end here, else the cause for which it may not.
     pub(crate) fn lacks(&self) -> Option<Cause>
         ensures { (p : Progress) → RunStands C.stands p self.now
             → MatchOption result (IsEnded p) (Lacks p) }
@@ -76,7 +76,7 @@ impl<C: EventHandler> Run<C> {
         Some(Cause::of(b"no-end"))
     }
 
-    /// Reads a line before the last one was read.
+    /// Reads a line where the last line wasn't read yet.
     fn go_on(&mut self, line: &[u8]) -> Result<(), Stop>
         requires { self.old.over ≡ false }
         ensures next { (header : HeaderValue) (events : List Event)

@@ -1,4 +1,4 @@
-//! How far the reading of a schedule has come.
+//! How far the reading of a schedule is.
 ghost use Rattle.std.specs.Prelude.{◌≡◌, ◌≢◌, ◌<◌, ◌≤◌, ℕ, true, List, [], ◌∷◌, ◌++◌, length, take};
 ghost use Rattle.std.specs.Prelude.{MatchBool, MatchResult, MatchOption, Err, codes};
 ghost use Rattle.tsp_schedule.specs.Schedules.{Progress, Untitled, Titled, Drifted, Heading};
@@ -16,18 +16,18 @@ use tsp_lines::cause::Cause;
 use tsp_lines::treatment::Stop;
 use tsp_script::head_line::{HeadItem, head_line};
 
-/// What was read of a schedule.
+/// How far the reading of a schedule is.
 #[derive(Drop)]
 pub enum Stage<C> {
-    /// Nothing.
+    /// Nothing was read.
     Untitled,
-    /// The title of this version.
+    /// The title was read, and has this version.
     Titled(u32),
-    /// The title of the second version and the drift: `strict` has to follow.
+    /// The title of the second version and the drift were read: `strict` must follow.
     Drifted(Header),
-    /// The header up to some nodes and networks.
+    /// The header was read up to these nodes and networks.
     Heading(Header),
-    /// The header, and at least one line behind it.
+    /// The header was read, and at least one line after it.
     Running(Run<C>),
 }
 
@@ -54,7 +54,7 @@ fn is_net(start: &[u8]) -> bool
     matches!(start, [b'n', b'e', b't', b' ', ..])
 }
 
-/// The place of the next line in a header: the third, or a later one.
+/// The number of the next line of a header: 3, or 4 for any later one.
 fn next_place(header: &Header) -> u32
     ensures { result ≡ next_place header.now }
 {
@@ -73,7 +73,8 @@ fn is_complete(header: &Header) -> bool
 }
 
 impl<C: EventHandler> Stage<C> {
-    /// Reads one line more, or says why it may not follow; after that none is to be read.
+    /// Reads the next line, without its line feed, or says why it is refused. After a refusal no further line must
+    /// be read.
     pub fn advance(&mut self, alloc: Global, line: &[u8]) -> Result<(), Stop>
         ensures next { (p : Progress) → StageStands C.stands p self.old
             → MatchResult result (λ _. Advances C.refused C.stands p line.now self.new)
@@ -92,7 +93,7 @@ impl<C: EventHandler> Stage<C> {
         }
     }
 
-    /// The stage after one line more, or why the line may not follow.
+    /// The stage after the next line, or why the line is refused.
     fn next(self, alloc: Global, line: &[u8]) -> Result<Stage<C>, Stop>
         ensures next { (p : Progress) → StageStands C.stands p self
             → MatchResult result (Advances C.refused C.stands p line.now)
@@ -121,7 +122,7 @@ impl<C: EventHandler> Stage<C> {
         }
     }
 
-    /// Reads the drift behind the title of a version.
+    /// Reads the drift, after the title of this version.
     fn drift(alloc: Global, version: u32, line: &[u8]) -> Result<Stage<C>, Stop>
         ensures next { MatchResult result (Advances C.refused C.stands (Titled version) line.now)
             (Halts C.refused (Titled version) line.now) }
@@ -134,7 +135,7 @@ impl<C: EventHandler> Stage<C> {
         }
     }
 
-    /// The stage behind the drift: in the second version `strict` has to follow.
+    /// The stage after the drift: in the second version `strict` must follow.
     fn drifted(alloc: Global, version: u32, drift: u32) -> Stage<C>
         requires { drift ≤ 1000 }
         ensures { StageStands C.stands (drifted version drift) result }
@@ -148,7 +149,7 @@ impl<C: EventHandler> Stage<C> {
         }
     }
 
-    /// Reads `strict`, as the header says already.
+    /// Reads `strict`, which the header says already.
     fn strict(header: Header, line: &[u8]) -> Result<Stage<C>, Stop>
         ensures next { (drift : ℕ) → header ≡ new_header drift true
             → MatchResult result (Advances C.refused C.stands (Drifted drift) line.now)
@@ -162,8 +163,8 @@ impl<C: EventHandler> Stage<C> {
         }
     }
 
-    /// Reads a line where a node or a network is expected. `strict` stands before the nodes, and
-    /// nodes stand before networks.
+    /// Reads a line where a node or a network is expected. `strict` comes before the nodes, and nodes before
+    /// networks.
     fn head(alloc: Global, header: Header, line: &[u8]) -> Result<Stage<C>, Stop>
         ensures next { MatchResult result (Advances C.refused C.stands (Heading header) line.now)
             (Halts C.refused (Heading header) line.now) }
@@ -210,7 +211,7 @@ impl<C: EventHandler> Stage<C> {
         }
     }
 
-    /// Reads the first line behind the header, which may end where it has a node and is whole.
+    /// Reads the first line after the header, which must be complete: it has a node, and each node has a network.
     fn first(alloc: Global, header: Header, line: &[u8]) -> Result<Stage<C>, Stop>
         ensures next { MatchResult result (λ next. IsComplete header
             × Advances C.refused C.stands (Running header []) line.now next)
@@ -226,7 +227,7 @@ impl<C: EventHandler> Stage<C> {
         }
     }
 
-    /// Reads a line behind the header.
+    /// Reads a line after the header.
     fn behind(mut run: Run<C>, line: &[u8]) -> Result<Stage<C>, Stop>
         ensures next { (p : Progress) → RunStands C.stands p run
             → MatchResult result (Advances C.refused C.stands p line.now)
@@ -239,7 +240,7 @@ impl<C: EventHandler> Stage<C> {
         }
     }
 
-    /// For what cause a line of more than 1,024 octets is refused, of which these are the first 8.
+    /// The cause for which a line of more than 1,024 octets is refused; `start` is its first 8 octets.
     pub fn refuse_long(&self, start: &[u8]) -> Cause
         ensures { (p : Progress) → StageStands C.stands p self.now → (line : List ℕ)
             → 1024 < length line → start.now ≡ take 8 line → Refuses C.refused p line result }
@@ -253,7 +254,7 @@ impl<C: EventHandler> Stage<C> {
         }
     }
 
-    /// For what cause a long line is refused where a node or a network is expected.
+    /// The cause for which a long line is refused where a node or a network is expected.
     fn head_refuses_long(header: &Header, start: &[u8]) -> Cause
         ensures { (line : List ℕ) → 1024 < length line → start.now ≡ take 8 line
             → Refuses C.refused (Heading header.now) line result }
@@ -270,7 +271,7 @@ impl<C: EventHandler> Stage<C> {
         Cause::of(b"line")
     }
 
-    /// Whether the input may end, and else for what cause it may not.
+    /// None where the input may end here, else the cause for which it may not: `header` or `no-end`.
     pub fn lacks(&self) -> Option<Cause>
         ensures { (p : Progress) → StageStands C.stands p self.now
             → MatchOption result (IsEnded p) (Lacks p) }
@@ -284,7 +285,7 @@ impl<C: EventHandler> Stage<C> {
         }
     }
 
-    /// What is missing where the input ends behind a line of the header.
+    /// What is missing where the input ends after a line of the header.
     fn head_lacks(header: &Header) -> Cause
         ensures { Lacks (Heading header.now) result }
     {

@@ -1,4 +1,4 @@
--- Which lines are a trace's, and what each of them tells.
+-- Which lines are a trace's, and the values of each.
 use Rattle.std.specs.Prelude.{◌≡◌, ℕ, ◌<◌, ◌^◌, List}
 use Rattle.std.specs.Int.{w64}
 use Rattle.std.specs.Int.RustNames.{FitsSigned}
@@ -53,7 +53,7 @@ IsAct (Correct amount stepped shown) = FitsSigned w64 amount × FitsSigned w64 s
 IsAct Abandon = Unit {0}
 IsAct (Trace on) = Unit {0}
 
--- a post has its datagram's number; every other act has none, for which 0 stands
+-- the number is right for the act: any number for a post, its datagram's, and 0 for every other act
 abbrev pub IsNumberOf : Act → ℕ → Type 0
 IsNumberOf (Post to d) number = number < 2 ^ 64
 IsNumberOf _ number = number ≡ 0
@@ -75,7 +75,7 @@ pub record IsLine2 (l : Line2) : Type 0 where
 abbrev pub SpellsTrace : List ℕ → Line2 → Type 0
 SpellsTrace line l = IsLine2 l × (line ≡ trace_text l.event l.node l.tick l.number l.placed)
 
--- what reading a line of a trace gives: the values that it spells, or that it spells none
+-- what reading a line of a trace gives: its values, or `Bad` where no values are written so
 abbrev pub ReadsTrace : List ℕ → Result Line2 LineFault → Type 0
 ReadsTrace line (Ok l) = SpellsTrace line l
 ReadsTrace line (Err Bad) = (l : Line2) → SpellsTrace line l → ⊥

@@ -1,4 +1,4 @@
--- The ranges of the parts of a datagram, which each datagram of the program keeps.
+-- The ranges of the parts of a datagram, which each datagram of the program is in.
 use Rattle.std.specs.Prelude.{◌≡◌, ◌^◌, ◌<◌, true}
 use Rattle.hex.specs.Hex.{IsBytes}
 use Rattle.tsp_base.specs.Messages.{MessageValue, body_fits}

@@ -22,27 +22,27 @@ use Rattle.tsp_script.specs.declared.head_line.HeadItem.TheVariants.{Title, Drif
 use Rattle.tsp_script.specs.declared.line_fault.LineFault.{LineFault}
 use Rattle.tsp_script.specs.declared.line_fault.LineFault.TheVariants.{Bad}
 
--- the port behind a node's number: nothing for port 0
+-- the port after a node's number: nothing for port 0
 abbrev pub port_text : Port → List ℕ
 port_text port = if port.0 == 0 then [] else 47 ∷ decimal port.0
 
--- a word behind a node's stroke is this port's: its number, or nothing for port 0
+-- the word after a node's slash is this port's: its number, or nothing for port 0
 abbrev pub NamesPort : List ℕ → Port → Type 0
 NamesPort word port = ((port ≡ record { 0 = 0 }) × (word ≡ [])) ⊎ (word ≡ decimal port.0)
 
--- the line of an event, in which `hex` is the hexadecimal of the octets that a node is handed
+-- the line of an event, in which `hex` is the hexadecimal of the octets of a `bytes`
 abbrev pub event_text : Event → List ℕ → List ℕ
 event_text (Boot at node word) hex = codes "at " ++ decimal at ++ codes " boot " ++ decimal node ++ space ++ decimal word
 event_text (Turn at node) hex = codes "at " ++ decimal at ++ codes " turn " ++ decimal node
 event_text (Take at datagram) hex = codes "at " ++ decimal at ++ codes " take " ++ decimal datagram
 event_text (Bytes at node port from octets) hex = codes "at " ++ decimal at ++ codes " bytes " ++ decimal node ++ port_text port ++ space ++ place_text from ++ space ++ hex
 
--- the octets that a node is handed are what the hexadecimal spells, in either case; other events have none
+-- the octets of a `bytes` are those of this hexadecimal, whose letters may be in either case; for other events it is empty
 abbrev pub IsHexOf : List ℕ → Event → Type 0
 IsHexOf hex (Bytes at node port from octets) = decode_of hex ≡ Ok octets
 IsHexOf hex _ = hex ≡ []
 
--- a peer's number in its range, or nobody's
+-- a peer's number in its range, or a stranger
 abbrev pub IsPlace : Place → Type 0
 IsPlace (Peer p) = p.0 < 2 ^ 32
 IsPlace Stranger = Unit {0}
@@ -51,19 +51,19 @@ IsPlace Stranger = Unit {0}
 abbrev pub IsTrueTime : ℕ → Type 0
 IsTrueTime at = at ≤ 1000000000000000
 
--- an event whose numbers are in their ranges, and which hands 1 to 300 octets
+-- an event whose numbers are in their ranges, and whose octets, if it has them, are 1 to 300
 abbrev pub IsEvent : Event → Type 0
 IsEvent (Boot at node word) = IsTrueTime at × (node < 2 ^ 32) × (word < 2 ^ 64)
 IsEvent (Turn at node) = IsTrueTime at × (node < 2 ^ 32)
 IsEvent (Take at datagram) = IsTrueTime at × (datagram < 2 ^ 64)
 IsEvent (Bytes at node port from octets) = IsTrueTime at × (node < 2 ^ 32) × (port.0 < 2 ^ 8) × IsPlace from × (1 ≤ length octets) × (length octets ≤ 300)
 
--- a line behind the header is an event's, or the last
+-- a line after the header is an event's, or the last
 abbrev pub SpellsEvent : List ℕ → EventItem → Type 0
 SpellsEvent line (EventOf e) = IsEvent e × ((hex : List ℕ) × IsHexOf hex e × (line ≡ event_text e hex))
 SpellsEvent line End = line ≡ codes "end"
 
--- what reading a line behind the header gives: what it spells, or that it spells nothing
+-- what reading a line after the header gives: the event or the end, or `Bad` where it is neither
 abbrev pub ReadsEvent : List ℕ → Result EventItem LineFault → Type 0
 ReadsEvent line (Ok item) = SpellsEvent line item
 ReadsEvent line (Err Bad) = (item : EventItem) → SpellsEvent line item → ⊥
@@ -75,7 +75,7 @@ SpellsRest at verb line (Turn t node) = (t ≡ at) × (verb ≡ codes "turn") ×
 SpellsRest at verb line (Take t datagram) = (t ≡ at) × (verb ≡ codes "take") × (line ≡ decimal datagram)
 SpellsRest at verb line (Bytes t node port from octets) = ⊥
 
--- an octet that may stand in a schedule's name: a letter, a digit, a dot, a dash or a low line
+-- an octet that is allowed in a node's name: a letter, a digit, a dot, a dash or an underscore
 abbrev pub is_host : ℕ → Bool
 is_host c = ((nat_le 97 c && nat_le c 122) || (nat_le 65 c && nat_le c 90)) || ((nat_le 48 c && nat_le c 57) || ((c == 46) || ((c == 45) || (c == 95))))
 
@@ -88,13 +88,13 @@ flag_text false = codes "s"
 abbrev pub node_text : NodeLine → List ℕ
 node_text n = codes "node " ++ n.name ++ space ++ signed_decimal n.rate ++ space ++ signed_decimal n.wall ++ space ++ flag_text n.may
 
--- 1 to 255 octets that may stand in a schedule's name
+-- 1 to 255 octets that are allowed in a node's name
 pub record IsHost (octets : List ℕ) : Type 0 where
   pub some : 1 ≤ length octets
   pub name : IsName octets
   pub all : AllPass is_host octets
 
--- a node's line, whatever the drift is
+-- a node's line that is allowed whatever the drift is
 pub record IsNodeLine (n : NodeLine) : Type 0 where
   pub host : IsHost n.name
   pub rate : nat_abs n.rate ≤ 1000
@@ -113,7 +113,7 @@ joined_text (n ∷ ns) = decimal n ++ numbers_text ns
 abbrev pub net_text : List ℕ → List ℕ
 net_text members = codes "net" ++ numbers_text members
 
--- 1 to 64 numbers in ascending order, whatever the nodes are
+-- 1 to 64 numbers in ascending order: a network's line that is allowed whatever the nodes are
 pub record IsNetLine (members : List ℕ) : Type 0 where
   pub some : 1 ≤ length members
   pub few : length members ≤ 64
@@ -124,7 +124,7 @@ pub record IsNetLine (members : List ℕ) : Type 0 where
 abbrev pub IsTitle : List ℕ → ℕ → Type 0
 IsTitle line version = ((version ≡ 1) × (line ≡ codes "tsp-schedule 1")) ⊎ ((version ≡ 2) × (line ≡ codes "tsp-schedule 2"))
 
--- a line from the third on is no longer the header's: it begins as no node's and no network's, and isn't the third line `strict`
+-- a line from the third on that comes after the header: it begins with neither `node ` nor `net `, and isn't the third line `strict`
 pub record IsNotHead (place : ℕ) (line : List ℕ) : Type 0 where
   pub no_node : (rest : List ℕ) → line ≡ codes "node " ++ rest → ⊥
   pub no_net : (rest : List ℕ) → line ≡ codes "net " ++ rest → ⊥
@@ -139,7 +139,7 @@ SpellsHead place line (Node n) = (3 ≤ place) × IsNodeLine n × (line ≡ node
 SpellsHead place line (Net members) = (3 ≤ place) × IsNetLine members × (line ≡ net_text members)
 SpellsHead place line NotHead = (3 ≤ place) × IsNotHead place line
 
--- what reading a line of the header gives: what it spells, or that it spells nothing
+-- what reading a line of the header gives: its item, or `Bad` where no item is written so
 abbrev pub ReadsHead : ℕ → List ℕ → Result HeadItem LineFault → Type 0
 ReadsHead place line (Ok item) = SpellsHead place line item
 ReadsHead place line (Err Bad) = (item : HeadItem) → SpellsHead place line item → ⊥

@@ -87,7 +87,7 @@ storm_draw posted v =
     if nat_lt v.given v.nodes then as_event (boots_next v)
     else chosen (drawn 8 (moved (moved v))) (v.at + drawn 20001 (moved v)) posted (moved (moved v))
 
--- what it gives where the datagram that it asked for was posted at this time: its take, if that is at most 20,000,000 microseconds back, else a turn
+-- what it gives where the datagram that it asked for was posted at this time: its take, if that is at most 20,000,000 microseconds ago, else a turn
 abbrev pub storm_take : ℕ → ℕ → StormValue → Event × StormValue
 storm_take k time v = if nat_le v.at (time + 20000000) then (Take v.at k, gave v.at v) else turns_one v.at v
 
@@ -106,7 +106,7 @@ abbrev pub IsDraw : ℕ → Draw → Type 0
 IsDraw posted (Gives e) = IsEvent e
 IsDraw posted (Ask k) = k < posted
 
--- how far the time may be: each event moves it by at most 20,000 microseconds, and a question stands for an event that hasn't come
+-- the latest time that may be reached: each event moves it by at most 20,000 microseconds, and a question counts as the event to come
 abbrev pub latest : ℕ → Option ℕ → ℕ
 latest given None = 20000 * given
 latest given (Some k) = 20000 * (given + 1)

@@ -21,7 +21,7 @@ use Rattle.tsp_script.specs.declared.line_fault.LineFault.TheVariants.{Bad}
 abbrev pub space : List ℕ
 space = 32 ∷ []
 
--- an octet that stands for itself in a name: printable, no space and no per cent sign
+-- an octet that is written as itself in a name: printable, no space and no per cent sign
 abbrev pub is_plain : ℕ → Bool
 is_plain c = (nat_lt 32 c && nat_lt c 127) && not (c == 37)
 
@@ -34,7 +34,7 @@ abbrev pub name_text : List ℕ → List ℕ
 name_text [] = 37 ∷ []
 name_text (c ∷ cs) = flat_map escaped (c ∷ cs)
 
--- what a message's text says between the number and the name
+-- what a message's text has between the number and the name
 abbrev pub body_text : Body → List ℕ
 body_text Nothing = []
 body_text (TimeBody t) = signed_decimal t ++ space
@@ -58,7 +58,7 @@ abbrev pub message_text : Datagram → List ℕ
 message_text (Message m) = message_line m
 message_text (StampOf s) = stamp_text s
 
--- what reading a line gives: the datagram in its range that is written so, or that none is
+-- what reading a line gives: the datagram that is written so, or `Bad` where none is
 abbrev pub ReadsMessage : List ℕ → Result Datagram LineFault → Type 0
 ReadsMessage line (Ok d) = IsDatagram d × (line ≡ message_text d)
 ReadsMessage line (Err Bad) = (d : Datagram) → IsDatagram d → line ≡ message_text d → ⊥

@@ -47,12 +47,12 @@ role_text (Follow p) = codes "follow " ++ decimal p.0
 role_text Candidate = codes "candidate"
 role_text Master = codes "master"
 
--- a peer's number, or a dash for somebody else
+-- a peer's number, or a dash for a stranger
 abbrev pub place_text : Place → List ℕ
 place_text (Peer p) = decimal p.0
 place_text Stranger = codes "-"
 
--- what was taken: a message, or the fault of octets that spell none
+-- what was taken: a datagram, or the fault of octets that aren't one
 abbrev pub taken_text : Taken → List ℕ
 taken_text (Good d) = message_text d
 taken_text (Bad f) = codes "refused " ++ fault_word f
@@ -62,7 +62,7 @@ abbrev pub way_word : Bool → List ℕ
 way_word true = codes " step "
 way_word false = codes " slew "
 
--- an act that tells microseconds
+-- an act that has microseconds
 abbrev pub is_measured : Act → Bool
 is_measured (Sample p counter diff err ticket) = true
 is_measured (CloseAct count lo width mean) = true

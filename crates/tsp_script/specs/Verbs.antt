@@ -1,4 +1,4 @@
--- The words that begin an act's text, and what stands behind them.
+-- The words that begin an act's text, and what follows them.
 use Rattle.std.specs.Prelude.{ℕ, Option, None, Some, List, [], ◌∷◌, ◌++◌, Bool, true, false, decimal, codes}
 use Rattle.std.specs.Fmt.{signed_decimal}
 use Rattle.tsp_base.specs.declared.act.Act.{Act}
@@ -59,7 +59,7 @@ verb_of (Correct amount stepped shown) = CorrectWord
 verb_of Abandon = AbandonWord
 verb_of (Trace on) = TraceWord
 
--- the act of a word that tells a peer and nothing else
+-- the act with this word that names a peer and nothing else
 abbrev pub act_of_peer : Verb → PeerId → Option Act
 act_of_peer BackWord p = Some (Back p)
 act_of_peer BackerWord p = Some (Backer p)
@@ -80,7 +80,7 @@ abbrev pub switch_text : Bool → List ℕ
 switch_text true = codes "on"
 switch_text false = codes "off"
 
--- what stands behind an act's word and its space
+-- what follows an act's word and its space
 abbrev pub rest_of_act : ℕ → Act → List ℕ
 rest_of_act number Boot = []
 rest_of_act number (Took from taken) = place_text from ++ 32 ∷ taken_text taken

@@ -1,4 +1,4 @@
-//! What a trace's line and its values are to each other.
+//! Theorems about a trace's lines: writing and reading undo each other. Nothing here runs in the program.
 ghost use Rattle.std.specs.Prelude.{◌≡◌, ◌<◌, ◌^◌, Ok};
 ghost use Rattle.tsp_script.specs.ActLines.{IsAct, IsLine2, IsNumberOf, IsRole, IsTaken};
 ghost use Rattle.tsp_script.specs.Schedules.{IsPlace};
@@ -114,7 +114,8 @@ fn line_in_range(line: &Line2)
     let _tick = line.tick;
 }
 
-/// Writes a trace's line and reads it: the same values come back. The number is 0 for all but a post.
+/// Writes a trace's line and reads it: the same values come back. The number must be 0 for every act but a
+/// post.
 pub fn act_comes_back(line: &Line2) -> Result<Line2, LineFault>
     requires { IsNumberOf line.now.placed.act line.now.number }
     ensures { result ≡ Ok line.now }
@@ -123,7 +124,7 @@ pub fn act_comes_back(line: &Line2) -> Result<Line2, LineFault>
     act_of(act_text(line).as_slice())
 }
 
-/// Values that are written as one line of a trace are one.
+/// Values that are written as the same line of a trace are equal.
 pub fn one_line_one_act(one: &Line2, other: &Line2)
     requires one { IsNumberOf one.now.placed.act one.now.number }
     requires other { IsNumberOf other.now.placed.act other.now.number }

@@ -1,7 +1,7 @@
-//! Reads what stands behind an act's word.
+//! Reads what follows an act's word.
 //!
-//! Each function here reads at least every text that is written; a text may be read too that no act is
-//! written as. `act_of` writes what was read again and compares, so that it reads no other spelling.
+//! Each function here reads every text that is written for an act, and may read others too. `act_of` writes
+//! the result again and compares, so that it accepts only what is written.
 ghost use Rattle.std.specs.Prelude.{◌≡◌, ◌≢◌, ℕ, ◌^◌, ◌<◌, ◌++◌, ◌∷◌, ℤ, Bool, true, false};
 ghost use Rattle.std.specs.Prelude.{decimal, Some, IfSome, IsSomeAnd};
 ghost use Rattle.std.specs.Fmt.{signed_decimal};
@@ -42,7 +42,7 @@ pub(crate) fn read_peer(text: &[u8]) -> Option<PeerId>
     Some(PeerId(number))
 }
 
-/// What was taken, behind the place that it came from.
+/// What was taken; its sender was read before.
 fn taken_of(text: &[u8]) -> Option<Taken>
     ensures reads { (t : Taken) → IsTaken t → text.now ≡ taken_text t → result ≡ Some t }
     ensures range { IfSome result IsTaken }

@@ -20,7 +20,7 @@ use crate::words::{cut, is_same};
 use tsp_base::act::{Act, Placed};
 use tsp_base::place::{PeerId, Port};
 
-/// The act of a peer whose text begins so.
+/// The act with this word that names a peer and nothing else.
 fn peer_act(verb: Verb, peer: PeerId) -> Option<Act>
     ensures act { result ≡ act_of_peer verb peer }
     ensures range { peer.0 < 2 ^ 32 → IfSome result IsSilent }
@@ -38,7 +38,7 @@ fn peer_act(verb: Verb, peer: PeerId) -> Option<Act>
     }
 }
 
-/// The act that posts nothing, whose text begins so and goes on so.
+/// The act, no post, whose text is this word and then `rest`.
 fn read_silent(verb: Verb, rest: &[u8]) -> Option<Act>
     ensures reads { (a : Act) → IsAct a → verb ≢ Verb.Post → verb ≡ verb_of a
         → rest.now ≡ rest_of_act 0 a → result ≡ Some a }
@@ -74,7 +74,7 @@ fn read_act(text: &[u8]) -> Option<(u64, Act)>
     }
 }
 
-/// The number as 8 bits, where it fits.
+/// The number as 8 bits; None where it is above 255.
 fn octet_of(number: u64) -> Option<u8>
     ensures fits { number < 2 ^ 8 → result ≡ Some number }
     ensures same { IfSome result (λ n. (n ≡ number) × (n < 2 ^ 8)) }
@@ -82,7 +82,7 @@ fn octet_of(number: u64) -> Option<u8>
     u8::try_from(number).ok()
 }
 
-/// What a line tells.
+/// The values of a line. It may accept a line that isn't written so.
 fn read_line(line: &[u8]) -> Option<Line2>
     ensures reads { (l : Line2) → SpellsTrace line.now l → result ≡ Some l }
     ensures range { IfSome result IsLine2 }
@@ -107,8 +107,8 @@ fn read_line(line: &[u8]) -> Option<Line2>
     })
 }
 
-/// What a trace's line tells; `Bad` exactly where the line is no trace's. The number is 0 for all but a
-/// post.
+/// The values of a line of a trace; `Bad` exactly where no act is written as this line. `number` is 0 for
+/// every act but a post.
 pub fn act_of(line: &[u8]) -> Result<Line2, LineFault>
     ensures reads { ReadsTrace line.now result }
     ensures one { (l : Line2) → SpellsTrace line.now l → result ≡ Ok l }

@@ -66,7 +66,7 @@ fn append_role(out: &mut ArrayVec<u8, 1024>, role: Role)
     }
 }
 
-/// Writes a peer's number, or a dash for somebody else.
+/// Writes a peer's number, or a dash for a stranger.
 pub fn append_place(out: &mut ArrayVec<u8, 1024>, place: Place)
     requires { array_vec_len out.old + 20 ≤ 1024 }
     ensures text { out.new.items ≡ out.old.items ++ place_text place }
@@ -181,7 +181,7 @@ fn append_correct(out: &mut ArrayVec<u8, 1024>, amount: i64, stepped: bool, show
     append_signed(out, shown);
 }
 
-/// Writes an act, in at most 865 octets; the number is the posted datagram's, and read for a post alone.
+/// Writes an act, in at most 865 octets. `number` is the posted datagram's; for any other act it isn't used.
 pub fn append_act(out: &mut ArrayVec<u8, 1024>, number: u64, act: &Act)
     requires { array_vec_len out.old + 865 ≤ 1024 }
     ensures { out.new.items ≡ out.old.items ++ act_text number act.now }
@@ -209,7 +209,7 @@ pub fn append_act(out: &mut ArrayVec<u8, 1024>, number: u64, act: &Act)
     }
 }
 
-/// Writes an act that tells microseconds: a sample, a close or a correction.
+/// Writes an act that has microseconds: a sample, a close or a correction.
 fn append_measured(out: &mut ArrayVec<u8, 1024>, act: &Act)
     requires measured { is_measured act.now ≡ true }
     requires room { array_vec_len out.old + 111 ≤ 1024 }

@@ -1,4 +1,4 @@
-//! The lines of a schedule behind its header.
+//! The lines of a schedule after its header.
 ghost use Rattle.std.specs.Prelude.{◌≡◌, ◌≢◌, ℕ, ◌^◌, ◌<◌, ◌≤◌, ◌+◌, ◌++◌, ◌∷◌, List, [], length};
 ghost use Rattle.std.specs.Prelude.{decimal, codes, IfSome, IsSomeAnd};
 ghost use Rattle.arrayvec.specs.ArrayVec.{array_vec_len};
@@ -25,7 +25,7 @@ use tsp_base::event::Event;
 use tsp_base::octets::Octets;
 use tsp_base::place::{PeerId, Place, Port};
 
-/// What a line behind the header is.
+/// What a line after the header is.
 #[derive(Drop)]
 pub enum EventItem {
     /// An event.
@@ -34,7 +34,7 @@ pub enum EventItem {
     End,
 }
 
-/// The line of an event; `hex` is the hexadecimal of the octets that a node is handed.
+/// The line of an event; `hex` is the hexadecimal of the octets of a `bytes`, and empty for other events.
 fn event_text(event: &Event, hex: &[u8]) -> ArrayVec<u8, 1024>
     requires { length hex.now ≤ 600 }
     ensures { result.items ≡ event_text event.now hex.now }
@@ -78,7 +78,7 @@ fn append_at(out: &mut ArrayVec<u8, 1024>, at: u64, verb: &[u8], number: u64)
     append_number(out, number);
 }
 
-/// Writes the port behind a node's number: nothing for port 0.
+/// Writes the port that follows a node's number: nothing for port 0, else a slash and its number.
 fn append_port(out: &mut ArrayVec<u8, 1024>, port: Port)
     requires { array_vec_len out.old + 21 ≤ 1024 }
     ensures text { out.new.items ≡ out.old.items ++ port_text port }
@@ -90,8 +90,8 @@ fn append_port(out: &mut ArrayVec<u8, 1024>, port: Port)
     }
 }
 
-/// The node and its port that a word names: `N` is port 0, `N/Q` port Q. A word that ends with a stroke
-/// may be read too.
+/// The node and its port that a word names: `N` is port 0, `N/Q` port Q. It also accepts a word that ends
+/// with a slash; `event_line` refuses that.
 fn node_of(word: &[u8]) -> Option<(u32, Port)>
     ensures reads { (node : ℕ) (port : Port) → node < 2 ^ 32 → port.0 < 2 ^ 8
         → word.now ≡ decimal node ++ port_text port
@@ -118,7 +118,7 @@ fn port_of(word: &[u8]) -> Option<Port>
     Some(Port(port))
 }
 
-/// The place that a word names: a peer's number, or a dash for somebody else.
+/// The place that a word names: a peer's number, or a dash for a stranger.
 pub(crate) fn place_of(word: &[u8]) -> Option<Place>
     ensures reads { (p : Place) → IsPlace p → word.now ≡ place_text p → result ≡ Some p }
     ensures range { IfSome result IsPlace }
@@ -204,7 +204,8 @@ fn read_bytes(at: u64, line: &[u8]) -> Option<(Event, &[u8])>
     ))
 }
 
-/// The 1 to 300 octets that hexadecimal spells, in either case; None where it spells no so many.
+/// The octets of hexadecimal, whose letters may be in either case; None where it isn't hexadecimal, or of
+/// no octet or more than 300.
 fn handed_of(hex: &[u8]) -> Option<Octets>
     ensures found { IfSome result (λ octets. (decode_of hex.now ≡ Ok octets) × (1 ≤ length octets)
         × (length octets ≤ 300) × (length hex.now ≤ 600)) }
@@ -222,7 +223,7 @@ fn handed_of(hex: &[u8]) -> Option<Octets>
     Octets::of(&buffer[..count])
 }
 
-/// Reads an event's line, and gives its hexadecimal too: none but for `bytes`.
+/// Reads an event's line, and gives its hexadecimal too, which is empty but for `bytes`.
 fn read_event(line: &[u8]) -> Option<(Event, &[u8])>
     ensures reads { (e : Event) (hex : List ℕ) → IsEvent e → IsHexOf hex e
         → line.now ≡ event_text e hex → IsSomeAnd result (λ r. (r.0 ≡ e) × (r.1.now ≡ hex)) }
@@ -256,7 +257,7 @@ fn read_numbers(at: u64, verb: &[u8], line: &[u8]) -> Option<Event>
     }
 }
 
-/// What a line behind the header is; `Bad` exactly where it is no event's and not the last.
+/// A line after the header: an event, or `end`. `Bad` exactly where it is neither.
 pub fn event_line(line: &[u8]) -> Result<EventItem, LineFault>
     ensures reads { ReadsEvent line.now result }
     ensures one { (item : EventItem) → SpellsEvent line.now item → result ≡ Ok item }
@@ -270,10 +271,17 @@ pub fn event_line(line: &[u8]) -> Result<EventItem, LineFault>
     }
 }
 
+<<<<<<< HEAD
 /// The event of a line as most are: a turn, a take, or octets on port 0. None too where the line is
 /// another event's.
 fn common_event(line: &[u8]) -> Option<EventItem>
     ensures { IfSome result (λ item. SpellsEvent line.now item) }
+=======
+/// The event of the most frequent lines: a turn, a take, or octets on port 0. None says nothing: the line
+/// may be another event's.
+fn common_event(line: &[u8]) -> Option<Event>
+    ensures { IfSome result (λ e. SpellsEvent line.now (EventItem.Event e)) }
+>>>>>>> 23ce1c31998ef6047335346d9f5c3fc3513b7013
 {
     let line = after(line, b"at ")?;
     let (at, line) = front_number(line)?;
@@ -311,7 +319,7 @@ fn common_bytes(at: u64, line: &[u8]) -> Option<EventItem>
     }))
 }
 
-/// The place that stands before the first space, and what follows the space.
+/// The place before the first space, and what follows the space.
 fn front_place(line: &[u8]) -> Option<(Place, &[u8])>
     ensures { IfSome result (λ r. IsPlace r.0 × (line.now ≡ place_text r.0 ++ 32 ∷ r.1.now)) }
 {
@@ -323,7 +331,7 @@ fn front_place(line: &[u8]) -> Option<(Place, &[u8])>
     Some((Place::Peer(PeerId(number)), rest))
 }
 
-/// The event of a line of any kind, which is written again and compared.
+/// The event of any line. What was read is written again and compared, so that only written lines pass.
 fn any_event(line: &[u8]) -> Result<EventItem, LineFault>
     requires { line.now ≢ codes "end" }
     ensures reads { ReadsEvent line.now result }

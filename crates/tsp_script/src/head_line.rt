@@ -22,7 +22,7 @@ use tsp_base::name::Name;
 /// What a line of the header is.
 #[derive(Drop)]
 pub enum HeadItem {
-    /// The first line, with the version of the form: 1, or 2 where the third line is `strict`.
+    /// The first line, with the version of the format: 1, or 2 where the third line is `strict`.
     Title(u32),
     /// The second line, with the drift in parts in a million, at most 1,000.
     Drift(u32),
@@ -32,18 +32,18 @@ pub enum HeadItem {
     Node(NodeLine),
     /// A network's line.
     Net(Members),
-    /// The line is no longer the header's.
+    /// The line comes after the header.
     NotHead,
 }
 
-/// Whether an octet may stand in a schedule's name.
+/// Whether an octet is allowed in a node's name: a letter, a digit, a dot, a dash or an underscore.
 fn is_host(octet: u8) -> bool
     ensures { result ≡ is_host octet }
 {
     matches!(octet, b'a'..=b'z' | b'A'..=b'Z' | b'0'..=b'9' | b'.' | b'-' | b'_')
 }
 
-/// The name that a word of 1 to 255 letters, digits, dots, dashes and low lines is.
+/// The word as a name; None where it isn't 1 to 255 letters, digits, dots, dashes and underscores.
 pub fn host_of(word: &[u8]) -> Option<Name>
     ensures reads { IsHost word.now → result ≡ Some word.now }
     ensures same { IfSome result (λ name. name ≡ word.now) }
@@ -66,7 +66,7 @@ fn rate_of(rate: i64) -> Option<i32>
     i32::try_from(rate).ok()
 }
 
-/// Whether a node may be master.
+/// Whether a node may be master: `m` says yes, `s` no; None for any other word.
 fn flag_of(word: &[u8]) -> Option<bool>
     ensures { (may : Bool) → word.now ≡ flag_text may → result ≡ Some may }
 {
@@ -101,7 +101,7 @@ fn read_node(line: &[u8]) -> Option<NodeLine>
     })
 }
 
-/// The word that says whether a node may be master.
+/// The word that says whether a node may be master: `m` or `s`.
 fn flag_word(may: bool) -> &'static [u8]
     ensures word { result.now ≡ flag_text may }
     ensures short { length result.now ≤ 1 }
@@ -123,7 +123,7 @@ fn node_text(node: &NodeLine) -> ArrayVec<u8, 1024>
     out
 }
 
-/// What follows this beginning in a line that has it.
+/// What follows `front` in a line that begins with it; None where the line doesn't.
 pub(crate) fn after<'a>(line: &'a [u8], front: &[u8]) -> Option<&'a [u8]>
     ensures { MatchOption result ((rest : List ℕ) → line.now ≡ front.now ++ rest
         → ⊥) (λ r. line.now ≡ front.now ++ r.now) }
@@ -162,7 +162,7 @@ fn is_drift(line: &[u8], drift: u64) -> bool
     is_same(line, out.as_slice())
 }
 
-/// What a line is that begins as a node's.
+/// What a line is that begins with `node `.
 fn node_line(line: &[u8], rest: &[u8]) -> Result<HeadItem, LineFault>
     requires { line.now ≡ codes "node " ++ rest.now }
     ensures reads { ReadsHead 4 line.now result }
@@ -203,9 +203,9 @@ fn third_line(line: &[u8]) -> Result<HeadItem, LineFault>
     later_line(line)
 }
 
-/// What a line of the header is; `place` is its number, from 1. `Bad` exactly where the line isn't in
-/// the grammar of its place. A line from the third on that begins with neither `node ` nor `net `, and
-/// isn't `strict` in the third place, is `NotHead`.
+/// What a line of the header is; `place` is its number, from 1. `Bad` comes exactly where the grammar doesn't
+/// allow the line at this place. A line from the third on that begins with neither `node ` nor `net `, and
+/// isn't the third line `strict`, is `NotHead`.
 pub fn head_line(line: &[u8], place: u32) -> Result<HeadItem, LineFault>
     ensures reads { ReadsHead place line.now result }
     ensures one { (item : HeadItem) → SpellsHead place line.now item → result ≡ Ok item }

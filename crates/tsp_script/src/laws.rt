@@ -1,4 +1,4 @@
-//! What a message's line and its datagram are to each other.
+//! Theorems about message lines: writing and reading undo each other. Nothing here runs in the program.
 ghost use Rattle.std.specs.Prelude.{◌≡◌};
 ghost use Rattle.tsp_script.specs.Texts.{message_text};
 
@@ -14,7 +14,7 @@ pub fn comes_back(datagram: &Datagram) -> Result<Datagram, LineFault>
     message_of(message_text(datagram).as_slice())
 }
 
-/// Datagrams that are written as one line are one.
+/// Datagrams that are written as the same line are equal.
 pub fn one_line_one_datagram(one: &Datagram, other: &Datagram)
     requires { message_text one.now ≡ message_text other.now }
     ensures { one.now ≡ other.now }

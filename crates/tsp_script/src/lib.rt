@@ -1,10 +1,27 @@
 //! The texts: schedule lines, message lines and trace lines.
 //!
-//! Each text has a writer and a reader that take it back, and one spelling:
-//! [`messages::message_text`] and [`message_reader::message_of`] for messages, [`trace::act_text`]
-//! and [`act_reader::act_of`] for lines of traces, [`head_line::head_line`] and
-//! [`event_line::event_line`] for a schedule's lines. [`storm::Storm`] makes schedules from a
-//! number. Nothing here takes memory.
+//! Each value is written in one way, and a reader accepts that text and no other, except that the
+//! hexadecimal of octets may have upper case. No call allocates memory, and no text has a line end:
+//!
+//! | Text | Writer | Reader |
+//! |---|---|---|
+//! | a datagram | [`messages::message_text`] | [`message_reader::message_of`] |
+//! | a line of a trace | [`trace::act_text`] | [`act_reader::act_of`] |
+//! | a line of a schedule's header | | [`head_line::head_line`], with the line's number |
+//! | a later line of a schedule | | [`event_line::event_line`] |
+//!
+//! ```
+//! let name = Name::new(b"alpha");
+//! let datagram = Datagram::Message(Message::new(Kind::MasterReq, 7, Body::Nothing, name));
+//! let text = message_text(&datagram);
+//! assert_eq!(text.as_slice(), b"masterreq 7 alpha");
+//! assert!(message_of(text.as_slice()).is_ok());
+//! assert!(matches!(event_line(b"at 5 turn 0"), Ok(EventItem::Event(Event::Turn { at: 5, node: 0 }))));
+//! assert!(matches!(event_line(b"at 05 turn 0"), Err(LineFault::Bad)));
+//! ```
+//!
+//! [`storm::Storm`] makes schedules from a number: call `head` once for each node, and then `next` for
+//! each event.
 #![tactic(auto)]
 
 pub mod act_laws;

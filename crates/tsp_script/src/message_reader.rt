@@ -74,7 +74,7 @@ fn reply_of(ticket: u64, word: u64, counter: u64, reading: i64) -> Option<Datagr
     Some(Datagram::Stamp(stamp))
 }
 
-/// Reads what stands between a message's number and its name, and gives what follows.
+/// Reads what is between a message's number and its name, and gives what follows.
 fn next_body(kind: Kind, line: &[u8]) -> Option<(Body, &[u8])>
     ensures found { IfSome result (λ r. IsBody r.0 × (body_fits kind r.0 ≡ true)
         × (0 < length r.1.now → line.now ≡ body_text r.0 ++ r.1.now)) }

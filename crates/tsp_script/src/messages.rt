@@ -13,7 +13,7 @@ use tsp_base::datagram::Datagram;
 use tsp_base::message::{Body, Message};
 use tsp_base::stamp::{Stamp, StampReply};
 
-/// Writes what stands between a message's number and its name.
+/// Writes what is between a message's number and its name.
 fn append_body(out: &mut ArrayVec<u8, 1024>, body: &Body)
     requires { array_vec_len out.old + 21 ≤ 1024 }
     ensures text { out.new.items ≡ out.old.items ++ body_text body.now }

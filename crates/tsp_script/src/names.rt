@@ -1,4 +1,4 @@
-//! Name texts.
+//! Names as texts: an octet that isn't plain is a per cent sign and two hexadecimal digits.
 ghost use Rattle.std.specs.Prelude.{◌≡◌, ◌≢◌, ℕ, ◌+◌, ◌*◌, ◌^◌, ◌≤◌, ◌<◌, ◌++◌, [], ◌∷◌, List};
 ghost use Rattle.std.specs.Prelude.{length, flat_map, IfSome, IsSomeAnd, codes, MatchBool};
 ghost use Rattle.std.specs.List.{AllPass};
@@ -12,14 +12,14 @@ use crate::words::is_same;
 use arrayvec::ArrayVec;
 use tsp_base::name::Name;
 
-/// Whether an octet stands for itself.
+/// Whether an octet is written as itself: it is printable, no space and no per cent sign.
 fn is_plain(octet: u8) -> bool
     ensures { result ≡ is_plain octet }
 {
     32 < octet && octet < 127 && octet != b'%'
 }
 
-/// Whether each of these octets stands for itself.
+/// Whether each of these octets is written as itself.
 fn are_plain(octets: &[u8]) -> bool
     ensures { MatchBool result (AllPass is_plain octets.now) (¬ AllPass is_plain octets.now) }
 {
@@ -103,7 +103,7 @@ fn is_pair_of(pair: &[u8], octet: u8) -> bool
     is_same(pair, &digits)
 }
 
-/// The octet whose text stands first, and what follows that text.
+/// The octet whose text comes first, and what follows that text.
 fn first_octet(text: &[u8]) -> Option<(u8, &[u8])>
     ensures found { IfSome result (λ r. (r.0 < 2 ^ 8) × (text.now ≡ escaped r.0 ++ r.1.now)) }
     ensures reads { (c : ℕ) (rest : List ℕ) → c < 2 ^ 8 → text.now ≡ escaped c ++ rest
@@ -128,7 +128,7 @@ fn first_octet(text: &[u8]) -> Option<(u8, &[u8])>
     Some((octet, rest))
 }
 
-/// The name that has this text; None exactly where no name has it.
+/// The name with this text; None exactly where no name is written so.
 pub(crate) fn name_of(text: &[u8]) -> Option<Name>
     ensures found { IfSome result (λ name. IsName name × IsBytes name
         × (text.now ≡ name_text name)) }

@@ -11,8 +11,7 @@ use crate::words::{cut, is_same};
 use arrayvec::ArrayVec;
 use tsp_base::members::{Members, is_ascending};
 
-/// The number that stands first of some, and the text of those behind it. A text of no numbers may be
-/// read too.
+/// The first of some numbers, and the text of the others. It may accept texts that aren't written so.
 fn next_member(text: &[u8]) -> Option<(u32, &[u8])>
     requires { 0 < length text.now }
     ensures reads { (n : ℕ) (ns : List ℕ) → n < 2 ^ 32 → text.now ≡ joined_text (n ∷ ns)
@@ -26,7 +25,7 @@ fn next_member(text: &[u8]) -> Option<(u32, &[u8])>
     Some((number, rest))
 }
 
-/// At most 64 numbers of which a text tells. A text of no numbers may be read too.
+/// The numbers of a text; None where there are more than 64. It may accept texts that aren't written so.
 fn numbers_in(text: &[u8]) -> Option<ArrayVec<u32, 64>>
     ensures reads { (ns : List ℕ) → IsNetLine ns → text.now ≡ joined_text ns
         → IsSomeAnd result (λ r. r.items ≡ ns) }
@@ -69,7 +68,7 @@ fn net_text(members: &Members) -> ArrayVec<u8, 1024>
     out
 }
 
-/// What a line is that begins as a network's.
+/// What a line is that begins with `net `.
 pub(crate) fn net_line(line: &[u8], rest: &[u8]) -> Result<HeadItem, LineFault>
     requires { line.now ≡ codes "net " ++ rest.now }
     ensures reads { ReadsHead 4 line.now result }

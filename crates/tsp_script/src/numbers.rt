@@ -13,10 +13,10 @@ use arrayvec::ArrayVec;
 use itoa::Buffer;
 use std::str;
 
-/// A number to which a digit may be added without a sum past 64 bits.
+/// Below this, a digit can be appended to a number without passing 64 bits.
 const MOST_TO_EXTEND: u64 = 1_000_000_000_000_000_000;
 
-/// Writes octets as they stand.
+/// Writes octets as they are.
 pub fn append(out: &mut ArrayVec<u8, 1024>, piece: &[u8])
     requires { array_vec_len out.old + length piece.now ≤ 1024 }
     ensures { out.new.items ≡ out.old.items ++ piece.now }
@@ -34,7 +34,7 @@ pub fn append_number(out: &mut ArrayVec<u8, 1024>, number: u64)
     append(out, buffer.format(number).as_bytes());
 }
 
-/// Writes a number with a sign where it is negative, in at most 20 octets.
+/// Writes a number in decimal, with a dash where it is negative, in at most 20 octets.
 pub fn append_signed(out: &mut ArrayVec<u8, 1024>, number: i64)
     requires { array_vec_len out.old + 20 ≤ 1024 }
     ensures text { out.new.items ≡ out.old.items ++ signed_decimal number }
@@ -87,8 +87,8 @@ pub fn append_hex(out: &mut ArrayVec<u8, 1024>, octets: &[u8])
     append(out, &digits[..count]);
 }
 
-/// The number that the word is the decimal text of; None exactly where it is no such text of 64 bits, as
-/// with a sign or a leading zero.
+/// The number of a decimal text; None exactly where no number of 64 bits is written so, for instance with a
+/// sign or a leading zero.
 pub fn number_of(word: &[u8]) -> Option<u64>
     ensures found { IfSome result (λ n. word.now ≡ decimal n) }
     ensures reads { (n : ℕ) → n < 2 ^ 64 → word.now ≡ decimal n → result ≡ Some n }
@@ -99,7 +99,7 @@ pub fn number_of(word: &[u8]) -> Option<u64>
     }
 }
 
-/// The number that the word is the decimal text of, digit by digit; None too where it has 20 digits.
+/// The number of a decimal text, digit by digit. It gives None for 20 digits too, which may be a number.
 fn by_digits(word: &[u8]) -> Option<u64>
     ensures { IfSome result (λ n. (n < 2 ^ 64) × (word.now ≡ decimal n)) }
 {
@@ -113,7 +113,7 @@ fn by_digits(word: &[u8]) -> Option<u64>
     more_digits((*first - b'0') as u64, rest)
 }
 
-/// The number whose digits are those of a number and then these; None too where it has 20 digits.
+/// The number whose digits are those of `front` and then these. It gives None for 20 digits too.
 fn more_digits(front: u64, digits: &[u8]) -> Option<u64>
     requires { 0 < front }
     ensures { IfSome result (λ n. (n < 2 ^ 64) × (decimal n ≡ decimal front ++ digits.now)) }
@@ -155,8 +155,8 @@ fn is_text_of(word: &[u8], number: u64) -> bool
     if digits == word { true } else { false }
 }
 
-/// The number that the word is the decimal text of, with a dash where it is negative; None exactly where
-/// it is no such text of 64 bits, as with a plus, a leading zero or a negative zero.
+/// The number of a decimal text, with a dash where it is negative; None exactly where no number of 64 bits is
+/// written so, for instance with a plus, a leading zero or a negative zero.
 pub fn signed_of(word: &[u8]) -> Option<i64>
     ensures found { IfSome result (λ n. word.now ≡ signed_decimal n) }
     ensures reads { (n : ℤ) → FitsSigned w64 n → word.now ≡ signed_decimal n → result ≡ Some n }
@@ -184,8 +184,8 @@ fn is_signed_text_of(word: &[u8], number: i64) -> bool
     if text == word { true } else { false }
 }
 
-/// The octets that a line of hexadecimal spells, in either case of the letters;
-/// None exactly where the line isn't pairs of hexadecimal digits.
+/// The octets of a line of hexadecimal, whose letters may be in either case; None exactly where the line
+/// isn't pairs of hexadecimal digits.
 pub fn octets_of(line: &[u8]) -> Option<ArrayVec<u8, 512>>
     requires { length line.now ≤ 1024 }
     ensures found { IfSome result (λ octets. decode_of line.now ≡ Ok octets.items) }
@@ -211,8 +211,7 @@ pub fn octets_in(line: &[u8], buffer: &mut [u8; 512]) -> Option<usize>
     Some(count)
 }
 
-/// The number that stands before the first space, and what follows the space. A line without a space
-/// may be read too.
+/// The number before the first space, and what follows the space. It also accepts a line without a space.
 pub(crate) fn next_number(line: &[u8]) -> Option<(u64, &[u8])>
     ensures found { IfSome result (λ r. (r.0 < 2 ^ 64) × (0 < length r.1.now
         → line.now ≡ decimal r.0 ++ 32 ∷ r.1.now)) }
@@ -224,7 +223,7 @@ pub(crate) fn next_number(line: &[u8]) -> Option<(u64, &[u8])>
     Some((number, rest))
 }
 
-/// The number that stands before the first space, and what follows the space; None where there is no space.
+/// The number before the first space, and what follows the space; None where there is no space.
 pub(crate) fn front_number(line: &[u8]) -> Option<(u64, &[u8])>
     ensures { IfSome result (λ r. (r.0 < 2 ^ 64) × (line.now ≡ decimal r.0 ++ 32 ∷ r.1.now)) }
 {
@@ -234,8 +233,8 @@ pub(crate) fn front_number(line: &[u8]) -> Option<(u64, &[u8])>
     Some((number, rest))
 }
 
-/// The number with its sign that stands before the first space, and what follows the space. A line
-/// without a space may be read too.
+/// The number, maybe with a dash, before the first space, and what follows the space. It also accepts a line
+/// without a space.
 pub(crate) fn next_signed(line: &[u8]) -> Option<(i64, &[u8])>
     ensures found { IfSome result (λ r. 0 < length r.1.now
         → line.now ≡ signed_decimal r.0 ++ 32 ∷ r.1.now) }
@@ -248,7 +247,7 @@ pub(crate) fn next_signed(line: &[u8]) -> Option<(i64, &[u8])>
     Some((number, rest))
 }
 
-/// The number as 16 bits, where it fits.
+/// The number as 16 bits; None where it is above 65,535.
 pub(crate) fn short_of(number: u64) -> Option<u16>
     ensures fits { number < 2 ^ 16 → result ≡ Some number }
     ensures same { IfSome result (λ n. (n ≡ number) × (n < 2 ^ 16)) }
@@ -256,7 +255,7 @@ pub(crate) fn short_of(number: u64) -> Option<u16>
     u16::try_from(number).ok()
 }
 
-/// The number as 32 bits, where it fits.
+/// The number as 32 bits; None where it is above 2^32 - 1.
 pub(crate) fn long_of(number: u64) -> Option<u32>
     ensures fits { number < 2 ^ 32 → result ≡ Some number }
     ensures same { IfSome result (λ n. (n ≡ number) × (n < 2 ^ 32)) }

@@ -14,20 +14,21 @@ use tsp_base::place::{Place, Port};
 use tsp_base::stamp::Stamp;
 use tsp_codec::encode;
 
-/// How long ago a datagram may have been posted that is taken, in microseconds.
+/// A datagram is taken at most this long after it was posted, in microseconds.
 const RECENT: u64 = 20_000_000;
 
-/// What the generator answers.
+/// What the generator gives next.
 #[derive(Drop)]
 pub enum Draw {
     /// The next event.
     Event(Event),
-    /// The next event takes the datagram with this number if it was posted lately, so when was it?
+    /// A question to the caller: when was the datagram with this number posted? The answer goes into the next
+    /// call of `next`. The event takes the datagram if that was lately.
     Ask(u64),
 }
 
-/// A schedule that comes of a number: first a line for each node, then a boot of each node, and then
-/// turns, takes of datagrams that were posted lately, and strangers' requests.
+/// A schedule that is computed from a number: first a line for each node, then a boot of each node, and
+/// then turns, takes of datagrams that were posted lately, and strangers' requests.
 #[derive(Drop)]
 pub struct Storm {
     state: u64,
@@ -121,9 +122,9 @@ impl Storm {
         drawn - 1_000_000
     }
 
-    /// What comes next, where so many datagrams were posted. After a question, `recent` is the true time
-    /// (microseconds) at which the datagram was posted; else it is none. A schedule has at most 200,000
-    /// events.
+    /// The next event, or a question. `posted` is how many datagrams were posted so far. After a question,
+    /// `recent` is the true time (microseconds) at which that datagram was posted; else it is None. A schedule
+    /// has at most 200,000 events.
     pub fn next(&mut self, posted: u64, recent: Option<u64>) -> Draw
         requires named { self.old.named ≡ self.old.nodes }
         requires few { self.old.given < 200000 }
@@ -140,7 +141,7 @@ impl Storm {
         }
     }
 
-    /// What comes next, if no question is open.
+    /// What comes next, where no question is open.
     fn choose(&mut self, posted: u64) -> Draw
         requires few { self.old.given < 200000 }
         requires quiet { self.old.asked ≡ None }
@@ -178,8 +179,14 @@ impl Storm {
         Draw::Ask(k)
     }
 
+<<<<<<< HEAD
     /// The event where the datagram was posted at this time: its take, or a turn where that is too long ago.
     fn answer(&mut self, k: u64, time: u64) -> Draw
+=======
+    /// The event after a question whose answer is this time: the datagram's take, or a turn where the time is too
+    /// long ago.
+    fn answer(&mut self, k: u64, time: u64) -> Event
+>>>>>>> 23ce1c31998ef6047335346d9f5c3fc3513b7013
         requires few { self.old.given < 200000 }
         requires number { k < 2 ^ 64 }
         ensures next { (result, self.new) ≡ as_event (storm_take k time self.old) }
@@ -209,8 +216,13 @@ impl Storm {
         })
     }
 
+<<<<<<< HEAD
     /// A turn of a node that is drawn.
     fn turn(&mut self, at: u64) -> Draw
+=======
+    /// A turn of a node that is drawn at random.
+    fn turn(&mut self, at: u64) -> Event
+>>>>>>> 23ce1c31998ef6047335346d9f5c3fc3513b7013
         requires few { self.old.given < 200000 }
         requires time { at ≤ 20000 * (self.old.given + 1) }
         ensures next { (result, self.new) ≡ as_event (turns_one at self.old) }
@@ -221,8 +233,13 @@ impl Storm {
         Draw::Event(Event::Turn { at, node })
     }
 
+<<<<<<< HEAD
     /// A stranger's request at a node that is drawn.
     fn request(&mut self, at: u64) -> Draw
+=======
+    /// A stranger's request at a node that is drawn at random.
+    fn request(&mut self, at: u64) -> Event
+>>>>>>> 23ce1c31998ef6047335346d9f5c3fc3513b7013
         requires few { self.old.given < 200000 }
         requires time { at ≤ 20000 * (self.old.given + 1) }
         ensures next { (result, self.new) ≡ as_event (asks_one at self.old) }

@@ -8,7 +8,7 @@ use crate::numbers::{append, append_next_number, append_number};
 use arrayvec::ArrayVec;
 use tsp_base::act::Placed;
 
-/// What a line of the trace tells.
+/// The values of a line of the trace.
 #[derive(Drop)]
 pub struct Line2 {
     /// The event's number, from 1.
@@ -17,7 +17,7 @@ pub struct Line2 {
     pub node: u32,
     /// Its tick counter, in microseconds.
     pub tick: u64,
-    /// The posted datagram's number, from 0; read for a post alone.
+    /// The posted datagram's number, from 0; for any other act it isn't used.
     pub number: u64,
     /// The act and its port.
     pub placed: Placed,
@@ -31,7 +31,7 @@ pub fn act_text(line: &Line2) -> ArrayVec<u8, 1024>
     placed_text(line.event, line.node, line.tick, line.number, &line.placed)
 }
 
-/// The same of an act that stands elsewhere: the number is read for a post alone.
+/// The same as `act_text`, of values that aren't in a `Line2`. `number` is used for a post alone.
 pub fn placed_text(
     event: u64,
     node: u32,
@@ -46,8 +46,8 @@ pub fn placed_text(
     out
 }
 
-/// Writes the trace's line of an act, without a line end, in at most 949 octets. The number is read
-/// for a post alone.
+/// Writes the trace's line of an act, without a line end, in at most 949 octets. `number` is used for a
+/// post alone.
 pub fn append_placed(
     out: &mut ArrayVec<u8, 1024>,
     event: u64,

@@ -5,7 +5,7 @@ ghost use Rattle.tsp_script.specs.declared.verbs.Verb.{Verb};
 
 use crate::words::is_same;
 
-/// What an act's text begins with.
+/// The word that an act's text begins with.
 #[derive(Clone, Copy, PartialEq, Eq, Debug)]
 pub enum Verb {
     /// `boot`
@@ -50,7 +50,7 @@ pub enum Verb {
     Trace,
 }
 
-/// All of them.
+/// All these words.
 const VERBS: [Verb; 20] = [
     Verb::Boot,
     Verb::Took,
@@ -75,7 +75,7 @@ const VERBS: [Verb; 20] = [
 ];
 
 impl Verb {
-    /// Its letters.
+    /// The word's letters.
     #[tactic(auto, unfolding(crate::specs::Verbs::verb_word))]
     fn word(self) -> &'static [u8]
         ensures { result.now ≡ verb_word self }
@@ -104,7 +104,7 @@ impl Verb {
         }
     }
 
-    /// The one with these letters.
+    /// The word with these letters; None where there is none.
     pub(crate) fn of_word(word: &[u8]) -> Option<Verb>
         ensures { (v : Verb) → word.now ≡ verb_word v → result ≡ Some v }
     {

@@ -18,7 +18,8 @@ pub(crate) fn mark_at(line: &[u8], mark: u8) -> Option<usize>
     None
 }
 
-/// What stands before the first octet of this value, and behind it: all and nothing where there is none.
+/// What is before the first octet of this value, and what is after it. Where there is no such octet, that is
+/// the whole line, and nothing.
 pub fn part(line: &[u8], mark: u8) -> (&[u8], &[u8])
     ensures front { result.0.now ≡ before_mark mark line.now }
     ensures rest { result.1.now ≡ after_mark mark line.now }
@@ -29,7 +30,7 @@ pub fn part(line: &[u8], mark: u8) -> (&[u8], &[u8])
     }
 }
 
-/// The first word, and what stands behind the space after it: nothing where there is no space.
+/// The first word, and what follows the space after it: nothing where there is no space.
 pub fn cut(line: &[u8]) -> (&[u8], &[u8])
     ensures word { result.0.now ≡ first_word line.now }
     ensures rest { result.1.now ≡ after_word line.now }

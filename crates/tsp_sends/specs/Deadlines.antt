@@ -1,4 +1,4 @@
--- Deadlines at the places of a list, of which some may be missing.
+-- Deadlines at the places of a list; a place may have none.
 use Rattle.std.specs.Prelude.{◌≡◌, ℕ, ◌≤◌, ◌<◌, nat_le, Bool, true, false, List, length, Option, None, Some, slice_index_or}
 
 -- whether there is a deadline and the tick has come to it

@@ -9,7 +9,7 @@ use Rattle.tsp_sends.specs.declared.slot.Slot.{Slot}
 use Rattle.tsp_sends.specs.Deadlines.{is_due}
 use Rattle.tsp_sends.specs.Slots.{sending_to, SetsOnly}
 
--- the peer comes after this one; each does where none is named
+-- the peer comes after this one; without one, each peer does
 abbrev pub IsAfter : Option PeerId → PeerId → Type 0
 IsAfter None p = Unit {0}
 IsAfter (Some q) p = q.0 < p.0
@@ -22,12 +22,12 @@ is_due_send tick s = is_due tick (option_map deadline_of s)
 abbrev pub repeated : PeerId → ℕ → Sending → Due
 repeated p tick s = if is_given_up s tick then Gave p s.message.kind else Again p s.message
 
--- whom a due send is to
+-- the addressee of a due send
 abbrev pub peer_of : Due → PeerId
 peer_of (Again p m) = p
 peer_of (Gave p k) = p
 
--- what stays open of a due send
+-- the send that is open afterwards, if any
 abbrev pub kept : ℕ → Sending → Option Sending
 kept tick s = if is_given_up s tick then None else Some (record s { posts = s.posts + 1 })
 

@@ -13,7 +13,7 @@ pub record TreeValue : Type 0 where
   pub deadlines : List (Option ℕ)
   pub looks : ℕ
 
--- each node but one that has children holds the earlier one of their deadlines; 0 is no node
+-- each node with children has the earlier one of their deadlines, except the node `hole`; 0 excepts none
 pub record HoldsEarlier (hole : ℕ) (nodes : List (Option ℕ)) : Type 0 where
   pub parents : (i : ℕ) → 0 < i → i ≢ hole → 2 * i + 1 < length nodes → deadline_at nodes i ≡ earlier (deadline_at nodes (2 * i)) (deadline_at nodes (2 * i + 1))
 

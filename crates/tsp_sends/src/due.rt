@@ -11,12 +11,12 @@ use tsp_base::place::PeerId;
 pub enum Due {
     /// Its message is posted to the peer again.
     Again(PeerId, Message),
-    /// It is given up; this was its kind.
+    /// It is given up. It was of this kind.
     Gave(PeerId, Kind),
 }
 
 impl Due {
-    /// Whom the send is to.
+    /// The addressee of the send.
     pub fn peer(&self) -> PeerId
         ensures { result ≡ peer_of self.now }
     {

@@ -1,7 +1,19 @@
-//! The numbered sends of a port: one slot a peer, and a tree that finds the next deadline.
+//! The numbered sends of a port: messages that are repeated until they are acknowledged. There is at most
+//! one open send to each peer, and a tree finds the next deadline.
 //!
-//! [`Sends::begin`] opens a send, `ack` ends it, and `due` gives each that is to be repeated or
-//! given up; `least` says when the next one is.
+//! [`Sends::begin`] opens a send, which the caller has posted. `least` is the tick at which the first
+//! send is due; from then on `due` gives each due one, peer by peer: its message to post again, or the
+//! news that it is given up. `ack` ends a send, and `clear` all of them.
+//!
+//! ```
+//! let mut sends = Sends::new(alloc, &[PeerId(1), PeerId(2)])?;
+//! sends.begin(PeerId(1), message, 0); // `message` has number 7
+//! assert_eq!(sends.least(), Some(1_000_000));
+//! assert!(matches!(sends.due(None, 1_000_000), Some(Due::Again(PeerId(1), _))));
+//! assert!(sends.due(Some(PeerId(1)), 1_000_000).is_none());
+//! assert!(sends.ack(PeerId(1), 7));
+//! assert!(sends.least().is_none());
+//! ```
 #![tactic(auto)]
 
 mod due;

@@ -1,4 +1,4 @@
-//! A numbered send that waits for its ACK.
+//! A numbered send that waits for its answer.
 ghost use Rattle.std.specs.Prelude.{◌≡◌, ◌+◌, ◌^◌, ◌≤◌, ◌<◌};
 ghost use Rattle.tsp_base.specs.SendFacts.{deadline_of, is_given_up};
 
@@ -7,7 +7,7 @@ use tsp_base::constants::{LAST, RETRY, TRIES};
 use tsp_base::kind::Kind;
 use tsp_base::message::Message;
 
-/// A message that was posted once at least, at most `TRIES` times.
+/// A message that was posted, at least once and at most `TRIES` times.
 #[derive(Drop)]
 pub(crate) struct Sending {
     /// The tick of the first post.
@@ -47,7 +47,7 @@ impl Sending {
         self.began + self.posts * RETRY
     }
 
-    /// Whether it is given up where it is due: `LAST` ticks have passed, or it was posted `TRIES` times.
+    /// Whether it is given up when it is due: it began more than `LAST` ticks ago, or was posted `TRIES` times.
     pub(crate) fn is_given_up(&self, tick: u64) -> bool
         ensures { result ≡ is_given_up self.now tick }
     {

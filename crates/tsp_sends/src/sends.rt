@@ -16,9 +16,9 @@ use tsp_base::kind::Kind;
 use tsp_base::message::Message;
 use tsp_base::place::PeerId;
 
-/// The open sends: one slot a peer, in the order of the peers.
+/// The open sends: a slot for each peer, in the order of the peers.
 ///
-/// A tree has the slots' deadlines, so that a due one is found without a look at each slot.
+/// A tree has the deadlines of the slots, so that a due send is found without a look at each slot.
 #[derive(Drop)]
 pub struct Sends {
     slots: Vec<Slot>,
@@ -40,7 +40,7 @@ impl Model for Sends {
 impl Sends {
     /// No open send to any of these peers.
     ///
-    /// Fails only where memory is refused; no later call takes any.
+    /// Fails only if out of memory. No later call allocates any.
     pub fn new(alloc: Global, peers: &[PeerId]) -> Result<Sends, AllocError>
         requires { IsAscending peers.now }
         ensures peers { IfOk result (λ s. peers_of s ≡ peers.now) }
@@ -51,7 +51,7 @@ impl Sends {
         Ok(Sends { slots, tree })
     }
 
-    /// Begins a send to one of the peers at a tick, in place of the open one.
+    /// Begins a send to one of the peers at a tick: its first post. It replaces the open one.
     pub fn begin(&mut self, peer: PeerId, m: Message, tick: u64)
         requires peer { Contains (peers_of self.old) peer }
         requires tick { tick ≤ 2 ^ 61 }
@@ -64,7 +64,7 @@ impl Sends {
         }
     }
 
-    /// The kind of the open send to a peer.
+    /// The kind of the open send to a peer; None where none is open.
     pub fn kind(&self, peer: PeerId) -> Option<Kind>
         ensures { result ≡ kind_of (sending_to self.now peer) }
     {
@@ -74,7 +74,7 @@ impl Sends {
         }
     }
 
-    /// Ends the open send to a peer where its number is this one, and tells whether it is.
+    /// Ends the open send to a peer where its number is this one, and says whether it was.
     pub fn ack(&mut self, peer: PeerId, number: u16) -> bool
         ensures ends { result ≡ has_number number (sending_to self.old peer) }
         ensures sends { MatchBool result (SetsOnly peer None self.old self.new)
@@ -91,7 +91,8 @@ impl Sends {
         ends
     }
 
-    /// Repeats the send to the least peer above `after` that is due; None exactly where there is none.
+    /// Repeats or gives up the first due send to a peer after `after`, in the order of the peers; None exactly
+    /// where there is none.
     pub fn due(&mut self, after: Option<PeerId>, tick: u64) -> Option<Due>
         ensures sends { RepeatsNext after tick self.old self.new result }
         ensures peers { peers_of self.new ≡ peers_of self.old }
@@ -122,7 +123,7 @@ impl Sends {
         }
     }
 
-    /// Gives a slot another send, or none.
+    /// Puts a send, or none, into a slot.
     fn fill(&mut self, place: usize, sending: Option<Sending>)
         requires { place < length self.old }
         ensures { (d : Slot)
@@ -143,7 +144,7 @@ fn empty_slots(alloc: Global, peers: &[PeerId]) -> Result<Vec<Slot>, AllocError>
     peers.iter().map(|peer| Slot::new(*peer)).collect(alloc)
 }
 
-/// The place of a peer's slot; an error is the place where it would be.
+/// The place of a peer's slot, or as an error the place where it would be.
 fn place_of(slots: &[Slot], peer: PeerId) -> Result<usize, usize>
     requires { IsAscending (peers_of slots.now) }
     ensures { IsPlaceOf peer slots.now result }
@@ -151,7 +152,7 @@ fn place_of(slots: &[Slot], peer: PeerId) -> Result<usize, usize>
     slots.binary_search_by_key(&peer.0, |slot| slot.peer.0)
 }
 
-/// The place of the first slot whose peer comes after this one.
+/// The place of the first slot whose peer comes after this one; without one, of the first slot.
 fn place_after(slots: &[Slot], after: Option<PeerId>) -> usize
     requires { IsAscending (peers_of slots.now) }
     ensures { IsFirstAfter after slots.now result }

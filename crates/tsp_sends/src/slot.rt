@@ -17,7 +17,7 @@ pub(crate) struct Slot {
 }
 
 impl Slot {
-    /// No send to a peer is open.
+    /// The slot of a peer to whom no send is open.
     pub(crate) fn new(peer: PeerId) -> Slot
         ensures { result ≡ empty_slot peer }
     {
@@ -27,7 +27,7 @@ impl Slot {
         }
     }
 
-    /// The tick from which the send is due.
+    /// The tick from which the open send is due; None where none is open.
     pub(crate) fn deadline(&self) -> Option<u64>
         ensures { result ≡ deadline_in self.now }
     {
@@ -57,7 +57,7 @@ impl Slot {
         }
     }
 
-    /// Posts the open send again, or gives it up.
+    /// Posts the open send again, or gives it up; None where none is open.
     pub(crate) fn repeat(&mut self, tick: u64) -> Option<Due>
         ensures due { result ≡ option_map (repeated self.old.peer tick) self.old.sending }
         ensures peer { self.new.peer ≡ self.old.peer }

@@ -6,7 +6,7 @@ use std::marker::Model;
 
 /// Numbered nodes, each with a deadline or none, and a count of the looks at them.
 ///
-/// [`Store::read`] and [`Store::root`] alone tell a node, so the looks say what a search costs.
+/// A node can be read by [`Store::read`] and [`Store::root`] alone, so the count says what a search costs.
 #[derive(Drop)]
 pub(crate) struct Store {
     nodes: Vec<Option<u64>>,
@@ -22,7 +22,7 @@ impl Model for Store {
 }
 
 impl Store {
-    /// So many nodes without deadlines. Fails only where memory is refused.
+    /// So many nodes without deadlines. Fails only if out of memory.
     pub(crate) fn new(alloc: Global, size: usize) -> Result<Store, AllocError>
         ensures { IfOk result (λ s. s ≡ record { nodes = replicate size None; looks = 0 }) }
     {
@@ -41,7 +41,7 @@ impl Store {
         self.nodes[node]
     }
 
-    /// Gives a node another deadline, or none.
+    /// Puts a deadline, or none, at a node.
     pub(crate) fn write(&mut self, node: usize, at: Option<u64>)
         requires { node < length self.old.nodes }
         ensures nodes { self.new.nodes ≡ slice_set self.old.nodes node at }
@@ -50,7 +50,7 @@ impl Store {
         self.nodes[node] = at;
     }
 
-    /// The deadline at the root, node 1, which isn't counted as a look.
+    /// The deadline at the root, node 1. This isn't counted as a look.
     pub(crate) fn root(&self) -> Option<u64>
         requires { 1 < length self.now.nodes }
         ensures { result ≡ slice_index_or self.now.nodes 1 None }

@@ -1,4 +1,4 @@
-//! A tree of least deadlines over numbered places.
+//! A tree over numbered places that finds the earliest deadline.
 ghost use Rattle.std.specs.Prelude.{◌≡◌, ℕ, ◌+◌, ◌*◌, ◌^◌, ◌≤◌, ◌<◌, length, drop, replicate};
 ghost use Rattle.std.specs.Prelude.{slice_set, IfOk, IfSome, true};
 ghost use Rattle.tsp_sends.specs.Deadlines.{is_due, deadline_at, IsFirstDueAt, IsFirstDue, IsLeast};
@@ -11,12 +11,12 @@ use tsp_base::alarms::earlier;
 
 /// A deadline or none for each of a number of places, and a count of the looks at the tree's nodes.
 ///
-/// The leaves are the places; a node above them holds the earlier deadline of its two children.
+/// The leaves are the places; each node above them has the earlier deadline of its two children.
 #[derive(Drop)]
 pub struct Tree {
     store: Store,
     places: usize,
-    /// The height of the root above the leaves, of which there are two to this power.
+    /// The height of the root above the leaves. There are two to this power of them.
     levels: u32,
 }
 
@@ -37,7 +37,7 @@ impl Model for Tree {
 impl Tree {
     /// So many places without deadlines, and no looks.
     ///
-    /// Fails only where memory is refused; no later call takes any.
+    /// Fails only if out of memory. No later call allocates any.
     pub fn new(alloc: Global, n: usize) -> Result<Tree, AllocError>
         ensures { IfOk result (λ t. t ≡ record { deadlines = replicate n None; looks = 0 }) }
     {
@@ -57,7 +57,7 @@ impl Tree {
         self.store.looks()
     }
 
-    /// Gives a place a deadline in ticks, or none.
+    /// Puts a deadline in ticks, or none, at a place.
     pub fn put(&mut self, i: usize, at: Option<u64>)
         requires { i < length self.old.deadlines }
         ensures deadlines { self.new.deadlines ≡ slice_set self.old.deadlines i at }
@@ -90,7 +90,7 @@ impl Tree {
     }
 }
 
-/// The least height of a tree with a leaf for each place; None for more places than memory could hold.
+/// The least height of a tree with a leaf for each place, at most 60; None where that isn't enough.
 fn levels_for(places: usize) -> Option<u32>
     ensures { IfSome result (λ k. (k ≤ 60) × (places ≤ 2 ^ k) × ((j : ℕ) → places ≤ 2 ^ j
         → k ≤ j)) }
@@ -112,7 +112,7 @@ fn is_due(at: Option<u64>, tick: u64) -> bool
     }
 }
 
-/// Gives a leaf another deadline, or none, and then each node above it.
+/// Puts a deadline, or none, at a leaf, and then brings each node above it up to date.
 fn set_leaf(store: &mut Store, leaf: usize, levels: u32, at: Option<u64>)
     requires size { length store.old.nodes ≡ 2 * 2 ^ levels }
     requires small { levels ≤ 60 }
@@ -134,10 +134,10 @@ fn set_leaf(store: &mut Store, leaf: usize, levels: u32, at: Option<u64>)
     }
 }
 
-/// The first leaf from one on whose deadline has come, if there is one.
+/// The first leaf from `leaf` on whose deadline has come, if there is one.
 ///
-/// From the left to the right and upwards, the nodes that together hold these leaves are looked at, one a
-/// height at the most.
+/// It looks at the nodes that together cover these leaves, from left to right and upwards, at most one for
+/// each height.
 fn first_due_leaf(store: &mut Store, leaf: usize, levels: u32, tick: u64) -> Option<usize>
     requires size { length store.old.nodes ≡ 2 * 2 ^ levels }
     requires small { levels ≤ 60 }
@@ -160,7 +160,7 @@ fn first_due_leaf(store: &mut Store, leaf: usize, levels: u32, tick: u64) -> Opt
     None
 }
 
-/// The first leaf below a node whose deadline has come, where the node's has.
+/// The first leaf below a node whose deadline has come. The node's own must have come.
 fn descend(store: &mut Store, node: usize, height: u32, tick: u64) -> usize
     requires small { length store.old.nodes < 2 ^ 62 }
     requires node { (0 < node) × ((node + 1) * 2 ^ height ≤ length store.old.nodes) }

@@ -1,6 +1,6 @@
-//! Tests of the generator's command, by lines that other programs worked out.
+//! Tests of the `storm` command, by lines that other programs worked out.
 //!
-//! They stand apart from the crate that they try, so that it is proved once.
+//! They are in a crate of their own, so that the crate under test is proved only once.
 #![tactic(auto)]
 
 #[cfg(test)]

@@ -1,4 +1,4 @@
-//! Storms whose summaries were worked out elsewhere.
+//! Storms whose summaries other programs gave.
 ghost use Rattle.tsp_args.specs.Storms.{IsStorm};
 
 use std::alloc::{AllocError, Global};
@@ -40,7 +40,7 @@ fn writes(
     Ok(end == StormEnd::Done && same)
 }
 
-/// Two programs written from the rules alone gave these lines.
+/// Two programs that were written from the rules alone gave these lines.
 #[test]
 fn storms_sum_up_as_elsewhere(rt: HostRuntime) -> Result<(), AllocError> {
     let alloc = rt.alloc();

@@ -1,4 +1,4 @@
-//! Lines of traces: what they say, and lines that aren't.
+//! Lines of traces and their values, and lines that aren't a trace's.
 
 use arrayvec::ArrayVec;
 use std::process::Abort;
@@ -13,7 +13,7 @@ use tsp_script::act_reader::act_of;
 use tsp_script::numbers::append;
 use tsp_script::trace::{Line2, act_text};
 
-/// Asserts the text of an act, behind its event's number, node, port and tick.
+/// Asserts the text of an act, after its event's number, node, port and tick.
 fn writes(rt: &impl Abort, act: Act, text: &str) {
     let placed = Placed { port: Port(1), act };
     let line = Line2 {
@@ -30,7 +30,7 @@ fn writes(rt: &impl Abort, act: Act, text: &str) {
     assert_eq!(rt; act_text(&line).as_slice(), whole.as_slice());
 }
 
-/// The texts of the acts of an election and a mastership.
+/// The texts of the acts of an election and of a master.
 #[test]
 fn writes_roles(rt: HostRuntime) {
     writes(&rt, Act::Boot, "boot");
@@ -93,7 +93,7 @@ fn writes_acts(rt: HostRuntime) {
     writes(&rt, took, "took - refused name-too-long");
 }
 
-/// Whether a line is read, written again as it stood, and read as the same again.
+/// Whether a line is read, written again as it was, and read as the same again.
 fn comes_back(line: &[u8]) -> bool {
     let Ok(read) = act_of(line) else {
         return false;
@@ -144,7 +144,7 @@ fn reads_each_act(rt: HostRuntime) {
     }
 }
 
-/// Lines that are no trace's.
+/// Lines that aren't a trace's.
 #[test]
 fn refuses_other_lines(rt: HostRuntime) {
     for line in [

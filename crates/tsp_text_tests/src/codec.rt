@@ -25,7 +25,7 @@ fn fault_of(octets: &[u8]) -> Option<DecodeFault> {
     }
 }
 
-/// Whether the octets spell a message with this number and these parts.
+/// Whether the octets are a message with this number and these parts.
 fn spell_message(octets: &[u8], kind: Kind, number: u16, body: &Body, name: &[u8]) -> bool {
     match decode(octets) {
         Ok(Datagram::Message(message)) => {
@@ -38,7 +38,7 @@ fn spell_message(octets: &[u8], kind: Kind, number: u16, body: &Body, name: &[u8
     }
 }
 
-/// Whether what the octets spell is written as `written`, and read back.
+/// Whether the datagram of these octets is written as `written`, and read back.
 fn is_written_as(octets: &[u8], written: &[u8]) -> bool {
     match decode(octets) {
         Ok(datagram) => encode(&datagram).as_slice() == written && read_back(&datagram).is_ok(),
@@ -53,7 +53,7 @@ fn time_of(value: i64) -> Body {
     }
 }
 
-/// One message in four spellings, of which the first is written; an octet more is too long.
+/// One message in four forms, of which the first is written; an octet more is too long.
 #[test]
 fn what_follows_the_name_is_passed_over(rt: HostRuntime) {
     let head = [1, 1, 0, 7, 0, 0, 0, 0, 0, 0, 4, 0xd2];
@@ -80,7 +80,7 @@ fn what_follows_the_name_is_passed_over(rt: HostRuntime) {
     assert_eq!(rt; fault_of(longer.as_slice()), Some(DecodeFault::Long));
 }
 
-/// Names on both sides of the lengths at which their spelling changes.
+/// Names on both sides of the lengths at which their place gets longer.
 #[test]
 fn long_names_have_long_spellings(rt: HostRuntime) {
     let head = [1, 1, 0, 7, 0, 0, 0, 0, 0, 0, 4, 0xd2];
@@ -136,7 +136,7 @@ fn times_have_their_range(rt: HostRuntime) {
     );
 }
 
-/// Each fault, and what lies just beside it.
+/// Each fault, and octets that just don't have it.
 #[test]
 fn refuses_by_the_first_fault(rt: HostRuntime) {
     for (first, version, rest, fault) in [
@@ -182,7 +182,7 @@ fn refuses_by_the_first_fault(rt: HostRuntime) {
     assert_eq!(rt; fault_of(reply.as_slice()), Some(DecodeFault::Reserved));
 }
 
-/// All types of message: those with a time and LOOP keep what octets 4 to 11 say.
+/// All types of message. Octets 4 to 11 matter in those with a time and in LOOP.
 #[test]
 fn each_kind_has_its_octets(rt: HostRuntime) {
     for kind in &KINDS {
@@ -203,7 +203,7 @@ fn each_kind_has_its_octets(rt: HostRuntime) {
     }
 }
 
-/// Both stamps, in the one spelling that each has.
+/// Both stamps, in the one form that each has.
 #[test]
 fn stamps_have_one_spelling(rt: HostRuntime) {
     let request = [

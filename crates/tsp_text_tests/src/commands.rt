@@ -1,4 +1,4 @@
-//! Words that are commands, and words that are none.
+//! Words that are commands, and words that aren't.
 use std::alloc::{AllocError, Global};
 use tsp_args::command::{Command, command_of};
 use tsp_args::query::Query;
@@ -15,7 +15,7 @@ fn read(alloc: Global, words: &[&str]) -> Result<Option<Command>, AllocError> {
     command_of(alloc, owned.as_slice())
 }
 
-/// The word of a command that stands alone.
+/// The word of a command that has no other word.
 fn lone_word(command: &Command) -> &'static str {
     match command {
         Command::Replay => "replay",
@@ -35,7 +35,7 @@ fn asked(command: &Option<Command>) -> Option<(Addr, Query)> {
     }
 }
 
-/// Words that stand alone, and the generator's numbers.
+/// Commands of one word, and the generator's numbers.
 #[test]
 fn words_are_commands(rt: HostRuntime) -> Result<(), AllocError> {
     let alloc = rt.alloc();
@@ -79,7 +79,7 @@ fn words_are_questions(rt: HostRuntime) -> Result<(), AllocError> {
     Ok(())
 }
 
-/// A daemon of two ports, and one that is alone on its only port.
+/// A daemon with two ports, and one with one port and no peer.
 #[test]
 fn words_are_a_daemons(rt: HostRuntime) -> Result<(), AllocError> {
     let alloc = rt.alloc();

@@ -6,7 +6,7 @@ use tsp_convert::run::{pack, show};
 use tsp_io::memory::{MemorySink, MemorySource};
 use tsp_lines::treat::Outcome;
 
-/// Whether `show` comes to this outcome on the input, and writes this.
+/// Whether `show` ends with this outcome on the input, and writes this.
 fn shows(alloc: Global, input: &[u8], outcome: Outcome, written: &[u8]) -> bool {
     let (Ok(mut source), Ok(mut sink)) = (
         MemorySource::new(alloc, input, &[]),
@@ -17,7 +17,7 @@ fn shows(alloc: Global, input: &[u8], outcome: Outcome, written: &[u8]) -> bool 
     show(alloc, &mut source, &mut sink) == outcome && sink.written() == written
 }
 
-/// Whether `pack` comes to this outcome on the input, and writes this.
+/// Whether `pack` ends with this outcome on the input, and writes this.
 fn packs(alloc: Global, input: &[u8], outcome: Outcome, written: &[u8]) -> bool {
     let (Ok(mut source), Ok(mut sink)) = (
         MemorySource::new(alloc, input, &[]),
@@ -39,7 +39,7 @@ fn filled(digits: &str, fill: &str, octets: usize) -> ArrayVec<u8, 2048> {
     line
 }
 
-/// Octets that spell a message or a stamp, with their length, and octets that spell none.
+/// Octets of a message or a stamp, with their length, and octets that aren't a datagram.
 #[test]
 fn shows_what_octets_spell(rt: HostRuntime) {
     let alloc = rt.alloc();
@@ -135,7 +135,7 @@ fn shows_what_octets_spell(rt: HostRuntime) {
     }
 }
 
-/// Inputs of no line, of lines that aren't hexadecimal, and of more than one line.
+/// Inputs without a line, with lines that aren't hexadecimal, and with more than one line.
 #[test]
 fn shows_lines_in_turn(rt: HostRuntime) {
     let alloc = rt.alloc();
@@ -166,7 +166,7 @@ fn shows_lines_in_turn(rt: HostRuntime) {
     }
 }
 
-/// Inputs of no line, of lines that are no message's, and of more than one line.
+/// Inputs without a line, with lines that aren't a message's, and with more than one line.
 #[test]
 fn packs_lines_in_turn(rt: HostRuntime) {
     let alloc = rt.alloc();
@@ -192,7 +192,7 @@ fn packs_lines_in_turn(rt: HostRuntime) {
     assert!(rt; packs(alloc, b"msite 3 %", Outcome::Ok, empty_name.as_slice()));
 }
 
-/// Names on both sides of the length from which a spelling has 268 octets.
+/// Names on both sides of the length from which a message has 268 octets.
 #[test]
 fn converts_long_names(rt: HostRuntime) {
     let alloc = rt.alloc();

@@ -1,4 +1,4 @@
-//! What no clause says of inputs that are read whole: that the outcomes come.
+//! What no contract says of inputs that are read whole: that each outcome does come.
 
 use crate::lines::Echo;
 use std::alloc::AllocError;

@@ -1,6 +1,6 @@
 //! Tests of the texts, of the treatment of lines, and of the words of the command line.
 //!
-//! They stand apart from the crates that they try, so that each of those is proved once.
+//! The tests are in a crate of their own, so that each crate that they try is proved once.
 #![tactic(auto)]
 
 #[cfg(test)]

@@ -1,4 +1,4 @@
-//! What no clause says: that the outcomes come.
+//! What no contract says: that each outcome does come.
 ghost use Rattle.std.specs.Prelude.{◌≡◌, ◌≤◌, length};
 
 use arrayvec::ArrayVec;
@@ -68,7 +68,7 @@ impl Treatment for Echo {
     }
 }
 
-/// An input, how it is read and written, and what comes of it.
+/// An input, how it is read and written, and how its treatment should end.
 #[derive(Drop)]
 struct Row {
     limit: u32,
@@ -79,7 +79,7 @@ struct Row {
     written: &'static [u8],
 }
 
-/// Whether an input that is read by two octets comes to what the row says.
+/// Whether an input that is read two octets at a time ends as the row says.
 fn comes(alloc: Global, row: &Row) -> Result<bool, AllocError> {
     let source = MemorySource::new(alloc, row.input, row.reads)?;
     let mut source = source.in_pieces(2);
@@ -95,7 +95,7 @@ fn comes(alloc: Global, row: &Row) -> Result<bool, AllocError> {
     Ok(outcome == row.outcome && sink.written() == row.written)
 }
 
-/// Each outcome comes where it is to come, with what is written till then.
+/// Each outcome comes where it should, with what is written up to then.
 #[test]
 fn outcomes_come(rt: HostRuntime) {
     let rows = [
@@ -193,7 +193,7 @@ fn outcomes_come(rt: HostRuntime) {
     }
 }
 
-/// Where no line may follow, the first octet of another one passes a limit.
+/// Where no further line is allowed, the first octet of another one passes a limit.
 #[test]
 fn full_treatments_take_no_octet(rt: HostRuntime) {
     let rows = [

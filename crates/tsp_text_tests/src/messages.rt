@@ -1,4 +1,4 @@
-//! Lines of the protocol's description: what they say, and that no other spelling is read; and hexadecimal.
+//! Message lines and their values, that no other form is accepted, and hexadecimal.
 
 use arrayvec::ArrayVec;
 use tsp_base::datagram::Datagram;

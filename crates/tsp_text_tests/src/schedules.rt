@@ -1,4 +1,4 @@
-//! Lines of schedules: what they say, and that no other spelling is read; and the longest lines.
+//! Lines of schedules and their values, that no other form is accepted, and the longest lines.
 
 use arrayvec::ArrayVec;
 use tsp_base::act::{Act, Placed};

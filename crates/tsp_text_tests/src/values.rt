@@ -1,4 +1,4 @@
-//! The values through their public calls, each on its happy path and at its edges.
+//! The values, through their public calls: well within and at the edges of their ranges.
 ghost use Rattle.std.specs.Prelude.{◌≡◌, [], IfSome};
 
 use std::alloc::Global;

@@ -1,4 +1,4 @@
--- How posts are kept: the octets of all names in one list, and in another all else.
+-- How posts are stored: the octets of all names in one list, and in another all else.
 use Rattle.std.specs.Prelude.{◌≡◌, ℕ, ◌+◌, ◌*◌, ◌≤◌, true, List, [], length, slice_range, All, vec_len, vec_capacity}
 use Rattle.std.specs.Global.{Vec}
 use Rattle.tsp_base.specs.declared.datagram.Datagram.{Datagram}
@@ -13,33 +13,33 @@ use Rattle.tsp_world.specs.declared.head.StoredDatagram.{StoredDatagram}
 use Rattle.tsp_world.specs.declared.head.StoredDatagram.TheVariants.{Message as HeldMessage, Stamp as HeldStamp}
 use Rattle.tsp_world.specs.Posts.{posted_on}
 
--- the octets that a datagram puts behind those of the others: its name, if it has one
+-- the octets that a datagram adds to all names: its own name, if it has one
 abbrev pub name_in : Datagram → List ℕ
 name_in (Message m) = m.name
 name_in (Stamp s) = []
 
--- the datagram of which this is held, with its name among these octets
+-- the stored datagram, whose name is among these octets
 abbrev pub datagram_in : List ℕ → StoredDatagram → Datagram
 datagram_in names (HeldMessage kind number body start end) = Message (record { kind = kind; number = number; body = body; name = slice_range names start end })
 datagram_in names (HeldStamp s) = Stamp s
 
--- the post of which this is kept
+-- the stored post
 abbrev pub post_in : List ℕ → Head → Posted
 post_in names head = posted_on head.way (datagram_in names head.held)
 
--- a message's name lies among these octets, and its body is its kind's
+-- a message's name is among these octets, and its body is the one that its kind carries
 pub record MessageStands (names : List ℕ) (kind : Kind) (body : Body) (start end : ℕ) : Type 0 where
   pub ordered : start ≤ end
   pub inside : end ≤ length names
   pub name : IsName (slice_range names start end)
   pub body_is : body_fits kind body ≡ true
 
--- what is held of a message has its name among these octets; of a stamp nothing is asked
+-- a stored message has its name among these octets; a stored stamp needs none
 abbrev pub HeldStands : List ℕ → StoredDatagram → Type 0
 HeldStands names (HeldMessage kind number body start end) = MessageStands names kind body start end
 HeldStands names (HeldStamp s) = Unit {0}
 
--- the same of what a head holds
+-- the same of a stored post
 abbrev pub HeadStands : List ℕ → Head → Type 0
 HeadStands names head = HeldStands names head.held
 

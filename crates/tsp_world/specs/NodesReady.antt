@@ -1,4 +1,4 @@
--- What is true of a world's nodes and of what they are set up with, so that each can be booted and can act.
+-- What is true of a world's nodes and their configurations, so that each can boot and act.
 use Rattle.std.specs.Prelude.{◌≡◌, ℕ, ◌≤◌, ◌<◌, true, List, [], ◌∷◌, length, Option, None, Some, slice_get}
 use Rattle.tsp_base.specs.declared.place.Port.{Port}
 use Rattle.tsp_base.specs.Headers.{HeaderValue, IsHeader, is_whole}
@@ -20,11 +20,11 @@ NodeReady ports x node = (ports_in node ≡ peers_of_ports ports) × (clock_at n
 abbrev pub PlaceReady : List PortSetup → ℕ → Option Gateway → Type 0
 PlaceReady ports x place = (node : Gateway) → place ≡ Some node → NodeReady ports x node
 
--- a node that is up finds room for the acts of a step, and its clock was last corrected at this tick or before
+-- a node that is up has room for the acts of a step, and its clock was last corrected at this tick or before
 abbrev pub CanAct : ℕ → ℕ → Option Gateway → Type 0
 CanAct spare x place = (node : Gateway) → place ≡ Some node → (room_of_ports (ports_in node) ≤ spare) × (clock_at node ≤ x)
 
--- and it has this port
+-- the same, and the node has this port
 abbrev pub CanTake : ℕ → ℕ → Port → Option Gateway → Type 0
 CanTake spare x port place = (node : Gateway) → place ≡ Some node → (room_of_ports (ports_in node) ≤ spare) × (clock_at node ≤ x) × (port.0 < length (ports_in node))
 
@@ -32,7 +32,7 @@ CanTake spare x port place = (node : Gateway) → place ≡ Some node → (room_
 abbrev pub PlacesReady : HeaderValue → List (Option Gateway) → ℕ → Type 0
 PlacesReady header nodes at = (n : ℕ) (place : Option Gateway) → slice_get nodes n ≡ Some place → PlaceReady (ports_on n (networks header)) (tick_at (node_line header n).rate at) place
 
--- the header is one of a schedule, one network holds all nodes, the nodes are set up as the header says, and they can act at the last event's time or later
+-- the header is one of a schedule, the one network has all nodes, the configurations are as the header says, and the nodes can act at the last event's time or later
 pub record NodesReady (header : HeaderValue) (one : List (List ℕ)) (nodes : List (Option Gateway)) (configs : List GateConfigValue) (last : ℕ) : Type 0 where
   pub header_is : IsHeader header
   pub whole : is_whole header ≡ true
@@ -40,7 +40,7 @@ pub record NodesReady (header : HeaderValue) (one : List (List ℕ)) (nodes : Li
   pub configs_are : configs ≡ configs_below header (length header.nodes)
   pub places : PlacesReady header nodes last
 
--- how much room a step takes at which this node acts
+-- how many acts a step of this node may put; 0 where no node acts
 abbrev pub wanted : HeaderValue → Option ℕ → ℕ
 wanted header None = 0
 wanted header (Some n) = room (ports_on n (networks header))

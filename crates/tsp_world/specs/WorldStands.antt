@@ -1,4 +1,4 @@
--- What a world stands for: a header, and the events that it accepted.
+-- Which schedules a world stands for: its header, and the events that it accepted.
 use Rattle.std.specs.Prelude.{◌≡◌, ℕ, ◌+◌, ◌≤◌, Bool, true, false, List, [], ◌∷◌, ◌++◌, ◌<◌, length, Option, None, Some, slice_get, All, vec_len, vec_capacity}
 use Rattle.tsp_base.specs.declared.act.Placed.{Placed}
 use Rattle.tsp_base.specs.declared.event.Event.{Event}
@@ -16,7 +16,7 @@ use Rattle.tsp_run.specs.Refusals.{Scene, Valid, scene, refusal}
 use Rattle.tsp_run.specs.Run.{run, posts, last_at, gained, event_at, happening, steps, posts_from, told_from}
 use Rattle.tsp_run.specs.Setup.{past_of, rests}
 
--- a place of the world's nodes: a node that is up and stands for its past, or one that hasn't booted
+-- a place of the world's nodes has a node that is up and stands for its past, or one that hasn't booted
 abbrev pub PlaceStands : HeaderValue → List Line → ℕ → Option Gateway → Type 0
 PlaceStands header history n (Some node) = (up (dids (of n history)) ≡ true) × GatewayStands (past_of header (rests n) history) node
 PlaceStands header history n None = up (dids (of n history)) ≡ false
@@ -40,7 +40,7 @@ is_node (Some (Some node)) = true
 abbrev pub up_at : List (Option Gateway) → ℕ → Bool
 up_at places n = is_node (slice_get places n)
 
--- what decides on refusals, as the world has it
+-- what refusals depend on, as the world has it
 abbrev pub scene_of : World → Scene
 scene_of world = record { nodes = vec_len world.nodes; networks = networks world.header; last = world.last; events = world.events; posts = world.sent.items; up = up_at world.nodes.items }
 
@@ -64,7 +64,7 @@ pub record IsReady (wanted : ℕ) (world : World) : Type 0 where
   pub lines : wanted ≤ vec_capacity world.lines
   pub sent : wanted ≤ world.sent.spare
 
--- the world stands for what it stood for
+-- the world still stands for all that it stood for
 abbrev pub Stays : World → World → Type 0
 Stays old new = (header : HeaderValue) (events : List Event) → WorldStands header events old → WorldStands header events new
 
@@ -85,7 +85,7 @@ pub record CanNote (world : World) : Type 0 where
   pub few_events : world.events < 200000
   pub few_posts : length world.sent.items + length world.desk.placed.items ≤ 1000000
 
--- an event at this time was noted by a world with this header, these nodes, so many events and these posts: these acts as lines and as posts
+-- a world with this header, these nodes, so many events and these posts has noted an event at this time: its acts as lines and as posts
 pub record Notes (at node tick : ℕ) (header : HeaderValue) (nodes : List (Option Gateway)) (events : ℕ) (sent : List Posted) (acts : List Placed) (new : World) : Type 0 where
   pub header_is : new.header ≡ header
   pub nodes_are : new.nodes.items ≡ nodes
@@ -94,7 +94,7 @@ pub record Notes (at node tick : ℕ) (header : HeaderValue) (nodes : List (Opti
   pub sent_is : new.sent.items ≡ sent ++ posts_from at node acts
   pub lines_are : new.lines.items ≡ told_from (events + 1) node tick (length sent) acts
 
--- an event was noted at which nobody acts
+-- an event was noted at which no node acts
 pub record Passes (at : ℕ) (old new : World) : Type 0 where
   pub header : new.header ≡ old.header
   pub nodes : new.nodes ≡ old.nodes

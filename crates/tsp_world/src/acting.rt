@@ -1,4 +1,4 @@
-//! How an event makes a node of a world act.
+//! The events of a world: each makes one of its nodes act, or none.
 ghost use Rattle.std.specs.Prelude.{◌≡◌, ℕ, ◌≤◌, ◌<◌, ◌+◌, ◌^◌, length, vec_len, slice_get, Some, OnOk, OnErr};
 ghost use Rattle.tsp_base.specs.declared.event.Event.{Event};
 ghost use Rattle.tsp_base.specs.declared.datagram.Taken.{Taken};
@@ -50,7 +50,7 @@ impl World {
         tick_at(self.line(node).rate, at)
     }
 
-    /// A node boots. Fails only if out of memory, and the world still stands for what it stood for.
+    /// A node boots. Fails only if out of memory, and then changes nothing that the world stands for.
     pub(crate) fn boot(&mut self, at: u64, node: u32, word: u64) -> Result<(), AllocError>
         requires ready { IsReady (room (ports_on node (networks self.old.header))) self.old }
         requires time { at ≤ 1000000000000000 }
@@ -78,7 +78,7 @@ impl World {
         }
     }
 
-    /// A node's timers are looked at.
+    /// A node looks at its timers.
     pub(crate) fn turn(&mut self, at: u64, node: u32)
         requires ready { IsReady (room (ports_on node (networks self.old.header))) self.old }
         requires time { at ≤ 1000000000000000 }
@@ -96,7 +96,7 @@ impl World {
         self.note(node, tick);
     }
 
-    /// A posted datagram reaches its addressee, or nobody.
+    /// A posted datagram reaches its addressee, or nobody where it has none.
     pub(crate) fn take(&mut self, at: u64, k: u64)
         requires ready { IsReady (wanted self.old.header (actor (scene_of self.old) (Event.Take at k)))
             self.old }
@@ -114,8 +114,8 @@ impl World {
         }
     }
 
-    /// What the datagram with this number brings to where it goes. A reader takes from its written
-    /// spelling what was posted, so nothing needs to be written or read.
+    /// The datagram with this number, as it reaches this address. What is written for a datagram always reads as
+    /// the same datagram, so nothing needs to be written or read.
     fn arrival(&self, k: u64, address: Address) -> Arrival
         requires { goes_to (networks self.now.header) (slice_get self.now.sent.items k) ≡ Some
             address }
@@ -139,7 +139,7 @@ impl World {
         }
     }
 
-    /// Octets are handed to a node on a port.
+    /// Octets reach a node on a port.
     pub(crate) fn bytes(&mut self, at: u64, node: u32, port: Port, from: Place, octets: &[u8])
         requires ready { IsReady (room (ports_on node (networks self.old.header))) self.old }
         requires time { at ≤ 1000000000000000 }
@@ -176,7 +176,7 @@ impl World {
         self.note(node, tick);
     }
 
-    /// Notes an event at which nobody acts.
+    /// Notes an event at which no node acts.
     fn pass(&mut self, at: u64)
         requires order { self.old.last ≤ at }
         requires events { self.old.events < 200000 }
@@ -187,7 +187,7 @@ impl World {
         self.lines.clear();
     }
 
-    /// Notes an event of a node whose acts are on the desk. Its time is the last event's already.
+    /// Notes the acts on the desk, which a node put at an event. The event's time was noted before.
     fn note(&mut self, node: u32, tick: u64)
         requires { CanNote self.old }
         ensures { Notes self.old.last node tick self.old.header self.old.nodes.items self.old.events

@@ -1,4 +1,4 @@
-//! What is kept of a post beside the octets of its name.
+//! What is stored of a post beside the octets of its name.
 ghost use Rattle.std.specs.Prelude.{◌≡◌, ◌≤◌, ◌+◌, ◌++◌, length, vec_len, vec_capacity};
 ghost use Rattle.tsp_base.specs.declared.datagram.Datagram.{Datagram};
 ghost use Rattle.tsp_world.specs.Heads.{HeldStands, datagram_in, name_in};
@@ -10,10 +10,10 @@ use tsp_base::message::{Body, Message};
 use tsp_base::name::Name;
 use tsp_base::stamp::Stamp;
 
-/// What a datagram carries beside the octets of its name.
+/// A datagram without the octets of its name.
 #[derive(Clone, Copy)]
 pub(crate) enum StoredDatagram {
-    /// A message. Its name begins at one place among the octets of all names, and ends before another.
+    /// A message. Its name is from place `start` to before `end` of the octets of all names.
     Message {
         kind: Kind,
         number: u16,
@@ -32,7 +32,7 @@ pub(crate) struct Head {
     pub(crate) held: StoredDatagram,
 }
 
-/// Puts octets behind the others, where there is room.
+/// Appends octets.
 fn append(names: &mut Vec<u8>, octets: &[u8])
     requires room { vec_len names.old + length octets.now ≤ vec_capacity names.old }
     ensures items { names.new.items ≡ names.old.items ++ octets.now }
@@ -45,7 +45,7 @@ fn append(names: &mut Vec<u8>, octets: &[u8])
     }
 }
 
-/// Puts the name of a message behind the others, and gives the rest of it.
+/// Appends the name of a message to all names, and gives the rest of the message.
 fn hold_message(names: &mut Vec<u8>, message: &Message) -> StoredDatagram
     requires room { vec_len names.old + 255 ≤ vec_capacity names.old }
     ensures items { names.new.items ≡ names.old.items ++ message.now.name }
@@ -65,7 +65,7 @@ fn hold_message(names: &mut Vec<u8>, message: &Message) -> StoredDatagram
     }
 }
 
-/// Puts the name of a datagram behind the others, and gives the rest of it.
+/// Appends the name of a datagram, if it has one, to all names, and gives the rest of the datagram.
 pub(crate) fn hold(names: &mut Vec<u8>, datagram: &Datagram) -> StoredDatagram
     requires room { vec_len names.old + 255 ≤ vec_capacity names.old }
     ensures items { names.new.items ≡ names.old.items ++ name_in datagram.now }
@@ -80,7 +80,7 @@ pub(crate) fn hold(names: &mut Vec<u8>, datagram: &Datagram) -> StoredDatagram
     }
 }
 
-/// The datagram of which this is kept, with its name among these octets.
+/// The stored datagram, whose name is among these octets.
 pub(crate) fn datagram_of(names: &[u8], held: &StoredDatagram) -> Datagram
     requires { HeldStands names.now held.now }
     ensures { result ≡ datagram_in names.now held.now }

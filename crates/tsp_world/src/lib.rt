@@ -1,12 +1,22 @@
-//! All nodes of a schedule, on all their networks, and all datagrams that they posted: events in, acts out.
+//! All nodes of a schedule, on all their networks, and all datagrams that they posted. Events go in, the
+//! lines of the trace come out.
 //!
-//! Make a [`world::World`] with a whole header, and give it each event in the order of time. After
-//! each, `acts` are the lines that the event added to the history. A refused event leaves the world
-//! as it was, and its fault says why.
+//! Make a [`world::World`] with a header whose `whole` is true, and give it each event in the order of
+//! time. After each, `acts` are the lines that the event adds to the trace. A refused event changes
+//! nothing, and its fault says why.
 //!
-//! [`posts::Posts`] has the datagrams, under numbers from 0. A name may have 255 octets, and mostly
-//! has few: so the octets of all names lie one behind the other, and of each post there is kept
-//! where its name begins and ends.
+//! ```
+//! let mut header = Header::new(alloc, 0, false);
+//! header.push(NodeLine { name: Name::new(b"a"), rate: 0, wall: 1000, may: true })?;
+//! let mut world = World::new(alloc, header)?;
+//! world.event(&Event::Boot { at: 0, node: 0, word: 5 })?;
+//! assert_eq!(world.acts().len(), 3); // boot, become starting, arm quiet 80000000
+//! let fault = world.event(&Event::Turn { at: 0, node: 1 });
+//! assert!(matches!(fault, Err(EventFault::NoNode(1, 1))));
+//! ```
+//!
+//! [`posts::Posts`] has the posted datagrams, numbered from 0. A name may have 255 octets but mostly has
+//! few, so the octets of all names are in one list, and each post has the place of its own.
 #![tactic(auto)]
 
 mod acting;

@@ -1,16 +1,16 @@
-//! How many events and datagrams a world has room for.
+//! The greatest numbers of events and of posts.
 ghost use Rattle.std.specs.Prelude.{◌≡◌, ◌≤◌, IfSome};
 ghost use Rattle.tsp_run.specs.Refusals.{is_crowded, limit};
 
 use tsp_base::event::EventFault;
 
-/// How many events a world accepts.
+/// The greatest number of events that a world accepts.
 pub const MOST_EVENTS: u64 = 200_000;
 
-/// How many datagrams a world keeps.
+/// The greatest number of datagrams that a world stores.
 pub const MOST_POSTS: u64 = 1_000_000;
 
-/// There is room for no more posts, where a node would act that wants so much room.
+/// Whether a step of a node that may put `wanted` acts might pass the greatest number of posts.
 fn is_crowded(posted: u64, wanted: Option<u64>) -> bool
     requires posted { posted ≤ 1000000 }
     requires wanted { IfSome wanted (λ w. w ≤ 200000) }
@@ -22,7 +22,8 @@ fn is_crowded(posted: u64, wanted: Option<u64>) -> bool
     }
 }
 
-/// There is room for no more events, or for no more posts of a node that would act and wants so much room.
+/// `Limit` where one event more passes the greatest number of events, or its step, of at most `wanted` acts,
+/// might pass that of posts.
 pub(crate) fn limit(events: u64, posted: u64, wanted: Option<u64>) -> Option<EventFault>
     requires posted { posted ≤ 1000000 }
     requires wanted { IfSome wanted (λ w. w ≤ 200000) }

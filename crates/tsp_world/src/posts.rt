@@ -1,4 +1,4 @@
-//! Posted datagrams, of which names take no more than their octets.
+//! Posted datagrams, stored so that a short name takes little memory.
 ghost use Rattle.std.specs.Prelude.{◌≡◌, ◌≤◌, ◌<◌, ◌+◌, ◌++◌, [], ◌∷◌, length, slice_get, Some, OnOk, OnErr};
 ghost use Rattle.std.specs.Option.{option_map};
 
@@ -8,16 +8,16 @@ use std::alloc::{AllocError, Global};
 use std::marker::Model;
 use tsp_base::datagram::Datagram;
 
-/// The most octets of a name.
+/// The greatest length of a name, in octets.
 const LONGEST: usize = 255;
 
-/// Posted datagrams under numbers from 0, and room for more. Its room is counted apart, since a
-/// vector may hold more than was asked for.
+/// Posted datagrams, numbered from 0, and room for more. It counts its room itself, since a vector may have
+/// more than was asked for.
 #[derive(Drop)]
 pub struct Posts {
     /// The posts without the octets of their names.
     heads: Vec<Head>,
-    /// The octets of all names, one behind the other.
+    /// The octets of all names, one after the other.
     names: Vec<u8>,
     /// How many more there is room for, whatever their names.
     spare: usize,
@@ -61,8 +61,8 @@ impl Posts {
         self.heads.len()
     }
 
-    /// When the datagram with this number was posted, by whom and for whom; None exactly where no
-    /// datagram has it.
+    /// When the datagram with this number was posted, by whom and for whom; None exactly where there is no
+    /// such datagram.
     pub fn way(&self, k: u64) -> Option<Way>
         ensures { result ≡ option_map way_of (slice_get self.now.items k) }
     {
@@ -80,8 +80,8 @@ impl Posts {
         datagram_of(self.names.as_slice(), &self.heads[k as usize].held)
     }
 
-    /// Makes room for at least `n` more, whatever their names; the posts stay. Fails only if out of
-    /// memory, and then leaves the room as it was.
+    /// Makes room for at least `n` more posts, whatever their names. Fails only if out of memory; the room is
+    /// then unchanged.
     pub fn reserve(&mut self, n: usize) -> Result<(), AllocError>
         ensures items { self.new.items ≡ self.old.items }
         ensures room { OnOk result (n ≤ self.new.spare) }
@@ -100,7 +100,7 @@ impl Posts {
         Ok(())
     }
 
-    /// Puts a datagram behind the others, and uses up one of the room.
+    /// Adds a datagram; there must be room, which becomes one less.
     pub fn push(&mut self, way: Way, datagram: &Datagram)
         requires { 0 < self.old.spare }
         ensures items { self.new.items ≡ self.old.items ++ posted_on way datagram.now ∷ [] }

@@ -1,4 +1,4 @@
-//! What decides whether a world refuses an event.
+//! Why a world refuses an event.
 ghost use Rattle.std.specs.Prelude.{◌≡◌, ◌≤◌, length, vec_len, slice_get, IfSome};
 ghost use Rattle.tsp_run.specs.Networks.{networks};
 ghost use Rattle.tsp_run.specs.Refusals.{refusal, no_datagram, not_up, down, actor, room_at};
@@ -13,7 +13,7 @@ use tsp_networks::refusals::{down_at, first_of, no_node, time_back, time_of};
 use tsp_networks::{address_of, networks_of, room_of};
 use tsp_run::address::Address;
 
-/// The event takes a datagram that was never posted.
+/// `NoDatagram` where the event takes a datagram that was never posted.
 fn no_datagram(posted: u64, e: &Event) -> Option<EventFault>
     ensures { result ≡ no_datagram posted e.now }
 {
@@ -54,7 +54,8 @@ impl World {
         address_of(self.networks(), way.from, way.port, way.to)
     }
 
-    /// The node that would act at an event: of a datagram its addressee; none where it goes nowhere.
+    /// The node that would act at an event: that of the event, or the addressee of its datagram; None where the
+    /// datagram goes nowhere.
     pub(crate) fn actor(&self, e: &Event) -> Option<u32>
         ensures { result ≡ actor (scene_of self.now) e.now }
     {
@@ -69,7 +70,7 @@ impl World {
         }
     }
 
-    /// The room that a step of this node wants, if a node acts.
+    /// How many acts a step of this node may put; None where no node acts.
     pub(crate) fn room(&self, node: Option<u32>) -> Option<u64>
         ensures room { result ≡ room_at (networks self.now.header) node }
         ensures few { IfSome result (λ w. w ≤ 200000) }
@@ -80,7 +81,7 @@ impl World {
         }
     }
 
-    /// The first cause for which an event at which this node would act is refused, if it is.
+    /// The first cause for which an event is refused, if it is; `node` is the node that would act.
     pub(crate) fn refusal(&self, e: &Event, node: Option<u32>) -> Option<EventFault>
         requires { node ≡ actor (scene_of self.now) e.now }
         ensures { result ≡ refusal (scene_of self.now) e.now }
@@ -99,7 +100,7 @@ impl World {
         matches!(self.nodes.get(n as usize), Some(Some(_)))
     }
 
-    /// The node that would act hasn't booted; a boot needs no node that is up.
+    /// `NotUp` where the node that would act hasn't booted; a boot is never refused so.
     fn not_up(&self, e: &Event, node: Option<u32>) -> Option<EventFault>
         requires { node ≡ actor (scene_of self.now) e.now }
         ensures { result ≡ not_up (scene_of self.now) e.now }
@@ -112,7 +113,7 @@ impl World {
         }
     }
 
-    /// This node hasn't booted.
+    /// `NotUp` where this node hasn't booted.
     fn down(&self, node: Option<u32>) -> Option<EventFault>
         ensures { result ≡ down (up_at self.now.nodes.items) node }
     {

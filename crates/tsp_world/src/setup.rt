@@ -1,4 +1,4 @@
-//! What the nodes of a schedule are set up with.
+//! The configurations of a schedule's nodes.
 ghost use Rattle.std.specs.Prelude.{◌≡◌, ◌≤◌, [], ◌∷◌, ◌++◌, length, IfOk, OnOk};
 ghost use Rattle.tsp_run.specs.Networks.{networks, peers_on, ports_on};
 ghost use Rattle.tsp_world.specs.Configs.{configs_below};
@@ -9,7 +9,7 @@ use tsp_base::members::Members;
 use tsp_base::place::PeerId;
 use tsp_gateway::GateConfig;
 
-/// What each node of a header is set up with, in order, on these networks. Fails only if out of memory.
+/// The configuration of each node of a header, in order, on these networks. Fails only if out of memory.
 pub(crate) fn configs_of(
     alloc: Global,
     header: &Header,
@@ -26,7 +26,7 @@ pub(crate) fn configs_of(
     Ok(configs)
 }
 
-/// What a node is set up with on these networks. Fails only if out of memory.
+/// The configuration of a node on these networks. Fails only if out of memory.
 fn config_of(
     alloc: Global,
     line: &NodeLine,
@@ -48,8 +48,8 @@ fn config_of(
     Ok(config)
 }
 
-/// Gives a node a port on a network, where it is on it. Fails only if out of memory: a node is on 4
-/// networks at the most.
+/// Adds a port on a network, where the node is on it. Fails only if out of memory, since a node is on at most
+/// 4 networks.
 fn join(
     alloc: Global,
     config: &mut GateConfig,
@@ -71,7 +71,7 @@ fn join(
     }
 }
 
-/// The members of a network, as its ports have them as peers. Fails only if out of memory.
+/// The members of a network, as the peers of a port on it. Fails only if out of memory.
 fn peers_of(alloc: Global, net: &Members) -> Result<Vec<PeerId>, AllocError>
     ensures { IfOk result (λ v. v.items ≡ peers_on net.now) }
 {

@@ -15,7 +15,7 @@ use tsp_base::pad::Pad;
 use tsp_base::place::{Place, Port};
 use tsp_gateway::Gateway;
 
-/// The timers of a node are looked at, if it is up.
+/// A node looks at its timers, if it is up.
 pub(crate) fn turn(place: &mut Option<Gateway>, tick: u64, desk: &mut Pad)
     requires tick { tick ≤ 2 ^ 61 }
     requires able { CanAct desk.old.spare tick place.old }

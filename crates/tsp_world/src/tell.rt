@@ -1,4 +1,4 @@
-//! An event's acts, as lines and as posted datagrams.
+//! The lines and the posted datagrams of an event's acts.
 ghost use Rattle.std.specs.Prelude.{◌≡◌, ◌≤◌, ◌<◌, ◌^◌, ◌+◌, ◌++◌, [], ◌∷◌, ℕ, length, vec_len, vec_capacity};
 ghost use Rattle.tsp_run.specs.Run.{told_from, told_line, posts_by, number_of, posts_from, posted_by};
 
@@ -8,7 +8,7 @@ use tsp_base::act::{Act, Placed};
 use tsp_base::place::Port;
 use tsp_run::line::Line;
 
-/// Tells acts of an event as lines; the first post among them gets the number `first`.
+/// Adds the lines of an event's acts; the first post among them gets the number `first`.
 pub(crate) fn tell(
     lines: &mut Vec<Line>,
     acts: &[Placed],
@@ -28,7 +28,7 @@ pub(crate) fn tell(
     }
 }
 
-/// Tells one act, and gives the number of the next post.
+/// Adds the line of one act, and gives the number of the next post.
 fn tell_one(
     lines: &mut Vec<Line>,
     placed: &Placed,
@@ -56,7 +56,7 @@ fn tell_one(
     next + posts_by(&placed.act)
 }
 
-/// The number of a post.
+/// The number of a post; None for any other act.
 fn number_of(act: &Act, next: u64) -> Option<u64>
     ensures { result ≡ number_of act.now next }
 {
@@ -77,7 +77,7 @@ fn posts_by(act: &Act) -> u64
     }
 }
 
-/// Notes the datagrams that acts post.
+/// Adds the datagrams that acts post.
 pub(crate) fn send(sent: &mut Posts, acts: &[Placed], at: u64, node: u32)
     requires room { length acts.now ≤ sent.old.spare }
     ensures sent { sent.new.items ≡ sent.old.items ++ posts_from at node acts.now }
@@ -88,7 +88,7 @@ pub(crate) fn send(sent: &mut Posts, acts: &[Placed], at: u64, node: u32)
     }
 }
 
-/// Notes the datagram that an act posts on a port, if it posts one.
+/// Adds the datagram that an act posts on a port, if it posts one.
 fn send_one(sent: &mut Posts, act: &Act, at: u64, node: u32, port: Port)
     requires room { 0 < sent.old.spare }
     ensures sent { sent.new.items ≡ sent.old.items ++ posted_by at node port act.now }

@@ -2,14 +2,14 @@
 
 use tsp_base::place::{Place, Port};
 
-/// A post without what it carries.
+/// A post without its datagram.
 #[derive(Clone, Copy)]
 pub struct Way {
     /// The true time of the post, in microseconds.
     pub at: u64,
     /// The node that posted it.
     pub from: u32,
-    /// The poster's port, which says on what network it goes.
+    /// The port on which it was posted, which gives its network.
     pub port: Port,
     /// Whom it is for.
     pub to: Place,

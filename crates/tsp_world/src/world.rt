@@ -16,16 +16,16 @@ use tsp_gateway::{GateConfig, Gateway};
 use tsp_networks::{all_nodes, networks_of};
 use tsp_run::line::Line;
 
-/// The nodes and the posted datagrams; the lines of the last event.
+/// The nodes of a schedule, the datagrams that they posted, and the lines of the last event.
 #[derive(Drop)]
 pub struct World {
-    /// What a boot takes memory from.
+    /// The allocator, for boots.
     pub(crate) alloc: Global,
     /// The nodes' clocks, names and networks.
     pub(crate) header: Header,
-    /// The network of all nodes, which they are on where the header names none.
+    /// The one network of all nodes, used where the header names none.
     pub(crate) one: Vec<Members>,
-    /// What each node is set up with.
+    /// The configuration of each node.
     pub(crate) configs: Vec<GateConfig>,
     /// The nodes that are up, each in its place.
     pub(crate) nodes: Vec<Option<Gateway>>,
@@ -57,8 +57,7 @@ impl World {
     ghost use Rattle.tsp_world.specs.NodesReady.{wanted};
     ghost use Rattle.tsp_world.specs.WorldStands.{WorldStands, scene_of, IsReady, Happens, Stays};
 
-    /// No event has happened. Takes memory for the nodes and for what they are set up with; fails
-    /// only if out of memory, and drops the header.
+    /// A world before its first event. Fails only if out of memory, and then drops the header.
     pub fn new(alloc: Global, header: Header) -> Result<World, AllocError>
         requires some { 1 ≤ length header.nodes }
         requires whole { is_whole header ≡ true }
@@ -115,12 +114,12 @@ impl World {
         }
     }
 
-    /// Lets an event happen, or says for which first cause it can't: `TimeBack` where its time is
-    /// below the last one's, `NoNode` for a number that no node has or a port that its node lacks,
-    /// `NoDatagram` for one that was never posted, `NotUp` where the node that would act hasn't
-    /// booted, `Limit` where 200,000 events are there or the node's posts might pass 1,000,000. A
-    /// refusal leaves the world as it was, lack of memory too. The history of the events accepted
-    /// so far keeps the promises, and each premise that holds of their text holds of it.
+    /// Lets an event happen, or gives the first cause for which it can't: `TimeBack` where its time is before
+    /// that of the last event, `NoNode` for a number that no node has or a port that its node doesn't have,
+    /// `NoDatagram` for a datagram that was never posted, `NotUp` where the node that would act hasn't
+    /// booted, `Limit` where there are 200,000 events or the node's posts might pass 1,000,000. Else it
+    /// fails only if out of memory. A refused event changes nothing. The history of the events accepted so
+    /// far keeps the promises, and each premise that holds of their text holds of it.
     pub fn event(&mut self, e: &Event) -> Result<(), EventFault>
         requires time { event_at e.now ≤ 1000000000000000 }
         ensures stands { (header : HeaderValue) (events : List Event)
@@ -153,8 +152,8 @@ impl World {
         }
     }
 
-    /// Makes room for the acts of a step at which this node acts, its lines and its posts. Fails
-    /// only if out of memory, and the world still stands for what it stood for.
+    /// Makes room for the acts of this node's step, for its lines and its posts. Fails only if out of
+    /// memory, and then changes nothing that the world stands for.
     fn make_room(&mut self, node: Option<u32>) -> Result<(), AllocError>
         ensures stands { Stays self.old self.new }
         ensures ready { OnOk result (IsReady (wanted self.old.header node) self.new) }
@@ -173,7 +172,7 @@ impl World {
     }
 
     /// Lets an event happen that nothing refuses, and at which this node acts. Fails only if out of
-    /// memory for a boot, and the world still stands for what it stood for.
+    /// memory for a boot, and then changes nothing that the world stands for.
     fn happen(&mut self, e: &Event, node: Option<u32>) -> Result<(), AllocError>
         requires ready { IsReady (wanted self.old.header node) self.old }
         requires time { event_at e.now ≤ 1000000000000000 }

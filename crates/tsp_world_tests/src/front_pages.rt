@@ -1,4 +1,4 @@
-//! The examples of the front pages of the crates that they are about.
+//! The examples of the front pages of tsp_codec, tsp_group and tsp_gateway.
 
 use std::alloc::{AllocError, Global};
 use tsp_base::datagram::{Datagram, DecodeFault};
@@ -39,8 +39,8 @@ fn of_the_averaging(rt: HostRuntime) {
     assert_eq!(rt; correction(433, 900), -467);
 }
 
-/// A node of one network boots and is stepped at the end of its quiet time; the count of its acts
-/// is its desk's.
+/// A node on one network boots and takes a step at the end of its quiet time. The count of its acts is
+/// that of the desk.
 fn boot_and_step(alloc: Global) -> Result<usize, AllocError> {
     let mut config = GateConfig::new(alloc, Name::new(b"alpha"), true, false)?;
     if config.port(PeerId(0), &[PeerId(0), PeerId(1)]).is_err() {
@@ -57,7 +57,7 @@ fn boot_and_step(alloc: Global) -> Result<usize, AllocError> {
     Ok(desk.acts().len())
 }
 
-/// The quiet time ends with its alarm, a new role, that role's alarm and a question for a master.
+/// At the end of the quiet time come its alarm, a new role, that role's alarm and a question for a master.
 #[test]
 fn of_the_gateway(rt: HostRuntime) {
     assert_eq!(rt; boot_and_step(rt.alloc()), Ok(4));

@@ -15,7 +15,7 @@ use tsp_world::world::World;
 /// How long a datagram is on its way, in microseconds.
 const FLIGHT: u64 = 300;
 
-/// How often each node's timers are looked at, in microseconds.
+/// From one look of a node at its timers to the next, in microseconds.
 const LOOK: u64 = 500_000;
 
 /// The last time of a schedule, in microseconds.
@@ -30,21 +30,21 @@ struct Flight {
     to: u32,
 }
 
-/// Nodes without drift, and what came of them so far.
+/// Nodes without drift, and what they did so far.
 #[derive(Drop)]
 pub(crate) struct Lan {
     world: World,
     /// The time of the last event.
     now: u64,
-    /// When timers are looked at next, and whose come first.
+    /// When the next node looks at its timers, and which one that is.
     look: u64,
     next: u32,
-    /// The datagrams in the order in which they land, and how many of them have.
+    /// The datagrams in the order in which they arrive, and how many of them have.
     flights: Vec<Flight>,
     landed: usize,
     /// The node that hears nobody, and that nobody hears.
     apart: Option<u32>,
-    /// Of each node: what it is on its first port, and by how much its clock is off the true time.
+    /// Of each node: its role on its first port, and how far its clock is from the true time.
     roles: Vec<Role>,
     offsets: Vec<i64>,
     /// The clocks' offsets at a boot.
@@ -53,7 +53,7 @@ pub(crate) struct Lan {
     refused: u32,
 }
 
-/// A header with nodes of these wall clocks, the first of which may lead, as yet without networks.
+/// A header of nodes with these wall clocks, the first of which may be master, and without networks.
 fn header_of(alloc: Global, walls: &[i64], leaders: usize) -> Option<Header> {
     let mut header = Header::new(alloc, 0, false);
     for wall in walls {
@@ -79,14 +79,14 @@ fn starting(alloc: Global, nodes: usize) -> Option<Vec<Role>> {
 }
 
 impl Lan {
-    /// Nodes with these wall clocks, in microseconds, all on one network. They are down as yet, and
-    /// all may lead.
+    /// Nodes with these wall clocks, in microseconds, all on one network. They haven't booted, and all may be
+    /// master.
     pub(crate) fn of(alloc: Global, walls: &[i64]) -> Option<Lan> {
         let header = header_of(alloc, walls, walls.len())?;
         Lan::with(alloc, header, walls)
     }
 
-    /// Nodes with these wall clocks on these networks, of which so many, the first ones, may lead.
+    /// Nodes with these wall clocks on these networks, of which the first `leaders` may be master.
     pub(crate) fn on(alloc: Global, walls: &[i64], leaders: usize, nets: &[&[u32]]) -> Option<Lan> {
         let mut header = header_of(alloc, walls, leaders)?;
         for net in nets {
@@ -126,7 +126,7 @@ impl Lan {
         });
     }
 
-    /// Boots all nodes, each with a word of its own.
+    /// Boots all nodes, each with its own word.
     pub(crate) fn boot_all(&mut self) {
         let count = u32::try_from(self.roles.len()).unwrap_or(0);
         for node in 0..count {
@@ -145,7 +145,7 @@ impl Lan {
         }
     }
 
-    /// The next event: a datagram lands, or a node's timers are looked at.
+    /// The next event: a datagram arrives, or a node looks at its timers.
     pub(crate) fn step(&mut self) {
         match self.flights.get(self.landed) {
             Some(flight) if flight.lands <= self.look => {
@@ -157,7 +157,7 @@ impl Lan {
         }
     }
 
-    /// A datagram lands, unless it would cross the cut.
+    /// A datagram arrives, unless its sender or its addressee is cut off.
     fn land(&mut self, flight: Flight) {
         if self.apart == Some(flight.from) || self.apart == Some(flight.to) {
             return;
@@ -168,7 +168,7 @@ impl Lan {
         });
     }
 
-    /// The next node's timers are looked at.
+    /// The next node looks at its timers.
     fn look_at_next(&mut self) {
         self.happens(&Event::Turn {
             at: self.look,
@@ -181,7 +181,7 @@ impl Lan {
         }
     }
 
-    /// Lets an event happen, and notes what came of it.
+    /// Lets an event happen, and notes its acts.
     fn happens(&mut self, event: &Event) {
         let (Event::Boot { at, .. }
         | Event::Turn { at, .. }
@@ -230,12 +230,12 @@ impl Lan {
         self.world.acts()
     }
 
-    /// What a node is on its first port; none where there is no such node.
+    /// The role of a node on its first port; None where there is no such node.
     pub(crate) fn role(&self, node: u32) -> Option<Role> {
         self.roles.get(node as usize).copied()
     }
 
-    /// How many nodes lead their first network.
+    /// How many nodes are master of their first network.
     pub(crate) fn masters(&self) -> usize {
         let mut count = 0usize;
         for role in &self.roles {
@@ -246,7 +246,7 @@ impl Lan {
         count
     }
 
-    /// The first node that leads its first network.
+    /// The first node that is master of its first network.
     pub(crate) fn master(&self) -> Option<u32> {
         for node in 0..self.roles.len() {
             if self.roles[node] == Role::Master {

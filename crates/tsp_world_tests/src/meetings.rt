@@ -1,9 +1,9 @@
-//! Nodes that meet: they elect a master, follow it, are corrected, part, and come together again.
+//! Nodes on a network: they elect a master, follow it, are corrected, are separated, and joined again.
 
 use crate::lan::Lan;
 use tsp_base::role::Role;
 
-/// Two nodes are quiet at first; then one of them leads, and the other follows it.
+/// Two nodes are quiet at first; then one of them becomes master, and the other follows it.
 #[test]
 fn two_nodes_elect_one(rt: HostRuntime) {
     let Some(mut lan) = Lan::of(rt.alloc(), &[0, 0]) else {
@@ -22,7 +22,7 @@ fn two_nodes_elect_one(rt: HostRuntime) {
     );
 }
 
-/// Three clocks that stand far apart come within two milliseconds of each other.
+/// Three clocks that are far apart come within two milliseconds of each other.
 #[test]
 fn three_clocks_come_together(rt: HostRuntime) {
     let Some(mut lan) = Lan::of(rt.alloc(), &[0, 400_000, -300_000]) else {
@@ -35,7 +35,7 @@ fn three_clocks_come_together(rt: HostRuntime) {
     assert!(rt; lan.spread() <= 2000);
 }
 
-/// A node that boots late follows the master that there is, and takes its time.
+/// A node that boots late follows the master that is there already, and its clock is set.
 #[test]
 fn a_late_node_follows(rt: HostRuntime) {
     let Some(mut lan) = Lan::of(rt.alloc(), &[0, 0, 5_000_000]) else {
@@ -53,8 +53,8 @@ fn a_late_node_follows(rt: HostRuntime) {
     assert!(rt; lan.spread() <= 2000);
 }
 
-/// A master that is cut off leads on alone, and the others elect another. Once a node boots that
-/// hears both, one of the two yields.
+/// A master that is cut off is still master alone, and the others elect another one. Once a node boots that
+/// hears both, one of the two gives way.
 #[test]
 fn a_split_network_joins_again(rt: HostRuntime) {
     let Some(mut lan) = Lan::of(rt.alloc(), &[0, 0, 0]) else {

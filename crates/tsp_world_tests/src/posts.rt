@@ -1,4 +1,4 @@
-//! Posts come back from where they are kept, whatever their names.
+//! Posts are read again as they were stored, whatever their names.
 ghost use Rattle.std.specs.Prelude.{◌≡◌, length, IfSome};
 
 use std::alloc::Global;
@@ -12,7 +12,7 @@ use tsp_base::stamp::Stamp;
 use tsp_world::posts::Posts;
 use tsp_world::way::Way;
 
-/// A name of as many octets as it may have.
+/// A name of the greatest length.
 const LONG: [u8; 255] = [b'x'; 255];
 
 /// A LOOP numbered 7, with 3 hops and this name.

@@ -6,7 +6,7 @@ use tsp_base::octets::Octets;
 use tsp_base::place::{PeerId, Place, Port};
 use tsp_networks::refusals::{down_at, first_of, no_node, time_back, time_of};
 
-/// Octets that are handed to a node on a port, as from this place.
+/// Octets that reach a node on a port, and seem to come from this place.
 fn bytes(node: u32, port: u8, from: Place) -> Option<Event> {
     let octets = Octets::of(b"x")?;
     Some(Event::Bytes {

@@ -1,4 +1,4 @@
-//! A clock that a corrected master corrects: three nodes on two networks, worked through as a test.
+//! A clock that a corrected master corrects: three nodes on two networks.
 
 use crate::lan::Lan;
 use tsp_base::act::Act;
@@ -6,7 +6,7 @@ use tsp_base::datagram::{Datagram, Taken};
 use tsp_base::kind::Kind;
 use tsp_base::place::PeerId;
 
-/// The master of the first network, the node that follows it there and leads on the second, and
+/// The master of the first network, the node that follows it there and is master of the second, and
 /// that node's slave.
 const MASTER: u32 = 0;
 
@@ -14,7 +14,7 @@ const GATEWAY: u32 = 1;
 
 const SLAVE: u32 = 2;
 
-/// What a run has told so far.
+/// What a run has shown so far.
 #[derive(Drop)]
 struct Told {
     /// The sums of the master's and of the slave's corrections.

@@ -27,11 +27,11 @@ const REQUEST: [u8; 28] = [
 enum What {
     /// This node boots with this word.
     Boot(u32, u64),
-    /// This node's timers are looked at.
+    /// This node looks at its timers.
     Turn(u32),
     /// This datagram is taken.
     Take(u64),
-    /// This node is handed the request on this port as from here.
+    /// The request reaches this node on this port, and seems to come from here.
     Ask(u32, u8, Place),
 }
 
@@ -66,7 +66,7 @@ fn happens(world: &mut World, at: u32, what: What) -> Option<EventFault> {
     }
 }
 
-/// A world of nodes with these rates and walls.
+/// A world of nodes with these rates and wall clocks.
 fn world_of(alloc: Global, drift: u32, clocks: &[(i32, i64)]) -> Option<World>
     requires { drift ≤ 1000 }
 {
@@ -172,7 +172,7 @@ fn is_same_line(line: &Line, wanted: &Line) -> bool {
         && is_same_act(&line.placed.act, &wanted.placed.act)
 }
 
-/// Whether exactly these lines are told.
+/// Whether exactly these lines are given.
 fn tells(world: &World, wanted: &[Line]) -> bool {
     for (line, other) in world.acts().iter().zip(wanted) {
         if !is_same_line(line, other) {
@@ -217,7 +217,7 @@ fn answers_a_stranger(rt: HostRuntime) {
     assert_eq!(rt; (world.events(), world.posted()), (3, 1));
 }
 
-/// Two nodes whose clocks drift apart; the reply is taken twice, and one that goes to a stranger by nobody.
+/// Two nodes whose clocks drift apart. The reply is taken twice, and one to a stranger by nobody.
 #[test]
 fn carries_a_reply_to_its_node(rt: HostRuntime) {
     let Some(mut world) = world_of(rt.alloc(), 1000, &[(1000, 1000), (-500, -7)]) else {
@@ -266,7 +266,7 @@ fn carries_a_reply_to_its_node(rt: HostRuntime) {
     }
 }
 
-/// Each cause but the limit and memory, and which of two comes first.
+/// Each cause except the limit and memory, and which of two comes first.
 #[test]
 fn refuses_by_the_first_cause(rt: HostRuntime) {
     let Some(mut world) = world_of(rt.alloc(), 0, &[(0, 0)]) else {
@@ -286,8 +286,8 @@ fn refuses_by_the_first_cause(rt: HostRuntime) {
     assert_eq!(rt; world.events(), 2);
 }
 
-/// A node of two networks boots on both ports; what it posts on one reaches that network alone, and
-/// a port that it lacks is refused.
+/// A node on two networks boots on both ports. What it posts on one reaches that network alone, and an event
+/// on a port that it doesn't have is refused.
 #[test]
 fn carries_a_reply_on_its_network(rt: HostRuntime) {
     let Some(mut world) = world_of_two_networks(rt.alloc()) else {

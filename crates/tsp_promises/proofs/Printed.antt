@@ -1,0 +1,78 @@
+-- What a Correct prints is what the clock shows right after it.
+use Rattle.std.specs.Prelude.{◌≡◌, ℕ, ◌-◌, ◌/◌, ℤ, pos, negsuc, ◌+ℤ◌, ◌-ℤ◌, nat_lt, nat_abs, Bool, true, false, ◌||◌, if◌then◌else◌, List, ◌∷◌, Some, refl}
+use Rattle.std.proofs.Common.{sym, ap, arith, subst, ◌∙◌}
+use Rattle.std.proofs.lemmas.Int.{ints}
+use Rattle.tsp_base.specs.declared.act.Act.TheVariants.{Correct, Took}
+use Rattle.tsp_base.specs.declared.constants.TheConstants.{MAXADJ, SLEW}
+use Rattle.tsp_base.specs.declared.datagram.Datagram.TheVariants.{Message}
+use Rattle.tsp_base.specs.declared.datagram.Taken.TheVariants.{Good}
+use Rattle.tsp_base.specs.declared.kind.Kind.{Kind}
+use Rattle.tsp_base.specs.declared.kind.Kind.TheVariants.{SetTime}
+use Rattle.tsp_base.specs.declared.place.Place.{Place}
+use Rattle.tsp_base.specs.History.{Acts, Did, Here, Past, Seen, Step, plain}
+use Rattle.tsp_base.specs.Messages.{MessageValue}
+use Rattle.tsp_base.specs.NodeFacts.{base, eased, moved, rest, rest_at, shown, target}
+use Rattle.tsp_base.specs.PortFacts.{taken_after}
+use Rattle.tsp_base.specs.SendFacts.{sets_date}
+use Rattle.tsp_base.specs.Takings.{heard}
+use Rattle.tsp_promises.specs.CorrectFits.{is_stepped, sets_time}
+use Rattle.tsp_rules.specs.Guards.{target_at}
+use Rattle.tsp_rules.proofs.Asides.{now}
+
+eased-none : (r : ℤ) → eased r 0 ≡ r
+eased-none (pos r) = grind (arith, ints)
+eased-none (negsuc r) = grind (arith, ints)
+
+-- nothing is slewed in no time
+eased-now : (r : ℤ) (x : ℕ) → eased r ((x - x) / SLEW) ≡ r
+eased-now r x = let none : (x - x) / SLEW ≡ 0 = omega arith in subst (λ n. eased r n ≡ r) (sym none) (eased-none r)
+
+moves-on : (c m a e f : ℤ) (x : ℕ) → e ≡ f → ((c +ℤ (m +ℤ a)) +ℤ pos x) -ℤ e ≡ (((c +ℤ m) +ℤ pos x) +ℤ a) -ℤ f
+moves-on c m a e f x h = omega (arith, ints)
+
+less-none : (z : ℤ) → z -ℤ pos 0 ≡ z
+less-none z = omega (arith, ints)
+
+leaves-as-it-was : (t a e : ℤ) → (t +ℤ a) -ℤ (e +ℤ a) ≡ t -ℤ e
+leaves-as-it-was t a e = omega (arith, ints)
+
+-- after a Correct that is stepped the clock shows its new target
+pub after_step : (step : Step) (x : ℕ) (b : List Did) (amount value : ℤ) → shown (record { step = step; tick = x; deed = Acts (Correct amount true value) } ∷ b) x ≡ target b x +ℤ amount
+after_step step x b amount value = moves-on (base b) (moved b) amount (eased (pos 0) ((x - x) / SLEW)) (pos 0) x (eased-now (pos 0) x) ∙ less-none (target b x +ℤ amount)
+
+pub shows_target : (step : Step) (x : ℕ) (b : List Did) (amount value : ℤ) → let ds : List Did = record { step = step; tick = x; deed = Acts (Correct amount true value) } ∷ b in shown ds x ≡ target ds x
+shows_target step x b amount value =
+    let ds : List Did = record { step = step; tick = x; deed = Acts (Correct amount true value) } ∷ b in
+    ap (λ e. target ds x -ℤ e) (eased-now (pos 0) x) ∙ less-none (target ds x)
+
+-- after one that is slewed it shows what it showed
+pub after_slew : (step : Step) (x : ℕ) (b : List Did) (amount value : ℤ) → shown (record { step = step; tick = x; deed = Acts (Correct amount false value) } ∷ b) x ≡ shown b x
+after_slew step x b amount value =
+    moves-on (base b) (moved b) amount (eased (rest_at b x +ℤ amount) ((x - x) / SLEW)) (rest_at b x +ℤ amount) x (eased-now (rest_at b x +ℤ amount) x) ∙ leaves-as-it-was (target b x) amount (rest_at b x)
+
+-- a clock that is moved by an amount
+pub adjusts_prints : (x : ℕ) (past : Past) (amount : ℤ) (b : Bool) →
+    (if b then target_at x past +ℤ amount else shown (plain past.seen) x) ≡ shown (now x past (Correct amount b (if b then target_at x past +ℤ amount else shown (plain past.seen) x)) ∷ plain past.seen) x
+adjusts_prints x past amount true = sym (after_step past.step x (plain past.seen) amount (target_at x past +ℤ amount))
+adjusts_prints x past amount false = sym (after_slew past.step x (plain past.seen) amount (shown (plain past.seen) x))
+
+there : (t value : ℤ) → value ≡ t +ℤ (value -ℤ t)
+there t value = omega (arith, ints)
+
+-- a clock that is set to a value
+pub sets_prints : (x : ℕ) (past : Past) (value : ℤ) → value ≡ shown (now x past (Correct (value -ℤ target_at x past) true value) ∷ plain past.seen) x
+sets_prints x past value = there (target_at x past) value ∙ sym (after_step past.step x (plain past.seen) (value -ℤ target_at x past) value)
+
+-- what a step has taken that has just taken a message
+pub heard_now : (from : Place) (m : MessageValue) (took : Did) (rest seen : List Seen) → seen ≡ Here took ∷ rest → took.deed ≡ Acts (Took from (Good (Message m))) → heard (plain seen) ≡ Some (record { from = from; taken = Good (Message m) })
+heard_now from m took rest seen is deed = ap (λ s. heard (plain s)) is ∙ ap (λ d. taken_after d (heard (plain rest))) deed
+
+-- so whether it steps the clock is said by the message's kind and by the amount
+pub flag_of : (from : Place) (m : MessageValue) (amount : ℤ) (took : Did) (rest seen : List Seen) (sets : Bool) → seen ≡ Here took ∷ rest → took.deed ≡ Acts (Took from (Good (Message m))) → sets_time m.kind ≡ sets →
+    (sets || nat_lt MAXADJ (nat_abs amount)) ≡ is_stepped amount (heard (plain seen))
+flag_of from m amount took rest seen sets is deed kind = ap (λ b. b || nat_lt MAXADJ (nat_abs amount)) (sym kind) ∙ ap (is_stepped amount) (sym (heard_now from m took rest seen is deed))
+
+-- a date sets the clock
+pub date_sets : (k : Kind) → sets_date k ≡ true → sets_time k ≡ true
+date_sets SetTime e = refl
+date_sets _ e = e

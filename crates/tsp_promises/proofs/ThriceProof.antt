@@ -1,0 +1,104 @@
+-- A numbered send has few posts.
+use Rattle.std.specs.Prelude.{◌≡◌, ◌≤◌, ◌⊎◌, ℕ, ◌+◌, ◌==◌, ◌&&◌, if◌then◌else◌, Bool, true, false, List, [], ◌∷◌, refl}
+use Rattle.std.proofs.Common.{sym, ap, arith, subst, inl, inr, eq-eqb, ◌∙◌}
+use Rattle.tsp_base.specs.declared.act.Act.TheVariants.{Boot, Post, Become, Acked, Gave}
+use Rattle.tsp_base.specs.declared.constants.TheConstants.{TRIES}
+use Rattle.tsp_base.specs.declared.datagram.Datagram.TheVariants.{Message}
+use Rattle.tsp_base.specs.declared.place.PeerId.{PeerId}
+use Rattle.tsp_base.specs.declared.place.Place.TheVariants.{Peer}
+use Rattle.tsp_promises.specs.CorrectionFits.{RepeatFits}
+use Rattle.tsp_promises.specs.Fits.{Fits, node_of}
+use Rattle.tsp_base.specs.History.{Deed, Acts, Did, Line, Seen, Here, Elsewhere, of, view}
+use Rattle.tsp_base.specs.Messages.{MessageValue}
+use Rattle.tsp_base.specs.PortFacts.{acting}
+use Rattle.tsp_base.specs.SendFacts.{begun_to, is_numbered, open_to, open_to_after, posts_of, posts_of_after}
+use Rattle.tsp_promises.specs.Setting.{Setting}
+use Rattle.tsp_promises.specs.Thrice.{Thrice, ThriceAt, sent, sent_after}
+use Rattle.tsp_promises.proofs.EverywhereLemmas.{Everywhere-from}
+use Rattle.tsp_promises.proofs.Locating.{line_on, view-line}
+use Rattle.tsp_promises.proofs.OwnFitsProof.{fits_at}
+use Rattle.tsp_promises.proofs.SendPlaces.{repeats_in, send_place}
+use Rattle.tsp_promises.proofs.SendProof.{not-nil}
+
+-- what a send has had is what the open one has had, where one is open
+abbrev Counted : List Seen → ℕ → ℕ → Type 0
+Counted place had posts = (place ≡ []) ⊎ (had ≡ posts)
+
+-- an end of the open send, or of another
+ended : (b : Bool) (keep : List Seen) (had posts : ℕ) → Counted keep had posts → Counted (if b then [] else keep) had (if b then 0 else posts)
+ended true keep had posts h = inl refl
+ended false keep had posts h = h
+
+-- a post of the send, its first one or a repeat, or of another
+posted : (mine numbered begins : Bool) (here keep : List Seen) (had posts : ℕ) → Counted keep had posts →
+    Counted (if mine && (numbered && begins) then here else keep) (if mine && numbered then (if begins then 1 else had + 1) else had) (if mine && numbered then (if begins then 1 else posts + 1) else posts)
+posted true true true here keep had posts h = inr refl
+posted true true false here keep had posts h = elim h [
+  | inl e ↦ inl e
+  | inr e ↦ inr (ap (λ n. n + 1) e)
+]
+posted true false begins here keep had posts h = h
+posted false numbered begins here keep had posts h = h
+
+counted-deed : (p : PeerId) (d : Did) (before : List Seen) (deed : Deed) → Counted (open_to p before) (sent p before) (posts_of p before) →
+    Counted (open_to_after p deed (acting before) (Here d ∷ before) (open_to p before)) (sent_after p deed (acting before) (sent p before)) (posts_of_after p deed (acting before) (posts_of p before))
+counted-deed p d before (Acts Boot) h = inl refl
+counted-deed p d before (Acts (Become r)) h = inl refl
+counted-deed p d before (Acts (Post (Peer q) (Message m))) h = posted (q.0 == p.0) (is_numbered m.kind) (acting before) (Here d ∷ before) (open_to p before) (sent p before) (posts_of p before) h
+counted-deed p d before (Acts (Acked q)) h = ended (q.0 == p.0) (open_to p before) (sent p before) (posts_of p before) h
+counted-deed p d before (Acts (Gave q)) h = ended (q.0 == p.0) (open_to p before) (sent p before) (posts_of p before) h
+counted-deed p d before _ h = h
+
+counted : (p : PeerId) (seen : List Seen) → Counted (open_to p seen) (sent p seen) (posts_of p seen)
+counted p [] = inl refl
+counted p (Elsewhere d ∷ before) = counted p before
+counted p (Here d ∷ before) = counted-deed p d before d.deed (counted p before)
+
+-- an open send has had as many posts as are counted
+open-had : (p : PeerId) (seen : List Seen) (first : Did) (older : List Seen) → open_to p seen ≡ Here first ∷ older → sent p seen ≡ posts_of p seen
+open-had p seen first older e = elim (counted p seen) [
+  | inl none ↦ not-nil (Here first) older (sym none ∙ e)
+  | inr same ↦ same
+]
+
+sent-begins : (p : PeerId) (m : MessageValue) (post : Did) (before : List Seen) → post.deed ≡ Acts (Post (Peer p) (Message m)) → is_numbered m.kind ≡ true → acting before ≡ true → sent p (Here post ∷ before) ≡ 1
+sent-begins p m post before is kind acts =
+    let e : (p.0 == p.0) ≡ true = eq-eqb p.0 p.0 refl in
+    rw is (rw (e, kind, acts) refl)
+
+sent-again : (p : PeerId) (m : MessageValue) (post : Did) (before : List Seen) → post.deed ≡ Acts (Post (Peer p) (Message m)) → is_numbered m.kind ≡ true → acting before ≡ false → sent p (Here post ∷ before) ≡ sent p before + 1
+sent-again p m post before is kind acts =
+    let e : (p.0 == p.0) ≡ true = eq-eqb p.0 p.0 refl in
+    rw is (rw (e, kind, acts) refl)
+
+few-posts : (p : PeerId) (m : MessageValue) (post : Did) (before : List Seen) → post.deed ≡ Acts (Post (Peer p) (Message m)) → is_numbered m.kind ≡ true → (acting before ≡ false → RepeatFits post before p m) → sent p (Here post ∷ before) ≤ TRIES
+few-posts p m post before is kind repeats = by-case (acting before) refl where
+  by-case : (b : Bool) → acting before ≡ b → sent p (Here post ∷ before) ≤ TRIES
+  by-case true e = let one = sent-begins p m post before is kind e in omega (arith, one)
+  by-case false e =
+      let h = repeats e in
+      let more = sent-again p m post before is kind e in
+      let had = open-had p before h.first h.older h.is in
+      let few = h.few in
+      omega (arith, more, had, few)
+
+thrice_at : (setting : Setting) (l : Line) (world : List Line) → Fits setting (l ∷ world) → ThriceAt l world
+thrice_at setting l world f p m is kind =
+    let n = node_of l in
+    let s = send_place setting n p.0 l world m f refl is kind in
+    let seen : view l.port (of n (l ∷ world)) ≡ Here l.did ∷ view l.port (of n world) = view-line n l world refl in
+    record {
+      first = line_on l.port s.first;
+      older = s.fw;
+      place = s.place;
+      node = s.node;
+      port = refl;
+      begins = s.sends.begins;
+      is = ap (begun_to p) seen ∙ s.is;
+      same = s.sends.deed ∙ sym is;
+      soon = s.ticks;
+      few = subst (λ k. sent p k ≤ TRIES) (sym seen) (few-posts p m l.did (view l.port (of n world)) is kind (repeats_in setting n l world p m f.0 refl is kind));
+    }
+
+pub thrice : (setting : Setting) (world : List Line) → Fits setting world → Thrice world
+thrice setting world f = Everywhere-from ThriceAt world (λ l s w. thrice_at setting l s (fits_at setting (l ∷ s) world f w))

@@ -1,0 +1,5 @@
+use Rattle.tsp_promises.proofs.safe.prints_use.Goals as goal
+use Rattle.tsp_promises.proofs.WitnessReadings.{prints_use}
+
+pub returns : goal.returns
+returns c = prints_use

@@ -1,0 +1,108 @@
+-- The promise that what is asked is answered: a step takes one datagram, a QUIT is acknowledged, and strangers get one answer for one datagram.
+use Rattle.std.specs.Prelude.{◌≡◌, ◌≤◌, ◌⊎◌, ℕ, ◌+◌, Bool, true, false, List, [], ◌∷◌, None}
+use Rattle.tsp_base.specs.declared.act.Act.TheVariants.{Post, Quit, Took}
+use Rattle.tsp_base.specs.declared.datagram.Datagram.{Datagram}
+use Rattle.tsp_base.specs.declared.datagram.Datagram.TheVariants.{Message, Stamp}
+use Rattle.tsp_base.specs.declared.datagram.Taken.{Taken}
+use Rattle.tsp_base.specs.declared.datagram.Taken.TheVariants.{Good}
+use Rattle.tsp_base.specs.declared.kind.Kind.TheVariants.{Ack, DateAck, Quit as QuitKind}
+use Rattle.tsp_base.specs.declared.place.PeerId.{PeerId}
+use Rattle.tsp_base.specs.declared.place.Place.{Place}
+use Rattle.tsp_base.specs.declared.place.Place.TheVariants.{Peer, Stranger}
+use Rattle.tsp_base.specs.declared.place.Port.{Port}
+use Rattle.tsp_base.specs.declared.stamp.Stamp.TheVariants.{Reply, Request}
+use Rattle.tsp_promises.specs.Everywhere.{Everywhere}
+use Rattle.tsp_promises.specs.Fits.{node_of}
+use Rattle.tsp_base.specs.History.{Acts, Begins, Deed, Did, Line, dids, of, view}
+use Rattle.tsp_base.specs.Messages.{MessageValue}
+use Rattle.tsp_promises.specs.StepFacts.{unacknowledged}
+use Rattle.tsp_base.specs.Takings.{TakesFrom, heard}
+
+-- a step takes one datagram at most, on whatever port
+abbrev pub TakesOneAt : Line → List Line → Type 0
+TakesOneAt l world = (from : Place) (taken : Taken) → l.did.deed ≡ Acts (Took from taken) → heard (dids (of (node_of l) world)) ≡ None
+
+abbrev pub has_quit_after : Deed → Bool → Bool
+has_quit_after Begins keep = false
+has_quit_after (Acts (Quit p)) keep = true
+has_quit_after _ keep = keep
+
+-- whether this step has a Quit, on whatever port
+abbrev pub has_quit : List Did → Bool
+has_quit [] = false
+has_quit (d ∷ before) = has_quit_after d.deed (has_quit before)
+
+-- a Quit of p is its node's next deed after the Took of a QUIT of p, on that port, and the only Quit of its step
+pub record HeedsQuit (l : Line) (world : List Line) (p : PeerId) : Type 0 where
+  pub took : Line
+  pub older : List Line
+  pub is : of (node_of l) world ≡ took ∷ older
+  pub port : took.port ≡ l.port
+  pub message : MessageValue
+  pub deed : took.did.deed ≡ Acts (Took (Peer p) (Good (Message message)))
+  pub kind : message.kind ≡ QuitKind
+  pub only : has_quit (dids (of (node_of l) world)) ≡ false
+
+abbrev pub QuitsAt : Line → List Line → Type 0
+QuitsAt l world = (p : PeerId) → l.did.deed ≡ Acts (Quit p) → HeedsQuit l world p
+
+-- at each step's end, on each port: if the step has a Quit, an ACK of the QUIT's number was posted to its sender behind it
+pub record Acknowledged (world : List Line) : Type 0 where
+  pub marks : Everywhere (λ (l : Line) (before : List Line). l.did.deed ≡ Begins → (q : Port) → unacknowledged (view q (of (node_of l) before)) ≡ None) world
+  pub ends : (n : ℕ) (q : Port) → unacknowledged (view q (of n world)) ≡ None
+
+-- a datagram answers another: a reply with its word and counter answers a stamp request, and an ACK or a DATEACK of its number a message
+abbrev pub AnswersWith : Datagram → Datagram → Type 0
+AnswersWith (Stamp (Request word counter)) (Stamp (Reply reply)) = (reply.word ≡ word) × (reply.counter ≡ counter)
+AnswersWith (Message asked) (Message answer) = ((answer.kind ≡ Ack) ⊎ (answer.kind ≡ DateAck)) × (answer.number ≡ asked.number)
+AnswersWith _ _ = ⊥
+
+abbrev pub has_answered_after : Deed → Bool → Bool
+has_answered_after Begins keep = false
+has_answered_after (Acts (Post Stranger datagram)) keep = true
+has_answered_after _ keep = keep
+
+-- whether this step has posted something to a stranger, on whatever port
+abbrev pub has_answered : List Did → Bool
+has_answered [] = false
+has_answered (d ∷ before) = has_answered_after d.deed (has_answered before)
+
+-- a post to a stranger answers the datagram that its step has taken from a stranger on that port, and is the step's first to one
+pub record AnswersStranger (l : Line) (world : List Line) (datagram : Datagram) : Type 0 where
+  pub asked : Datagram
+  pub took : TakesFrom (view l.port (of (node_of l) world)) Stranger asked
+  pub answer : AnswersWith asked datagram
+  pub first : has_answered (dids (of (node_of l) world)) ≡ false
+
+abbrev pub StrangersAt : Line → List Line → Type 0
+StrangersAt l world = (datagram : Datagram) → l.did.deed ≡ Acts (Post Stranger datagram) → AnswersStranger l world datagram
+
+abbrev pub to_strangers_after : Deed → ℕ → ℕ
+to_strangers_after (Acts (Post Stranger datagram)) n = n + 1
+to_strangers_after _ n = n
+
+-- how many datagrams were posted to strangers
+abbrev pub to_strangers : List Did → ℕ
+to_strangers [] = 0
+to_strangers (d ∷ before) = to_strangers_after d.deed (to_strangers before)
+
+abbrev pub from_strangers_after : Deed → ℕ → ℕ
+from_strangers_after (Acts (Took Stranger taken)) n = n + 1
+from_strangers_after _ n = n
+
+-- how many were taken from strangers, whatever they were read as
+abbrev pub from_strangers : List Did → ℕ
+from_strangers [] = 0
+from_strangers (d ∷ before) = from_strangers_after d.deed (from_strangers before)
+
+-- of all nodes together, up to each place: strangers were posted no more datagrams than were taken from them
+abbrev pub OneForOneAt : Line → List Line → Type 0
+OneForOneAt l world = to_strangers (dids (l ∷ world)) ≤ from_strangers (dids (l ∷ world))
+
+-- all of them, of a history that ends with a step
+pub record Answered (world : List Line) : Type 0 where
+  pub takes_one : Everywhere TakesOneAt world
+  pub quits : Everywhere QuitsAt world
+  pub acknowledged : Acknowledged world
+  pub strangers : Everywhere StrangersAt world
+  pub one_for_one : Everywhere OneForOneAt world

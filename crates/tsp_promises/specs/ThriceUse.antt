@@ -1,0 +1,29 @@
+-- Repeats: the promise that a send has few posts isn't empty.
+use Rattle.std.specs.Prelude.{◌≡◌, true, List, ◌∷◌}
+use Rattle.tsp_base.specs.declared.act.Act.TheVariants.{Post}
+use Rattle.tsp_base.specs.declared.constants.TheConstants.{TRIES}
+use Rattle.tsp_base.specs.declared.datagram.Datagram.TheVariants.{Message}
+use Rattle.tsp_base.specs.declared.place.PeerId.{PeerId}
+use Rattle.tsp_base.specs.declared.place.Place.TheVariants.{Peer}
+use Rattle.tsp_promises.specs.Fits.{node_of}
+use Rattle.tsp_base.specs.History.{Acts, Line, of, view}
+use Rattle.tsp_base.specs.Messages.{MessageValue}
+use Rattle.tsp_base.specs.Places.{Within}
+use Rattle.tsp_base.specs.SendFacts.{is_numbered}
+use Rattle.tsp_promises.specs.Kept.{Kept}
+use Rattle.tsp_promises.specs.Setting.{Setting}
+use Rattle.tsp_promises.specs.Thrice.{sent}
+
+-- a history that fits and keeps every premise, in which a message is posted for the last time that it may be
+pub record ThriceUse : Type 0 where
+  pub setting : Setting
+  pub world : List Line
+  pub kept : Kept setting world
+  pub post : Line
+  pub before : List Line
+  pub post_in : Within (post ∷ before) world
+  pub peer : PeerId
+  pub message : MessageValue
+  pub deed : post.did.deed ≡ Acts (Post (Peer peer) (Message message))
+  pub numbered : is_numbered message.kind ≡ true
+  pub had : sent peer (view post.port (of (node_of post) (post ∷ before))) ≡ TRIES
