@@ -85,9 +85,8 @@ impl<C: EventHandler> Run<C> {
             line.now self.new) (Halts C.refused (Running header events) line.now) }
         ensures kind { result ≢ Err Stop.WriteFault }
     {
-        // (an event is long, so it stays where it was read)
-        match &event_line(line) {
-            Ok(EventItem::Event(e)) => self.happen(e),
+        match event_line(line) {
+            Ok(EventItem::Event(e)) => self.happen(&e),
             Ok(EventItem::End) => {
                 self.over = true;
                 Ok(())
