@@ -15,7 +15,7 @@
 //! ```
 #![tactic(auto)]
 
-ghost use Rattle.std.specs.Prelude.{◌≡◌, ◌≤◌, [], ◌∷◌, length, IfOk};
+ghost use Rattle.std.specs.Prelude.{◌≡◌, ◌≤◌, [], ◌∷◌, length, true, IfOk};
 ghost use Rattle.tsp_base.specs.Headers.{has_member};
 ghost use Rattle.tsp_run.specs.Networks.{networks, numbers_below, network_at, port_from, ports_on, address_of, room};
 
@@ -59,7 +59,21 @@ pub fn networks_of<'a>(header: &'a Header, one: &'a [Members]) -> &'a [Members]
 fn has(net: &Members, n: u32) -> bool
     ensures { result ≡ has_member n net.now }
 {
-    net.numbers().contains(&n)
+    let numbers = net.numbers();
+    if is_in_place(numbers, n) {
+        return true;
+    }
+    numbers.contains(&n)
+}
+
+/// Whether a number is the one at its own place, as each is in a network of all nodes: then it needn't be sought.
+fn is_in_place(numbers: &[u32], n: u32) -> bool
+    ensures { result ≡ true → has_member n numbers.now ≡ true }
+{
+    match numbers.get(n as usize) {
+        Some(m) => *m == n,
+        None => false,
+    }
 }
 
 /// How many ports a node has.

@@ -150,11 +150,19 @@ fn read_turn(at: u64, line: &[u8]) -> Option<Event>
     ensures reads { (node : ℕ) → node < 2 ^ 32 → line.now ≡ decimal node
         → result ≡ Some (Event.Turn at node) }
     ensures range { IfSome result (λ e. IsEvent e × IsHexOf [] e) }
-    ensures spells { IfSome result (λ e. SpellsRest at (codes "turn") line.now e) }
 {
-    let node = number_of(line)?;
-    let node = long_of(node)?;
+    let node = long_number(line)?;
     Some(Event::Turn { at, node })
+}
+
+/// The node that a word names.
+fn long_number(word: &[u8]) -> Option<u32>
+    ensures reads { (node : ℕ) → node < 2 ^ 32 → word.now ≡ decimal node → result ≡ Some node }
+    ensures spells { IfSome result (λ node. word.now ≡ decimal node) }
+    ensures range { IfSome result (λ node. node < 2 ^ 32) }
+{
+    let number = number_of(word)?;
+    long_of(number)
 }
 
 /// Reads what follows `take`.
@@ -163,7 +171,6 @@ fn read_take(at: u64, line: &[u8]) -> Option<Event>
     ensures reads { (datagram : ℕ) → datagram < 2 ^ 64 → line.now ≡ decimal datagram
         → result ≡ Some (Event.Take at datagram) }
     ensures range { IfSome result (λ e. IsEvent e × IsHexOf [] e) }
-    ensures spells { IfSome result (λ e. SpellsRest at (codes "take") line.now e) }
 {
     let datagram = number_of(line)?;
     Some(Event::Take { at, datagram })
@@ -259,15 +266,22 @@ pub fn event_line(line: &[u8]) -> Result<EventItem, LineFault>
         return Ok(EventItem::End);
     }
     match common_event(line) {
-        Some(event) => Ok(EventItem::Event(event)),
+        Some(item) => Ok(item),
         None => any_event(line),
     }
 }
 
+<<<<<<< HEAD
+/// The event of a line as most are: a turn, a take, or octets on port 0. None too where the line is
+/// another event's.
+fn common_event(line: &[u8]) -> Option<EventItem>
+    ensures { IfSome result (λ item. SpellsEvent line.now item) }
+=======
 /// The event of the most frequent lines: a turn, a take, or octets on port 0. None says nothing: the line
 /// may be another event's.
 fn common_event(line: &[u8]) -> Option<Event>
     ensures { IfSome result (λ e. SpellsEvent line.now (EventItem.Event e)) }
+>>>>>>> 23ce1c31998ef6047335346d9f5c3fc3513b7013
 {
     let line = after(line, b"at ")?;
     let (at, line) = front_number(line)?;
@@ -275,32 +289,34 @@ fn common_event(line: &[u8]) -> Option<Event>
         return None;
     }
     if let Some(rest) = after(line, b"turn ") {
-        return read_turn(at, rest);
+        let node = long_number(rest)?;
+        return Some(EventItem::Event(Event::Turn { at, node }));
     }
     if let Some(rest) = after(line, b"take ") {
-        return read_take(at, rest);
+        let datagram = number_of(rest)?;
+        return Some(EventItem::Event(Event::Take { at, datagram }));
     }
     let rest = after(line, b"bytes ")?;
     common_bytes(at, rest)
 }
 
 /// Reads what follows `bytes`, of octets on port 0.
-fn common_bytes(at: u64, line: &[u8]) -> Option<Event>
+fn common_bytes(at: u64, line: &[u8]) -> Option<EventItem>
     requires { at ≤ 1000000000000000 }
-    ensures { IfSome result (λ e. IsEvent e × ((hex : List ℕ) × IsHexOf hex e
-        × (codes "at " ++ (decimal at ++ 32 ∷ (codes "bytes " ++ line.now)) ≡ event_text e hex))) }
+    ensures { IfSome result (λ item. SpellsEvent (codes "at "
+        ++ (decimal at ++ 32 ∷ (codes "bytes " ++ line.now))) item) }
 {
     let (node, line) = front_number(line)?;
     let node = long_of(node)?;
     let (from, hex) = front_place(line)?;
     let octets = handed_of(hex)?;
-    Some(Event::Bytes {
+    Some(EventItem::Event(Event::Bytes {
         at,
         node,
         port: Port(0),
         from,
         octets,
-    })
+    }))
 }
 
 /// The place before the first space, and what follows the space.

@@ -1,6 +1,5 @@
 //! The generator of schedules.
-ghost use Rattle.std.specs.Prelude.{◌≡◌, ◌<◌, ◌≤◌, ◌↔◌, ◌+◌, ◌*◌, ◌^◌, IsSome, ◌∷◌, length, decimal};
-ghost use Rattle.tsp_script.specs.Schedules.{IsEvent};
+ghost use Rattle.std.specs.Prelude.{◌≡◌, ◌<◌, ◌≤◌, ◌↔◌, ◌+◌, ◌*◌, ◌^◌, ℕ, IsSome, ◌∷◌, length, decimal};
 ghost use Rattle.tsp_script.specs.Storms.{request_octets};
 
 use arrayvec::ArrayVec;
@@ -67,7 +66,7 @@ impl Model for Storm {
 impl Storm {
     ghost use Rattle.std.specs.Prelude.{None, pos, ◌-ℤ◌};
     ghost use Rattle.tsp_script.specs.Storms.{storm_begins, moved, drawn, storm_line, storm_named};
-    ghost use Rattle.tsp_script.specs.Storms.{gave, boots_next, turns_one, asks_one, asks_or_turns};
+    ghost use Rattle.tsp_script.specs.Storms.{gave, boots_next, turns_one, asks_one, asks_or_turns, as_event};
     ghost use Rattle.tsp_script.specs.Storms.{storm_draw, storm_take, storm_next, IsDraw};
 
     /// The generator that begins with this number, for 1 to 64 nodes.
@@ -137,7 +136,7 @@ impl Storm {
             return self.choose(posted);
         };
         match self.asked {
-            Some(k) => Draw::Event(self.answer(k, time)),
+            Some(k) => self.answer(k, time),
             None => self.choose(posted),
         }
     }
@@ -150,16 +149,16 @@ impl Storm {
         ensures range { IsDraw posted result }
     {
         if self.given < self.nodes {
-            return Draw::Event(self.boot());
+            return self.boot();
         }
         let at = self.at + self.draw(20_001);
         let c = self.draw(8);
         if c < 4 {
-            Draw::Event(self.turn(at))
+            self.turn(at)
         } else if c < 7 {
             self.ask(at, posted)
         } else {
-            Draw::Event(self.request(at))
+            self.request(at)
         }
     }
 
@@ -171,7 +170,7 @@ impl Storm {
         ensures range { IsDraw posted result }
     {
         if posted == 0 {
-            return Draw::Event(self.turn(at));
+            return self.turn(at);
         }
         let among = posted.min(4 * self.nodes as u64);
         let k = posted - 1 - self.draw(among);
@@ -180,67 +179,82 @@ impl Storm {
         Draw::Ask(k)
     }
 
+<<<<<<< HEAD
+    /// The event where the datagram was posted at this time: its take, or a turn where that is too long ago.
+    fn answer(&mut self, k: u64, time: u64) -> Draw
+=======
     /// The event after a question whose answer is this time: the datagram's take, or a turn where the time is too
     /// long ago.
     fn answer(&mut self, k: u64, time: u64) -> Event
+>>>>>>> 23ce1c31998ef6047335346d9f5c3fc3513b7013
         requires few { self.old.given < 200000 }
         requires number { k < 2 ^ 64 }
-        ensures next { (result, self.new) ≡ storm_take k time self.old }
-        ensures range { IsEvent result }
+        ensures next { (result, self.new) ≡ as_event (storm_take k time self.old) }
+        ensures range { (posted : ℕ) → IsDraw posted result }
     {
         let at = self.at;
         if at > time && at - time > RECENT {
             return self.turn(at);
         }
         self.give(at);
-        Event::Take { at, datagram: k }
+        Draw::Event(Event::Take { at, datagram: k })
     }
 
     /// A boot of the next node.
-    fn boot(&mut self) -> Event
+    fn boot(&mut self) -> Draw
         requires few { self.old.given < self.old.nodes }
-        ensures next { (result, self.new) ≡ boots_next self.old }
-        ensures range { IsEvent result }
+        ensures next { (result, self.new) ≡ as_event (boots_next self.old) }
+        ensures range { (posted : ℕ) → IsDraw posted result }
     {
         self.step();
         let node = self.given;
         self.give(0);
-        Event::Boot {
+        Draw::Event(Event::Boot {
             at: 0,
             node,
             word: self.state,
-        }
+        })
     }
 
+<<<<<<< HEAD
+    /// A turn of a node that is drawn.
+    fn turn(&mut self, at: u64) -> Draw
+=======
     /// A turn of a node that is drawn at random.
     fn turn(&mut self, at: u64) -> Event
+>>>>>>> 23ce1c31998ef6047335346d9f5c3fc3513b7013
         requires few { self.old.given < 200000 }
         requires time { at ≤ 20000 * (self.old.given + 1) }
-        ensures next { (result, self.new) ≡ turns_one at self.old }
-        ensures range { IsEvent result }
+        ensures next { (result, self.new) ≡ as_event (turns_one at self.old) }
+        ensures range { (posted : ℕ) → IsDraw posted result }
     {
         let node = self.draw(self.nodes as u64) as u32;
         self.give(at);
-        Event::Turn { at, node }
+        Draw::Event(Event::Turn { at, node })
     }
 
+<<<<<<< HEAD
+    /// A stranger's request at a node that is drawn.
+    fn request(&mut self, at: u64) -> Draw
+=======
     /// A stranger's request at a node that is drawn at random.
     fn request(&mut self, at: u64) -> Event
+>>>>>>> 23ce1c31998ef6047335346d9f5c3fc3513b7013
         requires few { self.old.given < 200000 }
         requires time { at ≤ 20000 * (self.old.given + 1) }
-        ensures next { (result, self.new) ≡ asks_one at self.old }
-        ensures range { IsEvent result }
+        ensures next { (result, self.new) ≡ as_event (asks_one at self.old) }
+        ensures range { (posted : ℕ) → IsDraw posted result }
     {
         let node = self.draw(self.nodes as u64) as u32;
         let octets = request_octets(self.state);
         self.give(at);
-        Event::Bytes {
+        Draw::Event(Event::Bytes {
             at,
             node,
             port: Port(0),
             from: Place::Stranger,
             octets,
-        }
+        })
     }
 
     /// Counts an event of this time.

@@ -5,7 +5,7 @@ ghost use Rattle.tsp_base.specs.declared.event.Event.{Event};
 ghost use Rattle.tsp_script.specs.Schedules.{IsEvent};
 ghost use Rattle.tsp_script.specs.Storms.{storm_take};
 ghost use Rattle.tsp_storm.specs.Makings.{MakingStands, StopsFor};
-ghost use Rattle.tsp_storm.specs.Schedules.{next_event, event_after};
+ghost use Rattle.tsp_storm.specs.Schedules.{next_event};
 ghost use Rattle.tsp_args.specs.Storms.{IsStorm};
 ghost use Rattle.tsp_world.specs.WorldStands.{WorldStands};
 
@@ -86,17 +86,16 @@ impl Making {
 
     /// One event more, which happens in the world: `Limit` exactly where there is no room for it, with its
     /// number, from 1 on.
-    pub fn step(&mut self, words: &StormWords) -> Result<Event, Stopped>
+    pub fn step(&mut self, words: &StormWords) -> Result<(), Stopped>
         requires stands { MakingStands words.now self.old }
         requires more { self.old.storm.given < words.now.events }
         ensures stands { OnOk result (MakingStands words.now self.new) }
         ensures given { OnOk result (self.new.storm.given ≡ self.old.storm.given + 1) }
-        ensures event { IfOk result (λ e. e ≡ event_after words.now self.old.storm.given) }
         ensures stops { IfErr result (λ stop. StopsFor words.now self.old.storm.given stop) }
     {
         let e = draw(&mut self.storm, &self.world);
         match self.world.event(&e) {
-            Ok(()) => Ok(e),
+            Ok(()) => Ok(()),
             Err(fault) => match fault {
                 EventFault::Limit(events, _) => Err(Stopped::Limit(events + 1)),
                 EventFault::OutOfMemory => Err(Stopped::OutOfMemory),

@@ -39,7 +39,7 @@ fn run(alloc: Global, words: &StormWords) -> Result<Summary, Stopped>
     let mut counts = Counts::new();
     for _ in 0..words.events {
         match making.step(words) {
-            Ok(_) => counts.add_all(making.acts()),
+            Ok(()) => counts.add_all(making.acts()),
             Err(stop) => return Err(stop),
         }
     }

@@ -1,9 +1,7 @@
-//! Tests of the command `storm`: by lines that other programs gave, and by the replay of the same events.
+//! Tests of the `storm` command, by lines that other programs worked out.
 //!
-//! The tests are in a crate of their own, so that each crate that they try is proved once.
+//! They are in a crate of their own, so that the crate under test is proved only once.
 #![tactic(auto)]
 
-#[cfg(test)]
-mod beside_replay;
 #[cfg(test)]
 mod sums;

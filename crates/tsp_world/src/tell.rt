@@ -46,14 +46,13 @@ fn tell_one(
     ensures next { result ≡ next + posts_by placed.now.act }
 {
     let number = number_of(&placed.act, next);
-    let line = Line {
+    lines.push_reserved(Line {
         event,
         node,
         tick,
         number,
         placed: placed.copy(),
-    };
-    lines.push_reserved(line);
+    });
     next + posts_by(&placed.act)
 }
 

@@ -1,5 +1,5 @@
 use Rattle.std.proofs.Common.{◌≤◌, ◌+◌, ◌∙◌, subst, ap}
-use Rattle.tsp_script.specs.Storms.{StormValue, as_event}
+use Rattle.tsp_script.specs.Storms.{StormValue}
 use Rattle.tsp_script.proofs.StormDraws.{draw-ask, draw-request}
 use Rattle.tsp_script.proofs.storm.Storm.choose.Goals as goal
 
@@ -11,4 +11,4 @@ returns-then-c-lt7-clause-next c =
 pub returns-else-c-lt7-clause-next : goal.returns-else-c-lt7-clause-next
 returns-else-c-lt7-clause-next c =
     let booted : c.args.self.now.nodes ≤ c.args.self.now.given = subst (λ (v : StormValue). v.nodes ≤ v.given) c.self.view_is c.if-self.false in
-    ap (λ e. as_event e) c.request.ensures.next ∙ draw-request c.args.posted _ c.draw.result c.draw-c.result c.args.self.now c.draw.new.self c.draw-c.new.self booted c.draw.ensures.moves c.draw-c.ensures.moves (ap (λ (v : StormValue). v.at + c.draw.result) c.self.view_is) c.draw.ensures.value c.draw-c.ensures.value c.if-c-lt7.false
+    c.request.ensures.next ∙ draw-request c.args.posted _ c.draw.result c.draw-c.result c.args.self.now c.draw.new.self c.draw-c.new.self booted c.draw.ensures.moves c.draw-c.ensures.moves (ap (λ (v : StormValue). v.at + c.draw.result) c.self.view_is) c.draw.ensures.value c.draw-c.ensures.value c.if-c-lt7.false

@@ -1,7 +1,7 @@
 -- A step is the schedule's next event, and only a limit refuses it.
 use Rattle.std.proofs.Common.{ap, arith, ◌+◌}
 use Rattle.tsp_storm.specs.Schedules.{header_of, events_of}
-use Rattle.tsp_storm.proofs.Steps.{made_now, moves_now, event_is, stands_next, no_other_now, stops_now}
+use Rattle.tsp_storm.proofs.Steps.{made_now, moves_now, stands_next, no_other_now, stops_now}
 use Rattle.tsp_storm.proofs.making.Making.step.Goals as goal
 
 pub draw-e-requires-clause-some : goal.draw-e-requires-clause-some
@@ -49,7 +49,3 @@ returns-in-Ok-clause-stands c =
 pub returns-in-Ok-clause-given : goal.returns-in-Ok-clause-given
 returns-in-Ok-clause-given c =
     (moves_now c.args.words.now c.args.self.now c.draw-e.result c.draw-e.new.storm c.requires.stands (c.draw-e.ensures.next (header_of c.args.words.now) (events_of c.args.words.now c.args.self.now.storm.given) c.requires.stands.world)).given
-
-pub returns-in-Ok-clause-event : goal.returns-in-Ok-clause-event
-returns-in-Ok-clause-event c =
-    event_is c.args.words.now c.args.self.now c.draw-e.result c.draw-e.new.storm c.requires.stands (c.draw-e.ensures.next (header_of c.args.words.now) (events_of c.args.words.now c.args.self.now.storm.given) c.requires.stands.world)
