@@ -12,7 +12,7 @@ use Rattle.tsp_run.specs.Run.{run}
 use Rattle.tsp_run.specs.Setting.{SetBy}
 use Rattle.tsp_storm.specs.Schedules.{header_of, events_of}
 
--- a run that keeps the promises, and what they ask too, with nothing left to ask: no peer's datagram is forged in it, none is taken too late, boots have words of their own and nodes names of their own. What asks for few sends holds where it is short
+-- a run that keeps the promises, and what they ask too, with nothing left to ask but that few sends begin: no peer's datagram is forged in it, none is taken too late, boots have words of their own and nodes names of their own. Few begin where the run is short
 pub record KeptOutright (header : HeaderValue) (events : List Event) : Type 0 where
   pub honest : Honest (run header events)
   pub life : Life (run header events)
