@@ -8,7 +8,8 @@ use Rattle.tsp_audit.specs.Judged.{FailsNow, Judges}
 use Rattle.tsp_audit.specs.Looking.{Grown}
 use Rattle.tsp_audit.specs.Parts.{Acting, ActsOnce, Agreeing, AllKeep, Backing, Keeps, Leading, Measuring, Part, part_number}
 use Rattle.tsp_audit.specs.Settings.{HasClocks, Timely}
-use Rattle.tsp_audit.proofs.Prefixes.{history-within, length-noted}
+use Rattle.tsp_history.proofs.NoteLemmas.{length-noted}
+use Rattle.tsp_audit.proofs.Prefixes.{history-within}
 use Rattle.tsp_base.specs.Headers.{HeaderValue}
 use Rattle.tsp_base.specs.History.{Line}
 use Rattle.tsp_promises.specs.OneBack.{OneBack}

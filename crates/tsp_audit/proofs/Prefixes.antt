@@ -15,11 +15,6 @@ noted-within : (h : List Line) (xs : List HistoryLine) → Within h (noted_after
 noted-within h [] = Within-all h
 noted-within h (n ∷ xs) = Within-tail (line_of n) h (noted_after (line_of n ∷ h) xs) (noted-within (line_of n ∷ h) xs)
 
--- a history is longer by its lines
-pub length-noted : (h : List Line) (ns : List HistoryLine) → length (noted_after h ns) ≡ length h + length ns
-length-noted h [] = omega arith
-length-noted h (n ∷ rest) = omega (arith, length-noted (line_of n ∷ h) rest)
-
 -- the history of the first lines is a place of the whole
 pub history-within : (ns : List HistoryLine) (i : ℕ) → Within (history_of (take i ns)) (history_of ns)
 history-within ns i = subst (λ ms. Within (history_of (take i ns)) ms) (sym (noted-append [] (take i ns) (drop i ns)) ∙ ap history_of (take-append-drop i ns)) (noted-within (history_of (take i ns)) (drop i ns))

@@ -13,7 +13,8 @@ use Rattle.tsp_base.specs.Takings.{peer_of, posted}
 use Rattle.tsp_base.proofs.PlaceLemmas.{Within-through}
 use Rattle.tsp_promises.proofs.SendPlaces.{posted-mono, posted-post}
 use Rattle.tsp_audit.proofs.CastLemmas.{begun-cast, begun-none, lines-one}
-use Rattle.tsp_audit.proofs.Prefixes.{history-within, length-noted}
+use Rattle.tsp_history.proofs.NoteLemmas.{length-noted}
+use Rattle.tsp_audit.proofs.Prefixes.{history-within}
 use Rattle.tsp_history.proofs.HistoryLemmas.{Within-noted, history-more}
 use Rattle.tsp_audit.proofs.TakeLemmas.{same-noted}
 use Rattle.tsp_audit.specs.Agreeing.{CastAs, IsNoCast, TripsTell}

@@ -14,6 +14,7 @@ ghost use Rattle.tsp_audit.specs.Acting.{TakesAs, TakesSend, TakesWell, deed_cor
 ghost use Rattle.tsp_audit.specs.Acting.{with_send};
 ghost use Rattle.tsp_history.specs.Clocks.{IsSmall};
 ghost use Rattle.tsp_history.specs.Histories.{deed_of, line_of, history_of};
+ghost use Rattle.tsp_history.specs.Notes.{Told};
 
 use crate::brought::brought;
 use crate::clock::clock_at;
@@ -33,6 +34,7 @@ use tsp_history::sends::{begun_to, open_to};
 
 /// Whether a Correct stands GAP ticks after each one of its node's life, where these lines stand before it.
 fn spaces(lines: &[HistoryLine], line: &HistoryLine) -> bool
+    requires { Told lines.now }
     ensures { MatchBool result (SpacedAt (line_of line.now) (history_of lines.now))
         (SpacedAt (line_of line.now) (history_of lines.now) → ⊥) }
 {
@@ -80,7 +82,8 @@ fn obeys_master(
     amount: i64,
     master: PeerId,
 ) -> bool
-    requires { length lines.now < 2 ^ 32 }
+    requires few { length lines.now < 2 ^ 32 }
+    requires told { Told lines.now }
     ensures { (setting : Setting) → HasClocks header.now setting → line.now.at ≤ 1000000000000000
         → MatchBool result (Obeys setting (line_of line.now) (history_of lines.now) amount master)
         (Obeys setting (line_of line.now) (history_of lines.now) amount master → ⊥) }
@@ -100,7 +103,8 @@ fn obeys_master(
 
 /// Whether a follower's Correct does as its master says, where these lines stand before it.
 fn obeys(header: &Header, lines: &[HistoryLine], line: &HistoryLine) -> bool
-    requires { length lines.now < 2 ^ 32 }
+    requires few { length lines.now < 2 ^ 32 }
+    requires told { Told lines.now }
     ensures { (setting : Setting) → HasClocks header.now setting → line.now.at ≤ 1000000000000000
         → MatchBool result (ObeysAt setting (line_of line.now) (history_of lines.now))
         (ObeysAt setting (line_of line.now) (history_of lines.now) → ⊥) }
@@ -138,7 +142,7 @@ fn acts(lines: &[HistoryLine], line: &HistoryLine) -> bool
 
 /// The number of the datagram that begins the send of which a line's Correct takes a post, if it takes one.
 pub(crate) fn takes_send(lines: &[HistoryLine], line: &HistoryLine) -> Option<u64>
-    requires { length lines.now < 2 ^ 32 }
+    requires { Told lines.now }
     ensures { MatchOption result ((s : ℕ) → TakesSend (line_of line.now) (history_of lines.now) s
         → ⊥) (λ s. TakesSend (line_of line.now) (history_of lines.now) s) }
 {
@@ -181,6 +185,7 @@ fn is_correcting(line: &HistoryLine) -> bool
 
 /// Whether the datagram with this number is a correction.
 fn corrects(lines: &[HistoryLine], number: u64) -> bool
+    requires { Told lines.now }
     ensures { Corrects (history_of lines.now) number result }
 {
     match post_at(lines, number) {
@@ -192,7 +197,7 @@ fn corrects(lines: &[HistoryLine], number: u64) -> bool
 /// Whether a correction that an Acked ends was taken, where these lines stand before it and these
 /// are the sends that Corrects have taken posts of.
 fn confirms(lines: &[HistoryLine], acted: &[u64], line: &HistoryLine) -> bool
-    requires { length lines.now < 2 ^ 32 }
+    requires { Told lines.now }
     ensures { ActedIs (history_of lines.now) acted.now
         → MatchBool result (ConfirmedAt (line_of line.now) (history_of lines.now))
         (ConfirmedAt (line_of line.now) (history_of lines.now) → ⊥) }
@@ -213,7 +218,8 @@ fn confirms(lines: &[HistoryLine], acted: &[u64], line: &HistoryLine) -> bool
 
 /// Whether a follower's Correct does as its master says, if that is asked.
 fn obeys_if(honest: bool, header: &Header, lines: &[HistoryLine], line: &HistoryLine) -> bool
-    requires { length lines.now < 2 ^ 32 }
+    requires few { length lines.now < 2 ^ 32 }
+    requires told { Told lines.now }
     ensures { (setting : Setting) → HasClocks header.now setting → line.now.at ≤ 1000000000000000
         → MatchBool result (honest ≡ true
         → ObeysAt setting (line_of line.now) (history_of lines.now)) ((honest ≡ true
@@ -228,7 +234,7 @@ fn obeys_if(honest: bool, header: &Header, lines: &[HistoryLine], line: &History
 
 /// Whether a line takes no send again, and confirms none that wasn't taken.
 fn takes_well(lines: &[HistoryLine], acted: &[u64], line: &HistoryLine, send: Option<u64>) -> bool
-    requires { length lines.now < 2 ^ 32 }
+    requires { Told lines.now }
     ensures { ActedIs (history_of lines.now) acted.now
         → TakesAs (line_of line.now) (history_of lines.now) send
         → MatchBool result (TakesWell (line_of line.now) (history_of lines.now))
@@ -248,7 +254,7 @@ fn takes_well_if(
     line: &HistoryLine,
     send: Option<u64>,
 ) -> bool
-    requires { length lines.now < 2 ^ 32 }
+    requires { Told lines.now }
     ensures { ActedIs (history_of lines.now) acted.now
         → TakesAs (line_of line.now) (history_of lines.now) send
         → MatchBool result (AllKept premises → TakesWell (line_of line.now) (history_of lines.now))
@@ -271,7 +277,8 @@ fn acts_once(
     line: &HistoryLine,
     send: Option<u64>,
 ) -> bool
-    requires { length lines.now < 2 ^ 32 }
+    requires few { length lines.now < 2 ^ 32 }
+    requires told { Told lines.now }
     ensures { (setting : Setting) → HasClocks header.now setting → line.now.at ≤ 1000000000000000
         → ActedIs (history_of lines.now) acted.now
         → TakesAs (line_of line.now) (history_of lines.now) send
@@ -312,6 +319,7 @@ pub(crate) fn keeps_acting(
 ) -> bool
     requires from { from ≤ length lines.now }
     requires few { length lines.now < 2 ^ 32 }
+    requires told { Told lines.now }
     ensures keeps { (setting : Setting) → HasClocks header.now setting
         → Timely (history_of lines.now)
         → vec_len acted.old + (length lines.now - from) ≤ vec_capacity acted.old

@@ -8,6 +8,7 @@ ghost use Rattle.tsp_promises.specs.Agreed.{Agreed, AgreedAt};
 ghost use Rattle.tsp_base.specs.History.{Line, from_act};
 ghost use Rattle.tsp_promises.specs.Setting.{Setting};
 ghost use Rattle.tsp_history.specs.Histories.{line_of, history_of};
+ghost use Rattle.tsp_history.specs.Notes.{Told};
 ghost use Rattle.tsp_history.specs.declared.line.HistoryLine.{HistoryLine as NotedValue};
 
 use crate::nearness::all_agree;
@@ -52,7 +53,8 @@ fn note_node(
     last: Option<usize>,
 )
     requires few { length upto.now < 2 ^ 32 }
-    requires past { length before.now < 2 ^ 32 }
+    requires told { Told upto.now }
+    requires past { Told before.now }
     ensures nodes { history_of upto.now ≡ line_of line.now ∷ history_of before.now
         → TripsTell (history_of before.now) trips.now
         → FirstIs (from_act (history_of before.now)) last
@@ -98,6 +100,7 @@ impl AgreementTracker {
     ghost use Rattle.tsp_base.specs.History.{Line};
     ghost use Rattle.tsp_promises.specs.Setting.{Setting};
     ghost use Rattle.tsp_history.specs.Histories.{line_of, history_of};
+    ghost use Rattle.tsp_history.specs.Notes.{Told};
     ghost use Rattle.tsp_history.specs.declared.line.HistoryLine.{HistoryLine as NotedValue};
 
     /// Nothing has happened to so many nodes. Takes memory for them; fails only if out of memory.
@@ -128,6 +131,7 @@ impl AgreementTracker {
     /// Takes in the line with this index, behind those before it; there is to be room for it.
     fn note(&mut self, lines: &[HistoryLine], index: usize)
         requires few { length lines.now < 2 ^ 32 }
+        requires told { Told lines.now }
         requires below { index < length lines.now }
         ensures accord { (count : ℕ) → vec_len self.old.trips < vec_capacity self.old.trips
             → AccordIs count (history_of (take index lines.now)) self.old
@@ -182,6 +186,7 @@ impl AgreementTracker {
     ) -> bool
         requires from { from ≤ length lines.now }
         requires few { length lines.now < 2 ^ 32 }
+        requires told { Told lines.now }
         ensures keeps { (setting : Setting) (count : ℕ) → HasClocks header.now setting
             → Timely (history_of lines.now) → Numbered count (history_of lines.now)
             → vec_len self.old.trips + (length lines.now - from) ≤ vec_capacity self.old.trips

@@ -4,6 +4,7 @@ ghost use Rattle.tsp_base.specs.History.{Line};
 ghost use Rattle.tsp_promises.specs.Once.{Brings};
 ghost use Rattle.tsp_audit.specs.Acting.{BringsAt, CameAt, IsUnposted, PostsTo};
 ghost use Rattle.tsp_history.specs.Histories.{deed_of, line_of, history_of};
+ghost use Rattle.tsp_history.specs.Notes.{Told};
 
 use tsp_base::act::Act;
 use tsp_base::datagram::Datagram;
@@ -13,6 +14,7 @@ use tsp_history::posts::post_at;
 
 /// The index of the line, among these before it, that posts the datagram which a line's step takes.
 pub(crate) fn came_at(lines: &[HistoryLine], line: &HistoryLine) -> Option<usize>
+    requires { Told lines.now }
     ensures { MatchOption result (IsUnposted (line_of line.now) (history_of lines.now))
         (λ i. CameAt lines.now (line_of line.now) i) }
 {
@@ -36,6 +38,7 @@ fn posts_to(line: &HistoryLine, node: u32) -> bool
 /// The index of the line, among these before it, that posts the message which a line's step brings
 /// to its node.
 pub(crate) fn brought(lines: &[HistoryLine], line: &HistoryLine) -> Option<usize>
+    requires { Told lines.now }
     ensures { MatchOption result ((post : Line) (older : List Line)
         → Brings (line_of line.now) (history_of lines.now) post older
         → ⊥) (λ i. BringsAt lines.now (line_of line.now) i) }

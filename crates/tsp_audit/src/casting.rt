@@ -5,19 +5,20 @@ ghost use Rattle.tsp_audit.specs.Casting.{BegunAt, HasNoRound, IsAdjusting, Roun
 ghost use Rattle.tsp_base.specs.History.{Line, dids, of, view};
 ghost use Rattle.tsp_base.specs.RoundFacts.{best};
 ghost use Rattle.tsp_history.specs.Histories.{deed_of, line_of, history_of};
+ghost use Rattle.tsp_history.specs.Notes.{Told};
 ghost use Rattle.tsp_promises.specs.StepFacts.{closed};
 ghost use Rattle.tsp_history.specs.Rounds.{Bests, SeenAt};
 
 use crate::acting::takes_send;
-use crate::counts::counts_at;
 use crate::round_correction::RoundCorrection;
 use tsp_base::act::Act;
 use tsp_base::datagram::Datagram;
 use tsp_base::kind::Kind;
 use tsp_base::place::{PeerId, Port};
+use tsp_history::counts::counts_at;
 use tsp_history::line::{HistoryLine, Why};
 use tsp_history::posts::post_at;
-use tsp_history::rounds::{Best, best_after, closed_at};
+use tsp_history::rounds::{Best, best_after, closed_at, samples_from};
 
 /// The round trip at an index, in microseconds; 0 where there is none.
 fn trip_in(trips: &[i128], index: usize) -> i128
@@ -39,8 +40,16 @@ pub(crate) fn best_in(
         → Bests lines.now node port (best p (view port (of node (history_of lines.now)))) result }
 {
     let mut best = None;
-    for (index, line) in lines.iter().enumerate() {
-        best = best_after(line, index, trip_in(trips, index), node, port, p, best);
+    for index in samples_from(lines, node, port)..lines.len() {
+        best = best_after(
+            &lines[index],
+            index,
+            trip_in(trips, index),
+            node,
+            port,
+            p,
+            best,
+        );
     }
     best
 }
@@ -48,6 +57,7 @@ pub(crate) fn best_in(
 /// The true time, in microseconds, at which something was posted, among these lines, that the step
 /// of a later line takes.
 fn reading_of(lines: &[HistoryLine], line: &HistoryLine) -> Option<u64>
+    requires { Told lines.now }
     ensures { MatchOption result (TakesNone (history_of lines.now) (line_of line.now))
         (λ t. TakesThen (history_of lines.now) (line_of line.now) t) }
 {
@@ -69,7 +79,7 @@ fn sampled(
     first: &HistoryLine,
     node: u32,
 ) -> Option<RoundCorrection>
-    requires few { length lines.now < 2 ^ 32 }
+    requires told { Told lines.now }
     requires below { close < length lines.now }
     ensures { TripsTell (history_of lines.now) trips.now
         → SeenAt lines.now first.now.node first.now.port
@@ -108,7 +118,7 @@ fn round_of(
     first: &HistoryLine,
     node: u32,
 ) -> Option<RoundCorrection>
-    requires { length lines.now < 2 ^ 32 }
+    requires { Told lines.now }
     ensures { TripsTell (history_of lines.now) trips.now
         → MatchOption result (HasNoRound first.now.node first.now.port node (history_of lines.now))
         (λ c. RoundAs first.now.node first.now.port node (history_of lines.now) c) }
@@ -138,7 +148,7 @@ fn is_adjusting(line: &HistoryLine) -> bool
 
 /// The index of the first post of the send of which a line's Correct takes a post, if that is an ADJTIME.
 fn begun(lines: &[HistoryLine], line: &HistoryLine) -> Option<usize>
-    requires { length lines.now < 2 ^ 32 }
+    requires { Told lines.now }
     ensures { MatchOption result (IsNoCast (line_of line.now) (history_of lines.now))
         (λ i. BegunAt lines.now (line_of line.now) i) }
 {
@@ -164,7 +174,7 @@ pub(crate) fn cast_at(
     trips: &[i128],
     line: &HistoryLine,
 ) -> Option<RoundCorrection>
-    requires { length lines.now < 2 ^ 32 }
+    requires { Told lines.now }
     ensures { TripsTell (history_of lines.now) trips.now
         → MatchOption result (IsNoCast (line_of line.now) (history_of lines.now))
         (λ c. CastAs (line_of line.now) (history_of lines.now) c) }

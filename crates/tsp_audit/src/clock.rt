@@ -6,6 +6,7 @@ ghost use Rattle.tsp_base.specs.Ticks.{tick_at};
 ghost use Rattle.tsp_run.specs.Setup.{node_line};
 ghost use Rattle.tsp_history.specs.Clocks.{IsSmall, IsSumOf};
 ghost use Rattle.tsp_history.specs.Histories.{history_of};
+ghost use Rattle.tsp_history.specs.Notes.{Told};
 
 use tsp_base::constants::SCHEDULE_END;
 use tsp_base::drift::tick_at;
@@ -51,7 +52,8 @@ fn add(wall: i64, moved: i128, tick: u64) -> i128
 /// A node's clock at a true time of a schedule after these lines, in microseconds: its wall at tick
 /// 0, its tick then, and the amounts of its corrections since its last boot.
 pub(crate) fn clock_at(header: &Header, lines: &[HistoryLine], node: u32, at: u64) -> i128
-    requires { length lines.now < 2 ^ 32 }
+    requires few { length lines.now < 2 ^ 32 }
+    requires told { Told lines.now }
     ensures clock { at ≤ 1000000000000000 → result ≡ clock_in header.now node (history_of lines.now)
         at }
     ensures small { IsSmall result }

@@ -8,6 +8,7 @@ ghost use Rattle.tsp_audit.specs.Parts.{Agreeing, AllKeep, AllKept, Keeps};
 ghost use Rattle.tsp_audit.specs.Settings.{HasClocks, Timely};
 ghost use Rattle.tsp_promises.specs.Setting.{Setting};
 ghost use Rattle.tsp_history.specs.Histories.{history_of};
+ghost use Rattle.tsp_history.specs.Notes.{Told};
 
 use crate::acting::keeps_acting;
 use crate::agreement_tracker::AgreementTracker;
@@ -31,6 +32,7 @@ fn keeps_agreeing_if(
 ) -> bool
     requires from { from ≤ length lines.now }
     requires few { length lines.now < 2 ^ 32 }
+    requires told { Told lines.now }
     ensures keeps { (setting : Setting) (count : ℕ) → HasClocks header.now setting
         → Timely (history_of lines.now) → Numbered count (history_of lines.now)
         → vec_len accord.old.trips + (length lines.now - from) ≤ vec_capacity accord.old.trips
@@ -62,6 +64,7 @@ pub(crate) fn judge(
 ) -> Option<u32>
     requires from { from ≤ length lines.now }
     requires few { length lines.now < 2 ^ 32 }
+    requires told { Told lines.now }
     ensures judges { (setting : Setting) (count : ℕ) → HasClocks header.now setting
         → Timely (history_of lines.now) → Numbered count (history_of lines.now)
         → HasRoom (length lines.now - from) notes.old

@@ -3,7 +3,9 @@ ghost use Rattle.std.specs.Prelude.{◌≡◌, ◌≤◌, List, ◌∷◌, lengt
 ghost use Rattle.tsp_base.specs.History.{Line};
 ghost use Rattle.tsp_promises.specs.OnlyMaster.{LeadsAt, OnlyMaster};
 ghost use Rattle.tsp_audit.specs.Leading.{closing, must_lead};
+ghost use Rattle.tsp_history.specs.Changes.{told_or};
 ghost use Rattle.tsp_history.specs.Histories.{line_of, history_of, deed_of};
+ghost use Rattle.tsp_history.specs.Notes.{Told};
 
 use tsp_base::act::Act;
 use tsp_base::datagram::Datagram;
@@ -11,15 +13,15 @@ use tsp_base::role::Role;
 use tsp_history::line::HistoryLine;
 use tsp_history::scans::role_at;
 
-/// Whether the newest act after a line is a Close, where `keep` says so of what stands before.
-fn closes_after(line: &HistoryLine, keep: bool) -> bool
-    ensures { (before : List Line) → keep ≡ closing before
-        → result ≡ closing (line_of line.now ∷ before) }
+/// Whether the newest act is a Close, as far as a line tells it.
+fn closing_told(line: &HistoryLine) -> Option<bool>
+    ensures { (before : List Line) → closing (line_of line.now ∷ before)
+        ≡ told_or result (closing before) }
 {
     match &line.act {
-        None => keep,
-        Some(Act::Close { .. }) => true,
-        Some(_) => false,
+        None => None,
+        Some(Act::Close { .. }) => Some(true),
+        Some(_) => Some(false),
     }
 }
 
@@ -27,11 +29,14 @@ fn closes_after(line: &HistoryLine, keep: bool) -> bool
 fn closes_last(lines: &[HistoryLine]) -> bool
     ensures { result ≡ closing (history_of lines.now) }
 {
-    let mut closing = false;
-    for line in lines {
-        closing = closes_after(line, closing);
+    let mut left = lines.len();
+    while left > 0 {
+        left -= 1;
+        if let Some(told) = closing_told(&lines[left]) {
+            return told;
+        }
     }
-    closing
+    false
 }
 
 /// Whether a line asks that its port leads, where these stand before it.
@@ -48,6 +53,7 @@ fn must_lead(lines: &[HistoryLine], line: &HistoryLine) -> bool
 
 /// Whether a line is a master's where it must be, where these stand before it.
 fn leads(lines: &[HistoryLine], line: &HistoryLine) -> bool
+    requires { Told lines.now }
     ensures { MatchBool result (LeadsAt (line_of line.now) (history_of lines.now))
         (LeadsAt (line_of line.now) (history_of lines.now) → ⊥) }
 {
@@ -63,7 +69,8 @@ fn leads(lines: &[HistoryLine], line: &HistoryLine) -> bool
 
 /// Whether only masters correct in all lines, where it is so in those before `from`.
 pub(crate) fn keeps_leading(lines: &[HistoryLine], from: usize) -> bool
-    requires { from ≤ length lines.now }
+    requires from { from ≤ length lines.now }
+    requires told { Told lines.now }
     ensures { OnlyMaster (history_of (take from lines.now))
         → MatchBool result (OnlyMaster (history_of lines.now)) (OnlyMaster (history_of lines.now)
         → ⊥) }

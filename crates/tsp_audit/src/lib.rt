@@ -1,4 +1,27 @@
 //! The audit of a claimed history: whether it keeps the promises that every run keeps.
+//!
+//! An [`audit::Audit`] takes the events of a schedule in their order, each with the lines that some
+//! program claims of it, and says after each one whether all promises hold so far. What the whole
+//! schedule keeps must be known before: [`premised::keep_with`] finds that event by event.
+//!
+//! ```text
+//! let mut premises = all_kept();
+//! for (i, event) in events.iter().enumerate() {
+//!     premises = keep_with(premises, &events[..i], posts_before(i), event);
+//! }
+//!
+//! let mut audit = Audit::new(alloc, header, premises)?;
+//! for (event, lines) in claimed {
+//!     match audit.event(&event, &lines)? {
+//!         Verdict::Holds => {}
+//!         Verdict::Fails(part) => ..           // the least promise that fails, by its number
+//!     }
+//! }
+//! let first = audit.failure();                 // which failed first, and at which event
+//! ```
+//!
+//! After the first failure the verdict stays; lines are still checked for fit. An event whose lines
+//! don't fit is refused, and the audit is what it was.
 #![tactic(auto)]
 
 mod acting;
@@ -8,7 +31,6 @@ mod backing;
 mod brought;
 mod casting;
 mod clock;
-mod counts;
 mod judging;
 mod leading;
 mod measuring;

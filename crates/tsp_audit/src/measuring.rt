@@ -9,6 +9,7 @@ ghost use Rattle.tsp_audit.specs.Parts.{Keeps, Measuring, MeasuresWell};
 ghost use Rattle.tsp_audit.specs.Settings.{HasClocks, Timely};
 ghost use Rattle.tsp_history.specs.Clocks.{IsSmall, IsTrip};
 ghost use Rattle.tsp_history.specs.Histories.{line_of, history_of};
+ghost use Rattle.tsp_history.specs.Notes.{Told};
 
 use crate::brought::came_at;
 use crate::clock::clock_at;
@@ -38,6 +39,7 @@ fn replies_to(post: &HistoryLine, peer: PeerId, node: u32) -> bool
 
 /// The index of the line, among these before it, at which a peer posts the reply that a line's step takes.
 fn reply_at(lines: &[HistoryLine], line: &HistoryLine, peer: PeerId) -> Option<usize>
+    requires { Told lines.now }
     ensures { MatchOption result ((post : Line) (older : List Line)
         → Replies (line_of line.now) (history_of lines.now) peer post older
         → ⊥) (λ i. RepliesAt lines.now (line_of line.now) peer i) }
@@ -83,7 +85,8 @@ fn has_reading(
     diff: i64,
     err: i64,
 ) -> bool
-    requires { length lines.now < 2 ^ 32 }
+    requires few { length lines.now < 2 ^ 32 }
+    requires told { Told lines.now }
     ensures { (setting : Setting) → HasClocks header.now setting → Timely (history_of lines.now)
         → MatchBool result (ReadBy setting (line_of line.now) (history_of lines.now) peer diff err)
         (ReadBy setting (line_of line.now) (history_of lines.now) peer diff err → ⊥) }
@@ -102,7 +105,8 @@ fn has_reading(
 
 /// Whether a Sample errs by at most its err, where these lines stand before it.
 fn errs_little(header: &Header, lines: &[HistoryLine], line: &HistoryLine) -> bool
-    requires { length lines.now < 2 ^ 32 }
+    requires few { length lines.now < 2 ^ 32 }
+    requires told { Told lines.now }
     ensures { (setting : Setting) → HasClocks header.now setting → Timely (history_of lines.now)
         → MatchBool result (MeasuredAt setting (line_of line.now) (history_of lines.now))
         (MeasuredAt setting (line_of line.now) (history_of lines.now) → ⊥) }
@@ -160,7 +164,8 @@ fn ends_exchange(
     counter: u64,
     err: i64,
 ) -> bool
-    requires { length lines.now < 2 ^ 32 }
+    requires few { length lines.now < 2 ^ 32 }
+    requires told { Told lines.now }
     ensures { MatchBool result
         (TripOf (line_of line.now) (view line.now.port (of line.now.node (history_of lines.now)))
         peer counter err)
@@ -178,7 +183,8 @@ fn ends_exchange(
 
 /// Whether the err of a Sample is half its round trip, where these lines stand before it.
 fn trips_well(lines: &[HistoryLine], line: &HistoryLine) -> bool
-    requires { length lines.now < 2 ^ 32 }
+    requires few { length lines.now < 2 ^ 32 }
+    requires told { Told lines.now }
     ensures { MatchBool result (TripAt (line_of line.now) (history_of lines.now))
         (TripAt (line_of line.now) (history_of lines.now) → ⊥) }
 {
@@ -198,7 +204,8 @@ fn trips_well(lines: &[HistoryLine], line: &HistoryLine) -> bool
 /// Whether a line keeps that each measurement errs by at most half its round trip, where these
 /// lines stand before it.
 fn measures(header: &Header, lines: &[HistoryLine], line: &HistoryLine) -> bool
-    requires { length lines.now < 2 ^ 32 }
+    requires few { length lines.now < 2 ^ 32 }
+    requires told { Told lines.now }
     ensures { (setting : Setting) → HasClocks header.now setting → Timely (history_of lines.now)
         → MatchBool result (MeasuresAt setting (line_of line.now) (history_of lines.now))
         (MeasuresAt setting (line_of line.now) (history_of lines.now) → ⊥) }
@@ -214,6 +221,7 @@ fn measures(header: &Header, lines: &[HistoryLine], line: &HistoryLine) -> bool
 fn keeps_measuring(header: &Header, lines: &[HistoryLine], from: usize) -> bool
     requires from { from ≤ length lines.now }
     requires few { length lines.now < 2 ^ 32 }
+    requires told { Told lines.now }
     ensures { (setting : Setting) → HasClocks header.now setting → Timely (history_of lines.now)
         → MeasuresWell setting (history_of (take from lines.now))
         → MatchBool result (MeasuresWell setting (history_of lines.now))
@@ -236,6 +244,7 @@ pub(crate) fn keeps_measuring_if(
 ) -> bool
     requires from { from ≤ length lines.now }
     requires few { length lines.now < 2 ^ 32 }
+    requires told { Told lines.now }
     ensures { (setting : Setting) → HasClocks header.now setting → Timely (history_of lines.now)
         → Keeps premises setting Measuring (history_of (take from lines.now))
         → MatchBool result (Keeps premises setting Measuring (history_of lines.now))

@@ -7,12 +7,12 @@ ghost use Rattle.tsp_base.specs.History.{of, view};
 ghost use Rattle.tsp_history.specs.Histories.{line_of, history_of};
 
 use crate::casting::best_in;
-use crate::counts::is_acting;
 use tsp_base::act::Act;
 use tsp_base::datagram::Datagram;
 use tsp_base::kind::Kind;
 use tsp_base::place::{PeerId, Place, Port};
 use tsp_history::line::HistoryLine;
+use tsp_history::posts::is_acting;
 use tsp_history::rounds::closed_at;
 
 /// Whether the last Close of a port's step, if there is one, had a sample of a peer.

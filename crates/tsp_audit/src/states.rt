@@ -6,12 +6,13 @@ ghost use Rattle.tsp_base.specs.declared.act.Act.TheVariants.{Boot};
 ghost use Rattle.tsp_base.specs.History.{Acts, Line, from_act};
 ghost use Rattle.tsp_base.specs.NodeFacts.{all_corrects_after, lives_after};
 ghost use Rattle.tsp_history.specs.Histories.{deed_of, line_of, history_of};
+ghost use Rattle.tsp_history.specs.Notes.{Told};
 
 use crate::casting::cast_at;
-use crate::counts::counts_at;
 use crate::round_correction::NodeState;
 use tsp_base::act::Act;
 use tsp_history::clocks::moved_at;
+use tsp_history::counts::counts_at;
 use tsp_history::line::HistoryLine;
 
 /// What is kept of a node before any line.
@@ -53,7 +54,8 @@ fn corrected(
     keep: NodeState,
 ) -> NodeState
     requires few { length upto.now < 2 ^ 32 }
-    requires past { length before.now < 2 ^ 32 }
+    requires told { Told upto.now }
+    requires past { Told before.now }
     ensures { history_of upto.now ≡ line_of line.now ∷ history_of before.now
         → TripsTell (history_of before.now) trips.now
         → FirstIs (from_act (history_of before.now)) last → IsCorrect (deed_of line.now.act)
@@ -71,7 +73,7 @@ fn corrected(
 
 /// What is kept of a node after a Boot of it.
 fn booted(upto: &[HistoryLine], line: &HistoryLine, keep: NodeState) -> NodeState
-    requires { length upto.now < 2 ^ 32 }
+    requires { Told upto.now }
     ensures { (before : List Line) → history_of upto.now ≡ line_of line.now ∷ before
         → deed_of line.now.act ≡ Acts Boot → NodeIs line.now.node before keep
         → NodeIs line.now.node (line_of line.now ∷ before) result }
@@ -95,7 +97,8 @@ pub(crate) fn state_after(
     keep: NodeState,
 ) -> NodeState
     requires few { length upto.now < 2 ^ 32 }
-    requires past { length before.now < 2 ^ 32 }
+    requires told { Told upto.now }
+    requires past { Told before.now }
     ensures { history_of upto.now ≡ line_of line.now ∷ history_of before.now
         → TripsTell (history_of before.now) trips.now
         → FirstIs (from_act (history_of before.now)) last

@@ -63,7 +63,7 @@ ClaimsStand-taken header claims e lines old mid joined new same_header same_up s
     let header_is : mid.header ≡ header = same_header ∙ s.header_is in
     let posts_are : mid.posts.items ≡ posts_of header claims = ap (λ v. v.items) same_posts ∙ s.posts_are in
     let up_is : up_in ups ≡ booted (events_of claims) = ap (λ v. up_in v.items) same_up ∙ s.up_is in
-    let history : history_of mid.lines.items ≡ claimed header claims = ap (λ v. history_of v.items) same_lines ∙ s.history in
+    let history : history_of mid.lines.lines ≡ claimed header claims = ap (λ v. history_of v.lines) same_lines ∙ s.history in
     let step : Option Step = step_of header (posts_of header claims) (booted (events_of claims)) e acts in
     let step_is : step_of mid.header mid.posts.items (up_in ups) e acts ≡ step =
     ap (λ k. step_of k mid.posts.items (up_in ups) e acts) header_is ∙ (ap (λ ps. step_of header ps (up_in ups) e acts) posts_are ∙ ap (λ u. step_of header (posts_of header claims) u e acts) up_is) in
@@ -73,8 +73,8 @@ ClaimsStand-taken header claims e lines old mid joined new same_header same_up s
       header_is = head_kept ∙ (takes.header_is ∙ header_is);
       count = events_kept ∙ (takes.events_are ∙ (events_are ∙ one_more));
       told = told_kept ∙ (takes.told_is ∙ (told ∙ (ap (λ n. n + length lines) s.told ∙ ap (λ n. lines_in claims + n) (sym (length-map lines (λ (l : Line2). l.placed))))));
-      history = ap (λ v. history_of v.items) lines_kept ∙ (takes.history ∙ (ap (λ k. joins_acts k (step_of mid.header mid.posts.items (up_in ups) e acts) acts (history_of mid.lines.items)) header_is ∙
-          (ap (λ o. joins_acts header o acts (history_of mid.lines.items)) step_is ∙ ap (λ h. joins_acts header step acts h) history)));
+      history = ap (λ v. history_of v.lines) lines_kept ∙ (takes.history ∙ (ap (λ k. joins_acts k (step_of mid.header mid.posts.items (up_in ups) e acts) acts (history_of mid.lines.lines)) header_is ∙
+          (ap (λ o. joins_acts header o acts (history_of mid.lines.lines)) step_is ∙ ap (λ h. joins_acts header step acts h) history)));
       posts_are = ap (λ v. v.items) posts_kept ∙ (takes.posts_are ∙ (ap (λ ps. ps ++ posts_by mid.events (step_of mid.header mid.posts.items (up_in ups) e acts) acts) posts_are ∙
           (ap (λ o. posts_of header claims ++ posts_by mid.events o acts) step_is ∙ ap (λ n. posts_of header claims ++ posts_by n step acts) events_are)));
       up_is = fun_ext (λ n. wakes.1 n ∙ (ap (λ v. boots e n || up_in v.items n) (takes.up_is ∙ same_up) ∙ ap (λ u. boots e n || u n) s.up_is));

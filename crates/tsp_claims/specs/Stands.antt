@@ -18,7 +18,7 @@ pub record ClaimsStand (header : HeaderValue) (claims : List Claim) (c : Claims)
   pub header_is : c.header ≡ header
   pub count : c.events ≡ length claims
   pub told : c.told ≡ lines_in claims
-  pub history : history_of c.lines.items ≡ claimed header claims
+  pub history : history_of c.lines.lines ≡ claimed header claims
   pub posts_are : c.posts.items ≡ posts_of header claims
   pub up_is : up_in c.up.items ≡ booted (events_of claims)
 

@@ -13,14 +13,14 @@ use Rattle.tsp_script.specs.declared.trace.Line2.{Line2}
 
 -- there is room for a mark and so many lines, and for as many posts
 pub record HasRoom (count : ℕ) (c : Claims) : Type 0 where
-  pub lines : vec_len c.lines + (count + 1) ≤ vec_capacity c.lines
+  pub lines : count + 1 ≤ c.lines.room
   pub posts : vec_len c.posts + count ≤ vec_capacity c.posts
 
 -- all that the claims hold is as it was
 pub record Stays (old new : Claims) : Type 0 where
   pub header_is : new.header ≡ old.header
   pub up_is : new.up ≡ old.up
-  pub lines_are : new.lines.items ≡ old.lines.items
+  pub lines_are : new.lines.lines ≡ old.lines.lines
   pub posts_are : new.posts.items ≡ old.posts.items
   pub events_are : new.events ≡ old.events
   pub told_is : new.told ≡ old.told
@@ -29,7 +29,7 @@ pub record Stays (old new : Claims) : Type 0 where
 pub record Joins (step : Acting) (lines : List Line2) (old new : Claims) : Type 0 where
   pub header_is : new.header ≡ old.header
   pub up_is : new.up ≡ old.up
-  pub history : history_of new.lines.items ≡ stepped (step_by step) step.tick (acts_of lines) (history_of old.lines.items)
+  pub history : history_of new.lines.lines ≡ stepped (step_by step) step.tick (acts_of lines) (history_of old.lines.lines)
   pub posts_are : new.posts.items ≡ old.posts.items ++ posts_in old.events (step_by step) (acts_of lines)
   pub events_are : new.events ≡ old.events
   pub told_is : new.told ≡ old.told
@@ -38,7 +38,7 @@ pub record Joins (step : Acting) (lines : List Line2) (old new : Claims) : Type 
 pub record TakesStep (e : Event) (lines : List Line2) (old new : Claims) : Type 0 where
   pub header_is : new.header ≡ old.header
   pub up_is : new.up ≡ old.up
-  pub history : history_of new.lines.items ≡ joins_acts old.header (step_of old.header old.posts.items (up_in old.up.items) e (acts_of lines)) (acts_of lines) (history_of old.lines.items)
+  pub history : history_of new.lines.lines ≡ joins_acts old.header (step_of old.header old.posts.items (up_in old.up.items) e (acts_of lines)) (acts_of lines) (history_of old.lines.lines)
   pub posts_are : new.posts.items ≡ old.posts.items ++ posts_by old.events (step_of old.header old.posts.items (up_in old.up.items) e (acts_of lines)) (acts_of lines)
   pub events_are : new.events ≡ old.events
   pub told_is : new.told ≡ old.told

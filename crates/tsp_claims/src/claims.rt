@@ -13,6 +13,7 @@ use tsp_base::event::Event;
 use tsp_base::header::Header;
 use tsp_base::members::Members;
 use tsp_history::clocks::moved_at;
+use tsp_history::history::History;
 use tsp_history::line::HistoryLine;
 use tsp_networks::all_nodes;
 use tsp_script::trace::Line2;
@@ -27,7 +28,7 @@ pub struct Claims {
     /// Whether each node has booted.
     pub(crate) up: Vec<bool>,
     /// The claimed lines and the marks of their steps, the oldest first.
-    pub(crate) lines: Vec<HistoryLine>,
+    pub(crate) lines: History,
     /// The claimed posts, each under its number.
     pub(crate) posts: Vec<Claimed>,
     /// How many events were taken in.
@@ -38,13 +39,14 @@ pub struct Claims {
     ghost one_is: { one.items ≡ numbers_below (length header.nodes) ∷ [] },
     ghost few_events: { events ≤ 20000 },
     ghost few_told: { told ≤ 20000 },
-    ghost few_lines: { vec_len lines ≤ told + events },
+    ghost few_lines: { length lines.lines ≤ told + events },
 }
 
 impl Claims {
     ghost use Rattle.tsp_base.specs.Headers.{HeaderValue};
     ghost use Rattle.tsp_run.specs.Run.{event_at};
     ghost use Rattle.tsp_history.specs.Histories.{history_of};
+    ghost use Rattle.tsp_history.specs.Notes.{Told};
     ghost use Rattle.tsp_claims.specs.ClaimedHistory.{Claim, base_of, claimed, posts_of};
     ghost use Rattle.tsp_claims.specs.Fitting.{FitsNext};
     ghost use Rattle.tsp_claims.specs.Listed.{NamesNode};
@@ -65,7 +67,7 @@ impl Claims {
             header,
             one,
             up,
-            lines: Vec::new(alloc),
+            lines: History::new(alloc),
             posts: Vec::new(alloc),
             events: 0,
             told: 0,
@@ -112,7 +114,7 @@ impl Claims {
         ensures { (header : HeaderValue) (claims : List Claim) → ClaimsStand header claims self.now
             → result ≡ base_of header claims node }
     {
-        i128::from(self.line(node).wall) + moved_at(self.lines.as_slice(), node)
+        i128::from(self.line(node).wall) + moved_at(self.lines.lines(), node)
     }
 
     /// The claimed post with this number; None exactly where so many posts aren't claimed.
@@ -136,8 +138,9 @@ impl Claims {
         ensures lines { (header : HeaderValue) (claims : List Claim)
             → ClaimsStand header claims self.now → history_of result.now ≡ claimed header claims }
         ensures few { length result.now ≤ 40000 }
+        ensures told { Told result.now }
     {
-        self.lines.as_slice()
+        self.lines.lines()
     }
 
     /// The nodes' clocks, names and networks.

@@ -1,5 +1,22 @@
 //! Lines that are claimed of a schedule's events: whether they fit it, the posts among them, and
 //! the clocks after them.
+//!
+//! [`claims::Claims`] takes the events in their order, each with all lines that are claimed of it.
+//! Lines fit where each has the event's number, node and tick, posts are numbered in turn, and what
+//! is taken is what the event brings. An event whose lines don't fit changes nothing:
+//!
+//! ```text
+//! let mut claims = Claims::new(alloc, header)?;
+//! match claims.event(&event, &lines) {
+//!     Ok(()) => {}                             // they were taken in
+//!     Err(AuditFault::History(index)) => ..    // this line doesn't fit
+//!     Err(AuditFault::OutOfMemory) => ..
+//! }
+//! let base = claims.base(node);                // the node's clock less its tick
+//! ```
+//!
+//! A reader that gets one line at a time asks [`claims::Claims::fits`] of each, counts it in a
+//! [`tally::Tally`], and hands all lines over with the event's last one.
 #![tactic(auto)]
 
 mod acting;

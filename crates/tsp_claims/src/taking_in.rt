@@ -1,14 +1,14 @@
 //! How claimed lines that fit are taken in.
-ghost use Rattle.std.specs.Prelude.{◌≡◌, ◌≤◌, ◌<◌, ◌+◌, ◌++◌, ◌∷◌, [], List, length, vec_len, vec_capacity, OnOk};
+ghost use Rattle.std.specs.Prelude.{◌≡◌, ◌≤◌, ◌<◌, ◌+◌, ◌++◌, ◌∷◌, [], ◌^◌, List, length, vec_len, vec_capacity, OnOk};
 ghost use Rattle.tsp_base.specs.Headers.{HeaderValue};
-ghost use Rattle.tsp_base.specs.Joins.{joined};
+ghost use Rattle.tsp_base.specs.Joins.{joined, line_of as line_in};
 ghost use Rattle.tsp_claims.specs.ClaimedHistory.{Claim, claims_post, makes_step, posts_in, step_at};
 ghost use Rattle.tsp_claims.specs.Fitting.{acts_of};
 ghost use Rattle.tsp_claims.specs.Listed.{NamesNode, up_in};
 ghost use Rattle.tsp_claims.specs.Stands.{ClaimsStand, claim_of};
 ghost use Rattle.tsp_claims.specs.Steps.{ActsIn, step_by};
 ghost use Rattle.tsp_claims.specs.TakingIn.{HasRoom, Joins, Stays, TakesStep};
-ghost use Rattle.tsp_history.specs.Histories.{history_of};
+ghost use Rattle.tsp_history.specs.Histories.{deed_of, history_of, line_of};
 
 use crate::acting::Acting;
 use crate::booted::wake;
@@ -18,19 +18,14 @@ use std::alloc::AllocError;
 use tsp_base::act::{Act, Placed};
 use tsp_base::event::Event;
 use tsp_base::place::Port;
+use tsp_history::history::History;
 use tsp_history::line::HistoryLine;
+use tsp_history::notes::Note;
 use tsp_script::trace::Line2;
 
 /// A line of a step: its mark, or an act on a port.
 fn noted(step: Acting, port: Port, act: Option<Act>) -> HistoryLine
-    ensures { result ≡ record {
-      at = step.at;
-      node = step.node;
-      why = step.why;
-      tick = step.tick;
-      port = port;
-      act = act;
-    } }
+    ensures { line_of result ≡ line_in (step_by step) step.tick port (deed_of act) }
 {
     HistoryLine {
         at: step.at,
@@ -39,19 +34,21 @@ fn noted(step: Acting, port: Port, act: Option<Act>) -> HistoryLine
         tick: step.tick,
         port,
         act,
+        note: Note::new(),
     }
 }
 
 /// Notes acts of a step.
-fn note(lines: &mut Vec<HistoryLine>, step: Acting, acts: &[Line2])
-    requires { vec_len lines.old + length acts.now ≤ vec_capacity lines.old }
-    ensures history { history_of lines.new.items ≡ joined (step_by step) step.tick
-        (acts_of acts.now) (history_of lines.old.items) }
-    ensures len { vec_len lines.new ≡ vec_len lines.old + length acts.now }
+fn note(lines: &mut History, step: Acting, acts: &[Line2])
+    requires room { length acts.now ≤ lines.old.room }
+    requires few { length lines.old.lines + length acts.now ≤ 2 ^ 31 }
+    ensures history { history_of lines.new.lines ≡ joined (step_by step) step.tick
+        (acts_of acts.now) (history_of lines.old.lines) }
+    ensures len { length lines.new.lines ≡ length lines.old.lines + length acts.now }
 {
     for line in acts {
         let act = line.placed.act.copy();
-        lines.push_reserved(noted(step, line.placed.port, Some(act)));
+        lines.push(noted(step, line.placed.port, Some(act)));
     }
 }
 
@@ -106,7 +103,7 @@ impl Claims {
         ensures room { OnOk result (HasRoom count self.new) }
         ensures same { Stays self.old self.new }
     {
-        self.lines.reserve(count + 1)?;
+        self.lines.make_room(count + 1)?;
         self.posts.reserve(count)?;
         Ok(())
     }
@@ -114,11 +111,11 @@ impl Claims {
     /// Joins a step with the acts of these lines.
     fn join(&mut self, step: Acting, acts: &[Line2])
         requires room { HasRoom (length acts.now) self.old }
-        requires few { vec_len self.old.lines + length acts.now + 1 ≤ self.old.told
+        requires few { length self.old.lines.lines + length acts.now + 1 ≤ self.old.told
             + self.old.events }
         ensures { Joins step acts.now self.old self.new }
     {
-        self.lines.push_reserved(noted(step, Port(0), None));
+        self.lines.push(noted(step, Port(0), None));
         note(&mut self.lines, step, acts);
         claim(&mut self.posts, self.events, step, acts);
     }
@@ -127,7 +124,7 @@ impl Claims {
     /// lines of a take only where there are some.
     fn take_step(&mut self, e: &Event, step: Option<Acting>, acts: &[Line2])
         requires room { HasRoom (length acts.now) self.old }
-        requires few { vec_len self.old.lines + length acts.now + 1 ≤ self.old.told
+        requires few { length self.old.lines.lines + length acts.now + 1 ≤ self.old.told
             + self.old.events }
         requires step { ActsIn self.old.header (step_at self.old.header self.old.posts.items
             (up_in self.old.up.items) e.now) step }

@@ -1,4 +1,5 @@
 pub mod HistoryLemmas
+pub mod NoteLemmas
 pub mod RoundLemmas
 pub mod SendLemmas
 pub mod SpacingLemmas

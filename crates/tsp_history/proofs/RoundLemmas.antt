@@ -1,41 +1,45 @@
 -- How exchanges and samples are told.
-use Rattle.std.specs.Prelude.{◌≡◌, ◌==◌, ◌<◌, ℕ, ℤ, ◌-ℤ◌, int_lt, Bool, true, false, if◌then◌else◌, List, ◌∷◌, length, get_or, take, Option, None, Some}
+use Rattle.std.specs.Prelude.{◌≡◌, ◌==◌, ◌<◌, ℕ, ℤ, pos, ◌-ℤ◌, ◌+ℤ◌, int_lt, Bool, true, false, if◌then◌else◌, List, ◌∷◌, length, get_or, take, Option, None, Some}
 use Rattle.std.proofs.Common.{◌∙◌, ap, ap₂, sym, subst, refl, eq-eqb}
 use Rattle.tsp_base.specs.declared.act.Act.TheVariants.{Post, Sample}
-use Rattle.tsp_base.specs.declared.datagram.Datagram.TheVariants.{Stamp}
+use Rattle.tsp_base.specs.declared.datagram.Datagram.{Datagram}
 use Rattle.tsp_base.specs.declared.place.PeerId.{PeerId}
-use Rattle.tsp_base.specs.declared.place.Place.TheVariants.{Peer}
+use Rattle.tsp_base.specs.declared.place.Place.{Place}
 use Rattle.tsp_base.specs.declared.place.Port.{Port}
-use Rattle.tsp_base.specs.declared.stamp.Stamp.TheVariants.{Request}
 use Rattle.tsp_promises.specs.Fits.{node_of}
 use Rattle.tsp_base.specs.History.{Acts, Did, Line, Seen, Here, of, view, dids}
-use Rattle.tsp_base.specs.NodeFacts.{target}
+use Rattle.tsp_base.specs.NodeFacts.{boot_after, boot_tick, moved, moved_after, target, wall, wall_after}
 use Rattle.tsp_base.specs.RoundFacts.{Sampled, best, best_after, better, exchange, target_there}
 use Rattle.tsp_base.proofs.ViewPlaces.{port-same}
 use Rattle.tsp_base.proofs.Views.{plain_view}
 use Rattle.tsp_history.specs.declared.line.HistoryLine.{HistoryLine}
 use Rattle.tsp_history.specs.declared.rounds.Best.{Best}
-use Rattle.tsp_history.specs.Histories.{line_of, history_of}
+use Rattle.tsp_history.specs.Histories.{deed_of, line_of, history_of}
+use Rattle.tsp_history.specs.Posts.{IsPost}
 use Rattle.tsp_history.specs.Rounds.{Asked, AskedAt, BestAt, Bests, better_of, LineAt, SeenAt, start_of, trip_after, trip_at}
 use Rattle.tsp_history.proofs.HistoryLemmas.{Within-noted}
 use Rattle.tsp_history.proofs.SendLemmas.{view-here}
+use Rattle.tsp_history.proofs.SpacingLemmas.{of-own}
 
 -- a line among others, by its index
 pub line-at : (ns : List HistoryLine) (i : ℕ) (n : HistoryLine) → i < length ns → get_or ns i n ≡ n → LineAt ns i n
 line-at ns i n below is = record { below = below; noted_is = is; within = Within-noted ns i n below is }
 
-exchange-here : (p r : PeerId) (c counter word : ℕ) (d : Did) (s : List Seen) → d.deed ≡ Acts (Post (Peer r) (Stamp (Request word counter))) → (r.0 == p.0) ≡ true → (counter == c) ≡ true → exchange p c (Here d ∷ s) ≡ (Here d ∷ s)
-exchange-here p r c counter word d s deed to same = rw (deed, to, same) refl
+-- a post leaves the clock as it was
+target-post : (n : ℕ) (l : Line) (h : List Line) (to : Place) (d : Datagram) (y : ℕ) → node_of l ≡ n → l.did.deed ≡ Acts (Post to d) → target (dids (of n (l ∷ h))) y ≡ target (dids (of n h)) y
+target-post n l h to d y node deed =
+    ap (λ o. target (dids o) y) (of-own n l h node)
+    ∙ ap (λ e. ((wall_after e l.did.step.cause (wall (dids (of n h))) -ℤ pos (boot_after e l.did.tick (boot_tick (dids (of n h))))) +ℤ moved_after e (moved (dids (of n h)))) +ℤ pos y) deed
 
--- an exchange is begun
-pub asked-here : (n : ℕ) (q : Port) (p r : PeerId) (c counter word : ℕ) (l : Line) (h : List Line) (t : ℤ) → node_of l ≡ n → l.port.0 ≡ q.0 → l.did.deed ≡ Acts (Post (Peer r) (Stamp (Request word counter))) →
-    r.0 ≡ p.0 → counter ≡ c → t ≡ target (dids (of n h)) l.did.tick → AskedAt (exchange p c (view q (of n (l ∷ h)))) t
-asked-here n q p r c counter word l h t node port deed to same now =
+-- an exchange is begun by a line that posts
+pub asked-here : (n : ℕ) (q : Port) (seen : List Seen) (noted : HistoryLine) (h : List Line) (t : ℤ) → noted.node ≡ n → IsPost noted → seen ≡ (Here (line_of noted).did ∷ view q (of n h)) →
+    t ≡ target (dids (of noted.node (line_of noted ∷ h))) noted.tick → AskedAt seen t
+asked-here n q seen noted h t node post is now =
     record {
-      request = l.did;
+      request = (line_of noted).did;
       older = view q (of n h);
-      is = ap (exchange p c) (view-here n q l h node (port-same l.port q (eq-eqb l.port.0 q.0 port))) ∙ exchange-here p r c counter word l.did (view q (of n h)) deed (eq-eqb r.0 p.0 to) (eq-eqb counter c same);
-      target_is = now ∙ ap (λ ds. target ds l.did.tick) (sym (plain_view q (of n h)));
+      is = is;
+      target_is = now ∙ ap (λ m. target (dids (of m (line_of noted ∷ h))) noted.tick) node ∙ target-post n (line_of noted) h post.to post.datagram noted.tick node (ap deed_of post.act) ∙ ap (λ ds. target ds noted.tick) (sym (plain_view q (of n h)));
     }
 
 -- what a sample says, at its place

@@ -1,6 +1,7 @@
 -- How spacing carries over a line.
-use Rattle.std.specs.Prelude.{◌≡◌, ◌<◌, ◌≤◌, ◌+◌, ◌==◌, ℕ, ℤ, Bool, true, false, List, [], ◌∷◌, MatchBool}
+use Rattle.std.specs.Prelude.{◌≡◌, ◌<◌, ◌≤◌, ◌+◌, ◌==◌, ℕ, ℤ, nat_lt, if◌then◌else◌, Bool, true, false, List, [], ◌∷◌, Option, None, Some, MatchBool}
 use Rattle.std.proofs.Common.{◌∙◌, ap, sym, subst, arith, refl, inl, inr, eq-eqb}
+use Rattle.std.proofs.lemmas.Bool.{ltb-false, ltb-true}
 use Rattle.tsp_base.specs.declared.act.Act.{Act}
 use Rattle.tsp_base.specs.declared.act.Act.TheVariants.{Boot, Correct}
 use Rattle.tsp_base.specs.declared.constants.TheConstants.{GAP}
@@ -9,7 +10,7 @@ use Rattle.tsp_base.specs.History.{Deed, Acts, Line, of, dids}
 use Rattle.tsp_base.specs.NodeFacts.{lives, lives_after}
 use Rattle.tsp_base.specs.Places.{Within}
 use Rattle.tsp_base.proofs.PlaceLemmas.{Within-tail}
-use Rattle.tsp_history.specs.Spacing.{Spaced}
+use Rattle.tsp_history.specs.Spacing.{later_of, Spaced, SpacedBy}
 
 -- a node's lines with one of its own
 pub of-own : (n : ℕ) (l : Line) (h : List Line) → node_of l ≡ n → of n (l ∷ h) ≡ (l ∷ of n h)
@@ -127,3 +128,35 @@ spaced-not b n x l h a s y own correct e m = subst (λ c. MatchBool c (Spaced n 
 -- an act is the one that a deed is
 pub acts-is : (a c : Act) → Acts a ≡ Acts c → a ≡ c
 acts-is a c e = cc
+
+-- after a correction the later one of the ticks tells
+pub spaced-later : (n : ℕ) (l : Line) (h : List Line) (o : Option ℕ) (a : ℤ) (s : Bool) (y : ℤ) → node_of l ≡ n → l.did.deed ≡ Acts (Correct a s y) → SpacedBy n h o → SpacedBy n (l ∷ h) (Some (later_of o l.did.tick))
+spaced-later n l h None a s y own correct spaced x b far = spaced-correct b true n x l h a s y own correct refl far (spaced x true refl)
+spaced-later n l h (Some e) a s y own correct spaced x b far = by_tick (nat_lt l.did.tick e) refl where
+  by_tick : (t : Bool) → nat_lt l.did.tick e ≡ t → MatchBool b (Spaced n x (l ∷ h)) (Spaced n x (l ∷ h) → ⊥)
+  by_tick true before =
+      let tick : l.did.tick < e = ltb-true l.did.tick e before in
+      let last : MatchBool b (e + GAP ≤ x) (x < e + GAP) = subst (λ t. MatchBool b ((if t then e else l.did.tick) + GAP ≤ x) (x < (if t then e else l.did.tick) + GAP)) before far in
+      over b last tick
+    where
+      over : (b : Bool) → MatchBool b (e + GAP ≤ x) (x < e + GAP) → l.did.tick < e → MatchBool b (Spaced n x (l ∷ h)) (Spaced n x (l ∷ h) → ⊥)
+      over true far tick = spaced-far true n x l h a s y own correct (omega arith) (spaced x true far)
+      over false near tick = spaced-not false n x l h a s y own correct refl (spaced x false near)
+  by_tick false after =
+      let tick : e ≤ l.did.tick = ltb-false l.did.tick e after in
+      let last : MatchBool b (l.did.tick + GAP ≤ x) (x < l.did.tick + GAP) = subst (λ t. MatchBool b ((if t then e else l.did.tick) + GAP ≤ x) (x < (if t then e else l.did.tick) + GAP)) after far in
+      over b last tick
+    where
+      over : (b : Bool) → MatchBool b (l.did.tick + GAP ≤ x) (x < l.did.tick + GAP) → e ≤ l.did.tick → MatchBool b (Spaced n x (l ∷ h)) (Spaced n x (l ∷ h) → ⊥)
+      over true far tick = spaced-far true n x l h a s y own correct far (spaced x true (omega arith))
+      over false near tick = spaced-near n x l h a s y own correct near
+
+-- nothing tells right after a boot
+pub spaced-new : (n : ℕ) (l : Line) (h : List Line) → node_of l ≡ n → l.did.deed ≡ Acts Boot → SpacedBy n (l ∷ h) None
+spaced-new n l h own boot x b far = subst (λ c. MatchBool c (Spaced n x (l ∷ h)) (Spaced n x (l ∷ h) → ⊥)) (sym far) (spaced-boot n x l h own boot)
+
+-- nothing tells where there is no line
+pub spaced-none : (n : ℕ) → SpacedBy n [] None
+spaced-none n x b far = subst (λ c. MatchBool c (Spaced n x []) (Spaced n x [] → ⊥)) (sym far) (λ other older a s y w node deed lived. absurd (no-place other older w)) where
+  no-place : (l : Line) (older : List Line) → Within (l ∷ older) [] → ⊥
+  no-place l older e = cc

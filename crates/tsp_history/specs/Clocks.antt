@@ -1,4 +1,4 @@
--- What a scan for a node's clock has seen.
+-- What is known of a node's clock.
 use Rattle.std.specs.Prelude.{◌≡◌, ℕ, ◌*◌, ◌^◌, ℤ, pos, neg_ℤ, ◌≤ℤ◌, List}
 use Rattle.tsp_base.specs.History.{Line, of, dids}
 use Rattle.tsp_base.specs.NodeFacts.{wall, boot_tick, moved}

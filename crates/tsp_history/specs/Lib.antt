@@ -1,8 +1,10 @@
+pub mod Changes
 pub mod Clocks
+pub mod Growing
 pub mod Histories
 pub mod Holding
+pub mod Notes
 pub mod PostedPlaces
 pub mod Posts
 pub mod Rounds
-pub mod Sends
 pub mod Spacing

@@ -1,20 +1,22 @@
-//! Facts of a node's clock, by one scan each.
+//! Facts of a node's clock.
 ghost use Rattle.std.specs.Prelude.{◌≡◌, ◌<◌, ◌≤◌, ◌+◌, ◌^◌, ℕ, [], pos, neg_ℤ, ◌-ℤ◌, ◌+ℤ◌, ◌≤ℤ◌};
 ghost use Rattle.std.specs.Prelude.{List, ◌∷◌, length, MatchBool};
 ghost use Rattle.tsp_base.specs.History.{Line, of, dids};
 ghost use Rattle.tsp_base.specs.NodeFacts.{moved, target};
 ghost use Rattle.tsp_history.specs.Clocks.{IsSmall, IsSumOf, Keeps};
 ghost use Rattle.tsp_history.specs.Histories.{line_of, history_of};
-ghost use Rattle.tsp_history.specs.Spacing.{Spaced};
+ghost use Rattle.tsp_history.specs.Notes.{Told};
+ghost use Rattle.tsp_history.specs.Spacing.{later_of, Spaced, SpacedBy};
 
 use crate::line::{HistoryLine, Why};
+use crate::notes::node_at;
 use crate::ticks::is_far;
 use tsp_base::act::Act;
 use tsp_base::constants::GAP;
 
-/// What a scan has seen of a node's clock.
+/// What is known of a node's clock.
 #[derive(Clone, Copy)]
-pub(crate) struct Clock {
+pub struct Clock {
     /// The wall clock at the last boot, in microseconds.
     wall: i64,
     /// The tick of the last boot.
@@ -56,13 +58,20 @@ impl Clock {
     }
 }
 
-/// Whether all corrections of a node's life stand GAP ticks before this one, after a line, where
-/// `keep` says so before it.
-fn is_spaced_after(line: &HistoryLine, node: u32, tick: u64, keep: bool) -> bool
-    ensures { (before : List Line)
-        → MatchBool keep (Spaced node tick before) (Spaced node tick before → ⊥)
-        → MatchBool result (Spaced node tick (line_of line.now ∷ before))
-        (Spaced node tick (line_of line.now ∷ before) → ⊥) }
+/// The later one of two ticks, where the first one may be missing.
+fn later(early: Option<u64>, tick: u64) -> u64
+    ensures { result ≡ later_of early tick }
+{
+    match early {
+        Some(early) if tick < early => early,
+        _ => tick,
+    }
+}
+
+/// The greatest tick of a correction of a node's life after a line, where it was `keep` before.
+pub(crate) fn latest_after(line: &HistoryLine, node: u32, keep: Option<u64>) -> Option<u64>
+    ensures { (before : List Line) → SpacedBy node before keep
+        → SpacedBy node (line_of line.now ∷ before) result }
 {
     if line.node != node {
         return keep;
@@ -71,22 +80,22 @@ fn is_spaced_after(line: &HistoryLine, node: u32, tick: u64, keep: bool) -> bool
         return keep;
     };
     match act {
-        Act::Boot => true,
-        Act::Correct { .. } => keep && is_far(line.tick, GAP, tick),
+        Act::Boot => None,
+        Act::Correct { .. } => Some(later(keep, line.tick)),
         _ => keep,
     }
 }
 
 /// Whether a correction of a node at this tick stands GAP ticks after each before it in the same life.
 pub fn is_spaced(lines: &[HistoryLine], node: u32, tick: u64) -> bool
+    requires told { Told lines.now }
     ensures { MatchBool result (Spaced node tick (history_of lines.now))
         (Spaced node tick (history_of lines.now) → ⊥) }
 {
-    let mut is_spaced = true;
-    for line in lines {
-        is_spaced = is_spaced_after(line, node, tick, is_spaced);
+    match node_at(lines, node).latest {
+        Some(latest) => is_far(latest, GAP, tick),
+        None => true,
     }
-    is_spaced
 }
 
 /// What is seen of a clock after a line.
@@ -116,33 +125,21 @@ pub(crate) fn clock_after(line: &HistoryLine, node: u32, keep: Clock) -> Clock
     }
 }
 
-/// What a node's clock shows at tick 0 when it boots, and how it was moved since.
-fn clock_at(lines: &[HistoryLine], node: u32) -> Clock
-    requires { length lines.now < 2 ^ 32 }
-    ensures keeps { Keeps node (history_of lines.now) result }
-    ensures bounded { IsSumOf (length lines.now) result.moved }
-{
-    let mut clock = Clock::new();
-    for line in lines {
-        clock = clock_after(line, node, clock);
-    }
-    clock
-}
-
 /// The amounts of a node's corrections since its boot, in microseconds.
 pub fn moved_at(lines: &[HistoryLine], node: u32) -> i128
-    requires { length lines.now < 2 ^ 32 }
+    requires told { Told lines.now }
     ensures moved { result ≡ moved (dids (of node (history_of lines.now))) }
     ensures bounded { IsSumOf (length lines.now) result }
 {
-    clock_at(lines, node).moved
+    node_at(lines, node).clock.moved
 }
 
 /// The target of a node's clock at a tick, in microseconds.
 pub fn target_at(lines: &[HistoryLine], node: u32, tick: u64) -> i128
-    requires { length lines.now < 2 ^ 32 }
+    requires few { length lines.now < 2 ^ 32 }
+    requires told { Told lines.now }
     ensures target { result ≡ target (dids (of node (history_of lines.now))) tick }
     ensures small { IsSmall result }
 {
-    clock_at(lines, node).target(tick)
+    node_at(lines, node).clock.target(tick)
 }

@@ -1,8 +1,34 @@
 //! Lines of a history as values, and the facts that are decided of them.
+//!
+//! A [`history::History`] takes lines one by one, the oldest first: the mark where a step begins,
+//! and each act. Beside each line it keeps what is known of the line's node and port after it
+//! ([`notes::Note`]), so that a question about the newest lines asks for no look at all of them.
+//!
+//! Make room first, since a push takes no memory:
+//!
+//! ```text
+//! let mut history = History::new(alloc);
+//! history.make_room(2)?;
+//! history.push(mark);
+//! history.push(act);
+//!
+//! let lines = history.lines();
+//! let role = role_at(lines, node, port);
+//! let clock = target_at(&lines[..1], node, tick); // before the act
+//! ```
+//!
+//! The questions are functions over the first lines, as many as are meant: clocks in [`clocks`] and
+//! [`counts`], roles and holds in [`scans`], rounds in [`rounds`], what was posted and taken in
+//! [`posts`], and which send a message is of in [`sends`].
 #![tactic(auto)]
 
+mod change;
 pub mod clocks;
+pub mod counts;
+pub mod history;
 pub mod line;
+mod newest;
+pub mod notes;
 pub mod posts;
 pub mod rounds;
 pub mod scans;

@@ -1,5 +1,6 @@
 //! Lines that were noted.
 
+use crate::notes::Note;
 use tsp_base::act::Act;
 use tsp_base::place::Port;
 
@@ -31,4 +32,6 @@ pub struct HistoryLine {
     pub port: Port,
     /// The act; none at the mark where a step begins.
     pub act: Option<Act>,
+    /// What is known after it; a `History` fills it in.
+    pub note: Note,
 }

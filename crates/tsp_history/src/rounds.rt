@@ -1,15 +1,20 @@
 //! Facts of a port's round: its exchanges and its samples.
-ghost use Rattle.std.specs.Prelude.{◌≡◌, ◌<◌, ◌^◌, ◌-ℤ◌, pos, List, ℕ, ◌∷◌, length, take, IfSome};
+ghost use Rattle.std.specs.Prelude.{◌≡◌, ◌<◌, ◌≤◌, ◌^◌, ◌-ℤ◌, pos, true, List, ℕ, ◌∷◌, None, length, take, IfSome};
 ghost use Rattle.tsp_base.specs.History.{Line, of, dids, view};
 ghost use Rattle.tsp_base.specs.RoundFacts.{best, exchange, is_going};
 ghost use Rattle.tsp_base.specs.NodeFacts.{target};
 ghost use Rattle.tsp_promises.specs.StepFacts.{closed};
+ghost use Rattle.tsp_history.specs.Changes.{BeginsOn, place_by};
 ghost use Rattle.tsp_history.specs.Clocks.{IsSmall, IsSumOf, IsTrip, Keeps};
 ghost use Rattle.tsp_history.specs.Histories.{line_of, history_of};
+ghost use Rattle.tsp_history.specs.Notes.{Told};
+ghost use Rattle.tsp_history.specs.Posts.{IsPost};
 ghost use Rattle.tsp_history.specs.Rounds.{Asked, Bests, better_of, LineAt, SeenBy, start_of, trip_at};
 
-use crate::clocks::{Clock, clock_after, target_at};
+use crate::change::Change;
+use crate::clocks::target_at;
 use crate::line::HistoryLine;
+use crate::notes::port_at;
 use tsp_base::act::Act;
 use tsp_base::alarm::Alarm;
 use tsp_base::datagram::Datagram;
@@ -30,7 +35,7 @@ pub struct Best {
 }
 
 /// Whether a port's round goes on after a line, where `keep` says so before it.
-fn is_going_after(line: &HistoryLine, node: u32, port: Port, keep: bool) -> bool
+pub(crate) fn is_going_after(line: &HistoryLine, node: u32, port: Port, keep: bool) -> bool
     ensures { (before : List Line) → keep ≡ is_going (view port (of node before))
         → result ≡ is_going (view port (of node (line_of line.now ∷ before))) }
 {
@@ -48,42 +53,32 @@ fn is_going_after(line: &HistoryLine, node: u32, port: Port, keep: bool) -> bool
 
 /// Whether a round of a node's port goes on.
 pub fn is_going(lines: &[HistoryLine], node: u32, port: Port) -> bool
+    requires told { Told lines.now }
     ensures { result ≡ is_going (view port (of node (history_of lines.now))) }
 {
-    let mut is_going = false;
-    for line in lines {
-        is_going = is_going_after(line, node, port, is_going);
-    }
-    is_going
+    port_at(lines, node, port).is_going
 }
 
-/// The index of the last Close of a port's step after the line with this index, where `keep` is
-/// that before it.
-fn closed_after(
-    line: &HistoryLine,
-    index: usize,
-    node: u32,
-    port: Port,
-    keep: Option<usize>,
-) -> Option<usize>
-    ensures { (ns : List HistoryLine) (before : List Line) → LineAt ns index line.now
-        → before ≡ history_of (take index ns)
-        → SeenBy ns node port (closed (view port (of node before))) keep
-        → SeenBy ns node port (closed (view port (of node (line_of line.now ∷ before)))) result }
+/// What a line does to the last Close of a port's step.
+fn close_change(line: &HistoryLine, node: u32, port: Port) -> Change
+    ensures place { (before : List Line) → closed (view port (of node (line_of line.now ∷ before)))
+        ≡ place_by result true (line_of line.now).did (view port (of node before))
+        (closed (view port (of node before))) }
+    ensures begins { result ≡ Change.Begins → BeginsOn line.now node port }
 {
     if line.node != node {
-        return keep;
+        return Change::Keeps;
     }
     match &line.act {
-        None => None,
+        None => Change::Ends,
         Some(Act::Close { .. }) => {
             if line.port.0 == port.0 {
-                Some(index)
+                Change::Begins
             } else {
-                keep
+                Change::Keeps
             }
         }
-        _ => keep,
+        _ => Change::Keeps,
     }
 }
 
@@ -92,35 +87,35 @@ pub fn closed_at(lines: &[HistoryLine], node: u32, port: Port) -> Option<usize>
     ensures { SeenBy lines.now node port (closed (view port (of node (history_of lines.now))))
         result }
 {
-    let mut closed = None;
-    for (index, line) in lines.iter().enumerate() {
-        closed = closed_after(line, index, node, port, closed);
+    let mut left = lines.len();
+    while left > 0 {
+        left -= 1;
+        match close_change(&lines[left], node, port) {
+            Change::Keeps => {}
+            Change::Ends => return None,
+            Change::Begins => return Some(left),
+        }
     }
-    closed
+    None
 }
 
-/// The clock's target at the open request to a peer under this counter after a line of the node, at
-/// which the target is `now`, where `keep` is that before it.
-fn asked_then(
-    line: &HistoryLine,
-    port: Port,
-    p: PeerId,
-    counter: u64,
-    now: i128,
-    keep: Option<i128>,
-) -> Option<i128>
-    ensures asked { (before : List Line)
-        → now ≡ target (dids (of line.now.node before)) line.now.tick
-        → Asked (exchange p counter (view port (of line.now.node before))) keep
-        → Asked (exchange p counter (view port (of line.now.node (line_of line.now ∷ before))))
-        result }
-    ensures small { IsSmall now → IfSome keep IsSmall → IfSome result IsSmall }
+/// What a line does to the open exchange with a peer under this counter.
+fn exchange_change(line: &HistoryLine, node: u32, port: Port, p: PeerId, counter: u64) -> Change
+    ensures place { (before : List Line)
+        → exchange p counter (view port (of node (line_of line.now ∷ before)))
+        ≡ place_by result true (line_of line.now).did (view port (of node before))
+        (exchange p counter (view port (of node before))) }
+    ensures begins { result ≡ Change.Begins → BeginsOn line.now node port }
+    ensures posts { result ≡ Change.Begins → IsPost line.now }
 {
+    if line.node != node {
+        return Change::Keeps;
+    }
     if let Some(Act::Boot) = &line.act {
-        return None;
+        return Change::Ends;
     }
     if line.port.0 != port.0 {
-        return keep;
+        return Change::Keeps;
     }
     match &line.act {
         Some(
@@ -129,12 +124,12 @@ fn asked_then(
             | Act::Ring(Alarm::Close)
             | Act::Late(Alarm::Close)
             | Act::Abandon,
-        ) => None,
+        ) => Change::Ends,
         Some(Act::Post(Place::Peer(q), Datagram::Stamp(Stamp::Request { counter: c, .. }))) => {
             if q.0 == p.0 && *c == counter {
-                Some(now)
+                Change::Begins
             } else {
-                keep
+                Change::Keeps
             }
         }
         Some(
@@ -145,35 +140,13 @@ fn asked_then(
             },
         ) => {
             if peer.0 == p.0 && *c == counter {
-                None
+                Change::Ends
             } else {
-                keep
+                Change::Keeps
             }
         }
-        _ => keep,
+        _ => Change::Keeps,
     }
-}
-
-/// The same after a line of any node, where its clock is this one before it.
-fn asked_after(
-    line: &HistoryLine,
-    node: u32,
-    port: Port,
-    p: PeerId,
-    counter: u64,
-    clock: Clock,
-    keep: Option<i128>,
-) -> Option<i128>
-    requires { IsSumOf 4294967295 clock.moved }
-    ensures asked { (before : List Line) → Keeps node before clock
-        → Asked (exchange p counter (view port (of node before))) keep
-        → Asked (exchange p counter (view port (of node (line_of line.now ∷ before)))) result }
-    ensures small { IfSome keep IsSmall → IfSome result IsSmall }
-{
-    if line.node != node {
-        return keep;
-    }
-    asked_then(line, port, p, counter, clock.target(line.tick), keep)
 }
 
 /// The clock's target, in microseconds, at the last request of a node's port to a peer under this
@@ -185,17 +158,32 @@ pub fn asked_at(
     p: PeerId,
     counter: u64,
 ) -> Option<i128>
-    requires { length lines.now < 2 ^ 32 }
+    requires few { length lines.now < 2 ^ 32 }
+    requires told { Told lines.now }
     ensures asked { Asked (exchange p counter (view port (of node (history_of lines.now)))) result }
     ensures small { IfSome result IsSmall }
 {
-    let mut clock = Clock::new();
-    let mut asked = None;
-    for line in lines {
-        asked = asked_after(line, node, port, p, counter, clock, asked);
-        clock = clock_after(line, node, clock);
+    let mut left = lines.len();
+    while left > 0 {
+        left -= 1;
+        let line = &lines[left];
+        match exchange_change(line, node, port, p, counter) {
+            Change::Keeps => {}
+            Change::Ends => return None,
+            Change::Begins => return Some(target_of(line)),
+        }
     }
-    asked
+    None
+}
+
+/// The target of a line's node after it, in microseconds.
+fn target_of(line: &HistoryLine) -> i128
+    requires { IsSumOf 4294967295 line.now.note.node.clock.moved }
+    ensures target { (before : List Line) → Keeps line.now.node before line.now.note.node.clock
+        → result ≡ target (dids (of line.now.node before)) line.now.tick }
+    ensures small { IsSmall result }
+{
+    line.note.node.clock.target(line.tick)
 }
 
 /// The time from a start to now, or from 0 where there is no start.
@@ -213,7 +201,8 @@ fn since(now: i128, start: Option<i128>) -> i128
 
 /// The round trip of a Sample that stands after these lines, in microseconds; 0 at another line.
 pub fn trip_of(lines: &[HistoryLine], line: &HistoryLine) -> i128
-    requires { length lines.now < 2 ^ 32 }
+    requires few { length lines.now < 2 ^ 32 }
+    requires told { Told lines.now }
     ensures trip { result ≡ trip_at (line_of line.now) (history_of lines.now) }
     ensures small { IsTrip result }
 {
@@ -280,4 +269,37 @@ fn better(early: Option<Best>, late: Best) -> Best
         Some(early) if early.trip <= late.trip => early,
         _ => late,
     }
+}
+
+/// Whether a line forgets all samples of a node's port: a round begins, a role, or a life.
+fn forgets_samples(line: &HistoryLine, node: u32, port: Port) -> bool
+    ensures { result ≡ true → (before : List Line) (p : PeerId)
+        → best p (view port (of node (line_of line.now ∷ before))) ≡ None }
+{
+    if line.node != node {
+        return false;
+    }
+    match &line.act {
+        Some(Act::Boot) => true,
+        Some(Act::Become(_) | Act::Arm(Alarm::Close, _)) => line.port.0 == port.0,
+        _ => false,
+    }
+}
+
+/// How many lines stand before those with the samples of a node's port that count: those since its
+/// last round, its last role or its node's last life began.
+pub fn samples_from(lines: &[HistoryLine], node: u32, port: Port) -> usize
+    ensures few { result ≤ length lines.now }
+    ensures none { (p : PeerId)
+        → best p (view port (of node (history_of (take result lines.now)))) ≡ None }
+{
+    let mut left = lines.len();
+    while left > 0 {
+        let line = &lines[left - 1];
+        if forgets_samples(line, node, port) {
+            return left;
+        }
+        left -= 1;
+    }
+    0
 }

@@ -1,12 +1,14 @@
-//! Facts of noted lines, by one scan each.
+//! Roles and holds.
 ghost use Rattle.std.specs.Prelude.{◌≡◌, ℕ, List, ◌∷◌, MatchBool};
 ghost use Rattle.tsp_base.specs.History.{Line, of, view};
 ghost use Rattle.tsp_base.specs.PortFacts.{role};
 ghost use Rattle.tsp_promises.specs.Everywhere.{Everywhere};
 ghost use Rattle.tsp_history.specs.Histories.{line_of, history_of};
 ghost use Rattle.tsp_history.specs.Holding.{Apart};
+ghost use Rattle.tsp_history.specs.Notes.{Told};
 
 use crate::line::HistoryLine;
+use crate::notes::port_at;
 use crate::ticks::is_far;
 use tsp_base::act::Act;
 use tsp_base::constants::HOLD;
@@ -14,7 +16,7 @@ use tsp_base::place::{PeerId, Port};
 use tsp_base::role::Role;
 
 /// The role of a node's port after a line, where it was `keep` before.
-fn role_after(line: &HistoryLine, node: u32, port: Port, keep: Role) -> Role
+pub(crate) fn role_after(line: &HistoryLine, node: u32, port: Port, keep: Role) -> Role
     ensures { (before : List Line) → keep ≡ role (view port (of node before))
         → result ≡ role (view port (of node (line_of line.now ∷ before))) }
 {
@@ -30,13 +32,10 @@ fn role_after(line: &HistoryLine, node: u32, port: Port, keep: Role) -> Role
 
 /// The role of a node's port.
 pub fn role_at(lines: &[HistoryLine], node: u32, port: Port) -> Role
+    requires told { Told lines.now }
     ensures { result ≡ role (view port (of node (history_of lines.now))) }
 {
-    let mut role = Role::Starting;
-    for line in lines {
-        role = role_after(line, node, port, role);
-    }
-    role
+    port_at(lines, node, port).role
 }
 
 /// Whether a line is no Back for another candidate that is too near.

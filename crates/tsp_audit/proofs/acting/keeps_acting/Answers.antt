@@ -8,6 +8,7 @@ use Rattle.tsp_audit.specs.Acting.{ActedIs, ActsAt, TakesAs}
 use Rattle.tsp_audit.proofs.ActLemmas.{acted-next, acts-all, acts-part, takes-as}
 use Rattle.tsp_audit.proofs.Prefixes.{at-line, one-more}
 use Rattle.tsp_history.proofs.HistoryLemmas.{history-more}
+use Rattle.tsp_history.proofs.NoteLemmas.{told_take}
 use Rattle.tsp_audit.proofs.acting.keeps_acting.Goals as goal
 
 pub loop-i-init : goal.loop-i-init
@@ -57,3 +58,9 @@ returns-clause-keeps c setting has timely room a once =
 pub returns-clause-acted : goal.returns-clause-acted
 returns-clause-acted c told room a =
     subst (λ (ns : List HistoryLine). ActedIs (history_of ns) c.loop-i.acted.items) (take_all c.loop-i.i c.args.lines.now (omega arith)) (c.loop-i.invariant.0 room a)
+
+pub takes_send-send-requires : goal.takes_send-send-requires
+takes_send-send-requires c = told_take c.args.lines.now c.loop-i.i c.requires.told
+
+pub acts_once-requires-clause-told : goal.acts_once-requires-clause-told
+acts_once-requires-clause-told c = told_take c.args.lines.now c.loop-i.i c.requires.told

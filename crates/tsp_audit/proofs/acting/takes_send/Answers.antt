@@ -3,6 +3,7 @@ use Rattle.tsp_history.specs.declared.line.HistoryLine.{HistoryLine}
 use Rattle.tsp_history.specs.Histories.{deed_of, history_of, line_of}
 use Rattle.tsp_audit.specs.Acting.{ActsNow, BringsAt, IsNumbered}
 use Rattle.tsp_audit.proofs.TakeLemmas.{takes-decide, takes-unnumbered}
+use Rattle.tsp_history.proofs.NoteLemmas.{told_take}
 use Rattle.tsp_audit.proofs.acting.takes_send.Goals as goal
 
 pub returns-in-None : goal.returns-in-None
@@ -24,3 +25,6 @@ returns-else-is_numbered c s =
     let here : get_or c.args.lines.now c.in-Some.index noted ≡ noted = search rules in
     let other : IsNumbered (deed_of noted.act) → ⊥ = search rules in
     takes-unnumbered c.args.lines.now (line_of c.args.line.now) c.in-Some.index noted s brings here other
+
+pub begun_to-requires : goal.begun_to-requires
+begun_to-requires c = record { told = told_take c.args.lines.now _ c.requires }

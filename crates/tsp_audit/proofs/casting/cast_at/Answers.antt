@@ -3,6 +3,7 @@ use Rattle.tsp_history.specs.declared.line.HistoryLine.{HistoryLine}
 use Rattle.tsp_history.specs.Histories.{line_of}
 use Rattle.tsp_audit.specs.Casting.{BegunAt}
 use Rattle.tsp_audit.proofs.SampleLemmas.{cast-told, trips-before}
+use Rattle.tsp_history.proofs.NoteLemmas.{told_take}
 use Rattle.tsp_audit.proofs.casting.cast_at.Goals as goal
 
 pub returns-in-Some : goal.returns-in-Some
@@ -11,3 +12,6 @@ returns-in-Some c tell =
     let noted : HistoryLine = c.index-lines-index.result in
     let here : get_or c.args.lines.now c.in-Some.index noted ≡ noted = search rules in
     cast-told c.args.lines.now (line_of c.args.line.now) c.in-Some.index noted c.round_of.result begun here (c.round_of.ensures (trips-before c.args.lines.now c.args.trips.now c.in-Some.index tell))
+
+pub round_of-requires : goal.round_of-requires
+round_of-requires c = told_take c.args.lines.now c.in-Some.index c.requires

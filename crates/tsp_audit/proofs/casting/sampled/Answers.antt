@@ -9,6 +9,7 @@ use Rattle.tsp_history.specs.Histories.{history_of}
 use Rattle.tsp_history.specs.Rounds.{BestAt}
 use Rattle.tsp_audit.specs.Agreeing.{TripsTell}
 use Rattle.tsp_audit.proofs.SampleLemmas.{reading-none, round-found, sample-none, trips-before}
+use Rattle.tsp_history.proofs.NoteLemmas.{told_take}
 use Rattle.tsp_audit.proofs.casting.sampled.Goals as goal
 
 pub returns-in_default : goal.returns-in_default
@@ -39,3 +40,9 @@ returns-in-Some-reading_of c tell s =
     let here : get_or (take c.args.close c.args.lines.now) c.in-Some.best.index noted ≡ noted = search rules in
     let err : to_z w64 (of_z w64 c.in-Some.best.err) ≡ c.in-Some.best.err = search rules in
     round-found c.args.lines.now c.args.first.now.node c.args.first.now.port c.args.node c.args.close c.in-Some.best noted _ s b here c.in-Some-reading_of.ensures refl refl err c.counts_at-counts.ensures.lives c.counts_at-counts.ensures.corrects
+
+pub reading_of-requires : goal.reading_of-requires
+reading_of-requires c = told_take _ _ (told_take c.args.lines.now c.args.close c.requires.told)
+
+pub counts_at-counts-requires : goal.counts_at-counts-requires
+counts_at-counts-requires c = record { told = told_take c.args.lines.now _ c.requires.told }

@@ -1,9 +1,14 @@
--- What the lines so far come to, and those that are left.
-use Rattle.std.proofs.Common.{◌≡◌, List, [], drop}
-use Rattle.tsp_base.specs.History.{Line}
+-- The lines that were looked at are marks.
+use Rattle.std.proofs.Common.{◌≡◌, ◌≤◌, length, take}
 use Rattle.tsp_audit.specs.Leading.{closing}
-use Rattle.tsp_history.specs.Histories.{noted_after}
+use Rattle.tsp_history.specs.Histories.{history_of}
 use Rattle.tsp_audit.proofs.leading.closes_last.Given as goal
 
-abbrev pub invariant-loop-line : goal.invariant-loop-line
-invariant-loop-line l = (h : List Line) × (l.closing ≡ closing h) × (noted_after h (drop l.line-index l.lines) ≡ noted_after [] l.lines)
+abbrev pub invariant-loop-left : goal.invariant-loop-left
+invariant-loop-left l = record {
+  few : l.left ≤ length l.lines;
+  same : closing (history_of l.lines) ≡ closing (history_of (take l.left l.lines));
+}
+
+abbrev pub decreases-loop-left : goal.decreases-loop-left
+decreases-loop-left l = l.left

@@ -5,6 +5,7 @@ use Rattle.tsp_history.specs.Histories.{history_of, line_of}
 use Rattle.tsp_audit.specs.Measuring.{IsNear, RepliesAt}
 use Rattle.tsp_audit.proofs.MeasureLemmas.{read-decides, read-none}
 use Rattle.tsp_audit.proofs.Prefixes.{at-line}
+use Rattle.tsp_history.proofs.NoteLemmas.{told_take}
 use Rattle.tsp_audit.proofs.measuring.has_reading.Goals as goal
 
 pub returns-in-None : goal.returns-in-None
@@ -27,3 +28,9 @@ returns-in-Some c setting has timely =
     subst₂ (λ (d e : ℤ). MatchBool c.stands_ahead.result (IsNear d e c.clock_at-ahead.result c.clock_at-own.result) (IsNear d e c.clock_at-ahead.result c.clock_at-own.result → ⊥)) diff err clocks in
     read-decides c.args.header.now setting c.args.lines.now (line_of c.args.line.now) c.args.peer c.in-Some.index noted c.stands_ahead.result c.args.diff c.args.err c.clock_at-ahead.result c.clock_at-own.result has at here
     (c.clock_at-ahead.ensures.clock soon) (c.clock_at-own.ensures.clock soon) near
+
+pub clock_at-ahead-requires-clause-told : goal.clock_at-ahead-requires-clause-told
+clock_at-ahead-requires-clause-told c = told_take c.args.lines.now _ c.requires.told
+
+pub clock_at-own-requires-clause-told : goal.clock_at-own-requires-clause-told
+clock_at-own-requires-clause-told c = told_take c.args.lines.now _ c.requires.told

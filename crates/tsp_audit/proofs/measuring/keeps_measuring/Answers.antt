@@ -8,6 +8,7 @@ use Rattle.tsp_audit.specs.Measuring.{MeasuresAt}
 use Rattle.tsp_audit.specs.Settings.{Timely}
 use Rattle.tsp_audit.proofs.MeasureLemmas.{measures-all, measures-part}
 use Rattle.tsp_audit.proofs.Prefixes.{at-line, history-within, one-more}
+use Rattle.tsp_history.proofs.NoteLemmas.{told_take}
 use Rattle.tsp_audit.proofs.measuring.keeps_measuring.Goals as goal
 
 pub loop-i-init : goal.loop-i-init
@@ -41,3 +42,6 @@ returns c setting has timely well =
     let lines : List HistoryLine = c.args.lines.now in
     let all : Everywhere (MeasuresAt setting) (history_of lines) = subst (λ (ns : List HistoryLine). Everywhere (MeasuresAt setting) (history_of ns)) (take_all c.loop-i.i lines (omega arith)) (c.loop-i.invariant setting has timely well) in
     measures-part setting (history_of lines) all
+
+pub measures-requires-clause-told : goal.measures-requires-clause-told
+measures-requires-clause-told c = told_take c.args.lines.now c.loop-i.i c.requires.told

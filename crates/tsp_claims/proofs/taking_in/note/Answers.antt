@@ -15,10 +15,10 @@ loop-line-preserved c =
     let i = c.loop-line.line-index in
     record {
       history =
-          ap (λ ns. joined (step_by step) step.tick (acts_of (drop (i + 1) c.args.acts.now)) (history_of ns)) c.push_reserved.ensures.items
-          ∙ note-next (step_by step) step.tick c.args.acts.now i item c.loop-line.lines.items c.noted.result (omega arith) (sym c.line-item.is)
-          (ap (λ n. line_of n) c.noted.ensures ∙ ap (λ a. line_in (step_by step) step.tick item.placed.port (Acts a)) c.copy-act.ensures)
+          ap (λ h. joined (step_by step) step.tick (acts_of (drop (i + 1) c.args.acts.now)) h) c.push.ensures.history
+          ∙ note-next (step_by step) step.tick c.args.acts.now i item (line_of c.noted.result) (history_of c.loop-line.lines.lines) (omega arith) (sym c.line-item.is)
+          (c.noted.ensures ∙ ap (λ a. line_in (step_by step) step.tick item.placed.port (Acts a)) c.copy-act.ensures)
           ∙ c.loop-line.invariant.history;
       len = omega arith;
-      capacity = omega arith;
+      room = omega arith;
     }

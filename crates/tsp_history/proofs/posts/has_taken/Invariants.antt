@@ -1,9 +1,15 @@
--- Whether something was taken so far, and the lines that are left.
-use Rattle.std.proofs.Common.{◌≡◌, is_some, List, [], drop}
-use Rattle.tsp_base.specs.History.{Line, of, dids}
+-- The lines that were looked at tell nothing of it.
+use Rattle.std.proofs.Common.{◌≡◌, ◌≤◌, length, take, is_some}
+use Rattle.tsp_base.specs.History.{dids, of}
 use Rattle.tsp_base.specs.Takings.{heard}
-use Rattle.tsp_history.specs.Histories.{noted_after}
+use Rattle.tsp_history.specs.Histories.{history_of}
 use Rattle.tsp_history.proofs.posts.has_taken.Given as goal
 
-abbrev pub invariant-loop-line : goal.invariant-loop-line
-invariant-loop-line l = (h : List Line) × (l.has_taken ≡ is_some (heard (dids (of l.node h)))) × (noted_after h (drop l.line-index l.lines) ≡ noted_after [] l.lines)
+abbrev pub invariant-loop-left : goal.invariant-loop-left
+invariant-loop-left l = record {
+  few : l.left ≤ length l.lines;
+  same : is_some (heard (dids (of l.node (history_of l.lines)))) ≡ is_some (heard (dids (of l.node (history_of (take l.left l.lines)))));
+}
+
+abbrev pub decreases-loop-left : goal.decreases-loop-left
+decreases-loop-left l = l.left

@@ -1,9 +1,15 @@
--- How many were posted so far: no more than the number that is looked for.
-use Rattle.std.proofs.Common.{◌≡◌, ◌≤◌, take}
+-- The datagram that is looked for was posted before the lines that were looked at.
+use Rattle.std.proofs.Common.{◌<◌, ◌≤◌, length, take}
 use Rattle.tsp_base.specs.History.{dids}
 use Rattle.tsp_base.specs.Takings.{posted}
 use Rattle.tsp_history.specs.Histories.{history_of}
 use Rattle.tsp_history.proofs.posts.post_at.Given as goal
 
-abbrev pub invariant-loop-index : goal.invariant-loop-index
-invariant-loop-index l = record { posted : l.posted ≡ posted (dids (history_of (take l.index l.lines))); few : l.posted ≤ l.number }
+abbrev pub invariant-loop-left : goal.invariant-loop-left
+invariant-loop-left l = record {
+  few : l.left ≤ length l.lines;
+  some : l.number < posted (dids (history_of (take l.left l.lines)));
+}
+
+abbrev pub decreases-loop-left : goal.decreases-loop-left
+decreases-loop-left l = l.left

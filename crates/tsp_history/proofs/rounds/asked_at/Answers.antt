@@ -1,24 +1,41 @@
-use Rattle.std.proofs.Common.{[], ◌∷◌, ◌∙◌, refl, rules, arith}
-use Rattle.std.proofs.lemmas.Int.{ints}
-use Rattle.tsp_history.specs.Histories.{line_of}
-use Rattle.tsp_history.proofs.HistoryLemmas.{noted-next}
+use Rattle.std.proofs.Common.{◌≡◌, ◌<◌, ◌∙◌, ◌-◌, ◌∷◌, arith, rules, length, take, get_or, refl, sym, subst, to_z, of_z}
+use Rattle.std.specs.Int.{w128}
+use Rattle.tsp_base.specs.History.{of, view}
+use Rattle.tsp_base.specs.RoundFacts.{exchange}
+use Rattle.tsp_history.specs.Histories.{history_of, line_of}
+use Rattle.tsp_history.specs.Posts.{IsPost}
+use Rattle.tsp_history.specs.Rounds.{AskedAt}
+use Rattle.tsp_history.proofs.NoteLemmas.{moved-small, newest-is}
+use Rattle.tsp_history.proofs.RoundLemmas.{asked-here}
 use Rattle.tsp_history.proofs.rounds.asked_at.Goals as goal
 
-pub loop-line-init : goal.loop-line-init
-loop-line-init c = ([], c.new-clock.ensures.keeps c.args.node, c.new-clock.ensures.bounded, refl, tt, refl)
+pub loop-left-preserved : goal.loop-left-preserved
+loop-left-preserved c =
+    let below : c.loop-left.left - 1 < length c.args.lines.now = omega (arith, c.loop-left.invariant.few, c.loop-left-test.true) in
+    let is : get_or c.args.lines.now (c.loop-left.left - 1) c.index-lines-left.result ≡ c.index-lines-left.result = search rules in
+    record { few = omega arith; same = newest-is (λ h. exchange c.args.p c.args.counter (view c.args.port (of c.args.node h))) c.args.lines.now c.loop-left.left (c.loop-left.left - 1) c.index-lines-left.result (omega arith) below is c.loop-left.invariant.same ∙ c.in-Keeps.ensures.place (history_of (take (c.loop-left.left - 1) c.args.lines.now)) }
 
-pub loop-line-preserved : goal.loop-line-preserved
-loop-line-preserved c =
-    let inv = c.loop-line.invariant in (
-      line_of c.line-item.result ∷ inv.0,
-      c.clock_after-clock.ensures.keeps inv.0 inv.1,
-      c.clock_after-clock.ensures.bounded _ inv.2,
-      c.asked_after-asked.ensures.asked inv.0 inv.1 inv.3,
-      c.asked_after-asked.ensures.small inv.4,
-      noted-next inv.0 c.args.lines.now c.loop-line.line-index c.line-item.result (search arith) (search rules) ∙ inv.5,
-    )
+pub returns-in-Ends-clause-asked : goal.returns-in-Ends-clause-asked
+returns-in-Ends-clause-asked c =
+    let below : c.loop-left.left - 1 < length c.args.lines.now = omega (arith, c.loop-left.invariant.few, c.loop-left-test.true) in
+    let is : get_or c.args.lines.now (c.loop-left.left - 1) c.index-lines-left.result ≡ c.index-lines-left.result = search rules in
+    newest-is (λ h. exchange c.args.p c.args.counter (view c.args.port (of c.args.node h))) c.args.lines.now c.loop-left.left (c.loop-left.left - 1) c.index-lines-left.result (omega arith) below is c.loop-left.invariant.same ∙ c.in-Ends.ensures.place (history_of (take (c.loop-left.left - 1) c.args.lines.now))
 
-pub clock_after-clock-requires : goal.clock_after-clock-requires
-clock_after-clock-requires c =
-    let sum = c.loop-line.invariant.2 in
-    (omega (arith, ints, c.loop-line-test.true, c.requires, sum.0), omega (arith, ints, c.loop-line-test.true, c.requires, sum.1))
+pub target_of-requires : goal.target_of-requires
+target_of-requires c =
+    let below : c.loop-left.left - 1 < length c.args.lines.now = omega (arith, c.loop-left.invariant.few, c.loop-left-test.true) in
+    let is : get_or c.args.lines.now (c.loop-left.left - 1) c.index-lines-left.result ≡ c.index-lines-left.result = search rules in
+    moved-small c.args.lines.now (c.loop-left.left - 1) c.index-lines-left.result below is c.requires.few c.requires.told
+
+pub returns-in-Begins-clause-asked : goal.returns-in-Begins-clause-asked
+returns-in-Begins-clause-asked c =
+    let below : c.loop-left.left - 1 < length c.args.lines.now = omega (arith, c.loop-left.invariant.few, c.loop-left-test.true) in
+    let is : get_or c.args.lines.now (c.loop-left.left - 1) c.index-lines-left.result ≡ c.index-lines-left.result = search rules in
+    let begins = c.in-Begins.ensures.begins refl in
+    let post : IsPost c.index-lines-left.result = c.in-Begins.ensures.posts refl in
+    let note = c.requires.told.at (c.loop-left.left - 1) c.index-lines-left.result below is in
+    let place = newest-is (λ h. exchange c.args.p c.args.counter (view c.args.port (of c.args.node h))) c.args.lines.now c.loop-left.left (c.loop-left.left - 1) c.index-lines-left.result (omega arith) below is c.loop-left.invariant.same ∙ c.in-Begins.ensures.place (history_of (take (c.loop-left.left - 1) c.args.lines.now)) in
+    let same : to_z w128 (of_z w128 c.target_of.result) ≡ c.target_of.result = search rules in
+    subst (λ t. AskedAt (exchange c.args.p c.args.counter (view c.args.port (of c.args.node (history_of c.args.lines.now)))) t) (sym same)
+    (asked-here c.args.node c.args.port (exchange c.args.p c.args.counter (view c.args.port (of c.args.node (history_of c.args.lines.now)))) c.index-lines-left.result (history_of (take (c.loop-left.left - 1) c.args.lines.now)) c.target_of.result begins.node post place
+    (c.target_of.ensures.target (line_of c.index-lines-left.result ∷ (history_of (take (c.loop-left.left - 1) c.args.lines.now))) note.node.clock))

@@ -1,18 +1,32 @@
-use Rattle.std.proofs.Common.{◌≡◌, ◌<◌, sym, subst, refl, rules, arith, length, get_or, take}
+use Rattle.std.proofs.Common.{◌≡◌, ◌<◌, ◌∙◌, ◌-◌, arith, rules, length, take, get_or, refl}
 use Rattle.tsp_base.specs.History.{of, view}
 use Rattle.tsp_promises.specs.StepFacts.{closed}
 use Rattle.tsp_history.specs.Histories.{history_of}
-use Rattle.tsp_history.specs.Rounds.{SeenBy}
-use Rattle.tsp_history.proofs.HistoryLemmas.{history-more}
+use Rattle.tsp_history.proofs.NoteLemmas.{begins-port, newest-is}
 use Rattle.tsp_history.proofs.RoundLemmas.{line-at}
 use Rattle.tsp_history.proofs.rounds.closed_at.Goals as goal
 
-pub loop-index-preserved : goal.loop-index-preserved
-loop-index-preserved c =
-    let ns = c.args.lines.now in
-    let i = c.loop-index.index in
-    let item = c.index-lines-index.result in
-    let below : i < length ns = search arith in
-    let is : get_or ns i item ≡ item = search rules in
-    subst (λ h. SeenBy ns c.args.node c.args.port (closed (view c.args.port (of c.args.node h))) c.closed_after-closed.result) (sym (history-more ns i item below is))
-    (c.closed_after-closed.ensures ns (history_of (take i ns)) (line-at ns i item below is) refl c.loop-index.invariant)
+pub loop-left-preserved : goal.loop-left-preserved
+loop-left-preserved c =
+    let below : c.loop-left.left - 1 < length c.args.lines.now = omega (arith, c.loop-left.invariant.few, c.loop-left-test.true) in
+    let is : get_or c.args.lines.now (c.loop-left.left - 1) c.index-lines-left.result ≡ c.index-lines-left.result = search rules in
+    record { few = omega arith; same = newest-is (λ h. closed (view c.args.port (of c.args.node h))) c.args.lines.now c.loop-left.left (c.loop-left.left - 1) c.index-lines-left.result (omega arith) below is c.loop-left.invariant.same ∙ c.in-Keeps.ensures.place (history_of (take (c.loop-left.left - 1) c.args.lines.now)) }
+
+pub returns-in-Ends : goal.returns-in-Ends
+returns-in-Ends c =
+    let below : c.loop-left.left - 1 < length c.args.lines.now = omega (arith, c.loop-left.invariant.few, c.loop-left-test.true) in
+    let is : get_or c.args.lines.now (c.loop-left.left - 1) c.index-lines-left.result ≡ c.index-lines-left.result = search rules in
+    newest-is (λ h. closed (view c.args.port (of c.args.node h))) c.args.lines.now c.loop-left.left (c.loop-left.left - 1) c.index-lines-left.result (omega arith) below is c.loop-left.invariant.same ∙ c.in-Ends.ensures.place (history_of (take (c.loop-left.left - 1) c.args.lines.now))
+
+pub returns-in-Begins : goal.returns-in-Begins
+returns-in-Begins c =
+    let below : c.loop-left.left - 1 < length c.args.lines.now = omega (arith, c.loop-left.invariant.few, c.loop-left-test.true) in
+    let is : get_or c.args.lines.now (c.loop-left.left - 1) c.index-lines-left.result ≡ c.index-lines-left.result = search rules in
+    let begins = c.in-Begins.ensures.begins refl in
+    record {
+      noted = c.index-lines-left.result;
+      at = line-at c.args.lines.now (c.loop-left.left - 1) c.index-lines-left.result below is;
+      node = begins.node;
+      port = begins-port c.index-lines-left.result c.args.node c.args.port begins;
+      is = newest-is (λ h. closed (view c.args.port (of c.args.node h))) c.args.lines.now c.loop-left.left (c.loop-left.left - 1) c.index-lines-left.result (omega arith) below is c.loop-left.invariant.same ∙ c.in-Begins.ensures.place (history_of (take (c.loop-left.left - 1) c.args.lines.now));
+    }

@@ -1,10 +1,15 @@
--- The last Close of the step after the lines so far.
-use Rattle.std.proofs.Common.{take}
+-- The lines that were looked at leave the place as it was.
+use Rattle.std.proofs.Common.{◌≡◌, ◌≤◌, length, take}
 use Rattle.tsp_base.specs.History.{of, view}
 use Rattle.tsp_promises.specs.StepFacts.{closed}
 use Rattle.tsp_history.specs.Histories.{history_of}
-use Rattle.tsp_history.specs.Rounds.{SeenBy}
 use Rattle.tsp_history.proofs.rounds.closed_at.Given as goal
 
-abbrev pub invariant-loop-index : goal.invariant-loop-index
-invariant-loop-index l = SeenBy l.lines l.node l.port (closed (view l.port (of l.node (history_of (take l.index l.lines))))) l.closed
+abbrev pub invariant-loop-left : goal.invariant-loop-left
+invariant-loop-left l = record {
+  few : l.left ≤ length l.lines;
+  same : closed (view l.port (of l.node (history_of l.lines))) ≡ closed (view l.port (of l.node (history_of (take l.left l.lines))));
+}
+
+abbrev pub decreases-loop-left : goal.decreases-loop-left
+decreases-loop-left l = l.left

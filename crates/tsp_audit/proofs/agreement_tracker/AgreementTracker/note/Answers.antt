@@ -8,6 +8,7 @@ use Rattle.tsp_history.proofs.HistoryLemmas.{history-more}
 use Rattle.tsp_audit.proofs.SampleLemmas.{history-length}
 use Rattle.tsp_history.specs.declared.line.HistoryLine.{HistoryLine}
 use Rattle.tsp_history.specs.Histories.{history_of, line_of}
+use Rattle.tsp_history.proofs.NoteLemmas.{told_take}
 use Rattle.tsp_audit.proofs.agreement_tracker.AgreementTracker.note.Goals as goal
 
 pub returns-clause-accord : goal.returns-clause-accord
@@ -26,3 +27,12 @@ returns-clause-accord c count spare is =
     let nodes = c.note_node.ensures.nodes more tell is.last_is is.nodes_are in
     let new : AgreementTracker = record { trips = c.note_trip.new.trips; last = c.newest-self.result; nodes = c.note_node.new.nodes } in
     subst (λ (k : List Line). AccordIs count k new) (sym more) (accord-next count h (line_of noted) c.args.self.now new is trips last nodes c.note_node.ensures.many)
+
+pub trip_of-trip-requires-clause-told : goal.trip_of-trip-requires-clause-told
+trip_of-trip-requires-clause-told c = told_take c.args.lines.now c.args.index c.requires.told
+
+pub note_node-requires-clause-told : goal.note_node-requires-clause-told
+note_node-requires-clause-told c = told_take c.args.lines.now _ c.requires.told
+
+pub note_node-requires-clause-past : goal.note_node-requires-clause-past
+note_node-requires-clause-past c = told_take c.args.lines.now c.args.index c.requires.told

@@ -3,19 +3,18 @@ use Rattle.std.proofs.Common.{◌∙◌, ◌∷◌, ap, refl}
 use Rattle.tsp_base.specs.Joins.{joined}
 use Rattle.tsp_claims.specs.Fitting.{acts_of}
 use Rattle.tsp_claims.specs.Steps.{step_by}
-use Rattle.tsp_claims.proofs.StepLemmas.{history-push}
 use Rattle.tsp_claims.proofs.claims.Claims.join.Goals as goal
-use Rattle.tsp_history.specs.Histories.{history_of, line_of}
+use Rattle.tsp_history.specs.Histories.{history_of}
 
 pub returns : goal.returns
 returns c =
     let step = c.args.step in
-    let before = c.args.self.now.lines.items in
+    let before = c.args.self.now.lines.lines in
     record {
       header_is = refl;
       up_is = refl;
       history = c.note.ensures.history ∙ ap (λ h. joined (step_by step) step.tick (acts_of c.args.acts.now) h)
-          (ap (λ ns. history_of ns) c.push_reserved.ensures.items ∙ history-push before c.noted.result ∙ ap (λ n. line_of n ∷ history_of before) c.noted.ensures);
+          (c.push.ensures.history ∙ ap (λ l. l ∷ history_of before) c.noted.ensures);
       posts_are = c.claim.ensures;
       events_are = refl;
       told_is = refl;

@@ -1,0 +1,9 @@
+-- So many lines are left.
+use Rattle.std.proofs.Common.{◌≤◌, length}
+use Rattle.tsp_history.proofs.rounds.samples_from.Given as goal
+
+abbrev pub invariant-loop-left : goal.invariant-loop-left
+invariant-loop-left l = l.left ≤ length l.lines
+
+abbrev pub decreases-loop-left : goal.decreases-loop-left
+decreases-loop-left l = l.left

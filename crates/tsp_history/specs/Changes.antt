@@ -1,0 +1,23 @@
+-- What a line does to a place that is sought.
+use Rattle.std.specs.Prelude.{◌≡◌, ℕ, Bool, true, false, if◌then◌else◌, List, [], ◌∷◌, Option, None, Some}
+use Rattle.tsp_base.specs.declared.place.Port.{Port}
+use Rattle.tsp_base.specs.History.{Did, Seen, Here}
+use Rattle.tsp_history.specs.declared.change.Change.{Change}
+use Rattle.tsp_history.specs.declared.change.Change.TheVariants.{Keeps, Ends, Begins}
+use Rattle.tsp_history.specs.declared.line.HistoryLine.{HistoryLine}
+
+-- the place after a deed that changes it so, and that begins one only where that is let; it was the last one before
+abbrev pub place_by : Change → Bool → Did → List Seen → List Seen → List Seen
+place_by Keeps lets here past keep = keep
+place_by Ends lets here past keep = []
+place_by Begins lets here past keep = if lets then Here here ∷ past else keep
+
+-- a line is one of this port
+pub record BeginsOn (noted : HistoryLine) (n : ℕ) (q : Port) : Type 0 where
+  pub node : noted.node ≡ n
+  pub port : noted.port.0 ≡ q.0
+
+-- what is told, or else what was so before
+abbrev pub told_or : {A : Type 0} → Option A → A → A
+told_or None keep = keep
+told_or (Some v) keep = v

@@ -1,0 +1,63 @@
+//! How often a node has booted and corrected its clock.
+ghost use Rattle.std.specs.Prelude.{◌≡◌, ◌≤◌, ◌<◌, ◌^◌, ℕ, List, [], ◌∷◌, length};
+ghost use Rattle.tsp_base.specs.History.{Line, dids, of};
+ghost use Rattle.tsp_base.specs.NodeFacts.{all_corrects, lives};
+ghost use Rattle.tsp_history.specs.Histories.{line_of, history_of};
+ghost use Rattle.tsp_history.specs.Notes.{Counted, Told};
+
+use crate::line::HistoryLine;
+use crate::notes::node_at;
+use tsp_base::act::Act;
+
+/// How often a node has booted, and how often it has corrected its clock over all its lives.
+#[derive(Clone, Copy)]
+pub struct Counts {
+    /// How often it has booted.
+    pub lives: usize,
+    /// How often it has corrected its clock.
+    pub corrects: usize,
+}
+
+impl Counts {
+    /// The counts of a node that hasn't booted.
+    pub(crate) fn new() -> Counts
+        ensures { (node : ℕ) → Counted node [] result }
+    {
+        Counts {
+            lives: 0,
+            corrects: 0,
+        }
+    }
+}
+
+/// The counts of a node after a line, where they are `keep` before it.
+pub(crate) fn counts_after(line: &HistoryLine, node: u32, keep: Counts) -> Counts
+    requires lives { keep.lives < 2 ^ 32 }
+    requires corrects { keep.corrects < 2 ^ 32 }
+    ensures { (before : List Line) → Counted node before keep
+        → Counted node (line_of line.now ∷ before) result }
+{
+    if line.node != node {
+        return keep;
+    }
+    match &line.act {
+        Some(Act::Boot) => Counts {
+            lives: keep.lives + 1,
+            ..keep
+        },
+        Some(Act::Correct { .. }) => Counts {
+            corrects: keep.corrects + 1,
+            ..keep
+        },
+        _ => keep,
+    }
+}
+
+/// How often a node has booted, and corrected its clock over all its lives.
+pub fn counts_at(lines: &[HistoryLine], node: u32) -> Counts
+    requires told { Told lines.now }
+    ensures lives { result.lives ≡ lives (dids (of node (history_of lines.now))) }
+    ensures corrects { result.corrects ≡ all_corrects (dids (of node (history_of lines.now))) }
+{
+    node_at(lines, node).counts
+}

@@ -1,0 +1,85 @@
+//! The lines of a history, each with what is known after it.
+ghost use Rattle.std.specs.Prelude.{◌≡◌, ◌≤◌, ◌<◌, ◌+◌, ◌-◌, ◌^◌, [], ◌∷◌, length, OnOk};
+ghost use Rattle.tsp_history.specs.Histories.{line_of, history_of};
+ghost use Rattle.tsp_history.specs.Notes.{Told};
+
+use crate::line::HistoryLine;
+use crate::notes::note_behind;
+use std::alloc::{AllocError, Global};
+use std::marker::Model;
+
+/// The lines of a history, the oldest first.
+#[derive(Drop)]
+pub struct History {
+    lines: Vec<HistoryLine>,
+}
+
+impl Model for History {
+    ghost use Rattle.std.specs.Prelude.{◌-◌, vec_len, vec_capacity};
+    ghost use Rattle.tsp_history.specs.Growing.{HistoryValue};
+    ghost use Rattle.tsp_history.specs.Notes.{Told};
+
+    ghost Value = { HistoryValue };
+
+    ghost view = { λ h. record {
+      lines = h.lines.items;
+      room = vec_capacity h.lines - vec_len h.lines;
+    } };
+
+    ghost invariant = { λ h. Told h.lines.items };
+}
+
+impl History {
+    /// No line yet. Takes no memory.
+    pub fn new(alloc: Global) -> History
+        ensures { result.lines ≡ [] }
+    {
+        History {
+            lines: Vec::new(alloc),
+        }
+    }
+
+    /// Makes room for so many lines more. Fails only if out of memory; either way the lines are
+    /// what they were.
+    pub fn make_room(&mut self, count: usize) -> Result<(), AllocError>
+        ensures room { OnOk result (count ≤ self.new.room) }
+        ensures lines { self.new.lines ≡ self.old.lines }
+    {
+        self.lines.reserve(count)
+    }
+
+    /// Puts a line behind the others, whose note is found here; there is to be room for it.
+    pub fn push(&mut self, line: HistoryLine)
+        requires few { length self.old.lines < 2 ^ 31 }
+        requires room { 1 ≤ self.old.room }
+        ensures history { history_of self.new.lines ≡ line_of line ∷ history_of self.old.lines }
+        ensures length { length self.new.lines ≡ length self.old.lines + 1 }
+        ensures room { self.old.room ≤ self.new.room + 1 }
+    {
+        let note = note_behind(self.lines.as_slice(), &line);
+        self.lines.push_reserved(HistoryLine {
+            at: line.at,
+            node: line.node,
+            why: line.why,
+            tick: line.tick,
+            port: line.port,
+            act: line.act,
+            note,
+        });
+    }
+
+    /// The lines.
+    pub fn lines(&self) -> &[HistoryLine]
+        ensures lines { result.now ≡ self.now.lines }
+        ensures told { Told result.now }
+    {
+        self.lines.as_slice()
+    }
+
+    /// How many lines there are.
+    pub fn len(&self) -> usize
+        ensures { result ≡ length self.now.lines }
+    {
+        self.lines.len()
+    }
+}
