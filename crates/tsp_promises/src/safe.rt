@@ -71,11 +71,12 @@ pub fn silent_after_boot()
 
 /// A step takes one datagram at most. A port heeds a QUIT right after it took it, once in a step,
 /// and acknowledges it in that step, in every role. What goes to a stranger answers the datagram
-/// that the step took from one on that port, and is the only thing that it posts to strangers; so
-/// no more datagrams are posted to strangers than are taken from them.
+/// that the step took from one on that port, in the node's own name unless that asks for the
+/// master's, and is the only thing that it posts to strangers; so no more datagrams are posted to
+/// strangers than are taken from them.
 pub fn answered()
     ensures { (setting : Setting) (world : List Line) → Fits setting world → Finished world
-        → Answered world }
+        → Answered setting world }
 {}
 
 /// Only masters post corrections, close rounds and correct their clocks right after.
