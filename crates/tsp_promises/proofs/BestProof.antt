@@ -28,7 +28,7 @@ better-is (Some early) late s e = choose (int_lt late.trip early.trip) e where
 best-before : (p : PeerId) (s : Sampled) (d : Did) (before : List Seen) → started (Here d ∷ before) ≡ started before → BestAt p s before → BestAt p s (Here d ∷ before)
 best-before p s d before same b = record { did = b.did; rest = b.rest; is = b.is; place = inr b.place; deed = b.deed; round = b.round ∙ sym same }
 
-some-is : (a b : Sampled) → Some a ≡ Some b → a ≡ b
+pub some-is : (a b : Sampled) → Some a ≡ Some b → a ≡ b
 some-is a b e = cc
 
 best-sample : (p q : PeerId) (d : Did) (before : List Seen) (keep : Option Sampled) (s late : Sampled) → Acts (Sample q late.counter late.diff late.err late.ticket) ≡ d.deed → late.place ≡ Here d ∷ before → (keep ≡ Some s → BestAt p s before) →

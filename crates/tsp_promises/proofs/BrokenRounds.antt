@@ -1,6 +1,6 @@
 -- Small histories that break the promises of rounds.
-use Rattle.std.specs.Prelude.{◌≡◌, ◌≤◌, ◌≤ℤ◌, ℕ, false, pos, negsuc, List, [], ◌∷◌, refl}
-use Rattle.std.proofs.Common.{arith, inl}
+use Rattle.std.specs.Prelude.{◌≡◌, ◌≤◌, ◌≤ℤ◌, true, ℕ, false, pos, negsuc, List, [], ◌∷◌, refl}
+use Rattle.std.proofs.Common.{arith, inl, true≢false}
 use Rattle.std.proofs.lemmas.Int.{ints}
 use Rattle.tsp_base.specs.declared.act.Act.TheVariants.{Close, Correct, Post, Sample, Took}
 use Rattle.tsp_base.specs.declared.datagram.Datagram.TheVariants.{Message, Stamp}
@@ -21,7 +21,7 @@ use Rattle.tsp_promises.proofs.CastBy.{cast-by}
 use Rattle.tsp_promises.proofs.CastProof.{taking_of}
 use Rattle.tsp_promises.proofs.Histories.{begins, does, msg, skip, skipped, still}
 use Rattle.tsp_promises.proofs.WitnessCasts.{sounds}
-use Rattle.tsp_promises.proofs.WitnessModerate.{n1, n4, near-agrees, near-sample, own-agrees, shut-by, small-agrees}
+use Rattle.tsp_promises.proofs.WitnessModerate.{n1, n4, n5, near-agrees, near-cast, near-sample, own-agrees, shut-by, small-agrees}
 use Rattle.tsp_promises.proofs.WitnessUse.{reply1, w15}
 
 -- a round that closes with a mean of 300 ms, where it and a peer agree within a millisecond
@@ -47,6 +47,32 @@ own_far : Breaks (Moderate (still false))
 own_far = record {
   world = jumped;
   broken = λ h. (let k : 300000 ≤ 40000 = h.0.own 0 shut (skip 4 n4) (pos 300000) refl moves (own-agrees (pos 300000)) in omega arith);
+}
+
+-- the same round with its own mean, and a Correct that is stepped
+abbrev steps : Line
+steps = does 408000000 0 Turned (Correct (negsuc 50) true (pos 0))
+
+own_stepped : Breaks (Moderate (still false))
+own_stepped = record {
+  world = steps ∷ (shut-by (negsuc 50) ∷ skip 4 n4);
+  broken = λ h.
+      true≢false (h.0.own_slews 0 (shut-by (negsuc 50)) (skip 4 n4) (negsuc 50) refl (record { count = 2; lo = negsuc 100; size = pos 101; mean = negsuc 50; deed = refl; node = refl; stepped = true; shown = pos 0; correct = refl; correct_node = refl }) (own-agrees (negsuc 50)));
+}
+
+-- and a follower that steps its clock by 50
+abbrev steps-near : Line
+steps-near = does 408000400 1 (Came 10) (Correct (pos 50) true (pos 0))
+
+abbrev stepped-cast : Cast 0 (shut-by (negsuc 50)) (skip 4 n4) steps-near (skip 2 n5) sounds (skip 1 w15) (pos 401)
+stepped-cast = near-cast true (pos 0)
+
+peer_stepped : Breaks (Moderate (still false))
+peer_stepped = record {
+  world = steps-near ∷ skip 2 n5;
+  broken = λ h.
+      true≢false (h.0.peer_slews 0 (shut-by (negsuc 50)) (does 408000000 0 Turned (Correct (negsuc 50) false (pos 408000000))) (skip 4 n4) (negsuc 50) (taking_of 0 (shut-by (negsuc 50)) (skip 4 n4) steps-near (skip 2 n5) sounds (skip 1 w15) (pos 401) stepped-cast refl) refl refl refl (skipped 4 (skip 2 n5))
+      (record { count = 2; lo = negsuc 100; size = pos 101; mean = negsuc 50; deed = refl; node = refl; stepped = false; shown = pos 408000000; correct = refl; correct_node = refl }) (near-agrees (negsuc 50)));
 }
 
 -- what the peer lacks to that mean
@@ -122,4 +148,4 @@ close_soon = record {
 }
 
 pub rounds_break : RoundsBreak (still false)
-rounds_break = record { mean_far = mean_far; own_far = own_far; adjtime_far = adjtime_far; peer_far = peer_far; late_met = late_met; clocks_far = clocks_far; close_soon = close_soon }
+rounds_break = record { mean_far = mean_far; own_far = own_far; own_stepped = own_stepped; peer_stepped = peer_stepped; adjtime_far = adjtime_far; peer_far = peer_far; late_met = late_met; clocks_far = clocks_far; close_soon = close_soon }

@@ -87,6 +87,17 @@ shows setting l world a post older took past from m f act b is deed =
 none-heard : (l : Line) (world : List Line) → heard (plain (view l.port (of (node_of l) world))) ≡ None → is_some (heard (dids (of (node_of l) world))) ≡ true → ⊥
 none-heard l world e h = true≢false (sym h ∙ ap (λ k. is_some k) (ap heard (sym (plain_view l.port (of (node_of l) world))) ∙ e))
 
+-- what is heard in the step of a Correct that takes a post is its message
+pub heard_as : (setting : Setting) (l : Line) (world : List Line) (post : Line) (older : List Line) (a : Act) (amount : ℤ) → Fits setting (l ∷ world) → l.did.deed ≡ Acts a → (b : Brings l world post older) → is_some (heard (dids (of (node_of l) world))) ≡ true →
+    WhyCorrect (setup_of setting (node_of l) l.port) l.did (view l.port (of (node_of l) world)) amount → (from : Place) × (heard (plain (view l.port (of (node_of l) world))) ≡ Some (record { from = from; taken = Good (Message b.message) }))
+heard_as setting l world post older a amount f act b h (ByRound r) = absurd (none-heard l world r.untaken h)
+heard_as setting l world post older a amount f act b h (ByDate t) =
+    let s = shows setting l world a post older t.took t.past t.from t.message f act b t.is t.deed in
+    (t.from, ap (λ v. heard (plain v)) t.is ∙ (rw t.deed refl ∙ ap (λ m. Some (record { from = t.from; taken = Good (Message m) })) s.message_is))
+heard_as setting l world post older a amount f act b h (ByMaster t) =
+    let s = shows setting l world a post older t.took t.past (Peer t.from) t.message f act b t.is t.deed in
+    (Peer t.from, ap (λ v. heard (plain v)) t.is ∙ (rw t.deed refl ∙ ap (λ m. Some (record { from = Peer t.from; taken = Good (Message m) })) s.message_is))
+
 pub no-correction : (k : Kind) → sets_date k ≡ true → is_correction k ≡ true → ⊥
 no-correction AdjTime e c = true≢false (sym e)
 no-correction SetTime e c = true≢false (sym e)

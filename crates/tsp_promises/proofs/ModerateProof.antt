@@ -1,45 +1,55 @@
 -- A minority of a round's estimates moves no clock of the majority by much.
-use Rattle.std.specs.Prelude.{◌≡◌, ◌==◌, ◌||◌, ◌≤◌, ◌<◌, ◌≤ℤ◌, ℕ, ◌-◌, ◌*◌, ℤ, pos, ◌+ℤ◌, ◌-ℤ◌, nat_abs, Bool, true, false, List, ◌∷◌, length, Some, refl, ◌+◌, ◌/◌, negsuc, neg_ℤ, if◌then◌else◌}
+use Rattle.std.specs.Prelude.{◌≡◌, ◌==◌, ◌||◌, ◌≤◌, ◌<◌, ◌≤ℤ◌, ℕ, ◌-◌, ◌*◌, ℤ, pos, ◌+ℤ◌, ◌-ℤ◌, nat_abs, Bool, true, false, List, ◌∷◌, length, Some, refl, ◌+◌, ◌/◌, negsuc, neg_ℤ, if◌then◌else◌, nat_lt, Option, None}
 use Rattle.std.proofs.Common.{sym, ap, arith, subst, inl, inr, ◌∙◌}
+use Rattle.std.proofs.lemmas.Bool.{ltb-true}
 use Rattle.std.proofs.lemmas.Int.{ints}
 use Rattle.tsp_base.specs.declared.act.Act.TheVariants.{Close, Correct}
-use Rattle.tsp_base.specs.declared.constants.TheConstants.{SPAN, SLEW}
+use Rattle.tsp_base.specs.declared.constants.TheConstants.{SPAN, SLEW, MAXADJ}
 use Rattle.tsp_group.specs.Groups.{FollowsMajority, IsWithin, group_of, mean_of}
 use Rattle.tsp_group.proofs.LargestGroup.{group_of-IsLargest}
 use Rattle.tsp_group.proofs.Majority.{IsLargest-majority}
 use Rattle.tsp_promises.specs.Agreed.{Unchanged}
 use Rattle.tsp_promises.specs.ClockAt.{clock_at}
-use Rattle.tsp_promises.specs.CorrectFits.{WhyCorrect, ByRound, ByMaster, ByDate}
+use Rattle.tsp_promises.specs.CorrectFits.{CorrectFits, WhyCorrect, ByRound, ByMaster, ByDate, is_stepped, sets_time}
 use Rattle.tsp_promises.specs.Fits.{Fits, node_of}
-use Rattle.tsp_base.specs.History.{Acts, Did, Line, Seen, of, dids, view, seen_as, is_shared}
-use Rattle.tsp_promises.specs.Moderate.{AdjTimeNear, Agrees, MeanNear, Moderate, ModerateAt, ModerateClocks, Moves, OwnNear, PeerMeets, PeerNear, WithMajority, estimates_of}
+use Rattle.tsp_base.specs.History.{Acts, Did, Line, Seen, of, dids, view, seen_as, is_shared, plain}
+use Rattle.tsp_base.specs.Messages.{MessageValue}
+use Rattle.tsp_base.specs.PortFacts.{Received}
+use Rattle.tsp_base.specs.declared.datagram.Datagram.TheVariants.{Message}
+use Rattle.tsp_base.specs.declared.datagram.Taken.TheVariants.{Good}
+use Rattle.tsp_base.specs.declared.kind.Kind.TheVariants.{AdjTime}
+use Rattle.tsp_base.specs.declared.place.Place.{Place}
+use Rattle.tsp_promises.specs.Moderate.{AdjTimeNear, Agrees, MeanNear, Moderate, ModerateAt, ModerateClocks, Moves, OwnNear, OwnSlews, PeerMeets, PeerNear, PeerSlews, WithMajority, estimates_of}
 use Rattle.tsp_base.specs.NodeFacts.{lives, moved, time_of, eased, last_correct, rest, rest_at, shown, target}
 use Rattle.tsp_base.specs.Places.{Within}
 use Rattle.tsp_base.specs.RoundFacts.{Sampled, best}
 use Rattle.tsp_promises.specs.RoundFits.{CloseFits, group_mean}
 use Rattle.tsp_promises.specs.Setting.{Setting, setup_of}
 use Rattle.tsp_base.specs.Setup.{Setup}
-use Rattle.tsp_base.specs.Takings.{peer_of, time_in}
+use Rattle.tsp_base.specs.Takings.{peer_of, time_in, heard}
 use Rattle.tsp_base.specs.Ticks.{tick_at, width}
 use Rattle.tsp_base.proofs.PlaceLemmas.{Within-through, Within-tail}
 use Rattle.tsp_base.proofs.ViewPlaces.{or-false, port-same}
+use Rattle.tsp_promises.proofs.BestProof.{some-is}
 use Rattle.tsp_promises.proofs.CastProof.{amount-adj, corrects-adj}
+use Rattle.tsp_promises.proofs.Correcting.{heard_as}
 use Rattle.tsp_promises.proofs.EstimatesProof.{at-close, by-mean, holds, one-near}
 use Rattle.tsp_promises.proofs.EverywhereLemmas.{Everywhere-from}
 use Rattle.tsp_promises.proofs.Given.{Given, given_at}
 use Rattle.tsp_promises.proofs.HistoryPlaces.{of-own}
 use Rattle.tsp_promises.proofs.MasterMoved.{mean-is, moved-right-after, same-mean}
+use Rattle.tsp_promises.proofs.OnceTakenProof.{correct_fits}
 use Rattle.tsp_promises.proofs.OwnFitsProof.{fits_at}
 use Rattle.tsp_promises.proofs.PortFits.{deed_fits}
 use Rattle.tsp_promises.proofs.ReadingProof.{read_at}
 use Rattle.tsp_promises.proofs.SendPlaces.{post_fits}
 use Rattle.tsp_promises.proofs.TakingProof.{begun_facts, used-by}
 
--- a Correct right after a Close is on its port, and by the mean of the group that the port finds
-group-is : (setup : Setup) (here close : Did) (vs : List Seen) (b : Bool) (count : ℕ) (lo size mean amount : ℤ) → close.deed ≡ Acts (Close count lo size mean) → WhyCorrect setup here (seen_as b close ∷ vs) amount → (b ≡ true) × (amount ≡ group_mean setup vs)
+-- a Correct right after a Close is on its port, in a step that has taken nothing, and by the mean of the group that the port finds
+group-is : (setup : Setup) (here close : Did) (vs : List Seen) (b : Bool) (count : ℕ) (lo size mean amount : ℤ) → close.deed ≡ Acts (Close count lo size mean) → WhyCorrect setup here (seen_as b close ∷ vs) amount → (b ≡ true) × (amount ≡ group_mean setup vs) × (heard (plain (seen_as b close ∷ vs)) ≡ None)
 group-is setup here close vs true count lo size mean amount e (ByRound r) =
     let past_is : vs ≡ r.past = (let k = r.is in cc) in
-    (refl, subst (λ z. amount ≡ group_mean setup z) (sym past_is) r.mean_is)
+    (refl, subst (λ z. amount ≡ group_mean setup z) (sym past_is) r.mean_is, r.untaken)
 group-is setup here close vs true count lo size mean amount e (ByMaster t) =
     let same : close ≡ t.took = (let k = t.is in cc) in
     let deeds = sym e ∙ (ap (λ (d : Did). d.deed) same ∙ t.deed) in
@@ -52,23 +62,25 @@ group-is setup here close vs false count lo size mean amount e (ByRound r) = let
 group-is setup here close vs false count lo size mean amount e (ByMaster t) = let bad : ⊥ = (let k = t.is in cc) in absurd bad
 group-is setup here close vs false count lo size mean amount e (ByDate t) = let bad : ⊥ = (let k = t.is in cc) in absurd bad
 
--- where the mean of a round comes from
-record Found (setting : Setting) (m : ℕ) (close : Line) (cpast : List Line) (mean amount : ℤ) : Type 0 where
+-- where the mean of a round comes from, and how the clock is moved by it
+record Found (setting : Setting) (m : ℕ) (close : Line) (cpast : List Line) (mean amount : ℤ) (stepped : Bool) : Type 0 where
   pub is : amount ≡ mean
   pub group : amount ≡ group_mean (setup_of setting m close.port) (view close.port (of m cpast))
+  pub flag : stepped ≡ nat_lt MAXADJ (nat_abs amount)
 
-found : (setting : Setting) (m : ℕ) (close c : Line) (cpast : List Line) (amount : ℤ) → Fits setting (c ∷ (close ∷ cpast)) → (v : Moves m close c amount) → Found setting m close cpast v.mean amount
+found : (setting : Setting) (m : ℕ) (close c : Line) (cpast : List Line) (amount : ℤ) → Fits setting (c ∷ (close ∷ cpast)) → (v : Moves m close c amount) → Found setting m close cpast v.mean amount v.stepped
 found setting m close c cpast amount f v =
     let own : of m (close ∷ cpast) ≡ close ∷ of m cpast = of-own m close cpast v.node in
     let fits = deed_fits setting c (close ∷ cpast) (Acts (Correct amount v.stepped v.shown)) v.correct f.0 in
-    let why : WhyCorrect (setup_of setting m c.port) c.did (view c.port (close ∷ of m cpast)) amount =
-    subst (λ w. WhyCorrect (setup_of setting m c.port) c.did (view c.port w) amount) own (subst (λ k. WhyCorrect (setup_of setting k c.port) c.did (view c.port (of k (close ∷ cpast))) amount) v.correct_node fits.why) in
+    let here : CorrectFits (setup_of setting m c.port) c.did (view c.port (close ∷ of m cpast)) amount v.stepped v.shown =
+    subst (λ w. CorrectFits (setup_of setting m c.port) c.did (view c.port w) amount v.stepped v.shown) own (subst (λ k. CorrectFits (setup_of setting k c.port) c.did (view c.port (of k (close ∷ cpast))) amount v.stepped v.shown) v.correct_node fits) in
     let on = (close.port.0 == c.port.0) || is_shared close.did.deed in
-    let both = group-is (setup_of setting m c.port) c.did close.did (view c.port (of m cpast)) on v.count v.lo v.size v.mean amount v.deed why in
+    let both = group-is (setup_of setting m c.port) c.did close.did (view c.port (of m cpast)) on v.count v.lo v.size v.mean amount v.deed here.why in
     let port : close.port ≡ c.port = port-same close.port c.port (or-false (close.port.0 == c.port.0) (is_shared close.did.deed) both.0 (rw v.deed refl)) in
     record {
-      is = mean-is (setup_of setting m c.port) c.did close.did (view c.port (of m cpast)) on v.count v.lo v.size v.mean amount v.deed why;
+      is = mean-is (setup_of setting m c.port) c.did close.did (view c.port (of m cpast)) on v.count v.lo v.size v.mean amount v.deed here.why;
       group = subst (λ q. amount ≡ group_mean (setup_of setting m q) (view q (of m cpast))) (sym port) both.1;
+      flag = here.flag ∙ ap (is_stepped amount) both.2;
     }
 
 -- the largest group's mean follows a majority
@@ -79,15 +91,15 @@ within-abs : (n : ℕ) (a mean x : ℤ) → a ≡ mean → IsWithin n mean x →
 within-abs n a mean x e w = let l = w.low in let h = w.high in omega (arith, ints)
 
 -- so a Correct by that mean is near each value of it
-follows : (setting : Setting) (m : ℕ) (close : Line) (cpast : List Line) (mean amount value : ℤ) → Found setting m close cpast mean amount → Agrees setting m close cpast value → nat_abs (amount -ℤ value) ≤ 2 * SPAN
-follows setting m close cpast mean amount value d a =
+follows : (setting : Setting) (m : ℕ) (close : Line) (cpast : List Line) (mean amount value : ℤ) (stepped : Bool) → Found setting m close cpast mean amount stepped → Agrees setting m close cpast value → nat_abs (amount -ℤ value) ≤ 2 * SPAN
+follows setting m close cpast mean amount value stepped d a =
     let xs = estimates_of setting m close.port cpast in
     within-abs (2 * SPAN) amount (group_mean (setup_of setting m close.port) (view close.port (of m cpast))) value d.group (group_follows SPAN xs (omega arith) a.test a.majority.more a.majority.agrees value a.among a.passes)
 
 mean_near : (setting : Setting) (l : Line) (world : List Line) → Fits setting (l ∷ world) → MeanNear setting l world
 mean_near setting l world f m close cpast amount value at v a =
     let g : Fits setting (l ∷ (close ∷ cpast)) = subst (λ w. Fits setting (l ∷ w)) at f in
-    follows setting m close cpast v.mean amount value (found setting m close l cpast amount g v) a
+    follows setting m close cpast v.mean amount value v.stepped (found setting m close l cpast amount g v) a
 
 from-none : (a : ℤ) (n : ℕ) → nat_abs (a -ℤ pos 0) ≤ n → nat_abs a ≤ n
 from-none a n h = omega (arith, ints)
@@ -95,8 +107,17 @@ from-none a n h = omega (arith, ints)
 own_near : (setting : Setting) (l : Line) (world : List Line) → Fits setting (l ∷ world) → OwnNear setting l world
 own_near setting l world f m close cpast amount at v a = from-none amount (2 * SPAN) (mean_near setting l world f m close cpast amount (pos 0) at v a)
 
-one-sample : (a b : Sampled) → Some a ≡ Some b → a ≡ b
-one-sample a b e = cc
+-- an amount of at most twice the span isn't more than MAXADJ
+not-much : (n : ℕ) → n ≤ 2 * SPAN → nat_lt MAXADJ n ≡ false
+not-much n few = by-case (nat_lt MAXADJ n) refl where
+  by-case : (b : Bool) → nat_lt MAXADJ n ≡ b → b ≡ false
+  by-case true e = (let more = ltb-true MAXADJ n e in absurd (omega (arith, more, few)))
+  by-case false e = refl
+
+own_slews : (setting : Setting) (l : Line) (world : List Line) → Fits setting (l ∷ world) → OwnSlews setting l world
+own_slews setting l world f m close cpast amount at v a =
+    let g : Fits setting (l ∷ (close ∷ cpast)) = subst (λ w. Fits setting (l ∷ w)) at f in
+    (found setting m close l cpast amount g v).flag ∙ not-much (nat_abs amount) (own_near setting l world f m close cpast amount at v a)
 
 -- what an ADJTIME or its Correct says, where the mean and the sample are these
 time-near : (time mean now amount diff other : ℤ) (n : ℕ) → time ≡ mean -ℤ other → mean ≡ now → amount ≡ now → other ≡ diff → nat_abs (amount -ℤ diff) ≤ n → nat_abs time ≤ n
@@ -110,9 +131,9 @@ adjtime_near setting f fw fits m close c cpast mean amount b c_in v p =
     let u = at-close f.did (view f.port (of m fw)) b.peer b.message close.did (view f.port (of m cpast)) b.kind b.close_is (post.begins b.begins).from in
     let w = u.1.1 in
     let mine : best b.peer (view f.port (of m cpast)) ≡ Some p.sample = subst (λ q. best b.peer (view q (of m cpast)) ≡ Some p.sample) b.port p.best_is in
-    let sample : u.1.0 ≡ p.sample = one-sample u.1.0 p.sample (sym w.best_is ∙ mine) in
+    let sample : u.1.0 ≡ p.sample = some-is u.1.0 p.sample (sym w.best_is ∙ mine) in
     time-near (time_in b.message.body) u.0 v.mean amount p.sample.diff u.1.0.diff (2 * SPAN) (w.value b.kind) (same-mean v.count w.count v.lo w.lo v.size w.size v.mean u.0 (sym v.deed ∙ w.deed)) d.is (ap (λ (z : Sampled). z.diff) sample)
-    (follows setting m close cpast v.mean amount p.sample.diff d p.agrees)
+    (follows setting m close cpast v.mean amount p.sample.diff v.stepped d p.agrees)
 
 peer_near : (setting : Setting) (l : Line) (world : List Line) → Fits setting (l ∷ world) → PeerNear setting l world
 peer_near setting l world f m close c cpast amount t kind close_is port c_in v p =
@@ -125,12 +146,23 @@ peer_near setting l world f m close c cpast amount t kind close_is port c_in v p
     let u = used-by t.first t.begun (peer_of k) t.acts.brings.message close.did (view q (of m cpast)) p.sample (inl kind) close_is mine b.fits.from in
     let is = amount-adj l world t.post t.acts.amount t.acts.brings.message b.acting kind ∙ u.from.value kind in
     time-near t.acts.amount u.mean v.mean amount p.sample.diff p.sample.diff (2 * SPAN) is (same-mean v.count u.from.count v.lo u.from.lo v.size u.from.size v.mean u.mean (sym v.deed ∙ u.from.deed)) d.is refl
-    (follows setting m close cpast v.mean amount p.sample.diff d p.agrees)
+    (follows setting m close cpast v.mean amount p.sample.diff v.stepped d p.agrees)
+
+-- an ADJTIME's Correct by so little
+slews-by : (amount : ℤ) (stepped : Bool) (from : Place) (m : MessageValue) (took : Option Received) → stepped ≡ is_stepped amount took → took ≡ Some (record { from = from; taken = Good (Message m) }) → m.kind ≡ AdjTime → nat_abs amount ≤ 2 * SPAN → stepped ≡ false
+slews-by amount stepped from m took flag is kind few = flag ∙ (ap (is_stepped amount) is ∙ (ap (λ k. sets_time k || nat_lt MAXADJ (nat_abs amount)) kind ∙ not-much (nat_abs amount) few))
+
+peer_slews : (setting : Setting) (l : Line) (world : List Line) → Fits setting (l ∷ world) → PeerSlews setting l world
+peer_slews setting l world f m close c cpast amount t kind close_is port c_in v p =
+    let few = peer_near setting l world f m close c cpast amount t kind close_is port c_in v p in
+    let fits = correct_fits setting l world t.post t.before f t.acts in
+    let h = heard_as setting l world t.post t.before (Correct t.acts.amount t.acts.stepped t.acts.shown) t.acts.amount f t.acts.correct t.acts.brings t.acts.took fits.why in
+    slews-by t.acts.amount t.acts.stepped h.0 t.acts.brings.message (heard (plain (view l.port (of (node_of l) world)))) fits.flag h.1 kind few
 
 -- what has been slewed for so long is slewed
-eased-none : (z : ℤ) (n k : ℕ) → nat_abs z ≤ n → n ≤ k → eased z k ≡ pos 0
-eased-none (pos a) n k few long = let e : a - k ≡ 0 = omega arith in ap pos e
-eased-none (negsuc a) n k few long = let e : a + 1 - k ≡ 0 = omega (arith, ints) in ap (λ d. neg_ℤ (pos d)) e
+eased-out : (z : ℤ) (n k : ℕ) → nat_abs z ≤ n → n ≤ k → eased z k ≡ pos 0
+eased-out (pos a) n k few long = let e : a - k ≡ 0 = omega arith in ap pos e
+eased-out (negsuc a) n k few long = let e : a + 1 - k ≡ 0 = omega (arith, ints) in ap (λ d. neg_ℤ (pos d)) e
 
 rest-few : (amount : ℤ) (n : ℕ) (stepped : Bool) (left : ℤ) → left ≡ pos 0 → nat_abs amount ≤ n → nat_abs (if stepped then pos 0 else left +ℤ amount) ≤ n
 rest-few amount n true left e h = omega arith
@@ -147,7 +179,7 @@ shows-target c before amount stepped value x is few none late =
     let last_is : last_correct (c ∷ before) ≡ c.tick = rw is refl in
     let few_left : nat_abs (rest (c ∷ before)) ≤ 2 * SPAN = subst (λ z. nat_abs z ≤ 2 * SPAN) (sym rest_is) (rest-few amount (2 * SPAN) stepped (rest_at before c.tick) none few) in
     let long : 2 * SPAN ≤ (x - last_correct (c ∷ before)) / SLEW = omega (arith, last_is, late) in
-    less-none (target (c ∷ before) x) (rest_at (c ∷ before) x) (eased-none (rest (c ∷ before)) (2 * SPAN) ((x - last_correct (c ∷ before)) / SLEW) few_left long)
+    less-none (target (c ∷ before) x) (rest_at (c ∷ before) x) (eased-out (rest (c ∷ before)) (2 * SPAN) ((x - last_correct (c ∷ before)) / SLEW) few_left long)
 
 peer_meets : (setting : Setting) (l : Line) (world : List Line) → Fits setting (l ∷ world) → PeerMeets setting l world
 peer_meets setting l world f m close c cpast amount t kind close_is port c_in v p none x late =
@@ -155,7 +187,7 @@ peer_meets setting l world f m close c cpast amount t kind close_is port c_in v 
     subst (λ ds. shown ds x ≡ target ds x) (sym (ap dids (of-own (node_of l) l world refl))) (shows-target l.did (dids (of (node_of l) world)) t.acts.amount t.acts.stepped t.acts.shown x t.acts.correct few none late)
 
 moderate_at : (setting : Setting) (l : Line) (world : List Line) → Fits setting (l ∷ world) → ModerateAt setting l world
-moderate_at setting l world f = record { mean = mean_near setting l world f; own = own_near setting l world f; adjtime = adjtime_near setting l world f; peer = peer_near setting l world f; meets = peer_meets setting l world f }
+moderate_at setting l world f = record { mean = mean_near setting l world f; own = own_near setting l world f; own_slews = own_slews setting l world f; adjtime = adjtime_near setting l world f; peer = peer_near setting l world f; peer_slews = peer_slews setting l world f; meets = peer_meets setting l world f }
 
 pub moderate : (setting : Setting) (world : List Line) → Fits setting world → Moderate setting world
 moderate setting world f = Everywhere-from (ModerateAt setting) world (λ l s w. moderate_at setting l s (fits_at setting (l ∷ s) world f w))
@@ -187,7 +219,7 @@ with_majority setting h t g by m k close c cpast amount x r older un v e a =
     let moved_is = moved_by setting m close c cpast h amount g.fits v un in
     let apart = one-near x.diff v.mean (clock_at setting k h t) ((setting.wall m +ℤ moved (dids (of m cpast))) +ℤ pos (tick_at (setting.rate m) t)) (clock_at setting m h t) x.err w near
     (by-mean (setting.wall m) (moved (dids (of m h))) (moved (dids (of m cpast))) v.mean (tick_at (setting.rate m) t) moved_is) in
-    widened (pos (nat_abs (clock_at setting m h t -ℤ clock_at setting k h t))) v.mean amount x.diff x.err (2 * SPAN) w apart d.is (follows setting m close cpast v.mean amount x.diff d a)
+    widened (pos (nat_abs (clock_at setting m h t -ℤ clock_at setting k h t))) v.mean amount x.diff x.err (2 * SPAN) w apart d.is (follows setting m close cpast v.mean amount x.diff v.stepped d a)
 
 pub moderate_clocks : (setting : Setting) (world : List Line) → Given setting world → ModerateClocks setting world
 moderate_clocks setting world g = Everywhere-from (λ (l : Line) (s : List Line). (t : ℕ) → l.did.step.at ≤ t → WithMajority setting (l ∷ s) t) world (λ l s w t by. with_majority setting (l ∷ s) t (given_at setting (l ∷ s) world g w) by)

@@ -19,22 +19,15 @@ use Rattle.tsp_promises.specs.Setting.{Setting, setup_of}
 use Rattle.tsp_base.specs.Setup.{Setup}
 use Rattle.tsp_promises.proofs.EverywhereLemmas.{Everywhere-from}
 use Rattle.tsp_promises.proofs.HistoryPlaces.{of-own, own_in}
+use Rattle.tsp_promises.proofs.LateProof.{lives-deed}
 use Rattle.tsp_promises.proofs.Locating.{fits_in, view-line}
 use Rattle.tsp_promises.proofs.OwnFitsProof.{fits_at, own_fits}
 use Rattle.tsp_promises.proofs.PortFits.{deed_fits}
+use Rattle.tsp_promises.proofs.SinceProof.{since}
 
 -- what stands after a round's end: no other round yet, or one that began ROUND later
 abbrev Ahead : Did → List Seen → List Seen → Option ℕ → Type 0
 Ahead first idle st close = ((st ≡ Here first ∷ idle) × (close ≡ None)) ⊎ ((start : Did) × ((rest : List Seen) × ((st ≡ Here start ∷ rest) × (first.tick + ROUND ≤ start.tick))))
-
-lives-more : (deed : Deed) (n : ℕ) → n ≤ lives_after deed n
-lives-more (Acts Boot) n = omega arith
-lives-more _ n = omega arith
-
-lives-le : (s t : List Line) → Within s t → lives (dids s) ≤ lives (dids t)
-lives-le s [] e = subst (λ z. lives (dids z) ≤ 0) (sym e) (omega arith)
-lives-le s (l ∷ t) (inl e) = subst (λ z. lives (dids z) ≤ lives (dids (l ∷ t))) (sym e) (omega arith)
-lives-le s (l ∷ t) (inr w) = omega (arith, lives-le s t w, lives-more l.did.deed (lives (dids t)))
 
 shut : (first : Did) (idle st : List Seen) (close : Option ℕ) → Ahead first idle st close → Ahead first idle st None
 shut first idle st close (inl h) = inl (h.0, refl)
@@ -66,8 +59,8 @@ module _ (setting : Setting) (q : Port) (first : Did) (idle : List Seen) where
   along s [] f e life st shut_is = subst (λ z. Ahead first idle (started (view q z)) (armed (view q z)).close) e (inl (st, shut_is))
   along s (l ∷ t) f (inl e) life st shut_is = subst (λ z. Ahead first idle (started (view q z)) (armed (view q z)).close) e (inl (st, shut_is))
   along s (l ∷ t) f (inr w) life st shut_is =
-      let less = lives-le s t w in
-      let more = lives-more l.did.deed (lives (dids t)) in
+      let less = (since setting s t f.1 w).lives in
+      let more = lives-deed l.did.deed (lives (dids t)) in
       let same : lives_after l.did.deed (lives (dids t)) ≡ lives (dids t) = omega (arith, less, more, life) in
       let here : lives (dids s) ≡ lives (dids t) = omega (arith, less, more, life) in
       one-more l t f.0.deeds same (along s t f.1 w here st shut_is) ((l.port.0 == q.0) || is_shared l.did.deed) refl

@@ -21,6 +21,7 @@ use Rattle.tsp_promises.specs.Setting.{Setting}
 use Rattle.tsp_base.specs.Takings.{peer_of}
 use Rattle.tsp_base.specs.Ticks.{tick_at}
 use Rattle.tsp_base.proofs.PlaceLemmas.{Within-through, Within-tail}
+use Rattle.tsp_promises.proofs.BestProof.{some-is}
 use Rattle.tsp_promises.proofs.Clocks.{near}
 use Rattle.tsp_promises.proofs.Given.{Given, given_at}
 use Rattle.tsp_promises.proofs.Locating.{line_on, locate, tick_in}
@@ -50,9 +51,6 @@ pub record Used (first : Did) (begun : List Seen) (p : PeerId) (m : MessageValue
   pub mean : ℤ
   pub from : FromClose first begun p m close past mean sample
 
-one-sample : (a b : Sampled) → Some a ≡ Some b → a ≡ b
-one-sample a b e = cc
-
 -- what begins before its step has taken anything, or is an ADJTIME, begins at a Close
 pub used-by : (first : Did) (begun : List Seen) (p : PeerId) (m : MessageValue) (close : Did) (past : List Seen) (sample : Sampled) → (m.kind ≡ AdjTime) ⊎ (taken begun ≡ None) → closed begun ≡ Here close ∷ past → best p past ≡ Some sample →
     AnswersSlaveUp begun p m ⊎ AtClose first begun p m → Used first begun p m close past sample
@@ -62,7 +60,7 @@ used-by first begun p m close past sample none close_is best_is (inr a) =
     let both : Here a.close ∷ a.past ≡ Here close ∷ past = sym a.is.is ∙ close_is in
     let did_is : a.close ≡ close = cc in
     let past_is : a.past ≡ past = cc in
-    let same : a.sample ≡ sample = one-sample a.sample sample (sym a.is.best_is ∙ (ap (best p) past_is ∙ best_is)) in
+    let same : a.sample ≡ sample = some-is a.sample sample (sym a.is.best_is ∙ (ap (best p) past_is ∙ best_is)) in
     record { mean = a.mean; from = subst (λ z. FromClose first begun p m close past a.mean z) same (subst₂ (λ y z. FromClose first begun p m y z a.mean a.sample) did_is past_is a.is) }
 
 -- where the send begins and what its beginning owes; and the clock was moved as it says

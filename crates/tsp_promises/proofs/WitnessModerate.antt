@@ -163,9 +163,9 @@ two-of-three xs all two = record { more = omega (arith, all, two); agrees = smal
 pub small-agrees : (mean value : ℤ) → Contains (estimates_of (still false) 0 port0 (skip 4 n4)) value → is_small value ≡ true → Agrees (still false) 0 (shut-by mean) (skip 4 n4) value
 small-agrees mean value among small = record { test = is_small; majority = two-of-three (estimates_of (still false) 0 port0 (skip 4 n4)) refl refl; among = among; passes = small }
 
-abbrev near-cast : Cast 0 shuts (skip 4 n4) moves-near (skip 2 n5) sounds (skip 1 w15) (pos 401)
-near-cast =
-    cast-by 0 shuts (skip 4 n4) moves-near (skip 2 n5) sounds (skip 1 w15) tells-near (skip 2 n4) (msg AdjTime 10 (Time (pos 50))) (pos 50) false (pos 408000399)
+abbrev pub near-cast : (stepped : Bool) (shown : ℤ) → Cast 0 shuts (skip 4 n4) (line (step_at 408000400 1 (Came 10)) port0 (Correct (pos 50) stepped shown)) (skip 2 n5) sounds (skip 1 w15) (pos 401)
+near-cast stepped shown =
+    cast-by 0 shuts (skip 4 n4) (line (step_at 408000400 1 (Came 10)) port0 (Correct (pos 50) stepped shown)) (skip 2 n5) sounds (skip 1 w15) tells-near (skip 2 n4) (msg AdjTime 10 (Time (pos 50))) (pos 50) stepped shown
     near-sample
     (record { correct = refl; place = skipped 3 (skip 2 n5); cause = refl; deed = refl; took = refl; node = refl; kind = refl; numbered = refl; is = refl })
     (record { closes = skipped 5 (skip 2 n5); node = refl; port = refl; is = refl; best_is = refl })
@@ -228,7 +228,7 @@ moderate_use = record {
   past = skip 2 n5;
   taker_in = skipped 11 n8;
   taker_node = refl;
-  taking = taking_of 0 shuts (skip 4 n4) moves-near (skip 2 n5) sounds (skip 1 w15) (pos 401) near-cast refl;
+  taking = taking_of 0 shuts (skip 4 n4) moves-near (skip 2 n5) sounds (skip 1 w15) (pos 401) (near-cast false (pos 408000399)) refl;
   adjusts = refl;
   close_is = refl;
   port = refl;

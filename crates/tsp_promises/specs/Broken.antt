@@ -165,7 +165,11 @@ pub record RoundsBreak (setting : Setting) : Type 0 where
   pub mean_far : Breaks (Moderate setting)
   -- and from its own
   pub own_far : Breaks (Moderate setting)
-  -- the ADJTIME that it begins to that peer
+  -- a master among the majority that is stepped
+  pub own_stepped : Breaks (Moderate setting)
+  -- a peer that is stepped
+  pub peer_stepped : Breaks (Moderate setting)
+  -- the ADJTIME that the first begins to its peer
   pub adjtime_far : Breaks (Moderate setting)
   -- the peer that takes it
   pub peer_far : Breaks (Moderate setting)

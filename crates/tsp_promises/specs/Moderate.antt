@@ -1,5 +1,5 @@
 -- The promise that a minority of a round's estimates, whatever it says, moves no clock of the majority by much.
-use Rattle.std.specs.Prelude.{◌≡◌, ◌≤◌, ◌<◌, ◌≤ℤ◌, ℕ, ◌+◌, ◌-◌, ◌*◌, ℤ, pos, ◌+ℤ◌, ◌-ℤ◌, nat_abs, Bool, true, List, ◌∷◌, length, Some}
+use Rattle.std.specs.Prelude.{◌≡◌, ◌≤◌, ◌<◌, ◌≤ℤ◌, ℕ, ◌+◌, ◌-◌, ◌*◌, ℤ, pos, ◌+ℤ◌, ◌-ℤ◌, nat_abs, Bool, true, false, List, ◌∷◌, length, Some}
 use Rattle.std.specs.List.{Contains, count_by}
 use Rattle.tsp_base.specs.declared.act.Act.TheVariants.{Close, Correct}
 use Rattle.tsp_base.specs.declared.constants.TheConstants.{SLEW, SPAN}
@@ -66,6 +66,10 @@ MeanNear setting l world = (m : ℕ) (close : Line) (cpast : List Line) (amount 
 abbrev pub OwnNear : Setting → Line → List Line → Type 0
 OwnNear setting l world = (m : ℕ) (close : Line) (cpast : List Line) (amount : ℤ) → world ≡ (close ∷ cpast) → Moves m close l amount → Agrees setting m close cpast (pos 0) → nat_abs amount ≤ 2 * SPAN
 
+-- and so it is slewed and not stepped
+abbrev pub OwnSlews : Setting → Line → List Line → Type 0
+OwnSlews setting l world = (m : ℕ) (close : Line) (cpast : List Line) (amount : ℤ) → world ≡ (close ∷ cpast) → (v : Moves m close l amount) → Agrees setting m close cpast (pos 0) → v.stepped ≡ false
+
 -- an ADJTIME that the round begins to a peer of the majority is of at most twice the span
 abbrev pub AdjTimeNear : Setting → Line → List Line → Type 0
 AdjTimeNear setting l world = (m : ℕ) (close c : Line) (cpast : List Line) (mean amount : ℤ) (begins : CloseBegins m close cpast mean l world) → Within (c ∷ (close ∷ cpast)) world → Moves m close c amount →
@@ -75,6 +79,11 @@ AdjTimeNear setting l world = (m : ℕ) (close c : Line) (cpast : List Line) (me
 abbrev pub PeerNear : Setting → Line → List Line → Type 0
 PeerNear setting l world = (m : ℕ) (close c : Line) (cpast : List Line) (amount : ℤ) (t : Taking m l world) → t.acts.brings.message.kind ≡ AdjTime → closed t.begun ≡ Here close.did ∷ view t.post.port (of m cpast) → close.port ≡ t.post.port →
     Within (c ∷ (close ∷ cpast)) world → Moves m close c amount → PeerAgrees setting m (peer_of (node_of l)) close cpast → nat_abs t.acts.amount ≤ 2 * SPAN
+
+-- it is slewed too
+abbrev pub PeerSlews : Setting → Line → List Line → Type 0
+PeerSlews setting l world = (m : ℕ) (close c : Line) (cpast : List Line) (amount : ℤ) (t : Taking m l world) → t.acts.brings.message.kind ≡ AdjTime → closed t.begun ≡ Here close.did ∷ view t.post.port (of m cpast) → close.port ≡ t.post.port →
+    Within (c ∷ (close ∷ cpast)) world → Moves m close c amount → PeerAgrees setting m (peer_of (node_of l)) close cpast → t.acts.stepped ≡ false
 
 -- where nothing was left to slew before that, the peer shows its target again once it has slewed twice the span, as long as nothing more happens
 abbrev pub PeerMeets : Setting → Line → List Line → Type 0
@@ -86,8 +95,10 @@ PeerMeets setting l world = (m : ℕ) (close c : Line) (cpast : List Line) (amou
 pub record ModerateAt (setting : Setting) (l : Line) (world : List Line) : Type 0 where
   pub mean : MeanNear setting l world
   pub own : OwnNear setting l world
+  pub own_slews : OwnSlews setting l world
   pub adjtime : AdjTimeNear setting l world
   pub peer : PeerNear setting l world
+  pub peer_slews : PeerSlews setting l world
   pub meets : PeerMeets setting l world
 
 -- who agrees with more than half of a round's estimates is moved by at most twice the span

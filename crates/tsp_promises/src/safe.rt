@@ -166,7 +166,7 @@ pub fn errs_bounded()
 
 /// A minority of a round's estimates, whatever it says, moves nobody of the majority by much. Where
 /// more than half of the estimates lie within 20 ms of one another, the mean is off by at most
-/// 40 ms from each of them: so a master among them moves its clock by at most that, and so does
+/// 40 ms from each of them: so a master among them slews its clock by at most that, and so does
 /// each peer among them that takes the round's ADJTIME. What such a peer shows meets its clock
 /// within 8 s, if nothing was left to slew before. If no peer's datagram is forged and none outlives
 /// `LIFE`, the master's clock then stands with theirs.
