@@ -182,10 +182,10 @@ pub fn seldom()
     ensures { (setting : Setting) (world : List Line) → Fits setting world → Seldom world }
 {}
 
-/// A round's bound never lapses: with what the two nodes were moved by since taken back, the clock
-/// of a node that a Close corrected and that of the master agree as they did, until either boots;
-/// so the clocks differ by at most that besides. The same goes for two nodes that one Close
-/// corrected, whatever becomes of the master.
+/// A round's bound outlasts later Corrects: with what the two nodes were moved by since taken back,
+/// the clock of a node that a Close corrected and that of the master agree as they did, until
+/// either boots; so the clocks differ by at most that besides. The same goes for two nodes that one
+/// Close corrected, whatever becomes of the master.
 pub fn throughout()
     ensures { (setting : Setting) (world : List Line) → Fits setting world → Honest world
         → Life world → Throughout setting world }
@@ -319,8 +319,8 @@ pub fn chain_use()
     ensures { ChainUse }
 {}
 
-/// Nor is the promise that a round's bound never lapses, nor that rounds stand apart: a history that
-/// fits sees a second round of one life move both clocks of the first.
+/// Nor is the promise that a round's bound outlasts later Corrects, nor that rounds stand apart: a
+/// history that fits sees a second round of one life move both clocks of the first.
 pub fn rounds_use()
     ensures { RoundsUse }
 {}
