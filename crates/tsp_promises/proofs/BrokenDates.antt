@@ -1,5 +1,5 @@
 -- Small histories that break the promise of the network's date.
-use Rattle.std.specs.Prelude.{◌≡◌, false, true, pos, List, [], ◌∷◌, refl}
+use Rattle.std.specs.Prelude.{◌≡◌, false, true, ℤ, pos, List, [], ◌∷◌, refl}
 use Rattle.std.proofs.Common.{arith}
 use Rattle.std.proofs.lemmas.Int.{ints}
 use Rattle.tsp_base.specs.declared.act.Act.TheVariants.{Acked, Become, Correct, Post, Ring, Took}
@@ -11,11 +11,13 @@ use Rattle.tsp_base.specs.declared.message.Body.TheVariants.{Time}
 use Rattle.tsp_base.specs.declared.place.Place.TheVariants.{Peer, Stranger}
 use Rattle.tsp_base.specs.declared.role.Role.TheVariants.{Master}
 use Rattle.tsp_promises.specs.Broken.{Breaks}
-use Rattle.tsp_promises.specs.Dated.{Dated}
+use Rattle.tsp_promises.specs.Dated.{DateConfirmedAt, SetsAt}
 use Rattle.tsp_promises.specs.DatesBroken.{DatesBreak}
+use Rattle.tsp_promises.specs.Everywhere.{Everywhere}
 use Rattle.tsp_promises.specs.Fits.{node_of}
 use Rattle.tsp_base.specs.History.{Handed, Turned, Line}
 use Rattle.tsp_base.specs.Messages.{MessageValue}
+use Rattle.tsp_promises.specs.Premises.{Few, Honest, Life}
 use Rattle.tsp_base.specs.Takings.{peer_of}
 use Rattle.tsp_promises.proofs.BrokenRoles.{starting}
 use Rattle.tsp_promises.proofs.EverywhereLemmas.{Everywhere-at}
@@ -26,17 +28,17 @@ use Rattle.tsp_promises.proofs.PremiseChecks.{few-by, honest-by, life-by}
 abbrev date : MessageValue
 date = msg Date 5 (Time (pos 500))
 
--- a step that takes it after these lines, and sets the clock
-abbrev set-after : List Line → List Line
-set-after h = does 20 0 Handed (Correct (pos 5) true (pos 500)) ∷ (does 20 0 Handed (Took Stranger (Good (Message date))) ∷ (begins 20 0 Handed ∷ h))
+-- a step that takes it after these lines, and moves the clock by this
+abbrev set-after : ℤ → List Line → List Line
+set-after amount h = does 20 0 Handed (Correct amount true (pos 500)) ∷ (does 20 0 Handed (Took Stranger (Good (Message date))) ∷ (begins 20 0 Handed ∷ h))
 
-leads : Breaks (Dated (still false))
-leads = record { world = set-after []; broken = λ h. starting (h.sets.0 (pos 5) true (pos 500) Stranger date refl refl refl).leads }
+leads : Breaks (Everywhere (SetsAt (still false)))
+leads = record { world = set-after (pos 480) []; broken = λ h. starting (h.0 (pos 480) true (pos 500) Stranger date refl refl refl).leads }
 
-sets : Breaks (Dated (still false))
+sets : Breaks (Everywhere (SetsAt (still false)))
 sets = record {
-  world = set-after (does 10 0 Turned (Become Master) ∷ []);
-  broken = λ h. (let k : pos 5 ≡ pos 480 = (h.sets.0 (pos 5) true (pos 500) Stranger date refl refl refl).amount_is in omega (arith, k, ints));
+  world = set-after (pos 5) (does 10 0 Turned (Become Master) ∷ []);
+  broken = λ h. (let k : pos 5 ≡ pos 480 = (h.0 (pos 5) true (pos 500) Stranger date refl refl refl).amount_is in omega (arith, k, ints));
 }
 
 abbrev sent : List Line
@@ -45,11 +47,11 @@ sent = does 10 0 Turned (Post (Peer (peer_of 1)) (Message (msg SetDateReq 32775 
 abbrev acked : List Line
 acked = does 20 0 Turned (Acked (peer_of 1)) ∷ sent
 
-confirmed : Breaks (Dated (still false))
+confirmed : Breaks (λ (world : List Line). Honest world → Life world → Few world → Everywhere DateConfirmedAt world)
 confirmed = record {
   world = acked;
   broken = λ h.
-      let a = (h.confirmed (honest-by acked refl) (life-by acked refl) (few-by acked refl)).0 (peer_of 1) (does 10 0 Turned (Post (Peer (peer_of 1)) (Message (msg SetDateReq 32775 (Time (pos 1)))))).did _ (msg SetDateReq 32775 (Time (pos 1))) refl refl refl refl in
+      let a = (h (honest-by acked refl) (life-by acked refl) (few-by acked refl)).0 (peer_of 1) (does 10 0 Turned (Post (Peer (peer_of 1)) (Message (msg SetDateReq 32775 (Time (pos 1)))))).did _ (msg SetDateReq 32775 (Time (pos 1))) refl refl refl refl in
       let own = Everywhere-at (λ (l : Line) (before : List Line). node_of l ≡ 0) a.correct a.past sent (refl, (refl, tt)) a.place in
       omega (arith, own, a.node);
 }

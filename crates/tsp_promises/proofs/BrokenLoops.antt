@@ -9,9 +9,11 @@ use Rattle.tsp_base.specs.declared.role.Role.TheVariants.{Loose, Master}
 use Rattle.tsp_promises.specs.Broken.{Breaks}
 use Rattle.tsp_promises.specs.Fits.{node_of}
 use Rattle.tsp_base.specs.History.{Acts, Turned, Line, dids, of}
-use Rattle.tsp_promises.specs.Looped.{IsChain, Looped, LoopPost}
+use Rattle.tsp_promises.specs.Everywhere.{Everywhere}
+use Rattle.tsp_promises.specs.Looped.{ChainAt, GivesUpAt, HopsAt, IsChain, LoopPost}
 use Rattle.tsp_promises.specs.LoopsBroken.{LoopsBreak}
 use Rattle.tsp_base.specs.Messages.{MessageValue}
+use Rattle.tsp_promises.specs.Premises.{Honest, NamesApart}
 use Rattle.tsp_base.specs.Takings.{heard, peer_of}
 use Rattle.tsp_promises.proofs.Histories.{does, still}
 use Rattle.tsp_promises.proofs.PremiseChecks.{honest-by}
@@ -22,10 +24,10 @@ use Rattle.tsp_promises.proofs.WitnessLoop.{loop_with, names-by}
 abbrev posts-with : ℕ → Line
 posts-with hops = does 10 1 Turned (Post (Peer (peer_of 2)) (Message (loop_with hops)))
 
-hops : Breaks (Looped (still false))
+hops : Breaks (Everywhere HopsAt)
 hops = record {
   world = posts-with 11 ∷ [];
-  broken = λ h. (let r = h.hops.0 (Peer (peer_of 2)) (loop_with 11) refl refl in let same : Hops 11 ≡ Hops r.0 = r.1.0 in let k : 11 ≡ r.0 = cc in omega (arith, k, r.1.1));
+  broken = λ h. (let r = h.0 (Peer (peer_of 2)) (loop_with 11) refl refl in let same : Hops 11 ≡ Hops r.0 = r.1.0 in let k : 11 ≡ r.0 = cc in omega (arith, k, r.1.1));
 }
 
 -- the hops of a post with this deed
@@ -39,17 +41,17 @@ no-chain : (last : LoopPost) (rest : List LoopPost) → last.post.did.deed ≡ A
 no-chain last [] deed older c = (let k = hops-in last 3 deed in omega (arith, k, c))
 no-chain last (early ∷ rest) deed older c = true≢false (sym (subst (λ h. is_some (heard (dids (of (node_of last.post) h))) ≡ true) older c.0.took))
 
-chains : Breaks (Looped (still false))
+chains : Breaks (λ (world : List Line). Honest world → Everywhere ChainAt world)
 chains = record {
   world = posts-with 3 ∷ [];
-  broken = λ h. (let e = (h.chains (honest-by (posts-with 3 ∷ []) refl)).0 (Peer (peer_of 2)) (loop_with 3) refl refl in no-chain e.last e.rest (ap (λ (l : Line). l.did.deed) e.post_is) e.older_is e.chain);
+  broken = λ h. (let e = (h (honest-by (posts-with 3 ∷ []) refl)).0 (Peer (peer_of 2)) (loop_with 3) refl refl in no-chain e.last e.rest (ap (λ (l : Line). l.did.deed) e.post_is) e.older_is e.chain);
 }
 
-gives_up : Breaks (Looped (still false))
+gives_up : Breaks (λ (world : List Line). Honest world → NamesApart (still false) world → Everywhere GivesUpAt world)
 gives_up = record {
   world = does 20 0 Turned (Become Loose) ∷ (does 10 0 Turned (Become Master) ∷ []);
   broken = λ h.
-      let g = (h.gives_up (honest-by (does 20 0 Turned (Become Loose) ∷ (does 10 0 Turned (Become Master) ∷ [])) refl) (names-by false (does 20 0 Turned (Become Loose) ∷ (does 10 0 Turned (Become Master) ∷ [])))).0 refl refl in
+      let g = (h (honest-by (does 20 0 Turned (Become Loose) ∷ (does 10 0 Turned (Become Master) ∷ [])) refl) (names-by false (does 20 0 Turned (Become Loose) ∷ (does 10 0 Turned (Become Master) ∷ [])))).0 refl refl in
       true≢false (sym g.takes.took);
 }
 

@@ -31,6 +31,7 @@ dated_use = record {
   acked = does 310000002 1 (Came 2) (Acked (peer_of 0));
   before = skip 1 d9;
   later = skipped 0 d9;
+  after = skipped 3 (skip 1 d9);
   peer = peer_of 0;
   ends = refl;
   first = _;
@@ -39,4 +40,5 @@ dated_use = record {
   date = msg SetDateReq 32777 (Time (pos 600000000));
   posts = refl;
   kind = refl;
+  same = refl;
 }

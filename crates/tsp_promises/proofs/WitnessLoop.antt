@@ -151,4 +151,7 @@ loop_use = record {
   leads = refl;
   gives_up = gives-up;
   by_two = refl;
+  lower = port0;
+  is_lower = omega arith;
+  leads_lower = refl;
 }

@@ -39,6 +39,7 @@ pub record DatedUse : Type 0 where
   pub acked : Line
   pub before : List Line
   pub later : Within (acked ∷ before) world
+  pub after : Within (correct ∷ past) before
   pub peer : PeerId
   pub ends : acked.did.deed ≡ Acts (Acked peer)
   pub first : Did
@@ -47,3 +48,4 @@ pub record DatedUse : Type 0 where
   pub date : MessageValue
   pub posts : first.deed ≡ Acts (Post (Peer peer) (Message date))
   pub kind : date.kind ≡ SetDateReq
+  pub same : date ≡ message

@@ -1,6 +1,7 @@
 -- A LOOP that comes back: the promise of LOOPs isn't empty.
-use Rattle.std.specs.Prelude.{◌≡◌, List, ◌∷◌, length}
+use Rattle.std.specs.Prelude.{◌≡◌, ◌<◌, List, ◌∷◌, length}
 use Rattle.tsp_base.specs.declared.act.Act.TheVariants.{Become}
+use Rattle.tsp_base.specs.declared.place.Port.{Port}
 use Rattle.tsp_base.specs.declared.role.Role.TheVariants.{Loose, Master}
 use Rattle.tsp_promises.specs.Fits.{node_of}
 use Rattle.tsp_base.specs.History.{Acts, Line, of, view}
@@ -24,3 +25,7 @@ pub record LoopUse : Type 0 where
   pub leads : role (view loose.port (of (node_of loose) past)) ≡ Master
   pub gives_up : GivesUp loose past
   pub by_two : length gives_up.rest ≡ 2
+  -- it leads on the port on which the LOOP set out, too
+  pub lower : Port
+  pub is_lower : lower.0 < loose.port.0
+  pub leads_lower : role (view lower (of (node_of loose) past)) ≡ Master

@@ -1,14 +1,18 @@
--- That the promise of LOOPs says something: for each part a small history that breaks it.
+-- That the promise of LOOPs says something: each part is broken by a small history.
+use Rattle.std.specs.Prelude.{List}
+use Rattle.tsp_base.specs.History.{Line}
 use Rattle.tsp_promises.specs.Broken.{Breaks}
-use Rattle.tsp_promises.specs.Looped.{Looped}
+use Rattle.tsp_promises.specs.Everywhere.{Everywhere}
+use Rattle.tsp_promises.specs.Looped.{ChainAt, GivesUpAt, HopsAt}
+use Rattle.tsp_promises.specs.Premises.{Honest, NamesApart}
 use Rattle.tsp_promises.specs.Setting.{Setting}
 
--- what breaks the promise of LOOPs, in one setting
+-- what breaks the promise of LOOPs, in one setting, each with all that its part asks
 pub record LoopsBreak : Type 0 where
   pub setting : Setting
   -- a LOOP with one hop too many
-  pub hops : Breaks (Looped setting)
+  pub hops : Breaks (Everywhere HopsAt)
   -- a LOOP with fewer hops than all that nobody has passed on
-  pub chains : Breaks (Looped setting)
+  pub chains : Breaks (λ (world : List Line). Honest world → Everywhere ChainAt world)
   -- a master that becomes Loose and has taken no LOOP
-  pub gives_up : Breaks (Looped setting)
+  pub gives_up : Breaks (λ (world : List Line). Honest world → NamesApart setting world → Everywhere GivesUpAt world)
