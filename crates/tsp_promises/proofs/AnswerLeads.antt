@@ -15,7 +15,7 @@ use Rattle.tsp_base.specs.declared.role.Role.{Role}
 use Rattle.tsp_base.specs.declared.role.Role.TheVariants.{Starting, Loose, Follow, Candidate, Master}
 use Rattle.tsp_base.specs.declared.stamp.Stamp.TheVariants.{Request, Reply}
 use Rattle.tsp_promises.specs.AckFits.{Answers}
-use Rattle.tsp_promises.specs.DeedFits.{is_answered_early}
+use Rattle.tsp_promises.specs.DeedFits.{asks_name, is_answered_early}
 use Rattle.tsp_base.specs.History.{Seen, Past}
 use Rattle.tsp_base.specs.Leads.{Leads}
 use Rattle.tsp_base.specs.Messages.{MessageValue}
@@ -118,11 +118,11 @@ module _ {from : Place} {m : MessageValue} where
   -- by the kind of the message
   pub handles_kind_upsets : (charge : Bool) (k : Kind) → m.kind ≡ k → Upsets (sets_date m.kind) (Foreign from (Good (Message m))) (handles_kind charge from m k)
   unfolding handles_kind
-  handles_kind_upsets charge Msite e = freely (names_master_leads m (ap is_answered_early e) (answers_any from m Msite e (λ seen. tt)))
-  handles_kind_upsets charge MsiteReq e = freely (says_master_leads m (answers_any from m MsiteReq e (λ seen. tt)))
-  handles_kind_upsets charge TraceOn e = freely (traces_leads m (ap is_answered_early e) (answers_any from m TraceOn e (λ seen. tt)) true)
-  handles_kind_upsets charge TraceOff e = freely (traces_leads m (ap is_answered_early e) (answers_any from m TraceOff e (λ seen. tt)) false)
-  handles_kind_upsets charge Test e = freely (tests_leads m (answers_any from m Test e (λ seen. tt)))
+  handles_kind_upsets charge Msite e = freely (names_master_leads m (ap is_answered_early e) (answers_any from m Msite e (λ seen. tt)) (ap asks_name e))
+  handles_kind_upsets charge MsiteReq e = freely (says_master_leads m (ap asks_name e) (answers_any from m MsiteReq e (λ seen. tt)))
+  handles_kind_upsets charge TraceOn e = freely (traces_leads m (ap is_answered_early e) (answers_any from m TraceOn e (λ seen. tt)) true (ap asks_name e))
+  handles_kind_upsets charge TraceOff e = freely (traces_leads m (ap is_answered_early e) (answers_any from m TraceOff e (λ seen. tt)) false (ap asks_name e))
+  handles_kind_upsets charge Test e = freely (tests_leads m (ap asks_name e) (answers_any from m Test e (λ seen. tt)))
   handles_kind_upsets charge Date e = upsets_from (λ x past h. h.just) (date_upsets charge (inl e))
   handles_kind_upsets charge SetDate e = upsets_from (λ x past h. h.just) (date_upsets charge (inr e))
   handles_kind_upsets charge DateReq e = from_peer_upsets from (Good (Message m)) (date_request_of charge m) (λ p i. date_request_upsets charge (ap is_date_request e))

@@ -208,7 +208,7 @@ none-answered setting q r own f took none true e =
     by-port a false other = none-some (taken (view a.port own)) a.received ((took-on setting q r own f took).alone a.port other) a.took
 none-answered setting q r own f took none false e = e
 
-strangers_at : (setting : Setting) (l : Line) (world : List Line) → Fits setting (l ∷ world) → StrangersAt l world
+strangers_at : (setting : Setting) (l : Line) (world : List Line) → Fits setting (l ∷ world) → StrangersAt setting l world
 strangers_at setting l world f datagram is =
     let own = of (node_of l) world in
     let a = answering (setup_of setting (node_of l) l.port) datagram l.did (view l.port own) (deed_fits setting l world (Acts (Post Stranger datagram)) is f.0).fits in
@@ -216,6 +216,7 @@ strangers_at setting l world f datagram is =
       asked = a.asked;
       took = a.took;
       answer = a.answer;
+      named = a.named;
       first = none-answered setting l.port (record { from = Stranger; taken = Good a.asked }) own (own_fits setting (node_of l) world f.1) a.took a.first (has_answered (dids own)) refl;
     }
 
@@ -289,11 +290,11 @@ counted setting (l ∷ t) f = by-deed l.did.deed refl (counted setting t f.1) wh
 one_for_one_at : (setting : Setting) (l : Line) (world : List Line) → Fits setting (l ∷ world) → OneForOneAt l world
 one_for_one_at setting l world f = let c = counted setting (l ∷ world) f in omega (arith, c)
 
-pub answered : (setting : Setting) (world : List Line) → Fits setting world → Finished world → Answered world
+pub answered : (setting : Setting) (world : List Line) → Fits setting world → Finished world → Answered setting world
 answered setting world f end = record {
   takes_one = Everywhere-from TakesOneAt world (λ l s w. takes_one_at setting l s (fits_at setting (l ∷ s) world f w));
   quits = Everywhere-from QuitsAt world (λ l s w. quits_at setting l s (fits_at setting (l ∷ s) world f w));
   acknowledged = acknowledged setting world f end;
-  strangers = Everywhere-from StrangersAt world (λ l s w. strangers_at setting l s (fits_at setting (l ∷ s) world f w));
+  strangers = Everywhere-from (StrangersAt setting) world (λ l s w. strangers_at setting l s (fits_at setting (l ∷ s) world f w));
   one_for_one = Everywhere-from OneForOneAt world (λ l s w. one_for_one_at setting l s (fits_at setting (l ∷ s) world f w));
 }

@@ -14,14 +14,14 @@ use Rattle.tsp_promises.specs.Broken.{Breaks, RoundsBreak}
 use Rattle.tsp_promises.specs.Estimates.{Estimate}
 use Rattle.tsp_base.specs.History.{Came, Turned, Line}
 use Rattle.tsp_base.specs.Messages.{MessageValue}
-use Rattle.tsp_promises.specs.Moderate.{Moderate, ModerateClocks, Moves}
+use Rattle.tsp_promises.specs.Moderate.{Moderate, ModerateClocks, Moves, PeerCorrects}
 use Rattle.tsp_promises.specs.Seldom.{Seldom}
 use Rattle.tsp_base.specs.Takings.{peer_of}
 use Rattle.tsp_promises.proofs.CastBy.{cast-by}
 use Rattle.tsp_promises.proofs.CastProof.{taking_of}
 use Rattle.tsp_promises.proofs.Histories.{begins, does, msg, skip, skipped, still}
 use Rattle.tsp_promises.proofs.WitnessCasts.{sounds}
-use Rattle.tsp_promises.proofs.WitnessModerate.{n1, n4, n5, near-agrees, near-cast, near-sample, own-agrees, shut-by, small-agrees}
+use Rattle.tsp_promises.proofs.WitnessModerate.{moves-little, moves-own, n1, n4, n5, near-agrees, near-cast, near-sample, own-agrees, shut-by, small-agrees}
 use Rattle.tsp_promises.proofs.WitnessUse.{reply1, w15}
 
 -- a round that closes with a mean of 300 ms, where it and a peer agree within a millisecond
@@ -46,7 +46,7 @@ mean_far = record {
 own_far : Breaks (Moderate (still false))
 own_far = record {
   world = jumped;
-  broken = λ h. (let k : 300000 ≤ 40000 = h.0.own 0 shut (skip 4 n4) (pos 300000) refl moves (own-agrees (pos 300000)) in omega arith);
+  broken = λ h. (let k : 300000 ≤ 40000 = (h.0.own 0 shut (skip 4 n4) (pos 300000) refl moves (own-agrees (pos 300000))).near in omega arith);
 }
 
 -- the same round with its own mean, and a Correct that is stepped
@@ -57,7 +57,7 @@ own_stepped : Breaks (Moderate (still false))
 own_stepped = record {
   world = steps ∷ (shut-by (negsuc 50) ∷ skip 4 n4);
   broken = λ h.
-      true≢false (h.0.own_slews 0 (shut-by (negsuc 50)) (skip 4 n4) (negsuc 50) refl (record { count = 2; lo = negsuc 100; size = pos 101; mean = negsuc 50; deed = refl; node = refl; stepped = true; shown = pos 0; correct = refl; correct_node = refl }) (own-agrees (negsuc 50)));
+      true≢false ((h.0.own 0 (shut-by (negsuc 50)) (skip 4 n4) (negsuc 50) refl (record { count = 2; lo = negsuc 100; size = pos 101; mean = negsuc 50; deed = refl; node = refl; stepped = true; shown = pos 0; correct = refl; correct_node = refl }) (own-agrees (negsuc 50))).slews);
 }
 
 -- and a follower that steps its clock by 50
@@ -70,9 +70,20 @@ stepped-cast = near-cast true (pos 0)
 peer_stepped : Breaks (Moderate (still false))
 peer_stepped = record {
   world = steps-near ∷ skip 2 n5;
-  broken = λ h.
-      true≢false (h.0.peer_slews 0 (shut-by (negsuc 50)) (does 408000000 0 Turned (Correct (negsuc 50) false (pos 408000000))) (skip 4 n4) (negsuc 50) (taking_of 0 (shut-by (negsuc 50)) (skip 4 n4) steps-near (skip 2 n5) sounds (skip 1 w15) (pos 401) stepped-cast refl) refl refl refl (skipped 4 (skip 2 n5))
-      (record { count = 2; lo = negsuc 100; size = pos 101; mean = negsuc 50; deed = refl; node = refl; stepped = false; shown = pos 408000000; correct = refl; correct_node = refl }) (near-agrees (negsuc 50)));
+  broken = λ h. true≢false (h.0.peer (record {
+    m = 0;
+    close = shut-by (negsuc 50);
+    c = moves-own;
+    cpast = skip 4 n4;
+    amount = negsuc 50;
+    moves = moves-little;
+    ends = skipped 4 (skip 2 n5);
+    taking = taking_of 0 (shut-by (negsuc 50)) (skip 4 n4) steps-near (skip 2 n5) sounds (skip 1 w15) (pos 401) stepped-cast refl;
+    kind = refl;
+    close_is = refl;
+    port = refl;
+    agrees = near-agrees (negsuc 50);
+  })).little.slews;
 }
 
 -- what the peer lacks to that mean
@@ -105,20 +116,29 @@ dragged =
     (record { closes = skipped 4 taken; node = refl; port = refl; is = refl; best_is = refl })
     (record { line = does 400000801 0 (Came 8) (Sample (peer_of 1) 0 (negsuc 100) (pos 401) 10); before = skip 1 n1; at = skipped 13 taken; node = refl; port = refl; is = refl; reads = skipped 2 (skip 1 n1); takes = refl; to = Peer (peer_of 0); datagram = Stamp (Reply reply1); deed = refl })
 
-peer_far : Breaks (Moderate (still false))
-peer_far = record {
-  world = obeys ∷ taken;
-  broken = λ h.
-      let k : 300101 ≤ 40000 = h.0.peer 0 shut jumps (skip 4 n4) (pos 300000) (taking_of 0 shut (skip 4 n4) obeys taken sounds (skip 1 w15) (pos 401) dragged refl) refl refl refl (skipped 3 taken) moves (near-agrees (pos 300000)) in
-      omega arith;
+abbrev drag : PeerCorrects (still false) obeys taken
+drag = record {
+  m = 0;
+  close = shut;
+  c = jumps;
+  cpast = skip 4 n4;
+  amount = pos 300000;
+  moves = moves;
+  ends = skipped 3 taken;
+  taking = taking_of 0 shut (skip 4 n4) obeys taken sounds (skip 1 w15) (pos 401) dragged refl;
+  kind = refl;
+  close_is = refl;
+  port = refl;
+  agrees = near-agrees (pos 300000);
 }
+
+peer_far : Breaks (Moderate (still false))
+peer_far = record { world = obeys ∷ taken; broken = λ h. (let k : 300101 ≤ 40000 = (h.0.peer drag).little.near in omega arith) }
 
 late_met : Breaks (Moderate (still false))
 late_met = record {
   world = obeys ∷ taken;
-  broken = λ h.
-      let k : pos 416040399 ≡ pos 416300500 = h.0.meets 0 shut jumps (skip 4 n4) (pos 300000) (taking_of 0 shut (skip 4 n4) obeys taken sounds (skip 1 w15) (pos 401) dragged refl) refl refl refl (skipped 3 taken) moves (near-agrees (pos 300000)) refl 416000400 (omega arith) in
-      omega (arith, ints);
+  broken = λ h. (let k : pos 416040399 ≡ pos 416300500 = (h.0.peer drag).meets refl 416000400 (omega arith) in omega (arith, ints));
 }
 
 estimated : Estimate 0 1 shut (skip 4 n4) near-sample sounds (skip 1 w15) jumped

@@ -6,7 +6,7 @@ use Rattle.tsp_base.specs.declared.constants.TheConstants.{DATEHOLD, GAP, REUSE}
 use Rattle.tsp_base.specs.declared.datagram.Datagram.TheVariants.{Message}
 use Rattle.tsp_base.specs.declared.datagram.Taken.TheVariants.{Good}
 use Rattle.tsp_base.specs.declared.kind.Kind.{Kind}
-use Rattle.tsp_base.specs.declared.kind.Kind.TheVariants.{Ack, Date, DateAck, MasterUp, SetDate, SetDateReq}
+use Rattle.tsp_base.specs.declared.kind.Kind.TheVariants.{Ack, Date, DateAck, MasterUp, SetDate, SetDateReq, Msite}
 use Rattle.tsp_base.specs.declared.place.PeerId.{PeerId}
 use Rattle.tsp_base.specs.declared.place.Place.{Place}
 use Rattle.tsp_base.specs.declared.place.Place.TheVariants.{Peer, Stranger}
@@ -15,7 +15,7 @@ use Rattle.tsp_base.specs.declared.role.Role.TheVariants.{Follow, Master}
 use Rattle.tsp_promises.specs.AckFits.{AckedFits, Answers}
 use Rattle.tsp_promises.specs.CorrectFits.{ByDate}
 use Rattle.tsp_promises.specs.DateFits.{DateAckFits}
-use Rattle.tsp_promises.specs.DeedFits.{PostFits}
+use Rattle.tsp_promises.specs.DeedFits.{PostFits, asks_name}
 use Rattle.tsp_base.specs.History.{Did, Seen, Here, Past, plain}
 use Rattle.tsp_base.specs.Hold.{is_past}
 use Rattle.tsp_base.specs.Leads.{Leads}
@@ -42,6 +42,7 @@ use Rattle.tsp_promises.proofs.LeadsLeaves.{Leads_posts, Leads_posts_back, Leads
 use Rattle.tsp_rules.proofs.GuardFacts.{and-cases, past_is}
 use Rattle.tsp_promises.proofs.CommonLeads.{own_number}
 use Rattle.tsp_promises.proofs.Printed.{date_sets, flag_of, sets_prints}
+use Rattle.tsp_promises.proofs.StrangerFacts.{own_named}
 use Rattle.tsp_promises.proofs.TakenLeads.{Heard, HeardIn, Unanswered, rests_of, wake_role, took_awake, ack_fits, open_known}
 use Rattle.tsp_promises.proofs.SlaveLeads.{idle_heard, gap_of}
 use Rattle.tsp_promises.proofs.Upsets.{Upsets, upsets_of, upsets_from, upsets_either, upsets_reading}
@@ -67,10 +68,16 @@ request_sets Date e = refl
 request_sets SetDate e = refl
 request_sets _ e = e
 
+-- whoever sets a date doesn't ask for the master
+date_other : (k : Kind) → sets_date k ≡ true → asks_name k ≡ false
+date_other Msite e = absurd (true≢false (sym e))
+date_other _ e = refl
+
 ack_to : (from : Place) (m : MessageValue) (x : ℕ) (past : Past) → IsClient m.kind → taken past.seen ≡ Some (record { from = from; taken = Good (Message m) }) → is_answered past.seen ≡ false →
     PostFits (setup_in past) from (Message (bare Ack m.number past.name)) (now x past (Post from (Message (bare Ack m.number past.name)))) past.seen
 ack_to (Peer p) m x past client took none = ack_fits (Peer p) m past.seen took (client_answers m.kind client (Peer p) past.seen m.number)
-ack_to Stranger m x past client took none = (ack_fits Stranger m past.seen took (client_answers m.kind client Stranger past.seen m.number), none)
+ack_to Stranger m x past client took none =
+    (ack_fits Stranger m past.seen took (client_answers m.kind client Stranger past.seen m.number), (none, own_named (setup_in past) Stranger m (bare Ack m.number past.name) past.seen took refl (date_other m.kind (client_sets m.kind client))))
 
 -- a follower passes a client's date on
 record Passing (from : Place) (m : MessageValue) (x : ℕ) (past : Past) : Type 0 where
@@ -134,9 +141,10 @@ date_ack (Peer p) m here x after seen tick (ByPeer q is request) took last = inr
 date_ack Stranger m here x after seen tick (ByClient client) took last = record { message = m; took = took; kind = client; number_is = refl }
 date_ack Stranger m here x after seen tick (ByPeer q is request) took last = let bad : ⊥ = cc in absurd bad
 
-ack_post : (setup : Setup) (from : Place) (m : MessageValue) (name : List ℕ) (here : Did) (seen : List Seen) → DateAckFits from here seen m.number → is_answered seen ≡ false → PostFits setup from (Message (bare DateAck m.number name)) here seen
-ack_post setup (Peer p) m name here seen f none = f
-ack_post setup Stranger m name here seen f none = (f, none)
+ack_post : (setup : Setup) (from : Place) (m : MessageValue) (name : List ℕ) (here : Did) (seen : List Seen) → DateAckFits from here seen m.number → is_answered seen ≡ false → name ≡ setup.name → taken seen ≡ Some (record { from = from; taken = Good (Message m) }) → sets_date m.kind ≡ true →
+    PostFits setup from (Message (bare DateAck m.number name)) here seen
+ack_post setup (Peer p) m name here seen f none is took dates = f
+ack_post setup Stranger m name here seen f none is took dates = (f, (none, own_named setup Stranger m (bare DateAck m.number name) seen took is (date_other m.kind dates)))
 
 module _ {from : Place} {m : MessageValue} where
   corrected : (x : ℕ) (past : Past) → WhoDates from m → is_past (correct_tick (plain past.seen)) GAP x ≡ true → Dating_now from m x past → Dated from m x (grown x past (Correct (time_in m.body -ℤ target (plain past.seen) x) true (time_in m.body) ∷ []))
@@ -165,7 +173,7 @@ module _ {from : Place} {m : MessageValue} where
           prints = sets_prints x past (time_in m.body);
         }) free;
         answers = ack_post (setup_in past) from m past.name here later.seen (date_ack from m here x (now x past a) past.seen refl who free.took (λ p is request.
-            dated-is p m x (last_date p past.seen) (taken past.seen) (free.took ∙ ap (λ f. Some (record { from = f; taken = Good (Message m) })) is) request)) h.just.unanswered;
+            dated-is p m x (last_date p past.seen) (taken past.seen) (free.took ∙ ap (λ f. Some (record { from = f; taken = Good (Message m) })) is) request)) h.just.unanswered refl free.took h.date;
       }
 
   -- after the clock is set

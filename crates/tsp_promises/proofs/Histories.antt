@@ -101,6 +101,10 @@ still strict = record {
 abbrev pub msg : Kind → ℕ → Body → MessageValue
 msg kind number body = record { kind = kind; number = number; body = body; name = [] }
 
+-- the same in a node's own name
+abbrev pub named_msg : ℕ → Kind → ℕ → Body → MessageValue
+named_msg n kind number body = record { kind = kind; number = number; body = body; name = n ∷ [] }
+
 abbrev pub on : Port → Act → Placed
 on port act = record { port = port; act = act }
 

@@ -19,7 +19,7 @@ use Rattle.tsp_base.specs.declared.datagram.Datagram.TheVariants.{Message}
 use Rattle.tsp_base.specs.declared.datagram.Taken.TheVariants.{Good}
 use Rattle.tsp_base.specs.declared.kind.Kind.TheVariants.{AdjTime}
 use Rattle.tsp_base.specs.declared.place.Place.{Place}
-use Rattle.tsp_promises.specs.Moderate.{AdjTimeNear, Agrees, MeanNear, Moderate, ModerateAt, ModerateClocks, Moves, OwnNear, OwnSlews, PeerMeets, PeerNear, PeerSlews, WithMajority, estimates_of}
+use Rattle.tsp_promises.specs.Moderate.{AdjTimeNear, Agrees, MeanNear, Moderate, ModerateAt, ModerateClocks, Moves, OwnNear, PeerCorrects, PeerNear, WithMajority, estimates_of}
 use Rattle.tsp_base.specs.NodeFacts.{lives, moved, time_of, eased, last_correct, rest, rest_at, shown, target}
 use Rattle.tsp_base.specs.Places.{Within}
 use Rattle.tsp_base.specs.RoundFacts.{Sampled, best}
@@ -104,9 +104,6 @@ mean_near setting l world f m close cpast amount value at v a =
 from-none : (a : ℤ) (n : ℕ) → nat_abs (a -ℤ pos 0) ≤ n → nat_abs a ≤ n
 from-none a n h = omega (arith, ints)
 
-own_near : (setting : Setting) (l : Line) (world : List Line) → Fits setting (l ∷ world) → OwnNear setting l world
-own_near setting l world f m close cpast amount at v a = from-none amount (2 * SPAN) (mean_near setting l world f m close cpast amount (pos 0) at v a)
-
 -- an amount of at most twice the span isn't more than MAXADJ
 not-much : (n : ℕ) → n ≤ 2 * SPAN → nat_lt MAXADJ n ≡ false
 not-much n few = by-case (nat_lt MAXADJ n) refl where
@@ -114,10 +111,11 @@ not-much n few = by-case (nat_lt MAXADJ n) refl where
   by-case true e = (let more = ltb-true MAXADJ n e in absurd (omega (arith, more, few)))
   by-case false e = refl
 
-own_slews : (setting : Setting) (l : Line) (world : List Line) → Fits setting (l ∷ world) → OwnSlews setting l world
-own_slews setting l world f m close cpast amount at v a =
+own_near : (setting : Setting) (l : Line) (world : List Line) → Fits setting (l ∷ world) → OwnNear setting l world
+own_near setting l world f m close cpast amount at v a =
     let g : Fits setting (l ∷ (close ∷ cpast)) = subst (λ w. Fits setting (l ∷ w)) at f in
-    (found setting m close l cpast amount g v).flag ∙ not-much (nat_abs amount) (own_near setting l world f m close cpast amount at v a)
+    let few = from-none amount (2 * SPAN) (mean_near setting l world f m close cpast amount (pos 0) at v a) in
+    record { near = few; slews = (found setting m close l cpast amount g v).flag ∙ not-much (nat_abs amount) few }
 
 -- what an ADJTIME or its Correct says, where the mean and the sample are these
 time-near : (time mean now amount diff other : ℤ) (n : ℕ) → time ≡ mean -ℤ other → mean ≡ now → amount ≡ now → other ≡ diff → nat_abs (amount -ℤ diff) ≤ n → nat_abs time ≤ n
@@ -135,29 +133,25 @@ adjtime_near setting f fw fits m close c cpast mean amount b c_in v p =
     time-near (time_in b.message.body) u.0 v.mean amount p.sample.diff u.1.0.diff (2 * SPAN) (w.value b.kind) (same-mean v.count w.count v.lo w.lo v.size w.size v.mean u.0 (sym v.deed ∙ w.deed)) d.is (ap (λ (z : Sampled). z.diff) sample)
     (follows setting m close cpast v.mean amount p.sample.diff v.stepped d p.agrees)
 
-peer_near : (setting : Setting) (l : Line) (world : List Line) → Fits setting (l ∷ world) → PeerNear setting l world
-peer_near setting l world f m close c cpast amount t kind close_is port c_in v p =
+peer_few : (setting : Setting) (l : Line) (world : List Line) → Fits setting (l ∷ world) → (p : PeerCorrects setting l world) → nat_abs p.taking.acts.amount ≤ 2 * SPAN
+peer_few setting l world f p =
     let k = node_of l in
+    let t = p.taking in
+    let v = p.moves in
     let q = t.post.port in
-    let fc = fits_at setting (c ∷ (close ∷ cpast)) (l ∷ world) f (inr c_in) in
-    let d = found setting m close c cpast amount fc v in
-    let b = begun_facts setting m l world f t in
-    let mine : best (peer_of k) (view q (of m cpast)) ≡ Some p.sample = subst (λ z. best (peer_of k) (view z (of m cpast)) ≡ Some p.sample) port p.best_is in
-    let u = used-by t.first t.begun (peer_of k) t.acts.brings.message close.did (view q (of m cpast)) p.sample (inl kind) close_is mine b.fits.from in
-    let is = amount-adj l world t.post t.acts.amount t.acts.brings.message b.acting kind ∙ u.from.value kind in
-    time-near t.acts.amount u.mean v.mean amount p.sample.diff p.sample.diff (2 * SPAN) is (same-mean v.count u.from.count v.lo u.from.lo v.size u.from.size v.mean u.mean (sym v.deed ∙ u.from.deed)) d.is refl
-    (follows setting m close cpast v.mean amount p.sample.diff v.stepped d p.agrees)
+    let sample = p.agrees.sample in
+    let fc = fits_at setting (p.c ∷ (p.close ∷ p.cpast)) (l ∷ world) f (inr p.ends) in
+    let d = found setting p.m p.close p.c p.cpast p.amount fc v in
+    let b = begun_facts setting p.m l world f t in
+    let mine : best (peer_of k) (view q (of p.m p.cpast)) ≡ Some sample = subst (λ z. best (peer_of k) (view z (of p.m p.cpast)) ≡ Some sample) p.port p.agrees.best_is in
+    let u = used-by t.first t.begun (peer_of k) t.acts.brings.message p.close.did (view q (of p.m p.cpast)) sample (inl p.kind) p.close_is mine b.fits.from in
+    let is = amount-adj l world t.post t.acts.amount t.acts.brings.message b.acting p.kind ∙ u.from.value p.kind in
+    time-near t.acts.amount u.mean v.mean p.amount sample.diff sample.diff (2 * SPAN) is (same-mean v.count u.from.count v.lo u.from.lo v.size u.from.size v.mean u.mean (sym v.deed ∙ u.from.deed)) d.is refl
+    (follows setting p.m p.close p.cpast v.mean p.amount sample.diff v.stepped d p.agrees.agrees)
 
 -- an ADJTIME's Correct by so little
 slews-by : (amount : ℤ) (stepped : Bool) (from : Place) (m : MessageValue) (took : Option Received) → stepped ≡ is_stepped amount took → took ≡ Some (record { from = from; taken = Good (Message m) }) → m.kind ≡ AdjTime → nat_abs amount ≤ 2 * SPAN → stepped ≡ false
 slews-by amount stepped from m took flag is kind few = flag ∙ (ap (is_stepped amount) is ∙ (ap (λ k. sets_time k || nat_lt MAXADJ (nat_abs amount)) kind ∙ not-much (nat_abs amount) few))
-
-peer_slews : (setting : Setting) (l : Line) (world : List Line) → Fits setting (l ∷ world) → PeerSlews setting l world
-peer_slews setting l world f m close c cpast amount t kind close_is port c_in v p =
-    let few = peer_near setting l world f m close c cpast amount t kind close_is port c_in v p in
-    let fits = correct_fits setting l world t.post t.before f t.acts in
-    let h = heard_as setting l world t.post t.before (Correct t.acts.amount t.acts.stepped t.acts.shown) t.acts.amount f t.acts.correct t.acts.brings t.acts.took fits.why in
-    slews-by t.acts.amount t.acts.stepped h.0 t.acts.brings.message (heard (plain (view l.port (of (node_of l) world)))) fits.flag h.1 kind few
 
 -- what has been slewed for so long is slewed
 eased-out : (z : ℤ) (n k : ℕ) → nat_abs z ≤ n → n ≤ k → eased z k ≡ pos 0
@@ -181,13 +175,22 @@ shows-target c before amount stepped value x is few none late =
     let long : 2 * SPAN ≤ (x - last_correct (c ∷ before)) / SLEW = omega (arith, last_is, late) in
     less-none (target (c ∷ before) x) (rest_at (c ∷ before) x) (eased-out (rest (c ∷ before)) (2 * SPAN) ((x - last_correct (c ∷ before)) / SLEW) few_left long)
 
-peer_meets : (setting : Setting) (l : Line) (world : List Line) → Fits setting (l ∷ world) → PeerMeets setting l world
-peer_meets setting l world f m close c cpast amount t kind close_is port c_in v p none x late =
-    let few = peer_near setting l world f m close c cpast amount t kind close_is port c_in v p in
-    subst (λ ds. shown ds x ≡ target ds x) (sym (ap dids (of-own (node_of l) l world refl))) (shows-target l.did (dids (of (node_of l) world)) t.acts.amount t.acts.stepped t.acts.shown x t.acts.correct few none late)
+peer_near : (setting : Setting) (l : Line) (world : List Line) → Fits setting (l ∷ world) → (p : PeerCorrects setting l world) → PeerNear setting l world p
+peer_near setting l world f p =
+    let a = p.taking.acts in
+    let post = p.taking.post in
+    let before = p.taking.before in
+    let few = peer_few setting l world f p in
+    let fits = correct_fits setting l world post before f a in
+    let h = heard_as setting l world post before (Correct a.amount a.stepped a.shown) a.amount f a.correct a.brings a.took fits.why in
+    record {
+      little = record { near = few; slews = slews-by a.amount a.stepped h.0 a.brings.message (heard (plain (view l.port (of (node_of l) world)))) fits.flag h.1 p.kind few };
+      meets = λ none x late.
+          subst (λ ds. shown ds x ≡ target ds x) (sym (ap dids (of-own (node_of l) l world refl))) (shows-target l.did (dids (of (node_of l) world)) a.amount a.stepped a.shown x a.correct few none late);
+    }
 
 moderate_at : (setting : Setting) (l : Line) (world : List Line) → Fits setting (l ∷ world) → ModerateAt setting l world
-moderate_at setting l world f = record { mean = mean_near setting l world f; own = own_near setting l world f; own_slews = own_slews setting l world f; adjtime = adjtime_near setting l world f; peer = peer_near setting l world f; peer_slews = peer_slews setting l world f; meets = peer_meets setting l world f }
+moderate_at setting l world f = record { mean = mean_near setting l world f; own = own_near setting l world f; adjtime = adjtime_near setting l world f; peer = peer_near setting l world f }
 
 pub moderate : (setting : Setting) (world : List Line) → Fits setting world → Moderate setting world
 moderate setting world f = Everywhere-from (ModerateAt setting) world (λ l s w. moderate_at setting l s (fits_at setting (l ∷ s) world f w))

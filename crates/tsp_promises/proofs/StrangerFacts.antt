@@ -1,39 +1,56 @@
 -- What goes to strangers answers what was taken from one.
-use Rattle.std.specs.Prelude.{◌≡◌, false, List, [], ◌∷◌, None, refl}
-use Rattle.std.proofs.Common.{sym, inl, inr, ◌∙◌}
+use Rattle.std.specs.Prelude.{◌≡◌, true, false, if◌then◌else◌, List, [], ◌∷◌, Option, None, Some, refl}
+use Rattle.std.proofs.Common.{sym, ap, subst, subst₂, inl, inr, ◌∙◌}
 use Rattle.tsp_base.specs.declared.act.Act.TheVariants.{Post, Took}
 use Rattle.tsp_base.specs.declared.datagram.Datagram.{Datagram}
 use Rattle.tsp_base.specs.declared.datagram.Datagram.TheVariants.{Message, Stamp}
 use Rattle.tsp_base.specs.declared.kind.Kind.{Kind}
 use Rattle.tsp_base.specs.declared.kind.Kind.TheVariants.{Ack, DateAck}
+use Rattle.tsp_base.specs.declared.datagram.Taken.TheVariants.{Good}
+use Rattle.tsp_base.specs.declared.place.Place.{Place}
 use Rattle.tsp_base.specs.declared.place.Place.TheVariants.{Stranger}
 use Rattle.tsp_base.specs.declared.stamp.Stamp.TheVariants.{Reply, Request}
 use Rattle.tsp_promises.specs.Answered.{AnswersWith}
-use Rattle.tsp_promises.specs.DeedFits.{DeedFits, PostFits, StrangerFits}
+use Rattle.tsp_promises.specs.DeedFits.{DeedFits, NamedFits, PostFits, StrangerFits, answer_name, asks_name}
 use Rattle.tsp_base.specs.History.{Begins, Acts, Deed, Did, Seen, Here, Elsewhere}
 use Rattle.tsp_base.specs.Messages.{MessageValue}
-use Rattle.tsp_base.specs.PortFacts.{taken, taken_after}
+use Rattle.tsp_base.specs.PortFacts.{Received, kept_name, message_in, role, taken, taken_after}
 use Rattle.tsp_base.specs.Setup.{Setup}
+use Rattle.tsp_base.specs.Stamps.{ReplyValue}
 use Rattle.tsp_promises.specs.PortFits.{PortFits}
 use Rattle.tsp_promises.specs.StepFacts.{is_answered, is_answered_after}
 use Rattle.tsp_base.specs.Takings.{TakesFrom}
+use Rattle.tsp_rules.specs.CommonRows.{master_name_in}
 
 -- what is posted to a stranger, and what it answers
-pub record Answering (before : List Seen) (datagram : Datagram) : Type 0 where
+pub record Answering (setup : Setup) (before : List Seen) (datagram : Datagram) : Type 0 where
   pub asked : Datagram
   pub took : TakesFrom before Stranger asked
   pub answer : AnswersWith asked datagram
   pub first : is_answered before ≡ false
+  pub named : (m message : MessageValue) → datagram ≡ Message m → asked ≡ Message message → m.name ≡ answer_name message.kind setup before
 
-message-answers : (k : Kind) (here : Did) (before : List Seen) (m : MessageValue) → m.kind ≡ k → StrangerFits k here before m.number → is_answered before ≡ false → Answering before (Message m)
-message-answers Ack here before m is f first = record { asked = Message f.message; took = f.took; answer = (inl is, sym f.number_is); first = first }
-message-answers DateAck here before m is f first = record { asked = Message f.message; took = f.took; answer = (inr is, sym f.number_is); first = first }
-message-answers _ here before m is f first = absurd f
+one-message : (m n : MessageValue) → Message m ≡ Message n → m ≡ n
+one-message m n e = cc
 
-pub answering : (setup : Setup) (datagram : Datagram) (here : Did) (before : List Seen) → PostFits setup Stranger datagram here before → Answering before datagram
-answering setup (Message m) here before f = message-answers m.kind here before m refl f.0 f.1
+named-as : (setup : Setup) (before : List Seen) (m asked : MessageValue) → TakesFrom before Stranger (Message asked) → NamedFits setup before m → (n message : MessageValue) → Message m ≡ Message n → Message asked ≡ Message message → n.name ≡ answer_name message.kind setup before
+named-as setup before m asked took named n message answer is =
+    let same : m ≡ n = one-message m n answer in
+    let what : asked ≡ message = one-message asked message is in
+    subst₂ (λ (a b : MessageValue). a.name ≡ answer_name b.kind setup before) same what (named asked took)
+
+message-answers : (setup : Setup) (k : Kind) (here : Did) (before : List Seen) (m : MessageValue) → m.kind ≡ k → StrangerFits k here before m.number → is_answered before ≡ false → NamedFits setup before m → Answering setup before (Message m)
+message-answers setup Ack here before m is f first named = record { asked = Message f.message; took = f.took; answer = (inl is, sym f.number_is); first = first; named = named-as setup before m f.message f.took named }
+message-answers setup DateAck here before m is f first named = record { asked = Message f.message; took = f.took; answer = (inr is, sym f.number_is); first = first; named = named-as setup before m f.message f.took named }
+message-answers setup _ here before m is f first named = absurd f
+
+no-message : {B : Type 0} (r : ReplyValue) (m : MessageValue) → Stamp (Reply r) ≡ Message m → B
+no-message r m e = let bad : ⊥ = cc in absurd bad
+
+pub answering : (setup : Setup) (datagram : Datagram) (here : Did) (before : List Seen) → PostFits setup Stranger datagram here before → Answering setup before datagram
+answering setup (Message m) here before f = message-answers setup m.kind here before m refl f.0 f.1.0 f.1.1
 answering setup (Stamp (Request word counter)) here before f = absurd f
-answering setup (Stamp (Reply reply)) here before f = record { asked = Stamp (Request reply.word reply.counter); took = f.0.took; answer = (refl, refl); first = f.1 }
+answering setup (Stamp (Reply reply)) here before f = record { asked = Stamp (Request reply.word reply.counter); took = f.0.took; answer = (refl, refl); first = f.1; named = λ m message e. no-message reply m e }
 
 -- a port that has taken nothing in this step has posted nothing to a stranger
 answered-deed : (setup : Setup) (d : Did) (before : List Seen) (deed : Deed) → DeedFits setup deed d before → (taken before ≡ None → is_answered before ≡ false) → taken_after deed (taken before) ≡ None → is_answered_after deed (is_answered before) ≡ false
@@ -46,3 +63,25 @@ pub unanswered : (setup : Setup) (seen : List Seen) → PortFits setup seen → 
 unanswered setup [] f e = refl
 unanswered setup (Elsewhere d ∷ before) f e = unanswered setup before f e
 unanswered setup (Here d ∷ before) f e = answered-deed setup d before d.deed f.0 (unanswered setup before f.1) e
+
+abbrev message-taken : Option Received → Option MessageValue
+message-taken None = None
+message-taken (Some r) = message_in r.taken
+
+pub same_message : (from to : Place) (m asked : MessageValue) (o : Option Received) → o ≡ Some (record { from = from; taken = Good (Message m) }) → o ≡ Some (record { from = to; taken = Good (Message asked) }) → m ≡ asked
+same_message from to m asked o e f =
+    let both : Some m ≡ Some asked = ap message-taken (sym e ∙ f) in
+    cc
+
+-- an answer in the node's own name
+pub own_named : (setup : Setup) (from : Place) (m answer : MessageValue) (seen : List Seen) → taken seen ≡ Some (record { from = from; taken = Good (Message m) }) → answer.name ≡ setup.name → asks_name m.kind ≡ false → NamedFits setup seen answer
+own_named setup from m answer seen took name other asked took_asked =
+    let same : m ≡ asked = same_message from Stranger m asked (taken seen) took took_asked in
+    name ∙ sym (ap (λ b. if b then master_name_in (role seen) setup.name (kept_name seen) else setup.name) (subst (λ (z : MessageValue). asks_name z.kind ≡ false) same other))
+
+-- an answer that names the master
+pub master_named : (setup : Setup) (from : Place) (m answer : MessageValue) (seen : List Seen) → taken seen ≡ Some (record { from = from; taken = Good (Message m) }) → answer.name ≡ master_name_in (role seen) setup.name (kept_name seen) → asks_name m.kind ≡ true →
+    NamedFits setup seen answer
+master_named setup from m answer seen took name asks asked took_asked =
+    let same : m ≡ asked = same_message from Stranger m asked (taken seen) took took_asked in
+    name ∙ sym (ap (λ b. if b then master_name_in (role seen) setup.name (kept_name seen) else setup.name) (subst (λ (z : MessageValue). asks_name z.kind ≡ true) same asks))

@@ -14,7 +14,7 @@ use Rattle.tsp_base.specs.declared.role.Role.{Role}
 use Rattle.tsp_base.specs.declared.role.Role.TheVariants.{Starting, Follow, Master}
 use Rattle.tsp_base.specs.declared.stamp.Stamp.TheVariants.{Request, Reply}
 use Rattle.tsp_promises.specs.AckFits.{AckFits, AckedFits, Answers}
-use Rattle.tsp_promises.specs.DeedFits.{PostFits, is_answered_early}
+use Rattle.tsp_promises.specs.DeedFits.{NamedFits, PostFits, asks_name, is_answered_early}
 use Rattle.tsp_promises.specs.QuitFits.{QuitFits}
 use Rattle.tsp_base.specs.History.{Did, Acts, Seen, Here, Past, plain}
 use Rattle.tsp_base.specs.Hold.{may_stand}
@@ -40,6 +40,7 @@ use Rattle.tsp_promises.proofs.PostLeaves.{post_back, post_reply, post_early}
 use Rattle.tsp_promises.proofs.Rings.{rested_of, wake}
 use Rattle.tsp_promises.proofs.Changes.{Quitting, FreeIn, quit_acked, quit_taken, Is, JustTook}
 use Rattle.tsp_promises.proofs.LeadsLeaves.{Leads_posts, Leads_posts_back}
+use Rattle.tsp_promises.proofs.StrangerFacts.{master_named, own_named}
 use Rattle.tsp_rules.proofs.GuardFacts.{and-cases, not-true, stand_is, awake_is, master_is}
 use Rattle.tsp_promises.proofs.CommonLeads.{follow_leads, candidature_leads}
 
@@ -65,9 +66,9 @@ pub ack_fits : (from : Place) (m : MessageValue) (seen : List Seen) → taken se
 ack_fits from m seen took a = record { message = m; took = took; number_is = refl; answers = a }
 
 ack_back : (setup : Setup) (from : Place) (m : MessageValue) (name : List ℕ) (d : Did) (seen : List Seen) → taken seen ≡ Some (record { from = from; taken = Good (Message m) }) → Answers m.kind from seen m.number → is_answered seen ≡ false →
-    PostFits setup from (Message (bare Ack m.number name)) d seen
-ack_back setup (Peer p) m name d seen took a none = ack_fits (Peer p) m seen took a
-ack_back setup Stranger m name d seen took a none = (ack_fits Stranger m seen took a, none)
+    NamedFits setup seen (bare Ack m.number name) → PostFits setup from (Message (bare Ack m.number name)) d seen
+ack_back setup (Peer p) m name d seen took a none named = ack_fits (Peer p) m seen took a
+ack_back setup Stranger m name d seen took a none named = (ack_fits Stranger m seen took a, (none, named))
 
 -- a port that has posted nothing to a stranger in this step
 pub record Unanswered (C : ℕ → Past → Type 0) (x : ℕ) (past : Past) : Type 0 where
@@ -75,10 +76,11 @@ pub record Unanswered (C : ℕ → Past → Type 0) (x : ℕ) (past : Past) : Ty
   pub none : is_answered past.seen ≡ false
 
 -- the kinds that anybody may send are answered
-module _ {from : Place} (m : MessageValue) (answers : (seen : List Seen) → Answers m.kind from seen m.number) where
+module _ {from : Place} (m : MessageValue) (other : asks_name m.kind ≡ false) (answers : (seen : List Seen) → Answers m.kind from seen m.number) where
   pub acks_back : Leads (Unanswered (Free (Is from (Good (Message m))))) (posts_back from Ack m.number) (Free (Is from (Good (Message m))))
   acks_back = Leads_posts_back from Ack m.number (λ x past h.
-      post_back from (bare Ack m.number past.name) refl (ack_back (setup_in past) from m past.name (now x past (Post from (Message (bare Ack m.number past.name)))) past.seen h.was.took (answers past.seen) h.none) h.was)
+      post_back from (bare Ack m.number past.name) refl (ack_back (setup_in past) from m past.name (now x past (Post from (Message (bare Ack m.number past.name)))) past.seen h.was.took (answers past.seen) h.none
+      (own_named (setup_in past) from m (bare Ack m.number past.name) past.seen h.was.took refl other)) h.was)
 
   pub says_master_leads : Leads (Unanswered (Early (Is from (Good (Message m))))) (says_master from m.number) Rests
   unfolding says_master
@@ -100,18 +102,18 @@ module _ {from : Place} (m : MessageValue) (answers : (seen : List Seen) → Ans
 
 -- so they are in the quiet time too
 module _ {from : Place} (m : MessageValue) (early : is_answered_early m.kind ≡ true) (answers : (seen : List Seen) → Answers m.kind from seen m.number) where
-  names : (x : ℕ) (past : Past) (name : List ℕ) → Unanswered (Early (Is from (Good (Message m)))) x past → Rests x (grown x past (Post from (Message (bare Ack m.number name)) ∷ []))
-  names x past name h = rests_of (post_early from m.number name
-      (ack_back (setup_in past) from m name (now x past (Post from (Message (bare Ack m.number name)))) past.seen h.was.took (answers past.seen) h.none)
+  names : (x : ℕ) (past : Past) (name : List ℕ) → NamedFits (setup_in past) past.seen (bare Ack m.number name) → Unanswered (Early (Is from (Good (Message m)))) x past → Rests x (grown x past (Post from (Message (bare Ack m.number name)) ∷ []))
+  names x past name named h = rests_of (post_early from m.number name
+      (ack_back (setup_in past) from m name (now x past (Post from (Message (bare Ack m.number name)))) past.seen h.was.took (answers past.seen) h.none named)
       (record { from = from; message = m; took = h.was.took; kind = early }) h.was)
 
-  pub names_master_leads : Leads (Unanswered (Early (Is from (Good (Message m))))) (names_master from m.number) Rests
+  pub names_master_leads : asks_name m.kind ≡ true → Leads (Unanswered (Early (Is from (Good (Message m))))) (names_master from m.number) Rests
   unfolding names_master
-  names_master_leads = Leads_reading master_name (λ name. puts (Post from (Message (bare Ack m.number name)))) (λ name. Leads_puts (Post from (Message (bare Ack m.number name))) (λ x past h. names x past name h.0))
+  names_master_leads asks = Leads_reading master_name (λ name. puts (Post from (Message (bare Ack m.number name)))) (λ name. Leads_puts (Post from (Message (bare Ack m.number name))) (λ x past h. names x past name (master_named (setup_in past) from m (bare Ack m.number name) past.seen h.0.was.took (sym h.1) asks) h.0))
 
-  pub traces_leads : (on : Bool) → Leads (Unanswered (Early (Is from (Good (Message m))))) (traces from m.number on) Rests
+  pub traces_leads : (on : Bool) → asks_name m.kind ≡ false → Leads (Unanswered (Early (Is from (Good (Message m))))) (traces from m.number on) Rests
   unfolding traces
-  traces_leads on = Leads_then {Q = Unanswered (Early (Is from (Good (Message m))))} (puts (Trace on)) (posts_back from Ack m.number) (Leads_puts (Trace on) (λ x past h. record { was = trace on h.was; none = h.none })) (Leads_posts_back from Ack m.number (λ x past h. names x past past.name h))
+  traces_leads on other = Leads_then {Q = Unanswered (Early (Is from (Good (Message m))))} (puts (Trace on)) (posts_back from Ack m.number) (Leads_puts (Trace on) (λ x past h. record { was = trace on h.was; none = h.none })) (Leads_posts_back from Ack m.number (λ x past h. names x past past.name (own_named (setup_in past) from m (bare Ack m.number past.name) past.seen h.was.took refl other) h))
 
 reply_fits : (setup : Setup) (from : Place) (word counter x : ℕ) (past : Past) → taken past.seen ≡ Some (record { from = from; taken = Good (Stamp (Request word counter)) }) → is_answered past.seen ≡ false →
     PostFits setup from (Stamp (Reply (record { ticket = ticket (plain past.seen); word = word; counter = counter; reading = target (plain past.seen) x })))

@@ -1,4 +1,4 @@
--- A round's bound never lapses.
+-- A round's bound outlasts later Corrects.
 use Rattle.std.specs.Prelude.{◌≡◌, ◌≤◌, ◌≤ℤ◌, ℕ, ◌+◌, ◌-◌, ◌*◌, ℤ, pos, ◌+ℤ◌, ◌-ℤ◌, nat_abs, List, ◌∷◌, refl}
 use Rattle.std.proofs.Common.{arith, sym, subst, subst₂, inl, ◌∙◌}
 use Rattle.std.proofs.lemmas.Int.{ints}

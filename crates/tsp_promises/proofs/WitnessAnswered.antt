@@ -12,19 +12,20 @@ use Rattle.tsp_promises.specs.AnsweredUse.{AnsweredUse}
 use Rattle.tsp_promises.specs.Fits.{Fits}
 use Rattle.tsp_base.specs.History.{Came, Handed, Line}
 use Rattle.tsp_base.specs.Takings.{peer_of}
-use Rattle.tsp_promises.proofs.Histories.{does, msg, on, skip, skipped, step_at, still, then_step}
+use Rattle.tsp_promises.proofs.Histories.{does, msg, named_msg, on, skip, skipped, step_at, still, then_step}
 use Rattle.tsp_promises.proofs.HistoriesFit.{all-finished, step-fits}
 use Rattle.tsp_promises.proofs.StepChecks.{port0}
+use Rattle.tsp_promises.proofs.WitnessDebts.{asks-same}
 use Rattle.tsp_promises.proofs.WitnessRivals.{met, r9, r12}
 
 abbrev pub at13 : List Placed
-at13 = on port0 (Took Stranger (Good (Message (msg Test 5 Nothing)))) ∷ (on port0 (Post Stranger (Message (msg Ack 5 Nothing))) ∷ [])
+at13 = on port0 (Took Stranger (Good (Message (msg Test 5 Nothing)))) ∷ (on port0 (Post Stranger (Message (named_msg 1 Ack 5 Nothing))) ∷ [])
 
 abbrev pub t13 : List Line
 t13 = then_step (step_at 716000000 1 Handed) at13 r12
 
 f13 : Fits (still false) t13
-f13 = step-fits false (step_at 716000000 1 Handed) at13 r12 met refl ((refl, (refl, tt)), ((refl, record { rested = inl (omega arith); fits = (record { message = msg Test 5 Nothing; took = refl; number_is = refl; answers = tt }, refl) }), tt))
+f13 = step-fits false (step_at 716000000 1 Handed) at13 r12 met refl ((refl, (refl, tt)), ((refl, record { rested = inl (omega arith); fits = (record { message = msg Test 5 Nothing; took = refl; number_is = refl; answers = tt }, (refl, λ asked took. rw (asks-same (msg Test 5 Nothing) asked _ refl took) refl)) }), tt))
 
 pub answered_use : AnsweredUse
 answered_use = record {
@@ -37,9 +38,9 @@ answered_use = record {
   quit_in = skipped 15 t13;
   from = peer_of 0;
   quits = refl;
-  post = does 716000000 1 Handed (Post Stranger (Message (msg Ack 5 Nothing)));
+  post = does 716000000 1 Handed (Post Stranger (Message (named_msg 1 Ack 5 Nothing)));
   before = skip 1 t13;
   post_in = inl refl;
-  datagram = Message (msg Ack 5 Nothing);
+  datagram = Message (named_msg 1 Ack 5 Nothing);
   posts = refl;
 }

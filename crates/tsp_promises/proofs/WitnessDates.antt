@@ -16,11 +16,11 @@ use Rattle.tsp_promises.specs.Fits.{Fits}
 use Rattle.tsp_base.specs.History.{Booted, Came, Handed, Turned, Line, of, view}
 use Rattle.tsp_promises.specs.Once.{ActsOn, OfSend}
 use Rattle.tsp_base.specs.Takings.{peer_of}
-use Rattle.tsp_promises.proofs.Histories.{begins, does, msg, on, skip, skipped, step_at, still, then_step}
+use Rattle.tsp_promises.proofs.Histories.{begins, does, msg, named_msg, on, skip, skipped, step_at, still, then_step}
 use Rattle.tsp_promises.proofs.HistoriesFit.{all-finished, came, step-fits}
 use Rattle.tsp_promises.proofs.PremiseChecks.{kept-by, life-by, words-by}
 use Rattle.tsp_promises.proofs.StepChecks.{port0}
-use Rattle.tsp_promises.proofs.WitnessDebts.{acked-date, long-ago, none-some, not-same, other-date}
+use Rattle.tsp_promises.proofs.WitnessDebts.{acked-date, asks-same, long-ago, none-some, not-same, other-date}
 use Rattle.tsp_promises.proofs.WitnessLead.{led, w5}
 use Rattle.tsp_promises.specs.DateUse.{DateUse, ForgedDate}
 
@@ -34,13 +34,13 @@ f6 : Fits (still false) d6
 f6 = step-fits false (step_at 305000000 1 Turned) ad6 w5 led refl ((refl, tt), tt)
 
 abbrev pub ad7 : List Placed
-ad7 = on port0 (Took Stranger (Good (Message (msg Date 5 (Time (pos 600000000)))))) ∷ (on port0 (Post Stranger (Message (msg Ack 5 Nothing))) ∷ (on port0 (Post (Peer (peer_of 0)) (Message (msg SetDateReq 32777 (Time (pos 600000000))))) ∷ []))
+ad7 = on port0 (Took Stranger (Good (Message (msg Date 5 (Time (pos 600000000)))))) ∷ (on port0 (Post Stranger (Message (named_msg 1 Ack 5 Nothing))) ∷ (on port0 (Post (Peer (peer_of 0)) (Message (msg SetDateReq 32777 (Time (pos 600000000))))) ∷ []))
 
 abbrev pub d7 : List Line
 d7 = then_step (step_at 310000000 1 Handed) ad7 d6
 
 f7 : Fits (still false) d7
-f7 = step-fits false (step_at 310000000 1 Handed) ad7 d6 f6 refl ((refl, (refl, tt)), ((refl, record { rested = inl (omega arith); fits = (record { message = (msg Date 5 (Time (pos 600000000))); took = refl; number_is = refl; answers = tt }, refl) }), ((refl, record { rested = inl (omega arith); fits = record { numbered = record { number = omega arith; next = λ e. refl; repeats = λ e. absurd (true≢false e) }; begins = λ e. record { rested = omega arith; seldom = λ x e. none-some x e } } }), tt)))
+f7 = step-fits false (step_at 310000000 1 Handed) ad7 d6 f6 refl ((refl, (refl, tt)), ((refl, record { rested = inl (omega arith); fits = (record { message = (msg Date 5 (Time (pos 600000000))); took = refl; number_is = refl; answers = tt }, (refl, λ asked took. rw (asks-same (msg Date 5 (Time (pos 600000000))) asked _ refl took) refl)) }), ((refl, record { rested = inl (omega arith); fits = record { numbered = record { number = omega arith; next = λ e. refl; repeats = λ e. absurd (true≢false e) }; begins = λ e. record { rested = omega arith; seldom = λ x e. none-some x e } } }), tt)))
 
 abbrev pub ad8 : List Placed
 ad8 = on port0 (Took (Peer (peer_of 1)) (Good (Message (msg SetDateReq 32777 (Time (pos 600000000)))))) ∷ (on port0 (Correct (pos 289999999) true (pos 600000000)) ∷ (on port0 (Post (Peer (peer_of 1)) (Message (msg DateAck 32777 Nothing))) ∷ []))
@@ -109,13 +109,13 @@ g12 : Fits (still false) e12
 g12 = step-fits false (step_at 705000000 0 Turned) ae12 e11 g11 refl ((refl, tt), ((refl, record { rested = omega arith; quiet = λ x e. none-some x e; stands = refl; start = _; idle = _; start_is = refl; soon = omega arith; backs = refl; wins = λ e. absurd (true≢false (sym e)) }), tt))
 
 abbrev pub ae13 : List Placed
-ae13 = on port0 (Took Stranger (Good (Message (msg Date 6 (Time (pos 900000000)))))) ∷ (on port0 (Post Stranger (Message (msg Ack 6 Nothing))) ∷ (on port0 (Post (Peer (peer_of 0)) (Message (msg SetDateReq 32778 (Time (pos 900000000))))) ∷ []))
+ae13 = on port0 (Took Stranger (Good (Message (msg Date 6 (Time (pos 900000000)))))) ∷ (on port0 (Post Stranger (Message (named_msg 1 Ack 6 Nothing))) ∷ (on port0 (Post (Peer (peer_of 0)) (Message (msg SetDateReq 32778 (Time (pos 900000000))))) ∷ []))
 
 abbrev pub e13 : List Line
 e13 = then_step (step_at 710000000 1 Handed) ae13 e12
 
 g13 : Fits (still false) e13
-g13 = step-fits false (step_at 710000000 1 Handed) ae13 e12 g12 refl ((refl, (refl, tt)), ((refl, record { rested = inl (omega arith); fits = (record { message = (msg Date 6 (Time (pos 900000000))); took = refl; number_is = refl; answers = tt }, refl) }), ((refl, record { rested = inl (omega arith); fits = record { numbered = record { number = omega arith; next = λ e. refl; repeats = λ e. absurd (true≢false e) }; begins = λ e. record { rested = omega arith; seldom = λ x e. long-ago 310000000 x REUSE 710000000 e (omega arith) } } }), tt)))
+g13 = step-fits false (step_at 710000000 1 Handed) ae13 e12 g12 refl ((refl, (refl, tt)), ((refl, record { rested = inl (omega arith); fits = (record { message = (msg Date 6 (Time (pos 900000000))); took = refl; number_is = refl; answers = tt }, (refl, λ asked took. rw (asks-same (msg Date 6 (Time (pos 900000000))) asked _ refl took) refl)) }), ((refl, record { rested = inl (omega arith); fits = record { numbered = record { number = omega arith; next = λ e. refl; repeats = λ e. absurd (true≢false e) }; begins = λ e. record { rested = omega arith; seldom = λ x e. long-ago 310000000 x REUSE 710000000 e (omega arith) } } }), tt)))
 
 abbrev pub ae14 : List Placed
 ae14 = on port0 (Took (Peer (peer_of 1)) (Good (Message (msg SetDateReq 32778 (Time (pos 900000000)))))) ∷ (on port0 (Correct (pos 189999999) true (pos 900000000)) ∷ (on port0 (Post (Peer (peer_of 1)) (Message (msg DateAck 32778 Nothing))) ∷ []))

@@ -1,5 +1,5 @@
 -- What the deeds of small histories owe, as far as it doesn't compute.
-use Rattle.std.specs.Prelude.{◌≡◌, ◌≢◌, ◌≤◌, ◌<◌, ◌⊎◌, ◌<ℤ◌, ◌-ℤ◌, neg_ℤ, Bool, true, false, ℕ, ◌+◌, ◌%◌, ℤ, pos, List, [], ◌∷◌, Some, None}
+use Rattle.std.specs.Prelude.{◌≡◌, ◌≢◌, ◌≤◌, ◌<◌, ◌⊎◌, ◌<ℤ◌, ◌-ℤ◌, neg_ℤ, Bool, true, false, ℕ, ◌+◌, ◌%◌, ℤ, pos, List, [], ◌∷◌, Option, Some, None}
 use Rattle.std.proofs.Common.{sym, ap, arith, subst, inl, inr, true≢false, ◌∙◌}
 use Rattle.tsp_base.specs.declared.act.Act.TheVariants.{Close, Post, Ring, Took}
 use Rattle.tsp_base.specs.declared.alarm.Alarm.TheVariants.{Close as AlarmClose}
@@ -9,17 +9,18 @@ use Rattle.tsp_base.specs.declared.datagram.Taken.TheVariants.{Good}
 use Rattle.tsp_base.specs.declared.kind.Kind.{Kind}
 use Rattle.tsp_base.specs.declared.kind.Kind.TheVariants.{Ack, AdjTime, DateAck, SetTime, SetDateReq, SlaveUp}
 use Rattle.tsp_base.specs.declared.place.PeerId.{PeerId}
-use Rattle.tsp_base.specs.declared.place.Place.TheVariants.{Peer}
+use Rattle.tsp_base.specs.declared.place.Place.TheVariants.{Peer, Stranger}
 use Rattle.tsp_base.specs.declared.role.Role.TheVariants.{Follow, Master}
 use Rattle.tsp_base.specs.declared.stamp.Stamp.TheVariants.{Reply}
 use Rattle.tsp_promises.specs.AckFits.{AckedFits, EndsFits}
 use Rattle.tsp_promises.specs.CorrectFits.{CorrectFits, ByMaster, amount_of, is_stepped}
 use Rattle.tsp_promises.specs.CorrectionFits.{CorrectionFits, FollowedBy}
+use Rattle.tsp_promises.specs.DeedFits.{asks_name}
 use Rattle.tsp_base.specs.History.{Acts, Did, Seen, Here, plain}
 use Rattle.tsp_promises.specs.MeasureFits.{SampleFits}
 use Rattle.tsp_base.specs.Messages.{MessageValue}
 use Rattle.tsp_base.specs.NodeFacts.{boot_tick, last_correct, shown, target, ticket, word}
-use Rattle.tsp_base.specs.PortFacts.{acting, role, taken}
+use Rattle.tsp_base.specs.PortFacts.{Received, acting, role, taken}
 use Rattle.tsp_base.specs.RoundFacts.{Sampled, best, exchange, is_going, started}
 use Rattle.tsp_base.specs.Samples.{sample_diff, sample_err}
 use Rattle.tsp_base.specs.SendFacts.{Dating, is_acknowledged, is_correction, is_set_date_request, last_date, last_post, last_to, open_to}
@@ -29,6 +30,7 @@ use Rattle.tsp_promises.specs.RoundFits.{CloseFits, StartFits}
 use Rattle.tsp_promises.specs.StepFacts.{closed}
 use Rattle.tsp_base.specs.Takings.{Receives, Undisturbed, heard, time_in}
 use Rattle.tsp_promises.proofs.SendProof.{not-nil, one-message}
+use Rattle.tsp_promises.proofs.StrangerFacts.{same_message}
 
 pub none-some : {A B : Type 0} (x : A) → None ≡ Some x → B
 none-some x e = let bad : ⊥ = cc in absurd bad
@@ -38,6 +40,10 @@ not-same x y l e = omega arith
 
 pub long-ago : (x y hold now : ℕ) → Some x ≡ Some y → x + hold ≤ now → y + hold ≤ now
 long-ago x y hold now e by = let same : x ≡ y = cc in subst (λ z. z + hold ≤ now) same by
+
+-- what this message asks for that was taken from a stranger
+pub asks-same : (m asked : MessageValue) (o : Option Received) → o ≡ Some (record { from = Stranger; taken = Good (Message m) }) → o ≡ Some (record { from = Stranger; taken = Good (Message asked) }) → asks_name asked.kind ≡ asks_name m.kind
+asks-same m asked o e took = ap (λ (z : MessageValue). asks_name z.kind) (sym (same_message Stranger Stranger m asked o e took))
 
 -- the tick of the last Back
 pub same-tick : (o u : ℕ × PeerId) → Some o ≡ Some u → o.0 ≡ u.0

@@ -20,7 +20,7 @@ use Rattle.tsp_promises.specs.CorrectFits.{ByRound}
 use Rattle.tsp_promises.specs.Estimates.{CloseBegins}
 use Rattle.tsp_promises.specs.Fits.{Fits}
 use Rattle.tsp_base.specs.History.{Came, Turned, Line, of, view}
-use Rattle.tsp_promises.specs.Moderate.{Agrees, Majority, PeerAgrees, estimates_of}
+use Rattle.tsp_promises.specs.Moderate.{Agrees, Majority, Moves, PeerAgrees, estimates_of}
 use Rattle.tsp_promises.specs.ModerateUse.{ModerateUse}
 use Rattle.tsp_base.specs.RoundFacts.{Sampled}
 use Rattle.tsp_promises.specs.RoundFits.{group_mean}
@@ -196,6 +196,9 @@ begins-near = record {
   close_is = refl;
 }
 
+pub moves-little : Moves 0 shuts moves-own (negsuc 50)
+moves-little = record { count = 2; lo = negsuc 100; size = pos 101; mean = negsuc 50; deed = refl; node = refl; stepped = false; shown = pos 408000000; correct = refl; correct_node = refl }
+
 -- a master and one peer agree, and another peer seems to be a second off
 pub moderate_use : ModerateUse
 moderate_use = record {
@@ -209,7 +212,7 @@ moderate_use = record {
   cpast = skip 4 n4;
   correct = moves-own;
   amount = negsuc 50;
-  moves = record { count = 2; lo = negsuc 100; size = pos 101; mean = negsuc 50; deed = refl; node = refl; stepped = false; shown = pos 408000000; correct = refl; correct_node = refl };
+  moves = moves-little;
   moved = skipped 16 n8;
   own = own-agrees (negsuc 50);
   peer = near-agrees (negsuc 50);
@@ -228,10 +231,21 @@ moderate_use = record {
   past = skip 2 n5;
   taker_in = skipped 11 n8;
   taker_node = refl;
-  taking = taking_of 0 shuts (skip 4 n4) moves-near (skip 2 n5) sounds (skip 1 w15) (pos 401) (near-cast false (pos 408000399)) refl;
-  adjusts = refl;
-  close_is = refl;
-  port = refl;
+  taken = record {
+    m = 0;
+    close = shuts;
+    c = moves-own;
+    cpast = skip 4 n4;
+    amount = negsuc 50;
+    moves = moves-little;
+    ends = skipped 4 (skip 2 n5);
+    taking = taking_of 0 shuts (skip 4 n4) moves-near (skip 2 n5) sounds (skip 1 w15) (pos 401) (near-cast false (pos 408000399)) refl;
+    kind = refl;
+    close_is = refl;
+    port = refl;
+    agrees = near-agrees (negsuc 50);
+  };
+  of_round = refl;
   rested = refl;
   jump = line (step_at 408000500 2 (Came 11)) port0 (Correct (negsuc 1000049) false (pos 408000499));
   before = skip 2 n6;

@@ -17,6 +17,7 @@ use Rattle.tsp_promises.proofs.Histories.{does, msg, on, skip, skipped, step_at,
 use Rattle.tsp_promises.proofs.HistoriesFit.{step-fits}
 use Rattle.tsp_promises.proofs.PremiseChecks.{kept-by}
 use Rattle.tsp_promises.proofs.StepChecks.{port0}
+use Rattle.tsp_promises.proofs.WitnessDebts.{asks-same}
 
 abbrev early : ReplyValue
 early = record { ticket = 9; word = 5; counter = 0; reading = pos 1000000 }
@@ -46,7 +47,7 @@ abbrev pub q3 : List Line
 q3 = then_step (step_at 2000000 1 Handed) aq3 q2
 
 fq3 : Fits (still false) q3
-fq3 = step-fits false (step_at 2000000 1 Handed) aq3 q2 fq2 refl ((refl, (refl, tt)), ((refl, record { rested = inr (refl, record { from = Stranger; message = msg Msite 3 Nothing; took = refl; kind = refl }); fits = (record { message = msg Msite 3 Nothing; took = refl; number_is = refl; answers = tt }, refl) }), tt))
+fq3 = step-fits false (step_at 2000000 1 Handed) aq3 q2 fq2 refl ((refl, (refl, tt)), ((refl, record { rested = inr (refl, record { from = Stranger; message = msg Msite 3 Nothing; took = refl; kind = refl }); fits = (record { message = msg Msite 3 Nothing; took = refl; number_is = refl; answers = tt }, (refl, λ asked took. rw (asks-same (msg Msite 3 Nothing) asked _ refl took) refl)) }), tt))
 
 pub quiet_use : QuietUse
 quiet_use = record {

@@ -11,10 +11,12 @@ use Rattle.tsp_base.specs.declared.place.Place.{Place}
 use Rattle.tsp_base.specs.declared.place.Place.TheVariants.{Peer, Stranger}
 use Rattle.tsp_base.specs.declared.place.Port.{Port}
 use Rattle.tsp_base.specs.declared.stamp.Stamp.TheVariants.{Reply, Request}
+use Rattle.tsp_promises.specs.DeedFits.{answer_name}
 use Rattle.tsp_promises.specs.Everywhere.{Everywhere}
 use Rattle.tsp_promises.specs.Fits.{node_of}
 use Rattle.tsp_base.specs.History.{Acts, Begins, Deed, Did, Line, dids, of, view}
 use Rattle.tsp_base.specs.Messages.{MessageValue}
+use Rattle.tsp_promises.specs.Setting.{Setting, setup_of}
 use Rattle.tsp_promises.specs.StepFacts.{unacknowledged}
 use Rattle.tsp_base.specs.Takings.{TakesFrom, heard}
 
@@ -67,15 +69,16 @@ abbrev pub has_answered : List Did → Bool
 has_answered [] = false
 has_answered (d ∷ before) = has_answered_after d.deed (has_answered before)
 
--- a post to a stranger answers the datagram that its step has taken from a stranger on that port, and is the step's first to one
-pub record AnswersStranger (l : Line) (world : List Line) (datagram : Datagram) : Type 0 where
+-- a post to a stranger answers the datagram that its step has taken from a stranger on that port, and is the step's first to one; a message's answer is in the node's own name, but that of MSITE names the master that the port knows of
+pub record AnswersStranger (setting : Setting) (l : Line) (world : List Line) (datagram : Datagram) : Type 0 where
   pub asked : Datagram
   pub took : TakesFrom (view l.port (of (node_of l) world)) Stranger asked
   pub answer : AnswersWith asked datagram
   pub first : has_answered (dids (of (node_of l) world)) ≡ false
+  pub named : (m message : MessageValue) → datagram ≡ Message m → asked ≡ Message message → m.name ≡ answer_name message.kind (setup_of setting (node_of l) l.port) (view l.port (of (node_of l) world))
 
-abbrev pub StrangersAt : Line → List Line → Type 0
-StrangersAt l world = (datagram : Datagram) → l.did.deed ≡ Acts (Post Stranger datagram) → AnswersStranger l world datagram
+abbrev pub StrangersAt : Setting → Line → List Line → Type 0
+StrangersAt setting l world = (datagram : Datagram) → l.did.deed ≡ Acts (Post Stranger datagram) → AnswersStranger setting l world datagram
 
 abbrev pub to_strangers_after : Deed → ℕ → ℕ
 to_strangers_after (Acts (Post Stranger datagram)) n = n + 1
@@ -100,9 +103,9 @@ abbrev pub OneForOneAt : Line → List Line → Type 0
 OneForOneAt l world = to_strangers (dids (l ∷ world)) ≤ from_strangers (dids (l ∷ world))
 
 -- all of them, of a history that ends with a step
-pub record Answered (world : List Line) : Type 0 where
+pub record Answered (setting : Setting) (world : List Line) : Type 0 where
   pub takes_one : Everywhere TakesOneAt world
   pub quits : Everywhere QuitsAt world
   pub acknowledged : Acknowledged world
-  pub strangers : Everywhere StrangersAt world
+  pub strangers : Everywhere (StrangersAt setting) world
   pub one_for_one : Everywhere OneForOneAt world

@@ -181,17 +181,19 @@ pub record RoundsBreak (setting : Setting) : Type 0 where
   pub close_soon : Breaks Seldom
 
 -- what breaks the promise of answers
-pub record AnswersBreak : Type 0 where
+pub record AnswersBreak (setting : Setting) : Type 0 where
   -- two datagrams in one step
-  pub takes_two : Breaks Answered
+  pub takes_two : Breaks (Answered setting)
   -- two Quits in one step, the first of another peer than the QUIT's
-  pub quits_twice : Breaks Answered
+  pub quits_twice : Breaks (Answered setting)
   -- a QUIT that is heeded and not acknowledged
-  pub unacknowledged : Breaks Answered
+  pub unacknowledged : Breaks (Answered setting)
   -- two replies to one stranger's request
-  pub replies_twice : Breaks Answered
+  pub replies_twice : Breaks (Answered setting)
+  -- an ACK to a stranger without the node's name
+  pub nameless : Breaks (Answered setting)
   -- a reply to a stranger that nobody asked for
-  pub unasked : Breaks Answered
+  pub unasked : Breaks (Answered setting)
 
 -- each promise is broken by some history, in one setting
 pub record AllBreak : Type 0 where
@@ -202,4 +204,4 @@ pub record AllBreak : Type 0 where
   pub readings : ReadingsBreak setting
   pub chains : ChainsBreak setting
   pub rounds : RoundsBreak setting
-  pub answers : AnswersBreak
+  pub answers : AnswersBreak setting

@@ -1,5 +1,5 @@
 -- What each deed owes to its port's past, and to what the port is set up with.
-use Rattle.std.specs.Prelude.{◌≡◌, ℕ, ◌≤◌, ◌⊎◌, ◌+◌, ◌%◌, Bool, true, false, List, None, Some}
+use Rattle.std.specs.Prelude.{◌≡◌, ℕ, ◌≤◌, ◌⊎◌, ◌+◌, ◌%◌, Bool, true, false, if◌then◌else◌, List, None, Some}
 use Rattle.tsp_base.specs.declared.act.Act.{Act}
 use Rattle.tsp_base.specs.declared.act.Act.TheVariants.{Took, Post, Become, Back, Backer, Arm, Quit as QuitAct, Sample, Acked, Close, Correct}
 use Rattle.tsp_base.specs.declared.alarm.Alarm.TheVariants.{Close as AlarmClose}
@@ -24,12 +24,13 @@ use Rattle.tsp_promises.specs.MeasureFits.{RequestFits, ReplyFits, SampleFits}
 use Rattle.tsp_promises.specs.QuitFits.{QuitFits}
 use Rattle.tsp_base.specs.Messages.{MessageValue}
 use Rattle.tsp_base.specs.NodeFacts.{boot_tick, ticket, word}
-use Rattle.tsp_base.specs.PortFacts.{acting, taken}
+use Rattle.tsp_base.specs.PortFacts.{acting, kept_name, role, taken}
 use Rattle.tsp_promises.specs.RoundFits.{CloseFits, StartFits}
 use Rattle.tsp_base.specs.SendFacts.{begun}
+use Rattle.tsp_rules.specs.CommonRows.{master_name_in}
 use Rattle.tsp_base.specs.Setup.{Setup}
 use Rattle.tsp_promises.specs.StepFacts.{StepEnds, is_answered, is_unbacked}
-use Rattle.tsp_base.specs.Takings.{heard}
+use Rattle.tsp_base.specs.Takings.{TakesFrom, heard}
 
 -- a numbered send that is no correction: its number is no ticket but the port's next own one, and it begins a send or repeats the open one
 pub record NumberedFits (here : Did) (before : List Seen) (p : PeerId) (m : MessageValue) : Type 0 where
@@ -80,11 +81,24 @@ StrangerFits Ack here before number = AckFits Stranger before number
 StrangerFits DateAck here before number = DateAckFits Stranger here before number
 StrangerFits _ here before number = ⊥
 
+-- whether messages of this kind ask for the master's name
+abbrev pub asks_name : Kind → Bool
+asks_name Msite = true
+asks_name _ = false
+
+-- the name in which a message of this kind is answered: that of the master that the port knows of, where it asks for that, and else the node's own
+abbrev pub answer_name : Kind → Setup → List Seen → List ℕ
+answer_name kind setup before = if asks_name kind then master_name_in (role before) setup.name (kept_name before) else setup.name
+
+-- an answer to what the step has taken from a stranger has that name
+abbrev pub NamedFits : Setup → List Seen → MessageValue → Type 0
+NamedFits setup before m = (asked : MessageValue) → TakesFrom before Stranger (Message asked) → m.name ≡ answer_name asked.kind setup before
+
 -- what a post owes, by its addressee; strangers get answers alone, and one in a step
 abbrev pub PostFits : Setup → Place → Datagram → Did → List Seen → Type 0
 PostFits setup (Peer p) (Message m) here before = MessageFits setup m.kind here before p m
 PostFits setup (Peer p) (Stamp (Request word counter)) here before = RequestFits before word counter
-PostFits setup Stranger (Message m) here before = StrangerFits m.kind here before m.number × (is_answered before ≡ false)
+PostFits setup Stranger (Message m) here before = StrangerFits m.kind here before m.number × ((is_answered before ≡ false) × NamedFits setup before m)
 PostFits setup Stranger (Stamp (Request word counter)) here before = ⊥
 PostFits setup (Peer p) (Stamp (Reply reply)) here before = ReplyFits here before (Peer p) reply
 PostFits setup Stranger (Stamp (Reply reply)) here before = ReplyFits here before Stranger reply × (is_answered before ≡ false)

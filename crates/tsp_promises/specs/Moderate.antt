@@ -62,44 +62,46 @@ pub record PeerAgrees (setting : Setting) (m : ℕ) (p : PeerId) (close : Line) 
 abbrev pub MeanNear : Setting → Line → List Line → Type 0
 MeanNear setting l world = (m : ℕ) (close : Line) (cpast : List Line) (amount value : ℤ) → world ≡ (close ∷ cpast) → Moves m close l amount → Agrees setting m close cpast value → nat_abs (amount -ℤ value) ≤ 2 * SPAN
 
--- it is by at most twice the span where the own clock is of the majority
-abbrev pub OwnNear : Setting → Line → List Line → Type 0
-OwnNear setting l world = (m : ℕ) (close : Line) (cpast : List Line) (amount : ℤ) → world ≡ (close ∷ cpast) → Moves m close l amount → Agrees setting m close cpast (pos 0) → nat_abs amount ≤ 2 * SPAN
+-- it is by at most twice the span, and slewed
+pub record Little (amount : ℤ) (stepped : Bool) : Type 0 where
+  pub near : nat_abs amount ≤ 2 * SPAN
+  pub slews : stepped ≡ false
 
--- and so it is slewed and not stepped
-abbrev pub OwnSlews : Setting → Line → List Line → Type 0
-OwnSlews setting l world = (m : ℕ) (close : Line) (cpast : List Line) (amount : ℤ) → world ≡ (close ∷ cpast) → (v : Moves m close l amount) → Agrees setting m close cpast (pos 0) → v.stepped ≡ false
+-- so it moves the own clock by little, where that is of the majority
+abbrev pub OwnNear : Setting → Line → List Line → Type 0
+OwnNear setting l world = (m : ℕ) (close : Line) (cpast : List Line) (amount : ℤ) → world ≡ (close ∷ cpast) → (v : Moves m close l amount) → Agrees setting m close cpast (pos 0) → Little amount v.stepped
 
 -- an ADJTIME that the round begins to a peer of the majority is of at most twice the span
 abbrev pub AdjTimeNear : Setting → Line → List Line → Type 0
 AdjTimeNear setting l world = (m : ℕ) (close c : Line) (cpast : List Line) (mean amount : ℤ) (begins : CloseBegins m close cpast mean l world) → Within (c ∷ (close ∷ cpast)) world → Moves m close c amount →
     PeerAgrees setting m begins.peer close cpast → nat_abs (time_in begins.message.body) ≤ 2 * SPAN
 
--- so is the Correct of the peer that takes it
-abbrev pub PeerNear : Setting → Line → List Line → Type 0
-PeerNear setting l world = (m : ℕ) (close c : Line) (cpast : List Line) (amount : ℤ) (t : Taking m l world) → t.acts.brings.message.kind ≡ AdjTime → closed t.begun ≡ Here close.did ∷ view t.post.port (of m cpast) → close.port ≡ t.post.port →
-    Within (c ∷ (close ∷ cpast)) world → Moves m close c amount → PeerAgrees setting m (peer_of (node_of l)) close cpast → nat_abs t.acts.amount ≤ 2 * SPAN
+-- the Correct of a peer of the majority that takes the ADJTIME which the round begins to it
+pub record PeerCorrects (setting : Setting) (l : Line) (world : List Line) : Type 0 where
+  pub m : ℕ
+  pub close : Line
+  pub c : Line
+  pub cpast : List Line
+  pub amount : ℤ
+  pub moves : Moves m close c amount
+  pub ends : Within (c ∷ (close ∷ cpast)) world
+  pub taking : Taking m l world
+  pub kind : taking.acts.brings.message.kind ≡ AdjTime
+  pub close_is : closed taking.begun ≡ Here close.did ∷ view taking.post.port (of m cpast)
+  pub port : close.port ≡ taking.post.port
+  pub agrees : PeerAgrees setting m (peer_of (node_of l)) close cpast
 
--- it is slewed too
-abbrev pub PeerSlews : Setting → Line → List Line → Type 0
-PeerSlews setting l world = (m : ℕ) (close c : Line) (cpast : List Line) (amount : ℤ) (t : Taking m l world) → t.acts.brings.message.kind ≡ AdjTime → closed t.begun ≡ Here close.did ∷ view t.post.port (of m cpast) → close.port ≡ t.post.port →
-    Within (c ∷ (close ∷ cpast)) world → Moves m close c amount → PeerAgrees setting m (peer_of (node_of l)) close cpast → t.acts.stepped ≡ false
-
--- where nothing was left to slew before that, the peer shows its target again once it has slewed twice the span, as long as nothing more happens
-abbrev pub PeerMeets : Setting → Line → List Line → Type 0
-PeerMeets setting l world = (m : ℕ) (close c : Line) (cpast : List Line) (amount : ℤ) (t : Taking m l world) → t.acts.brings.message.kind ≡ AdjTime → closed t.begun ≡ Here close.did ∷ view t.post.port (of m cpast) → close.port ≡ t.post.port →
-    Within (c ∷ (close ∷ cpast)) world → Moves m close c amount → PeerAgrees setting m (peer_of (node_of l)) close cpast → rest_at (dids (of (node_of l) world)) l.did.tick ≡ pos 0 →
-    (x : ℕ) → l.did.tick + 2 * SPAN * SLEW ≤ x → shown (dids (of (node_of l) (l ∷ world))) x ≡ target (dids (of (node_of l) (l ∷ world))) x
+-- it moves the peer's clock by little; where nothing was left to slew before, the peer shows its target again once it has slewed twice the span, as long as nothing more happens
+pub record PeerNear (setting : Setting) (l : Line) (world : List Line) (p : PeerCorrects setting l world) : Type 0 where
+  pub little : Little p.taking.acts.amount p.taking.acts.stepped
+  pub meets : rest_at (dids (of (node_of l) world)) l.did.tick ≡ pos 0 → (x : ℕ) → l.did.tick + 2 * SPAN * SLEW ≤ x → shown (dids (of (node_of l) (l ∷ world))) x ≡ target (dids (of (node_of l) (l ∷ world))) x
 
 -- all of this at a line
 pub record ModerateAt (setting : Setting) (l : Line) (world : List Line) : Type 0 where
   pub mean : MeanNear setting l world
   pub own : OwnNear setting l world
-  pub own_slews : OwnSlews setting l world
   pub adjtime : AdjTimeNear setting l world
-  pub peer : PeerNear setting l world
-  pub peer_slews : PeerSlews setting l world
-  pub meets : PeerMeets setting l world
+  pub peer : (p : PeerCorrects setting l world) → PeerNear setting l world p
 
 -- who agrees with more than half of a round's estimates is moved by at most twice the span
 abbrev pub Moderate : Setting → List Line → Type 0

@@ -2,19 +2,16 @@
 use Rattle.std.specs.Prelude.{◌≡◌, ◌≤◌, ◌≤ℤ◌, ℕ, ℤ, pos, nat_abs, Bool, List, ◌∷◌, Some}
 use Rattle.std.specs.List.{Contains}
 use Rattle.tsp_base.specs.declared.act.Act.TheVariants.{Correct}
-use Rattle.tsp_base.specs.declared.kind.Kind.TheVariants.{AdjTime}
 use Rattle.tsp_promises.specs.Agreed.{Unchanged}
 use Rattle.tsp_promises.specs.Estimates.{CloseBegins, Estimate}
 use Rattle.tsp_promises.specs.Fits.{node_of}
-use Rattle.tsp_base.specs.History.{Acts, Here, Line, dids, of, view}
+use Rattle.tsp_base.specs.History.{Acts, Line, dids, of, view}
 use Rattle.tsp_promises.specs.Kept.{Kept}
-use Rattle.tsp_promises.specs.Moderate.{Agrees, Moves, PeerAgrees, estimates_of}
+use Rattle.tsp_promises.specs.Moderate.{Agrees, Moves, PeerAgrees, PeerCorrects, estimates_of}
 use Rattle.tsp_base.specs.NodeFacts.{rest_at}
-use Rattle.tsp_promises.specs.OneError.{Taking}
 use Rattle.tsp_base.specs.Places.{Within}
 use Rattle.tsp_base.specs.RoundFacts.{Sampled, best}
 use Rattle.tsp_promises.specs.Setting.{Setting}
-use Rattle.tsp_promises.specs.StepFacts.{closed}
 use Rattle.tsp_base.specs.Takings.{peer_of}
 
 -- a history that fits and keeps every premise, in which a master and a peer agree in a round, and another peer stands about a second off: the first two are moved little, and the last by about a second
@@ -50,10 +47,8 @@ pub record ModerateUse : Type 0 where
   pub past : List Line
   pub taker_in : Within (taker ∷ past) world
   pub taker_node : node_of taker ≡ near
-  pub taking : Taking master taker past
-  pub adjusts : taking.acts.brings.message.kind ≡ AdjTime
-  pub close_is : closed taking.begun ≡ Here close.did ∷ view taking.post.port (of master cpast)
-  pub port : close.port ≡ taking.post.port
+  pub taken : PeerCorrects setting taker past
+  pub of_round : taken.close ≡ close
   pub rested : rest_at (dids (of near past)) taker.did.tick ≡ pos 0
   -- the Correct of the other one
   pub jump : Line

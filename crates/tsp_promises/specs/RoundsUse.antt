@@ -1,4 +1,4 @@
--- Two rounds: the promises that a round's bound never lapses, and that rounds stand apart, aren't empty.
+-- Two rounds: the promises that a round's bound outlasts later Corrects, and that rounds stand apart, aren't empty.
 use Rattle.std.specs.Prelude.{◌≡◌, ◌≢◌, ℕ, ℤ, pos, ◌-ℤ◌, List, ◌∷◌}
 use Rattle.tsp_base.specs.declared.act.Act.TheVariants.{Close}
 use Rattle.tsp_promises.specs.Fits.{node_of}

@@ -29,7 +29,7 @@ use Rattle.tsp_promises.specs.Throughout.{Throughout}
 pub record Safe (setting : Setting) (world : List Line) : Type 0 where
   pub one_back : OneBack world
   pub silent : Silent world
-  pub answered : Answered world
+  pub answered : Answered setting world
   pub only_master : OnlyMaster world
   pub once_spaced : OnceSpaced world
   pub once_spaced_over_lives : OnceSpacedOverLives world

@@ -1,4 +1,4 @@
--- The promise that a round's bound never lapses: it holds of clocks with their later Corrects taken back.
+-- The promise that a round's bound outlasts later Corrects: it holds of the clocks with those taken back, until either boots.
 use Rattle.std.specs.Prelude.{◌≡◌, ◌≤◌, ◌≤ℤ◌, ℕ, ◌+◌, ◌-◌, ◌*◌, ℤ, pos, ◌+ℤ◌, ◌-ℤ◌, nat_abs, List, ◌∷◌}
 use Rattle.tsp_base.specs.declared.act.Act.TheVariants.{Close}
 use Rattle.tsp_promises.specs.Agreed.{Cast}

@@ -71,11 +71,12 @@ pub fn silent_after_boot()
 
 /// A step takes one datagram at most. A port heeds a QUIT right after it took it, once in a step,
 /// and acknowledges it in that step, in every role. What goes to a stranger answers the datagram
-/// that the step took from one on that port, and is the only thing that it posts to strangers; so
-/// no more datagrams are posted to strangers than are taken from them.
+/// that the step took from one on that port, in the node's own name unless that asks for the
+/// master's, and is the only thing that it posts to strangers; so no more datagrams are posted to
+/// strangers than are taken from them.
 pub fn answered()
     ensures { (setting : Setting) (world : List Line) → Fits setting world → Finished world
-        → Answered world }
+        → Answered setting world }
 {}
 
 /// Only masters post corrections, close rounds and correct their clocks right after.
@@ -181,10 +182,10 @@ pub fn seldom()
     ensures { (setting : Setting) (world : List Line) → Fits setting world → Seldom world }
 {}
 
-/// A round's bound never lapses: with what the two nodes were moved by since taken back, the clock
-/// of a node that a Close corrected and that of the master agree as they did, until either boots;
-/// so the clocks differ by at most that besides. The same goes for two nodes that one Close
-/// corrected, whatever becomes of the master.
+/// A round's bound outlasts later Corrects: with what the two nodes were moved by since taken back,
+/// the clock of a node that a Close corrected and that of the master agree as they did, until
+/// either boots; so the clocks differ by at most that besides. The same goes for two nodes that one
+/// Close corrected, whatever becomes of the master.
 pub fn throughout()
     ensures { (setting : Setting) (world : List Line) → Fits setting world → Honest world
         → Life world → Throughout setting world }
@@ -318,8 +319,8 @@ pub fn chain_use()
     ensures { ChainUse }
 {}
 
-/// Nor is the promise that a round's bound never lapses, nor that rounds stand apart: a history that
-/// fits sees a second round of one life move both clocks of the first.
+/// Nor is the promise that a round's bound outlasts later Corrects, nor that rounds stand apart: a
+/// history that fits sees a second round of one life move both clocks of the first.
 pub fn rounds_use()
     ensures { RoundsUse }
 {}

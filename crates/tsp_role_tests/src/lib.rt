@@ -9,8 +9,6 @@
 #[cfg(test)]
 mod acts;
 #[cfg(test)]
-mod alone;
-#[cfg(test)]
 mod candidate;
 #[cfg(test)]
 mod clients;

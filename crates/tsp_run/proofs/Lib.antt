@@ -1,3 +1,4 @@
+mod AnswerOctetsProof
 pub mod AnswersFit
 pub mod ApartRun
 pub mod CalmPorts

@@ -22,6 +22,7 @@ use Rattle.tsp_run.specs.declared.posted.Posted.{Posted}
 use Rattle.tsp_run.specs.Ranges.{Accepted}
 use Rattle.tsp_run.specs.Run.{last_at, posts, run}
 use Rattle.tsp_run.specs.Setting.{RunsKeepPromises}
+use Rattle.tsp_run.proofs.AnswerOctetsProof.{answer_octets}
 use Rattle.tsp_run.proofs.RunFits.{post_sound, ran, runs-fit}
 use Rattle.tsp_run.proofs.SettingLemmas.{each-is-set}
 use Rattle.tsp_run.proofs.SoundLemmas.{sound_read}
@@ -36,11 +37,13 @@ dated setting world f = record {
 pub runs-keep-promises : RunsKeepPromises
 runs-keep-promises header setting events set s =
     let f = runs-fit header setting events set s in
+    let all = safe setting (run header events) f.0 f.1 in
     record {
-      safe = safe setting (run header events) f.0 f.1;
+      safe = all;
       one_winner = λ strict h l w. one_winner setting (run header events) strict f.0 h l w;
       dated = dated setting (run header events) f.0;
       looped = looped_in setting (run header events) f.0;
+      answer_octets = answer_octets setting (run header events) all.answered.strangers;
     }
 
 -- what the posts of a schedule's run carry is read as it was posted

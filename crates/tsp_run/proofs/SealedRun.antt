@@ -1,5 +1,5 @@
 -- Where no event hands a node octets as a peer's, the run is honest.
-use Rattle.std.specs.Prelude.{◌≡◌, ◌≢◌, ℕ, Bool, true, false, List, [], ◌∷◌, ◌++◌, None, Some, refl}
+use Rattle.std.specs.Prelude.{◌≡◌, ◌≢◌, ℕ, Bool, true, List, [], ◌∷◌, ◌++◌, None, Some, refl}
 use Rattle.std.proofs.Common.{sym, subst, true≢false}
 use Rattle.std.proofs.lemmas.List.Elements.{All-tail}
 use Rattle.tsp_base.specs.declared.act.Act.{Act}

@@ -1,3 +1,4 @@
+pub mod AnswerOctets
 pub mod GatewayRun
 pub mod Networks
 pub mod Premised

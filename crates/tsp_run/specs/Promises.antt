@@ -7,10 +7,12 @@ use Rattle.tsp_promises.specs.Safe.{Safe}
 use Rattle.tsp_promises.specs.Setting.{Setting}
 use Rattle.tsp_promises.specs.Dated.{Dated}
 use Rattle.tsp_promises.specs.Looped.{Looped}
+use Rattle.tsp_run.specs.AnswerOctets.{AnswerOctets}
 
--- the history is Safe, and keeps what is promised of dates and of LOOPs; and where elections are strict, each has one winner
+-- the history is Safe, and keeps what is promised of dates, of LOOPs, and of how many octets strangers are sent; and where elections are strict, each has one winner
 pub record Promises (setting : Setting) (world : List Line) : Type 0 where
   pub safe : Safe setting world
   pub one_winner : setting.strict ≡ true → Honest world → Life world → Few world → OneWinner setting world
   pub dated : Dated setting world
   pub looped : Looped setting world
+  pub answer_octets : AnswerOctets setting world
