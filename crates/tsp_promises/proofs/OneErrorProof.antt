@@ -9,12 +9,13 @@ use Rattle.tsp_base.specs.declared.stamp.Stamp.TheVariants.{Reply}
 use Rattle.tsp_promises.specs.Agreed.{ReadingOf}
 use Rattle.tsp_promises.specs.CorrectionFits.{AnswersSlaveUp, AtClose}
 use Rattle.tsp_promises.specs.Fits.{node_of}
-use Rattle.tsp_base.specs.History.{Did, Here, Line, of, dids, view}
+use Rattle.tsp_base.specs.History.{Acts, Did, Here, Line, of, dids, view}
 use Rattle.tsp_base.specs.NodeFacts.{ticket}
 use Rattle.tsp_promises.specs.OneError.{FromSlaveUp, OneError, OneErrorAt, SourceReading, SourceSlaveUp, Taking}
 use Rattle.tsp_base.specs.Places.{Within}
 use Rattle.tsp_base.specs.RoundFacts.{Sampled, best}
 use Rattle.tsp_promises.specs.Setting.{Setting}
+use Rattle.tsp_base.specs.Stamps.{ReplyValue}
 use Rattle.tsp_base.specs.Takings.{Receives, Undisturbed, peer_of, posted}
 use Rattle.tsp_base.proofs.PlaceLemmas.{Within-all, Within-through, Within-tail}
 use Rattle.tsp_promises.proofs.BestProof.{best_at}
@@ -30,11 +31,15 @@ use Rattle.tsp_promises.proofs.SendProof.{number-same}
 use Rattle.tsp_promises.proofs.SourceProof.{slaveup_ticket}
 use Rattle.tsp_promises.proofs.TakingProof.{BegunFacts, begun_facts, read_facts, taken_facts}
 
--- where a sample was read
-record SampleRead (m : ℕ) (q : Port) (x : Sampled) (past : List Line) : Type 0 where
+-- where a sample of k was read: by a reply of k's
+record SampleRead (m k : ℕ) (q : Port) (x : Sampled) (past : List Line) : Type 0 where
   pub r : Line
   pub older : List Line
   pub is : ReadingOf m q x.place past r older
+  pub node : node_of r ≡ k
+  pub reply : ReplyValue
+  pub replied : r.did.deed ≡ Acts (Post is.to (Stamp (Reply reply)))
+  pub ticket : x.ticket ≡ reply.ticket
 
 -- since the SLAVEUP that a SETTIME answers
 since-slaveup : (setting : Setting) (m : ℕ) (c : Line) (past : List Line) → Given setting (c ∷ past) → (t : Taking m c past) (r : Line) (older : List Line) → FromSlaveUp m c past t r older →
@@ -86,10 +91,12 @@ answered setting m c past g t d s =
         datagram = Message s.message;
         deed = up.deed;
       };
+      node = number-same (node_of up.post) k up.node;
+      posted = up.deed;
     }
 
 -- the reading of the sample from which a Close begins a send
-sampled : (setting : Setting) (m k : ℕ) (q : Port) (cpast past : List Line) (x : Sampled) → Given setting past → Within cpast past → best (peer_of k) (view q (of m cpast)) ≡ Some x → SampleRead m q x past
+sampled : (setting : Setting) (m k : ℕ) (q : Port) (cpast past : List Line) (x : Sampled) → Given setting past → Within cpast past → best (peer_of k) (view q (of m cpast)) ≡ Some x → SampleRead m k q x past
 sampled setting m k q cpast past x g c_in is =
     let b = best_at (peer_of k) (view q (of m cpast)) x is in
     let s = locate m q cpast b.did b.rest (rw b.deed refl) b.place in
@@ -114,6 +121,10 @@ sampled setting m k q cpast past x g c_in is =
         datagram = Stamp (Reply sf.reply);
         deed = read.deed;
       };
+      node = read.node;
+      reply = sf.reply;
+      replied = read.deed;
+      ticket = sf.number_is;
     }
 
 -- the Close at which a send begins, and the reading
@@ -144,6 +155,11 @@ closing setting m c past g t d a =
         best_is = is;
         reading = s.is;
       };
+      number = u.number;
+      node = s.node;
+      reply = s.reply;
+      replied = s.replied;
+      ticket = s.ticket;
     }
 
 source_of : (setting : Setting) (m : ℕ) (c : Line) (past : List Line) → Given setting (c ∷ past) → (t : Taking m c past) → SourceReading m c past t ⊎ SourceSlaveUp m c past t

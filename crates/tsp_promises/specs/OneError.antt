@@ -2,9 +2,10 @@
 use Rattle.std.specs.Prelude.{◌≡◌, ◌⊎◌, ℕ, true, List, ◌∷◌, None, Some}
 use Rattle.tsp_base.specs.declared.act.Act.TheVariants.{Post}
 use Rattle.tsp_base.specs.declared.datagram.Datagram.{Datagram}
-use Rattle.tsp_base.specs.declared.datagram.Datagram.TheVariants.{Message}
+use Rattle.tsp_base.specs.declared.datagram.Datagram.TheVariants.{Message, Stamp}
 use Rattle.tsp_base.specs.declared.kind.Kind.TheVariants.{AdjTime, SlaveUp}
 use Rattle.tsp_base.specs.declared.place.Place.{Place}
+use Rattle.tsp_base.specs.declared.stamp.Stamp.TheVariants.{Reply}
 use Rattle.tsp_promises.specs.Agreed.{ReadingOf}
 use Rattle.tsp_promises.specs.Everywhere.{Everywhere}
 use Rattle.tsp_promises.specs.Fits.{node_of}
@@ -15,6 +16,7 @@ use Rattle.tsp_base.specs.Places.{Within}
 use Rattle.tsp_base.specs.PortFacts.{taken}
 use Rattle.tsp_base.specs.RoundFacts.{Sampled, best}
 use Rattle.tsp_base.specs.SendFacts.{is_correction}
+use Rattle.tsp_base.specs.Stamps.{ReplyValue}
 use Rattle.tsp_promises.specs.StepFacts.{closed}
 use Rattle.tsp_base.specs.Takings.{Receives, Undisturbed, peer_of, posted}
 
@@ -52,19 +54,26 @@ pub record FromSlaveUp (m : ℕ) (c : Line) (past : List Line) (t : Taking m c p
   pub datagram : Datagram
   pub deed : r.did.deed ≡ Acts (Post to datagram)
 
--- the source of the number that a Correct takes is a reading
+-- the source of the number that a Correct takes is a reading: the number is the sample's, and the sample is by a reply of the Correct's node
 pub record SourceReading (m : ℕ) (c : Line) (past : List Line) (t : Taking m c past) : Type 0 where
   pub close : Line
   pub cpast : List Line
   pub r : Line
   pub older : List Line
   pub is : FromReading m c past t close cpast r older
+  pub number : t.acts.brings.message.number ≡ is.sample.ticket
+  pub node : node_of r ≡ node_of c
+  pub reply : ReplyValue
+  pub replied : r.did.deed ≡ Acts (Post is.reading.to (Stamp (Reply reply)))
+  pub ticket : is.sample.ticket ≡ reply.ticket
 
--- or a SLAVEUP
+-- or a SLAVEUP of the Correct's node
 pub record SourceSlaveUp (m : ℕ) (c : Line) (past : List Line) (t : Taking m c past) : Type 0 where
   pub r : Line
   pub older : List Line
   pub is : FromSlaveUp m c past t r older
+  pub node : node_of r ≡ node_of c
+  pub posted : r.did.deed ≡ Acts (Post is.to (Message is.message))
 
 -- the number that a Correct takes has a source, and from that to the Correct its node neither booted nor corrected its clock
 pub record OneErrorAt (l : Line) (world : List Line) : Type 0 where
