@@ -57,7 +57,7 @@ impl Model for GateConfig {
 }
 
 impl GateConfig {
-    /// A node that is set up so, as yet without ports. Fails only where memory is refused.
+    /// A node that is set up so, as yet without ports. Fails only if out of memory.
     pub fn new(alloc: Global, name: Name, may: bool, strict: bool) -> Result<GateConfig, AllocError>
         ensures { IfOk result (λ c. c ≡ record {
           name = name;
@@ -78,7 +78,7 @@ impl GateConfig {
 
     /// Gives it one port more, with its own number and all peers there; whether a node can have
     /// these is known at its boot. `Full` exactly where 4 ports are there, else `OutOfMemory` only
-    /// where memory is refused; a refusal changes nothing.
+    /// if out of memory; a refusal changes nothing.
     pub fn port(&mut self, own: PeerId, peers: &[PeerId]) -> Result<(), PortFault>
         ensures ok { OnOk result ((length self.old.ports < 4)
             × (self.new ≡ record self.old {

@@ -35,8 +35,8 @@ impl Model for Config {
 }
 
 impl Config {
-    /// A node that is set up so; whether it can have these peers is known at its boot. Fails only where
-    /// memory is refused.
+    /// A node that is set up so; whether it can have these peers is known at its boot. Fails only if
+    /// out of memory.
     pub fn new(
         alloc: Global,
         name: Name,

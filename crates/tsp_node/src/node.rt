@@ -34,7 +34,7 @@ impl Node {
 
     /// Boots a node with a word, at a tick and a wall clock (microseconds): puts Boot, Become(Starting) and
     /// Arm(Quiet). `Peers` exactly where the node can't have its peers, else `Range` exactly where the wall
-    /// doesn't lie strictly between -2^31 and 2^31 seconds, else `OutOfMemory` only where memory is refused;
+    /// doesn't lie strictly between -2^31 and 2^31 seconds, else `OutOfMemory` only if out of memory;
     /// then nothing is put.
     pub fn boot<D: Desk>(
         alloc: Global,

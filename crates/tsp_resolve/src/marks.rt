@@ -2,20 +2,22 @@
 ghost use Rattle.std.specs.Prelude.{◌≡◌, ◌<◌, true, false, length, replicate, slice_index_or, slice_set, IfOk};
 
 use std::alloc::{AllocError, Global};
+use std::boxed::BoxedSlice;
 use std::marker::Model;
 
 /// A mark for each place, set or not.
 #[derive(Drop)]
 pub struct Marks {
-    items: Vec<bool>,
+    items: BoxedSlice<bool>,
 }
 
 impl Model for Marks {
     ghost use Rattle.std.specs.Prelude.{Bool, List};
+    ghost use Rattle.std.specs.Box.{boxed_slice_items};
 
     ghost Value = { List Bool };
 
-    ghost view = { λ m. m.items.items };
+    ghost view = { λ m. boxed_slice_items m.items };
 }
 
 /// No mark is set any more.
@@ -28,12 +30,14 @@ fn unset_each(marks: &mut [bool])
 }
 
 impl Marks {
-    /// So many places, none of which is marked. Fails only where memory is refused.
+    /// So many places, none of which is marked. Fails only if out of memory.
     pub(crate) fn new(alloc: Global, count: usize) -> Result<Marks, AllocError>
         ensures { IfOk result (λ m. m ≡ replicate count false) }
     {
         let items = vec![in alloc; false; count]?;
-        Ok(Marks { items })
+        Ok(Marks {
+            items: items.into_boxed_slice(),
+        })
     }
 
     /// Whether a place is marked.

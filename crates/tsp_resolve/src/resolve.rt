@@ -37,7 +37,7 @@ impl Resolve {
 
     /// No rival was found yet on a port with these peers.
     ///
-    /// Fails only where memory is refused; no later call takes any.
+    /// Fails only if out of memory; no later call takes any.
     pub fn new(alloc: Global, peers: &[PeerId]) -> Result<Resolve, AllocError>
         ensures many { IfOk result (λ r. length r.marks ≡ length peers.now) }
         ensures stands { IfOk result (λ r. (x : ℕ) (past : Past) → past.peers ≡ peers.now

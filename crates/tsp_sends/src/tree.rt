@@ -37,7 +37,7 @@ impl Model for Tree {
 impl Tree {
     /// So many places without deadlines, and no looks.
     ///
-    /// Fails only where memory is refused; no later call takes any.
+    /// Fails only if out of memory; no later call takes any.
     pub fn new(alloc: Global, n: usize) -> Result<Tree, AllocError>
         ensures { IfOk result (λ t. t ≡ record { deadlines = replicate n None; looks = 0 }) }
     {
