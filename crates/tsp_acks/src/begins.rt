@@ -15,6 +15,7 @@ ghost use Rattle.tsp_acks.specs.Openings.{is_bare_send};
 
 use crate::station::Station;
 use tsp_base::act::Act;
+use tsp_base::at::At;
 use tsp_base::datagram::Datagram;
 use tsp_base::desk::Desk;
 use tsp_base::kind::Kind;
@@ -99,19 +100,18 @@ impl Station {
         p: PeerId,
         number: u16,
         time: Micros,
-        tick: u64,
-        port: Port,
+        at: At,
         desk: &mut D,
     )
         requires room { 1 ≤ D.spare desk.old }
         requires kind { is_correction kind ≡ true }
         requires peer { Contains self.old.peers p }
-        requires tick { IsTick tick }
-        ensures row { Performs StandsActing StandsActing (posts_time p kind number time) tick port
-            (self.old, tt) (self.new, tt) (D.acts desk.old) (D.acts desk.new) }
+        requires tick { IsTick at.tick }
+        ensures row { Performs StandsActing StandsActing (posts_time p kind number time) at.tick
+            at.port (self.old, tt) (self.new, tt) (D.acts desk.old) (D.acts desk.new) }
         ensures sends { SetsOnly p
             (Some (record {
-              began = tick;
+              began = at.tick;
               posts = 1;
               message = timed kind number time
                   self.old.me.name;
@@ -122,7 +122,7 @@ impl Station {
             (D.acts desk.new) }
     {
         let message = Message::new(kind, number, Body::Time(time), self.me.name.copy());
-        self.open(p, message, tick, port, desk);
+        self.open(p, message, at.tick, at.port, desk);
     }
 
     /// Begins a send to each other peer, ascending, each with its own number.

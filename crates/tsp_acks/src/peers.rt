@@ -4,25 +4,27 @@ ghost use Rattle.tsp_base.specs.Peers.{is_among};
 ghost use Rattle.tsp_acks.specs.Peers.{IsPeers};
 
 use std::alloc::{AllocError, Global};
+use std::boxed::BoxedSlice;
 use std::marker::Model;
 use tsp_base::place::PeerId;
 
 /// The peers of a port, its own number among them: at most 1,000, strictly ascending.
 #[derive(Drop)]
 pub struct Peers {
-    items: Vec<PeerId>,
+    items: BoxedSlice<PeerId>,
 }
 
 impl Model for Peers {
     ghost use Rattle.std.specs.Prelude.{List};
+    ghost use Rattle.std.specs.Box.{boxed_slice_items};
     ghost use Rattle.tsp_base.specs.declared.place.PeerId.{PeerId};
     ghost use Rattle.tsp_acks.specs.Peers.{IsPeers};
 
     ghost Value = { List PeerId };
 
-    ghost view = { λ p. p.items.items };
+    ghost view = { λ p. boxed_slice_items p.items };
 
-    ghost invariant = { λ p. IsPeers p.items.items };
+    ghost invariant = { λ p. IsPeers (boxed_slice_items p.items) };
 }
 
 impl Peers {
@@ -31,7 +33,7 @@ impl Peers {
         requires { IsPeers peers.now }
         ensures { IfOk result (λ p. p ≡ peers.now) }
     {
-        let items = Vec::from_slice(alloc, peers)?;
+        let items = BoxedSlice::from_slice(alloc, peers)?;
         Ok(Peers { items })
     }
 

@@ -20,3 +20,17 @@ pub enum Alarm {
     /// The next round begins.
     Round,
 }
+
+impl Alarm {
+    /// Every alarm, in the order in which due ones are handled.
+    pub const ALL: [Alarm; 8] = [
+        Alarm::Quiet,
+        Alarm::Search,
+        Alarm::Elect,
+        Alarm::Window,
+        Alarm::Probe,
+        Alarm::Close,
+        Alarm::Resolve,
+        Alarm::Round,
+    ];
+}

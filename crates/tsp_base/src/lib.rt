@@ -35,6 +35,7 @@
 pub mod act;
 pub mod alarm;
 pub mod alarms;
+pub mod at;
 pub mod constants;
 pub mod datagram;
 pub mod desk;

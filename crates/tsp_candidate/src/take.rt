@@ -10,6 +10,7 @@ ghost use Rattle.tsp_slave.specs.SlaveStands.{IsMessage, SlaveStands};
 
 use crate::answers::{take_accept, take_refuse};
 use tsp_acks::station::Station;
+use tsp_base::at::At;
 use tsp_base::desk::Desk;
 use tsp_base::kind::Kind;
 use tsp_base::message::Message;
@@ -51,17 +52,7 @@ pub fn candidate_take<D: Desk>(
         Kind::Election => station.post(from, Kind::Refuse, number, port, desk),
         Kind::Accept => take_accept(station, from, number, port, desk),
         Kind::Refuse => take_refuse(station, tick, from, number, port, desk),
-        Kind::Quit => take_quit(
-            station,
-            last,
-            clock,
-            tick,
-            from,
-            number,
-            m.name(),
-            port,
-            desk,
-        ),
+        Kind::Quit => take_quit(station, last, clock, At { tick, port }, from, m, desk),
         Kind::Ack => {
             let _ = station.acknowledge(from, number, port, desk);
         }

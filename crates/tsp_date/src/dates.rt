@@ -13,6 +13,7 @@ ghost use Rattle.tsp_date.specs.declared.dates.Dated.{Dated};
 ghost use Rattle.tsp_date.specs.Dates.{dating_in, idle, last_in, peers_of};
 
 use std::alloc::{AllocError, Global};
+use std::boxed::BoxedSlice;
 use std::marker::Model;
 use tsp_base::constants::{DATEHOLD, REUSE};
 use tsp_base::place::PeerId;
@@ -38,16 +39,17 @@ pub(crate) struct Dated {
 /// The last date of each of a port's peers, and the tick at which the port last began to pass one on.
 #[derive(Drop)]
 pub struct Dates {
-    dated: Vec<Dated>,
+    dated: BoxedSlice<Dated>,
     asked: Option<u64>,
 }
 
 impl Model for Dates {
+    ghost use Rattle.std.specs.Box.{boxed_slice_items};
     ghost use Rattle.tsp_date.specs.Dates.{DatesValue};
 
     ghost Value = { DatesValue };
 
-    ghost view = { λ d. record { dated = d.dated.items; asked = d.asked } };
+    ghost view = { λ d. record { dated = boxed_slice_items d.dated; asked = d.asked } };
 }
 
 /// Each peer, without a date.
@@ -75,14 +77,17 @@ impl Dates {
 
     /// No date was set or passed on yet, on a port with these peers.
     ///
-    /// Fails only where memory is refused; no later call takes any.
+    /// Fails only if out of memory; no later call takes any.
     pub fn new(alloc: Global, peers: &[PeerId]) -> Result<Dates, AllocError>
         ensures peers { IfOk result (λ d. peers_of d.dated ≡ peers.now) }
         ensures stands { IfOk result (λ d. (x : ℕ) (past : Past) → past.peers ≡ peers.now
             → DatesStand (grown x past (Boot ∷ [])) d) }
     {
         let dated = idle_peers(alloc, peers)?;
-        Ok(Dates { dated, asked: None })
+        Ok(Dates {
+            dated: dated.into_boxed_slice(),
+            asked: None,
+        })
     }
 
     /// Whether the last date of a peer has this number, and was set less than `DATEHOLD` ticks ago.

@@ -1,5 +1,5 @@
 //! How a gateway boots.
-ghost use Rattle.std.specs.Prelude.{◌≡◌, ◌≤◌, ◌<◌, ◌*◌, ℤ, true, length, [], ◌∷◌, IfOk, IfErr};
+ghost use Rattle.std.specs.Prelude.{◌≡◌, ◌≤◌, ◌<◌, ◌*◌, ℤ, true, length, [], ◌∷◌, IfOk, IfErr, vec_capacity};
 ghost use Rattle.tsp_base.specs.declared.act.Act.TheVariants.{Boot};
 ghost use Rattle.tsp_base.specs.declared.place.PeerId.{PeerId};
 ghost use Rattle.tsp_base.specs.Frames.{IsTick, PutsAtMost};
@@ -20,7 +20,7 @@ use tsp_base::desk::Desk;
 use tsp_clock::clock::Clock;
 use tsp_node::{BootFault, Part};
 
-/// The state of each port of a node that boots. Fails only if out of memory.
+/// The state of each port of a node that boots, in memory for four ports. Fails only if out of memory.
 fn parts_of(
     alloc: Global,
     config: &GateConfig,
@@ -28,12 +28,13 @@ fn parts_of(
     word: u64,
 ) -> Result<Vec<Part>, AllocError>
     requires { ArePorts config.now.ports }
-    ensures { IfOk result (λ parts. AreFresh config.now word tick parts.items) }
+    ensures fresh { IfOk result (λ parts. AreFresh config.now word tick parts.items) }
+    ensures memory { IfOk result (λ parts. vec_capacity parts ≡ 4) }
 {
     let mut parts = Vec::with_capacity(alloc, 4)?;
     for q in 0..config.ports() {
         let part = Part::new(alloc, config.me(q, word), config.peers(q), tick)?;
-        parts.push(part)?;
+        parts.push_reserved(part);
     }
     Ok(parts)
 }

@@ -1,5 +1,5 @@
 //! A node on several networks.
-ghost use Rattle.std.specs.Prelude.{◌≡◌, ◌≤◌, ◌*◌, true, length, [], ◌∷◌, IfOk, IfErr, OnErr, vec_len};
+ghost use Rattle.std.specs.Prelude.{◌≡◌, ◌≤◌, ◌*◌, true, length, [], ◌∷◌, IfOk, IfErr, OnErr, vec_len, vec_capacity};
 ghost use Rattle.tsp_base.specs.Frames.{IsTick, PutsAtMost};
 ghost use Rattle.tsp_rules.specs.GateRows.{boots_all};
 ghost use Rattle.tsp_rules.specs.NodePerforms.{PerformsAll};
@@ -22,6 +22,7 @@ pub struct Gateway {
     pub(crate) ports: Vec<Part>,
     ghost some: { 1 ≤ vec_len ports },
     ghost few: { vec_len ports ≤ 4 },
+    ghost memory: { vec_capacity ports ≡ 4 },
 }
 
 /// The port on which a node boots.

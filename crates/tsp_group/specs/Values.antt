@@ -2,7 +2,7 @@
 use Rattle.std.specs.Prelude.{ℕ, ◌≤◌, ◌<◌, ◌^◌, ℤ, pos, negsuc, ◌≤ℤ◌, List, length, slice_index_or}
 use Rattle.std.specs.List.{All}
 
--- the list, how many values it may hold, and how often one was looked at
+-- the list, for how many values it holds memory, and how often one was looked at
 pub record ValueList : Type 0 where
   pub items : List ℤ
   pub room : ℕ

@@ -10,23 +10,27 @@ use std::marker::Model;
 
 /// Differences in microseconds, at most as many as its room, with a count of the looks at them.
 ///
+/// The room is the memory that the list holds, so a call that leaves the room takes none.
 /// A value can be read by [`Values::look`] alone, so the count says what a computation over them cost.
 #[derive(Drop)]
 pub struct Values {
     items: Vec<i64>,
-    room: usize,
     looks: u64,
 }
 
 impl Model for Values {
-    ghost use Rattle.std.specs.Prelude.{◌≤◌, vec_capacity};
+    ghost use Rattle.std.specs.Prelude.{vec_capacity};
     ghost use Rattle.tsp_group.specs.Values.{ValueList, IsValues};
 
     ghost Value = { ValueList };
 
-    ghost view = { λ v. record { items = v.items.items; room = v.room; looks = v.looks } };
+    ghost view = { λ v. record {
+      items = v.items.items;
+      room = vec_capacity v.items;
+      looks = v.looks;
+    } };
 
-    ghost invariant = { λ v. IsValues v.items.items v.room × (v.room ≤ vec_capacity v.items) };
+    ghost invariant = { λ v. IsValues v.items.items (vec_capacity v.items) };
 }
 
 impl Values {
@@ -38,11 +42,7 @@ impl Values {
         ensures { IfOk result (λ v. v ≡ record { items = []; room = room; looks = 0 }) }
     {
         let items = Vec::with_capacity(alloc, room)?;
-        Ok(Values {
-            items,
-            room,
-            looks: 0,
-        })
+        Ok(Values { items, looks: 0 })
     }
 
     /// Adds a difference of less than 2^30 seconds, in microseconds, at the end.
@@ -51,7 +51,7 @@ impl Values {
         requires near { IsNear diff }
         ensures { self.new ≡ record self.old { items = self.old.items ++ diff ∷ [] } }
     {
-        let _ = self.items.push(diff);
+        self.items.push_reserved(diff);
     }
 
     /// Empties the list. Its room and its count of looks are unchanged.

@@ -22,6 +22,7 @@ use crate::master::Master;
 use tsp_acks::station::Station;
 use tsp_base::act::Act;
 use tsp_base::alarm::Alarm;
+use tsp_base::at::At;
 use tsp_base::desk::Desk;
 use tsp_base::micros::Micros;
 use tsp_base::place::{PeerId, Port};
@@ -141,7 +142,7 @@ impl Master {
         for place in 0..self.slaves.len() {
             let entry = self.slaves.at(place);
             if entry.measured {
-                self.correct_peer(station, clock, tick, entry.peer, mean, port, desk);
+                self.correct_peer(station, clock, At { tick, port }, entry.peer, mean, desk);
             }
         }
     }
@@ -151,20 +152,19 @@ impl Master {
         &mut self,
         station: &mut Station,
         clock: &Clock,
-        tick: u64,
+        at: At,
         peer: PeerId,
         mean: i64,
-        port: Port,
         desk: &mut D,
     )
-        requires tick { IsTick tick }
-        requires later { clock.now.at ≤ tick }
+        requires tick { IsTick at.tick }
+        requires later { clock.now.at ≤ at.tick }
         requires near { IsNear mean }
         requires room { 1 ≤ D.spare desk.old }
         requires same { peers_of self.old.slaves ≡ station.old.peers }
         requires peer { Contains station.old.peers peer }
         ensures row { Performs LeadStands LeadStands
-            (corrects_peer mean (standing_with self.old.rounds peer)) tick port
+            (corrects_peer mean (standing_with self.old.rounds peer)) at.tick at.port
             (self.old, ((station.old, tt), clock.now)) (self.new, ((station.new, tt), clock.now))
             (D.acts desk.old) (D.acts desk.new) }
         ensures room { PutsAtMost 1 (D.spare desk.old) (D.spare desk.new) (D.acts desk.old)
@@ -177,15 +177,15 @@ impl Master {
     {
         match self.rounds.best(peer) {
             None => {
-                desk.put(port, Act::Leave(peer));
+                desk.put(at.port, Act::Leave(peer));
                 self.slaves.leave(peer);
             }
             Some(best) => {
                 if is_near(best.diff) {
                     let amount = amount(mean, best.diff);
-                    self.begin_adjtime(station, clock, tick, peer, best.ticket, amount, port, desk);
+                    self.begin_adjtime(station, at, peer, best.ticket, amount, desk);
                 } else {
-                    self.begin_settime(station, clock, tick, peer, best.ticket, port, desk);
+                    self.begin_settime(station, clock, at, peer, best.ticket, desk);
                 }
             }
         }

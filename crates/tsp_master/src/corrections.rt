@@ -6,15 +6,16 @@ ghost use Rattle.tsp_base.specs.Performs.{Performs};
 ghost use Rattle.tsp_rules.specs.Guards.{is_clock_value};
 ghost use Rattle.tsp_rules.specs.SendRows.{begins_adjtime, begins_settime};
 ghost use Rattle.tsp_acks.specs.Changes.{IsSamePort};
-ghost use Rattle.tsp_clock.specs.Clocks.{target_of};
+ghost use Rattle.tsp_clock.specs.Clocks.{ClockValue, target_of};
 ghost use Rattle.tsp_master.specs.Slaves.{peers_of, entry_of, Changes, begins_at};
 
 use crate::master::Master;
 use tsp_acks::station::Station;
+use tsp_base::at::At;
 use tsp_base::desk::Desk;
 use tsp_base::kind::Kind;
 use tsp_base::micros::Micros;
-use tsp_base::place::{PeerId, Port};
+use tsp_base::place::PeerId;
 use tsp_clock::clock::{Clock, is_clock_value};
 
 impl Master {
@@ -24,20 +25,19 @@ impl Master {
     pub(crate) fn begin_adjtime<D: Desk>(
         &mut self,
         station: &mut Station,
-        clock: &Clock,
-        tick: u64,
+        at: At,
         peer: PeerId,
         number: u16,
         amount: Micros,
-        port: Port,
         desk: &mut D,
     )
-        requires tick { IsTick tick }
+        requires tick { IsTick at.tick }
         requires room { 1 ≤ D.spare desk.old }
         requires same { peers_of self.old.slaves ≡ station.old.peers }
         requires peer { Contains station.old.peers peer }
-        ensures row { Performs LeadStands LeadStands (begins_adjtime peer number amount) tick port
-            (self.old, ((station.old, tt), clock.now)) (self.new, ((station.new, tt), clock.now))
+        ensures row { (clock : ClockValue)
+            → Performs LeadStands LeadStands (begins_adjtime peer number amount) at.tick at.port
+            (self.old, ((station.old, tt), clock)) (self.new, ((station.new, tt), clock))
             (D.acts desk.old) (D.acts desk.new) }
         ensures room { PutsAtMost 1 (D.spare desk.old) (D.spare desk.new) (D.acts desk.old)
             (D.acts desk.new) }
@@ -47,9 +47,9 @@ impl Master {
         ensures others { (q : PeerId) → (q.0 ≡ peer.0 → ⊥)
             → entry_of self.new.slaves q ≡ entry_of self.old.slaves q }
     {
-        if self.slaves.of(peer).may_correct(number, tick) {
-            station.begin_correction(Kind::AdjTime, peer, number, amount, tick, port, desk);
-            self.slaves.begin(peer, number, tick);
+        if self.slaves.of(peer).may_correct(number, at.tick) {
+            station.begin_correction(Kind::AdjTime, peer, number, amount, at, desk);
+            self.slaves.begin(peer, number, at.tick);
         }
     }
 
@@ -59,18 +59,17 @@ impl Master {
         &mut self,
         station: &mut Station,
         clock: &Clock,
-        tick: u64,
+        at: At,
         peer: PeerId,
         number: u16,
-        port: Port,
         desk: &mut D,
     )
-        requires tick { IsTick tick }
-        requires later { clock.now.at ≤ tick }
+        requires tick { IsTick at.tick }
+        requires later { clock.now.at ≤ at.tick }
         requires room { 1 ≤ D.spare desk.old }
         requires same { peers_of self.old.slaves ≡ station.old.peers }
         requires peer { Contains station.old.peers peer }
-        ensures row { Performs LeadStands LeadStands (begins_settime peer number) tick port
+        ensures row { Performs LeadStands LeadStands (begins_settime peer number) at.tick at.port
             (self.old, ((station.old, tt), clock.now)) (self.new, ((station.new, tt), clock.now))
             (D.acts desk.old) (D.acts desk.new) }
         ensures room { PutsAtMost 1 (D.spare desk.old) (D.spare desk.new) (D.acts desk.old)
@@ -81,12 +80,12 @@ impl Master {
         ensures others { (q : PeerId) → (q.0 ≡ peer.0 → ⊥)
             → entry_of self.new.slaves q ≡ entry_of self.old.slaves q }
     {
-        match settable(clock, tick) {
+        match settable(clock, at.tick) {
             None => {}
             Some(value) => {
-                if self.slaves.of(peer).may_correct(number, tick) {
-                    station.begin_correction(Kind::SetTime, peer, number, value, tick, port, desk);
-                    self.slaves.begin(peer, number, tick);
+                if self.slaves.of(peer).may_correct(number, at.tick) {
+                    station.begin_correction(Kind::SetTime, peer, number, value, at, desk);
+                    self.slaves.begin(peer, number, at.tick);
                 }
             }
         }

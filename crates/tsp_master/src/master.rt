@@ -43,7 +43,7 @@ impl Master {
 
     /// Nothing was done yet on a port with these peers.
     ///
-    /// Fails only where memory is refused; no later call takes any.
+    /// Fails only if out of memory; no later call takes any.
     pub fn new(alloc: Global, peers: &[PeerId]) -> Result<Master, AllocError>
         requires { IsPeers peers.now }
         ensures peers { IfOk result (λ m. peers_of m.slaves ≡ peers.now) }

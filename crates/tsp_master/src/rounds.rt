@@ -41,7 +41,7 @@ impl Model for Rounds {
 impl Rounds {
     /// No request was posted to any of these peers.
     ///
-    /// Fails only where memory is refused; no later call takes any.
+    /// Fails only if out of memory; no later call takes any.
     pub(crate) fn new(alloc: Global, peers: &[PeerId]) -> Result<Rounds, AllocError>
         requires { IsPeers peers.now }
         ensures peers { IfOk result (λ r. r.exchanges.peers ≡ map (λ p. p.0) peers.now) }

@@ -10,26 +10,28 @@ ghost use Rattle.tsp_master.specs.Slaves.{acks, are_settled_by, IsPlaceOf};
 
 use crate::entry::Entry;
 use std::alloc::{AllocError, Global};
+use std::boxed::BoxedSlice;
 use std::marker::Model;
 use tsp_base::place::PeerId;
 
 /// What a master knows of its peers, in the order of the peers.
 #[derive(Drop)]
 pub struct Slaves {
-    entries: Vec<Entry>,
+    entries: BoxedSlice<Entry>,
 }
 
 impl Model for Slaves {
     ghost use Rattle.std.specs.Prelude.{List};
+    ghost use Rattle.std.specs.Box.{boxed_slice_items};
     ghost use Rattle.tsp_acks.specs.Peers.{IsPeers};
     ghost use Rattle.tsp_master.specs.declared.entry.Entry.{Entry};
     ghost use Rattle.tsp_master.specs.Slaves.{peers_of};
 
     ghost Value = { List Entry };
 
-    ghost view = { λ s. s.entries.items };
+    ghost view = { λ s. boxed_slice_items s.entries };
 
-    ghost invariant = { λ s. IsPeers (peers_of s.entries.items) };
+    ghost invariant = { λ s. IsPeers (peers_of (boxed_slice_items s.entries)) };
 }
 
 /// The place of a peer's entry; an error is the place where it would be.
@@ -69,14 +71,16 @@ fn unmeasure_each(entries: &mut [Entry])
 impl Slaves {
     /// Nothing is known of any of these peers.
     ///
-    /// Fails only where memory is refused; no later call takes any.
+    /// Fails only if out of memory; no later call takes any.
     pub(crate) fn new(alloc: Global, peers: &[PeerId]) -> Result<Slaves, AllocError>
         requires { IsPeers peers.now }
         ensures peers { IfOk result (λ s. peers_of s ≡ peers.now) }
         ensures idle { IfOk result (λ s. (p : PeerId) → entry_of s p ≡ idle_entry p) }
     {
         let entries = idle_entries(alloc, peers)?;
-        Ok(Slaves { entries })
+        Ok(Slaves {
+            entries: entries.into_boxed_slice(),
+        })
     }
 
     /// The number of peers.

@@ -16,6 +16,7 @@ ghost use Rattle.tsp_master.specs.Slaves.{peers_of, entry_of, Changes, acks_wher
 use crate::master::Master;
 use tsp_acks::station::Station;
 use tsp_base::act::Act;
+use tsp_base::at::At;
 use tsp_base::desk::Desk;
 use tsp_base::kind::Kind;
 use tsp_base::message::Message;
@@ -56,7 +57,9 @@ impl Master {
             Kind::MasterReq | Kind::Resolve => {
                 station.post(from, Kind::MasterAck, m.number(), port, desk)
             }
-            Kind::SlaveUp => self.join(station, clock, tick, from, m.number(), port, desk),
+            Kind::SlaveUp => {
+                self.join(station, clock, At { tick, port }, from, m.number(), desk)
+            }
             Kind::Election => send_away(station, tick, from, port, desk),
             _ => {}
         }
@@ -67,19 +70,18 @@ impl Master {
         &mut self,
         station: &mut Station,
         clock: &Clock,
-        tick: u64,
+        at: At,
         peer: PeerId,
         number: u16,
-        port: Port,
         desk: &mut D,
     )
-        requires tick { IsTick tick }
-        requires later { clock.now.at ≤ tick }
+        requires tick { IsTick at.tick }
+        requires later { clock.now.at ≤ at.tick }
         requires room { 2 ≤ D.spare desk.old }
         requires same { peers_of self.old.slaves ≡ station.old.peers }
         requires peer { Contains station.old.peers peer }
         requires role { station.old.role ≡ MasterRole }
-        ensures row { Performs LeadStands LeadStands (joins peer number) tick port
+        ensures row { Performs LeadStands LeadStands (joins peer number) at.tick at.port
             (self.old, ((station.old, tt), clock.now)) (self.new, ((station.new, tt), clock.now))
             (D.acts desk.old) (D.acts desk.new) }
         ensures room { PutsAtMost 2 (D.spare desk.old) (D.spare desk.new) (D.acts desk.old)
@@ -88,9 +90,9 @@ impl Master {
         ensures peers { peers_of self.new.slaves ≡ peers_of self.old.slaves }
     {
         if self.may_join(peer, number) {
-            desk.put(port, Act::Join(peer));
+            desk.put(at.port, Act::Join(peer));
             self.slaves.join(peer);
-            self.begin_settime(station, clock, tick, peer, number, port, desk);
+            self.begin_settime(station, clock, at, peer, number, desk);
         }
     }
 

@@ -1,5 +1,6 @@
 //! The exchanges with each peer.
 ghost use Rattle.std.specs.Prelude.{◌≡◌, ◌≢◌, ℕ, ◌+◌, ◌<◌, [], ◌∷◌, ◌++◌, map, length, slice_index, IfOk, MatchOption};
+ghost use Rattle.std.specs.Box.{boxed_slice_items};
 ghost use Rattle.std.specs.List.{Contains};
 ghost use Rattle.std.specs.Option.{option_map};
 ghost use Rattle.tsp_measure.specs.Measures.{IsReading, IsStamp, IsNewCounter, IsBestOf, Replies};
@@ -10,31 +11,36 @@ use crate::exchange::Exchange;
 use crate::peer_exchanges::PeerExchanges;
 use crate::sample::{Reply, Sample};
 use std::alloc::{AllocError, Global};
+use std::boxed::BoxedSlice;
 use std::marker::Model;
 use tsp_base::place::PeerId;
 
 /// The exchanges with each peer, at most four since the last `clear`, and their samples.
 #[derive(Drop)]
 pub struct Exchanges {
-    peers: Vec<u32>,
-    measured: Vec<PeerExchanges>,
+    peers: BoxedSlice<u32>,
+    measured: BoxedSlice<PeerExchanges>,
 }
 
 impl Model for Exchanges {
     ghost use Rattle.std.specs.Prelude.{◌≡◌, length};
+    ghost use Rattle.std.specs.Box.{boxed_slice_items};
     ghost use Rattle.tsp_measure.specs.Peers.{MeasuredPeers, IsAscending};
 
     ghost Value = { MeasuredPeers };
 
-    ghost view = { λ e. record { peers = e.peers.items; measured = e.measured.items } };
+    ghost view = { λ e. record {
+      peers = boxed_slice_items e.peers;
+      measured = boxed_slice_items e.measured;
+    } };
 
-    ghost invariant = { λ e. IsAscending e.peers.items
-        × (length e.measured.items ≡ length e.peers.items) };
+    ghost invariant = { λ e. IsAscending (boxed_slice_items e.peers)
+        × (length (boxed_slice_items e.measured) ≡ length (boxed_slice_items e.peers)) };
 }
 
 /// The peers' numbers.
-fn numbers_of(alloc: Global, peers: &[PeerId]) -> Result<Vec<u32>, AllocError>
-    ensures { IfOk result (λ v. v.items ≡ map (λ p. p.0) peers.now) }
+fn numbers_of(alloc: Global, peers: &[PeerId]) -> Result<BoxedSlice<u32>, AllocError>
+    ensures { IfOk result (λ numbers. boxed_slice_items numbers ≡ map (λ p. p.0) peers.now) }
 {
     peers.iter().map(|peer| peer.0).collect(alloc)
 }
@@ -64,7 +70,7 @@ impl Exchanges {
         }
         Ok(Exchanges {
             peers: numbers,
-            measured,
+            measured: measured.into_boxed_slice(),
         })
     }
 

@@ -23,6 +23,7 @@ ghost use Rattle.tsp_node.specs.NodeStands.{PartStands, PartTook, TakeStands, To
 
 use crate::audience::{Audience, audience_of};
 use crate::part::Part;
+use tsp_base::at::At;
 use tsp_base::desk::Desk;
 use tsp_base::kind::Kind;
 use tsp_base::message::Message;
@@ -254,17 +255,9 @@ impl Part {
         ensures room { PutsAtMost 5 (D.spare desk.old) (D.spare desk.new) (D.acts desk.old)
             (D.acts desk.new) }
     {
-        take_quit(
-            &mut self.station,
-            &mut self.last,
-            clock,
-            tick,
-            p,
-            m.number(),
-            m.name(),
-            port,
-            desk,
-        );
+        let station = &mut self.station;
+        let at = At { tick, port };
+        take_quit(station, &mut self.last, clock, at, p, m, desk);
         self.part_from(true);
     }
 

@@ -2,20 +2,22 @@
 ghost use Rattle.std.specs.Prelude.{◌≡◌, ◌<◌, true, false, length, replicate, slice_index_or, slice_set, IfOk};
 
 use std::alloc::{AllocError, Global};
+use std::boxed::BoxedSlice;
 use std::marker::Model;
 
 /// A mark for each place, set or not.
 #[derive(Drop)]
 pub struct Marks {
-    items: Vec<bool>,
+    items: BoxedSlice<bool>,
 }
 
 impl Model for Marks {
     ghost use Rattle.std.specs.Prelude.{Bool, List};
+    ghost use Rattle.std.specs.Box.{boxed_slice_items};
 
     ghost Value = { List Bool };
 
-    ghost view = { λ m. m.items.items };
+    ghost view = { λ m. boxed_slice_items m.items };
 }
 
 /// Removes all marks.
@@ -33,7 +35,9 @@ impl Marks {
         ensures { IfOk result (λ m. m ≡ replicate count false) }
     {
         let items = vec![in alloc; false; count]?;
-        Ok(Marks { items })
+        Ok(Marks {
+            items: items.into_boxed_slice(),
+        })
     }
 
     /// Whether a place is marked.

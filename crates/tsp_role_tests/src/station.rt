@@ -6,6 +6,7 @@ use std::test::Fail;
 use tsp_acks::me::Me;
 use tsp_acks::station::Station;
 use tsp_base::alarm::Alarm;
+use tsp_base::at::At;
 use tsp_base::desk::Desk;
 use tsp_base::kind::Kind;
 use tsp_base::micros::Micros;
@@ -99,7 +100,7 @@ fn answers_that_end_a_date_and_a_correction(rt: HostRuntime) -> Result<(), Fail>
     assert!(rt; !station.acknowledge(p, 32_775, port, &mut pad));
     assert!(rt; station.dated(p, 32_775, port, &mut pad));
     let p = station.peers()[0];
-    station.begin_correction(Kind::AdjTime, p, 7, time, 100, port, &mut pad);
+    station.begin_correction(Kind::AdjTime, p, 7, time, At { tick: 100, port }, &mut pad);
     assert_eq!(rt; station.next_number(), 32_776);
     assert!(rt; !station.dated(p, 7, port, &mut pad));
     assert!(rt; station.acknowledge(p, 7, port, &mut pad));

@@ -1,7 +1,8 @@
 -- What a port does in a step: its due sends, its due alarms, and then its input.
-use Rattle.std.specs.Prelude.{ℕ, Bool, true, false, not, ◌&&◌}
+use Rattle.std.specs.Prelude.{ℕ, Bool, true, false, not, ◌&&◌, List, [], ◌∷◌}
 use Rattle.tsp_base.specs.declared.act.Act.TheVariants.{Took}
 use Rattle.tsp_base.specs.declared.alarm.Alarm.{Alarm}
+use Rattle.tsp_base.specs.declared.alarm.TheConstants.Alarm.{ALL}
 use Rattle.tsp_base.specs.declared.alarm.Alarm.TheVariants.{Quiet, Search, Elect, Window, Probe, Close, Resolve, Round}
 use Rattle.tsp_base.specs.declared.datagram.Datagram.TheVariants.{Message, Stamp}
 use Rattle.tsp_base.specs.declared.datagram.Taken.{Taken}
@@ -48,11 +49,15 @@ rings own wait alarm = either_by (is_due alarm) (alarm_rings own wait alarm) not
 unfoldable pub rings_alone : Alarm → Row
 rings_alone = rings true false
 
--- every due alarm, in this order
+-- these alarms, one after the other, each where it is due when its turn comes
+abbrev pub rings_each : List Alarm → Row
+rings_each [] = nothing
+rings_each (alarm ∷ []) = rings_alone alarm
+rings_each (alarm ∷ next ∷ rest) = rings_alone alarm followed_by rings_each (next ∷ rest)
+
+-- every due alarm, in their order
 unfoldable pub due_alarms : Row
-due_alarms =
-    rings_alone Quiet followed_by (rings_alone Search followed_by (rings_alone Elect followed_by (rings_alone Window followed_by
-    (rings_alone Probe followed_by (rings_alone Close followed_by (rings_alone Resolve followed_by rings_alone Round))))))
+due_alarms = rings_each ALL
 
 -- what the port's role does with a peer's message
 unfoldable pub says_in : PeerId → MessageValue → Role → Row

@@ -3,7 +3,8 @@ use Rattle.std.specs.Prelude.{ℕ, ◌+◌, ◌-◌, ◌==◌, nat_le, nat_lt, B
 use Rattle.tsp_base.specs.declared.act.Act.{Act}
 use Rattle.tsp_base.specs.declared.act.Act.TheVariants.{Become, Boot, Post, Ring, Took}
 use Rattle.tsp_base.specs.declared.alarm.Alarm.{Alarm}
-use Rattle.tsp_base.specs.declared.alarm.Alarm.TheVariants.{Quiet, Search, Elect, Window, Probe, Close, Resolve, Round}
+use Rattle.tsp_base.specs.declared.alarm.TheConstants.Alarm.{ALL}
+use Rattle.tsp_base.specs.declared.alarm.Alarm.TheVariants.{Quiet, Probe, Close, Round}
 use Rattle.tsp_base.specs.declared.constants.TheConstants.{HOPS, QUIET}
 use Rattle.tsp_base.specs.declared.datagram.Datagram.TheVariants.{Message}
 use Rattle.tsp_base.specs.declared.datagram.Taken.{Taken}
@@ -125,11 +126,15 @@ alarm_on q Close = reading_all (leads_clock q) (closes_on q)
 alarm_on q Round = reading_all (waits q) (begins_round_on q)
 alarm_on q alarm = on q (rings true false alarm)
 
--- a port's due alarms, in this order
+-- these alarms of a port, one after the other, each where it is due when its turn comes
+abbrev pub each_on : Port → List Alarm → NodeRow
+each_on q [] = nothing_at_all
+each_on q (alarm ∷ []) = alarm_on q alarm
+each_on q (alarm ∷ next ∷ rest) = alarm_on q alarm and_then each_on q (next ∷ rest)
+
+-- a port's due alarms, in their order
 unfoldable pub alarms_on : Port → NodeRow
-alarms_on q =
-    alarm_on q Quiet and_then (alarm_on q Search and_then (alarm_on q Elect and_then (alarm_on q Window and_then
-    (alarm_on q Probe and_then (alarm_on q Close and_then (alarm_on q Resolve and_then alarm_on q Round))))))
+alarms_on q = each_on q ALL
 
 -- a port's due sends and its due alarms
 unfoldable pub turns_on : Port → NodeRow

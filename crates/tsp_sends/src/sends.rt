@@ -11,6 +11,7 @@ use crate::sending::Sending;
 use crate::slot::Slot;
 use crate::tree::Tree;
 use std::alloc::{AllocError, Global};
+use std::boxed::BoxedSlice;
 use std::marker::Model;
 use tsp_base::kind::Kind;
 use tsp_base::message::Message;
@@ -21,20 +22,21 @@ use tsp_base::place::PeerId;
 /// A tree has the deadlines of the slots, so that a due send is found without a look at each slot.
 #[derive(Drop)]
 pub struct Sends {
-    slots: Vec<Slot>,
+    slots: BoxedSlice<Slot>,
     tree: Tree,
 }
 
 impl Model for Sends {
     ghost use Rattle.std.specs.Prelude.{List};
+    ghost use Rattle.std.specs.Box.{boxed_slice_items};
     ghost use Rattle.tsp_sends.specs.declared.slot.Slot.{Slot};
     ghost use Rattle.tsp_sends.specs.Slots.{IsSends};
 
     ghost Value = { List Slot };
 
-    ghost view = { λ s. s.slots.items };
+    ghost view = { λ s. boxed_slice_items s.slots };
 
-    ghost invariant = { λ s. IsSends s.slots.items s.tree.deadlines };
+    ghost invariant = { λ s. IsSends (boxed_slice_items s.slots) s.tree.deadlines };
 }
 
 impl Sends {
@@ -48,7 +50,10 @@ impl Sends {
     {
         let tree = Tree::new(alloc, peers.len())?;
         let slots = empty_slots(alloc, peers)?;
-        Ok(Sends { slots, tree })
+        Ok(Sends {
+            slots: slots.into_boxed_slice(),
+            tree,
+        })
     }
 
     /// Begins a send to one of the peers at a tick: its first post. It replaces the open one.

@@ -2,6 +2,7 @@
 ghost use Rattle.std.specs.Prelude.{◌≡◌, ◌+◌, ◌-◌, ◌^◌, ◌<◌, length, min, replicate, slice_index_or, slice_set, IfOk};
 
 use std::alloc::{AllocError, Global};
+use std::boxed::BoxedSlice;
 use std::marker::Model;
 
 /// Numbered nodes, each with a deadline or none, and a count of the looks at them.
@@ -9,16 +10,17 @@ use std::marker::Model;
 /// A node can be read by [`Store::read`] and [`Store::root`] alone, so the count says what a search costs.
 #[derive(Drop)]
 pub(crate) struct Store {
-    nodes: Vec<Option<u64>>,
+    nodes: BoxedSlice<Option<u64>>,
     looks: u64,
 }
 
 impl Model for Store {
+    ghost use Rattle.std.specs.Box.{boxed_slice_items};
     ghost use Rattle.tsp_sends.specs.Trees.{StoreValue};
 
     ghost Value = { StoreValue };
 
-    ghost view = { λ s. record { nodes = s.nodes.items; looks = s.looks } };
+    ghost view = { λ s. record { nodes = boxed_slice_items s.nodes; looks = s.looks } };
 }
 
 impl Store {
@@ -27,7 +29,10 @@ impl Store {
         ensures { IfOk result (λ s. s ≡ record { nodes = replicate size None; looks = 0 }) }
     {
         let nodes = vec![in alloc; None; size]?;
-        Ok(Store { nodes, looks: 0 })
+        Ok(Store {
+            nodes: nodes.into_boxed_slice(),
+            looks: 0,
+        })
     }
 
     /// The deadline at a node. Each look is counted.

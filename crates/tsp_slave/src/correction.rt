@@ -12,14 +12,16 @@ ghost use Rattle.tsp_acks.specs.Changes.{IsSamePort};
 ghost use Rattle.tsp_acks.specs.Stands.{Stands};
 ghost use Rattle.tsp_clock.specs.Clocks.{ClockValue};
 ghost use Rattle.tsp_slave.specs.ClockChanges.{fits, changes_clock, correction_of};
+ghost use Rattle.tsp_slave.specs.Lasts.{correcting_in};
 ghost use Rattle.tsp_slave.specs.SlaveStands.{SlaveStands};
 
 use crate::change::Change;
-use crate::last::Last;
+use crate::last::{Correction, Last};
 use tsp_acks::station::Station;
+use tsp_base::at::At;
 use tsp_base::desk::Desk;
 use tsp_base::kind::Kind;
-use tsp_base::place::{PeerId, Port};
+use tsp_base::place::Port;
 use tsp_clock::clock::Clock;
 
 /// Takes a correction from the master that is followed: the next one changes the clock, any other may be a
@@ -28,31 +30,29 @@ pub(crate) fn correct<D: Desk>(
     station: &mut Station,
     last: &mut Last,
     clock: &mut Clock,
-    tick: u64,
-    from: PeerId,
-    number: u16,
+    at: At,
+    correction: Correction,
     change: Change,
-    port: Port,
     desk: &mut D,
 )
-    requires tick { IsTick tick }
-    requires later { clock.old.at ≤ tick }
+    requires tick { IsTick at.tick }
+    requires later { clock.old.at ≤ at.tick }
     requires room { 3 ≤ D.spare desk.old }
     ensures row { (took : Option Received)
-        → correcting_of (said took) ≡ Some (record { from = from; number = number })
-        → Performs SlaveStands SlaveStands (correction_of from number change) tick port
-        (station.old, (last.old, (clock.old, took))) (station.new, (last.new, (clock.new, took)))
-        (D.acts desk.old) (D.acts desk.new) }
+        → correcting_of (said took) ≡ correcting_in (Some correction)
+        → Performs SlaveStands SlaveStands (correction_of correction.from correction.number change)
+        at.tick at.port (station.old, (last.old, (clock.old, took)))
+        (station.new, (last.new, (clock.new, took))) (D.acts desk.old) (D.acts desk.new) }
     ensures room { PutsAtMost 3 (D.spare desk.old) (D.spare desk.new) (D.acts desk.old)
         (D.acts desk.new) }
     ensures port { IsSamePort station.old station.new }
-    ensures clock { clock.new.at ≤ tick }
+    ensures clock { clock.new.at ≤ at.tick }
 {
-    if acts_now(last, clock, tick, number, change) {
-        change_clock(last, clock, tick, from, number, change, port, desk);
-        confirm(station, tick, from, number, port, desk);
+    if acts_now(last, clock, at.tick, correction.number, change) {
+        change_clock(last, clock, at, correction, change, desk);
+        confirm(station, at, correction, desk);
     } else {
-        ack_repeat(station, last, from, number, port, desk);
+        ack_repeat(station, last, correction, at.port, desk);
     }
 }
 
@@ -71,72 +71,62 @@ fn acts_now(last: &Last, clock: &Clock, tick: u64, number: u16, change: Change) 
 fn change_clock<D: Desk>(
     last: &mut Last,
     clock: &mut Clock,
-    tick: u64,
-    from: PeerId,
-    number: u16,
+    at: At,
+    correction: Correction,
     change: Change,
-    port: Port,
     desk: &mut D,
 )
-    requires tick { IsTick tick }
-    requires later { clock.old.at ≤ tick }
-    requires range { fits clock.old tick change ≡ true }
+    requires tick { IsTick at.tick }
+    requires later { clock.old.at ≤ at.tick }
+    requires range { fits clock.old at.tick change ≡ true }
     requires room { 1 ≤ D.spare desk.old }
     ensures row { (station : Station) (took : Option Received)
-        → correcting_of (said took) ≡ Some (record { from = from; number = number })
-        → Performs SlaveStands SlaveStands (changes_clock change) tick port
+        → correcting_of (said took) ≡ correcting_in (Some correction)
+        → Performs SlaveStands SlaveStands (changes_clock change) at.tick at.port
         (station, (last.old, (clock.old, took))) (station, (last.new, (clock.new, took)))
         (D.acts desk.old) (D.acts desk.new) }
     ensures room { PutsExactly 1 (D.spare desk.old) (D.spare desk.new) (D.acts desk.old)
         (D.acts desk.new) }
-    ensures clock { clock.new.at ≤ tick }
+    ensures clock { clock.new.at ≤ at.tick }
 {
-    last.took(tick, from, number);
+    last.took(at.tick, correction);
     match change {
-        Change::By(amount) => clock.correct_by(tick, amount, port, desk),
-        Change::To(value) => clock.correct_to(tick, value, port, desk),
+        Change::By(amount) => clock.correct_by(at.tick, amount, at.port, desk),
+        Change::To(value) => clock.correct_to(at.tick, value, at.port, desk),
     }
 }
 
 /// After a correction the master counts as heard, and gets its answer.
-fn confirm<D: Desk>(
-    station: &mut Station,
-    tick: u64,
-    from: PeerId,
-    number: u16,
-    port: Port,
-    desk: &mut D,
-)
-    requires tick { IsTick tick }
+fn confirm<D: Desk>(station: &mut Station, at: At, correction: Correction, desk: &mut D)
+    requires tick { IsTick at.tick }
     requires room { 2 ≤ D.spare desk.old }
-    ensures row { Performs Stands Stands (confirms from number) tick port station.old station.new
-        (D.acts desk.old) (D.acts desk.new) }
+    ensures row { Performs Stands Stands (confirms correction.from correction.number) at.tick
+        at.port station.old station.new (D.acts desk.old) (D.acts desk.new) }
     ensures room { PutsExactly 2 (D.spare desk.old) (D.spare desk.new) (D.acts desk.old)
         (D.acts desk.new) }
     ensures port { IsSamePort station.old station.new }
 {
-    station.arm_elect(tick, port, desk);
-    station.post(from, Kind::Ack, number, port, desk);
+    station.arm_elect(at.tick, at.port, desk);
+    station.post(correction.from, Kind::Ack, correction.number, at.port, desk);
 }
 
 /// Acknowledges a repeat of the last correction again, and passes over any other.
 fn ack_repeat<D: Desk>(
     station: &Station,
     last: &Last,
-    from: PeerId,
-    number: u16,
+    correction: Correction,
     port: Port,
     desk: &mut D,
 )
     requires room { 1 ≤ D.spare desk.old }
     ensures row { (x : ℕ) (clock : ClockValue) (took : Option Received)
-        → Performs SlaveStands SlaveStands (acks_repeat from number) x port
+        → Performs SlaveStands SlaveStands (acks_repeat correction.from correction.number) x port
         (station.now, (last.now, (clock, took))) (station.now, (last.now, (clock, took)))
         (D.acts desk.old) (D.acts desk.new) }
     ensures room { PutsAtMost 1 (D.spare desk.old) (D.spare desk.new) (D.acts desk.old)
         (D.acts desk.new) }
 {
-    if last.is_repeat(from, number) {
-        station.post(from, Kind::Ack, number, port, desk);
+    if last.is_repeat(correction) {
+        station.post(correction.from, Kind::Ack, correction.number, port, desk);
     }
 }

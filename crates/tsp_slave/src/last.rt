@@ -39,7 +39,7 @@ impl Model for Last {
 }
 
 impl Last {
-    ghost use Rattle.tsp_slave.specs.Lasts.{Remembers};
+    ghost use Rattle.tsp_slave.specs.Lasts.{Remembers, correcting_in};
 
     /// Nothing is remembered of a life that has just begun.
     pub fn new() -> Last
@@ -76,15 +76,15 @@ impl Last {
     }
 
     /// Notes a Correct that a master's message made.
-    pub(crate) fn took(&mut self, tick: u64, from: PeerId, number: u16)
+    pub(crate) fn took(&mut self, tick: u64, correction: Correction)
         ensures { self.new ≡ record {
           tick = Some tick;
-          taken = Some (record { from = from; number = number });
+          taken = correcting_in (Some correction);
           name = self.old.name;
         } }
     {
         self.tick = Some(tick);
-        self.taken = Some(Correction { from, number });
+        self.taken = Some(correction);
     }
 
     /// Keeps a master's name.
@@ -94,13 +94,13 @@ impl Last {
         self.name = name.copy();
     }
 
-    /// Whether the last Correct took this number from this peer.
-    pub(crate) fn is_repeat(&self, from: PeerId, number: u16) -> bool
-        ensures { result ≡ is_by from number self.now.taken }
+    /// Whether the last Correct took this correction.
+    pub(crate) fn is_repeat(&self, correction: Correction) -> bool
+        ensures { result ≡ is_by correction.from correction.number self.now.taken }
     {
         match self.taken {
             None => false,
-            Some(last) => last.from.0 == from.0 && last.number == number,
+            Some(last) => last.from.0 == correction.from.0 && last.number == correction.number,
         }
     }
 

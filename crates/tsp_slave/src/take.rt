@@ -17,10 +17,11 @@ use crate::conflict::report_conflict;
 use crate::correction::correct;
 use crate::election::answer_candidate;
 use crate::follow::{follow, tell_ticket};
-use crate::last::Last;
+use crate::last::{Correction, Last};
 use crate::quit::take_quit;
 use tsp_acks::station::Station;
 use tsp_base::alarm::Alarm;
+use tsp_base::at::At;
 use tsp_base::desk::Desk;
 use tsp_base::kind::Kind;
 use tsp_base::message::Message;
@@ -54,24 +55,13 @@ pub fn slave_take<D: Desk>(
     ensures clock { clock.new.at ≤ tick }
 {
     let number = m.number();
+    let at = At { tick, port };
     match m.kind() {
-        Kind::MasterUp => hear_master(station, last, clock, tick, from, m, port, desk),
-        Kind::MasterAck => find_master(station, last, clock, tick, from, m, port, desk),
+        Kind::MasterUp => hear_master(station, last, clock, at, from, m, desk),
+        Kind::MasterAck => find_master(station, last, clock, at, from, m, desk),
         Kind::Election => answer_candidate(station, tick, from, number, port, desk),
-        Kind::AdjTime | Kind::SetTime => {
-            take_correction(station, last, clock, tick, from, m, port, desk)
-        }
-        Kind::Quit => take_quit(
-            station,
-            last,
-            clock,
-            tick,
-            from,
-            number,
-            m.name(),
-            port,
-            desk,
-        ),
+        Kind::AdjTime | Kind::SetTime => take_correction(station, last, clock, at, from, m, desk),
+        Kind::Quit => take_quit(station, last, clock, at, from, m, desk),
         Kind::Ack => {
             let _ = station.acknowledge(from, number, port, desk);
         }
@@ -85,17 +75,16 @@ fn hear_master<D: Desk>(
     station: &mut Station,
     last: &mut Last,
     clock: &Clock,
-    tick: u64,
+    at: At,
     from: PeerId,
     m: &Message,
-    port: Port,
     desk: &mut D,
 )
-    requires tick { IsTick tick }
+    requires tick { IsTick at.tick }
     requires room { 3 ≤ D.spare desk.old }
     requires peer { Contains station.old.peers from }
     ensures row { (took : Option Received) → IsMessage from m.now took
-        → Performs SlaveStands SlaveStands (reading role_at (masterup_in from)) tick port
+        → Performs SlaveStands SlaveStands (reading role_at (masterup_in from)) at.tick at.port
         (station.old, (last.old, (clock.now, took))) (station.new, (last.new, (clock.now, took)))
         (D.acts desk.old) (D.acts desk.new) }
     ensures room { PutsAtMost 3 (D.spare desk.old) (D.spare desk.new) (D.acts desk.old)
@@ -103,13 +92,13 @@ fn hear_master<D: Desk>(
     ensures port { IsSamePort station.old station.new }
 {
     match station.role {
-        Role::Loose => follow(station, last, clock, tick, from, m.name(), port, desk),
+        Role::Loose => follow(station, last, clock, at.tick, from, m.name(), at.port, desk),
         Role::Follow(q) => {
             if q.0 == from.0 {
-                station.arm_elect(tick, port, desk);
-                tell_ticket(station, clock, from, port, desk);
+                station.arm_elect(at.tick, at.port, desk);
+                tell_ticket(station, clock, from, at.port, desk);
             } else {
-                report_conflict(station, q, tick, port, desk);
+                report_conflict(station, q, at.tick, at.port, desk);
             }
         }
         _ => {}
@@ -121,17 +110,16 @@ fn find_master<D: Desk>(
     station: &mut Station,
     last: &mut Last,
     clock: &Clock,
-    tick: u64,
+    at: At,
     from: PeerId,
     m: &Message,
-    port: Port,
     desk: &mut D,
 )
-    requires tick { IsTick tick }
+    requires tick { IsTick at.tick }
     requires room { 3 ≤ D.spare desk.old }
     requires peer { Contains station.old.peers from }
     ensures row { (took : Option Received) → IsMessage from m.now took
-        → Performs SlaveStands SlaveStands (reading role_at (masterack_in from)) tick port
+        → Performs SlaveStands SlaveStands (reading role_at (masterack_in from)) at.tick at.port
         (station.old, (last.old, (clock.now, took))) (station.new, (last.new, (clock.now, took)))
         (D.acts desk.old) (D.acts desk.new) }
     ensures room { PutsAtMost 3 (D.spare desk.old) (D.spare desk.new) (D.acts desk.old)
@@ -141,12 +129,12 @@ fn find_master<D: Desk>(
     match station.role {
         Role::Loose => {
             if station.alarms.at(Alarm::Search).is_some() {
-                follow(station, last, clock, tick, from, m.name(), port, desk);
+                follow(station, last, clock, at.tick, from, m.name(), at.port, desk);
             }
         }
         Role::Follow(q) => {
             if q.0 != from.0 {
-                report_conflict(station, q, tick, port, desk);
+                report_conflict(station, q, at.tick, at.port, desk);
             }
         }
         _ => {}
@@ -158,32 +146,31 @@ fn take_correction<D: Desk>(
     station: &mut Station,
     last: &mut Last,
     clock: &mut Clock,
-    tick: u64,
+    at: At,
     from: PeerId,
     m: &Message,
-    port: Port,
     desk: &mut D,
 )
-    requires tick { IsTick tick }
-    requires later { clock.old.at ≤ tick }
+    requires tick { IsTick at.tick }
+    requires later { clock.old.at ≤ at.tick }
     requires room { 3 ≤ D.spare desk.old }
     ensures row { (took : Option Received)
         → correcting_of (said took) ≡ Some (record { from = from; number = m.now.number })
         → Performs SlaveStands SlaveStands
         (reading role_at (from_master from (correction_of from m.now.number (change_in m.now))))
-        tick port (station.old, (last.old, (clock.old, took)))
+        at.tick at.port (station.old, (last.old, (clock.old, took)))
         (station.new, (last.new, (clock.new, took))) (D.acts desk.old) (D.acts desk.new) }
     ensures room { PutsAtMost 3 (D.spare desk.old) (D.spare desk.new) (D.acts desk.old)
         (D.acts desk.new) }
     ensures port { IsSamePort station.old station.new }
-    ensures clock { clock.new.at ≤ tick }
+    ensures clock { clock.new.at ≤ at.tick }
 {
     match station.role {
         Role::Follow(q) => {
             if from.0 == q.0 {
-                let change = Change::of(m);
                 let number = m.number();
-                correct(station, last, clock, tick, from, number, change, port, desk);
+                let correction = Correction { from, number };
+                correct(station, last, clock, at, correction, Change::of(m), desk);
             }
         }
         _ => {}

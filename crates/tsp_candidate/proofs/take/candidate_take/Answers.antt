@@ -48,9 +48,7 @@ pub returns-in-Quit-clause-row : goal.returns-in-Quit-clause-row
 unfolding candidate_takes candidate_takes_kind
 returns-in-Quit-clause-row g c took e =
     let k : c.args.m.now.kind ≡ Quit = sym c.kind.ensures ∙ c.in-Quit.is in
-    let n : c.number-number.result ≡ c.args.m.now.number = c.number-number.ensures in
-    let d = c.take_quit.ensures.row in
-    rw k ((rw n at d) took (ap name_in e ∙ sym c.name-in-Quit.ensures))
+    rw k (c.take_quit.ensures.row took (ap name_in e))
 
 pub returns-in-Ack-clause-row : goal.returns-in-Ack-clause-row
 unfolding candidate_takes candidate_takes_kind

@@ -10,14 +10,16 @@ use Rattle.tsp_slave.proofs.correction.correct.Goals as goal
 
 pub returns-then-acts_now-clause-row : goal.returns-then-acts_now-clause-row
 returns-then-acts_now-clause-row g c took s =
-    let n = c.args.number in
-    rw (correction_of-is c.args.from n c.args.change) (Performs_then_part (acts_at n c.args.change) (acks_repeat c.args.from n)
-    (λ past h. acts_at-is n c.args.change c.args.tick past c.args.last.now c.args.clock.now h.second.first h.second.second.first ∙ (sym c.acts_now.ensures ∙ c.if-acts_now.true))
-    (Performs_then (c.change_clock.ensures.row c.args.station.now took s) (Performs_beside _ (AlsoStands_confirms c.args.from n) c.confirm.ensures.row)))
+    let from = c.args.correction.from in
+    let n = c.args.correction.number in
+    rw (correction_of-is from n c.args.change) (Performs_then_part (acts_at n c.args.change) (acks_repeat from n)
+    (λ past h. acts_at-is n c.args.change c.args.at.tick past c.args.last.now c.args.clock.now h.second.first h.second.second.first ∙ (sym c.acts_now.ensures ∙ c.if-acts_now.true))
+    (Performs_then (c.change_clock.ensures.row c.args.station.now took s) (Performs_beside _ (AlsoStands_confirms from n) c.confirm.ensures.row)))
 
 pub returns-else-acts_now-clause-row : goal.returns-else-acts_now-clause-row
 returns-else-acts_now-clause-row g c took s =
-    let n = c.args.number in
-    rw (correction_of-is c.args.from n c.args.change) (Performs_else_part (acts_at n c.args.change) (changes_clock c.args.change followed_by confirms c.args.from n)
-    (λ past h. acts_at-is n c.args.change c.args.tick past c.args.last.now c.args.clock.now h.second.first h.second.second.first ∙ (sym c.acts_now.ensures ∙ c.if-acts_now.false))
-    (c.ack_repeat.ensures.row c.args.tick c.args.clock.now took))
+    let from = c.args.correction.from in
+    let n = c.args.correction.number in
+    rw (correction_of-is from n c.args.change) (Performs_else_part (acts_at n c.args.change) (changes_clock c.args.change followed_by confirms from n)
+    (λ past h. acts_at-is n c.args.change c.args.at.tick past c.args.last.now c.args.clock.now h.second.first h.second.second.first ∙ (sym c.acts_now.ensures ∙ c.if-acts_now.false))
+    (c.ack_repeat.ensures.row c.args.at.tick c.args.clock.now took))

@@ -1,5 +1,5 @@
 -- The QUIT, its answer, and then whom the port follows.
-use Rattle.std.specs.Prelude.{refl}
+use Rattle.std.proofs.Common.{◌≡◌, refl, sym, ◌∙◌}
 use Rattle.tsp_base.specs.declared.act.Act.TheVariants.{Quit}
 use Rattle.tsp_base.specs.declared.kind.Kind.TheVariants.{Ack}
 use Rattle.tsp_base.specs.Rows.{puts}
@@ -13,5 +13,8 @@ use Rattle.tsp_slave.proofs.quit.take_quit.Goals as goal
 pub returns-clause-row : goal.returns-clause-row
 unfolding quits
 returns-clause-row g c took e =
+    let m = c.args.m.now in
+    let n : c.number.result ≡ m.number = c.number.ensures in
+    let post = rw n at c.post.ensures.row c.args.at.tick in
     Performs_then (Performs_beside _ (AlsoStands_by (puts (Quit c.args.from)) (Emits_puts (Quit c.args.from) refl)) c.quit.ensures.row)
-    (Performs_then (Performs_beside _ (AlsoStands_posts c.args.from Ack c.args.number refl) (c.post.ensures.row c.args.tick)) (c.follow_unless_following.ensures.row took e))
+    (Performs_then (Performs_beside _ (AlsoStands_posts c.args.from Ack m.number refl) post) (c.follow_unless_following.ensures.row took (e ∙ sym c.name.ensures)))

@@ -24,7 +24,7 @@ unfolding masterup_in
 returns-then-q-from-clause-row g c took e =
     let same : (c.in-Follow.q.0 == c.args.from.0) ≡ true = eq-eqb _ _ c.if-q-from.true in
     Performs_reading role_at (masterup_in c.args.from) (Follow c.in-Follow.q) (λ past h. let r = h.first.role in let i = c.in-Follow.is in cc)
-    (rw same (Performs_then (Performs_beside _ AlsoStands_arms_elect c.arm_elect.ensures.row) (c.tell_ticket.ensures.row c.args.tick _ took)))
+    (rw same (Performs_then (Performs_beside _ AlsoStands_arms_elect c.arm_elect.ensures.row) (c.tell_ticket.ensures.row c.args.at.tick _ took)))
 
 pub returns-else-q-from-clause-row : goal.returns-else-q-from-clause-row
 unfolding masterup_in

@@ -37,9 +37,7 @@ unfolding slave_takes slave_takes_kind
 returns-in-Quit-clause-row g c took e =
     let m = c.args.m.now in
     let k : m.kind ≡ Quit = sym c.kind.ensures ∙ c.in-Quit.is in
-    let n : c.number-number.result ≡ m.number = c.number-number.ensures in
-    let d = c.take_quit.ensures.row in
-    rw k ((rw n at d) took (ap name_in e ∙ sym c.name.ensures))
+    rw k (c.take_quit.ensures.row took (ap name_in e))
 
 pub returns-in-Ack-clause-row : goal.returns-in-Ack-clause-row
 unfolding slave_takes slave_takes_kind

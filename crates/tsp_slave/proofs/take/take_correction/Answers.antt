@@ -15,7 +15,7 @@ returns-then-from-q-clause-row g c took s =
     let m = c.args.m.now in
     let same : (c.in-Follow.q.0 == c.args.from.0) ≡ true = eq-eqb _ _ (sym c.if-from-q.true) in
     let n : c.number-number.result ≡ m.number = c.number-number.ensures in
-    let is : c.of-change.result ≡ change_in m = c.of-change.ensures in
+    let is : c.of.result ≡ change_in m = c.of.ensures in
     let d = c.correct.ensures.row in
     Performs_reading role_at (from_master c.args.from (correction_of c.args.from m.number (change_in m))) (Follow c.in-Follow.q) (λ past h. let r = h.first.role in let i = c.in-Follow.is in cc)
     (rw same ((rw (is, n) at d) took s))

@@ -4,11 +4,11 @@ use Rattle.tsp_date.proofs.DatesLemmas.{last-idle, peers-idle}
 use Rattle.tsp_date.proofs.dates.Dates.new.Goals as goal
 
 pub returns-clause-peers : goal.returns-clause-peers
-returns-clause-peers c = rw c.in_ok-dated.ensures (peers-idle c.args.peers.now)
+returns-clause-peers c = rw (c.into_boxed_slice.ensures.items, c.in_ok-dated.ensures) (peers-idle c.args.peers.now)
 
 pub returns-clause-stands : goal.returns-clause-stands
 returns-clause-stands c x past e = record {
-  peers = rw c.in_ok-dated.ensures (peers-idle c.args.peers.now ∙ sym e);
-  last = λ p. rw c.in_ok-dated.ensures (last-idle c.args.peers.now p);
+  peers = rw (c.into_boxed_slice.ensures.items, c.in_ok-dated.ensures) (peers-idle c.args.peers.now ∙ sym e);
+  last = λ p. rw (c.into_boxed_slice.ensures.items, c.in_ok-dated.ensures) (last-idle c.args.peers.now p);
   asked = refl;
 }

@@ -16,7 +16,7 @@ pub returns-in-None-clause-row : goal.returns-in-None-clause-row
 unfolding corrects_peer corrects_by puts
 returns-in-None-clause-row g c =
     let is : estimate_with c.args.self.now.rounds c.args.peer ≡ None = estimate-sample (best_of (measured_with c.args.self.now.rounds c.args.peer).samples) ∙ ap (option_map estimate_in) (sym c.in-None.ensures) in
-    rw is (Performs_lead _ _ c.args.clock.now (Emits_puts (Leave c.args.peer) refl) (λ past h. MasterStands_leaves c.args.peer c.args.tick past _ _ c.leave.ensures.entries c.leave.ensures.peers refl h.first)
+    rw is (Performs_lead _ _ c.args.clock.now (Emits_puts (Leave c.args.peer) refl) (λ past h. MasterStands_leaves c.args.peer c.args.at.tick past _ _ c.leave.ensures.entries c.leave.ensures.peers refl h.first)
     (Performs_idle (Leave c.args.peer) refl c.put.ensures.acts))
 
 pub returns-then-is_near-clause-row : goal.returns-then-is_near-clause-row
@@ -29,7 +29,8 @@ returns-then-is_near-clause-row g c =
     let back_mean : to_z w64 (of_z w64 c.args.mean) ≡ c.args.mean = to_z-of_z c.ranges.mean in
     let near : is_near diff ≡ true = rw back at (sym c.is_near.ensures ∙ c.if-is_near.true) in
     let amount : c.amount-amount.result ≡ c.args.mean -ℤ diff = rw (back_mean, back) at c.amount-amount.ensures in
-    rw (is, near) (rw amount at c.begin_adjtime.ensures.row)
+    let begun = c.begin_adjtime.ensures.row c.args.clock.now in
+    rw (is, near) (rw amount at begun)
 
 pub returns-else-is_near-clause-row : goal.returns-else-is_near-clause-row
 unfolding corrects_peer corrects_by

@@ -3,10 +3,10 @@ use Rattle.tsp_master.proofs.SlavesLemmas.{peers_of-idle, entry_of-idle}
 use Rattle.tsp_master.proofs.slaves.Slaves.new.Goals as goal
 
 pub invariant_of-result : goal.invariant_of-result
-invariant_of-result c = rw (c.in_ok-entries.ensures, peers_of-idle c.args.peers.now) c.requires
+invariant_of-result c = rw (c.into_boxed_slice.ensures.items, c.in_ok-entries.ensures, peers_of-idle c.args.peers.now) c.requires
 
 pub returns-clause-peers : goal.returns-clause-peers
-returns-clause-peers c = rw c.in_ok-entries.ensures (peers_of-idle c.args.peers.now)
+returns-clause-peers c = rw (c.into_boxed_slice.ensures.items, c.in_ok-entries.ensures) (peers_of-idle c.args.peers.now)
 
 pub returns-clause-idle : goal.returns-clause-idle
-returns-clause-idle c p = rw c.in_ok-entries.ensures (entry_of-idle c.args.peers.now p)
+returns-clause-idle c p = rw (c.into_boxed_slice.ensures.items, c.in_ok-entries.ensures) (entry_of-idle c.args.peers.now p)

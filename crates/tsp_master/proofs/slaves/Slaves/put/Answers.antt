@@ -1,12 +1,13 @@
 -- An entry of the same peer is put in its place.
 use Rattle.std.proofs.Common.{◌≡◌, set}
+use Rattle.std.specs.Box.{boxed_slice_items}
 use Rattle.tsp_master.specs.Slaves.{peers_of}
 use Rattle.tsp_master.proofs.SlavesLemmas.{peers_of-set}
 use Rattle.tsp_master.proofs.slaves.Slaves.put.Goals as goal
 
 pub invariant_of-self : goal.invariant_of-self
 invariant_of-self c =
-    let es = c.self.inside.entries.items in
+    let es = boxed_slice_items c.self.inside.entries in
     let same : peers_of (set es c.args.place c.args.entry) ≡ peers_of es = peers_of-set es c.args.place c.args.entry c.args.entry (λ h. rw c.self.view_is (c.requires.same c.args.entry)) in
     rw same c.self.invariant
 

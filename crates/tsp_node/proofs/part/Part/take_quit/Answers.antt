@@ -1,5 +1,5 @@
 -- The port follows who quits it, and its slaves and rivals are forgotten.
-use Rattle.std.proofs.Common.{◌≡◌, ◌&&◌, not, true, refl, sym}
+use Rattle.std.proofs.Common.{◌≡◌, ◌&&◌, not, true, refl}
 use Rattle.tsp_rules.specs.CommonRows.{quits}
 use Rattle.tsp_rules.specs.Guards.{is_master}
 use Rattle.tsp_rules.proofs.Emits.{Emits_more}
@@ -21,8 +21,8 @@ returns-clause-row g c =
     let led : is_master c.args.self.now.station.role ≡ true = rw c.requires.role refl in
     let clears : Clears (is_master c.args.self.now.station.role && not (is_master new.station.role)) c.args.self.now.master new.master = rw (led, c.part_from.ensures.station) c.part_from.ensures.slaves in
     let unmarks : Unmarks (is_master c.args.self.now.station.role && not (is_master new.station.role)) c.args.self.now.resolve new.resolve = rw (led, c.part_from.ensures.station) c.part_from.ensures.rivals in
-    let row = rw (c.number.ensures, ← c.part_from.ensures.station, ← c.part_from.ensures.last) at c.take_quit.ensures.row in
+    let row = rw (← c.part_from.ensures.station, ← c.part_from.ensures.last) at c.take_quit.ensures.row in
     Performs_heard c.part_from.ensures.dates (DatesAside_by (quits p m.number) (Emits_more calm_sorts refl emits)) (roles_date m.kind c.requires.audience)
     (λ past h s. slaves_part (quits p m.number) (Emits_more calm_sorts refl emits) x past (c.args.self.now, c.args.clock.now) (new, c.args.clock.now) clears h s)
     (λ past h s. rivals_part (quits p m.number) (Emits_more calm_sorts refl emits) x past (c.args.self.now, c.args.clock.now) (new, c.args.clock.now) unmarks h s)
-    (λ took is. row took (rw is (sym c.name.ensures)))
+    (λ took is. row took (rw is refl))

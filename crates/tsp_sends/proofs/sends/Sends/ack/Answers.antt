@@ -1,16 +1,17 @@
 use Rattle.std.proofs.Common.{None, refl, sym, ap, ◌∙◌}
+use Rattle.std.specs.Box.{boxed_slice_items}
 use Rattle.tsp_sends.specs.Slots.{has_number}
 use Rattle.tsp_sends.proofs.SearchLemmas.{sending_to-no_place}
 use Rattle.tsp_sends.proofs.SendsLemmas.{sending_found, SetsOnly-fill, peers_of-fill}
 use Rattle.tsp_sends.proofs.sends.Sends.ack.Goals as goal
 
 pub returns-in_default-clause-ends : goal.returns-in_default-clause-ends
-returns-in_default-clause-ends c = rw (← c.self.view_is, sending_to-no_place c.self.inside.slots.items c.args.peer c.in_default.field-0 (rw c.deref.ensures.value at c.in_default.ensures)) refl
+returns-in_default-clause-ends c = rw (← c.self.view_is, sending_to-no_place (boxed_slice_items c.self.inside.slots) c.args.peer c.in_default.field-0 (rw c.deref.ensures.value at c.in_default.ensures)) refl
 
 pub returns-then-ends-clause-ends : goal.returns-then-ends-clause-ends
 returns-then-ends-clause-ends c =
     let place = rw c.deref.ensures.value at c.in-Ok.ensures in
-    rw (← c.self.view_is) (c.has_number-ends.ensures ∙ ap (has_number c.args.number) (sym (sending_found c.self.inside.slots.items c.args.peer c.in-Ok.place c.index.result.now c.self.invariant.ascending place c.index.ensures)))
+    rw (← c.self.view_is) (c.has_number-ends.ensures ∙ ap (has_number c.args.number) (sym (sending_found (boxed_slice_items c.self.inside.slots) c.args.peer c.in-Ok.place c.index.result.now c.self.invariant.ascending place c.index.ensures)))
 
 pub returns-then-ends-clause-sends : goal.returns-then-ends-clause-sends
 returns-then-ends-clause-sends c =
@@ -23,4 +24,4 @@ returns-then-ends-clause-peers c = peers_of-fill c.args.self.now c.fill.new.self
 pub returns-else-ends-clause-ends : goal.returns-else-ends-clause-ends
 returns-else-ends-clause-ends c =
     let place = rw c.deref.ensures.value at c.in-Ok.ensures in
-    rw (← c.self.view_is) (c.has_number-ends.ensures ∙ ap (has_number c.args.number) (sym (sending_found c.self.inside.slots.items c.args.peer c.in-Ok.place c.index.result.now c.self.invariant.ascending place c.index.ensures)))
+    rw (← c.self.view_is) (c.has_number-ends.ensures ∙ ap (has_number c.args.number) (sym (sending_found (boxed_slice_items c.self.inside.slots) c.args.peer c.in-Ok.place c.index.result.now c.self.invariant.ascending place c.index.ensures)))
