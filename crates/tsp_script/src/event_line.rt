@@ -271,17 +271,10 @@ pub fn event_line(line: &[u8]) -> Result<EventItem, LineFault>
     }
 }
 
-<<<<<<< HEAD
-/// The event of a line as most are: a turn, a take, or octets on port 0. None too where the line is
-/// another event's.
-fn common_event(line: &[u8]) -> Option<EventItem>
-    ensures { IfSome result (λ item. SpellsEvent line.now item) }
-=======
 /// The event of the most frequent lines: a turn, a take, or octets on port 0. None says nothing: the line
 /// may be another event's.
-fn common_event(line: &[u8]) -> Option<Event>
-    ensures { IfSome result (λ e. SpellsEvent line.now (EventItem.Event e)) }
->>>>>>> 23ce1c31998ef6047335346d9f5c3fc3513b7013
+fn common_event(line: &[u8]) -> Option<EventItem>
+    ensures { IfSome result (λ item. SpellsEvent line.now item) }
 {
     let line = after(line, b"at ")?;
     let (at, line) = front_number(line)?;

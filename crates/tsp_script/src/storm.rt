@@ -179,14 +179,9 @@ impl Storm {
         Draw::Ask(k)
     }
 
-<<<<<<< HEAD
-    /// The event where the datagram was posted at this time: its take, or a turn where that is too long ago.
-    fn answer(&mut self, k: u64, time: u64) -> Draw
-=======
     /// The event after a question whose answer is this time: the datagram's take, or a turn where the time is too
     /// long ago.
-    fn answer(&mut self, k: u64, time: u64) -> Event
->>>>>>> 23ce1c31998ef6047335346d9f5c3fc3513b7013
+    fn answer(&mut self, k: u64, time: u64) -> Draw
         requires few { self.old.given < 200000 }
         requires number { k < 2 ^ 64 }
         ensures next { (result, self.new) ≡ as_event (storm_take k time self.old) }
@@ -216,13 +211,8 @@ impl Storm {
         })
     }
 
-<<<<<<< HEAD
-    /// A turn of a node that is drawn.
-    fn turn(&mut self, at: u64) -> Draw
-=======
     /// A turn of a node that is drawn at random.
-    fn turn(&mut self, at: u64) -> Event
->>>>>>> 23ce1c31998ef6047335346d9f5c3fc3513b7013
+    fn turn(&mut self, at: u64) -> Draw
         requires few { self.old.given < 200000 }
         requires time { at ≤ 20000 * (self.old.given + 1) }
         ensures next { (result, self.new) ≡ as_event (turns_one at self.old) }
@@ -233,13 +223,8 @@ impl Storm {
         Draw::Event(Event::Turn { at, node })
     }
 
-<<<<<<< HEAD
-    /// A stranger's request at a node that is drawn.
-    fn request(&mut self, at: u64) -> Draw
-=======
     /// A stranger's request at a node that is drawn at random.
-    fn request(&mut self, at: u64) -> Event
->>>>>>> 23ce1c31998ef6047335346d9f5c3fc3513b7013
+    fn request(&mut self, at: u64) -> Draw
         requires few { self.old.given < 200000 }
         requires time { at ≤ 20000 * (self.old.given + 1) }
         ensures next { (result, self.new) ≡ as_event (asks_one at self.old) }
