@@ -1,4 +1,5 @@
 pub mod AlarmCases
+pub mod AlarmOrder
 pub mod ConfigLemmas
 pub mod DatesKeeps
 pub mod DueLemmas

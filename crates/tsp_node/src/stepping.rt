@@ -115,14 +115,9 @@ impl Node {
         ensures room { PutsAtMost (16 * length (peers_in self.old) + 32) (D.spare desk.old)
             (D.spare desk.new) (D.acts desk.old) (D.acts desk.new) }
     {
-        self.ring(Alarm::Quiet, tick, desk);
-        self.ring(Alarm::Search, tick, desk);
-        self.ring(Alarm::Elect, tick, desk);
-        self.ring(Alarm::Window, tick, desk);
-        self.ring(Alarm::Probe, tick, desk);
-        self.ring(Alarm::Close, tick, desk);
-        self.ring(Alarm::Resolve, tick, desk);
-        self.ring(Alarm::Round, tick, desk);
+        for alarm in &Alarm::ALL {
+            self.ring(*alarm, tick, desk);
+        }
     }
 
     /// Handles one alarm where it is due. The caller handles a due Probe before the Close.
