@@ -1,6 +1,7 @@
 -- What is asked is answered, once.
 use Rattle.std.specs.Prelude.{◌≡◌, ◌==◌, ◌||◌, ◌≤◌, ℕ, ◌+◌, Bool, true, false, if◌then◌else◌, List, [], ◌∷◌, Option, None, Some, is_some, refl}
 use Rattle.std.proofs.Common.{sym, ap, arith, subst, eq-eqb, true≢false, ◌∙◌}
+use Rattle.std.proofs.Math.Bool.{or-false as or-none, or-true}
 use Rattle.tsp_base.specs.declared.act.Act.{Act}
 use Rattle.tsp_base.specs.declared.act.Act.TheVariants.{Post, Quit, Took}
 use Rattle.tsp_base.specs.declared.datagram.Datagram.TheVariants.{Message}
@@ -110,10 +111,6 @@ took-later l t q r still o e =
       alone = λ p n. taken-as ((l.port.0 == p.0) || is_shared l.did.deed) l.did (view p t) (still (taken (view p t))) ∙ h.alone p n;
     }
 
-or-none : (a : Bool) → (a || false) ≡ a
-or-none true = refl
-or-none false = refl
-
 seen-took : (b : Bool) (d : Did) (s : List Seen) (from : Place) (x : Taken) → d.deed ≡ Acts (Took from x) → taken (seen_as b d ∷ s) ≡ (if b then Some (record { from = from; taken = x }) else taken s)
 seen-took true d s from x is = ap (λ k. taken_after k (taken s)) is
 seen-took false d s from x is = refl
@@ -124,13 +121,9 @@ took-view l t q from x c is e =
     let sees : ((l.port.0 == q.0) || is_shared l.did.deed) ≡ c = ap (λ k. (l.port.0 == q.0) || is_shared k) is ∙ (or-none (l.port.0 == q.0) ∙ e) in
     seen-took ((l.port.0 == q.0) || is_shared l.did.deed) l.did (view q t) from x is ∙ ap (λ b. if b then Some (record { from = from; taken = x }) else taken (view q t)) sees
 
-or-all : (a : Bool) → (a || true) ≡ true
-or-all true = refl
-or-all false = refl
-
 begun-view : (l : Line) (t : List Line) (q : Port) → l.did.deed ≡ Begins → taken (view q (l ∷ t)) ≡ None
 begun-view l t q is =
-    let sees : ((l.port.0 == q.0) || is_shared l.did.deed) ≡ true = ap (λ k. (l.port.0 == q.0) || is_shared k) is ∙ or-all (l.port.0 == q.0) in
+    let sees : ((l.port.0 == q.0) || is_shared l.did.deed) ≡ true = ap (λ k. (l.port.0 == q.0) || is_shared k) is ∙ or-true (l.port.0 == q.0) in
     ap (λ b. taken (seen_as b l.did ∷ view q t)) sees ∙ ap (λ k. taken_after k (taken (view q t))) is
 
 other-port : (p q r : Port) → p ≡ q → (r.0 == q.0) ≡ false → (b : Bool) → (p.0 == r.0) ≡ b → b ≡ false

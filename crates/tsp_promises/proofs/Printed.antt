@@ -19,13 +19,14 @@ use Rattle.tsp_promises.specs.CorrectFits.{is_stepped, sets_time}
 use Rattle.tsp_rules.specs.Guards.{target_at}
 use Rattle.tsp_rules.proofs.Asides.{now}
 
-eased-none : (r : ℤ) → eased r 0 ≡ r
-eased-none (pos r) = grind (arith, ints)
-eased-none (negsuc r) = grind (arith, ints)
+-- nothing is slewed by 0
+pub eased_none : (r : ℤ) → eased r 0 ≡ r
+eased_none (pos r) = grind (arith, ints)
+eased_none (negsuc r) = grind (arith, ints)
 
 -- nothing is slewed in no time
 eased-now : (r : ℤ) (x : ℕ) → eased r ((x - x) / SLEW) ≡ r
-eased-now r x = let none : (x - x) / SLEW ≡ 0 = omega arith in subst (λ n. eased r n ≡ r) (sym none) (eased-none r)
+eased-now r x = let none : (x - x) / SLEW ≡ 0 = omega arith in subst (λ n. eased r n ≡ r) (sym none) (eased_none r)
 
 moves-on : (c m a e f : ℤ) (x : ℕ) → e ≡ f → ((c +ℤ (m +ℤ a)) +ℤ pos x) -ℤ e ≡ (((c +ℤ m) +ℤ pos x) +ℤ a) -ℤ f
 moves-on c m a e f x h = omega (arith, ints)

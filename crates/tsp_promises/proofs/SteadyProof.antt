@@ -18,16 +18,13 @@ use Rattle.tsp_promises.proofs.EverywhereLemmas.{Everywhere-from}
 use Rattle.tsp_promises.proofs.HistoryPlaces.{of-other, of-own, Within-of}
 use Rattle.tsp_promises.proofs.Locating.{tick_in}
 use Rattle.tsp_promises.proofs.OwnFitsProof.{fits_at, own_fits, tick_is}
+use Rattle.tsp_promises.proofs.Printed.{eased_none}
 use Rattle.tsp_promises.proofs.SinceProof.{last_by, since}
 
 -- more slewing changes a rest by no more than itself
 eased-by : (r : ℤ) (n m : ℕ) → n ≤ m → nat_abs (eased r m -ℤ eased r n) ≤ m - n
 eased-by (pos r) n m h = grind (arith, ints)
 eased-by (negsuc r) n m h = grind (arith, ints)
-
-eased-none : (r : ℤ) → eased r 0 ≡ r
-eased-none (pos r) = grind (arith, ints)
-eased-none (negsuc r) = grind (arith, ints)
 
 -- two readings, at the ticks x and y, are apart as the ticks are, give or take one in two hundred of them and c besides
 abbrev pub Near : ℕ → ℤ → ℤ → ℕ → ℕ → Type 0
@@ -36,23 +33,21 @@ Near c early late x y = 200 * nat_abs ((late -ℤ early) -ℤ pos (y - x)) ≤ (
 between : (a e f : ℤ) (x y d : ℕ) → x ≤ y → nat_abs (f -ℤ e) ≤ d → nat_abs ((((a +ℤ pos y) -ℤ f) -ℤ ((a +ℤ pos x) -ℤ e)) -ℤ pos (y - x)) ≤ d
 between a e f x y d h k = omega (arith, ints)
 
--- in one stretch
-stretch : (t : List Did) (x y : ℕ) → last_correct t ≤ x → x ≤ y → Near 199 (shown t x) (shown t y) x y
-stretch t x y h k =
+-- by as much as is slewed between
+slewed-by : (t : List Did) (x y : ℕ) → x ≤ y → nat_abs ((shown t y -ℤ shown t x) -ℤ pos (y - x)) ≤ (y - last_correct t) / 200 - (x - last_correct t) / 200
+slewed-by t x y k =
     let c = last_correct t in
     let n : (x - c) / 200 ≤ (y - c) / 200 = omega arith in
     let e = eased-by (rest t) ((x - c) / 200) ((y - c) / 200) n in
-    let b = between ((wall t -ℤ pos (boot_tick t)) +ℤ moved t) (eased (rest t) ((x - c) / 200)) (eased (rest t) ((y - c) / 200)) x y ((y - c) / 200 - (x - c) / 200) k e in
-    omega (arith, b)
+    between ((wall t -ℤ pos (boot_tick t)) +ℤ moved t) (eased (rest t) ((x - c) / 200)) (eased (rest t) ((y - c) / 200)) x y ((y - c) / 200 - (x - c) / 200) k e
+
+-- in one stretch
+stretch : (t : List Did) (x y : ℕ) → last_correct t ≤ x → x ≤ y → Near 199 (shown t x) (shown t y) x y
+stretch t x y h k = let b = slewed-by t x y k in omega (arith, b)
 
 -- and nothing besides from its beginning on
 pub stretch_from : (t : List Did) (x y : ℕ) → last_correct t ≡ x → x ≤ y → Near 0 (shown t x) (shown t y) x y
-stretch_from t x y h k =
-    let c = last_correct t in
-    let n : (x - c) / 200 ≤ (y - c) / 200 = omega arith in
-    let e = eased-by (rest t) ((x - c) / 200) ((y - c) / 200) n in
-    let b = between ((wall t -ℤ pos (boot_tick t)) +ℤ moved t) (eased (rest t) ((x - c) / 200)) (eased (rest t) ((y - c) / 200)) x y ((y - c) / 200 - (x - c) / 200) k e in
-    omega (arith, b, h)
+stretch_from t x y h k = let b = slewed-by t x y k in omega (arith, b, h)
 
 -- what a deed leaves to show
 abbrev shown_by : Deed → Did → List Did → ℕ → ℤ
@@ -77,7 +72,7 @@ onward (Acts (Correct amount true value)) d b j none = absurd (true≢false (non
 onward (Acts (Correct amount false value)) d b j none = inr (λ y h.
     let left = eased (rest b) ((d.tick - last_correct b) / 200) in
     let n = (y - d.tick) / 200 in
-    let e : nat_abs (eased (left +ℤ amount) n -ℤ (left +ℤ amount)) ≤ n = subst (λ z. nat_abs (eased (left +ℤ amount) n -ℤ z) ≤ n) (eased-none (left +ℤ amount)) (let z = eased-by (left +ℤ amount) 0 n (omega arith) in omega (arith, z)) in
+    let e : nat_abs (eased (left +ℤ amount) n -ℤ (left +ℤ amount)) ≤ n = subst (λ z. nat_abs (eased (left +ℤ amount) n -ℤ z) ≤ n) (eased_none (left +ℤ amount)) (let z = eased-by (left +ℤ amount) 0 n (omega arith) in omega (arith, z)) in
     let w = wall b -ℤ pos (boot_tick b) in
     let s = slewed-on (w +ℤ moved b) left (left +ℤ amount) amount (eased (left +ℤ amount) n) d.tick y n h refl e in
     let z = subst (λ k. nat_abs ((((k +ℤ pos y) -ℤ eased (left +ℤ amount) n) -ℤ (((w +ℤ moved b) +ℤ pos d.tick) -ℤ left)) -ℤ pos (y - d.tick)) ≤ n) (sym (reorder w (moved b) amount)) s in
