@@ -9,6 +9,8 @@
 #[cfg(test)]
 mod acts;
 #[cfg(test)]
+mod alone;
+#[cfg(test)]
 mod candidate;
 #[cfg(test)]
 mod clients;
