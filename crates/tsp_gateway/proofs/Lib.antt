@@ -1,3 +1,4 @@
+pub mod AlarmsLemmas
 pub mod AnyLemmas
 pub mod AsideLemmas
 pub mod BootLemmas

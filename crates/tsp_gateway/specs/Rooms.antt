@@ -1,5 +1,7 @@
 -- How much room a gateway's step takes.
 use Rattle.std.specs.Prelude.{ℕ, ◌+◌, ◌*◌, List, [], ◌∷◌, length, map, slice_index_or}
+use Rattle.tsp_base.specs.declared.alarm.Alarm.{Alarm}
+use Rattle.tsp_base.specs.declared.alarm.Alarm.TheVariants.{Probe}
 use Rattle.tsp_base.specs.declared.place.PeerId.{PeerId}
 use Rattle.tsp_rules.specs.Rooms.{room_for}
 use Rattle.tsp_node.specs.declared.part.Part.{Part}
@@ -17,6 +19,11 @@ peers_at q ports = length (slice_index_or ports q [])
 abbrev pub room_of_ports : List (List PeerId) → ℕ
 room_of_ports [] = 0
 room_of_ports (peers ∷ rest) = room_for (length peers) + room_of_ports rest
+
+-- how many acts an alarm of a port may put: a Probe may send LOOPs too, one more for each peer
+abbrev pub alarm_room : Alarm → ℕ → ℕ
+alarm_room Probe peers = 3 * peers + 8
+alarm_room _ peers = 2 * peers + 8
 
 -- how many acts a port's due sends and alarms may put; and the sum over all ports
 abbrev pub turn_room : ℕ → ℕ

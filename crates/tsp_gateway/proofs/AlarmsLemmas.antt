@@ -1,0 +1,69 @@
+-- A port's alarms, one after the other.
+use Rattle.std.proofs.Common.{◌≡◌, ◌+◌, ◌*◌, ◌<◌, ◌≤◌, ◌++◌, ◌∷◌, [], ℕ, zero, suc, List, length, take, drop, arith, refl, ap, append-nil, ◌∙◌}
+use Rattle.std.specs.Prelude.{slice_index_or}
+use Rattle.tsp_base.specs.declared.act.Placed.{Placed}
+use Rattle.tsp_base.specs.declared.alarm.Alarm.{Alarm}
+use Rattle.tsp_base.specs.declared.alarm.Alarm.TheVariants.{Probe}
+use Rattle.tsp_base.specs.declared.alarm.TheConstants.Alarm.{ALL}
+use Rattle.tsp_base.specs.declared.place.Port.{Port}
+use Rattle.tsp_rules.specs.GateRows.{alarm_on, alarms_on, each_on}
+use Rattle.tsp_rules.specs.NodePerforms.{PerformsAll}
+use Rattle.tsp_rules.specs.NodeRows.{NodePast, NodeRow, nothing_at_all, spread, ◌and_then◌}
+use Rattle.tsp_gateway.specs.Rooms.{alarm_room}
+use Rattle.tsp_gateway.proofs.LiftLemmas.{All_nothing}
+
+-- what these alarms may take together
+abbrev pub alarms_room : List Alarm → ℕ → ℕ
+alarms_room [] peers = 0
+alarms_room (a ∷ rest) peers = alarm_room a peers + alarms_room rest peers
+
+pub alarms_room-more : (alarms : List Alarm) (a : Alarm) (peers : ℕ) → alarms_room (alarms ++ a ∷ []) peers ≡ alarms_room alarms peers + alarm_room a peers
+alarms_room-more [] a peers = omega arith
+alarms_room-more (b ∷ rest) a peers = let more = alarms_room-more rest a peers in omega (arith, more)
+
+pub alarms_room-front : (alarms : List Alarm) (i peers : ℕ) → alarms_room (take i alarms) peers ≤ alarms_room alarms peers
+alarms_room-front alarms zero peers = omega arith
+alarms_room-front [] (suc i) peers = omega arith
+alarms_room-front (a ∷ rest) (suc i) peers = let front = alarms_room-front rest i peers in omega (arith, front)
+
+pub all_room : (peers : ℕ) → alarms_room ALL peers ≡ 17 * peers + 64
+all_room peers = omega arith
+
+pub little_room : (a : Alarm) (peers : ℕ) → 2 * peers + 8 ≤ alarm_room a peers
+little_room Probe peers = omega arith
+little_room _ peers = omega arith
+
+-- a row for each of these alarms, with nothing after the last
+abbrev pub all_on : Port → List Alarm → NodeRow
+all_on q [] = nothing_at_all
+all_on q (a ∷ rest) = alarm_on q a and_then all_on q rest
+
+all_on-is : (q : Port) (alarms : List Alarm) (x : ℕ) (past : NodePast) → all_on q alarms x past ≡ each_on q alarms x past
+unfolding nothing_at_all ◌and_then◌
+all_on-is q [] x past = refl
+all_on-is q (a ∷ []) x past = append-nil (alarm_on q a x past)
+all_on-is q (a ∷ b ∷ rest) x past = ap (λ acts. alarm_on q a x past ++ acts) (all_on-is q (b ∷ rest) x (spread x past (alarm_on q a x past)))
+
+pub all_on-alarms : (q : Port) (x : ℕ) (past : NodePast) → all_on q ALL x past ≡ alarms_on q x past
+unfolding alarms_on
+all_on-alarms q x past = all_on-is q ALL x past
+
+-- the alarms from one on
+drop_suc : {A : Type 0} (xs : List A) (i : ℕ) (d : A) → i < length xs → drop i xs ≡ slice_index_or xs i d ∷ drop (suc i) xs
+drop_suc [] i d h = absurd (omega arith)
+drop_suc (x ∷ xs) zero d h = refl
+drop_suc (x ∷ xs) (suc i) d h = drop_suc xs i d (omega arith)
+
+pub drop_next : {A : Type 0} (xs : List A) (i : ℕ) (d : A) → i < length xs → drop i xs ≡ slice_index_or xs i d ∷ drop (i + 1) xs
+drop_next xs i d h = let one : suc i ≡ i + 1 = omega arith in drop_suc xs i d h ∙ ap (λ k. slice_index_or xs i d ∷ drop k xs) one
+
+pub drop_all : {A : Type 0} (i : ℕ) (xs : List A) → length xs ≤ i → drop i xs ≡ []
+drop_all zero [] h = refl
+drop_all (suc i) [] h = refl
+drop_all zero (x ∷ xs) h = absurd (omega arith)
+drop_all (suc i) (x ∷ xs) h = drop_all i xs (omega arith)
+
+-- with no alarm left nothing is to be done
+pub nothing_left : {S : Type 0} {p : NodePast → S → Type 0} (q : Port) {x : ℕ} {state : S} {old : List Placed} → PerformsAll p p (all_on q []) x state state old old
+unfolding nothing_at_all
+nothing_left q = All_nothing
