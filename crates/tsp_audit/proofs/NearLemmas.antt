@@ -1,7 +1,11 @@
 -- Whether clocks are near each other, as it is computed.
-use Rattle.std.specs.Prelude.{◌≡◌, ◌+◌, ◌*◌, ◌≤ℤ◌, ℕ, ℤ, pos, ◌+ℤ◌, ◌-ℤ◌, nat_abs, Bool, MatchBool}
-use Rattle.std.proofs.Common.{arith, subst, subst₂}
+use Rattle.std.specs.Prelude.{◌≡◌, ◌+◌, ◌*◌, ◌≤ℤ◌, ◌<◌, ◌≤◌, ℕ, ℤ, pos, ◌+ℤ◌, ◌-ℤ◌, nat_abs, Bool, List, length, MatchBool}
+use Rattle.std.proofs.Common.{arith, subst, subst₂, sym, ◌⊎◌, inl, inr}
+use Rattle.std.proofs.lemmas.Bool.{cases_lt}
 use Rattle.std.proofs.lemmas.Int.{ints}
+use Rattle.tsp_base.specs.Headers.{HeaderValue}
+use Rattle.tsp_audit.specs.Agreeing.{AgreesBack, AllAgree, IsAt, NodeAgrees, PairAgrees, shown_by}
+use Rattle.tsp_audit.specs.declared.round_correction.NodeState.{NodeState}
 
 pub near-told : (b : Bool) (u v most x y w : ℤ) → u ≡ x → v ≡ y → most ≡ w → MatchBool b (pos (nat_abs (u -ℤ v)) ≤ℤ most) (pos (nat_abs (u -ℤ v)) ≤ℤ most → ⊥) → MatchBool b (pos (nat_abs (x -ℤ y)) ≤ℤ w) (pos (nat_abs (x -ℤ y)) ≤ℤ w → ⊥)
 near-told b u v most x y w ux vy mw m =
@@ -12,3 +16,23 @@ bound-same a e b f s t u v ae bf su tv = omega (arith, ints, ae, bf, su, tv)
 
 pub lone-same : (a e : ℤ) (s u : ℕ) → a ≡ e → s ≡ u → (a +ℤ pos 0) +ℤ pos (2 * s + 2 * 0) ≡ e +ℤ pos (2 * u)
 lone-same a e s u ae su = omega (arith, ints, ae, su)
+
+near-turned : (x y m w : ℤ) → pos (nat_abs (x -ℤ y)) ≤ℤ m → m ≡ w → pos (nat_abs (y -ℤ x)) ≤ℤ w
+near-turned x y m w near same = omega (arith, ints, near, same)
+
+-- what two nodes ask of each other is the same
+pub pair-turned : (header : HeaderValue) (t n k : ℕ) (a b : NodeState) → PairAgrees header t n a k b → PairAgrees header t k b n a
+pair-turned header t n k a b f c d bc ad masters closes =
+    near-turned (shown_by header n a.moved t) (shown_by header k b.moved t) _ _ (f d c ad bc (sym masters) (sym closes)) (omega (arith, ints))
+
+-- nodes of which each agrees with those up to itself all agree
+pub all-back : (header : HeaderValue) (t : ℕ) (states : List NodeState) → ((n : ℕ) (a : NodeState) → n < length states → IsAt states n a → AgreesBack header t n a states) → AllAgree header t states
+all-back header t states back n a at = record { pairs = pairs; master = (back n a at.below at).master } where
+  pairs : (k : ℕ) (b : NodeState) → IsAt states k b → PairAgrees header t n a k b
+  pairs k b kat = by_case (cases_lt n k) where
+    by_case : (n < k) ⊎ (k ≤ n) → PairAgrees header t n a k b
+    by_case (inl lt) = pair-turned header t k n b a ((back k b kat.below kat).pairs n a (omega arith) at)
+    by_case (inr le) = (back n a at.below at).pairs k b le kat
+
+pub back-all : (header : HeaderValue) (t n : ℕ) (a : NodeState) (states : List NodeState) → NodeAgrees header t n a states → AgreesBack header t n a states
+back-all header t n a states agrees = record { pairs = λ k b le at. agrees.pairs k b at; master = agrees.master }

@@ -132,7 +132,12 @@ pub record NodeAgrees (header : HeaderValue) (t n : ℕ) (a : NodeState) (states
   pub pairs : (k : ℕ) (b : NodeState) → IsAt states k b → PairAgrees header t n a k b
   pub master : BossAgrees header t n a states
 
--- each of these nodes does
+-- a node agrees with each up to itself that the same Close corrected, and with its master
+pub record AgreesBack (header : HeaderValue) (t n : ℕ) (a : NodeState) (states : List NodeState) : Type 0 where
+  pub pairs : (k : ℕ) (b : NodeState) → k ≤ n → IsAt states k b → PairAgrees header t n a k b
+  pub master : BossAgrees header t n a states
+
+-- each of these nodes agrees with all
 abbrev pub AllAgree : HeaderValue → ℕ → List NodeState → Type 0
 AllAgree header t states = (n : ℕ) (a : NodeState) → IsAt states n a → NodeAgrees header t n a states
 

@@ -2,7 +2,7 @@
 ghost use Rattle.std.specs.Prelude.{◌≡◌, ◌≤◌, ◌<◌, ◌^◌, ◌+◌, ◌-◌, ◌*◌, ◌≤ℤ◌, ◌+ℤ◌, ◌-ℤ◌, pos};
 ghost use Rattle.std.specs.Prelude.{neg_ℤ, nat_abs, ℕ, length, get_or, Some, MatchBool};
 ghost use Rattle.tsp_audit.specs.Agreeing.{AllAgree, AllBounded, BossAgrees, IsAt, MasterNear};
-ghost use Rattle.tsp_audit.specs.Agreeing.{NodeAgrees, PairAgrees, PairNear, Stands, shown_by};
+ghost use Rattle.tsp_audit.specs.Agreeing.{AgreesBack, PairAgrees, PairNear, Stands, shown_by};
 ghost use Rattle.tsp_audit.specs.declared.round_correction.NodeState.{NodeState as NodeValue};
 ghost use Rattle.tsp_base.specs.Ticks.{width};
 ghost use Rattle.tsp_history.specs.Clocks.{IsSumOf, IsTrip};
@@ -122,16 +122,18 @@ fn pair_agrees(
     }
 }
 
-/// Whether a node agrees with each that the same Close corrected.
+/// Whether a node agrees with each, up to itself, that the same Close corrected. What two nodes ask
+/// of each other is the same, so that all pairs are looked at once.
 fn pairs_agree(header: &Header, at: u64, node: u32, a: &NodeState, states: &[NodeState]) -> bool
-    requires { length states.now < 2 ^ 32 }
+    requires node { node < length states.now }
+    requires few { length states.now < 2 ^ 32 }
     ensures { at ≤ 1000000000000000 → IsSumOf 4294967295 a.now.moved → AllBounded states.now
-        → MatchBool result ((k : ℕ) (b : NodeValue) → IsAt states.now k b
-        → PairAgrees header.now at node a.now k b) (((k : ℕ) (b : NodeValue) → IsAt states.now k b
-        → PairAgrees header.now at node a.now k b) → ⊥) }
+        → MatchBool result ((k : ℕ) (b : NodeValue) → k ≤ node → IsAt states.now k b
+        → PairAgrees header.now at node a.now k b) (((k : ℕ) (b : NodeValue) → k ≤ node
+        → IsAt states.now k b → PairAgrees header.now at node a.now k b) → ⊥) }
 {
-    for k in 0..states.len() {
-        if !pair_agrees(header, at, node, a, k as u32, &states[k]) {
+    for k in 0..node + 1 {
+        if !pair_agrees(header, at, node, a, k, &states[k as usize]) {
             return false;
         }
     }
@@ -195,12 +197,13 @@ fn master_agrees(header: &Header, at: u64, node: u32, a: &NodeState, states: &[N
     }
 }
 
-/// Whether a node agrees with each that the same Close corrected, and with its master.
+/// Whether a node agrees with each, up to itself, that the same Close corrected, and with its master.
 fn node_agrees(header: &Header, at: u64, node: u32, a: &NodeState, states: &[NodeState]) -> bool
-    requires { length states.now < 2 ^ 32 }
+    requires node { node < length states.now }
+    requires few { length states.now < 2 ^ 32 }
     ensures { at ≤ 1000000000000000 → IsSumOf 4294967295 a.now.moved → AllBounded states.now
-        → MatchBool result (NodeAgrees header.now at node a.now states.now)
-        (NodeAgrees header.now at node a.now states.now → ⊥) }
+        → MatchBool result (AgreesBack header.now at node a.now states.now)
+        (AgreesBack header.now at node a.now states.now → ⊥) }
 {
     if a.cast.is_none() {
         return true;

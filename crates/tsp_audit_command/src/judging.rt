@@ -60,8 +60,12 @@ impl ClaimReader {
     pub(crate) fn judge(self) -> Result<Option<Failure>, AllocError>
         ensures { IfOk result (λ found. Judges self.header self.passed found) }
     {
+        let events = self.events;
+        let told = self.told;
+        // The audit takes the lines in anew: two histories of them aren't held at once.
+        drop(self.claims);
         let mut audit = Audit::new(self.alloc, self.header, self.premises)?;
-        audit_all(&mut audit, self.events.as_slice(), self.told.as_slice())?;
+        audit_all(&mut audit, events.as_slice(), told.as_slice())?;
         Ok(audit.failure())
     }
 }

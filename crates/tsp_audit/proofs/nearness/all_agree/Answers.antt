@@ -1,9 +1,10 @@
 use Rattle.std.proofs.Common.{◌≡◌, ℕ, pos, sym, subst, subst₂, arith, inl, inr, get_or, None}
 use Rattle.std.proofs.lemmas.Bool.{cases_lt}
-use Rattle.tsp_audit.specs.Agreeing.{NodeAgrees}
+use Rattle.tsp_audit.specs.Agreeing.{AgreesBack}
 use Rattle.tsp_audit.specs.declared.round_correction.NodeState.{NodeState}
 use Rattle.tsp_audit.proofs.AccordSteps.{state-at}
 use Rattle.tsp_history.specs.Clocks.{IsSumOf}
+use Rattle.tsp_audit.proofs.NearLemmas.{all-back, back-all}
 use Rattle.tsp_audit.proofs.nearness.all_agree.Goals as goal
 
 pub loop-n-preserved : goal.loop-n-preserved
@@ -15,5 +16,8 @@ loop-n-preserved c soon all n a lt at =
           let e : c.loop-n.n ≡ n = omega (arith, lt, le) in
           let here : get_or c.args.states.now c.loop-n.n none ≡ a = state-at c.args.states.now c.loop-n.n n none a at e in
           let small : IsSumOf 4294967295 (get_or c.args.states.now c.loop-n.n none).moved = subst (λ (s : NodeState). IsSumOf 4294967295 s.moved) (sym here) (all n a at) in
-          subst₂ (λ (j : ℕ) (s : NodeState). NodeAgrees c.args.header.now c.args.at j s c.args.states.now) e here (c.if-not-node_agrees.ensures soon small all)
+          subst₂ (λ (j : ℕ) (s : NodeState). AgreesBack c.args.header.now c.args.at j s c.args.states.now) e here (c.if-not-node_agrees.ensures soon small all)
     ]
+
+pub returns : goal.returns
+returns c soon all = all-back c.args.header.now c.args.at c.args.states.now (λ n a lt at. c.loop-n.invariant soon all n a (omega arith) at)

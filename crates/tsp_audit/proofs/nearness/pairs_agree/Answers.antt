@@ -7,10 +7,10 @@ use Rattle.tsp_history.specs.Clocks.{IsSumOf}
 use Rattle.tsp_audit.proofs.nearness.pairs_agree.Goals as goal
 
 pub loop-k-preserved : goal.loop-k-preserved
-loop-k-preserved c soon sum all k b lt at =
+loop-k-preserved c soon sum all k b lt le-node at =
     let none : NodeState = record { moved = pos 0; lives = 0; corrects = 0; after = None; cast = None } in
     elim (cases_lt k c.loop-k.k) [
-      | inl less ↦ c.loop-k.invariant soon sum all k b less at
+      | inl less ↦ c.loop-k.invariant soon sum all k b less le-node at
       | inr le ↦
           let e : c.loop-k.k ≡ k = omega (arith, lt, le) in
           let here : get_or c.args.states.now c.loop-k.k none ≡ b = state-at c.args.states.now c.loop-k.k k none b at e in

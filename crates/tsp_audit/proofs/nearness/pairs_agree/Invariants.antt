@@ -6,4 +6,4 @@ use Rattle.tsp_history.specs.Clocks.{IsSumOf}
 use Rattle.tsp_audit.proofs.nearness.pairs_agree.Given as goal
 
 abbrev pub invariant-loop-k : goal.invariant-loop-k
-invariant-loop-k l = l.at ≤ 1000000000000000 → IsSumOf 4294967295 l.a.moved → AllBounded l.states → (k : ℕ) (b : NodeState) → k < l.k → IsAt l.states k b → PairAgrees l.header l.at l.node l.a k b
+invariant-loop-k l = l.at ≤ 1000000000000000 → IsSumOf 4294967295 l.a.moved → AllBounded l.states → (k : ℕ) (b : NodeState) → k < l.k → k ≤ l.node → IsAt l.states k b → PairAgrees l.header l.at l.node l.a k b
