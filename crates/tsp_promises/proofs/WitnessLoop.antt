@@ -73,9 +73,13 @@ abbrev l5 : List Line
 l5 = then_step (step_at 305000000 1 Turned) al5 l4
 
 f5 : Fits (still false) l5
-f5 = step-fits false (step_at 305000000 1 Turned) al5 l4 f4 refl
-    ((refl, tt), ((refl, record { rested = omega arith; quiet = λ x e. none-some x e; stands = refl; start = _; idle = _; start_is = refl; soon = omega arith; backs = refl; wins = λ e. absurd (true≢false (sym e)) }),
-    ((refl, tt), ((refl, record { rested = omega arith; quiet = λ x e. none-some x e; stands = refl; start = _; idle = _; start_is = refl; soon = omega arith; backs = refl; wins = λ e. absurd (true≢false (sym e)) }), tt))))
+f5 = step-fits false (step_at 305000000 1 Turned) al5 l4 f4 refl (
+  (refl, tt),
+  (
+    (refl, record { rested = omega arith; quiet = λ x e. none-some x e; stands = refl; start = _; idle = _; start_is = refl; soon = omega arith; backs = refl; wins = λ e. absurd (true≢false (sym e)) }),
+    ((refl, tt), ((refl, record { rested = omega arith; quiet = λ x e. none-some x e; stands = refl; start = _; idle = _; start_is = refl; soon = omega arith; backs = refl; wins = λ e. absurd (true≢false (sym e)) }), tt)),
+  ),
+)
 
 abbrev al6 : List Placed
 al6 = on port0 (Post (Peer (peer_of 2)) (Message (loop_with 10))) ∷ []
@@ -93,8 +97,10 @@ abbrev l7 : List Line
 l7 = then_step (step_at 310000001 2 (Came 0)) al7 l6
 
 f7 : Fits (still false) l7
-f7 = step-fits false (step_at 310000001 2 (Came 0)) al7 l6 f6 refl ((refl, (refl, came refl refl refl refl refl)),
-    ((refl, record { rested = inl (omega arith); fits = inr (record { from = peer_of 1; message = loop_with 10; took = refl; kind = refl; name = refl; number = refl; other = λ e. names-differ 1 2 (omega arith) (sym e); left = 9; came = refl; goes = refl; few = omega arith }) }), tt))
+f7 = step-fits false (step_at 310000001 2 (Came 0)) al7 l6 f6 refl (
+  (refl, (refl, came refl refl refl refl refl)),
+  ((refl, record { rested = inl (omega arith); fits = inr (record { from = peer_of 1; message = loop_with 10; took = refl; kind = refl; name = refl; number = refl; other = λ e. names-differ 1 2 (omega arith) (sym e); left = 9; came = refl; goes = refl; few = omega arith }) }), tt),
+)
 
 abbrev al8 : List Placed
 al8 = on port1 (Took (Peer (peer_of 2)) (Good (Message (loop_with 9)))) ∷ (on port0 (Post (Peer (peer_of 1)) (Message (loop_with 8))) ∷ [])
@@ -103,8 +109,10 @@ abbrev l8 : List Line
 l8 = then_step (step_at 310000002 3 (Came 1)) al8 l7
 
 f8 : Fits (still false) l8
-f8 = step-fits false (step_at 310000002 3 (Came 1)) al8 l7 f7 refl ((refl, (refl, came refl refl refl refl refl)),
-    ((refl, record { rested = inl (omega arith); fits = inr (record { from = peer_of 2; message = loop_with 9; took = refl; kind = refl; name = refl; number = refl; other = λ e. names-differ 1 3 (omega arith) (sym e); left = 8; came = refl; goes = refl; few = omega arith }) }), tt))
+f8 = step-fits false (step_at 310000002 3 (Came 1)) al8 l7 f7 refl (
+  (refl, (refl, came refl refl refl refl refl)),
+  ((refl, record { rested = inl (omega arith); fits = inr (record { from = peer_of 2; message = loop_with 9; took = refl; kind = refl; name = refl; number = refl; other = λ e. names-differ 1 3 (omega arith) (sym e); left = 8; came = refl; goes = refl; few = omega arith }) }), tt),
+)
 
 abbrev al9 : List Placed
 al9 = on port1 (Took (Peer (peer_of 3)) (Good (Message (loop_with 8)))) ∷ (on port1 (Become Loose) ∷ [])
@@ -113,8 +121,10 @@ abbrev l9 : List Line
 l9 = then_step (step_at 310000003 1 (Came 2)) al9 l8
 
 f9 : Fits (still false) l9
-f9 = step-fits false (step_at 310000003 1 (Came 2)) al9 l8 f8 refl ((refl, (refl, came refl refl refl refl refl)),
-    ((refl, λ leads. record { from = peer_of 3; message = loop_with 8; took = refl; kind = refl; name = refl; number = omega arith }), tt))
+f9 = step-fits false (step_at 310000003 1 (Came 2)) al9 l8 f8 refl (
+  (refl, (refl, came refl refl refl refl refl)),
+  ((refl, λ leads. record { from = peer_of 3; message = loop_with 8; took = refl; kind = refl; name = refl; number = omega arith }), tt),
+)
 
 abbrev sets-out : LoopPost
 sets-out = record { post = does 310000000 1 Turned (Post (Peer (peer_of 2)) (Message (loop_with 10))); older = skip 1 l6; to = peer_of 2; message = loop_with 10; deed = refl; kind = refl; hops = 10; hops_is = refl }
@@ -133,8 +143,13 @@ gives-up = record {
   last = comes-back;
   rest = goes-on ∷ (sets-out ∷ []);
   takes = record { brings = record { place = skipped 2 (skip 1 l9); cause = refl; message = loop_with 8; deed = refl }; took = refl };
-  chain = (record { brings = record { place = skipped 2 (skip 1 l8); cause = refl; message = loop_with 9; deed = refl }; took = refl }, (refl,
-      (record { brings = record { place = skipped 2 (skip 1 l7); cause = refl; message = loop_with 10; deed = refl }; took = refl }, (refl, refl))));
+  chain = (
+    record { brings = record { place = skipped 2 (skip 1 l8); cause = refl; message = loop_with 9; deed = refl }; took = refl },
+    (
+      refl,
+      (record { brings = record { place = skipped 2 (skip 1 l7); cause = refl; message = loop_with 10; deed = refl }; took = refl }, (refl, refl)),
+    ),
+  );
   sent = ((λ e. not-same 1 3 (omega arith) (sym e)), ((λ e. not-same 1 2 (omega arith) (sym e)), (refl, omega arith)));
 }
 
