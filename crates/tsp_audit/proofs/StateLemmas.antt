@@ -13,7 +13,7 @@ use Rattle.tsp_base.proofs.ViewPlaces.{Within-dids}
 use Rattle.tsp_promises.proofs.HistoryPlaces.{Within-of, of-other, of-own}
 use Rattle.tsp_promises.proofs.LateProof.{lives-deed}
 use Rattle.tsp_audit.specs.Agreeing.{AfterIs, CastAs, FirstIs, IsNoCast, LiveIs, NodeIs}
-use Rattle.tsp_audit.specs.Changes.{IsCorrect}
+use Rattle.tsp_audit.specs.Changes.{IsCorrect, IsQuiet}
 use Rattle.tsp_audit.specs.declared.round_correction.RoundCorrection.{RoundCorrection}
 use Rattle.tsp_audit.specs.declared.round_correction.NodeState.{NodeState}
 use Rattle.tsp_history.specs.Clocks.{IsSumOf}
@@ -194,3 +194,11 @@ node-blank n s moved_is lives_is corrects_is after_is cast_is =
 -- as many amounts as there can be lines
 pub sum-more : (count : ℕ) (z : ℤ) → count < 2 ^ 32 → IsSumOf count z → IsSumOf 4294967295 z
 sum-more count z few sum = (omega (arith, ints, few, sum.0), omega (arith, ints, few, sum.1))
+
+-- a Boot isn't quiet
+pub boot-loud : (deed : Deed) → deed ≡ Acts Boot → IsQuiet deed → ⊥
+boot-loud deed is quiet = let k : 1 ≡ 0 = subst (λ d. lives_after d 0 ≡ 0) is (quiet.lives 0) in omega (arith, k)
+
+-- nor is a Correct
+pub correct-loud : (deed : Deed) → IsCorrect deed → IsQuiet deed → ⊥
+correct-loud deed c quiet = let k : 1 ≡ 0 = subst (λ d. all_corrects_after d 0 ≡ 0) c.is (quiet.corrects 0) in omega (arith, k)

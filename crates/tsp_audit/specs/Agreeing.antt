@@ -1,8 +1,9 @@
 -- What is kept from line to line of clocks that one round corrected.
-use Rattle.std.specs.Prelude.{◌≡◌, ◌<◌, ◌≤◌, ◌≤ℤ◌, ◌⊎◌, ℕ, ◌+◌, ◌-◌, ◌*◌, ℤ, pos, ◌+ℤ◌, ◌-ℤ◌, nat_abs, List, [], ◌∷◌, length, get_or, Option, None, Some}
+use Rattle.std.specs.Prelude.{◌≡◌, ◌<◌, ◌≤◌, ◌≤ℤ◌, ◌⊎◌, ℕ, ◌+◌, ◌-◌, ◌*◌, ℤ, pos, ◌+ℤ◌, ◌-ℤ◌, nat_abs, Bool, true, List, [], ◌∷◌, length, get_or, Option, None, Some}
 use Rattle.tsp_audit.specs.declared.round_correction.RoundCorrection.{RoundCorrection}
 use Rattle.tsp_audit.specs.declared.round_correction.NodeState.{NodeState}
 use Rattle.tsp_audit.specs.declared.agreement_tracker.AgreementTracker.{AgreementTracker}
+use Rattle.tsp_audit.specs.Changes.{IsQuiet}
 use Rattle.tsp_promises.specs.Agreed.{Cast, RightAfter, Unchanged}
 use Rattle.tsp_promises.specs.Everywhere.{Everywhere}
 use Rattle.tsp_promises.specs.Fits.{node_of}
@@ -12,6 +13,8 @@ use Rattle.tsp_base.specs.NodeFacts.{all_corrects, lives, moved}
 use Rattle.tsp_base.specs.Places.{Within}
 use Rattle.tsp_base.specs.Ticks.{tick_at, width}
 use Rattle.tsp_history.specs.Clocks.{IsSumOf}
+use Rattle.tsp_history.specs.declared.line.HistoryLine.{HistoryLine}
+use Rattle.tsp_history.specs.Histories.{deed_of}
 use Rattle.tsp_history.specs.Rounds.{trip_at}
 use Rattle.tsp_run.specs.Setup.{node_line}
 
@@ -144,6 +147,12 @@ AllAgree header t states = (n : ℕ) (a : NodeState) → IsAt states n a → Nod
 -- the corrections of each of these nodes come to no more than clocks can show
 abbrev pub AllBounded : List NodeState → Type 0
 AllBounded states = (n : ℕ) (a : NodeState) → IsAt states n a → IsSumOf 4294967295 a.moved
+
+-- what was known at this time is known after the line: it is of the same time, and quiet
+pub record StaysKnown (known : Bool) (time : ℕ) (line : HistoryLine) : Type 0 where
+  pub was : known ≡ true
+  pub at : time ≡ line.at
+  pub quiet : IsQuiet (deed_of line.act)
 
 -- so many nodes of which nothing is known
 pub record AreBlank (count : ℕ) (states : List NodeState) : Type 0 where

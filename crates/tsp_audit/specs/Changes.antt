@@ -1,7 +1,8 @@
--- Deeds that move a clock.
-use Rattle.std.specs.Prelude.{◌≡◌, ℤ, Bool}
+-- Deeds that move a clock, and those that don't.
+use Rattle.std.specs.Prelude.{◌≡◌, ℕ, ℤ, Bool}
 use Rattle.tsp_base.specs.declared.act.Act.TheVariants.{Correct}
 use Rattle.tsp_base.specs.History.{Acts, Deed}
+use Rattle.tsp_base.specs.NodeFacts.{all_corrects_after, lives_after}
 
 -- a deed corrects its node's clock
 pub record IsCorrect (deed : Deed) : Type 0 where
@@ -9,3 +10,8 @@ pub record IsCorrect (deed : Deed) : Type 0 where
   pub stepped : Bool
   pub shown : ℤ
   pub is : deed ≡ Acts (Correct amount stepped shown)
+
+-- a deed neither boots its node nor corrects its clock
+pub record IsQuiet (deed : Deed) : Type 0 where
+  pub lives : (n : ℕ) → lives_after deed n ≡ n
+  pub corrects : (n : ℕ) → all_corrects_after deed n ≡ n

@@ -1,20 +1,22 @@
 //! Whether clocks that one round corrected agree, line by line.
-ghost use Rattle.std.specs.Prelude.{◌≡◌, ◌≤◌, ◌<◌, ◌+◌, ◌-◌, ◌^◌, ℕ, [], ◌∷◌, ◌++◌, List, length};
-ghost use Rattle.std.specs.Prelude.{get_or, take, vec_len, vec_capacity, true, MatchBool, IfOk};
+ghost use Rattle.std.specs.Prelude.{◌≡◌, ◌≤◌, ◌<◌, ◌⊎◌, ◌+◌, ◌-◌, ◌^◌, ℕ, [], ◌∷◌, ◌++◌, List, length};
+ghost use Rattle.std.specs.Prelude.{get_or, is_some, take, vec_len, vec_capacity, true, MatchBool, IfOk};
 ghost use Rattle.std.specs.Prelude.{OnOk};
-ghost use Rattle.tsp_audit.specs.Agreeing.{AccordIs, AllAre, AreBlank, FirstIs, Numbered, TripsTell};
+ghost use Rattle.tsp_audit.specs.Agreeing.{AccordIs, AllAgree, AllAre, AllBounded, AreBlank};
+ghost use Rattle.tsp_audit.specs.Agreeing.{FirstIs, Numbered, StaysKnown, TripsTell};
+ghost use Rattle.tsp_audit.specs.Changes.{IsQuiet};
 ghost use Rattle.tsp_audit.specs.Settings.{HasClocks, Timely};
 ghost use Rattle.tsp_promises.specs.Agreed.{Agreed, AgreedAt};
 ghost use Rattle.tsp_base.specs.History.{Line, from_act};
 ghost use Rattle.tsp_promises.specs.Setting.{Setting};
-ghost use Rattle.tsp_history.specs.Histories.{line_of, history_of};
+ghost use Rattle.tsp_history.specs.Histories.{deed_of, line_of, history_of};
 ghost use Rattle.tsp_history.specs.Notes.{Told};
 ghost use Rattle.tsp_history.specs.declared.line.HistoryLine.{HistoryLine as NotedValue};
 
 use crate::nearness::all_agree;
 use crate::resting::rests;
 use crate::round_correction::NodeState;
-use crate::states::{blank, state_after};
+use crate::states::{blank, is_quiet, state_after};
 use std::alloc::{AllocError, Global};
 use tsp_base::header::Header;
 use tsp_history::line::HistoryLine;
@@ -61,6 +63,7 @@ fn note_node(
         → AllAre (history_of before.now) nodes.old.items
         → AllAre (line_of line.now ∷ history_of before.now) nodes.new.items }
     ensures many { length nodes.new.items ≡ length nodes.old.items }
+    ensures same { IsQuiet (deed_of line.now.act) → nodes.new.items ≡ nodes.old.items }
 {
     let node = line.node as usize;
     if node < nodes.len() {
@@ -90,6 +93,31 @@ fn newest(line: &HistoryLine, index: usize, keep: Option<usize>) -> Option<usize
         None => keep,
         Some(_) => Some(index),
     }
+}
+
+/// Whether what was known of all clocks at a time is still known after this line, which is of the same time and
+/// changes none.
+fn stays_known(known: bool, time: u64, line: &HistoryLine) -> bool
+    ensures { result ≡ true → StaysKnown known time line.now }
+{
+    if !known {
+        return false;
+    }
+    if line.at != time {
+        return false;
+    }
+    is_quiet(line)
+}
+
+/// Whether all clocks are known to agree at the time of a line that keeps that they do: if they were known to
+/// before, or the line is an act.
+fn is_known(known: bool, line: &HistoryLine) -> bool
+    ensures { result ≡ true → (known ≡ true) ⊎ (is_some line.now.act ≡ true) }
+{
+    if known {
+        return true;
+    }
+    line.act.is_some()
 }
 
 impl AgreementTracker {
@@ -138,6 +166,8 @@ impl AgreementTracker {
             → AccordIs count (history_of (take (index + 1) lines.now)) self.new }
         ensures len { vec_len self.new.trips ≤ vec_len self.old.trips + 1 }
         ensures capacity { vec_capacity self.new.trips ≡ vec_capacity self.old.trips }
+        ensures same { (line : NotedValue) → get_or lines.now index line ≡ line
+            → IsQuiet (deed_of line.act) → self.new.nodes.items ≡ self.old.nodes.items }
     {
         let line = &lines[index];
         let before = &lines[..index];
@@ -154,9 +184,37 @@ impl AgreementTracker {
         self.last = newest(line, index, self.last);
     }
 
-    /// Whether a line that was taken in keeps that clocks agree, where these lines stand before it.
-    fn agrees(&self, header: &Header, before: &[HistoryLine], line: &HistoryLine) -> bool
-        ensures { (setting : Setting) (count : ℕ) → HasClocks header.now setting
+    /// Whether the clocks of all nodes agree at a time, which may be known.
+    fn agree_at(&self, header: &Header, at: u64, known: bool) -> bool
+        requires few { length self.now.nodes.items < 2 ^ 32 }
+        requires known { known ≡ true → at ≤ 1000000000000000 → AllBounded self.now.nodes.items
+            → AllAgree header.now at self.now.nodes.items }
+        ensures { at ≤ 1000000000000000 → AllBounded self.now.nodes.items
+            → MatchBool result (AllAgree header.now at self.now.nodes.items)
+            (AllAgree header.now at self.now.nodes.items → ⊥) }
+    {
+        if known {
+            return true;
+        }
+        all_agree(header, at, self.nodes.as_slice())
+    }
+
+    /// Whether a line that was taken in keeps that clocks agree, where these lines stand before it. That all
+    /// clocks agree at its time may be known, and is where the answer is yes and the line is an act.
+    fn agrees(
+        &self,
+        header: &Header,
+        before: &[HistoryLine],
+        line: &HistoryLine,
+        known: bool,
+    ) -> bool
+        requires known { known ≡ true → line.now.at ≤ 1000000000000000
+            → AllBounded self.now.nodes.items
+            → AllAgree header.now line.now.at self.now.nodes.items }
+        ensures agree { result ≡ true → is_some line.now.act ≡ true
+            → line.now.at ≤ 1000000000000000 → AllBounded self.now.nodes.items
+            → AllAgree header.now line.now.at self.now.nodes.items }
+        ensures keeps { (setting : Setting) (count : ℕ) → HasClocks header.now setting
             → line.now.at ≤ 1000000000000000
             → Numbered count (line_of line.now ∷ history_of before.now)
             → AccordIs count (line_of line.now ∷ history_of before.now) self.now
@@ -172,7 +230,7 @@ impl AgreementTracker {
         if self.nodes.len() > 64 {
             return false;
         }
-        all_agree(header, line.at, self.nodes.as_slice())
+        self.agree_at(header, line.at, known)
     }
 
     /// Whether clocks agree in all lines, where they do in those before `from`, for which the
@@ -199,11 +257,17 @@ impl AgreementTracker {
             → AccordIs count (history_of (take from lines.now)) self.old
             → AccordIs count (history_of lines.now) self.new }
     {
+        let mut known = false;
+        let mut time = 0;
         for i in from..lines.len() {
             self.note(lines, i);
-            if !self.agrees(header, &lines[..i], &lines[i]) {
+            let line = &lines[i];
+            known = stays_known(known, time, line);
+            if !self.agrees(header, &lines[..i], line, known) {
                 return false;
             }
+            known = is_known(known, line);
+            time = line.at;
         }
         true
     }

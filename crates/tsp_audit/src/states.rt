@@ -1,7 +1,7 @@
 //! How a line changes what is kept of its node.
-ghost use Rattle.std.specs.Prelude.{◌≡◌, ◌≤◌, ◌<◌, ◌^◌, ℕ, ℤ, List, [], ◌∷◌, length, MatchBool};
+ghost use Rattle.std.specs.Prelude.{◌≡◌, ◌≤◌, ◌<◌, ◌^◌, ℕ, ℤ, List, [], ◌∷◌, length, true, MatchBool};
 ghost use Rattle.tsp_audit.specs.Agreeing.{FirstIs, NodeIs, TripsTell};
-ghost use Rattle.tsp_audit.specs.Changes.{IsCorrect};
+ghost use Rattle.tsp_audit.specs.Changes.{IsCorrect, IsQuiet};
 ghost use Rattle.tsp_base.specs.declared.act.Act.TheVariants.{Boot};
 ghost use Rattle.tsp_base.specs.History.{Acts, Line, from_act};
 ghost use Rattle.tsp_base.specs.NodeFacts.{all_corrects_after, lives_after};
@@ -42,6 +42,19 @@ fn is_correct(line: &HistoryLine) -> bool
         → all_corrects_after (deed_of line.now.act) n ≡ n) }
 {
     matches!(&line.act, Some(Act::Correct { .. }))
+}
+
+/// Whether a line is neither a Boot nor a Correct, so that it changes nothing of what is kept.
+pub(crate) fn is_quiet(line: &HistoryLine) -> bool
+    ensures { result ≡ true → IsQuiet (deed_of line.now.act) }
+{
+    if is_boot(line) {
+        return false;
+    }
+    if is_correct(line) {
+        return false;
+    }
+    true
 }
 
 /// What is kept of a node after a Correct of it, before which this is the newest act.
@@ -99,11 +112,12 @@ pub(crate) fn state_after(
     requires few { length upto.now < 2 ^ 32 }
     requires told { Told upto.now }
     requires past { Told before.now }
-    ensures { history_of upto.now ≡ line_of line.now ∷ history_of before.now
+    ensures is { history_of upto.now ≡ line_of line.now ∷ history_of before.now
         → TripsTell (history_of before.now) trips.now
         → FirstIs (from_act (history_of before.now)) last
         → NodeIs line.now.node (history_of before.now) keep
         → NodeIs line.now.node (line_of line.now ∷ history_of before.now) result }
+    ensures same { IsQuiet (deed_of line.now.act) → result ≡ keep }
 {
     if is_boot(line) {
         return booted(upto, line, keep);

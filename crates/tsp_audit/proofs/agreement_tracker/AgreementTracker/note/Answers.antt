@@ -7,7 +7,9 @@ use Rattle.tsp_audit.proofs.AccordSteps.{accord-next}
 use Rattle.tsp_history.proofs.HistoryLemmas.{history-more}
 use Rattle.tsp_audit.proofs.SampleLemmas.{history-length}
 use Rattle.tsp_history.specs.declared.line.HistoryLine.{HistoryLine}
-use Rattle.tsp_history.specs.Histories.{history_of, line_of}
+use Rattle.tsp_audit.specs.Changes.{IsQuiet}
+use Rattle.std.proofs.lemmas.List.{get_or_default}
+use Rattle.tsp_history.specs.Histories.{deed_of, history_of, line_of}
 use Rattle.tsp_history.proofs.NoteLemmas.{told_take}
 use Rattle.tsp_audit.proofs.agreement_tracker.AgreementTracker.note.Goals as goal
 
@@ -36,3 +38,12 @@ note_node-requires-clause-told c = told_take c.args.lines.now _ c.requires.told
 
 pub note_node-requires-clause-past : goal.note_node-requires-clause-past
 note_node-requires-clause-past c = told_take c.args.lines.now c.args.index c.requires.told
+
+pub returns-clause-same : goal.returns-clause-same
+returns-clause-same c line at quiet =
+    let lines = c.args.lines.now in
+    let i = c.args.index in
+    let noted : HistoryLine = c.index-lines-index.result in
+    let here : get_or lines i noted ≡ noted = search rules in
+    let one : line ≡ noted = sym at ∙ (get_or_default lines i line noted c.requires.below ∙ here) in
+    c.note_node.ensures.same (subst (λ (l : HistoryLine). IsQuiet (deed_of l.act)) one quiet)
