@@ -66,8 +66,10 @@ printf '#!/bin/sh\necho "$$" >"%s"\nexec sleep 60\n' "$out/child" >"$out/lasting
 chmod +x "$out/failing" "$out/lasting"
 ends 5 "tsp: the socket failed while receiving on 127.0.0.1:$port, which can be bound" python3 "$explain" "$out/failing" serve "127.0.0.1:$port" a s 1
 
-# A signal ends the program too, and no program outlives what started it.
-for signal in 15 1 9; do
+# A signal ends the program too, and no program outlives what started it. (SIGHUP stays ignored where it is, as under nohup)
+hangup=1
+python3 -c 'import signal, sys; sys.exit(signal.getsignal(signal.SIGHUP) == signal.SIG_IGN)' || hangup=''
+for signal in 15 $hangup 9; do
     rm -f "$out/child"
     python3 "$explain" "$out/lasting" serve "127.0.0.1:$port" a s 1 2>"$out/told" &
     note_process
