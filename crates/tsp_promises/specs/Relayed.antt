@@ -9,7 +9,9 @@ use Rattle.tsp_base.specs.Places.{Within}
 use Rattle.tsp_promises.specs.Setting.{Setting}
 use Rattle.tsp_base.specs.Ticks.{width}
 
--- after the history h, at true time t: k's Correct c takes an ADJTIME of a Close of g, and g's Correct d before that Close one of a Close of m; as long as k, g and m are left alone since, the clocks of k and m differ by at most both errors and drift
+-- after the history h, at true time t: the Correct c of a node k takes an ADJTIME of a Close of g, and the Correct d of
+-- g, before that Close, one of a Close of m. As long as k, g and m are left alone since, m but for the Correct right
+-- after its Close, the clocks of k and m differ by at most both errors and drift
 abbrev pub RelayAgrees : Setting → List Line → ℕ → Type 0
 RelayAgrees setting h t = (g m : ℕ) (close shut : Line) (cpast spast : List Line) (c d : Line) (past qast : List Line) (r q : Line) (rolder qolder : List Line) (e f : ℤ) →
     Cast g close cpast c past r rolder e → Cast m shut spast d qast q qolder f → node_of d ≡ g → Within (d ∷ qast) cpast →
