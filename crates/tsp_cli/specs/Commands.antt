@@ -39,7 +39,7 @@ pub record Now : Type 0 where
   pub links : ℕ
   pub sends : ℕ
 
--- a command that reads lines runs
+-- what comes of a command that reads lines
 abbrev pub RunsLines : LineCommand → Now → Now → Status → Type 0
 RunsLines c old new status = Runs c old.left new.left old.told.written new.told.written new.ended old.reads new.reads old.writes new.writes status
 
@@ -98,7 +98,7 @@ pub record RunsAudit (input left written now : Option (List ℕ)) (ended : Bool)
   -- with Ok the source was read to its end
   pub whole : status ≡ Ok → ended ≡ true
 
--- what a command does
+-- what comes of each command: the objects before and after it, and its status
 abbrev pub Does : Command → Now → Now → Status → Type 0
 Does Replay old new status = RunsLines Replays old new status
 Does Show old new status = RunsLines Shows old new status
@@ -109,7 +109,7 @@ Does (Ask a q) old new status = RunsQuery a q old.told new.told old.links new.li
 Does (Storm s) old new status = RunsStorm s old.told.written new.told.written old.writes new.writes status
 Does Audit old new status = RunsAudit old.left new.left old.told.written new.told.written new.ended old.reads new.reads old.writes new.writes status
 
--- the same, or out of memory for the command's own parts, and nothing has changed
+-- the same, or there was no memory for the command's own parts, and nothing has changed
 abbrev pub DoesOrNot : Command → Now → Now → Status → Type 0
 DoesOrNot c old new status = ((status ≡ OutOfMemory) × (new ≡ old)) ⊎ Does c old new status
 

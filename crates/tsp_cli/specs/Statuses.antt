@@ -1,4 +1,4 @@
--- The exit status of each way to end, as docs/OPERATOR.md lists them.
+-- The exit status of each way to end, as docs/FORMATS.md lists them.
 use Rattle.std.specs.Prelude.{ℕ}
 use Rattle.tsp_query.specs.declared.exit.QueryExit.{QueryExit}
 use Rattle.tsp_query.specs.declared.exit.QueryExit.TheVariants.{Answered, NoAnswer as Unanswered, LinkFault as NotAsked, WriteFault as Untold, OutOfMemory as Unasked}

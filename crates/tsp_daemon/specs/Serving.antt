@@ -1,4 +1,4 @@
--- What comes of a daemon that the words behind `serve` ask for.
+-- What comes of a daemon that the words after `serve` ask for.
 use Rattle.std.specs.Prelude.{◌≡◌, ◌⊎◌, ℕ, ℤ, true, false, List, ◌∷◌, Option, Some, codes}
 use Rattle.tsp_daemon.specs.declared.end.ServeEnd.{ServeEnd}
 use Rattle.tsp_daemon.specs.declared.end.ServeEnd.TheVariants.{Done as AllTurns, LinkFault as Faulty, WriteFault as Unwritten, OutOfMemory as Refused}
@@ -50,8 +50,8 @@ pub record IsRefused (o : Outside) (written : List ℕ) (waits : Option (List �
   pub written_is : now.written ≡ Some written
   pub unwaited : now.waits ≡ waits
 
--- the wall clock is out of its range, which is more than -2^31 s and less than 2^31 s: one tick was read, nothing was
--- sent, and a line says so, as far as it was written
+-- the wall clock isn't more than -2^31 s and less than 2^31 s: one tick was read, nothing was sent, and the line `bad
+-- wall` was written, or its beginning
 pub record HasBadWall (o : Outside) (wall : ℤ) (written : List ℕ) (waits : Option (List ℕ)) (now : Observed) (served : DaemonExit) : Type 0 where
   pub out : is_clock_value wall ≡ false
   pub tells : Tells (read_once o) now.arrivals now.tried now.calls now.readings now.last
@@ -85,7 +85,7 @@ pub record IsUnbound (o : Outside) (written : List ℕ) (waits : Option (List �
   pub written_is : now.written ≡ Some written
   pub unwaited : now.waits ≡ waits
 
--- the link wasn't bound: out of memory for the addresses or for the bind, or the bind failed
+-- the link wasn't bound: there was no memory for the addresses or for the bind, or the bind failed
 abbrev pub ServesUnbound : Outside → List ℕ → Option (List ℕ) → Observed → DaemonExit → Type 0
 ServesUnbound o written waits now served = IsRefused o written waits now served ⊎ IsRefused (bound o) written waits now served ⊎ IsUnbound o written waits now served
 

@@ -1,7 +1,7 @@
 //! The daemon: one node of the time service, on one network or several, over a link. It does what
 //! 4.3BSD's timed does.
 //!
-//! [`command::serve_words`] does what the words behind `serve` ask for (`docs/OPERATOR.md`): it
+//! [`command::serve_words`] does what the words after `serve` ask for (`docs/OPERATOR.md`): it
 //! binds the link, reads the clocks, boots the node, and hands it to [`serve::serve`], which takes
 //! turns. A *turn* waits for a datagram, for 1 ms to 1 s at most, lets the node do one step with what
 //! came, tries the sends that it asks for, and, if the trace is on, writes the lines of the step's

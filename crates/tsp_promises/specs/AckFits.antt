@@ -18,8 +18,9 @@ abbrev pub TookLast : Place → List Seen → ℕ → Type 0
 TookLast (Peer p) before number = last_taken before ≡ Some (record { from = p; number = number })
 TookLast Stranger before number = ⊥
 
--- what an ACK may answer, by the kind of the message: an ADJTIME or a SETTIME only where the node's last Correct took
--- it, with this number and from there; the kinds with Unit always; all other kinds never
+-- what an ACK may answer, by the kind of the message: CONFLICT, QUIT, DATE, SETDATE, MSITE, MSITEREQ, TEST, TRACEON and
+-- TRACEOFF; an ADJTIME or a SETTIME only where the node's last Correct took it, with this number and from there; no
+-- other kind
 abbrev pub Answers : Kind → Place → List Seen → ℕ → Type 0
 Answers AdjTime to before number = TookLast to before number
 Answers SetTime to before number = TookLast to before number

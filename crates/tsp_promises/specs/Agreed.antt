@@ -24,7 +24,7 @@ use Rattle.tsp_promises.specs.StepFacts.{closed}
 use Rattle.tsp_base.specs.Takings.{Undisturbed, peer_of, posted}
 use Rattle.tsp_base.specs.Ticks.{width}
 
--- r is the reading of a sample that port q of m has at a place: the post of the reply that the Sample's step took
+-- the reading of a sample that port q of m has at a place is r: the post of the reply that the Sample's step took
 pub record ReadingOf (m : ℕ) (q : Port) (place : List Seen) (world : List Line) (r : Line) (older : List Line) : Type 0 where
   pub line : Line
   pub before : List Line
@@ -79,7 +79,8 @@ pub record RightAfter (m : ℕ) (close : Line) (cpast h : List Line) : Type 0 wh
   pub deed : next.did.deed ≡ Acts (Correct amount stepped shown)
   pub corrects : all_corrects (dids (of m (next ∷ before))) ≡ all_corrects (dids (of m h))
 
--- since its Close m has no Boot, and no Correct but one that is the next act of all
+-- after its Close m neither boots nor corrects its clock, but for a Correct that is the next act after it, of all acts
+-- of the history
 pub record UnchangedBut (m : ℕ) (close : Line) (cpast h : List Line) : Type 0 where
   pub lives : lives (dids (of m (close ∷ cpast))) ≡ lives (dids (of m h))
   pub corrects : (all_corrects (dids (of m (close ∷ cpast))) ≡ all_corrects (dids (of m h))) ⊎ RightAfter m close cpast h

@@ -12,8 +12,8 @@ use Rattle.tsp_promises.specs.ShownAt.{left_at, shown_at}
 use Rattle.tsp_promises.specs.Steady.{ReadTimes, Unstepped, shown_width}
 use Rattle.tsp_base.specs.Ticks.{tick_at, width}
 
--- the shown values of two nodes differ by at most this and what is still to be slewed on each: by at most this, once
--- both show their targets
+-- the shown values of k and l differ by at most b and what is still to be slewed on each; so by at most b, once both
+-- show their targets
 abbrev pub ShownWithin : Setting → List Line → ℕ → ℕ → ℕ → ℤ → Type 0
 ShownWithin setting h t k l b = pos (nat_abs (shown_at setting k h t -ℤ shown_at setting l h t)) ≤ℤ ((b +ℤ pos (nat_abs (left_at setting k h t))) +ℤ pos (nat_abs (left_at setting l h t)))
 
@@ -66,7 +66,7 @@ pub record ShownAgree (setting : Setting) (h : List Line) (t : ℕ) : Type 0 whe
   pub across : AcrossShown setting h t
   pub tree : TreeShown setting h t
 
--- at each place, and after it at any later time, as long as nothing more happens
+-- so it is at each place, and after it at any later time, as long as nothing more happens
 abbrev pub AgreedShown : Setting → List Line → Type 0
 AgreedShown setting = Everywhere (λ l world. (t : ℕ) → l.did.step.at ≤ t → ShownAgree setting (l ∷ world) t)
 

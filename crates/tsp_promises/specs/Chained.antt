@@ -71,6 +71,6 @@ pub record ChainedAt (setting : Setting) (h : List Line) (t : ℕ) : Type 0 wher
   pub across : ChainsAgree setting h t
   pub tree : TreeAgrees setting h t
 
--- at each place, and after it at any later time, as long as nothing more happens
+-- so it is at each place, and after it at any later time, as long as nothing more happens
 abbrev pub Chained : Setting → List Line → Type 0
 Chained setting = Everywhere (λ l world. (t : ℕ) → l.did.step.at ≤ t → ChainedAt setting (l ∷ world) t)

@@ -58,7 +58,7 @@ MasterNear setting h t = (m k : ℕ) (close : Line) (cpast : List Line) (mean : 
     Estimate m k close cpast x r older h → UnchangedBut m close cpast h →
     pos (nat_abs (clock_at setting m h t -ℤ clock_at setting k h t)) ≤ℤ ((pos (nat_abs (mean -ℤ x.diff)) +ℤ x.err) +ℤ pos (2 * width setting.drift (t - r.did.step.at)))
 
--- at each place, and after it at any later time as long as nothing more happens
+-- the first holds at each place; so does the second, and after that at any later time, as long as nothing more happens
 pub record EstimatesHold (setting : Setting) (world : List Line) : Type 0 where
   pub apart : Everywhere (EstimatesNear setting) world
   pub near : Everywhere (λ l before. (t : ℕ) → l.did.step.at ≤ t → MasterNear setting (l ∷ before) t) world

@@ -44,7 +44,7 @@ pub record FirstSetAt (setting : Setting) (h : List Line) : Type 0 where
   pub later : (m : ℕ) (c : Line) (past : List Line) (s : SetBy m c past h) (t : ℕ) → c.did.step.at ≤ t → BehindBy setting m c past h s t
   pub at_once : (m : ℕ) (c : Line) (past : List Line) (s : SetBy m c past h) → BehindAtOnce setting m c past h s
 
--- at each place of the history
+-- so it is at each place of the history
 abbrev pub FirstSet : Setting → List Line → Type 0
 FirstSet setting = Everywhere (λ l before. FirstSetAt setting (l ∷ before))
 

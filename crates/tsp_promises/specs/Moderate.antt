@@ -116,6 +116,6 @@ WithMajority setting h t = (m k : ℕ) (close c : Line) (cpast : List Line) (amo
     Estimate m k close cpast x r older h → Agrees setting m close cpast x.diff →
     pos (nat_abs (clock_at setting m h t -ℤ clock_at setting k h t)) ≤ℤ ((pos (2 * SPAN) +ℤ x.err) +ℤ pos (2 * width setting.drift (t - r.did.step.at)))
 
--- at each place, and after it at any later time as long as nothing more happens
+-- so it is at each place, and after it at any later time, as long as nothing more happens
 abbrev pub ModerateClocks : Setting → List Line → Type 0
 ModerateClocks setting = Everywhere (λ l before. (t : ℕ) → l.did.step.at ≤ t → WithMajority setting (l ∷ before) t)

@@ -28,7 +28,7 @@ pub record BacksAt (l : Line) (world : List Line) : Type 0 where
   pub asks : (to : Place) (m : MessageValue) → l.did.deed ≡ Acts (Post to (Message m)) → m.kind ≡ Election → is_unbacked (view l.port (of (node_of l) world)) ≡ false
   pub ends : l.did.deed ≡ Begins → (q : Port) → is_unbacked (view q (of (node_of l) world)) ≡ false
 
--- of a history that ends with a step
+-- both hold at each line of a history that ends with a step, and at its end each candidate has backed itself
 pub record OneBack (world : List Line) : Type 0 where
   pub holds : Everywhere HoldsAt world
   pub backs : Everywhere BacksAt world

@@ -18,6 +18,6 @@ RelayAgrees setting h t = (g m : ℕ) (close shut : Line) (cpast spast : List Li
     Unchanged (node_of c) (c ∷ past) h → Unchanged (node_of d) (d ∷ qast) h → UnchangedBut m shut spast h →
     pos (nat_abs (clock_at setting (node_of c) h t -ℤ clock_at setting m h t)) ≤ℤ ((f +ℤ e) +ℤ pos (2 * width setting.drift (t - q.did.step.at) + 2 * width setting.drift (t - r.did.step.at)))
 
--- at each place, and after it at any later time, as long as nothing more happens
+-- so it is at each place, and after it at any later time, as long as nothing more happens
 abbrev pub Relayed : Setting → List Line → Type 0
 Relayed setting = Everywhere (λ l world. (t : ℕ) → l.did.step.at ≤ t → RelayAgrees setting (l ∷ world) t)

@@ -24,7 +24,7 @@ use Rattle.tsp_base.specs.Takings.{peer_of, posted, steps}
 abbrev pub YieldsAt : List Seen → Type 0
 YieldsAt seen = (p : PeerId) → owes seen ≡ Some p → role seen ≡ Follow p
 
--- at the end of each step: before each mark, and at the end of the history
+-- YieldsAt holds at the end of each step: before each mark, and at the end of the history
 pub record Yields (world : List Line) : Type 0 where
   pub marks : Everywhere (λ (l : Line) (before : List Line). l.did.deed ≡ Begins → (q : Port) → YieldsAt (view q (of (node_of l) before))) world
   pub ends : (n : ℕ) (q : Port) → YieldsAt (view q (of n world))
@@ -61,7 +61,7 @@ abbrev pub StopsBy : List Line → Type 0
 StopsBy h = (ring x y : Line) (past xpast ypast : List Line) → Within (ring ∷ past) h → ring.did.deed ≡ Acts (Ring Resolve) → Within (x ∷ xpast) h → TakesQuit ring past x xpast →
     Within (y ∷ ypast) h → TakesQuit ring past y ypast → steps (dids (y ∷ ypast)) ≡ steps (dids h) → role (view x.port (of (node_of x) h)) ≢ Master
 
--- at the end of each step: before each mark, and at the end of the history
+-- StopsBy holds at the end of each step: before each mark, and at the end of the history
 pub record StopsLeading (world : List Line) : Type 0 where
   pub marks : Everywhere (λ (l : Line) (before : List Line). l.did.deed ≡ Begins → StopsBy before) world
   pub ends : StopsBy world

@@ -52,7 +52,7 @@ AreSound [] = Unit {0}
 AreSound (Here d ∷ before) = IsSoundDeed d.deed × AreSound before
 AreSound (Elsewhere d ∷ before) = AreSound before
 
--- a port whose name is one, whose node booted with a word of 64 bits, and whose acts are sound
+-- a port whose node's name is valid, whose node booted with a word of 64 bits, and whose acts are sound
 pub record SoundPast (past : Past) : Type 0 where
   pub name : IsName past.name
   pub word_fits : word (plain past.seen) < 2 ^ 64

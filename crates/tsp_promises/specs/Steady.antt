@@ -21,7 +21,7 @@ pub record Unstepped (n : ℕ) (s h : List Line) : Type 0 where
   pub lives : lives (dids (of n s)) ≡ lives (dids (of n h))
   pub none : NoneStepped n s h
 
--- n is read at tick x at the place s, before its next line, and at tick y, no earlier, after the history h
+-- node n is read at tick x at the place s, before its next line, and at tick y, no earlier, after the history h
 pub record ReadTicks (n : ℕ) (s h : List Line) (x y : ℕ) : Type 0 where
   pub from : tick_of (dids (of n s)) ≤ x
   pub next : (l : Line) (before : List Line) → Within (l ∷ before) h → Within s before → node_of l ≡ n → x ≤ l.did.tick
@@ -60,7 +60,7 @@ pub record SteadyAt (setting : Setting) (h : List Line) : Type 0 where
   pub ticks : RunsOn h
   pub time : RunsOverTime setting h
 
--- at each place of the history
+-- so it is at each place of the history
 abbrev pub Steady : Setting → List Line → Type 0
 Steady setting = Everywhere (λ l before. SteadyAt setting (l ∷ before))
 

@@ -62,6 +62,6 @@ pub record BoundsLast (setting : Setting) (h : List Line) (t : ℕ) : Type 0 whe
   pub master : BoundAt setting h t
   pub peers : PeersBound setting h t
 
--- at each place, and after it at any later time
+-- so it is at each place, and after it at any later time
 abbrev pub Throughout : Setting → List Line → Type 0
 Throughout setting = Everywhere (λ l world. (t : ℕ) → l.did.step.at ≤ t → BoundsLast setting (l ∷ world) t)

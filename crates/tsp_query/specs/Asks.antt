@@ -43,7 +43,7 @@ anywhere = record { ip = 0 ∷ 0 ∷ 0 ∷ 0 ∷ []; port = 0 }
 abbrev pub asking_binding : Addr → Binding
 asking_binding daemon = record { local = anywhere; peers = daemon ∷ [] }
 
--- the bind failed, or out of memory for it: no tick was read, and nothing was sent or written
+-- the bind failed, or there was no memory for it: no tick was read, and nothing was sent or written
 pub record IsUnbound (o : Outside) (written : List ℕ) (before now : Observed) (asking : QueryExit) : Type 0 where
   pub cause : (asking ≡ LinkFault) ⊎ (asking ≡ OutOfMemory)
   pub tells : Tells (bound o) now.arrivals now.tried now.calls now.readings now.last

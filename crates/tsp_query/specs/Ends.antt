@@ -72,7 +72,7 @@ abbrev pub sent : Datagram → Outside → Outside
 sent request o = record o { tried = o.tried ++ (Peer (record { 0 = 0 }), canon request) ∷ [] }
 
 -- how asking ends; the last two numbers are the counts of failed sends before and after. The one datagram was tried,
--- unless out of memory. If its send failed, nothing more happened
+-- unless there was no memory for it. If its send failed, nothing more happened
 abbrev pub Asks : Datagram → Question → Outside → Option (List Arrival) → Option (List Tried) → Option ℕ → Option (List ℕ) → ℕ → ℕ → ℕ → AskEnd → Type 0
 Asks request q o arrivals tried calls readings last sends sends_now OutOfMemory = Tells o arrivals tried calls readings last
 Asks request q o arrivals tried calls readings last sends sends_now LinkFault =

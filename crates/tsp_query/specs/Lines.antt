@@ -27,7 +27,7 @@ abbrev pub date_line : Bool → List ℕ
 date_line true = codes "date set\n"
 date_line false = codes "date forwarded\n"
 
--- the line that says how a question ended; empty if the link failed, or if out of memory
+-- the line that says how a question ended; empty if the link failed or memory ran out
 abbrev pub end_line : Query → QueryEnd → List ℕ
 end_line q (Master name) = master_line name
 end_line q (Diff diff err) = diff_line diff err

@@ -86,11 +86,11 @@ abbrev pub says_set : Datagram → Bool
 says_set (Message m) = is_date_ack m.kind
 says_set (StampOf s) = false
 
--- the answer to a date
+-- the answer to a date: whether it was set, or is passed on
 abbrev pub date_in : Datagram → ℕ → QueryEnd
 date_in d tick = Date (says_set d)
 
--- a datagram is a reply
+-- the datagram is a stamp reply
 abbrev pub IsReplied : Datagram → Type 0
 IsReplied (StampOf (Reply r)) = Unit {0}
 IsReplied (StampOf (Request w c)) = ⊥

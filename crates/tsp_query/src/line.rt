@@ -70,7 +70,7 @@ fn date_line(set: bool) -> &'static [u8]
     }
 }
 
-/// The line that says how a question ended; empty if the link failed, or if out of memory.
+/// The line that says how a question ended; empty if the link failed or memory ran out.
 pub(crate) fn line_of(query: &Query, end: &QueryEnd) -> ArrayVec<u8, 1024>
     ensures { result.items ≡ end_line query.now end.now }
 {

@@ -45,8 +45,8 @@ spelled_adjtime micros letter = 1 ∷ 1 ∷ 0 ∷ 7 ∷ 0 ∷ 0 ∷ 0 ∷ 0 ∷ 
 abbrev pub hands_g : ℕ → ℕ → ℕ → List ℕ → Event
 hands_g at port from octets = Bytes at 0 (record { 0 = port }) (Peer (peer from)) octets
 
--- the events, the newest first: g boots and looks at its timers; b and a say that they are masters (MASTERUP, kind 6);
--- then b and a send an ADJTIME each
+-- the events, the newest first. In the order of time: g boots and looks at its timers; b and a say that they are
+-- masters (MASTERUP, kind 6); b and a send an ADJTIME each
 abbrev pub six_events : List Event
 six_events =
     hands_g 84000000 0 1 (spelled_adjtime 10 97) ∷
@@ -57,7 +57,7 @@ six_events =
     BootAt 0 0 7 ∷
     []
 
--- the line of an act of g on a port
+-- the line of an act of g on a port, at an event and a tick
 abbrev pub g_line : ℕ → ℕ → ℕ → Option ℕ → Act → Line
 g_line event tick port number act = record { event = event; node = 0; tick = tick; number = number; placed = record { port = record { 0 = port }; act = act } }
 

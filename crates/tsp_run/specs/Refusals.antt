@@ -15,7 +15,7 @@ use Rattle.tsp_run.specs.declared.address.Address.{Address}
 use Rattle.tsp_run.specs.Networks.{networks, ports_on, room}
 use Rattle.tsp_run.specs.Run.{event_at, goes_to, last_at, posts, run}
 
--- how many events a schedule may have, and how many datagrams its nodes may post
+-- the most events that a schedule may have, 200,000, and the most datagrams that its nodes may post, 1,000,000
 abbrev pub most_events : ℕ
 most_events = 200000
 
@@ -129,7 +129,7 @@ abbrev pub Valid : HeaderValue → List Event → Type 0
 Valid header [] = Unit {0}
 Valid header (e ∷ before) = (refusal (scene header before) e ≡ None) × Valid header before
 
--- this is the reason for which an event is refused: the first cause, or, if there is none, that the memory is used up
+-- why an event is refused: the first cause, or, if there is none, OutOfMemory
 abbrev pub IsRefusal : Option EventFault → EventFault → Type 0
 IsRefusal cause fault = (cause ≡ Some fault) ⊎ ((cause ≡ None) × (fault ≡ OutOfMemory))
 
@@ -140,7 +140,7 @@ Names s (Turn at node) = node < s.nodes
 Names s (Take at datagram) = Unit {0}
 Names s (Bytes at node port from octets) = (node < s.nodes) × (port.0 < length (ports_on node s.networks))
 
--- what holds if no cause refuses an event
+-- what is so if no cause refuses an event
 pub record Allowed (s : Scene) (e : Event) : Type 0 where
   pub time : s.last ≤ event_at e
   pub events : s.events < most_events

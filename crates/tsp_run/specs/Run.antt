@@ -55,7 +55,7 @@ abbrev pub posts_from : ℕ → ℕ → List Placed → List Posted
 posts_from at node [] = []
 posts_from at node (p ∷ rest) = posted_by at node p.port p.act ++ posts_from at node rest
 
--- the time of a post, if there is one
+-- the true time of a post, if there is one
 abbrev pub posted_time : Option Posted → Option ℕ
 posted_time None = None
 posted_time (Some p) = Some p.at
