@@ -1,5 +1,5 @@
-//! The daemon: one node of the time service, on one network or several, over a link. It does what
-//! 4.3BSD's timed does.
+//! The daemon: one node of the time service, on one network or several, over a link. It is what
+//! timed is in 4.3BSD, but sets no clock of the machine: its corrected clock is its own.
 //!
 //! [`command::serve_words`] does what the words after `serve` ask for (`docs/OPERATOR.md`): it
 //! binds the link, reads the clocks, boots the node, and hands it to [`serve::serve`], which takes
