@@ -350,7 +350,7 @@ impl Audit<'_> {
         match post.m.kind {
             REPLY if post.to != NOBODY => sent.moved = [self.facts(line.node).moved, self.facts(post.to).moved],
             REQUEST if post.to != NOBODY => self.ask(line, post.to, post.m.b),
-            ACCEPT if post.to != NOBODY => {
+            ACCEPT => {
                 let kept = self.facts(line.node).step.backed == Some(post.to);
                 self.asks(12, kept);
             }

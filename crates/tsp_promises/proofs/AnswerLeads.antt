@@ -1,5 +1,5 @@
 -- What a port does with what it takes, and a whole step, keeps what is known of it.
-use Rattle.std.specs.Prelude.{◌≡◌, ℕ, not, Bool, true, false, List, [], ◌∷◌, None, refl}
+use Rattle.std.specs.Prelude.{◌≡◌, ℕ, not, Bool, true, false, List, [], ◌∷◌, refl}
 use Rattle.std.proofs.Common.{sym, subst, inl, inr, ap, true≢false, eq-eqb, ◌∙◌}
 use Rattle.tsp_base.specs.declared.act.Act.TheVariants.{Took}
 use Rattle.tsp_base.specs.declared.alarm.Alarm.TheVariants.{Quiet, Search, Elect, Window, Probe, Close, Resolve, Round}
@@ -34,7 +34,7 @@ use Rattle.tsp_rules.specs.SendRows.{due_sends}
 use Rattle.tsp_rules.specs.SlaveRows.{slave_takes}
 use Rattle.tsp_rules.specs.Guards.{role_at, is_own, is_heard, is_starting_role}
 use Rattle.tsp_promises.proofs.Known.{Open, Fresh, Early, Rests}
-use Rattle.tsp_promises.proofs.Leaves.{none-some}
+use Rattle.tsp_promises.proofs.Leaves.{none-among}
 use Rattle.tsp_promises.proofs.Rings.{open_of}
 use Rattle.tsp_promises.proofs.Changes.{Is, JustTook, take}
 use Rattle.tsp_rules.proofs.GuardFacts.{and-cases, not-true, awake_is}
@@ -58,7 +58,7 @@ due_alarms_lead = Leads_then (rings_alone Quiet) _ (quiet_leads true false) (Lea
 
 module _ {p : PeerId} {m : MessageValue} where
   pub quit_loose : m.kind ≡ QuitKind → Leads (HeardIn p m Loose) (quits p m.number) Rests
-  quit_loose e = quits_lead Loose None (λ q i. let bad : ⊥ = cc in absurd bad) refl (λ q i. let bad : ⊥ = cc in absurd bad) e
+  quit_loose e = quits_lead Loose [] (λ q i. let bad : ⊥ = cc in absurd bad) refl (λ q i. none-among q refl i) e
 
   pub says_leads : (r : Role) → Leads (HeardIn p m r) (says_in p m r) Rests
   unfolding says_in slave_takes candidate_takes master_takes
@@ -154,7 +154,7 @@ takes_upsets steer charge from t =
     record { run = λ x past h. k.run x (grown x past (Took from t ∷ [])) (take from t h) }
 
 pub open_rests : (x : ℕ) (past : Past) → Open x past → Rests x past
-open_rests x past h = record { fits = h.fits; knows = h.knows; backs = h.backs; follows = λ p e. none-some p (sym h.owed ∙ e); paid = h.paid }
+open_rests x past h = record { fits = h.fits; knows = h.knows; backs = h.backs; follows = λ p e. none-among p h.owed e; paid = h.paid }
 
 pub input_leads : (g : Given) → Leads Open (input_row g) Rests
 unfolding input_row

@@ -1,11 +1,12 @@
 -- How a master that took a QUIT comes to follow its sender.
-use Rattle.std.specs.Prelude.{◌≡◌, List, [], ◌∷◌, Option, Some, refl}
+use Rattle.std.specs.Prelude.{◌≡◌, true, List, [], ◌∷◌, refl}
 use Rattle.std.proofs.Common.{sym, ap, inl, inr, ◌∙◌}
 use Rattle.tsp_base.specs.declared.act.Act.TheVariants.{Boot, Become, Quit}
 use Rattle.tsp_base.specs.declared.place.PeerId.{PeerId}
 use Rattle.tsp_base.specs.declared.role.Role.{Role}
 use Rattle.tsp_base.specs.declared.role.Role.TheVariants.{Follow}
 use Rattle.tsp_base.specs.History.{Begins, Acts, Deed, Did, Seen, Here, Elsewhere}
+use Rattle.tsp_base.specs.Peers.{is_among}
 use Rattle.tsp_base.specs.PortFacts.{role, role_after}
 use Rattle.tsp_promises.specs.StepFacts.{owes, owes_after}
 use Rattle.tsp_promises.specs.Became.{Became, BecomesAfter}
@@ -14,15 +15,15 @@ later : (s : Seen) (before : List Seen) (p : PeerId) → Became before p → Bec
 later s before p b = record { did = b.did; before = b.before; place = inr b.place; deed = b.deed; after = b.after }
 
 -- a QUIT to a follower changes nothing that is owed
-quit-owes : (r : Role) (q p : PeerId) (keep : Option PeerId) → r ≡ Follow p → owes_after (Acts (Quit q)) r keep ≡ keep
+quit-owes : (r : Role) (q p : PeerId) (keep : List PeerId) → r ≡ Follow p → owes_after (Acts (Quit q)) r keep ≡ keep
 quit-owes r q p keep e = rw e refl
 
-became-deed : (d : Did) (before : List Seen) (p : PeerId) (deed : Deed) → deed ≡ d.deed → (owes before ≡ Some p → role before ≡ Follow p → Became before p) →
-    owes_after deed (role before) (owes before) ≡ Some p → role_after deed (role before) ≡ Follow p → Became (Here d ∷ before) p
+became-deed : (d : Did) (before : List Seen) (p : PeerId) (deed : Deed) → deed ≡ d.deed → (is_among p (owes before) ≡ true → role before ≡ Follow p → Became before p) →
+    is_among p (owes_after deed (role before) (owes before)) ≡ true → role_after deed (role before) ≡ Follow p → Became (Here d ∷ before) p
 became-deed d before p Begins is h o r = let bad : ⊥ = cc in absurd bad
 became-deed d before p (Acts Boot) is h o r = let bad : ⊥ = cc in absurd bad
 became-deed d before p (Acts (Become s)) is h o r = record { did = d; before = before; place = inl refl; deed = sym is ∙ ap (λ (z : Role). Acts (Become z)) r; after = o }
-became-deed d before p (Acts (Quit q)) is h o r = later (Here d) before p (h (sym (quit-owes (role before) q p (owes before) r) ∙ o) r)
+became-deed d before p (Acts (Quit q)) is h o r = later (Here d) before p (h (sym (ap (is_among p) (quit-owes (role before) q p (owes before) r)) ∙ o) r)
 became-deed d before p _ is h o r = later (Here d) before p (h o r)
 
 pub becomes_after : BecomesAfter

@@ -1,6 +1,6 @@
 -- Small histories that break the promises of roles.
 use Rattle.std.specs.Prelude.{◌≡◌, ◌≤◌, ◌<◌, true, false, ◌+◌, pos, List, [], ◌∷◌, Some, None, refl}
-use Rattle.std.proofs.Common.{ap, arith, inl, inr, true≢false}
+use Rattle.std.proofs.Common.{ap, arith, inl, inr, sym, true≢false}
 use Rattle.tsp_base.specs.declared.act.Act.TheVariants.{Boot, Took, Post, Become, Back, Quit, Ring, Close, Correct}
 use Rattle.tsp_base.specs.declared.alarm.Alarm.TheVariants.{Resolve}
 use Rattle.tsp_base.specs.declared.constants.TheConstants.{ELECT_MIN}
@@ -9,7 +9,7 @@ use Rattle.tsp_base.specs.declared.datagram.Taken.TheVariants.{Good}
 use Rattle.tsp_base.specs.declared.kind.Kind.TheVariants.{Ack, AdjTime, Accept, Election, MasterReq, Quit as QuitKind}
 use Rattle.tsp_base.specs.declared.message.Body.TheVariants.{Nothing, Time}
 use Rattle.tsp_base.specs.declared.place.PeerId.{PeerId}
-use Rattle.tsp_base.specs.declared.place.Place.TheVariants.{Peer}
+use Rattle.tsp_base.specs.declared.place.Place.TheVariants.{Peer, Stranger}
 use Rattle.tsp_base.specs.declared.role.Role.TheVariants.{Candidate, Starting, Follow, Master}
 use Rattle.tsp_base.specs.History.{Booted, Came, Turned, Line, of, view}
 use Rattle.tsp_promises.specs.OneBack.{OneBack}
@@ -39,7 +39,13 @@ none-peer : (p : PeerId) → None ≡ Some p → ⊥
 none-peer p e = cc
 
 accepts : Breaks OneBack
-accepts = record { world = does 10 0 Turned (Post (Peer (peer_of 1)) (Message (msg Accept 5 Nothing))) ∷ []; broken = λ h. none-peer (peer_of 1) (h.backs.0.accepts (peer_of 1) (msg Accept 5 Nothing) refl refl) }
+accepts = record { world = does 10 0 Turned (Post (Peer (peer_of 1)) (Message (msg Accept 5 Nothing))) ∷ []; broken = λ h. none-peer (peer_of 1) (h.backs.0.accepts (Peer (peer_of 1)) (msg Accept 5 Nothing) refl refl) }
+
+accepts_stranger : Breaks OneBack
+accepts_stranger = record {
+  world = does 10 0 Turned (Post Stranger (Message (msg Accept 5 Nothing))) ∷ (does 10 0 Turned (Back (peer_of 1)) ∷ []);
+  broken = λ h. h.backs.0.accepts Stranger (msg Accept 5 Nothing) refl refl;
+}
 
 abbrev stands : List Line
 stands = does 10 0 Turned (Become Candidate) ∷ []
@@ -92,10 +98,31 @@ winners = record {
 follow-master : (p : PeerId) → Master ≡ Follow p → ⊥
 follow-master p e = cc
 
+follow-same : (p q : PeerId) → Follow p ≡ Follow q → p ≡ q
+follow-same p q e = cc
+
+two-one : Follow (peer_of 2) ≡ Follow (peer_of 1) → ⊥
+two-one e = one-two (sym (follow-same (peer_of 2) (peer_of 1) e))
+
 yields : Breaks Yields
 yields = record {
   world = does 20 0 Turned (Quit (peer_of 1)) ∷ (does 10 0 Turned (Become Master) ∷ []);
   broken = λ h. follow-master (peer_of 1) (h.ends 0 port0 (peer_of 1) refl);
+}
+
+-- of two peers whose QUITs a master took, it can follow one alone
+yields_twice : Breaks Yields
+yields_twice = record {
+  world = does 30 0 Turned (Become (Follow (peer_of 2))) ∷ (does 30 0 Turned (Quit (peer_of 2)) ∷ (does 30 0 Turned (Quit (peer_of 1)) ∷ (does 10 0 Turned (Become Master) ∷ [])));
+  broken = λ h. two-one (h.ends 0 port0 (peer_of 1) refl);
+}
+
+-- nor is it enough to have followed the first for a while
+yields_again : Breaks Yields
+yields_again = record {
+  world = does 30 0 Turned (Become (Follow (peer_of 2))) ∷ (does 30 0 Turned (Quit (peer_of 2)) ∷ (does 30 0 Turned (Become Master) ∷
+      (does 30 0 Turned (Become (Follow (peer_of 1))) ∷ (does 30 0 Turned (Quit (peer_of 1)) ∷ (does 10 0 Turned (Become Master) ∷ [])))));
+  broken = λ h. two-one (h.ends 0 port0 (peer_of 1) refl);
 }
 
 quiet : Breaks StaysQuiet
@@ -167,6 +194,7 @@ pub roles_break : RolesBreak (still false)
 roles_break = record {
   holds = holds;
   accepts = accepts;
+  accepts_stranger = accepts_stranger;
   asks = asks;
   ends = ends;
   finishes = finishes;
@@ -177,6 +205,8 @@ roles_break = record {
   follows_close = follows_close;
   winners = winners;
   yields = yields;
+  yields_twice = yields_twice;
+  yields_again = yields_again;
   quiet = quiet;
   stops = stops;
   stops_later = stops_later;

@@ -41,7 +41,7 @@ either_false : (b : Bool) → (if b then false else false) ≡ false
 either_false true = refl
 either_false false = refl
 
-module _ {stirred owing acts : Bool} {follow : Option PeerId} {T : Option Received → Option Received → Type 0} {x : ℕ} {past : Past} where
+module _ {stirred owing acts : Bool} {follow : List PeerId} {T : Option Received → Option Received → Type 0} {x : ℕ} {past : Past} where
   pub become_loose : (role past.seen ≡ Master → YieldFits (setup_in past) past.seen) → During stirred true owing follow acts T x past → During stirred true owing follow acts T x (grown x past (Become Loose ∷ []))
   become_loose f h = made (Become Loose) h.own f h.fits (knows_become x past Loose h.knows.times (h.rested refl) (λ e. let bad : ⊥ = cc in absurd bad)) h.rested h.backs h.owed h.paid h.acting_is h.took
 
@@ -51,7 +51,7 @@ module _ {stirred owing acts : Bool} {follow : Option PeerId} {T : Option Receiv
   pub become_master : LeadFits (setup_in past) (now x past (Become Master)) past.seen → During stirred true owing follow acts T x past → During stirred true owing follow acts T x (grown x past (Become Master ∷ []))
   become_master f h = made (Become Master) h.own f h.fits (knows_become x past Master h.knows.times (h.rested refl) (λ e. let bad : ⊥ = cc in absurd bad)) h.rested h.backs h.owed h.paid h.acting_is h.took
 
-module _ {stirred awake acts : Bool} {follow : Option PeerId} {T : Option Received → Option Received → Type 0} {x : ℕ} {past : Past} where
+module _ {stirred awake acts : Bool} {follow : List PeerId} {T : Option Received → Option Received → Type 0} {x : ℕ} {past : Past} where
   -- a port that has just become a candidate backs itself
   pub back_own : (armed past.seen).window ≡ None → BackFits (now x past (Back past.own)) past.seen past.own → During stirred awake true follow acts T x past → During stirred awake false follow acts T x (grown x past (Back past.own ∷ []))
   back_own shut f h =
@@ -70,7 +70,7 @@ module _ {stirred awake acts : Bool} {follow : Option PeerId} {T : Option Receiv
       h.rested (rw h.backs (either_false (p.0 == past.step.node))) h.owed h.paid h.acting_is h.took
 
 -- a port that took a QUIT, which it acknowledges or has acknowledged, or is about to follow
-pub record Quitting (due : Option Said) (follow : Option PeerId) (T : Option Received → Option Received → Type 0) (x : ℕ) (past : Past) : Type 0 where
+pub record Quitting (due : Option Said) (follow : List PeerId) (T : Option Received → Option Received → Type 0) (x : ℕ) (past : Past) : Type 0 where
   pub own : past.own.0 ≡ past.step.node
   pub fits : PortFits (setup_in past) past.seen
   pub times : TimesOf x past.seen
@@ -82,7 +82,7 @@ pub record Quitting (due : Option Said) (follow : Option PeerId) (T : Option Rec
   pub took : T (taken past.seen) (heard (plain past.seen))
 
 -- a port in its role
-pub record FreeIn (follow : Option PeerId) (T : Option Received → Option Received → Type 0) (r : Role) (x : ℕ) (past : Past) : Type 0 where
+pub record FreeIn (follow : List PeerId) (T : Option Received → Option Received → Type 0) (r : Role) (x : ℕ) (past : Past) : Type 0 where
   pub free : During false true false follow true T x past
   pub role_is : role past.seen ≡ r
 
@@ -93,11 +93,11 @@ acked-here p m ack kind number =
     let count : (ack.number == m.number) ≡ true = eq-eqb ack.number m.number number in
     rw (same, kind, count) refl
 
-module _ {follow : Option PeerId} {T : Option Received → Option Received → Type 0} {x : ℕ} {past : Past} where
+module _ {follow : List PeerId} {T : Option Received → Option Received → Type 0} {x : ℕ} {past : Past} where
   pub quitting_of : During false true false follow true T x past → Quitting None follow T x past
   quitting_of h = record { own = h.own; fits = h.fits; times = h.knows.times; rested = h.rested refl; backs = h.backs; owed = h.owed; paid = h.paid; acting_is = h.acting_is; took = h.took }
 
-  pub quit_taken : (p : PeerId) (due : Option Said) (then_follow : Option PeerId) → QuitFits past.seen p → said (taken past.seen) ≡ due → owes_after (Acts (Quit p)) (role past.seen) (owes past.seen) ≡ then_follow → During false true false follow true T x past →
+  pub quit_taken : (p : PeerId) (due : Option Said) (then_follow : List PeerId) → QuitFits past.seen p → said (taken past.seen) ≡ due → owes_after (Acts (Quit p)) (role past.seen) (owes past.seen) ≡ then_follow → During false true false follow true T x past →
       Quitting due then_follow T x (grown x past (Quit p ∷ []))
   quit_taken p due then_follow f says e h = record { own = h.own; fits = (f, h.fits); times = h.knows.times; rested = h.rested refl; backs = h.backs; owed = e; paid = says; acting_is = h.acting_is; took = h.took }
 
@@ -128,7 +128,7 @@ Is from t here anywhere = here ≡ Some (record { from = from; taken = t })
 
 -- a port that has just taken a datagram, and may be in its quiet time or not
 pub record JustTook (awake : Bool) (from : Place) (t : Taken) (x : ℕ) (past : Past) : Type 0 where
-  pub free : During false awake false None true (Is from t) x past
+  pub free : During false awake false [] true (Is from t) x past
   pub took : Did
   pub rest : List Seen
   pub is : past.seen ≡ Here took ∷ rest

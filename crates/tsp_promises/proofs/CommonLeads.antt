@@ -42,7 +42,7 @@ module _ {P : ℕ → Past → Type 0} where
   tells_ticket_keeps p k = Leads_reading ticket_at (posts p SlaveUp) (λ n. Leads_posts p SlaveUp n (λ x past h. k x past n (sym h.1) h.0))
 
 -- in its role
-module _ {follow : Option PeerId} {T : Option Received → Option Received → Type 0} {r : Role} where
+module _ {follow : List PeerId} {T : Option Received → Option Received → Type 0} {r : Role} where
   pub in_arm_elect : (x : ℕ) (past : Past) (at : ℕ) → FreeIn follow T r x past → FreeIn follow T r x (grown x past (Arm Elect at ∷ []))
   in_arm_elect x past at h = record { free = arm_elect at h.free; role_is = h.role_is }
 
@@ -56,7 +56,7 @@ module _ {follow : Option PeerId} {T : Option Received → Option Received → T
   pub tells_ticket_in : (p : PeerId) → Leads (FreeIn follow T r) (tells_ticket p) (FreeIn follow T r)
   tells_ticket_in p = tells_ticket_keeps p (λ x past n e h. in_post x past p SlaveUp n refl e h)
 
-module _ {stirred owing acts : Bool} {follow : Option PeerId} {T : Option Received → Option Received → Type 0} where
+module _ {stirred owing acts : Bool} {follow : List PeerId} {T : Option Received → Option Received → Type 0} where
   pub arms_elect_during : Leads (During stirred true owing follow acts T) arms_elect (During stirred true owing follow acts T)
   arms_elect_during = arms_elect_keeps (λ x past at h. arm_elect at h)
 
@@ -70,14 +70,14 @@ module _ {stirred owing acts : Bool} {follow : Option PeerId} {T : Option Receiv
       (Leads_others MasterReq 0 (λ x past p h. post_message p (bare MasterReq 0 past.name) refl tt h))
 
 -- the port follows p
-pub follow_leads : {follow : Option PeerId} {T : Option Received → Option Received → Type 0} (p : PeerId) → Leads (Quitting None follow T) (follow_row p) (FreeIn follow T (Follow p))
+pub follow_leads : {follow : List PeerId} {T : Option Received → Option Received → Type 0} (p : PeerId) → Leads (Quitting None follow T) (follow_row p) (FreeIn follow T (Follow p))
 unfolding follow_row
 follow_leads p = Leads_then (puts (Become (Follow p))) (arms_elect followed_by tells_ticket p)
     (Leads_puts (Become (Follow p)) (λ x past h. become_follow p h))
     (Leads_then arms_elect (tells_ticket p) arms_elect_in (tells_ticket_in p))
 
 -- the port's next own number is no ticket
-pub own_number : {follow : Option PeerId} {T : Option Received → Option Received → Type 0} (x : ℕ) (past : Past) (p : PeerId) (d : Did) (m : MessageValue) → During false true false follow true T x past → next_number x past ≡ m.number → NumberedFits d past.seen p m
+pub own_number : {follow : List PeerId} {T : Option Received → Option Received → Type 0} (x : ℕ) (past : Past) (p : PeerId) (d : Did) (m : MessageValue) → During false true false follow true T x past → next_number x past ≡ m.number → NumberedFits d past.seen p m
 own_number x past p d m h e = record { number = omega (arith, e); next = λ begins. sym e; repeats = λ idle. absurd (true≢false (sym h.acting_is ∙ idle)) }
 
 module _ {T : Option Received → Option Received → Type 0} where
@@ -98,7 +98,7 @@ pub record Eligible (T : Option Received → Option Received → Type 0) (x : �
 
 -- a candidate that is about to back itself
 record BackingItself (T : Option Received → Option Received → Type 0) (x : ℕ) (past : Past) : Type 0 where
-  pub during : During false true true None true T x past
+  pub during : During false true true [] true T x past
   pub role_is : role past.seen ≡ Candidate
   pub shut : (armed past.seen).window ≡ None
   pub back : BackFits (now x past (Back past.own)) past.seen past.own
@@ -160,7 +160,7 @@ module _ {T : Option Received → Option Received → Type 0} where
     unbacked = h.unbacked;
   }
 
-  pub candidature_leads : Leads (Eligible T) candidature_row (FreeIn None T Candidate)
+  pub candidature_leads : Leads (Eligible T) candidature_row (FreeIn [] T Candidate)
   unfolding candidature_row backs_own begins_to_others
   candidature_leads = Leads_then {Q = BackingItself T} (puts (Become Candidate)) (backs_own followed_by (arms Window WINDOW followed_by begins_to_others Election))
       (Leads_puts (Become Candidate) (λ x past h.

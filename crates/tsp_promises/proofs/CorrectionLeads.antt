@@ -165,7 +165,7 @@ repeat_fits setup p seen d s f e u a soon few =
 
 -- the same port, which has a send open, so its quiet time is over
 abbrev Sending_on : ℕ → Past → Type 0
-Sending_on = During false true false None false Untaken
+Sending_on = During false true false [] false Untaken
 
 awake_open : (p : PeerId) (s : Sending) (x : ℕ) (past : Past) → Fresh x past → open_send p past.seen ≡ Some s → Sending_on x past
 awake_open p s x past h e = wake (elim h.knows.quiet.rested [

@@ -18,7 +18,7 @@ use Rattle.tsp_rules.proofs.FewActs.{is_calm}
 use Rattle.tsp_rules.proofs.GuardFacts.{and-cases}
 
 -- a port in a step, whether it has acted or not
-pub during_open : {stirred : Bool} {T : Option Received → Option Received → Type 0} {x : ℕ} {past : Past} → OpenIn stirred T x past → During stirred false false None (acting past.seen) T x past
+pub during_open : {stirred : Bool} {T : Option Received → Option Received → Type 0} {x : ℕ} {past : Past} → OpenIn stirred T x past → During stirred false false [] (acting past.seen) T x past
 during_open h = record { own = h.own; fits = h.fits; knows = h.knows; rested = λ e. absurd (true≢false (sym e)); backs = h.backs; owed = h.owed; paid = h.paid; acting_is = refl; took = h.took }
 
 -- port q, whose round has had its last probe

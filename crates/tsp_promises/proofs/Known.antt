@@ -116,8 +116,8 @@ RoundsOf stirred seen = Rounds stirred (last_correct (plain seen)) (role seen) (
 abbrev pub KnowsOf : Bool → ℕ → PeerId → List Seen → Type 0
 KnowsOf stirred x own seen = Knows (TimesOf x seen) (QuietsOf x seen) (VotesOf x own seen) (RoundsOf stirred seen)
 
--- a port in a step: whether it is stirred, whether its quiet time is known to be over, whether it owes a backing of itself, whom it must follow, that no QUIT waits for its ACK, whether it acts, what was taken here and anywhere
-pub record During (stirred awake owing : Bool) (follow : Option PeerId) (acts : Bool) (T : Option Received → Option Received → Type 0) (x : ℕ) (past : Past) : Type 0 where
+-- a port in a step: whether it is stirred, whether its quiet time is known to be over, whether it owes a backing of itself, each peer that it must follow, that no QUIT waits for its ACK, whether it acts, what was taken here and anywhere
+pub record During (stirred awake owing : Bool) (follow : List PeerId) (acts : Bool) (T : Option Received → Option Received → Type 0) (x : ℕ) (past : Past) : Type 0 where
   pub own : past.own.0 ≡ past.step.node
   pub fits : PortFits (setup_in past) past.seen
   pub knows : KnowsOf stirred x past.own past.seen
@@ -134,19 +134,19 @@ Untaken here anywhere = (here ≡ None) × (anywhere ≡ None)
 
 -- a port in a step that has acted, after its quiet time
 abbrev pub Free : (Option Received → Option Received → Type 0) → ℕ → Past → Type 0
-Free T = During false true false None true T
+Free T = During false true false [] true T
 
 -- the same of a port that may be in its quiet time
 abbrev pub Early : (Option Received → Option Received → Type 0) → ℕ → Past → Type 0
-Early T = During false false false None true T
+Early T = During false false false [] true T
 
 -- the same of a port whose clock was corrected while a round may go on
 abbrev pub Stirred : (Option Received → Option Received → Type 0) → ℕ → Past → Type 0
-Stirred T = During true true false None true T
+Stirred T = During true true false [] true T
 
 -- a port before its first alarm in a step
 abbrev pub FreshIn : Bool → ℕ → Past → Type 0
-FreshIn stirred = During stirred false false None false Untaken
+FreshIn stirred = During stirred false false [] false Untaken
 
 abbrev pub Fresh : ℕ → Past → Type 0
 Fresh = FreshIn false
@@ -157,7 +157,7 @@ pub record OpenIn (stirred : Bool) (T : Option Received → Option Received → 
   pub fits : PortFits (setup_in past) past.seen
   pub knows : KnowsOf stirred x past.own past.seen
   pub backs : is_unbacked past.seen ≡ false
-  pub owed : owes past.seen ≡ None
+  pub owed : owes past.seen ≡ []
   pub paid : unacknowledged past.seen ≡ None
   pub took : T (taken past.seen) (heard (plain past.seen))
 
@@ -169,7 +169,7 @@ pub record RestsIn (stirred : Bool) (x : ℕ) (past : Past) : Type 0 where
   pub fits : PortFits (setup_in past) past.seen
   pub knows : KnowsOf stirred x past.own past.seen
   pub backs : is_unbacked past.seen ≡ false
-  pub follows : (p : PeerId) → owes past.seen ≡ Some p → role past.seen ≡ Follow p
+  pub follows : (p : PeerId) → is_among p (owes past.seen) ≡ true → role past.seen ≡ Follow p
   pub paid : unacknowledged past.seen ≡ None
 
 abbrev pub Rests : ℕ → Past → Type 0

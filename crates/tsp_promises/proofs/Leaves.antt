@@ -1,6 +1,6 @@
 -- What single acts make of what is known of a port.
 use Rattle.std.specs.Prelude.{◌≡◌, ◌≤◌, ℕ, ◌+◌, ◌==◌, ◌&&◌, ◌||◌, ℤ, Bool, true, false, if◌then◌else◌, cond, List, [], ◌∷◌, Option, None, Some, refl}
-use Rattle.std.proofs.Common.{sym, subst, arith, inr, ◌∙◌, true≢false}
+use Rattle.std.proofs.Common.{sym, ap, subst, arith, inr, ◌∙◌, true≢false}
 use Rattle.tsp_base.specs.declared.act.Act.{Act}
 use Rattle.tsp_base.specs.declared.act.Act.TheVariants.{Backer, Arm, Join, Leave, Rival, Acked, Gave, Sample, Close as CloseAct, Correct, Abandon, Trace}
 use Rattle.tsp_base.specs.declared.alarm.Alarm.TheVariants.{Search, Elect, Window, Probe, Close, Resolve, Round}
@@ -34,6 +34,9 @@ then_seen x past a = Here (now x past a) ∷ past.seen
 pub none-some : {A : Type 0} {B : Type 0} (a : A) → None ≡ Some a → B
 none-some a e = let bad : ⊥ = cc in absurd bad
 
+pub none-among : {B : Type 0} {ps : List PeerId} (p : PeerId) → ps ≡ [] → is_among p ps ≡ true → B
+none-among p e i = absurd (true≢false (sym i ∙ ap (is_among p) e))
+
 pub nil-cons : {B : Type 0} (s : Seen) (older : List Seen) → [] ≡ s ∷ older → B
 nil-cons s older e = let bad : ⊥ = cc in absurd bad
 
@@ -59,7 +62,7 @@ new-backer p q keep bs ended e old false same = old
 pub stir : {stirred : Bool} {close : Option ℕ} {nc nl nd nm w : ℕ} {s : Seen} {older : List Seen} → Asked stirred close nc nl w s older → Asked true close nd nm w s older
 stir a = record { post = a.post; is = a.is; at = a.at; goes = a.goes; word_is = a.word_is; corrects = λ calm. absurd (true≢false calm); life = λ calm. absurd (true≢false calm) }
 
-pub made : {stirred awake owing acts : Bool} {follow : Option PeerId} {T : Option Received → Option Received → Type 0} {x : ℕ} {past : Past} (a : Act) → past.own.0 ≡ past.step.node → ActFits (setup_in past) a (now x past a) past.seen → PortFits (setup_in past) past.seen →
+pub made : {stirred awake owing acts : Bool} {follow : List PeerId} {T : Option Received → Option Received → Type 0} {x : ℕ} {past : Past} (a : Act) → past.own.0 ≡ past.step.node → ActFits (setup_in past) a (now x past a) past.seen → PortFits (setup_in past) past.seen →
     KnowsOf stirred x past.own (then_seen x past a) → (awake ≡ true → boot_tick (plain (then_seen x past a)) + QUIET ≤ x) → is_unbacked (then_seen x past a) ≡ owing → owes (then_seen x past a) ≡ follow → unacknowledged (then_seen x past a) ≡ None → acting (then_seen x past a) ≡ acts → T (taken (then_seen x past a)) (heard (plain (then_seen x past a))) →
     During stirred awake owing follow acts T x (grown x past (a ∷ []))
 made a own f fits knows rested backs owed paid acting_is took = record { own = own; fits = (f, fits); knows = knows; rested = rested; backs = backs; owed = owed; paid = paid; acting_is = acting_is; took = took }
@@ -72,7 +75,7 @@ begins-then : (d start : Did) (rest idle : List Seen) (n : ℕ) → Here d ∷ r
 begins-then d start rest idle n e h = let same : d ≡ start = cc in subst (λ (z : Did). z.tick + ROUND ≤ n) same (omega (arith, h))
 
 -- acts that change nothing that is known
-module _ {stirred awake owing acts : Bool} {follow : Option PeerId} {T : Option Received → Option Received → Type 0} {x : ℕ} {past : Past} where
+module _ {stirred awake owing acts : Bool} {follow : List PeerId} {T : Option Received → Option Received → Type 0} {x : ℕ} {past : Past} where
   pub join : (p : PeerId) → During stirred awake owing follow acts T x past → During stirred awake owing follow acts T x (grown x past (Join p ∷ []))
   join p h = made (Join p) h.own tt h.fits h.knows h.rested h.backs h.owed h.paid h.acting_is h.took
 
@@ -89,7 +92,7 @@ module _ {stirred awake owing acts : Bool} {follow : Option PeerId} {T : Option 
   close_act count lo size mean f h = made (CloseAct count lo size mean) h.own f h.fits h.knows h.rested h.backs h.owed h.paid h.acting_is h.took
 
 -- acts of a port whose quiet time is over
-module _ {stirred owing acts : Bool} {follow : Option PeerId} {T : Option Received → Option Received → Type 0} {x : ℕ} {past : Past} where
+module _ {stirred owing acts : Bool} {follow : List PeerId} {T : Option Received → Option Received → Type 0} {x : ℕ} {past : Past} where
   pub arm_search : (at : ℕ) → During stirred true owing follow acts T x past → During stirred true owing follow acts T x (grown x past (Arm Search at ∷ []))
   arm_search at h =
       let k = h.knows in
@@ -145,7 +148,7 @@ module _ {stirred owing acts : Bool} {follow : Option PeerId} {T : Option Receiv
       })
       h.rested h.backs h.owed h.paid h.acting_is h.took
 
-module _ {stirred awake owing acts : Bool} {follow : Option PeerId} {T : Option Received → Option Received → Type 0} {x : ℕ} {past : Past} where
+module _ {stirred awake owing acts : Bool} {follow : List PeerId} {T : Option Received → Option Received → Type 0} {x : ℕ} {past : Past} where
   pub arm_window : (at : ℕ) → Candidature past.own at (role past.seen) (held past.seen).back (stood past.seen) → During stirred awake owing follow acts T x past → During stirred awake owing follow acts T x (grown x past (Arm Window at ∷ []))
   arm_window at c h =
       let k = h.knows in

@@ -31,6 +31,7 @@ use Rattle.tsp_rules.proofs.NodeRowLemmas.{spread_append}
 use Rattle.tsp_promises.specs.PortFits.{setup_in}
 use Rattle.tsp_promises.proofs.Known.{Open, OpenIn, Rests, Free}
 use Rattle.tsp_rules.proofs.Asides.{aside, now}
+use Rattle.tsp_promises.proofs.Leaves.{none-among}
 use Rattle.tsp_promises.proofs.PostLeaves.{post_message}
 use Rattle.tsp_promises.proofs.Rings.{open_of}
 use Rattle.tsp_promises.proofs.Changes.{JustTook, Is, become_loose, take}
@@ -55,7 +56,7 @@ pub open_heard : (from : Place) (t : Taken) (x : ℕ) (past : Past) → Open x p
 open_heard from t x past h = record { own = h.own; fits = h.fits; knows = h.knows; backs = h.backs; owed = h.owed; paid = h.paid; took = refl }
 
 pub open_ends : {T : Option Received → Option Received → Type 0} (x : ℕ) (past : Past) → OpenIn false T x past → Rests x past
-open_ends x past h = record { fits = h.fits; knows = h.knows; backs = h.backs; follows = λ p e. let owed = h.owed in let bad : ⊥ = cc in absurd bad; paid = h.paid }
+open_ends x past h = record { fits = h.fits; knows = h.knows; backs = h.backs; follows = λ p e. none-among p h.owed e; paid = h.paid }
 
 -- names
 name-same : (a b : List ℕ) → same_name a b ≡ true → a ≡ b

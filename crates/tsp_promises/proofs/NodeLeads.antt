@@ -17,7 +17,7 @@ use Rattle.tsp_rules.proofs.NodeRowLemmas.{spread_append}
 use Rattle.tsp_promises.specs.NodeRuns.{NodeMakes, NodeBoots, NodeAnswers, node_row_of, NodeHappening, node_ran, node_tick, IsGivenOn, NodeOrdered, NodesFit}
 use Rattle.tsp_promises.specs.PortFits.{PortFits, setup_in}
 use Rattle.tsp_promises.proofs.Known.{Fresh, Rests}
-use Rattle.tsp_promises.proofs.Leaves.{none-some, nil-cons, some-same}
+use Rattle.tsp_promises.proofs.Leaves.{none-some, none-among, nil-cons, some-same}
 use Rattle.tsp_promises.proofs.RunLeads.{ends_of, begins_fresh, nothing-done}
 use Rattle.tsp_promises.proofs.Elsewheres.{fresh_family}
 use Rattle.tsp_rules.proofs.Asides.{all_aside}
@@ -113,7 +113,7 @@ boots-list (q ∷ rest) x past ranged all =
     subst (λ z. AllPorts (λ r. Booting) x z) (sym (spread_append x past first (for_ports boots_on rest x (spread x past first)))) (boots-list rest x (spread x past first) ranged.1 (boots-one q x past ranged.0 all))
 
 boot-rests : (x : ℕ) (past : Past) → Booting x past → Rests x past
-boot-rests x past b = let h = b.fresh in record { fits = h.fits; knows = h.knows; backs = h.backs; follows = λ p e. none-some p (sym h.owed ∙ e); paid = h.paid }
+boot-rests x past b = let h = b.fresh in record { fits = h.fits; knows = h.knows; backs = h.backs; follows = λ p e. none-among p h.owed e; paid = h.paid }
 
 -- a boot keeps what is known of each port
 pub boots_all_lead : LeadsAll (AllPorts (λ r. Fresh)) boots_all (AllPorts (λ r. Rests))

@@ -15,10 +15,10 @@ use Rattle.tsp_base.specs.History.{Acts, Did, Line, Seen, of, dids, view, is_sha
 use Rattle.tsp_promises.specs.HoldFits.{AcceptFits}
 use Rattle.tsp_base.specs.Messages.{MessageValue}
 use Rattle.tsp_base.specs.NodeFacts.{boot_tick}
-use Rattle.tsp_promises.specs.OneBack.{HoldsAt, BacksAt, OneBack}
+use Rattle.tsp_promises.specs.OneBack.{HoldsAt, IsBacked, BacksAt, OneBack}
 use Rattle.tsp_promises.specs.Setting.{Setting, setup_of}
 use Rattle.tsp_base.specs.Setup.{Setup}
-use Rattle.tsp_promises.specs.StepFacts.{is_unbacked}
+use Rattle.tsp_promises.specs.StepFacts.{backed, is_unbacked}
 use Rattle.tsp_promises.proofs.EverywhereLemmas.{Everywhere-from}
 use Rattle.tsp_base.proofs.ViewPlaces.{sees-own}
 use Rattle.tsp_base.proofs.Views.{plain_view}
@@ -51,6 +51,11 @@ holds_at setting l world f p q other older is w node port other_is =
 accept_fits : (setup : Setup) (k : Kind) (here : Did) (seen : List Seen) (p : PeerId) (m : MessageValue) → k ≡ Accept → MessageFits setup k here seen p m → AcceptFits seen p m.number
 accept_fits setup k here seen p m kind f = subst (λ z. MessageFits setup z here seen p m) kind f
 
+-- an ACCEPT goes to peers alone, after a Back of that peer
+accepts-backed : (setup : Setup) (to : Place) (m : MessageValue) (here : Did) (seen : List Seen) → m.kind ≡ Accept → PostFits setup to (Message m) here seen → IsBacked to (backed seen)
+accepts-backed setup (Peer p) m here seen kind f = (accept_fits setup m.kind here seen p m kind f).backs
+accepts-backed setup Stranger m here seen kind f = subst (λ z. StrangerFits z here seen m.number) kind f.0
+
 -- an ELECTION goes to peers alone, after the port has backed itself
 asks-backed : (setup : Setup) (to : Place) (m : MessageValue) (here : Did) (seen : List Seen) → m.kind ≡ Election → PostFits setup to (Message m) here seen → is_unbacked seen ≡ false
 asks-backed setup (Peer p) m here seen kind f = (subst (λ z. MessageFits setup z here seen p m) kind f).backs
@@ -58,7 +63,7 @@ asks-backed setup Stranger m here seen kind f = absurd (subst (λ z. StrangerFit
 
 backs_at : (setting : Setting) (l : Line) (world : List Line) → Fits setting (l ∷ world) → BacksAt l world
 backs_at setting l world f = record {
-  accepts = λ p m is kind. (accept_fits (setup_of setting (node_of l) l.port) m.kind l.did (view l.port (of (node_of l) world)) p m kind (deed_fits setting l world (Acts (Post (Peer p) (Message m))) is f.0).fits).backs;
+  accepts = λ to m is kind. accepts-backed (setup_of setting (node_of l) l.port) to m l.did (view l.port (of (node_of l) world)) kind (deed_fits setting l world (Acts (Post to (Message m))) is f.0).fits;
   asks = λ to m is kind. asks-backed (setup_of setting (node_of l) l.port) to m l.did (view l.port (of (node_of l) world)) kind (deed_fits setting l world (Acts (Post to (Message m))) is f.0).fits;
   ends = λ is q. (mark_fits setting l world is f.0 q).backs;
 }

@@ -74,7 +74,7 @@ post_knows x past p m new rested k = record {
 }
 
 -- posts of a port whose quiet time is over
-module _ {stirred owing acts : Bool} {follow : Option PeerId} {T : Option Received → Option Received → Type 0} {x : ℕ} {past : Past} where
+module _ {stirred owing acts : Bool} {follow : List PeerId} {T : Option Received → Option Received → Type 0} {x : ℕ} {past : Past} where
   post_as : (p : PeerId) (m : MessageValue) → MessageFits (setup_in past) m.kind (now x past (Post (Peer p) (Message m))) past.seen p m →
       ((q : PeerId) → is_kind_election m.kind ≡ true → acting past.seen ≡ true → is_among q (backers past.seen) ≡ false) → During stirred true owing follow acts T x past → During stirred true owing follow acts T x (grown x past (Post (Peer p) (Message m) ∷ []))
   post_as p m f new h =
@@ -114,12 +114,12 @@ module _ {stirred owing acts : Bool} {follow : Option PeerId} {T : Option Receiv
       h.rested h.backs h.owed h.paid h.acting_is h.took
 
 -- a post before the step has acted begins nothing
-module _ {stirred owing : Bool} {follow : Option PeerId} {T : Option Received → Option Received → Type 0} {x : ℕ} {past : Past} where
+module _ {stirred owing : Bool} {follow : List PeerId} {T : Option Received → Option Received → Type 0} {x : ℕ} {past : Past} where
   pub post_again : (p : PeerId) (m : MessageValue) → MessageFits (setup_in past) m.kind (now x past (Post (Peer p) (Message m))) past.seen p m → During stirred true owing follow false T x past → During stirred true owing follow false T x (grown x past (Post (Peer p) (Message m) ∷ []))
   post_again p m f h = post_as p m f (λ q e a. absurd (true≢false (sym a ∙ h.acting_is))) h
 
 -- posts in the quiet time too
-module _ {stirred awake owing acts : Bool} {follow : Option PeerId} {T : Option Received → Option Received → Type 0} {x : ℕ} {past : Past} where
+module _ {stirred awake owing acts : Bool} {follow : List PeerId} {T : Option Received → Option Received → Type 0} {x : ℕ} {past : Past} where
   pub post_reply : (from : Place) (r : ReplyValue) → PostFits (setup_in past) from (Stamp (Reply r)) (now x past (Post from (Stamp (Reply r)))) past.seen → During stirred awake owing follow acts T x past → During stirred awake owing follow acts T x (grown x past (Post from (Stamp (Reply r)) ∷ []))
   post_reply (Peer p) r f h = made (Post (Peer p) (Stamp (Reply r))) h.own (record { rested = inr tt; fits = f }) h.fits h.knows h.rested h.backs h.owed h.paid h.acting_is h.took
   post_reply Stranger r f h = made (Post Stranger (Stamp (Reply r))) h.own (record { rested = inr tt; fits = f }) h.fits h.knows h.rested h.backs h.owed h.paid h.acting_is h.took

@@ -26,18 +26,18 @@ pub rested_of : {r : Role} {search elect resolve : Option ℕ} {to : PeerId → 
 rested_of x boot (inl s) n = absurd (n s.starts)
 rested_of x boot (inr h) n = h
 
-pub open_of : {stirred awake acts : Bool} {T : Option Received → Option Received → Type 0} {x : ℕ} {past : Past} → During stirred awake false None acts T x past → OpenIn stirred T x past
+pub open_of : {stirred awake acts : Bool} {T : Option Received → Option Received → Type 0} {x : ℕ} {past : Past} → During stirred awake false [] acts T x past → OpenIn stirred T x past
 open_of h = record { own = h.own; fits = h.fits; knows = h.knows; backs = h.backs; owed = h.owed; paid = h.paid; took = h.took }
 
 -- the quiet time is found to be over
-pub wake : {stirred awake owing acts : Bool} {follow : Option PeerId} {T : Option Received → Option Received → Type 0} {x : ℕ} {past : Past} → boot_tick (plain past.seen) + QUIET ≤ x → During stirred awake owing follow acts T x past → During stirred true owing follow acts T x past
+pub wake : {stirred awake owing acts : Bool} {follow : List PeerId} {T : Option Received → Option Received → Type 0} {x : ℕ} {past : Past} → boot_tick (plain past.seen) + QUIET ≤ x → During stirred awake owing follow acts T x past → During stirred true owing follow acts T x past
 wake r h = record { own = h.own; fits = h.fits; knows = h.knows; rested = λ e. r; backs = h.backs; owed = h.owed; paid = h.paid; acting_is = h.acting_is; took = h.took }
 
-pub forget : {stirred awake owing acts : Bool} {follow : Option PeerId} {T : Option Received → Option Received → Type 0} {x : ℕ} {past : Past} → During stirred awake owing follow acts T x past → During stirred false owing follow acts T x past
+pub forget : {stirred awake owing acts : Bool} {follow : List PeerId} {T : Option Received → Option Received → Type 0} {x : ℕ} {past : Past} → During stirred awake owing follow acts T x past → During stirred false owing follow acts T x past
 forget h = record { own = h.own; fits = h.fits; knows = h.knows; rested = λ e. let bad : ⊥ = cc in absurd bad; backs = h.backs; owed = h.owed; paid = h.paid; acting_is = h.acting_is; took = h.took }
 
 module _ {x : ℕ} {past : Past} where
-  rang : (a : Act) → ActFits (setup_in past) a (now x past a) past.seen → KnowsOf false x past.own (then_seen x past a) → boot_tick (plain (then_seen x past a)) + QUIET ≤ x → is_unbacked (then_seen x past a) ≡ false → owes (then_seen x past a) ≡ None → unacknowledged (then_seen x past a) ≡ None → acting (then_seen x past a) ≡ true →
+  rang : (a : Act) → ActFits (setup_in past) a (now x past a) past.seen → KnowsOf false x past.own (then_seen x past a) → boot_tick (plain (then_seen x past a)) + QUIET ≤ x → is_unbacked (then_seen x past a) ≡ false → owes (then_seen x past a) ≡ [] → unacknowledged (then_seen x past a) ≡ None → acting (then_seen x past a) ≡ true →
       Untaken (taken (then_seen x past a)) (heard (plain (then_seen x past a))) → Open x past → Free Untaken x (grown x past (a ∷ []))
   rang a f k r b w u c t h = made a h.own f h.fits k (λ e. r) b w u c t
 

@@ -1,5 +1,5 @@
 -- What a port does with a message of a peer keeps what is known of it, in each role.
-use Rattle.std.specs.Prelude.{◌≡◌, ◌≢◌, ℕ, ◌+◌, ℤ, true, Option, None, Some, refl}
+use Rattle.std.specs.Prelude.{◌≡◌, ◌≢◌, ℕ, ◌+◌, ◌==◌, ◌||◌, ℤ, Bool, true, false, [], ◌∷◌, Option, refl}
 use Rattle.std.proofs.Common.{sym, subst, inl, true≢false, ◌∙◌}
 use Rattle.tsp_base.specs.declared.act.Act.TheVariants.{Post, Join, Rival}
 use Rattle.tsp_base.specs.declared.alarm.Alarm.TheVariants.{Resolve as ResolveAlarm}
@@ -17,6 +17,7 @@ use Rattle.tsp_promises.specs.CorrectionFits.{CorrectionFits, SetsTarget}
 use Rattle.tsp_base.specs.History.{Past}
 use Rattle.tsp_base.specs.Leads.{Leads}
 use Rattle.tsp_base.specs.Messages.{MessageValue}
+use Rattle.tsp_base.specs.Peers.{is_among}
 use Rattle.tsp_base.specs.PortFacts.{Received, role}
 use Rattle.tsp_base.specs.Rows.{nothing, puts, ◌followed_by◌, either_by, reading, arms, bare, timed, posts, posts_to_others, posts_time}
 use Rattle.tsp_base.specs.Takings.{time_in}
@@ -29,11 +30,11 @@ use Rattle.tsp_rules.specs.SendRows.{begins, acknowledges, may_correct, may_set,
 use Rattle.tsp_rules.specs.SlaveRows.{masterup_in, masterack_in, from_master, adjtime_of, settime_of, slave_takes_kind}
 use Rattle.tsp_rules.specs.Guards.{role_at, is_armed, is_in_range, target_at}
 use Rattle.tsp_promises.proofs.Known.{Free, Rests}
-use Rattle.tsp_promises.proofs.Leaves.{join, rival, arm_resolve}
+use Rattle.tsp_promises.proofs.Leaves.{none-among, join, rival, arm_resolve}
 use Rattle.tsp_rules.proofs.Asides.{now}
 use Rattle.tsp_promises.proofs.PostLeaves.{post_message}
 use Rattle.tsp_promises.proofs.LeadsLeaves.{Leads_arms, Leads_posts, Leads_others, Leads_posts_time}
-use Rattle.tsp_rules.proofs.GuardFacts.{and-cases}
+use Rattle.tsp_rules.proofs.GuardFacts.{and-cases, same_peer}
 use Rattle.tsp_promises.proofs.TargetFacts.{sets_target}
 use Rattle.tsp_promises.proofs.CommonLeads.{begins_quit}
 use Rattle.tsp_promises.proofs.CorrectionLeads.{may_fits}
@@ -41,8 +42,12 @@ use Rattle.tsp_promises.proofs.TakenLeads.{Says, Heard, HeardIn, rests_of, ack_f
 use Rattle.tsp_promises.proofs.VoteLeads.{accepted_lead, refused_lead}
 use Rattle.tsp_promises.proofs.SlaveLeads.{follow_heard, idle_heard, masterup_leads, masterack_leads, election_leads, adjtime_leads, settime_leads, from_master_leads}
 
-none-only : {p : PeerId} (q : PeerId) → None ≡ Some q → q ≡ p
-none-only q e = let bad : ⊥ = cc in absurd bad
+-- a peer among one is that one
+one-among : {p : PeerId} (q : PeerId) → is_among q (p ∷ []) ≡ true → q ≡ p
+one-among {p = p} q i = by_case (p.0 == q.0) refl i where
+  by_case : (b : Bool) → (p.0 == q.0) ≡ b → (b || false) ≡ true → q ≡ p
+  by_case true e i = sym (same_peer p q e)
+  by_case false e i = absurd (true≢false (sym i))
 
 module _ {p : PeerId} {m : MessageValue} where
   pub acknowledged : {r : Role} → m.kind ≡ Ack → Leads (HeardIn p m r) (acknowledges p m.number) Rests
@@ -68,7 +73,7 @@ module _ {p : PeerId} {m : MessageValue} where
   candidate_leads Election e = Leads_posts p Refuse m.number (λ x past h. rests_of (post_message p (bare Refuse m.number past.name) refl tt h.0.just.free))
   candidate_leads Accept e = Leads_from (λ x past h. h.0) (accepted_lead e)
   candidate_leads Refuse e = refused_lead
-  candidate_leads Quit e = quits_lead Candidate None (λ q i. let bad : ⊥ = cc in absurd bad) refl (λ q i. none-only q i) e
+  candidate_leads Quit e = quits_lead Candidate [] (λ q i. let bad : ⊥ = cc in absurd bad) refl (λ q i. none-among q refl i) e
   candidate_leads Ack e = acknowledged e
   candidate_leads _ e = idle_heard (λ x past h. h.0)
 
@@ -140,9 +145,6 @@ module _ {p : PeerId} {m : MessageValue} where
   master_leads MasterUp e = Leads_from (λ x past h. h.0.just.free) resolves_free
   master_leads Conflict e = Leads_from (λ x past h. h.0) (conflict_leads e)
   master_leads MasterAck e = Leads_from (λ x past h. h.0) finds_rival_leads
-  master_leads Quit e = quits_lead Master (Some p) (λ q i. let bad : ⊥ = cc in absurd bad) refl (λ q i. some-only q i) e
-    where
-      some-only : (q : PeerId) → Some p ≡ Some q → q ≡ p
-      some-only q i = cc
+  master_leads Quit e = quits_lead Master (p ∷ []) (λ q i. let bad : ⊥ = cc in absurd bad) refl (λ q i. one-among q i) e
   master_leads Ack e = acknowledged e
   master_leads _ e = idle_heard (λ x past h. h.0)

@@ -96,7 +96,7 @@ round_leads own wait = rings_lead own wait Round
     (Leads_then {Q = Spaced} (puts (Ring Round)) (begins_or_waits wait)
     (Leads_puts (Ring Round) (λ x past h. let m = round_master x past h.0 in record { free = ring_round (master_rested x past h.0.0 m) h.0.0; role_is = m; spaced = round_spaced x past h.0 }))
     (begins_or_waits_leads wait))
-    (Leads_to (λ x past h. open_of h.free) (Leads_then {Q = FreeIn None Untaken Master} (puts (Late Round)) (arms Round ROUND)
+    (Leads_to (λ x past h. open_of h.free) (Leads_then {Q = FreeIn [] Untaken Master} (puts (Late Round)) (arms Round ROUND)
     (Leads_puts (Late Round) (λ x past h. let m = round_master x past h.0 in record { free = late_round (master_rested x past h.0.0 m) h.0.0; role_is = m }))
     arms_round_in)))
     (stays Round)

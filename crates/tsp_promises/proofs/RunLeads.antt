@@ -1,5 +1,5 @@
 -- Steps follow one another, and each deed of them fits.
-use Rattle.std.specs.Prelude.{◌≡◌, ◌≤◌, ℕ, ◌+◌, Bool, false, List, [], ◌∷◌, None, Some, refl}
+use Rattle.std.specs.Prelude.{◌≡◌, ◌≤◌, ℕ, ◌+◌, Bool, true, false, List, [], ◌∷◌, None, refl}
 use Rattle.std.proofs.Common.{sym, subst, inl, inr, ap, arith, true≢false, ◌∙◌}
 use Rattle.tsp_base.specs.declared.constants.TheConstants.{QUIET}
 use Rattle.tsp_base.specs.declared.place.PeerId.{PeerId}
@@ -8,12 +8,13 @@ use Rattle.tsp_base.specs.History.{Step, Seen, Here, Past}
 use Rattle.tsp_base.specs.Leads.{Leads}
 use Rattle.tsp_base.specs.PortFacts.{role}
 use Rattle.tsp_base.specs.Rows.{in_step, puts, ◌followed_by◌, arms}
+use Rattle.tsp_base.specs.Peers.{is_among}
 use Rattle.tsp_promises.specs.StepFacts.{StepEnds, is_unbacked, owes, unacknowledged}
 use Rattle.tsp_rules.specs.CommonRows.{boots}
 use Rattle.tsp_promises.specs.PortFits.{PortFits, setup_in}
 use Rattle.tsp_promises.specs.Runs.{Makes, Boots, Answers as Answering, row_of, Happening, ran, last_tick, Ordered, RulesFit}
 use Rattle.tsp_promises.proofs.Known.{KnowsOf, Fresh, Rests, RestsIn}
-use Rattle.tsp_promises.proofs.Leaves.{none-some, nil-cons, some-same}
+use Rattle.tsp_promises.proofs.Leaves.{none-some, none-among, nil-cons, some-same}
 use Rattle.tsp_promises.proofs.AnswerLeads.{answers_lead}
 
 -- a step of a port at rest may end
@@ -41,7 +42,7 @@ boots_lead = record {
       round = record { rounds = λ at e. none-some at e; probing = λ at e. none-some at e; closes = λ calm at e. none-some at e; exchanges = λ p i s older e. nil-cons s older e };
     };
     backs = h.backs;
-    follows = λ p e. none-some p (sym h.owed ∙ e);
+    follows = λ p e. none-among p h.owed e;
     paid = h.paid;
   };
 }
@@ -92,7 +93,7 @@ rests_seen {stirred = stirred} x past now own setup seen h = record {
   fits = subst (λ s. PortFits s now.seen) setup (subst (λ z. PortFits (setup_in past) z) seen h.fits);
   knows = subst (λ o. KnowsOf stirred x o now.seen) own (subst (λ z. KnowsOf stirred x past.own z) seen h.knows);
   backs = subst (λ z. is_unbacked z ≡ false) seen h.backs;
-  follows = subst (λ z. (p : PeerId) → owes z ≡ Some p → role z ≡ Follow p) seen h.follows;
+  follows = subst (λ z. (p : PeerId) → is_among p (owes z) ≡ true → role z ≡ Follow p) seen h.follows;
   paid = subst (λ z. unacknowledged z ≡ None) seen h.paid;
 }
 
@@ -110,7 +111,7 @@ nothing-done x past = record {
     round = record { rounds = λ at e. none-some at e; probing = λ at e. none-some at e; closes = λ calm at e. none-some at e; exchanges = λ p i s older e. nil-cons s older e };
   };
   backs = refl;
-  follows = λ p e. none-some p e;
+  follows = λ p e. none-among p refl e;
   paid = refl;
 }
 

@@ -31,7 +31,7 @@ use Rattle.tsp_rules.specs.SendRows.{begins, is_free}
 use Rattle.tsp_rules.specs.SlaveRows.{reports_conflict, masterup_in, masterack_in, election_of, is_next, is_by, is_repeated, acks_repeat, confirms, takes_amount, adjtime_of, takes_value, settime_of, from_master}
 use Rattle.tsp_rules.specs.Guards.{role_at, is_armed, is_clock_value, may_back_at}
 use Rattle.tsp_promises.proofs.Known.{Free, KnowsOf, Rests}
-use Rattle.tsp_promises.proofs.Leaves.{correct, arm_elect, none-some}
+use Rattle.tsp_promises.proofs.Leaves.{correct, arm_elect, none-among}
 use Rattle.tsp_promises.proofs.PostLeaves.{post_knows, post_message}
 use Rattle.tsp_promises.proofs.Changes.{Quitting, quitting_of, back_other, quit_acked, quit_taken}
 use Rattle.tsp_promises.proofs.LeadsLeaves.{Leads_posts}
@@ -91,7 +91,7 @@ pub record Obeyed (p : PeerId) (number : ℕ) (T : Option Received → Option Re
 
 -- a follower that has taken a QUIT, which it acknowledges or has acknowledged
 record Staying (due : Option Said) (T : Option Received → Option Received → Type 0) (q : PeerId) (x : ℕ) (past : Past) : Type 0 where
-  pub quitting : Quitting due None T x past
+  pub quitting : Quitting due [] T x past
   pub knows : KnowsOf false x past.own past.seen
   pub role_is : role past.seen ≡ Follow q
 
@@ -239,7 +239,7 @@ module _ {p : PeerId} {m : MessageValue} where
       let f = h.0.just.free in
       let v = f.knows.vote in
       record {
-        quitting = quit_taken p (Some (record { from = p; message = m })) None (quits_now x past k h.0) (ap said f.took) (ap (λ i. owes_after (Acts (Quit p)) i (owes past.seen)) h.1 ∙ f.owed) f;
+        quitting = quit_taken p (Some (record { from = p; message = m })) [] (quits_now x past k h.0) (ap said f.took) (ap (λ i. owes_after (Acts (Quit p)) i (owes past.seen)) h.1 ∙ f.owed) f;
         knows = record { times = f.knows.times; quiet = f.knows.quiet; vote = record { stands = λ c. not-standing q (sym h.1 ∙ c); windows = v.windows; votes = v.votes }; round = f.knows.round };
         role_is = h.1;
       }
@@ -256,7 +256,7 @@ module _ {p : PeerId} {m : MessageValue} where
 
   stays_follow : (q : PeerId) (x : ℕ) (past : Past) → Staying None (Says p m) q x past → Rests x (grown x past (follows_unless p (Follow q) x past))
   unfolding follows_unless nothing
-  stays_follow q x past h = record { fits = h.quitting.fits; knows = h.knows; backs = h.quitting.backs; follows = λ r e. none-some r (sym h.quitting.owed ∙ e); paid = h.quitting.paid }
+  stays_follow q x past h = record { fits = h.quitting.fits; knows = h.knows; backs = h.quitting.backs; follows = λ r e. none-among r h.quitting.owed e; paid = h.quitting.paid }
 
   -- a follower takes a QUIT, and goes on following
   pub quit_follower : (q : PeerId) → m.kind ≡ QuitKind → Leads (HeardIn p m (Follow q)) (quits p m.number) Rests

@@ -12,10 +12,12 @@ use Rattle.tsp_base.specs.declared.role.Role.{Role}
 use Rattle.tsp_base.specs.declared.role.Role.TheVariants.{Follow}
 use Rattle.tsp_base.specs.declared.stamp.Stamp.TheVariants.{Request}
 use Rattle.tsp_base.specs.History.{Begins, Acts, Deed, Did, Line, Seen, Here, Elsewhere, plain, view, seen_as, is_shared}
+use Rattle.tsp_base.specs.Peers.{is_among}
 use Rattle.tsp_base.specs.PortFacts.{role}
 use Rattle.tsp_base.specs.RoundFacts.{exchange, exchange_after}
 use Rattle.tsp_promises.specs.StepFacts.{StepEnds, is_unbacked, owes, unacknowledged}
 use Rattle.tsp_base.specs.Takings.{Undisturbed}
+use Rattle.tsp_promises.proofs.Leaves.{none-among}
 use Rattle.tsp_promises.proofs.SendProof.{and-true, not-nil, peer-same}
 
 abbrev asks_after : Deed → Bool → Bool
@@ -115,15 +117,21 @@ quiet p c [] r request older e = not-nil (Here request) older e
 quiet p c (Here d ∷ before) r request older e = quiet-deed p c d d.deed before refl (quiet p c before) r request older e
 quiet p c (Elsewhere d ∷ before) r request older e = quiet-elsewhere p c d d.deed before refl (quiet p c before) r request older e
 
-abbrev met : Option PeerId → Role → Bool
-met None r = true
-met (Some p) (Follow q) = q.0 == p.0
-met (Some p) _ = false
+abbrev met : List PeerId → Role → Bool
+met [] r = true
+met (p ∷ rest) (Follow q) = (q.0 == p.0) && met rest (Follow q)
+met (p ∷ rest) _ = false
 
-met-by : (o : Option PeerId) (r : Role) → met o r ≡ true → (p : PeerId) → o ≡ Some p → r ≡ Follow p
-met-by None r m p e = let bad : ⊥ = cc in absurd bad
-met-by (Some x) (Follow q) m p e = let one : x ≡ p = cc in ap Follow (peer-same q x m ∙ one)
-met-by (Some x) _ m p e = absurd (true≢false (sym m))
+met-by : (ps : List PeerId) (r : Role) → met ps r ≡ true → (p : PeerId) → is_among p ps ≡ true → r ≡ Follow p
+met-by [] r m p e = absurd (true≢false (sym e))
+met-by (x ∷ rest) (Follow q) m p e =
+    let both = and-true (q.0 == x.0) (met rest (Follow q)) m in
+    by_case (x.0 == p.0) refl (peer-same q x both.0) (met-by rest (Follow q) both.1 p) e
+  where
+    by_case : (b : Bool) → (x.0 == p.0) ≡ b → q ≡ x → (is_among p rest ≡ true → Follow q ≡ Follow p) → (b || is_among p rest) ≡ true → Follow q ≡ Follow p
+    by_case true same one others i = ap Follow (one ∙ peer-same x p same)
+    by_case false other one others i = others i
+met-by (x ∷ rest) _ m p e = absurd (true≢false (sym m))
 
 not-so : (b : Bool) → cond b false true ≡ true → b ≡ false
 not-so true e = absurd (true≢false (sym e))
@@ -152,7 +160,7 @@ on_two (l ∷ t) = nat_lt l.port.0 2 && on_two t
 -- what a port sees where nothing is done on it
 record Empty (seen : List Seen) : Type 0 where
   pub backs : is_unbacked seen ≡ false
-  pub none : owes seen ≡ None
+  pub none : owes seen ≡ []
   pub heeded : unacknowledged seen ≡ None
   pub shut : (p : PeerId) (c : ℕ) → exchange p c seen ≡ []
 
@@ -185,9 +193,7 @@ abbrev pub settled : List Line → Bool
 settled own = on_two own && (paid (view port0 own) && paid (view port1 own))
 
 far-ends : (seen : List Seen) → Empty seen → StepEnds seen
-far-ends seen h = record { backs = h.backs; follows = λ p e. none-follows p (sym h.none ∙ e); acknowledged = h.heeded; exchanges = λ p c request older e. not-nil (Here request) older (sym (h.shut p c) ∙ e) } where
-  none-follows : (p : PeerId) → None ≡ Some p → role seen ≡ Follow p
-  none-follows p e = let bad : ⊥ = cc in absurd bad
+far-ends seen h = record { backs = h.backs; follows = λ p e. none-among p h.none e; acknowledged = h.heeded; exchanges = λ p c request older e. not-nil (Here request) older (sym (h.shut p c) ∙ e) }
 
 pub settled-ends : (own : List Line) → settled own ≡ true → (q : Port) → StepEnds (view q own)
 settled-ends own e q =

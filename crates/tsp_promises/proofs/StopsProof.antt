@@ -1,6 +1,6 @@
 -- Rivals that take the QUITs of one resolution lead no more.
-use Rattle.std.specs.Prelude.{◌≡◌, ◌==◌, ◌||◌, ◌≤◌, ◌<◌, Bool, true, false, ℕ, ◌+◌, List, [], ◌∷◌, Some, refl}
-use Rattle.std.proofs.Common.{sym, ap, arith, subst, inl, inr, ◌∙◌}
+use Rattle.std.specs.Prelude.{◌≡◌, ◌==◌, ◌||◌, ◌≤◌, ◌<◌, Bool, true, false, ℕ, ◌+◌, List, [], ◌∷◌, refl}
+use Rattle.std.proofs.Common.{sym, ap, arith, subst, inl, inr, eq-eqb, ◌∙◌}
 use Rattle.tsp_base.specs.declared.act.Act.TheVariants.{Boot, Become, Post, Quit, Ring}
 use Rattle.tsp_base.specs.declared.alarm.Alarm.TheVariants.{Resolve}
 use Rattle.tsp_base.specs.declared.constants.TheConstants.{ELECT_MIN, LIFE}
@@ -14,6 +14,7 @@ use Rattle.tsp_promises.specs.DeedFits.{DeedFits}
 use Rattle.tsp_promises.specs.Fits.{Fits, Finished, Sees, node_of}
 use Rattle.tsp_base.specs.History.{Step, Begins, Acts, Deed, Did, Line, Seen, Here, of, dids, view, plain, seen_as, is_shared}
 use Rattle.tsp_base.specs.NodeFacts.{boot_tick, tick_of, time_of}
+use Rattle.tsp_base.specs.Peers.{is_among}
 use Rattle.tsp_base.specs.Places.{Within}
 use Rattle.tsp_base.specs.PortFacts.{role, role_after}
 use Rattle.tsp_promises.specs.Premises.{Life, TakenWithinAt}
@@ -41,7 +42,11 @@ use Rattle.tsp_promises.proofs.SinceProof.{since}
 -- where a port leads after a QUIT, it owes its step's end to follow somebody
 record Owing (seen : List Seen) : Type 0 where
   pub peer : PeerId
-  pub is : owes seen ≡ Some peer
+  pub is : is_among peer (owes seen) ≡ true
+
+-- the first of a list is among it
+first-among : (p : PeerId) (ps : List PeerId) → is_among p (p ∷ ps) ≡ true
+first-among p ps = rw (eq-eqb p.0 p.0 refl) refl
 
 -- a port that becomes master has been quiet since a Quit
 quiet-own : (setting : Setting) (q : Port) (p : PeerId) (x l : Line) (rest t : List Line) → OwnFits setting (l ∷ t) → Sees q l → l.did.deed ≡ Acts (Become Master) → x.did.deed ≡ Acts (Quit p) → Sees q x → Within (x ∷ rest) t → x.did.tick + ELECT_MIN ≤ l.did.tick
@@ -55,7 +60,7 @@ quiet-own setting q p x l rest t f sees is quit x_sees w =
     ]
 
 owing-deed : (setting : Setting) (q : Port) (p : PeerId) (x l : Line) (rest t : List Line) (limit : ℕ) (deed : Deed) → deed ≡ l.did.deed → OwnFits setting (l ∷ t) → Sees q l → DeedFits (setup_of setting (node_of l) q) deed l.did (view q t) → x.did.deed ≡ Acts (Quit p) → Sees q x →
-    Within (x ∷ rest) t → l.did.tick ≤ limit → limit < x.did.tick + ELECT_MIN → (role (view q t) ≡ Master → Owing (view q t)) → role_after deed (role (view q t)) ≡ Master → (peer : PeerId) × (owes_after deed (role (view q t)) (owes (view q t)) ≡ Some peer)
+    Within (x ∷ rest) t → l.did.tick ≤ limit → limit < x.did.tick + ELECT_MIN → (role (view q t) ≡ Master → Owing (view q t)) → role_after deed (role (view q t)) ≡ Master → (peer : PeerId) × (is_among peer (owes_after deed (role (view q t)) (owes (view q t))) ≡ true)
 owing-deed setting q p x l rest t limit Begins is f sees fits quit x_sees w by soon h e =
     let o = h e in
     let bad : ⊥ = (let k : Follow o.peer ≡ Master = sym (fits.follows o.peer o.is) ∙ e in cc) in absurd bad
@@ -63,7 +68,7 @@ owing-deed setting q p x l rest t limit (Acts Boot) is f sees fits quit x_sees w
 owing-deed setting q p x l rest t limit (Acts (Become r)) is f sees fits quit x_sees w by soon h e =
     let lead : l.did.deed ≡ Acts (Become Master) = sym is ∙ ap (λ (z : Role). Acts (Become z)) e in
     absurd (omega (arith, quiet-own setting q p x l rest t f sees lead quit x_sees w))
-owing-deed setting q p x l rest t limit (Acts (Quit r)) is f sees fits quit x_sees w by soon h e = (r, rw e refl)
+owing-deed setting q p x l rest t limit (Acts (Quit r)) is f sees fits quit x_sees w by soon h e = (r, rw e (first-among r (owes (view q t))))
 owing-deed setting q p x l rest t limit _ is f sees fits quit x_sees w by soon h e = let o = h e in (o.peer, o.is)
 
 owing : (setting : Setting) (q : Port) (p : PeerId) (x : Line) (rest t : List Line) (limit : ℕ) → OwnFits setting t → x.did.deed ≡ Acts (Quit p) → Sees q x → Within (x ∷ rest) t → tick_of (dids t) ≤ limit → limit < x.did.tick + ELECT_MIN →
@@ -72,7 +77,7 @@ owing setting q p x rest [] limit f quit sees w by soon e = Within-none x rest w
 owing setting q p x rest (l ∷ t) limit f quit sees (inl s) by soon e =
     let here : role (view q (x ∷ rest)) ≡ Master = subst (λ k. role (view q k) ≡ Master) (sym s) e in
     let before : role (view q rest) ≡ Master = at-quit here in
-    subst (λ k. Owing (view q k)) s (rw sees (record { peer = p; is = rw (quit, before) refl }))
+    subst (λ k. Owing (view q k)) s (rw sees (record { peer = p; is = rw (quit, before) (first-among p (owes (view q rest))) }))
   where
     at-quit : role (view q (x ∷ rest)) ≡ Master → role (view q rest) ≡ Master
     at-quit h = (let k = sees in rw (sees, quit) at h)

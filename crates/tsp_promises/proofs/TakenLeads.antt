@@ -34,7 +34,7 @@ use Rattle.tsp_rules.specs.SendRows.{has_other, answers_other, has_election, ans
 use Rattle.tsp_rules.specs.Guards.{role_at, is_in_range, is_master_at, is_starting_role, may_stand_at}
 use Rattle.tsp_promises.specs.PortFits.{setup_in}
 use Rattle.tsp_promises.proofs.Known.{During, Free, Early, RestsIn, Rests}
-use Rattle.tsp_promises.proofs.Leaves.{none-some, trace, acked}
+use Rattle.tsp_promises.proofs.Leaves.{none-among, trace, acked}
 use Rattle.tsp_rules.proofs.Asides.{now}
 use Rattle.tsp_promises.proofs.PostLeaves.{post_back, post_reply, post_early}
 use Rattle.tsp_promises.proofs.Rings.{rested_of, wake}
@@ -48,11 +48,11 @@ use Rattle.tsp_promises.proofs.CommonLeads.{follow_leads, candidature_leads}
 abbrev pub Says : PeerId → MessageValue → Option Received → Option Received → Type 0
 Says p m = Is (Peer p) (Good (Message m))
 
-pub rests_of : {stirred awake : Bool} {T : Option Received → Option Received → Type 0} {x : ℕ} {past : Past} → During stirred awake false None true T x past → RestsIn stirred x past
-rests_of h = record { fits = h.fits; knows = h.knows; backs = h.backs; follows = λ p e. none-some p (sym h.owed ∙ e); paid = h.paid }
+pub rests_of : {stirred awake : Bool} {T : Option Received → Option Received → Type 0} {x : ℕ} {past : Past} → During stirred awake false [] true T x past → RestsIn stirred x past
+rests_of h = record { fits = h.fits; knows = h.knows; backs = h.backs; follows = λ p e. none-among p h.owed e; paid = h.paid }
 
 -- a port that isn't Starting
-pub wake_role : {stirred awake owing acts : Bool} {follow : Option PeerId} {T : Option Received → Option Received → Type 0} {x : ℕ} {past : Past} → role past.seen ≢ Starting → During stirred awake owing follow acts T x past → During stirred true owing follow acts T x past
+pub wake_role : {stirred awake owing acts : Bool} {follow : List PeerId} {T : Option Received → Option Received → Type 0} {x : ℕ} {past : Past} → role past.seen ≢ Starting → During stirred awake owing follow acts T x past → During stirred true owing follow acts T x past
 wake_role {x = x} {past = past} n h = wake (rested_of x (boot_tick (plain past.seen)) h.knows.quiet.rested n) h
 
 pub took_awake : {from : Place} {t : Taken} {x : ℕ} {past : Past} → role past.seen ≢ Starting → JustTook false from t x past → JustTook true from t x past
@@ -177,16 +177,16 @@ abbrev pub HeardIn : PeerId → MessageValue → Role → ℕ → Past → Type 
 HeardIn p m r x past = Heard p (Good (Message m)) x past × (role past.seen ≡ r)
 
 -- a port that quits, in its old role
-record QuitIn (due : Option Said) (follow : Option PeerId) (T : Option Received → Option Received → Type 0) (r : Role) (x : ℕ) (past : Past) : Type 0 where
+record QuitIn (due : Option Said) (follow : List PeerId) (T : Option Received → Option Received → Type 0) (r : Role) (x : ℕ) (past : Past) : Type 0 where
   pub quitting : Quitting due follow T x past
   pub role_is : role past.seen ≡ r
 
-rests_follow : {T : Option Received → Option Received → Type 0} {x : ℕ} {past : Past} (follow : Option PeerId) (p : PeerId) → ((q : PeerId) → follow ≡ Some q → q ≡ p) → FreeIn follow T (Follow p) x past → Rests x past
+rests_follow : {T : Option Received → Option Received → Type 0} {x : ℕ} {past : Past} (follow : List PeerId) (p : PeerId) → ((q : PeerId) → is_among q follow ≡ true → q ≡ p) → FreeIn follow T (Follow p) x past → Rests x past
 rests_follow follow p k h = record {
   fits = h.free.fits;
   knows = h.free.knows;
   backs = h.free.backs;
-  follows = λ q e. h.role_is ∙ ap Follow (sym (k q (sym h.free.owed ∙ e)));
+  follows = λ q e. h.role_is ∙ ap Follow (sym (k q (sym (ap (is_among q) h.free.owed) ∙ e)));
   paid = h.free.paid;
 }
 
@@ -203,7 +203,7 @@ module _ {p : PeerId} {m : MessageValue} where
   quit_ack past k took = ack_fits (Peer p) m past.seen took (subst (λ i. Answers i (Peer p) past.seen m.number) (sym k) tt)
 
   -- a QUIT is taken by a port that doesn't follow
-  pub quits_lead : (r : Role) (follow : Option PeerId) → ((q : PeerId) → r ≢ Follow q) → owes_after (Acts (Quit p)) r None ≡ follow → ((q : PeerId) → follow ≡ Some q → q ≡ p) → m.kind ≡ QuitKind →
+  pub quits_lead : (r : Role) (follow : List PeerId) → ((q : PeerId) → r ≢ Follow q) → owes_after (Acts (Quit p)) r [] ≡ follow → ((q : PeerId) → is_among q follow ≡ true → q ≡ p) → m.kind ≡ QuitKind →
       Leads (HeardIn p m r) (quits p m.number) Rests
   unfolding quits
   quits_lead r follow other owed only k = Leads_then {Q = QuitIn (Some (record { from = p; message = m })) follow (Says p m) r} (puts (Quit p)) (posts p Ack m.number followed_by reading role_at (follows_unless p))

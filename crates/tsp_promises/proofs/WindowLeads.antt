@@ -1,5 +1,5 @@
 -- The end of a candidature keeps what is known of a port.
-use Rattle.std.specs.Prelude.{◌≡◌, ◌≤◌, ◌<◌, ℕ, ◌+◌, ◌*◌, nat_lt, Bool, true, false, not, ◌||◌, List, [], ◌∷◌, length, None, Some, refl}
+use Rattle.std.specs.Prelude.{◌≡◌, ◌≤◌, ◌<◌, ℕ, ◌+◌, ◌*◌, nat_lt, Bool, true, false, not, ◌||◌, List, [], ◌∷◌, length, Some, refl}
 use Rattle.std.proofs.Common.{sym, ap, arith, ◌∙◌, ltb-true, true≢false}
 use Rattle.tsp_base.specs.declared.act.Act.TheVariants.{Become, Ring, Late}
 use Rattle.tsp_base.specs.declared.alarm.Alarm.TheVariants.{Window, Round}
@@ -89,10 +89,10 @@ yields_lead = Leads_to to_open (Leads_then {Q = Free Untaken} (puts (Become Loos
     (Leads_puts (Become Loose) (λ x past h. become_loose (λ e. let s = h.stands in let bad : ⊥ = cc in absurd bad) h.free))
     arms_elect_during)
 
-master_up : Leads (FreeIn None Untaken Master) (posts_to_others MasterUp 0) (FreeIn None Untaken Master)
+master_up : Leads (FreeIn [] Untaken Master) (posts_to_others MasterUp 0) (FreeIn [] Untaken Master)
 master_up = Leads_others MasterUp 0 (λ x past p h. record { free = post_message p (bare MasterUp 0 past.name) refl tt h.free; role_is = h.role_is })
 
-pub arms_round_in : Leads (FreeIn None Untaken Master) (arms Round ROUND) (FreeIn None Untaken Master)
+pub arms_round_in : Leads (FreeIn [] Untaken Master) (arms Round ROUND) (FreeIn [] Untaken Master)
 arms_round_in = Leads_arms Round ROUND (λ x past h. record { free = arm_round (x + ROUND) h.role_is (λ start idle e. (let b = h.free.knows.times.start_le start idle e in omega (arith, b))) h.free; role_is = h.role_is })
 
 pub window_leads : (own wait : Bool) → Leads Open (rings own wait Window) Open
@@ -102,7 +102,7 @@ window_leads own wait = rings_lead own wait Window
     (Leads_then {Q = Counting} (puts (Ring Window)) (either_by has_won lead_row yields)
     (Leads_puts (Ring Window) (λ x past h. rings_window x past h.0 h.1))
     (Leads_either has_won lead_row yields
-    (Leads_to (λ x past h. open_of h.free) (Leads_then {Q = FreeIn None Untaken Master} (puts (Become Master)) (arms Round ROUND followed_by posts_to_others MasterUp 0)
+    (Leads_to (λ x past h. open_of h.free) (Leads_then {Q = FreeIn [] Untaken Master} (puts (Become Master)) (arms Round ROUND followed_by posts_to_others MasterUp 0)
     (Leads_puts (Become Master) (λ x past h. record { free = become_master (lead_fits x past h.0 h.1) h.0.free; role_is = refl }))
     (Leads_then (arms Round ROUND) (posts_to_others MasterUp 0) arms_round_in master_up)))
     (Leads_from (λ x past h. record { free = h.0.free; stands = h.0.stands }) yields_lead)))

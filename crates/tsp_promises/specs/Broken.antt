@@ -36,6 +36,8 @@ pub record RolesBreak (setting : Setting) : Type 0 where
   pub holds : Breaks OneBack
   -- an ACCEPT without a Back
   pub accepts : Breaks OneBack
+  -- an ACCEPT to a stranger, behind a Back of somebody else
+  pub accepts_stranger : Breaks OneBack
   -- an ELECTION before the candidate has backed itself
   pub asks : Breaks OneBack
   -- a step that ends before the candidate has backed itself
@@ -56,6 +58,10 @@ pub record RolesBreak (setting : Setting) : Type 0 where
   pub winners : Breaks (OneWinner setting)
   -- a master that stays master in the step in which it takes a QUIT
   pub yields : Breaks Yields
+  -- a master that takes QUITs of two peers in one step, and follows the second
+  pub yields_twice : Breaks Yields
+  -- one that follows each of them in turn
+  pub yields_again : Breaks Yields
   -- a port that is master again soon after a QUIT
   pub quiet : Breaks StaysQuiet
   -- a rival that takes its QUIT and leads on

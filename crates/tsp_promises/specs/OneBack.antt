@@ -1,12 +1,12 @@
 -- The promise that no node backs two candidates within HOLD ticks.
-use Rattle.std.specs.Prelude.{◌≡◌, ◌≤◌, ◌⊎◌, ℕ, ◌+◌, false, List, ◌∷◌, Some}
+use Rattle.std.specs.Prelude.{◌≡◌, ◌≤◌, ◌⊎◌, ℕ, ◌+◌, false, List, ◌∷◌, Option, Some}
 use Rattle.tsp_base.specs.declared.act.Act.TheVariants.{Post, Back}
 use Rattle.tsp_base.specs.declared.constants.TheConstants.{HOLD}
 use Rattle.tsp_base.specs.declared.datagram.Datagram.TheVariants.{Message}
 use Rattle.tsp_base.specs.declared.kind.Kind.TheVariants.{Election, Accept}
 use Rattle.tsp_base.specs.declared.place.PeerId.{PeerId}
 use Rattle.tsp_base.specs.declared.place.Place.{Place}
-use Rattle.tsp_base.specs.declared.place.Place.TheVariants.{Peer}
+use Rattle.tsp_base.specs.declared.place.Place.TheVariants.{Peer, Stranger}
 use Rattle.tsp_base.specs.declared.place.Port.{Port}
 use Rattle.tsp_promises.specs.Everywhere.{Everywhere}
 use Rattle.tsp_promises.specs.Fits.{node_of}
@@ -21,10 +21,15 @@ abbrev pub HoldsAt : Line → List Line → Type 0
 HoldsAt l world = (p q : PeerId) (other : Line) (older : List Line) → l.did.deed ≡ Acts (Back p) → Within (other ∷ older) world → node_of other ≡ node_of l → other.port ≡ l.port →
     other.did.deed ≡ Acts (Back q) → (q ≡ p) ⊎ (other.did.tick + HOLD ≤ l.did.tick)
 
--- in the step of each ACCEPT its addressee was backed before; a port that became a candidate has backed itself before
--- it posts an ELECTION, and at the end of its step
+-- this addressee is the candidate that was backed: nobody backs a stranger
+abbrev pub IsBacked : Place → Option PeerId → Type 0
+IsBacked (Peer p) backed = backed ≡ Some p
+IsBacked Stranger backed = ⊥
+
+-- in the step of each ACCEPT its addressee was backed before, so a stranger gets none; a port that became a candidate
+-- has backed itself before it posts an ELECTION, and at the end of its step
 pub record BacksAt (l : Line) (world : List Line) : Type 0 where
-  pub accepts : (p : PeerId) (m : MessageValue) → l.did.deed ≡ Acts (Post (Peer p) (Message m)) → m.kind ≡ Accept → backed (view l.port (of (node_of l) world)) ≡ Some p
+  pub accepts : (to : Place) (m : MessageValue) → l.did.deed ≡ Acts (Post to (Message m)) → m.kind ≡ Accept → IsBacked to (backed (view l.port (of (node_of l) world)))
   pub asks : (to : Place) (m : MessageValue) → l.did.deed ≡ Acts (Post to (Message m)) → m.kind ≡ Election → is_unbacked (view l.port (of (node_of l) world)) ≡ false
   pub ends : l.did.deed ≡ Begins → (q : Port) → is_unbacked (view q (of (node_of l) world)) ≡ false
 

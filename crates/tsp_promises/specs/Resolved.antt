@@ -1,5 +1,5 @@
 -- The promise that a master that takes a QUIT stops being master.
-use Rattle.std.specs.Prelude.{◌≡◌, ◌≢◌, ◌≤◌, ℕ, ◌+◌, List, ◌∷◌, Some}
+use Rattle.std.specs.Prelude.{◌≡◌, ◌≢◌, ◌≤◌, ℕ, ◌+◌, true, List, ◌∷◌}
 use Rattle.tsp_base.specs.declared.act.Act.TheVariants.{Become, Post, Quit, Ring}
 use Rattle.tsp_base.specs.declared.alarm.Alarm.TheVariants.{Resolve}
 use Rattle.tsp_base.specs.declared.constants.TheConstants.{ELECT_MIN}
@@ -14,15 +14,16 @@ use Rattle.tsp_promises.specs.Fits.{node_of}
 use Rattle.tsp_base.specs.History.{Came, Begins, Acts, Did, Line, Seen, of, dids, plain, view}
 use Rattle.tsp_base.specs.Messages.{MessageValue}
 use Rattle.tsp_promises.specs.Once.{OfSend}
+use Rattle.tsp_base.specs.Peers.{is_among}
 use Rattle.tsp_base.specs.Places.{Within}
 use Rattle.tsp_base.specs.PortFacts.{role}
 use Rattle.tsp_promises.specs.Premises.{Life}
 use Rattle.tsp_promises.specs.StepFacts.{owes}
 use Rattle.tsp_base.specs.Takings.{peer_of, posted, steps}
 
--- if the port took a QUIT from p as a master in the step that ends here, it follows p
+-- at the end of a step the port follows each peer whose QUIT it took in that step as a master
 abbrev pub YieldsAt : List Seen → Type 0
-YieldsAt seen = (p : PeerId) → owes seen ≡ Some p → role seen ≡ Follow p
+YieldsAt seen = (p : PeerId) → is_among p (owes seen) ≡ true → role seen ≡ Follow p
 
 -- YieldsAt holds at the end of each step: before each mark, and at the end of the history
 pub record Yields (world : List Line) : Type 0 where

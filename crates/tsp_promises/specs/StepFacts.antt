@@ -10,6 +10,7 @@ use Rattle.tsp_base.specs.declared.role.Role.{Role}
 use Rattle.tsp_base.specs.declared.role.Role.TheVariants.{Candidate, Follow, Master}
 use Rattle.tsp_base.specs.History.{Did, Deed, Begins, Acts, Seen, Here, Elsewhere, plain}
 use Rattle.tsp_base.specs.Messages.{MessageValue}
+use Rattle.tsp_base.specs.Peers.{is_among}
 use Rattle.tsp_base.specs.PortFacts.{Received, Said, role, said, taken}
 use Rattle.tsp_base.specs.RoundFacts.{exchange}
 use Rattle.tsp_base.specs.Takings.{Undisturbed}
@@ -48,14 +49,14 @@ closed [] = []
 closed (Here d ∷ before) = closed_after d.deed (Here d ∷ before) (closed before)
 closed (Elsewhere d ∷ before) = closed before
 
-abbrev pub owes_after : Deed → Role → Option PeerId → Option PeerId
-owes_after Begins r keep = None
-owes_after (Acts (Quit p)) Master keep = Some p
+abbrev pub owes_after : Deed → Role → List PeerId → List PeerId
+owes_after Begins r keep = []
+owes_after (Acts (Quit p)) Master keep = p ∷ keep
 owes_after _ r keep = keep
 
--- whom the port must follow at the step's end: the peer whose QUIT it took in this step, while it was a master
-abbrev pub owes : List Seen → Option PeerId
-owes [] = None
+-- whom the port must follow at the step's end: each peer whose QUIT it took in this step, while it was a master
+abbrev pub owes : List Seen → List PeerId
+owes [] = []
 owes (Here d ∷ before) = owes_after d.deed (role before) (owes before)
 owes (Elsewhere d ∷ before) = owes before
 
@@ -91,11 +92,11 @@ is_answered [] = false
 is_answered (Here d ∷ before) = is_answered_after d.deed (is_answered before)
 is_answered (Elsewhere d ∷ before) = is_answered before
 
--- what a port owes at the end of each step: a candidate has backed itself; a master that took a QUIT follows its
--- sender; each QUIT that it heeded is acknowledged; and since each open exchange began the node neither booted nor
+-- what a port owes at the end of each step: a candidate has backed itself; a master follows the sender of each QUIT
+-- that it took; each QUIT that it heeded is acknowledged; and since each open exchange began the node neither booted nor
 -- corrected its clock
 pub record StepEnds (before : List Seen) : Type 0 where
   pub backs : is_unbacked before ≡ false
-  pub follows : (p : PeerId) → owes before ≡ Some p → role before ≡ Follow p
+  pub follows : (p : PeerId) → is_among p (owes before) ≡ true → role before ≡ Follow p
   pub acknowledged : unacknowledged before ≡ None
   pub exchanges : (p : PeerId) (counter : ℕ) (request : Did) (older : List Seen) → exchange p counter before ≡ Here request ∷ older → Undisturbed (plain older) (plain before)

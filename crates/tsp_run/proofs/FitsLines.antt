@@ -22,6 +22,7 @@ use Rattle.tsp_promises.specs.StepFacts.{StepEnds, is_unbacked, is_unbacked_afte
 use Rattle.tsp_base.specs.Takings.{posted, posted_after}
 use Rattle.tsp_base.specs.Ticks.{tick_at}
 use Rattle.std.proofs.lemmas.Bool.{cases_lt}
+use Rattle.tsp_promises.proofs.Leaves.{none-among}
 use Rattle.tsp_base.proofs.PlaceLemmas.{Within-through}
 use Rattle.tsp_base.proofs.ViewPlaces.{port-same, sees-own}
 use Rattle.tsp_run.specs.Networks.{ports_on}
@@ -56,13 +57,13 @@ ActsOn ports (p ∷ rest) = (is_shared (Acts p.act) ≡ false → p.port.0 < por
 -- a port that has no lines of its own
 record Bystander (seen : List Seen) : Type 0 where
   pub backs : is_unbacked seen ≡ false
-  pub owed : owes seen ≡ None
+  pub owed : owes seen ≡ []
   pub paid : unacknowledged seen ≡ None
   pub idle : (p : PeerId) (c : ℕ) → exchange p c seen ≡ []
 
 shared-here : (d : Did) (seen : List Seen) → Bystander seen → (deed : Deed) → deed ≡ d.deed → is_shared deed ≡ true → Bystander (Here d ∷ seen)
-shared-here d seen b Begins is e = record { backs = (let i = is in subst (λ k. is_unbacked_after k d.step.node (is_unbacked seen) ≡ false) is refl); owed = subst (λ k. owes_after k (role seen) (owes seen) ≡ None) is refl; paid = subst (λ k. unacknowledged_after k (taken seen) (unacknowledged seen) ≡ None) is refl; idle = λ p c. subst (λ k. exchange_after p c k (Here d ∷ seen) (exchange p c seen) ≡ []) is (b.idle p c) }
-shared-here d seen b (Acts Boot) is e = record { backs = subst (λ k. is_unbacked_after k d.step.node (is_unbacked seen) ≡ false) is b.backs; owed = subst (λ k. owes_after k (role seen) (owes seen) ≡ None) is b.owed; paid = subst (λ k. unacknowledged_after k (taken seen) (unacknowledged seen) ≡ None) is b.paid; idle = λ p c. subst (λ k. exchange_after p c k (Here d ∷ seen) (exchange p c seen) ≡ []) is refl }
+shared-here d seen b Begins is e = record { backs = (let i = is in subst (λ k. is_unbacked_after k d.step.node (is_unbacked seen) ≡ false) is refl); owed = subst (λ k. owes_after k (role seen) (owes seen) ≡ []) is refl; paid = subst (λ k. unacknowledged_after k (taken seen) (unacknowledged seen) ≡ None) is refl; idle = λ p c. subst (λ k. exchange_after p c k (Here d ∷ seen) (exchange p c seen) ≡ []) is (b.idle p c) }
+shared-here d seen b (Acts Boot) is e = record { backs = subst (λ k. is_unbacked_after k d.step.node (is_unbacked seen) ≡ false) is b.backs; owed = subst (λ k. owes_after k (role seen) (owes seen) ≡ []) is b.owed; paid = subst (λ k. unacknowledged_after k (taken seen) (unacknowledged seen) ≡ None) is b.paid; idle = λ p c. subst (λ k. exchange_after p c k (Here d ∷ seen) (exchange p c seen) ≡ []) is refl }
 shared-here d seen b _ is e = absurd (true≢false (sym e))
 
 or-true : (a : Bool) → (a || true) ≡ true
@@ -80,7 +81,7 @@ bystands ports q past (l ∷ before) f = by_case (l.port.0 == q.0) refl (is_shar
 bystander_ends : (seen : List Seen) → Bystander seen → StepEnds seen
 bystander_ends seen b = record {
   backs = b.backs;
-  follows = λ p e. let o = b.owed in let bad : ⊥ = cc in absurd bad;
+  follows = λ p e. none-among p b.owed e;
   acknowledged = b.paid;
   exchanges = λ p c request older e. let i = b.idle p c in let bad : ⊥ = cc in absurd bad;
 }
