@@ -1,19 +1,27 @@
 -- Backing, line by line.
-use Rattle.std.specs.Prelude.{◌≡◌, ◌==◌, ◌||◌, ◌&&◌, ◌≤◌, ◌+◌, ℕ, Bool, true, false, if◌then◌else◌, List, [], ◌∷◌, refl, MatchBool, None}
-use Rattle.std.proofs.Common.{subst, inl, inr, ◌⊎◌, eqb-true}
-use Rattle.tsp_base.specs.declared.act.Act.TheVariants.{Back, Become}
+use Rattle.std.specs.Prelude.{◌≡◌, ◌==◌, ◌||◌, ◌&&◌, ◌≤◌, ◌+◌, ℕ, Bool, true, false, if◌then◌else◌, List, [], ◌∷◌, Option, refl, MatchBool, None, Some}
+use Rattle.std.proofs.Common.{sym, ap, subst, inl, inr, ◌⊎◌, ◌∙◌, eq-eqb, eqb-true, true≢false}
+use Rattle.tsp_base.specs.declared.act.Act.{Act}
+use Rattle.tsp_base.specs.declared.act.Act.TheVariants.{Back, Become, Post}
 use Rattle.tsp_base.specs.declared.constants.TheConstants.{HOLD}
+use Rattle.tsp_base.specs.declared.datagram.Datagram.TheVariants.{Message}
+use Rattle.tsp_base.specs.declared.kind.Kind.{Kind}
+use Rattle.tsp_base.specs.declared.kind.Kind.TheVariants.{Accept, Election}
 use Rattle.tsp_base.specs.declared.place.PeerId.{PeerId}
+use Rattle.tsp_base.specs.declared.place.Place.{Place}
+use Rattle.tsp_base.specs.declared.place.Place.TheVariants.{Peer, Stranger}
 use Rattle.tsp_base.specs.declared.place.Port.{Port}
 use Rattle.tsp_base.specs.declared.role.Role.TheVariants.{Candidate}
 use Rattle.tsp_promises.specs.Everywhere.{Everywhere}
 use Rattle.tsp_promises.specs.Fits.{node_of}
 use Rattle.tsp_base.specs.History.{Acts, Begins, Deed, Line, is_shared, of, seen_as, view}
-use Rattle.tsp_promises.specs.OneBack.{BacksAt, HoldsAt, OneBack}
-use Rattle.tsp_promises.specs.StepFacts.{is_unbacked, is_unbacked_after}
+use Rattle.tsp_base.specs.Messages.{MessageValue}
+use Rattle.tsp_promises.specs.OneBack.{BacksAt, HoldsAt, IsBacked, OneBack}
+use Rattle.tsp_promises.specs.StepFacts.{backed, is_unbacked, is_unbacked_after}
 use Rattle.tsp_promises.proofs.EverywhereLemmas.{Everywhere-at, Everywhere-from}
+use Rattle.tsp_promises.proofs.SendProof.{peer-same}
 use Rattle.tsp_base.proofs.ViewPlaces.{or-false, port-same}
-use Rattle.tsp_audit.specs.Backing.{Backs, Settled, is_stand, is_standing}
+use Rattle.tsp_audit.specs.Backing.{Backs, Settled, deed_backs, is_stand, is_standing, post_backs}
 use Rattle.tsp_history.specs.Holding.{Apart}
 
 kept : (b keep : Bool) → (if b then false else keep) ≡ true → keep ≡ true
@@ -86,3 +94,45 @@ settled h old = λ n q meant. old.ends n q
 pub ends-decide : (b : Bool) (h : List Line) → Everywhere Backs h → MatchBool b (Settled None h) (Settled None h → ⊥) → MatchBool b (OneBack h) (OneBack h → ⊥)
 ends-decide true h e s = record { holds = holds-part h e; backs = backs-part h e; ends = λ n q. s n q refl }
 ends-decide false h e bad = λ all. bad (settled h all)
+
+-- a post keeps to whom its step has backed where what its kind asks holds
+keeps-post : (l : Line) (world : List Line) (to : Place) (m : MessageValue) → l.did.deed ≡ Acts (Post to (Message m)) → (m.kind ≡ Accept → IsBacked to (backed (view l.port (of (node_of l) world)))) →
+    (m.kind ≡ Election → is_unbacked (view l.port (of (node_of l) world)) ≡ false) → BacksAt l world
+keeps-post l world to m deed accepts asks = record {
+  accepts = λ t n is kind. let place : to ≡ t = cc in let same : m ≡ n = cc in
+      subst (λ (z : Place). IsBacked z (backed (view l.port (of (node_of l) world)))) place (accepts (ap (λ (z : MessageValue). z.kind) same ∙ kind));
+  asks = λ t n is kind. let same : m ≡ n = cc in asks (ap (λ (z : MessageValue). z.kind) same ∙ kind);
+  ends = λ is q. let bad : ⊥ = cc in absurd bad;
+}
+
+-- whether it does, by its kind
+post-decides : (l : Line) (world : List Line) (to : Place) (m : MessageValue) (k : Kind) (b : Bool) (v : Option PeerId) (u : Bool) → l.did.deed ≡ Acts (Post to (Message m)) → m.kind ≡ k →
+    backed (view l.port (of (node_of l) world)) ≡ v → is_unbacked (view l.port (of (node_of l) world)) ≡ u → b ≡ post_backs k to v u → MatchBool b (BacksAt l world) (BacksAt l world → ⊥)
+post-decides l world (Peer p) m Accept b None u deed kind backs asks e =
+    subst (λ (z : Bool). MatchBool z (BacksAt l world) (BacksAt l world → ⊥)) (sym e) (λ f. let k : backed (view l.port (of (node_of l) world)) ≡ Some p = f.accepts (Peer p) m deed kind in cc)
+post-decides l world (Peer p) m Accept b (Some q) u deed kind backs asks e =
+    subst (λ (z : Bool). MatchBool z (BacksAt l world) (BacksAt l world → ⊥)) (sym e) (by_case (q.0 == p.0) refl)
+  where
+    by_case : (c : Bool) → (q.0 == p.0) ≡ c → MatchBool c (BacksAt l world) (BacksAt l world → ⊥)
+    by_case true c = keeps-post l world (Peer p) m deed (λ i. backs ∙ ap Some (peer-same q p c)) (λ i. let bad : ⊥ = cc in absurd bad)
+    by_case false c = λ f. let one : q ≡ p = (let k : backed (view l.port (of (node_of l) world)) ≡ Some p = f.accepts (Peer p) m deed kind in cc) in
+        true≢false (sym (eq-eqb q.0 p.0 (ap (λ (z : PeerId). z.0) one)) ∙ c)
+post-decides l world Stranger m Accept b v u deed kind backs asks e =
+    subst (λ (z : Bool). MatchBool z (BacksAt l world) (BacksAt l world → ⊥)) (sym e) (λ f. f.accepts Stranger m deed kind)
+post-decides l world to m Election b v true deed kind backs asks e =
+    subst (λ (z : Bool). MatchBool z (BacksAt l world) (BacksAt l world → ⊥)) (sym e) (λ f. true≢false (sym asks ∙ f.asks to m deed kind))
+post-decides l world to m Election b v false deed kind backs asks e =
+    subst (λ (z : Bool). MatchBool z (BacksAt l world) (BacksAt l world → ⊥)) (sym e) (keeps-post l world to m deed (λ i. let bad : ⊥ = cc in absurd bad) (λ i. asks))
+post-decides l world to m _ b v u deed kind backs asks e =
+    subst (λ (z : Bool). MatchBool z (BacksAt l world) (BacksAt l world → ⊥)) (sym e) (keeps-post l world to m deed (λ i. let bad : ⊥ = cc in absurd bad) (λ i. let bad : ⊥ = cc in absurd bad))
+
+-- an act keeps to whom its step has backed where it is decided so
+pub votes-decide : (b : Bool) (l : Line) (world : List Line) (a : Act) → l.did.deed ≡ Acts a →
+    b ≡ deed_backs (Acts a) (backed (view l.port (of (node_of l) world))) (is_unbacked (view l.port (of (node_of l) world))) → MatchBool b (BacksAt l world) (BacksAt l world → ⊥)
+votes-decide b l world (Post to (Message m)) deed e =
+    post-decides l world to m m.kind b (backed (view l.port (of (node_of l) world))) (is_unbacked (view l.port (of (node_of l) world))) deed refl refl refl e
+votes-decide b l world _ deed e = subst (λ (z : Bool). MatchBool z (BacksAt l world) (BacksAt l world → ⊥)) (sym e) (record {
+  accepts = λ t n is kind. let bad : ⊥ = cc in absurd bad;
+  asks = λ t n is kind. let bad : ⊥ = cc in absurd bad;
+  ends = λ is q. let bad : ⊥ = cc in absurd bad;
+})

@@ -6,7 +6,7 @@ use Rattle.tsp_base.specs.declared.kind.Kind.{Kind}
 use Rattle.tsp_base.specs.declared.kind.Kind.TheVariants.{Accept, Election}
 use Rattle.tsp_base.specs.declared.place.PeerId.{PeerId}
 use Rattle.tsp_base.specs.declared.place.Place.{Place}
-use Rattle.tsp_base.specs.declared.place.Place.TheVariants.{Peer}
+use Rattle.tsp_base.specs.declared.place.Place.TheVariants.{Peer, Stranger}
 use Rattle.tsp_base.specs.declared.place.Port.{Port}
 use Rattle.tsp_base.specs.declared.role.Role.TheVariants.{Candidate}
 use Rattle.tsp_base.specs.History.{Acts, Deed, Line, of, view}
@@ -34,6 +34,7 @@ Settled meant h = (n : ℕ) (q : Port) → concerns meant n ≡ true → is_unba
 abbrev pub post_backs : Kind → Place → Option PeerId → Bool → Bool
 post_backs Accept (Peer p) None unbacked = false
 post_backs Accept (Peer p) (Some q) unbacked = q.0 == p.0
+post_backs Accept Stranger backed unbacked = false
 post_backs Election to backed unbacked = not unbacked
 post_backs _ to backed unbacked = true
 

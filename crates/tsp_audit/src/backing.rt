@@ -131,7 +131,7 @@ fn may_post(lines: &[HistoryLine], line: &HistoryLine, to: Place, kind: Kind) ->
                 Some(q) => q.0 == p.0,
                 None => false,
             },
-            Place::Stranger => true,
+            Place::Stranger => false,
         },
         Kind::Election => !is_unbacked_at(lines, line.node, line.port),
         _ => true,
