@@ -6,7 +6,6 @@ use Rattle.tsp_base.specs.declared.place.PeerId.{PeerId}
 use Rattle.tsp_base.specs.declared.place.Place.TheVariants.{Peer}
 use Rattle.tsp_base.specs.History.{Past}
 use Rattle.tsp_base.specs.Messages.{MessageValue}
-use Rattle.tsp_base.specs.Performs.{Beside}
 use Rattle.tsp_base.specs.PortFacts.{Received, taken}
 use Rattle.tsp_acks.specs.declared.station.Station.{Station}
 use Rattle.tsp_acks.specs.Stands.{Stands}
@@ -22,10 +21,22 @@ Took past took = taken past.seen ≡ took
 abbrev pub IsMessage : PeerId → MessageValue → Option Received → Type 0
 IsMessage p m took = took ≡ Some (record { from = Peer p; taken = Good (Message m) })
 
--- what stands beside a station
-abbrev pub AlsoStands : Past → LastValue × (ClockValue × Option Received) → Type 0
-AlsoStands = Beside Remembers (Beside ClockStands Took)
+-- a port's station, what it remembers, its node's clock, and what the step took
+pub record SlaveState : Type 0 where
+  pub station : Station
+  pub last : LastValue
+  pub clock : ClockValue
+  pub took : Option Received
 
--- the station, what it remembers, the clock, and what was taken
-abbrev pub SlaveStands : Past → Station × (LastValue × (ClockValue × Option Received)) → Type 0
-SlaveStands = Beside Stands AlsoStands
+-- what stands beside the station: what is remembered, the clock, and what was taken
+pub record AlsoStands (past : Past) (state : SlaveState) : Type 0 where
+  pub last : Remembers past state.last
+  pub clock : ClockStands past state.clock
+  pub took : Took past state.took
+
+-- the station, what it remembers, the clock, and what was taken are what the past comes to
+pub record SlaveStands (past : Past) (state : SlaveState) : Type 0 where
+  pub station : Stands past state.station
+  pub last : Remembers past state.last
+  pub clock : ClockStands past state.clock
+  pub took : Took past state.took
