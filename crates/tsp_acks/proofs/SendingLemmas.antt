@@ -1,5 +1,5 @@
 -- How sends that begin keep what a station stands for.
-use Rattle.std.specs.Prelude.{◌≡◌, ℕ, ℤ, ◌+◌, ◌%◌, ◌==◌, Bool, true, false, ◌&&◌, if◌then◌else◌, List, [], ◌∷◌, ◌++◌, Option, Some, refl}
+use Rattle.std.specs.Prelude.{◌≡◌, ℕ, ℤ, ◌+◌, ◌%◌, ◌==◌, Bool, true, false, ◌&&◌, if◌then◌else◌, List, [], ◌∷◌, ◌++◌, Some, refl}
 use Rattle.std.proofs.Common.{sym, ◌∙◌, ap, arith}
 use Rattle.tsp_base.specs.declared.act.Act.TheVariants.{Post}
 use Rattle.tsp_base.specs.declared.act.Placed.{Placed}
@@ -10,14 +10,13 @@ use Rattle.tsp_base.specs.declared.message.Body.TheVariants.{Nothing, Time}
 use Rattle.tsp_base.specs.declared.place.PeerId.{PeerId}
 use Rattle.tsp_base.specs.declared.place.Place.TheVariants.{Peer}
 use Rattle.tsp_base.specs.declared.place.Port.{Port}
-use Rattle.tsp_base.specs.History.{Past, Seen, plain}
+use Rattle.tsp_base.specs.History.{Past, plain}
 use Rattle.tsp_base.specs.Kinds.{carries_time, carries_hops}
 use Rattle.tsp_base.specs.Messages.{MessageValue, body_fits}
 use Rattle.tsp_base.specs.NodeFacts.{word}
 use Rattle.tsp_base.specs.Performs.{Performs}
-use Rattle.tsp_base.specs.PortFacts.{acting}
 use Rattle.tsp_base.specs.Rows.{Row, bare, timed, for_each, grown, others, reading, posts, posts_time, post_of}
-use Rattle.tsp_base.specs.SendFacts.{Sending, has_own_number, is_correction, is_numbered, is_set_date_request, begun}
+use Rattle.tsp_base.specs.SendFacts.{has_own_number, is_correction, is_numbered, is_set_date_request, begun}
 use Rattle.tsp_base.proofs.SendLemmas.{open_send-begins}
 use Rattle.tsp_base.proofs.PerformsLemmas.{Performs_each_more}
 use Rattle.tsp_base.proofs.RowLemmas.{others-more}

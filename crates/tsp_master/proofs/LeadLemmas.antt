@@ -1,5 +1,5 @@
 -- Calls of a station and of a clock, beside a master.
-use Rattle.std.proofs.Common.{◌≡◌, ℕ, Bool, true, List, [], ◌∷◌, ◌++◌, refl}
+use Rattle.std.proofs.Common.{◌≡◌, ℕ, true, List, [], ◌∷◌, ◌++◌, refl}
 use Rattle.std.proofs.lemmas.Bool.{false≢true}
 use Rattle.tsp_base.specs.declared.act.Act.{Act}
 use Rattle.tsp_base.specs.declared.act.Act.TheVariants.{Boot, Correct}
