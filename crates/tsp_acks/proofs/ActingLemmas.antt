@@ -6,12 +6,11 @@ use Rattle.tsp_base.specs.declared.act.Act.TheVariants.{Took, Ring, Late}
 use Rattle.tsp_base.specs.declared.act.Placed.{Placed}
 use Rattle.tsp_base.specs.declared.place.Port.{Port}
 use Rattle.tsp_base.specs.History.{Deed, Step, Seen, Begins, Acts, Here, Elsewhere}
-use Rattle.tsp_base.specs.Performs.{Performs, Keeps}
+use Rattle.tsp_base.specs.Performs.{Performs}
 use Rattle.tsp_base.specs.PortFacts.{Received, acting, acting_after, taken, taken_after}
 use Rattle.tsp_base.specs.Rows.{Row, added}
-use Rattle.tsp_base.proofs.PerformsLemmas.{Performs_beside}
 use Rattle.tsp_acks.specs.declared.station.Station.{Station}
-use Rattle.tsp_acks.specs.Stands.{Stands, HasActed, StandsActing}
+use Rattle.tsp_acks.specs.Stands.{Stands, StandsActing}
 
 acting_after-acts : (a : Act) (before : Bool) → before ≡ true → acting_after (Acts a) before ≡ true
 acting_after-acts (Took from taken) before e = refl
@@ -23,13 +22,12 @@ acting-added : (step : Step) (x : ℕ) (acts : List Act) (seen : List Seen) → 
 acting-added step x [] seen e = e
 acting-added step x (a ∷ rest) seen e = acting-added step x rest _ (acting_after-acts a (acting seen) e)
 
-HasActed_row : (row : Row) → Keeps HasActed row
-HasActed_row row x past state acted = acting-added past.step x (row x past) past.seen acted
-
 -- a call in a step that has acted
-pub Performs_acting : {row : Row} {x : ℕ} {port : Port} {before after : Station} {old new : List Placed} → Performs Stands Stands row x port before after old new →
-    Performs StandsActing StandsActing row x port (before, tt) (after, tt) old new
-Performs_acting {row = row} d = Performs_beside tt (HasActed_row row) d
+pub Performs_acting : {row : Row} {x : ℕ} {port : Port} {before after : Station} {old new : List Placed} → Performs Stands Stands row x port before after old new → Performs StandsActing StandsActing row x port before after old new
+Performs_acting {row = row} {x = x} d = record {
+  acts = λ past h. d.acts past h.stands;
+  stands = λ past h. record { stands = d.stands past h.stands; acted = acting-added past.step x (row x past) past.seen h.acted };
+}
 
 taken_after-acts : (d : Deed) (took : Option Received) (before : Bool) (r : Received) → (took ≡ Some r → before ≡ true) → taken_after d took ≡ Some r → acting_after d before ≡ true
 taken_after-acts Begins took before r k e = absurd (none-some r e)

@@ -72,23 +72,23 @@ open_send-numbered p seen s e = at_place (open_to p seen) (posts_of p seen) (IsN
   at_place (Elsewhere d ∷ before) n k e = of_message (message_of d.deed) d.tick n k e
 
 -- a send is given up
-pub StandsStill_gave : (p : PeerId) (x : ℕ) (past : Past) (before after : Station) → ChangesSends before after → after.begun ≡ before.begun → SetsOnly p None before.sends after.sends → StandsStill past (before, tt) → StandsStill (grown x past (GaveAct p ∷ [])) (after, tt)
+pub StandsStill_gave : (p : PeerId) (x : ℕ) (past : Past) (before after : Station) → ChangesSends before after → after.begun ≡ before.begun → SetsOnly p None before.sends after.sends → StandsStill past before → StandsStill (grown x past (GaveAct p ∷ [])) after
 StandsStill_gave p x past before after t count only h = record {
-  first = record {
-    own = ap (λ i. i.own) t.me ∙ h.first.own;
-    name = ap (λ i. i.name) t.me ∙ h.first.name;
-    may = ap (λ i. i.may) t.me ∙ h.first.may;
-    strict = ap (λ i. i.strict) t.me ∙ h.first.strict;
-    peers = t.peers ∙ h.first.peers;
-    word = ap (λ i. i.word) t.me ∙ h.first.word;
-    role = t.role ∙ h.first.role;
-    alarms = t.alarms ∙ h.first.alarms;
-    hold = t.hold ∙ h.first.hold;
-    sends = λ q. only q ∙ ap (λ o. if p.0 == q.0 then None else o) (h.first.sends q) ∙ sym (open_send-gave past.step x q p past.seen);
-    begun = count ∙ h.first.begun;
-    backers = t.backers ∙ h.first.backers;
+  stands = record {
+    own = ap (λ i. i.own) t.me ∙ h.stands.own;
+    name = ap (λ i. i.name) t.me ∙ h.stands.name;
+    may = ap (λ i. i.may) t.me ∙ h.stands.may;
+    strict = ap (λ i. i.strict) t.me ∙ h.stands.strict;
+    peers = t.peers ∙ h.stands.peers;
+    word = ap (λ i. i.word) t.me ∙ h.stands.word;
+    role = t.role ∙ h.stands.role;
+    alarms = t.alarms ∙ h.stands.alarms;
+    hold = t.hold ∙ h.stands.hold;
+    sends = λ q. only q ∙ ap (λ o. if p.0 == q.0 then None else o) (h.stands.sends q) ∙ sym (open_send-gave past.step x q p past.seen);
+    begun = count ∙ h.stands.begun;
+    backers = t.backers ∙ h.stands.backers;
   };
-  second = h.second;
+  still = h.still;
 }
 
 -- a repeat begins no send
@@ -104,28 +104,28 @@ again-only p q s keep false e k = refl
 
 -- a send is posted again
 pub StandsStill_repeats : (p : PeerId) (s : Sending) (x : ℕ) (past : Past) (before after : Station) → sending_to before.sends p ≡ Some s → ChangesSends before after → after.begun ≡ before.begun
-    → SetsOnly p (Some (record s { posts = s.posts + 1 })) before.sends after.sends → StandsStill past (before, tt) → StandsStill (grown x past (Post (Peer p) (Message s.message) ∷ [])) (after, tt)
+    → SetsOnly p (Some (record s { posts = s.posts + 1 })) before.sends after.sends → StandsStill past before → StandsStill (grown x past (Post (Peer p) (Message s.message) ∷ [])) after
 StandsStill_repeats p s x past before after is t count only h =
-    let open_is : open_send p past.seen ≡ Some s = sym (h.first.sends p) ∙ is in
+    let open_is : open_send p past.seen ≡ Some s = sym (h.stands.sends p) ∙ is in
     record {
-      first = record {
-        own = ap (λ i. i.own) t.me ∙ h.first.own;
-        name = ap (λ i. i.name) t.me ∙ h.first.name;
-        may = ap (λ i. i.may) t.me ∙ h.first.may;
-        strict = ap (λ i. i.strict) t.me ∙ h.first.strict;
-        peers = t.peers ∙ h.first.peers;
-        word = ap (λ i. i.word) t.me ∙ h.first.word;
-        role = t.role ∙ h.first.role;
-        alarms = t.alarms ∙ h.first.alarms;
-        hold = t.hold ∙ h.first.hold;
+      stands = record {
+        own = ap (λ i. i.own) t.me ∙ h.stands.own;
+        name = ap (λ i. i.name) t.me ∙ h.stands.name;
+        may = ap (λ i. i.may) t.me ∙ h.stands.may;
+        strict = ap (λ i. i.strict) t.me ∙ h.stands.strict;
+        peers = t.peers ∙ h.stands.peers;
+        word = ap (λ i. i.word) t.me ∙ h.stands.word;
+        role = t.role ∙ h.stands.role;
+        alarms = t.alarms ∙ h.stands.alarms;
+        hold = t.hold ∙ h.stands.hold;
         sends = λ q.
             only q ∙ again-only p q s (sending_to before.sends q) (p.0 == q.0) refl (λ same. ap (sending_to before.sends) (sym same) ∙ is)
-            ∙ ap (λ o. if p.0 == q.0 then again o else o) (h.first.sends q)
-            ∙ sym (open_send-repeats past.step x q p s.message past.seen (open_send-numbered p past.seen s open_is) h.second);
-        backers = t.backers ∙ h.first.backers;
-        begun = count ∙ h.first.begun ∙ ap (λ n. n % 32768) (sym (begun-repeats past.step x p s.message past.seen h.second));
+            ∙ ap (λ o. if p.0 == q.0 then again o else o) (h.stands.sends q)
+            ∙ sym (open_send-repeats past.step x q p s.message past.seen (open_send-numbered p past.seen s open_is) h.still);
+        backers = t.backers ∙ h.stands.backers;
+        begun = count ∙ h.stands.begun ∙ ap (λ n. n % 32768) (sym (begun-repeats past.step x p s.message past.seen h.still));
       };
-      second = h.second;
+      still = h.still;
     }
 
 -- what is put for a due send
@@ -153,10 +153,10 @@ next_peer after x slots new due peers t slots_are =
 
 -- a due send is given up
 gives_row : (p : PeerId) (s : Sending) (x : ℕ) (port : Port) (before after : Station) (old new : List Placed) → sending_to before.sends p ≡ Some s → is_due_send x (Some s) ≡ true → is_given_up s x ≡ true → ChangesSends before after → after.begun ≡ before.begun
-    → SetsOnly p None before.sends after.sends → new ≡ old ++ record { port = port; act = GaveAct p } ∷ [] → Performs StandsStill StandsStill (bare_send p) x port (before, tt) (after, tt) old new
+    → SetsOnly p None before.sends after.sends → new ≡ old ++ record { port = port; act = GaveAct p } ∷ [] → Performs StandsStill StandsStill (bare_send p) x port before after old new
 unfolding bare_send repeats_bare_send puts
 gives_row p s x port before after old new is due spent t count only put =
-    Performs_reading (open_at p) (repeats_bare_send p) (Some s) (λ past h. sym (h.first.sends p) ∙ is)
+    Performs_reading (open_at p) (repeats_bare_send p) (Some s) (λ past h. sym (h.stands.sends p) ∙ is)
     (Performs_then_part (is_send_due s) nothing (λ past h. due)
     (Performs_then_part (is_spent s) (repeats p s.message) (λ past h. spent)
     (record { acts = λ past h. put; stands = λ past h. StandsStill_gave p x past before after t count only h })))
@@ -164,23 +164,23 @@ gives_row p s x port before after old new is due spent t count only put =
 -- a due send is posted again
 repeats_row : (p : PeerId) (s : Sending) (x : ℕ) (port : Port) (before after : Station) (old new : List Placed) → sending_to before.sends p ≡ Some s → is_due_send x (Some s) ≡ true → is_given_up s x ≡ false → ChangesSends before after → after.begun ≡ before.begun
     → SetsOnly p (Some (record s { posts = s.posts + 1 })) before.sends after.sends → new ≡ old ++ record { port = port; act = Post (Peer p) (Message s.message) } ∷ []
-    → Performs StandsStill StandsStill (bare_send p) x port (before, tt) (after, tt) old new
+    → Performs StandsStill StandsStill (bare_send p) x port before after old new
 unfolding bare_send repeats_bare_send repeats puts
 repeats_row p s x port before after old new is due fresh t count only put =
-    Performs_reading (open_at p) (repeats_bare_send p) (Some s) (λ past h. sym (h.first.sends p) ∙ is)
+    Performs_reading (open_at p) (repeats_bare_send p) (Some s) (λ past h. sym (h.stands.sends p) ∙ is)
     (Performs_then_part (is_send_due s) nothing (λ past h. due)
     (Performs_else_part (is_spent s) (puts (GaveAct p)) (λ past h. fresh)
     (record { acts = λ past h. put; stands = λ past h. StandsStill_repeats p s x past before after is t count only h })))
 
 -- the next due send is repeated as the row of its peer says
 pub Performs_due : (last : Option PeerId) (x : ℕ) (port : Port) (due : Due) (before after : Station) (old new : List Placed) → RepeatsNext last x before.sends after.sends (Some due) → ChangesSends before after → after.begun ≡ before.begun
-    → new ≡ old ++ record { port = port; act = act_of due } ∷ [] → Performs StandsStill StandsStill (bare_send (peer_of due)) x port (before, tt) (after, tt) old new
+    → new ≡ old ++ record { port = port; act = act_of due } ∷ [] → Performs StandsStill StandsStill (bare_send (peer_of due)) x port before after old new
 Performs_due last x port due before after old new t rest count put = rw is (by_test (is_given_up t.1 x) refl t.3 t.4) where
   is : peer_of due ≡ t.0
   is = ap peer_of t.3 ∙ peer_of-repeated t.0 x t.1
 
   by_test : (b : Bool) → is_given_up t.1 x ≡ b → due ≡ (if b then Gave t.0 t.1.message.kind else Again t.0 t.1.message)
-      → SetsOnly t.0 (if b then None else Some (record t.1 { posts = t.1.posts + 1 })) before.sends after.sends → Performs StandsStill StandsStill (bare_send t.0) x port (before, tt) (after, tt) old new
+      → SetsOnly t.0 (if b then None else Some (record t.1 { posts = t.1.posts + 1 })) before.sends after.sends → Performs StandsStill StandsStill (bare_send t.0) x port before after old new
   by_test true b e only = gives_row t.0 t.1 x port before after old new t.2.sending t.2.due b rest count only (put ∙ ap (λ d. old ++ record { port = port; act = act_of d } ∷ []) e)
   by_test false b e only = repeats_row t.0 t.1 x port before after old new t.2.sending t.2.due b rest count only (put ∙ ap (λ d. old ++ record { port = port; act = act_of d } ∷ []) e)
 
@@ -191,9 +191,9 @@ none_before after x slots new due t q later below =
     t.2.first q later (rw (← is) below)
 
 -- nothing is done for a send that isn't due
-pub Performs_not_due : (p : PeerId) (x : ℕ) (port : Port) (station : Station) (old : List Placed) → is_due_send x (sending_to station.sends p) ≡ false → Performs StandsStill StandsStill (bare_send p) x port (station, tt) (station, tt) old old
+pub Performs_not_due : (p : PeerId) (x : ℕ) (port : Port) (station : Station) (old : List Placed) → is_due_send x (sending_to station.sends p) ≡ false → Performs StandsStill StandsStill (bare_send p) x port station station old old
 unfolding bare_send repeats_bare_send
-Performs_not_due p x port station old late = Performs_reading (open_at p) (repeats_bare_send p) (sending_to station.sends p) (λ past h. sym (h.first.sends p)) (by_send (sending_to station.sends p) late) where
-  by_send : (o : Option Sending) → is_due_send x o ≡ false → Performs StandsStill StandsStill (repeats_bare_send p o) x port (station, tt) (station, tt) old old
+Performs_not_due p x port station old late = Performs_reading (open_at p) (repeats_bare_send p) (sending_to station.sends p) (λ past h. sym (h.stands.sends p)) (by_send (sending_to station.sends p) late) where
+  by_send : (o : Option Sending) → is_due_send x o ≡ false → Performs StandsStill StandsStill (repeats_bare_send p o) x port station station old old
   by_send None e = Performs_nothing
   by_send (Some s) e = Performs_else_part (is_send_due s) _ (λ past h. e) Performs_nothing

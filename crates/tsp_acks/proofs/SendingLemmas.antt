@@ -1,5 +1,5 @@
 -- How sends that begin keep what a station stands for.
-use Rattle.std.specs.Prelude.{◌≡◌, ℕ, ℤ, ◌+◌, ◌%◌, ◌==◌, Bool, true, false, ◌&&◌, if◌then◌else◌, List, [], ◌∷◌, ◌++◌, Option, Some, refl}
+use Rattle.std.specs.Prelude.{◌≡◌, ℕ, ℤ, ◌+◌, ◌%◌, ◌==◌, Bool, true, false, ◌&&◌, if◌then◌else◌, List, [], ◌∷◌, ◌++◌, Some, refl}
 use Rattle.std.proofs.Common.{sym, ◌∙◌, ap, arith}
 use Rattle.tsp_base.specs.declared.act.Act.TheVariants.{Post}
 use Rattle.tsp_base.specs.declared.act.Placed.{Placed}
@@ -10,14 +10,13 @@ use Rattle.tsp_base.specs.declared.message.Body.TheVariants.{Nothing, Time}
 use Rattle.tsp_base.specs.declared.place.PeerId.{PeerId}
 use Rattle.tsp_base.specs.declared.place.Place.TheVariants.{Peer}
 use Rattle.tsp_base.specs.declared.place.Port.{Port}
-use Rattle.tsp_base.specs.History.{Past, Seen, plain}
+use Rattle.tsp_base.specs.History.{Past, plain}
 use Rattle.tsp_base.specs.Kinds.{carries_time, carries_hops}
 use Rattle.tsp_base.specs.Messages.{MessageValue, body_fits}
 use Rattle.tsp_base.specs.NodeFacts.{word}
 use Rattle.tsp_base.specs.Performs.{Performs}
-use Rattle.tsp_base.specs.PortFacts.{acting}
 use Rattle.tsp_base.specs.Rows.{Row, bare, timed, for_each, grown, others, reading, posts, posts_time, post_of}
-use Rattle.tsp_base.specs.SendFacts.{Sending, has_own_number, is_correction, is_numbered, is_set_date_request, begun}
+use Rattle.tsp_base.specs.SendFacts.{has_own_number, is_correction, is_numbered, is_set_date_request, begun}
 use Rattle.tsp_base.proofs.SendLemmas.{open_send-begins}
 use Rattle.tsp_base.proofs.PerformsLemmas.{Performs_each_more}
 use Rattle.tsp_base.proofs.RowLemmas.{others-more}
@@ -88,33 +87,33 @@ counted true n k e = rw e (count-more n)
 counted false n k e = e
 
 StandsActing_opened : {p : PeerId} {m : MessageValue} {x : ℕ} {port : Port} {before after : Station} {old new : List Placed} → Opened p m x port before after old new →
-    (past : Past) → StandsActing past (before, tt) → StandsActing (grown x past (Post (Peer p) (Message m) ∷ [])) (after, tt)
+    (past : Past) → StandsActing past before → StandsActing (grown x past (Post (Peer p) (Message m) ∷ [])) after
 StandsActing_opened {p = p} {m = m} {x = x} {before = before} {after = after} o past h = record {
-  first = record {
-    own = ap (λ i. i.own) o.rest.me ∙ h.first.own;
-    name = ap (λ i. i.name) o.rest.me ∙ h.first.name;
-    may = ap (λ i. i.may) o.rest.me ∙ h.first.may;
-    strict = ap (λ i. i.strict) o.rest.me ∙ h.first.strict;
-    peers = o.rest.peers ∙ h.first.peers;
-    word = ap (λ i. i.word) o.rest.me ∙ h.first.word;
-    role = o.rest.role ∙ h.first.role;
-    alarms = o.rest.alarms ∙ h.first.alarms;
-    hold = o.rest.hold ∙ h.first.hold;
-    sends = λ q. o.sends q ∙ ap (λ s. if p.0 == q.0 then Some (record { began = x; posts = 1; message = m }) else s) (h.first.sends q)
-        ∙ sym (open_send-begins past.step x q p m past.seen o.numbered h.second);
-    begun = o.count ∙ counted (has_own_number m.kind) (begun past.seen) before.begun h.first.begun
-        ∙ ap (λ acts. (if has_own_number m.kind && acts then begun past.seen + 1 else begun past.seen) % 32768) (sym h.second);
-    backers = o.rest.backers ∙ h.first.backers;
+  stands = record {
+    own = ap (λ i. i.own) o.rest.me ∙ h.stands.own;
+    name = ap (λ i. i.name) o.rest.me ∙ h.stands.name;
+    may = ap (λ i. i.may) o.rest.me ∙ h.stands.may;
+    strict = ap (λ i. i.strict) o.rest.me ∙ h.stands.strict;
+    peers = o.rest.peers ∙ h.stands.peers;
+    word = ap (λ i. i.word) o.rest.me ∙ h.stands.word;
+    role = o.rest.role ∙ h.stands.role;
+    alarms = o.rest.alarms ∙ h.stands.alarms;
+    hold = o.rest.hold ∙ h.stands.hold;
+    sends = λ q. o.sends q ∙ ap (λ s. if p.0 == q.0 then Some (record { began = x; posts = 1; message = m }) else s) (h.stands.sends q)
+        ∙ sym (open_send-begins past.step x q p m past.seen o.numbered h.acted);
+    begun = o.count ∙ counted (has_own_number m.kind) (begun past.seen) before.begun h.stands.begun
+        ∙ ap (λ acts. (if has_own_number m.kind && acts then begun past.seen + 1 else begun past.seen) % 32768) (sym h.acted);
+    backers = o.rest.backers ∙ h.stands.backers;
   };
-  second = h.second;
+  acted = h.acted;
 }
 
 -- a send begins by this post
 pub Performs_opened : {p : PeerId} {m : MessageValue} {x : ℕ} {port : Port} {before after : Station} {old new : List Placed} (row : Row) → ((past : Past) → Stands past before → row x past ≡ Post (Peer p) (Message m) ∷ []) →
-    Opened p m x port before after old new → Performs StandsActing StandsActing row x port (before, tt) (after, tt) old new
+    Opened p m x port before after old new → Performs StandsActing StandsActing row x port before after old new
 Performs_opened row is o = record {
-  acts = λ past h. rw (is past h.first) o.acts;
-  stands = λ past h. rw (is past h.first) (StandsActing_opened o past h);
+  acts = λ past h. rw (is past h.stands) o.acts;
+  stands = λ past h. rw (is past h.stands) (StandsActing_opened o past h);
 }
 
 -- the posts by which sends begin, as the station has them
@@ -137,7 +136,7 @@ unfolding posts_time
 posts_time-is kind p number t x past station s = ap (λ name. Post (Peer p) (Message (timed kind number t name)) ∷ []) (sym s.name)
 
 -- sends have begun to the others of some peers, and then to one peer more, or not where that is the own one
-pub Performs_begun_more : (kind : Kind) (own p : PeerId) (ps : List PeerId) {x : ℕ} {port : Port} {first middle last : Station × Unit {0}} {old mid new : List Placed} → (p.0 ≡ own.0 → ⊥) →
+pub Performs_begun_more : (kind : Kind) (own p : PeerId) (ps : List PeerId) {x : ℕ} {port : Port} {first middle last : Station} {old mid new : List Placed} → (p.0 ≡ own.0 → ⊥) →
     Performs StandsActing StandsActing (for_each (begins kind) (others own ps)) x port first middle old mid → Performs StandsActing StandsActing (begins kind p) x port middle last mid new →
     Performs StandsActing StandsActing (for_each (begins kind) (others own (ps ++ p ∷ []))) x port first last old new
 Performs_begun_more kind own p ps n a b = rw (others-more own p ps n) (Performs_each_more (begins kind) (others own ps) p a b)

@@ -2,8 +2,6 @@
 use Rattle.std.specs.Prelude.{Bool, true, false, Option, None, Some}
 use Rattle.tsp_base.specs.declared.kind.Kind.{Kind}
 use Rattle.tsp_base.specs.declared.kind.Kind.TheVariants.{Election, Conflict, Quit}
-use Rattle.tsp_base.specs.SendFacts.{is_set_date_request}
-use Rattle.tsp_rules.specs.SendRows.{ends_by_ack, is_kind_election}
 
 -- whether a send of this kind has the port's own next number and carries nothing else
 abbrev pub is_bare_send : Kind → Bool

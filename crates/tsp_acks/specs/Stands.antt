@@ -5,7 +5,6 @@ use Rattle.tsp_base.specs.declared.role.Role.TheVariants.{Starting}
 use Rattle.tsp_base.specs.Alarms.{none_armed}
 use Rattle.tsp_base.specs.History.{Past, plain}
 use Rattle.tsp_base.specs.NodeFacts.{word}
-use Rattle.tsp_base.specs.Performs.{Beside}
 use Rattle.tsp_base.specs.PortFacts.{role, armed, held, backers, acting}
 use Rattle.tsp_base.specs.SendFacts.{open_send, begun}
 use Rattle.tsp_sends.specs.Slots.{sending_to}
@@ -31,21 +30,15 @@ pub record Stands (past : Past) (station : Station) : Type 0 where
 abbrev pub own_number : Station → ℕ
 own_number station = 32768 + (station.me.word + station.begun) % 32768
 
--- in this step an alarm was handled or a datagram taken: a numbered message that is posted now begins a send
-abbrev pub HasActed : Past → Unit {0} → Type 0
-HasActed past _ = acting past.seen ≡ true
+-- a station in a step in which an alarm was handled or a datagram taken: a numbered message that is posted now begins a send
+pub record StandsActing (past : Past) (station : Station) : Type 0 where
+  pub stands : Stands past station
+  pub acted : acting past.seen ≡ true
 
--- neither has happened yet: a numbered message that is posted now repeats the open send
-abbrev pub HasNotActed : Past → Unit {0} → Type 0
-HasNotActed past _ = acting past.seen ≡ false
-
--- a station in a step in which an alarm was handled or a datagram taken
-abbrev pub StandsActing : Past → Station × Unit {0} → Type 0
-StandsActing = Beside Stands HasActed
-
--- a station in a step in which neither has happened yet
-abbrev pub StandsStill : Past → Station × Unit {0} → Type 0
-StandsStill = Beside Stands HasNotActed
+-- a station in a step in which neither has happened yet: a numbered message that is posted now repeats the open send
+pub record StandsStill (past : Past) (station : Station) : Type 0 where
+  pub stands : Stands past station
+  pub still : acting past.seen ≡ false
 
 -- a past of the port with this setup
 pub record IsPortOf (me : Me) (peers : List PeerId) (past : Past) : Type 0 where

@@ -34,8 +34,8 @@ impl Station {
         requires kind { is_bare_send kind ≡ true }
         requires peer { Contains self.old.peers p }
         requires tick { IsTick tick }
-        ensures row { Performs StandsActing StandsActing (begins kind p) tick port (self.old, tt)
-            (self.new, tt) (D.acts desk.old) (D.acts desk.new) }
+        ensures row { Performs StandsActing StandsActing (begins kind p) tick port self.old
+            self.new (D.acts desk.old) (D.acts desk.new) }
         ensures sends { SetsOnly p
             (Some (record {
               began = tick;
@@ -68,7 +68,7 @@ impl Station {
         requires peer { Contains self.old.peers p }
         requires tick { IsTick tick }
         ensures row { Performs StandsActing StandsActing (begins_timed kind p time) tick port
-            (self.old, tt) (self.new, tt) (D.acts desk.old) (D.acts desk.new) }
+            self.old self.new (D.acts desk.old) (D.acts desk.new) }
         ensures sends { SetsOnly p
             (Some (record {
               began = tick;
@@ -108,7 +108,7 @@ impl Station {
         requires peer { Contains self.old.peers p }
         requires tick { IsTick at.tick }
         ensures row { Performs StandsActing StandsActing (posts_time p kind number time) at.tick
-            at.port (self.old, tt) (self.new, tt) (D.acts desk.old) (D.acts desk.new) }
+            at.port self.old self.new (D.acts desk.old) (D.acts desk.new) }
         ensures sends { SetsOnly p
             (Some (record {
               began = at.tick;
@@ -131,7 +131,7 @@ impl Station {
         requires kind { is_bare_send kind ≡ true }
         requires tick { IsTick tick }
         ensures row { Performs StandsActing StandsActing (begins_to_others kind) tick port
-            (self.old, tt) (self.new, tt) (D.acts desk.old) (D.acts desk.new) }
+            self.old self.new (D.acts desk.old) (D.acts desk.new) }
         ensures rest { ChangesSends self.old self.new }
         ensures room { PutsAtMost (length self.old.peers) (D.spare desk.old) (D.spare desk.new)
             (D.acts desk.old) (D.acts desk.new) }

@@ -33,7 +33,7 @@ impl Station {
             × IsAfter after (peer_of due)) }
         ensures sends { RepeatsNext after tick self.old.sends self.new.sends result }
         ensures row { IfSome result (λ due. Performs StandsStill StandsStill
-            (bare_send (peer_of due)) tick port (self.old, tt) (self.new, tt) (D.acts desk.old)
+            (bare_send (peer_of due)) tick port self.old self.new (D.acts desk.old)
             (D.acts desk.new)) }
         ensures same { IfNone result ((self.new ≡ self.old) × (desk.new ≡ desk.old)) }
         ensures rest { ChangesSends self.old self.new }

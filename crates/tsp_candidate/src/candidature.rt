@@ -20,8 +20,8 @@ use tsp_base::role::Role;
 pub fn begin_candidature<D: Desk>(station: &mut Station, tick: u64, port: Port, desk: &mut D)
     requires tick { IsTick tick }
     requires room { length station.old.peers + 3 ≤ D.spare desk.old }
-    ensures row { Performs StandsActing StandsActing candidature_row tick port (station.old, tt)
-        (station.new, tt) (D.acts desk.old) (D.acts desk.new) }
+    ensures row { Performs StandsActing StandsActing candidature_row tick port station.old
+        station.new (D.acts desk.old) (D.acts desk.new) }
     ensures room { PutsAtMost (length station.old.peers + 3) (D.spare desk.old) (D.spare desk.new)
         (D.acts desk.old) (D.acts desk.new) }
     ensures port { IsSamePort station.old station.new }

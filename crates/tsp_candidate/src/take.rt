@@ -38,7 +38,8 @@ pub fn candidate_take<D: Desk>(
     requires peer { Contains station.old.peers from }
     ensures row { (took : Option Received) → IsMessage from m.now took
         → Performs SlaveStands SlaveStands (candidate_takes from m.now) tick port
-        (station.old, (last.old, (clock.now, took))) (station.new, (last.new, (clock.now, took)))
+        (record { station = station.old; last = last.old; clock = clock.now; took = took })
+        (record { station = station.new; last = last.new; clock = clock.now; took = took })
         (D.acts desk.old) (D.acts desk.new) }
     ensures room { PutsAtMost 5 (D.spare desk.old) (D.spare desk.new) (D.acts desk.old)
         (D.acts desk.new) }

@@ -17,7 +17,6 @@ use Rattle.tsp_base.specs.Hold.{may_stand}
 use Rattle.tsp_base.specs.Performs.{Performs, Keeps}
 use Rattle.tsp_base.specs.PortFacts.{kept_name, held}
 use Rattle.tsp_base.specs.Rows.{Row, bare, grown, posts_back, puts}
-use Rattle.tsp_base.proofs.PerformsLemmas.{Performs_beside}
 use Rattle.tsp_rules.specs.CommonRows.{is_idle, master_name, master_name_in, may_be_asked}
 use Rattle.tsp_rules.specs.Guards.{is_starting_role}
 use Rattle.tsp_rules.proofs.Emits.{Sort, Taking, Asking, Correcting, Numbering, Posting, Leading, Following, Changing, Backing, Counting, Rounding, Alarming, Tabling, Rivalling, Acking, Giving, Sampling, Closing, Moving, Emits, Emits_posts_back, Emits_puts, Keeps_by, is_in, sort_of}
@@ -53,33 +52,36 @@ master_name_in-other (Follow q) own kept m f = absurd (f q refl)
 master_name_in-other _ own kept m f = refl
 
 -- the master's name, as the port has it
-pub master_name-is : (x : ℕ) (past : Past) (station : Station) (last : LastValue) → NamingStands past (station, last) → master_name x past ≡ master_name_in station.role station.me.name last.name
+pub master_name-is : (x : ℕ) (past : Past) (station : Station) (last : LastValue) → NamingStands past (record { station = station; last = last }) → master_name x past ≡ master_name_in station.role station.me.name last.name
 master_name-is x past station last h =
-    ap (λ r. master_name_in r past.name (kept_name past.seen)) (sym h.first.role) ∙ ap (λ own. master_name_in station.role own (kept_name past.seen)) (sym h.first.name)
-    ∙ ap (master_name_in station.role station.me.name) (sym h.second.name_is)
+    ap (λ r. master_name_in r past.name (kept_name past.seen)) (sym h.station.role) ∙ ap (λ own. master_name_in station.role own (kept_name past.seen)) (sym h.station.name)
+    ∙ ap (master_name_in station.role station.me.name) (sym h.last.name_is)
 
 -- an ACK with any name is posted
 pub Performs_named : (from : Place) (number : ℕ) (name : List ℕ) {x : ℕ} {port : Port} (station : Station) (last : LastValue) {old new : List Placed} → new ≡ old ++ record { port = port; act = Post from (Message (bare Ack number name)) } ∷ [] →
-    Performs NamingStands NamingStands (puts (Post from (Message (bare Ack number name)))) x port (station, last) (station, last) old new
+    Performs NamingStands NamingStands (puts (Post from (Message (bare Ack number name)))) x port (record { station = station; last = last }) (record { station = station; last = last }) old new
 unfolding puts
 Performs_named from number name {x = x} station last put = record {
   acts = λ past h. put;
   stands = λ past h. record {
-    first = Stands_post from (bare Ack number name) x past station refl h.first;
-    second = Remembers_by (puts (Post from (Message (bare Ack number name)))) (Emits_puts (Post from (Message (bare Ack number name))) refl) x past last h.second;
+    station = Stands_post from (bare Ack number name) x past station refl h.station;
+    last = Remembers_by (puts (Post from (Message (bare Ack number name)))) (Emits_puts (Post from (Message (bare Ack number name))) refl) x past last h.last;
   };
 }
 
 -- the trace is turned on or off
 pub Performs_turned : (on : Bool) {x : ℕ} {port : Port} (station : Station) (was : Bool) {old new : List Placed} → new ≡ old ++ record { port = port; act = Trace on } ∷ [] →
-    Performs TracingStands TracingStands (puts (Trace on)) x port (station, was) (station, on) old new
+    Performs TracingStands TracingStands (puts (Trace on)) x port (record { station = station; on = was }) (record { station = station; on = on }) old new
 unfolding puts
-Performs_turned on {x = x} station was put = record { acts = λ past h. put; stands = λ past h. record { first = Stands_idle (Trace on) refl x past station h.first; second = refl } }
+Performs_turned on {x = x} station was put = record { acts = λ past h. put; stands = λ past h. record { station = Stands_idle (Trace on) refl x past station h.station; trace = refl } }
 
 -- and the answer leaves it so
 pub Performs_traced : (from : Place) (number : ℕ) {x : ℕ} {port : Port} {station : Station} (on : Bool) {old new : List Placed} → Performs Stands Stands (posts_back from Ack number) x port station station old new →
-    Performs TracingStands TracingStands (posts_back from Ack number) x port (station, on) (station, on) old new
-Performs_traced from number on d = Performs_beside on (TraceStands_by (posts_back from Ack number) (Emits_posts_back from Ack number refl)) d
+    Performs TracingStands TracingStands (posts_back from Ack number) x port (record { station = station; on = on }) (record { station = station; on = on }) old new
+Performs_traced from number {x = x} on d = record {
+  acts = λ past h. d.acts past h.station;
+  stands = λ past h. record { station = d.stands past h.station; trace = TraceStands_by (posts_back from Ack number) (Emits_posts_back from Ack number refl) x past on h.trace };
+}
 
 -- whether the port stands for election when it is asked to, as the station has it
 pub may_be_asked-is : (x : ℕ) (past : Past) (s : Station) → Stands past s → may_be_asked x past ≡ (is_idle s.role && (s.me.may && may_stand s.hold x s.me.own))

@@ -2,7 +2,6 @@
 use Rattle.std.specs.Prelude.{◌≡◌, Bool}
 use Rattle.tsp_base.specs.History.{Past, plain}
 use Rattle.tsp_base.specs.NodeFacts.{tracing}
-use Rattle.tsp_base.specs.Performs.{Beside}
 use Rattle.tsp_acks.specs.declared.station.Station.{Station}
 use Rattle.tsp_acks.specs.Stands.{Stands}
 use Rattle.tsp_slave.specs.Lasts.{LastValue, Remembers}
@@ -12,9 +11,21 @@ abbrev pub TraceStands : Past → Bool → Type 0
 TraceStands past on = tracing (plain past.seen) ≡ on
 
 -- a port's station, and what it remembers of its master
-abbrev pub NamingStands : Past → Station × LastValue → Type 0
-NamingStands = Beside Stands Remembers
+pub record NamingState : Type 0 where
+  pub station : Station
+  pub last : LastValue
+
+-- both are what the past comes to
+pub record NamingStands (past : Past) (state : NamingState) : Type 0 where
+  pub station : Stands past state.station
+  pub last : Remembers past state.last
 
 -- a port's station, and its node's flag
-abbrev pub TracingStands : Past → Station × Bool → Type 0
-TracingStands = Beside Stands TraceStands
+pub record TracingState : Type 0 where
+  pub station : Station
+  pub on : Bool
+
+-- both are what the past comes to
+pub record TracingStands (past : Past) (state : TracingState) : Type 0 where
+  pub station : Stands past state.station
+  pub trace : TraceStands past state.on

@@ -27,8 +27,8 @@ pub fn take_test<D: Desk>(
 )
     requires tick { IsTick tick }
     requires room { length station.old.peers + 4 ≤ D.spare desk.old }
-    ensures row { Performs StandsActing StandsActing (tests from number) tick port (station.old, tt)
-        (station.new, tt) (D.acts desk.old) (D.acts desk.new) }
+    ensures row { Performs StandsActing StandsActing (tests from number) tick port station.old
+        station.new (D.acts desk.old) (D.acts desk.new) }
     ensures room { PutsAtMost (length station.old.peers + 4) (D.spare desk.old) (D.spare desk.new)
         (D.acts desk.old) (D.acts desk.new) }
     ensures port { IsSamePort station.old station.new }
@@ -47,7 +47,7 @@ fn begin_if_asked<D: Desk>(station: &mut Station, tick: u64, port: Port, desk: &
     requires tick { IsTick tick }
     requires room { length station.old.peers + 3 ≤ D.spare desk.old }
     ensures row { Performs StandsActing StandsActing (either_by may_be_asked candidature_row
-        nothing) tick port (station.old, tt) (station.new, tt) (D.acts desk.old) (D.acts desk.new) }
+        nothing) tick port station.old station.new (D.acts desk.old) (D.acts desk.new) }
     ensures room { PutsAtMost (length station.old.peers + 3) (D.spare desk.old) (D.spare desk.new)
         (D.acts desk.old) (D.acts desk.new) }
     ensures port { IsSamePort station.old station.new }

@@ -29,7 +29,8 @@ pub fn name_master<D: Desk>(
 )
     requires room { 1 ≤ D.spare desk.old }
     ensures row { (x : ℕ) → Performs NamingStands NamingStands (names_master from number) x port
-        (station.now, last.now) (station.now, last.now) (D.acts desk.old) (D.acts desk.new) }
+        (record { station = station.now; last = last.now })
+        (record { station = station.now; last = last.now }) (D.acts desk.old) (D.acts desk.new) }
     ensures room { PutsExactly 1 (D.spare desk.old) (D.spare desk.new) (D.acts desk.old)
         (D.acts desk.new) }
 {

@@ -24,7 +24,8 @@ pub fn turn_trace<D: Desk>(
 )
     requires room { 2 ≤ D.spare desk.old }
     ensures row { (x : ℕ) → Performs TracingStands TracingStands (traces from number on) x port
-        (station.now, tracing.old) (station.now, tracing.new) (D.acts desk.old) (D.acts desk.new) }
+        (record { station = station.now; on = tracing.old })
+        (record { station = station.now; on = tracing.new }) (D.acts desk.old) (D.acts desk.new) }
     ensures tracing { tracing.new ≡ on }
     ensures room { PutsExactly 2 (D.spare desk.old) (D.spare desk.new) (D.acts desk.old)
         (D.acts desk.new) }

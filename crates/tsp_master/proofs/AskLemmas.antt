@@ -31,7 +31,7 @@ use Rattle.tsp_clock.specs.ClockStands.{ClockStands}
 use Rattle.tsp_measure.specs.Measures.{begun}
 use Rattle.tsp_master.specs.declared.entry.Entry.{Entry}
 use Rattle.tsp_master.specs.declared.master.Master.{Master}
-use Rattle.tsp_master.specs.MasterStands.{BesideStands, MasterStands, ProbesStands, StartsStands, entry_at}
+use Rattle.tsp_master.specs.MasterStands.{LeadStands, MasterStands, ProbesStands, StartsStands, entry_at}
 use Rattle.tsp_master.specs.Closing.{measured_of}
 use Rattle.tsp_master.specs.Rounds.{RoundsValue, Starts, measured_with}
 use Rattle.tsp_master.specs.Slaves.{entry_of, peers_of, Changes, measures}
@@ -74,11 +74,14 @@ starts-is p x past st clock old new s k starts =
 abbrev asked_act : PeerId → Past → Act
 asked_act p past = Post (Peer p) (Stamp (Request (word (plain past.seen)) (asked past.seen % 2 ^ 64)))
 
--- what stands beside a master after a request
-beside-asks : (p : PeerId) (x : ℕ) (past : Past) (st : Station) (clock : ClockValue) → BesideStands past ((st, tt), clock) → BesideStands (grown x past (asked_act p past ∷ [])) ((st, tt), clock)
-beside-asks p x past st clock h = record {
-  first = record { first = Stands_stamp (Peer p) (Request (word (plain past.seen)) (asked past.seen % 2 ^ 64)) x past st h.first.first; second = h.first.second };
-  second = record { offset_is = h.second.offset_is; rest_is = h.second.rest_is; at_is = h.second.at_is; ticket_is = h.second.ticket_is };
+-- what stands after a request
+lead-asks : (p : PeerId) (x : ℕ) (past : Past) (old new : Master) (st : Station) (clock : ClockValue) → LeadStands past (record { master = old; station = st; clock = clock }) → MasterStands (grown x past (asked_act p past ∷ [])) new →
+    LeadStands (grown x past (asked_act p past ∷ [])) (record { master = new; station = st; clock = clock })
+lead-asks p x past old new st clock h m = record {
+  master = m;
+  station = Stands_stamp (Peer p) (Request (word (plain past.seen)) (asked past.seen % 2 ^ 64)) x past st h.station;
+  acted = h.acted;
+  clock = record { offset_is = h.clock.offset_is; rest_is = h.clock.rest_is; at_is = h.clock.at_is; ticket_is = h.clock.ticket_is };
 }
 
 -- an entry with another mark
@@ -102,19 +105,16 @@ asks-starting p q past x s = ap (λ k. marked q past.seen (if (p.0 == q.0) && k 
 
 -- a measured peer is asked at a probe
 pub Performs_probes : (p : PeerId) {x : ℕ} {port : Port} (old new : Master) (st : Station) (clock : ClockValue) {earlier later : List Placed} → (entry_of old.slaves p).measured ≡ true → new.slaves ≡ old.slaves → Starts p st.me.word (target_of clock x) old.rounds new.rounds →
-    later ≡ earlier ++ placed port (Post (Peer p) (Stamp (Request st.me.word old.rounds.asked)) ∷ []) → Performs (ProbesStands x) (ProbesStands x) (asks p) x port (old, ((st, tt), clock)) (new, ((st, tt), clock)) earlier later
+    later ≡ earlier ++ placed port (Post (Peer p) (Stamp (Request st.me.word old.rounds.asked)) ∷ []) → Performs (ProbesStands x) (ProbesStands x) (asks p) x port (record { master = old; station = st; clock = clock }) (record { master = new; station = st; clock = clock }) earlier later
 unfolding asks
 Performs_probes p {x = x} {port = port} old new st clock {earlier = earlier} m ss starts put = record {
-  acts = λ past h. put ∙ ap (λ acts. earlier ++ placed port acts) (sym (asks-is p x past old st h.stands.second.first.first h.stands.first));
+  acts = λ past h. put ∙ ap (λ acts. earlier ++ placed port acts) (sym (asks-is p x past old st h.stands.station h.stands.master));
   stands = λ past h.
-      let same : (q : PeerId) → entry_at q (seen_act past.step x (asked_act p past) ∷ past.seen) ≡ entry_at q past.seen = λ q. asks-measured p q past x (ap (λ (e : Entry). e.measured) (sym (h.stands.first.entries p)) ∙ m) in
+      let same : (q : PeerId) → entry_at q (seen_act past.step x (asked_act p past) ∷ past.seen) ≡ entry_at q past.seen = λ q. asks-measured p q past x (ap (λ (e : Entry). e.measured) (sym (h.stands.master.entries p)) ∙ m) in
       record {
-        stands = record {
-          first = MasterStands_asks p x past old new h.goes (starts-is p x past st clock old.rounds new.rounds h.stands.second.first.first h.stands.second.second starts) (ap peers_of ss)
-              (λ q. ap (λ es. entry_of es q) ss ∙ h.stands.first.entries q ∙ sym (same q))
-              (λ other q. let e = h.stands.first.empty other q in (ap (λ (k : Entry). k.joined) (same q) ∙ e.0, ap (λ (k : Entry). k.measured) (same q) ∙ e.1)) h.stands.first;
-          second = beside-asks p x past st clock h.stands.second;
-        };
+        stands = lead-asks p x past old new st clock h.stands (MasterStands_asks p x past old new h.goes (starts-is p x past st clock old.rounds new.rounds h.stands.station h.stands.clock starts) (ap peers_of ss)
+              (λ q. ap (λ es. entry_of es q) ss ∙ h.stands.master.entries q ∙ sym (same q))
+              (λ other q. let e = h.stands.master.empty other q in (ap (λ (k : Entry). k.joined) (same q) ∙ e.0, ap (λ (k : Entry). k.measured) (same q) ∙ e.1)) h.stands.master);
         goes = h.goes;
         early = h.early;
       };
@@ -123,17 +123,14 @@ Performs_probes p {x = x} {port = port} old new st clock {earlier = earlier} m s
 -- a slave is asked, and measured from now on, while a round begins
 pub Performs_starts : (p : PeerId) {x : ℕ} {port : Port} (old new : Master) (st : Station) (clock : ClockValue) {earlier later : List Placed} → (entry_of old.slaves p).joined ≡ true → Changes p measures old.slaves new.slaves → peers_of new.slaves ≡ peers_of old.slaves →
     Starts p st.me.word (target_of clock x) old.rounds new.rounds → later ≡ earlier ++ placed port (Post (Peer p) (Stamp (Request st.me.word old.rounds.asked)) ∷ []) →
-    Performs StartsStands StartsStands (asks p) x port (old, ((st, tt), clock)) (new, ((st, tt), clock)) earlier later
+    Performs StartsStands StartsStands (asks p) x port (record { master = old; station = st; clock = clock }) (record { master = new; station = st; clock = clock }) earlier later
 unfolding asks
 Performs_starts p {x = x} {port = port} old new st clock {earlier = earlier} j change ps starts put = record {
-  acts = λ past h. put ∙ ap (λ acts. earlier ++ placed port acts) (sym (asks-is p x past old st h.stands.second.first.first h.stands.first));
+  acts = λ past h. put ∙ ap (λ acts. earlier ++ placed port acts) (sym (asks-is p x past old st h.stands.station h.stands.master));
   stands = λ past h. record {
-    stands = record {
-      first = MasterStands_asks p x past old new h.goes (starts-is p x past st clock old.rounds new.rounds h.stands.second.first.first h.stands.second.second starts) ps
-          (EntriesAfter_changed p measures past x (asked_act p past) old new (λ q. asks-starting p q past x h.starts) change h.stands.first.entries)
-          (λ other q. let none = (h.stands.first.empty other p).0 in let is : in_table p past.seen ≡ true = ap (λ (e : Entry). e.joined) (sym (h.stands.first.entries p)) ∙ j in let bad : ⊥ = cc in absurd bad) h.stands.first;
-      second = beside-asks p x past st clock h.stands.second;
-    };
+    stands = lead-asks p x past old new st clock h.stands (MasterStands_asks p x past old new h.goes (starts-is p x past st clock old.rounds new.rounds h.stands.station h.stands.clock starts) ps
+          (EntriesAfter_changed p measures past x (asked_act p past) old new (λ q. asks-starting p q past x h.starts) change h.stands.master.entries)
+          (λ other q. let none = (h.stands.master.empty other p).0 in let is : in_table p past.seen ≡ true = ap (λ (e : Entry). e.joined) (sym (h.stands.master.entries p)) ∙ j in let bad : ⊥ = cc in absurd bad) h.stands.master);
     goes = h.goes;
     starts = h.starts;
   };

@@ -116,16 +116,15 @@ each_same {P = P} {Q = Q} {x = x} {port = port} {before = before} {after = after
 
 -- the clock is moved, or stays
 pub Performs_moves : (amount : ℤ) {x : ℕ} {port : Port} (m : Master) (st : Station) {clock moved : ClockValue} {old new : List Placed} → Performs ClockStands ClockStands (adjusts amount) x port clock moved old new →
-    Performs LeadStands LeadStands (adjusts amount) x port (m, ((st, tt), clock)) (m, ((st, tt), moved)) old new
+    Performs LeadStands LeadStands (adjusts amount) x port (record { master = m; station = st; clock = clock }) (record { master = m; station = st; clock = moved }) old new
 unfolding adjusts puts
 Performs_moves amount {x = x} m st d = record {
-  acts = λ past h. d.acts past h.second.second;
+  acts = λ past h. d.acts past h.clock;
   stands = λ past h. record {
-    first = MasterStands_aside (Correct amount (is_step amount) _) x past m m refl refl refl h.first.entries h.first.empty h.first;
-    second = record {
-      first = record { first = Stands_idle (Correct amount (is_step amount) _) refl x past st h.second.first.first; second = h.second.first.second };
-      second = d.stands past h.second.second;
-    };
+    master = MasterStands_aside (Correct amount (is_step amount) _) x past m m refl refl refl h.master.entries h.master.empty h.master;
+    station = Stands_idle (Correct amount (is_step amount) _) refl x past st h.station;
+    acted = h.acted;
+    clock = d.stands past h.clock;
   };
 }
 

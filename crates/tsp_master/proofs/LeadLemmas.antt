@@ -1,5 +1,5 @@
 -- Calls of a station and of a clock, beside a master.
-use Rattle.std.proofs.Common.{◌≡◌, ℕ, Bool, true, List, [], ◌∷◌, ◌++◌, refl}
+use Rattle.std.proofs.Common.{◌≡◌, ℕ, true, List, [], ◌∷◌, ◌++◌, refl}
 use Rattle.std.proofs.lemmas.Bool.{false≢true}
 use Rattle.tsp_base.specs.declared.act.Act.{Act}
 use Rattle.tsp_base.specs.declared.act.Act.TheVariants.{Boot, Correct}
@@ -18,12 +18,12 @@ use Rattle.tsp_acks.proofs.StandsLemmas.{Stands_idle, is_idle}
 use Rattle.tsp_clock.specs.Clocks.{ClockValue}
 use Rattle.tsp_clock.specs.ClockStands.{ClockStands}
 use Rattle.tsp_master.specs.declared.master.Master.{Master}
-use Rattle.tsp_master.specs.MasterStands.{MasterStands, LeadStands, RingStands}
+use Rattle.tsp_master.specs.MasterStands.{LeadStands, LeadState, MasterStands, RingStands}
 use Rattle.tsp_master.proofs.TableLemmas.{quiet_sorts, MasterStands_quiet}
 
 -- an act that the station doesn't keep
 pub Performs_idle : (a : Act) → is_idle a ≡ true → {x : ℕ} {port : Port} {station : Station} {old new : List Placed} → new ≡ old ++ record { port = port; act = a } ∷ [] →
-    Performs StandsActing StandsActing (puts a) x port (station, tt) (station, tt) old new
+    Performs StandsActing StandsActing (puts a) x port station station old new
 unfolding puts
 Performs_idle a i {x = x} {station = station} put = Performs_acting (record { acts = λ past s. put; stands = λ past s. Stands_idle a i x past station s })
 
@@ -37,53 +37,48 @@ ClockStands_still Boot e x past clock h = absurd (false≢true e)
 ClockStands_still (Correct amount stepped shown) e x past clock h = absurd (false≢true e)
 ClockStands_still _ e x past clock h = record { offset_is = h.offset_is; rest_is = h.rest_is; at_is = h.at_is; ticket_is = h.ticket_is }
 
--- a call of the station, and what it makes of the master
-pub Performs_lead : {row : Row} {x : ℕ} {port : Port} {before after : Station} (old new : Master) (clock : ClockValue) {earlier later : List Placed} → Emits still_sorts row →
-    ((past : Past) → LeadStands past (old, ((before, tt), clock)) → MasterStands (grown x past (row x past)) new) → Performs StandsActing StandsActing row x port (before, tt) (after, tt) earlier later →
-    Performs LeadStands LeadStands row x port (old, ((before, tt), clock)) (new, ((after, tt), clock)) earlier later
-Performs_lead {row = row} {x = x} old new clock e k d = record {
-  acts = λ past h. d.acts past h.second.first;
-  stands = λ past h. record {
-    first = k past h;
-    second = record { first = d.stands past h.second.first; second = Keeps_by still_sorts ClockStands row ClockStands_still e x past clock h.second.second };
-  };
+-- the station of such a step
+acting_station : {past : Past} {lead : LeadState} → LeadStands past lead → StandsActing past lead.station
+acting_station h = record { stands = h.station; acted = h.acted }
+
+-- a call of the station, and what it makes of the master, where more stands before or after
+pub Performs_lead_by : {P Q : Past → LeadState → Type 0} {row : Row} {x : ℕ} {port : Port} {before after : Station} (old new : Master) (clock : ClockValue) {earlier later : List Placed} → Emits still_sorts row →
+    ((past : Past) → P past (record { master = old; station = before; clock = clock }) → LeadStands past (record { master = old; station = before; clock = clock })) →
+    ((past : Past) → P past (record { master = old; station = before; clock = clock }) → MasterStands (grown x past (row x past)) new) →
+    ((past : Past) → P past (record { master = old; station = before; clock = clock }) → LeadStands (grown x past (row x past)) (record { master = new; station = after; clock = clock }) → Q (grown x past (row x past)) (record { master = new; station = after; clock = clock })) →
+    Performs StandsActing StandsActing row x port before after earlier later → Performs P Q row x port (record { master = old; station = before; clock = clock }) (record { master = new; station = after; clock = clock }) earlier later
+Performs_lead_by {row = row} {x = x} old new clock e from k to d = record {
+  acts = λ past h. d.acts past (acting_station (from past h));
+  stands = λ past h.
+      let stands = d.stands past (acting_station (from past h)) in
+      to past h (record { master = k past h; station = stands.stands; acted = stands.acted; clock = Keeps_by still_sorts ClockStands row ClockStands_still e x past clock (from past h).clock });
 }
 
--- the same, where more stands before or after
-pub Performs_lead_by : {P Q : Past → Master × ((Station × Unit {0}) × ClockValue) → Type 0} {row : Row} {x : ℕ} {port : Port} {before after : Station} (old new : Master) (clock : ClockValue) {earlier later : List Placed} → Emits still_sorts row →
-    ((past : Past) → P past (old, ((before, tt), clock)) → LeadStands past (old, ((before, tt), clock))) →
-    ((past : Past) → P past (old, ((before, tt), clock)) → MasterStands (grown x past (row x past)) new) →
-    ((past : Past) → P past (old, ((before, tt), clock)) → LeadStands (grown x past (row x past)) (new, ((after, tt), clock)) → Q (grown x past (row x past)) (new, ((after, tt), clock))) →
-    Performs StandsActing StandsActing row x port (before, tt) (after, tt) earlier later → Performs P Q row x port (old, ((before, tt), clock)) (new, ((after, tt), clock)) earlier later
-Performs_lead_by {row = row} {x = x} old new clock e from k to d = record {
-  acts = λ past h. d.acts past (from past h).second.first;
-  stands = λ past h. to past h (record {
-    first = k past h;
-    second = record { first = d.stands past (from past h).second.first; second = Keeps_by still_sorts ClockStands row ClockStands_still e x past clock (from past h).second.second };
-  });
-}
+-- the same, where no more stands
+pub Performs_lead : {row : Row} {x : ℕ} {port : Port} {before after : Station} (old new : Master) (clock : ClockValue) {earlier later : List Placed} → Emits still_sorts row →
+    ((past : Past) → LeadStands past (record { master = old; station = before; clock = clock }) → MasterStands (grown x past (row x past)) new) → Performs StandsActing StandsActing row x port before after earlier later →
+    Performs LeadStands LeadStands row x port (record { master = old; station = before; clock = clock }) (record { master = new; station = after; clock = clock }) earlier later
+Performs_lead old new clock e k d = Performs_lead_by {P = LeadStands} {Q = LeadStands} old new clock e (λ past h. h) k (λ past h stands. stands) d
 
 -- a call of the station that means nothing to the master
 pub Performs_quiet : {row : Row} {x : ℕ} {port : Port} {before after : Station} (master : Master) (clock : ClockValue) {earlier later : List Placed} → Emits quiet_sorts row →
-    Performs StandsActing StandsActing row x port (before, tt) (after, tt) earlier later → Performs LeadStands LeadStands row x port (master, ((before, tt), clock)) (master, ((after, tt), clock)) earlier later
+    Performs StandsActing StandsActing row x port before after earlier later →
+    Performs LeadStands LeadStands row x port (record { master = master; station = before; clock = clock }) (record { master = master; station = after; clock = clock }) earlier later
 Performs_quiet {row = row} {x = x} master clock e d =
-    Performs_lead master master clock (Emits_more quiet_sorts refl e) (λ past h. Keeps_by quiet_sorts MasterStands row MasterStands_quiet e x past master h.first) d
+    Performs_lead master master clock (Emits_more quiet_sorts refl e) (λ past h. Keeps_by quiet_sorts MasterStands row MasterStands_quiet e x past master h.master) d
 
 -- the act with which an alarm begins: from here on the step has acted
-pub Performs_rung : {Q : Past → Master × ((Station × Unit {0}) × ClockValue) → Type 0} (a : Act) {x : ℕ} {port : Port} {before after : Station} (old new : Master) (clock : ClockValue) {earlier later : List Placed} →
+pub Performs_rung : {Q : Past → LeadState → Type 0} (a : Act) {x : ℕ} {port : Port} {before after : Station} (old new : Master) (clock : ClockValue) {earlier later : List Placed} →
     is_in (sort_of a) still_sorts ≡ true → ((past : Past) → acting (seen_act past.step x a ∷ past.seen) ≡ true) →
-    ((past : Past) → RingStands past (old, (before, clock)) → MasterStands (grown x past (a ∷ [])) new) →
-    ((past : Past) → RingStands past (old, (before, clock)) → LeadStands (grown x past (a ∷ [])) (new, ((after, tt), clock)) → Q (grown x past (a ∷ [])) (new, ((after, tt), clock))) →
-    Performs Stands Stands (puts a) x port before after earlier later → Performs RingStands Q (puts a) x port (old, (before, clock)) (new, ((after, tt), clock)) earlier later
+    ((past : Past) → RingStands past (record { master = old; station = before; clock = clock }) → MasterStands (grown x past (a ∷ [])) new) →
+    ((past : Past) → RingStands past (record { master = old; station = before; clock = clock }) → LeadStands (grown x past (a ∷ [])) (record { master = new; station = after; clock = clock }) → Q (grown x past (a ∷ [])) (record { master = new; station = after; clock = clock })) →
+    Performs Stands Stands (puts a) x port before after earlier later → Performs RingStands Q (puts a) x port (record { master = old; station = before; clock = clock }) (record { master = new; station = after; clock = clock }) earlier later
 unfolding puts
 Performs_rung a {x = x} old new clock e acts k to d = record {
-  acts = λ past h. d.acts past h.second.first;
-  stands = λ past h. to past h (record {
-    first = k past h;
-    second = record { first = record { first = d.stands past h.second.first; second = acts past }; second = ClockStands_still a e x past clock h.second.second };
-  });
+  acts = λ past h. d.acts past h.station;
+  stands = λ past h. to past h (record { master = k past h; station = d.stands past h.station; acted = acts past; clock = ClockStands_still a e x past clock h.clock });
 }
 
 -- what stands in a step that has acted stands
-pub rings_stand : (past : Past) (m : Master) (st : Station) (clock : ClockValue) → LeadStands past (m, ((st, tt), clock)) → RingStands past (m, (st, clock))
-rings_stand past m st clock h = record { first = h.first; second = record { first = h.second.first.first; second = h.second.second } }
+pub rings_stand : (past : Past) (lead : LeadState) → LeadStands past lead → RingStands past lead
+rings_stand past lead h = record { master = h.master; station = h.station; clock = h.clock }

@@ -21,7 +21,7 @@ use Rattle.tsp_measure.specs.declared.exchange.Exchange.{Exchange}
 use Rattle.tsp_measure.specs.declared.sample.Sample.{Sample}
 use Rattle.tsp_measure.specs.Measures.{IsAnswered, asks}
 use Rattle.tsp_master.specs.declared.master.Master.{Master}
-use Rattle.tsp_master.specs.MasterStands.{GoingStands, LeadStands}
+use Rattle.tsp_master.specs.MasterStands.{GoingStands, LeadStands, LeadState}
 use Rattle.tsp_master.specs.Rounds.{RoundsValue, AreApart, measured_with, pending_at, request_of}
 use Rattle.tsp_master.proofs.ExchangeLemmas.{asks-counter, pending_at-found}
 use Rattle.tsp_master.proofs.LeadLemmas.{Performs_idle, Performs_lead_by}
@@ -44,12 +44,12 @@ missed p r (e ∷ es) h = by_test (e.counter == r.counter) refl (All-head (λ (k
 
 pub Performs_missed : (p : PeerId) (r : ReplyValue) {x : ℕ} {port : Port} (old new : Master) (station : Station) (clock : ClockValue) {acts : List Placed} → All (λ (e : Exchange). asks r.word r.counter e ≡ false) (measured_with old.rounds p).pending →
     new.slaves ≡ old.slaves → new.rounds.asked ≡ old.rounds.asked → new.rounds.probes ≡ old.rounds.probes → ((q : PeerId) → measured_with new.rounds q ≡ measured_with old.rounds q) →
-    Performs GoingStands LeadStands (samples p r) x port (old, ((station, tt), clock)) (new, ((station, tt), clock)) acts acts
+    Performs GoingStands LeadStands (samples p r) x port (record { master = old; station = station; clock = clock }) (record { master = new; station = station; clock = clock }) acts acts
 unfolding samples
 Performs_missed p r old new station clock none ss asked_is probes_is same =
-    Performs_reading (request_at p r.counter) (samples_request p r) (pending_at r.counter (measured_with old.rounds p).pending) (λ past h. (h.stands.first.going h.goes).requests p r.counter)
+    Performs_reading (request_at p r.counter) (samples_request p r) (pending_at r.counter (measured_with old.rounds p).pending) (λ past h. (h.stands.master.going h.goes).requests p r.counter)
     (rw (missed p r (measured_with old.rounds p).pending none)
-    (Performs_to (λ past h. record { first = MasterStands_unasked past old new ss asked_is probes_is same h.stands.first; second = h.stands.second }) (Performs_nothing {p = GoingStands} {state = (old, ((station, tt), clock))})))
+    (Performs_to (λ past h. record { master = MasterStands_unasked past old new ss asked_is probes_is same h.stands.master; station = h.stands.station; acted = h.stands.acted; clock = h.stands.clock }) (Performs_nothing {p = GoingStands} {state = (record { master = old; station = station; clock = clock })})))
 
 and-left : (a b : Bool) → (a && b) ≡ true → a ≡ true
 and-left true b e = refl
@@ -58,24 +58,24 @@ and-left false b e = let bad : ⊥ = cc in absurd bad
 pub Performs_sample : (p : PeerId) (r : ReplyValue) (d : ℤ) (answer : Sample) {x : ℕ} {port : Port} (old new : Master) (station : Station) (clock : ClockValue) {earlier later : List Placed} → d ≡ target_of clock x → AreApart (measured_with old.rounds p).pending →
     IsAnswered r.word r.counter r.ticket r.reading d (measured_with old.rounds p) (measured_with new.rounds p) answer → ((q : PeerId) → (q.0 ≡ p.0 → ⊥) → measured_with new.rounds q ≡ measured_with old.rounds q) →
     new.rounds.asked ≡ old.rounds.asked → new.rounds.probes ≡ old.rounds.probes → new.slaves ≡ old.slaves → later ≡ earlier ++ record { port = port; act = SampleAct p answer.counter answer.diff answer.err answer.ticket } ∷ [] →
-    Performs GoingStands LeadStands (samples p r) x port (old, ((station, tt), clock)) (new, ((station, tt), clock)) earlier later
+    Performs GoingStands LeadStands (samples p r) x port (record { master = old; station = station; clock = clock }) (record { master = new; station = station; clock = clock }) earlier later
 unfolding samples samples_request puts
 Performs_sample p r d answer {x = x} {port = port} old new station clock {earlier = earlier} d_is apart i others asked_is probes_is ss put =
     let was : AreApart (i.before ++ i.exchange ∷ i.after) = rw i.was_pending at apart in
     let found : pending_at r.counter (measured_with old.rounds p).pending ≡ Some (request_of i.exchange) = ap (pending_at r.counter) i.was_pending ∙ ap (λ n. pending_at n (i.before ++ i.exchange ∷ i.after)) (sym (asks-counter r.word r.counter i.exchange i.asked)) ∙ pending_at-found i.before i.exchange i.after was in
     let same : (i.exchange.word == r.word) ≡ true = and-left _ _ i.asked in
     let act_is : SampleAct p answer.counter answer.diff answer.err answer.ticket ≡ sample_of p r i.exchange.a d = ap (λ (t : Sample). SampleAct p t.counter t.diff t.err t.ticket) i.told in
-    Performs_reading (request_at p r.counter) (samples_request p r) (Some (request_of i.exchange)) (λ past h. (h.stands.first.going h.goes).requests p r.counter ∙ found)
-    (rw same (Performs_reading target_at (λ t. puts (sample_of p r i.exchange.a t)) d (λ past h. target-is x past clock h.stands.second.second ∙ sym d_is)
+    Performs_reading (request_at p r.counter) (samples_request p r) (Some (request_of i.exchange)) (λ past h. (h.stands.master.going h.goes).requests p r.counter ∙ found)
+    (rw same (Performs_reading target_at (λ t. puts (sample_of p r i.exchange.a t)) d (λ past h. target-is x past clock h.stands.clock ∙ sym d_is)
     (rw (← act_is) (Performs_lead_by old new clock (Emits_puts (SampleAct p answer.counter answer.diff answer.err answer.ticket) refl) (λ past h. h.stands)
-    (λ past h. MasterStands_samples p r.word r.counter r.ticket r.reading d answer x past old new h.goes (d_is ∙ sym (target-is x past clock h.stands.second.second)) apart i others asked_is probes_is ss h.stands.first)
+    (λ past h. MasterStands_samples p r.word r.counter r.ticket r.reading d answer x past old new h.goes (d_is ∙ sym (target-is x past clock h.stands.clock)) apart i others asked_is probes_is ss h.stands.master)
     (λ past h k. k) (Performs_idle (SampleAct p answer.counter answer.diff answer.err answer.ticket) refl put)))))
 
 -- where no round goes on, a reply is passed over
-pub Performs_idle_reply : (p : PeerId) (r : ReplyValue) {x : ℕ} {port : Port} (state : Master × ((Station × Unit {0}) × ClockValue)) {acts : List Placed} → ((past : Past) → LeadStands past state → is_going past.seen ≡ false) →
+pub Performs_idle_reply : (p : PeerId) (r : ReplyValue) {x : ℕ} {port : Port} (state : LeadState) {acts : List Placed} → ((past : Past) → LeadStands past state → is_going past.seen ≡ false) →
     Performs LeadStands LeadStands (samples p r) x port state state acts acts
 unfolding samples samples_request
-Performs_idle_reply p r state idle = Performs_reading (request_at p r.counter) (samples_request p r) None (λ past h. h.first.idle (idle past h) p r.counter) Performs_nothing
+Performs_idle_reply p r state idle = Performs_reading (request_at p r.counter) (samples_request p r) None (λ past h. h.master.idle (idle past h) p r.counter) Performs_nothing
 
 -- all peers stay, where one does and the others do
 pub all_stay : (p : PeerId) (old new : RoundsValue) → measured_with new p ≡ measured_with old p → ((q : PeerId) → (q.0 ≡ p.0 → ⊥) → measured_with new q ≡ measured_with old q) → (q : PeerId) → measured_with new q ≡ measured_with old q

@@ -1,7 +1,5 @@
 -- What the acts of a round make of what a master stands for.
-use Rattle.std.proofs.Common.{◌≡◌, ℕ, ◌+◌, ◌%◌, ◌^◌, ◌==◌, ◌&&◌, Bool, true, false, if◌then◌else◌, List, [], ◌∷◌, ◌++◌, Option, Some, None, ℤ, ◌-ℤ◌, int_lt, eqb-true, eq-eqb, inl, inr, refl, sym, ◌∙◌, ap, subst, arith}
-use Rattle.std.specs.List.{fold}
-use Rattle.std.specs.Option.{option_map}
+use Rattle.std.proofs.Common.{◌≡◌, ℕ, ◌+◌, ◌%◌, ◌^◌, ◌==◌, ◌&&◌, Bool, true, false, if◌then◌else◌, List, [], ◌∷◌, Some, None, eqb-true, eq-eqb, inl, inr, refl, sym, ◌∙◌, ap, subst, arith}
 use Rattle.std.proofs.lemmas.Bool.{false≢true}
 use Rattle.tsp_base.specs.declared.act.Act.TheVariants.{Boot, Post, Arm, Ring, Late, Abandon}
 use Rattle.tsp_base.specs.declared.alarm.Alarm.TheVariants.{Probe, Close}
@@ -13,18 +11,16 @@ use Rattle.tsp_base.specs.History.{Acts, Deed, Elsewhere, Here, Past, Seen, plai
 use Rattle.tsp_base.specs.Places.{Within}
 use Rattle.tsp_base.specs.NodeFacts.{target, word}
 use Rattle.tsp_base.specs.PortFacts.{armed}
-use Rattle.tsp_base.specs.RoundFacts.{OpenRequest, Sampled, asked, best, better, exchange, is_going, request_at_place, request_open, started, started_after, target_there, word_asked}
+use Rattle.tsp_base.specs.RoundFacts.{asked, exchange, is_going, request_at_place, request_open, started, started_after}
 use Rattle.tsp_base.specs.Rows.{grown}
 use Rattle.tsp_base.proofs.SendLemmas.{seen_act}
 use Rattle.tsp_measure.specs.declared.exchange.Exchange.{Exchange}
-use Rattle.tsp_measure.specs.declared.sample.Sample.{Sample}
-use Rattle.tsp_measure.specs.declared.sample.TimedSample.{TimedSample}
-use Rattle.tsp_measure.specs.Measures.{Measured, IsAnswered, best_of, timed_sample, better as better_timed}
+use Rattle.tsp_measure.specs.Measures.{Measured, best_of}
 use Rattle.tsp_master.specs.declared.master.Master.{Master}
 use Rattle.tsp_master.specs.MasterStands.{MasterStands}
-use Rattle.tsp_master.specs.Rounds.{RoundsValue, AreApart, Starts, measured_with, pending_at, request_of, timed_of}
+use Rattle.tsp_master.specs.Rounds.{RoundsValue, Starts, measured_with, pending_at, request_of}
 use Rattle.tsp_master.specs.Slaves.{entry_of, peers_of}
-use Rattle.tsp_master.proofs.ExchangeLemmas.{asks-counter, pending_at-found, pending_at-push, pending_at-remove}
+use Rattle.tsp_master.proofs.ExchangeLemmas.{pending_at-push}
 use Rattle.tsp_master.proofs.MasterLemmas.{EmptyAfter, EntriesAfter}
 
 -- a round ends

@@ -1,31 +1,23 @@
 -- What a Sample makes of what a master stands for.
-use Rattle.std.proofs.Common.{◌≡◌, ℕ, ◌+◌, ◌%◌, ◌^◌, ◌==◌, ◌&&◌, Bool, true, false, if◌then◌else◌, List, [], ◌∷◌, ◌++◌, Option, Some, None, ℤ, ◌-ℤ◌, int_lt, eqb-true, eq-eqb, refl, sym, ◌∙◌, ap, subst, arith}
+use Rattle.std.proofs.Common.{◌≡◌, ℕ, ◌+◌, ◌==◌, ◌&&◌, Bool, true, false, if◌then◌else◌, List, [], ◌∷◌, ◌++◌, Option, Some, None, ℤ, ◌-ℤ◌, int_lt, eqb-true, eq-eqb, refl, sym, ◌∙◌, ap, subst}
 use Rattle.std.specs.List.{fold}
 use Rattle.std.specs.Option.{option_map}
-use Rattle.std.proofs.lemmas.Bool.{false≢true}
-use Rattle.tsp_base.specs.declared.act.Act.TheVariants.{Post, Ring, Late, Sample as SampleAct, Abandon}
-use Rattle.tsp_base.specs.declared.alarm.Alarm.TheVariants.{Probe, Close}
-use Rattle.tsp_base.specs.declared.datagram.Datagram.TheVariants.{Stamp}
+use Rattle.tsp_base.specs.declared.act.Act.TheVariants.{Sample as SampleAct}
 use Rattle.tsp_base.specs.declared.place.PeerId.{PeerId}
-use Rattle.tsp_base.specs.declared.place.Place.TheVariants.{Peer}
-use Rattle.tsp_base.specs.declared.stamp.Stamp.TheVariants.{Request}
 use Rattle.tsp_base.specs.History.{Past, Seen, plain}
 use Rattle.tsp_base.specs.Places.{Within}
 use Rattle.tsp_base.specs.NodeFacts.{target, word}
-use Rattle.tsp_base.specs.PortFacts.{armed}
-use Rattle.tsp_base.specs.RoundFacts.{OpenRequest, Sampled, asked, best, better, exchange, is_going, request_at_place, request_open, started, started_after, target_there, word_asked}
+use Rattle.tsp_base.specs.RoundFacts.{OpenRequest, Sampled, best, better, exchange, is_going, request_at_place, request_open, started, target_there, word_asked}
 use Rattle.tsp_base.specs.Rows.{grown}
 use Rattle.tsp_base.proofs.SendLemmas.{seen_act}
-use Rattle.tsp_measure.specs.declared.exchange.Exchange.{Exchange}
 use Rattle.tsp_measure.specs.declared.sample.Sample.{Sample}
 use Rattle.tsp_measure.specs.declared.sample.TimedSample.{TimedSample}
 use Rattle.tsp_measure.specs.Measures.{Measured, IsAnswered, best_of, timed_sample, better as better_timed}
 use Rattle.tsp_master.specs.declared.master.Master.{Master}
 use Rattle.tsp_master.specs.MasterStands.{IsOfRound, MasterStands}
-use Rattle.tsp_master.specs.Rounds.{RoundsValue, AreApart, Starts, measured_with, pending_at, request_of, timed_of}
+use Rattle.tsp_master.specs.Rounds.{AreApart, measured_with, pending_at, request_of, timed_of}
 use Rattle.tsp_master.specs.Slaves.{entry_of, peers_of}
-use Rattle.tsp_master.proofs.ExchangeLemmas.{asks-counter, pending_at-found, pending_at-push, pending_at-remove}
-use Rattle.tsp_master.proofs.MasterLemmas.{EmptyAfter, EntriesAfter}
+use Rattle.tsp_master.proofs.ExchangeLemmas.{asks-counter, pending_at-found, pending_at-remove}
 
 -- an open request is answered
 request_open-sampled : (p q : PeerId) (k c : ℕ) (diff err : ℤ) (ticket : ℕ) (past : Past) (x : ℕ) →

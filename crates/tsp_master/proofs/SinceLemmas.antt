@@ -1,5 +1,5 @@
 -- Samples of a going round are of exchanges that began after the last Correct.
-use Rattle.std.proofs.Common.{◌≡◌, ◌⊎◌, true, List, [], ◌∷◌, Some, inl, inr, refl, ap}
+use Rattle.std.proofs.Common.{◌≡◌, true, List, [], ◌∷◌, Some, inl, inr, ap}
 use Rattle.tsp_base.specs.declared.place.PeerId.{PeerId}
 use Rattle.tsp_base.specs.History.{Past, Seen, plain}
 use Rattle.tsp_base.specs.NodeFacts.{correct_place}

@@ -3,7 +3,7 @@ use Rattle.std.specs.Prelude.{◌≡◌, ◌≢◌, ◌==◌, ℕ, zero, ℤ, Bo
 use Rattle.std.proofs.Common.{sym, ◌∙◌, ap, inl, inr, true≢false}
 use Rattle.std.proofs.lemmas.Bool.{false≢true}
 use Rattle.tsp_base.specs.declared.act.Act.{Act}
-use Rattle.tsp_base.specs.declared.act.Act.TheVariants.{Boot, Took, Post, Become, Back, Backer, Quit, Arm, Ring, Late, Join, Leave, Rival, Acked, Gave, Sample, Close as CloseAct, Correct, Abandon, Trace}
+use Rattle.tsp_base.specs.declared.act.Act.TheVariants.{Boot, Post, Become, Arm, Ring, Late, Acked, Correct}
 use Rattle.tsp_base.specs.declared.alarm.Alarm.TheVariants.{Probe, Close}
 use Rattle.tsp_base.specs.declared.datagram.Datagram.TheVariants.{Message, Stamp}
 use Rattle.tsp_base.specs.declared.kind.Kind.{Kind}
@@ -11,13 +11,12 @@ use Rattle.tsp_base.specs.declared.kind.Kind.TheVariants.{AdjTime, SetTime, Elec
 use Rattle.tsp_base.specs.declared.place.PeerId.{PeerId}
 use Rattle.tsp_base.specs.declared.role.Role.{Role}
 use Rattle.tsp_base.specs.declared.role.Role.TheVariants.{Starting, Master as MasterRole}
-use Rattle.tsp_base.specs.declared.stamp.Stamp.TheVariants.{Request, Reply}
+use Rattle.tsp_base.specs.declared.stamp.Stamp.TheVariants.{Request}
 use Rattle.tsp_base.specs.History.{Acts, Did, Elsewhere, Here, Past, Seen, Step, Turned}
 use Rattle.tsp_base.specs.PortFacts.{in_table, role}
 use Rattle.tsp_base.specs.RoundFacts.{is_measured}
 use Rattle.tsp_base.specs.SendFacts.{corrects_in, open_send}
 use Rattle.tsp_base.specs.Rows.{Row, added, grown, in_step, puts}
-use Rattle.tsp_rules.specs.RoundRows.{is_correct}
 use Rattle.tsp_rules.specs.Guards.{is_master}
 use Rattle.tsp_rules.proofs.Emits.{Sort, Taking, Numbering, Posting, Leading, Following, Changing, Backing, Counting, Alarming, Rivalling, Giving, Closing, Moving, Tracing, AllOf, is_in, sort_of, sort_of_kind, Emits, Emits_more}
 use Rattle.tsp_rules.proofs.EmitsTables.{changes, is_change}

@@ -5,13 +5,12 @@ use Rattle.tsp_base.specs.declared.place.PeerId.{PeerId}
 use Rattle.tsp_base.specs.declared.role.Role.TheVariants.{Master as MasterRole}
 use Rattle.tsp_base.specs.History.{Past, Seen, plain}
 use Rattle.tsp_base.specs.NodeFacts.{correct_place}
-use Rattle.tsp_base.specs.Performs.{Beside}
 use Rattle.tsp_base.specs.Places.{Within}
-use Rattle.tsp_base.specs.PortFacts.{role, armed, in_table}
+use Rattle.tsp_base.specs.PortFacts.{role, acting, armed, in_table}
 use Rattle.tsp_base.specs.RoundFacts.{Sampled, asked, best, exchange, is_going, is_measured, is_starting, probes, request_open, started}
 use Rattle.tsp_base.specs.SendFacts.{is_acknowledged, last_number, last_post}
 use Rattle.tsp_acks.specs.declared.station.Station.{Station}
-use Rattle.tsp_acks.specs.Stands.{Stands, StandsActing}
+use Rattle.tsp_acks.specs.Stands.{Stands}
 use Rattle.tsp_clock.specs.Clocks.{ClockValue}
 use Rattle.tsp_clock.specs.ClockStands.{ClockStands}
 use Rattle.tsp_measure.specs.Measures.{best_of}
@@ -57,34 +56,51 @@ pub record MasterStands (past : Past) (master : Master) : Type 0 where
   pub probing : (at : ℕ) → (armed past.seen).probe ≡ Some at → IsProbing at past.seen
   pub empty : role past.seen ≢ MasterRole → (p : PeerId) → (in_table p past.seen ≡ false) × (is_measured p past.seen ≡ false)
 
--- the master, its station and the clock, whether the step has acted or not
-abbrev pub RingStands : Past → Master × (Station × ClockValue) → Type 0
-RingStands = Beside MasterStands (Beside Stands ClockStands)
+-- a master, its station and the clock
+pub record LeadState : Type 0 where
+  pub master : Master
+  pub station : Station
+  pub clock : ClockValue
 
--- what stands beside a master: a station in a step that has acted, and the clock
-abbrev pub BesideStands : Past → (Station × Unit {0}) × ClockValue → Type 0
-BesideStands = Beside StandsActing ClockStands
+-- each of the three is what the past comes to, whether the step has acted or not
+pub record RingStands (past : Past) (lead : LeadState) : Type 0 where
+  pub master : MasterStands past lead.master
+  pub station : Stands past lead.station
+  pub clock : ClockStands past lead.clock
 
--- the master, its station in a step that has acted, and the clock
-abbrev pub LeadStands : Past → Master × ((Station × Unit {0}) × ClockValue) → Type 0
-LeadStands = Beside MasterStands BesideStands
+-- the same, in a step that has acted
+pub record LeadStands (past : Past) (lead : LeadState) : Type 0 where
+  pub master : MasterStands past lead.master
+  pub station : Stands past lead.station
+  pub acted : acting past.seen ≡ true
+  pub clock : ClockStands past lead.clock
 
 -- the same, while a round goes on
-pub record GoingStands (past : Past) (lead : Master × ((Station × Unit {0}) × ClockValue)) : Type 0 where
+pub record GoingStands (past : Past) (lead : LeadState) : Type 0 where
   pub stands : LeadStands past lead
   pub goes : is_going past.seen ≡ true
 
 -- the same, while a probe asks: the next one would still come well before the close
-pub record ProbesStands (x : ℕ) (past : Past) (lead : Master × ((Station × Unit {0}) × ClockValue)) : Type 0 where
+pub record ProbesStands (x : ℕ) (past : Past) (lead : LeadState) : Type 0 where
   pub stands : LeadStands past lead
   pub goes : is_going past.seen ≡ true
   pub early : (close : ℕ) → (armed past.seen).close ≡ Some close → x + 8000000 ≤ close + 2000000 * probes past.seen
 
 -- the same, while a round begins
-pub record StartsStands (past : Past) (lead : Master × ((Station × Unit {0}) × ClockValue)) : Type 0 where
+pub record StartsStands (past : Past) (lead : LeadState) : Type 0 where
   pub stands : LeadStands past lead
   pub goes : is_going past.seen ≡ true
   pub starts : is_starting past.seen ≡ true
+
+-- a master and its station, whatever the port's role
+pub record OwnState : Type 0 where
+  pub master : Master
+  pub station : Station
+
+-- both are what the past comes to
+pub record OwnStands (past : Past) (own : OwnState) : Type 0 where
+  pub master : MasterStands past own.master
+  pub station : Stands past own.station
 
 -- a sample is of an exchange whose request stands after the last Correct of the node
 pub record IsSinceCorrect (p : PeerId) (s : Sampled) (seen : List Seen) : Type 0 where

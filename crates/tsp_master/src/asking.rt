@@ -28,7 +28,8 @@ use tsp_clock::clock::Clock;
 impl Master {
     ghost use Rattle.tsp_master.specs.MasterStands.{ProbesStands, StartsStands};
 
-    /// Posts a stamp request to a peer, and begins its exchange.
+    /// Posts a stamp request to a peer, and begins an exchange with it: a reply of the same word and counter
+    /// gives a sample.
     pub(crate) fn ask<D: Desk>(
         &mut self,
         station: &Station,
@@ -78,7 +79,8 @@ impl Master {
             → begun (measured_with self.old.rounds p) ≤ self.old.rounds.probes }
         requires counted { IsCounted self.old.rounds (1000 * self.old.rounds.probes) }
         ensures row { Performs (ProbesStands tick) (ProbesStands tick) asks_measured tick port
-            (self.old, ((station.now, tt), clock.now)) (self.new, ((station.now, tt), clock.now))
+            (record { master = self.old; station = station.now; clock = clock.now })
+            (record { master = self.new; station = station.now; clock = clock.now })
             (D.acts desk.old) (D.acts desk.new) }
         ensures room { PutsAtMost (length (peers_of self.old.slaves)) (D.spare desk.old)
             (D.spare desk.new) (D.acts desk.old) (D.acts desk.new) }
@@ -142,7 +144,8 @@ impl Master {
             → begun (measured_with self.old.rounds p) ≤ self.old.rounds.probes }
         requires counted { IsCounted self.old.rounds (1000 * self.old.rounds.probes) }
         ensures row { Performs StartsStands StartsStands asks_slaves tick port
-            (self.old, ((station.now, tt), clock.now)) (self.new, ((station.now, tt), clock.now))
+            (record { master = self.old; station = station.now; clock = clock.now })
+            (record { master = self.new; station = station.now; clock = clock.now })
             (D.acts desk.old) (D.acts desk.new) }
         ensures room { PutsAtMost (length (peers_of self.old.slaves)) (D.spare desk.old)
             (D.spare desk.new) (D.acts desk.old) (D.acts desk.new) }

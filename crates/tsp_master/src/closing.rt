@@ -30,8 +30,8 @@ use tsp_clock::clock::Clock;
 use tsp_group::correction;
 
 impl Master {
-    /// Handles a Close that is due, after its Probe was: where it is in time the round closes, else
-    /// it is given up. The answer is whether the clock was corrected.
+    /// Handles a Close that is due, after its Probe was: where it is at most `SLACK` ticks late the
+    /// round closes, else it is given up. The answer is whether the clock was corrected.
     pub(crate) fn ring_close<D: Desk>(
         &mut self,
         station: &mut Station,
@@ -48,9 +48,12 @@ impl Master {
         requires room { length (peers_of self.old.slaves) + 3 ≤ D.spare desk.old }
         requires same { peers_of self.old.slaves ≡ station.old.peers }
         ensures row { Performs RingStands LeadStands (close_rings own) tick port
-            (self.old, (station.old, clock.old)) (self.new, ((station.new, tt), clock.new))
+            (record { master = self.old; station = station.old; clock = clock.old })
+            (record { master = self.new; station = station.new; clock = clock.new })
             (D.acts desk.old) (D.acts desk.new) }
-        ensures corrects { (past : Past) → RingStands past (self.old, (station.old, clock.old))
+        ensures corrects { (past : Past)
+            → RingStands past
+                (record { master = self.old; station = station.old; clock = clock.old })
             → result ≡ corrects (close_rings own tick past) }
         ensures room { PutsAtMost (length (peers_of self.old.slaves) + 3) (D.spare desk.old)
             (D.spare desk.new) (D.acts desk.old) (D.acts desk.new) }
@@ -67,9 +70,9 @@ impl Master {
         self.close(station, clock, own, tick, port, desk)
     }
 
-    /// Closes a round with the largest group: the own clock is moved by the mean where this port
-    /// leads it, and then each measured peer is corrected. Where the clock would leave its range
-    /// the round is given up.
+    /// Closes a round with the largest group: the own clock is moved by its mean where this port
+    /// leads it (`own`), and then each measured peer is corrected; else the mean is 0. Where the clock
+    /// would leave its range the round is given up. The answer is whether the clock was corrected.
     fn close<D: Desk>(
         &mut self,
         station: &mut Station,
@@ -84,10 +87,12 @@ impl Master {
         requires room { length (peers_of self.old.slaves) + 2 ≤ D.spare desk.old }
         requires same { peers_of self.old.slaves ≡ station.old.peers }
         ensures row { Performs LeadStands LeadStands (closes_here own self.old) tick port
-            (self.old, ((station.old, tt), clock.old)) (self.new, ((station.new, tt), clock.new))
+            (record { master = self.old; station = station.old; clock = clock.old })
+            (record { master = self.new; station = station.new; clock = clock.new })
             (D.acts desk.old) (D.acts desk.new) }
         ensures corrects { (past : Past)
-            → LeadStands past (self.old, ((station.old, tt), clock.old))
+            → LeadStands past
+                (record { master = self.old; station = station.old; clock = clock.old })
             → result ≡ corrects (closes_here own self.old tick past) }
         ensures room { PutsAtMost (length (peers_of self.old.slaves) + 2) (D.spare desk.old)
             (D.spare desk.new) (D.acts desk.old) (D.acts desk.new) }
@@ -115,7 +120,7 @@ impl Master {
         own
     }
 
-    /// Corrects each measured peer, ascending.
+    /// Corrects each measured peer, ascending, towards a mean in microseconds.
     fn correct_each<D: Desk>(
         &mut self,
         station: &mut Station,
@@ -132,7 +137,8 @@ impl Master {
         requires same { peers_of self.old.slaves ≡ station.old.peers }
         ensures row { Performs LeadStands LeadStands
             (for_each (corrects_peer mean) (round_of self.old.slaves self.old.rounds)) tick port
-            (self.old, ((station.old, tt), clock.now)) (self.new, ((station.new, tt), clock.now))
+            (record { master = self.old; station = station.old; clock = clock.now })
+            (record { master = self.new; station = station.new; clock = clock.now })
             (D.acts desk.old) (D.acts desk.new) }
         ensures room { PutsAtMost (length (peers_of self.old.slaves)) (D.spare desk.old)
             (D.spare desk.new) (D.acts desk.old) (D.acts desk.new) }
@@ -147,7 +153,8 @@ impl Master {
         }
     }
 
-    /// Corrects a measured peer by its best sample, or takes it out of the slaves where it never answered.
+    /// Corrects a measured peer by its best sample: by an ADJTIME where it differs by less than `FAR`, else by
+    /// a SETTIME. One that never answered is taken out of the slaves.
     fn correct_peer<D: Desk>(
         &mut self,
         station: &mut Station,
@@ -165,7 +172,8 @@ impl Master {
         requires peer { Contains station.old.peers peer }
         ensures row { Performs LeadStands LeadStands
             (corrects_peer mean (standing_with self.old.rounds peer)) at.tick at.port
-            (self.old, ((station.old, tt), clock.now)) (self.new, ((station.new, tt), clock.now))
+            (record { master = self.old; station = station.old; clock = clock.now })
+            (record { master = self.new; station = station.new; clock = clock.now })
             (D.acts desk.old) (D.acts desk.new) }
         ensures room { PutsAtMost 1 (D.spare desk.old) (D.spare desk.new) (D.acts desk.old)
             (D.acts desk.new) }
@@ -192,7 +200,7 @@ impl Master {
     }
 }
 
-/// What brings a clock that differs by `diff` to the mean, as a message has it.
+/// What brings a clock that is ahead by `diff` to the mean, as a message has it; all in microseconds.
 fn amount(mean: i64, diff: i64) -> Micros
     requires mean { IsNear mean }
     requires diff { IsNear diff }
@@ -204,7 +212,7 @@ fn amount(mean: i64, diff: i64) -> Micros
     }
 }
 
-/// Moves the own clock by the mean, where its port leads it.
+/// Moves the own clock by the mean, in microseconds, where this port leads it.
 fn move_own<D: Desk>(clock: &mut Clock, own: bool, mean: i64, tick: u64, port: Port, desk: &mut D)
     requires tick { IsTick tick }
     requires later { clock.old.at ≤ tick }
@@ -212,8 +220,9 @@ fn move_own<D: Desk>(clock: &mut Clock, own: bool, mean: i64, tick: u64, port: P
     requires room { 1 ≤ D.spare desk.old }
     ensures row { (master : Master) (station : Station)
         → Performs LeadStands LeadStands (moves own mean) tick port
-        (master, ((station, tt), clock.old)) (master, ((station, tt), clock.new)) (D.acts desk.old)
-        (D.acts desk.new) }
+        (record { master = master; station = station; clock = clock.old })
+        (record { master = master; station = station; clock = clock.new })
+        (D.acts desk.old) (D.acts desk.new) }
     ensures room { PutsAtMost 1 (D.spare desk.old) (D.spare desk.new) (D.acts desk.old)
         (D.acts desk.new) }
     ensures clock { clock.new.at ≤ tick }

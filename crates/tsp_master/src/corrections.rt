@@ -21,7 +21,7 @@ use tsp_clock::clock::{Clock, is_clock_value};
 impl Master {
     ghost use Rattle.tsp_master.specs.MasterStands.{LeadStands};
 
-    /// Begins an ADJTIME with this number and amount to a peer, where a correction may begin.
+    /// Begins an ADJTIME with this number and amount, in microseconds, to a peer, where a correction may begin.
     pub(crate) fn begin_adjtime<D: Desk>(
         &mut self,
         station: &mut Station,
@@ -37,7 +37,8 @@ impl Master {
         requires peer { Contains station.old.peers peer }
         ensures row { (clock : ClockValue)
             → Performs LeadStands LeadStands (begins_adjtime peer number amount) at.tick at.port
-            (self.old, ((station.old, tt), clock)) (self.new, ((station.new, tt), clock))
+            (record { master = self.old; station = station.old; clock = clock })
+            (record { master = self.new; station = station.new; clock = clock })
             (D.acts desk.old) (D.acts desk.new) }
         ensures room { PutsAtMost 1 (D.spare desk.old) (D.spare desk.new) (D.acts desk.old)
             (D.acts desk.new) }
@@ -54,7 +55,7 @@ impl Master {
     }
 
     /// Begins a SETTIME with this number and the clock's target to a peer, where a correction may
-    /// begin and the target is in its range.
+    /// begin and the target is strictly between -`LIMIT` and `LIMIT`.
     pub(crate) fn begin_settime<D: Desk>(
         &mut self,
         station: &mut Station,
@@ -70,7 +71,8 @@ impl Master {
         requires same { peers_of self.old.slaves ≡ station.old.peers }
         requires peer { Contains station.old.peers peer }
         ensures row { Performs LeadStands LeadStands (begins_settime peer number) at.tick at.port
-            (self.old, ((station.old, tt), clock.now)) (self.new, ((station.new, tt), clock.now))
+            (record { master = self.old; station = station.old; clock = clock.now })
+            (record { master = self.new; station = station.new; clock = clock.now })
             (D.acts desk.old) (D.acts desk.new) }
         ensures room { PutsAtMost 1 (D.spare desk.old) (D.spare desk.new) (D.acts desk.old)
             (D.acts desk.new) }
@@ -92,7 +94,8 @@ impl Master {
     }
 }
 
-/// A clock's target as a message has it; None exactly where the target isn't in a clock's range.
+/// A clock's target in microseconds, as a message has it; None exactly where it isn't strictly between
+/// -`LIMIT` and `LIMIT`.
 fn settable(clock: &Clock, tick: u64) -> Option<Micros>
     requires tick { IsTick tick }
     requires later { clock.now.at ≤ tick }

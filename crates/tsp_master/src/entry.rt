@@ -18,7 +18,7 @@ pub struct Entry {
     pub measured: bool,
     /// The tick at which a correction was last posted to it since the boot, repeats included.
     pub posted: Option<u64>,
-    /// The number of the last correction that began to it since the boot; 0 before one.
+    /// The number of the last correction that began to it since the boot, 0 to 32,767; 0 before one.
     pub number: u16,
     /// Whether that correction was acknowledged.
     pub acked: bool,
@@ -50,7 +50,7 @@ impl Entry {
     }
 
     /// Whether a correction with this number may begin: none was posted for `REUSE` ticks, or the last one
-    /// was acknowledged and this is the next number.
+    /// was acknowledged and this is the next number (after 32,767 comes 0).
     pub(crate) fn may_correct(&self, number: u16, tick: u64) -> bool
         ensures { result ≡ may_correct_by self.now number tick }
     {

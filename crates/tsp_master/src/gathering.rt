@@ -12,7 +12,8 @@ use tsp_base::place::PeerId;
 use tsp_group::{Group, largest, mean};
 
 impl Master {
-    /// The largest group of the own clock and the measured ones that differ by less than `FAR`.
+    /// The largest group of clocks that agree within `SPAN` microseconds, of the own clock and the measured
+    /// ones that differ from it by less than `FAR`.
     pub(crate) fn group(&mut self) -> Group
         ensures group { result ≡ group_of SPAN (estimates (round_of self.old.slaves self.old.rounds)) }
         ensures mean { HasMean result × IsNear (mean_of result) }
@@ -23,7 +24,8 @@ impl Master {
         largest(&mut self.values, SPAN)
     }
 
-    /// Lists the differences that are averaged: none for the own clock, and those of the best samples.
+    /// Lists the differences that are averaged, in microseconds: 0 for the own clock, and those of the best
+    /// samples.
     fn gather(&mut self)
         ensures items { self.new.values.items ≡ estimates
             (round_of self.old.slaves self.old.rounds) }
@@ -57,14 +59,15 @@ impl Master {
     }
 }
 
-/// Whether a difference is averaged: it is less than `FAR`.
+/// Whether a difference, in microseconds, is averaged: its magnitude is less than `FAR`.
 pub(crate) fn is_near(diff: i64) -> bool
     ensures { result ≡ is_near diff }
 {
     diff.unsigned_abs() < FAR.unsigned_abs()
 }
 
-/// The mean by which a close corrects: the group's, or 0 where another port of the node leads its clock.
+/// The mean by which a close corrects, in microseconds: the group's, or 0 where another port of the node leads
+/// its clock.
 pub(crate) fn mean_by(own: bool, group: &Group) -> i64
     requires { HasMean group.now × IsNear (mean_of group.now) }
     ensures value { result ≡ mean_by own group.now }

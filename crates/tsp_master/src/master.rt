@@ -8,7 +8,6 @@ ghost use Rattle.tsp_base.specs.declared.place.Place.TheVariants.{Peer};
 ghost use Rattle.tsp_base.specs.declared.role.Role.{Role};
 ghost use Rattle.tsp_base.specs.History.{Past};
 ghost use Rattle.tsp_base.specs.Messages.{MessageValue};
-ghost use Rattle.tsp_base.specs.Performs.{Beside};
 ghost use Rattle.tsp_base.specs.PortFacts.{acting, in_table};
 ghost use Rattle.tsp_base.specs.RoundFacts.{is_going};
 ghost use Rattle.tsp_base.specs.Rows.{grown};
@@ -39,7 +38,7 @@ pub struct Master {
 }
 
 impl Master {
-    ghost use Rattle.tsp_master.specs.MasterStands.{MasterStands};
+    ghost use Rattle.tsp_master.specs.MasterStands.{MasterStands, OwnStands};
 
     /// Nothing was done yet on a port with these peers.
     ///
@@ -73,8 +72,8 @@ impl Master {
         self.slaves.repeat(peer, tick);
     }
 
-    /// Takes a slave out of the table and of the measured peers, and tells whether the peer was one; nothing
-    /// changes where it wasn't.
+    /// Takes a slave out of the table and of the measured peers. The answer is whether the peer was a slave;
+    /// where it wasn't, nothing changes.
     pub fn leave(&mut self, peer: PeerId) -> bool
         ensures joined { result ≡ (entry_of self.old.slaves peer).joined }
         ensures slaves { result ≡ true → Changes peer leaves self.old.slaves self.new.slaves }
@@ -93,12 +92,14 @@ impl Master {
         joined
     }
 
-    /// Ends the going round, if there is one, and tells whether there was: no more probes, and no close.
+    /// Ends the going round, if there is one: it probes no more, and has no close. The answer is whether there
+    /// was one.
     pub fn abandon(&mut self, station: &mut Station) -> bool
         ensures going { (past : Past) → Stands past station.old → is_going past.seen ≡ result }
         ensures stands { result ≡ true → (x : ℕ) (past : Past)
-            → Beside MasterStands Stands past (self.old, station.old)
-            → Beside MasterStands Stands (grown x past (Abandon ∷ [])) (self.new, station.new) }
+            → OwnStands past (record { master = self.old; station = station.old })
+            → OwnStands (grown x past (Abandon ∷ []))
+            (record { master = self.new; station = station.new }) }
         ensures same { result ≡ false → (self.new ≡ self.old) × (station.new ≡ station.old) }
         ensures port { IsSamePort station.old station.new }
         ensures peers { peers_of self.new.slaves ≡ peers_of self.old.slaves }
@@ -111,8 +112,8 @@ impl Master {
         going
     }
 
-    /// Whether to no slave a correction is on its way that it hasn't acknowledged: `REUSE` ticks have passed
-    /// since the last post of one, or it was acknowledged.
+    /// Whether no correction is on its way to a slave: to each slave the last one was acknowledged, or `REUSE`
+    /// ticks have passed since its last post.
     pub fn settled(&self, tick: u64) -> bool
         ensures { (past : Past) → MasterStands past self.now → all_settled tick past ≡ result }
     {

@@ -36,7 +36,8 @@ impl Master {
         requires later { clock.now.at ≤ tick }
         requires room { 1 ≤ D.spare desk.old }
         ensures row { Performs LeadStands LeadStands (samples_of from s.now) tick port
-            (self.old, ((station.now, tt), clock.now)) (self.new, ((station.now, tt), clock.now))
+            (record { master = self.old; station = station.now; clock = clock.now })
+            (record { master = self.new; station = station.now; clock = clock.now })
             (D.acts desk.old) (D.acts desk.new) }
         ensures room { PutsAtMost 1 (D.spare desk.old) (D.spare desk.new) (D.acts desk.old)
             (D.acts desk.new) }
@@ -66,7 +67,9 @@ impl Master {
         requires later { clock.now.at ≤ tick }
         requires room { 1 ≤ D.spare desk.old }
         ensures row { (station : Station) → Performs GoingStands LeadStands (samples peer reply.now)
-            tick port (self.old, ((station, tt), clock.now)) (self.new, ((station, tt), clock.now))
+            tick port
+            (record { master = self.old; station = station; clock = clock.now })
+            (record { master = self.new; station = station; clock = clock.now })
             (D.acts desk.old) (D.acts desk.new) }
         ensures room { PutsAtMost 1 (D.spare desk.old) (D.spare desk.new) (D.acts desk.old)
             (D.acts desk.new) }

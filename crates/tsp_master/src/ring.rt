@@ -33,10 +33,11 @@ impl Master {
     ghost use Rattle.tsp_master.specs.MasterStands.{LeadStands, ProbesStands, RingStands, StartsStands};
 
     /// Handles one alarm of a round that is due: a Probe asks the measured peers again, a Close closes the
-    /// round, and a Round begins one; one that is met too late gives the round up, or puts it off. Any other
-    /// alarm does nothing here. Where this port doesn't lead the clock (`group_mean` is false), a close uses
-    /// the mean 0 and leaves the clock. A Close comes after its Probe. The answer is whether the clock was
-    /// corrected. At most four acts, and two more for each peer.
+    /// round, and a Round begins one. One that is more than `SLACK` ticks late gives the round up (Probe,
+    /// Close) or puts it off (Round). Any other alarm does nothing here. Where this port doesn't lead the clock
+    /// (`group_mean` is false), a close uses the mean 0 and leaves the clock. Where both are due, the Probe is
+    /// handled before the Close. The answer is whether the clock was corrected. At most four acts, and two more
+    /// for each peer.
     pub fn ring<D: Desk>(
         &mut self,
         station: &mut Station,
@@ -54,12 +55,17 @@ impl Master {
         requires room { 2 * length (peers_of self.old.slaves) + 4 ≤ D.spare desk.old }
         requires same { peers_of self.old.slaves ≡ station.old.peers }
         ensures row { Performs RingStands RingStands (master_rings group_mean alarm) tick port
-            (self.old, (station.old, clock.old)) (self.new, (station.new, clock.new))
+            (record { master = self.old; station = station.old; clock = clock.old })
+            (record { master = self.new; station = station.new; clock = clock.new })
             (D.acts desk.old) (D.acts desk.new) }
-        ensures corrects { (past : Past) → RingStands past (self.old, (station.old, clock.old))
+        ensures corrects { (past : Past)
+            → RingStands past
+                (record { master = self.old; station = station.old; clock = clock.old })
             → result ≡ corrects (master_rings group_mean alarm tick past) }
         ensures recent { alarm ≡ CloseAlarm → (past : Past)
-            → RingStands past (self.old, (station.old, clock.old)) → IsLeftAlone past.seen
+            → RingStands past
+                (record { master = self.old; station = station.old; clock = clock.old })
+            → IsLeftAlone past.seen
             → (p : PeerId) (s : Sampled) → best p past.seen ≡ Some s
             → IsSinceCorrect p s past.seen }
         ensures over { alarm ≡ ProbeAlarm → is_over station.new.alarms.probe tick ≡ false }
@@ -83,8 +89,8 @@ impl Master {
         }
     }
 
-    /// Handles a Round that is due: where it is in time a round begins, and the next one is put off
-    /// in any case.
+    /// Handles a Round that is due: where it is in time a round begins. In any case the next one is
+    /// `ROUND` ticks from now.
     pub(crate) fn ring_round<D: Desk>(
         &mut self,
         station: &mut Station,
@@ -98,7 +104,8 @@ impl Master {
         requires room { 2 * length (peers_of self.old.slaves) + 4 ≤ D.spare desk.old }
         requires same { peers_of self.old.slaves ≡ station.old.peers }
         ensures row { Performs RingStands LeadStands (round_rings false) tick port
-            (self.old, (station.old, clock.now)) (self.new, ((station.new, tt), clock.now))
+            (record { master = self.old; station = station.old; clock = clock.now })
+            (record { master = self.new; station = station.new; clock = clock.now })
             (D.acts desk.old) (D.acts desk.new) }
         ensures room { PutsAtMost (2 * length (peers_of self.old.slaves) + 4) (D.spare desk.old)
             (D.spare desk.new) (D.acts desk.old) (D.acts desk.new) }
@@ -114,8 +121,8 @@ impl Master {
         }
     }
 
-    /// Begins a round: its probes and its close are put off, the other peers hear of the master, and the
-    /// slaves are asked.
+    /// Begins a round: its first probe is due in `PROBE` ticks and its close in `CLOSE` ticks, the other peers
+    /// hear of the master by a MASTERUP, and the slaves are asked.
     fn begin_round<D: Desk>(
         &mut self,
         station: &mut Station,
@@ -129,7 +136,8 @@ impl Master {
         requires room { 2 * length (peers_of self.old.slaves) + 3 ≤ D.spare desk.old }
         requires same { peers_of self.old.slaves ≡ station.old.peers }
         ensures row { Performs LeadStands LeadStands round_begins tick port
-            (self.old, ((station.old, tt), clock.now)) (self.new, ((station.new, tt), clock.now))
+            (record { master = self.old; station = station.old; clock = clock.now })
+            (record { master = self.new; station = station.new; clock = clock.now })
             (D.acts desk.old) (D.acts desk.new) }
         ensures room { PutsAtMost (2 * length (peers_of self.old.slaves) + 3) (D.spare desk.old)
             (D.spare desk.new) (D.acts desk.old) (D.acts desk.new) }
@@ -142,14 +150,16 @@ impl Master {
         self.ask_slaves(station, clock, tick, port, desk);
     }
 
-    /// Puts off the first probe and the close of a round that begins; nothing is measured in it yet.
+    /// Arms the first probe and the close of a round that begins; nothing is measured in it yet.
     fn arm_round<D: Desk>(&mut self, station: &mut Station, tick: u64, port: Port, desk: &mut D)
         requires tick { IsTick tick }
         requires room { 2 ≤ D.spare desk.old }
         ensures row { (clock : ClockValue)
             → Performs LeadStands StartsStands (arms ProbeAlarm PROBE followed_by arms CloseAlarm
-            CLOSE) tick port (self.old, ((station.old, tt), clock))
-            (self.new, ((station.new, tt), clock)) (D.acts desk.old) (D.acts desk.new) }
+            CLOSE) tick port
+            (record { master = self.old; station = station.old; clock = clock })
+            (record { master = self.new; station = station.new; clock = clock })
+            (D.acts desk.old) (D.acts desk.new) }
         ensures room { PutsAtMost 2 (D.spare desk.old) (D.spare desk.new) (D.acts desk.old)
             (D.acts desk.new) }
         ensures port { IsSamePort station.old station.new }
@@ -164,8 +174,8 @@ impl Master {
         self.rounds.begin();
     }
 
-    /// Handles a Probe that is due: where it is in time the measured peers are asked again, and a
-    /// further probe is put off unless this was the third; else the round is given up.
+    /// Handles a Probe that is due: where it is in time the measured peers are asked again, and the
+    /// next probe is due in `PROBE` ticks unless this was the third; else the round is given up.
     pub(crate) fn ring_probe<D: Desk>(
         &mut self,
         station: &mut Station,
@@ -180,7 +190,8 @@ impl Master {
         requires room { length (peers_of self.old.slaves) + 2 ≤ D.spare desk.old }
         requires same { peers_of self.old.slaves ≡ station.old.peers }
         ensures row { Performs RingStands LeadStands probe_rings tick port
-            (self.old, (station.old, clock.now)) (self.new, ((station.new, tt), clock.now))
+            (record { master = self.old; station = station.old; clock = clock.now })
+            (record { master = self.new; station = station.new; clock = clock.now })
             (D.acts desk.old) (D.acts desk.new) }
         ensures room { PutsAtMost (length (peers_of self.old.slaves) + 2) (D.spare desk.old)
             (D.spare desk.new) (D.acts desk.old) (D.acts desk.new) }
@@ -200,14 +211,15 @@ impl Master {
         }
     }
 
-    /// Puts off a further probe, unless the round has had its last one.
+    /// Arms the next probe, unless the round has had its last one.
     fn arm_next<D: Desk>(&self, station: &mut Station, tick: u64, port: Port, desk: &mut D)
         requires tick { IsTick tick }
         requires room { 1 ≤ D.spare desk.old }
         requires off { is_over station.old.alarms.probe tick ≡ false }
         ensures row { (clock : ClockValue)
             → Performs (ProbesStands tick) LeadStands arms_next tick port
-            (self.now, ((station.old, tt), clock)) (self.now, ((station.new, tt), clock))
+            (record { master = self.now; station = station.old; clock = clock })
+            (record { master = self.now; station = station.new; clock = clock })
             (D.acts desk.old) (D.acts desk.new) }
         ensures room { PutsAtMost 1 (D.spare desk.old) (D.spare desk.new) (D.acts desk.old)
             (D.acts desk.new) }

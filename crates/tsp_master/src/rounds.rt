@@ -16,7 +16,7 @@ use tsp_measure::{Exchanges, Reply, Sample};
 /// How often a round probes its slaves after its first requests.
 pub(crate) const PROBES: u8 = 3;
 
-/// What the last round has asked and learned, and how many requests were posted since the boot.
+/// What the last round has asked and learned, and how many requests were posted since the boot, modulo 2^64.
 #[derive(Drop)]
 pub struct Rounds {
     exchanges: Exchanges,
@@ -110,7 +110,8 @@ impl Rounds {
         counter
     }
 
-    /// Takes an answer: the other clock read `s` and the own one `d` when it came, in microseconds.
+    /// Takes an answer, in microseconds: the other clock read `s` when it answered, and the own one read `d`
+    /// when the answer came. It gives a sample where an exchange with this peer has this word and counter.
     pub(crate) fn reply(
         &mut self,
         peer: PeerId,
@@ -134,7 +135,7 @@ impl Rounds {
         self.exchanges.reply(peer, word, counter, ticket, s, d)
     }
 
-    /// The first of a peer's samples of least round trip; none where it has none.
+    /// The first of a peer's samples of least round trip; None exactly where it has none.
     pub(crate) fn best(&self, peer: PeerId) -> Option<Sample>
         ensures { result ≡ option_map (λ t. t.sample)
             (best_of (measured_with self.now peer).samples) }

@@ -34,7 +34,7 @@ impl Model for Slaves {
     ghost invariant = { λ s. IsPeers (peers_of (boxed_slice_items s.entries)) };
 }
 
-/// The place of a peer's entry; an error is the place where it would be.
+/// The place of a peer's entry; where the peer has none, `Err` with the place where it would be.
 fn place_of(entries: &[Entry], peer: PeerId) -> Result<usize, usize>
     requires { IsPeers (peers_of entries.now) }
     ensures { IsPlaceOf peer entries.now result }
@@ -246,7 +246,7 @@ impl Slaves {
         unmeasure_each(self.entries.as_mut_slice());
     }
 
-    /// Whether to no slave a correction is on its way that wasn't acknowledged.
+    /// Whether no correction is on its way to a slave that it hasn't acknowledged.
     pub(crate) fn are_settled(&self, tick: u64) -> bool
         ensures value { result ≡ are_settled_by tick self.now }
         ensures valid { IsPeers (peers_of self.now) }

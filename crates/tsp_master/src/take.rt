@@ -3,13 +3,13 @@ ghost use Rattle.std.specs.Prelude.{◌≡◌, ℕ, ◌≤◌, ◌&&◌, not, na
 ghost use Rattle.std.specs.List.{Contains};
 ghost use Rattle.tsp_base.specs.declared.role.Role.TheVariants.{Master as MasterRole};
 ghost use Rattle.tsp_base.specs.Frames.{IsTick, PutsAtMost};
-ghost use Rattle.tsp_base.specs.Performs.{Performs, Beside};
+ghost use Rattle.tsp_base.specs.Performs.{Performs};
 ghost use Rattle.tsp_base.specs.SendFacts.{is_correction};
 ghost use Rattle.tsp_rules.specs.MasterRows.{joins, sends_away};
 ghost use Rattle.tsp_rules.specs.SendRows.{acknowledges, is_kind_quit};
 ghost use Rattle.tsp_acks.specs.Changes.{IsSamePort};
 ghost use Rattle.tsp_acks.specs.Openings.{is_of};
-ghost use Rattle.tsp_acks.specs.Stands.{Stands, StandsActing};
+ghost use Rattle.tsp_acks.specs.Stands.{StandsActing};
 ghost use Rattle.tsp_master.specs.MasterTakes.{master_takes_here};
 ghost use Rattle.tsp_master.specs.Slaves.{peers_of, entry_of, Changes, acks_where};
 
@@ -24,11 +24,11 @@ use tsp_base::place::{PeerId, Port};
 use tsp_clock::clock::Clock;
 
 impl Master {
-    ghost use Rattle.tsp_master.specs.MasterStands.{MasterStands, LeadStands};
+    ghost use Rattle.tsp_master.specs.MasterStands.{LeadStands, OwnStands};
 
-    /// Handles a message of another peer at a master: who looks for a master or resolves a conflict is
-    /// answered, a slave joins and is sent the time, and a candidate is sent away. Other messages are passed
-    /// over here. In this step a datagram was taken. At most two acts.
+    /// Handles a message of another peer at a master: a MASTERREQ or a RESOLVE is answered by a MASTERACK, a
+    /// SLAVEUP makes its sender a slave and sends it the time, and an ELECTION is answered by a QUIT. Other
+    /// messages are passed over here. In this step a datagram was taken. At most two acts.
     pub fn take<D: Desk>(
         &mut self,
         station: &mut Station,
@@ -46,7 +46,8 @@ impl Master {
         requires peer { Contains station.old.peers from }
         requires role { station.old.role ≡ MasterRole }
         ensures row { Performs LeadStands LeadStands (master_takes_here from m.now) tick port
-            (self.old, ((station.old, tt), clock.now)) (self.new, ((station.new, tt), clock.now))
+            (record { master = self.old; station = station.old; clock = clock.now })
+            (record { master = self.new; station = station.new; clock = clock.now })
             (D.acts desk.old) (D.acts desk.new) }
         ensures room { PutsAtMost 2 (D.spare desk.old) (D.spare desk.new) (D.acts desk.old)
             (D.acts desk.new) }
@@ -65,7 +66,8 @@ impl Master {
         }
     }
 
-    /// Makes a peer a slave that isn't one yet and tells a ticket, and sends it the time under that number.
+    /// Makes a peer a slave and sends it the time under the number that it told. Nothing is done where that is
+    /// no ticket (below 32,768), or it is a slave already.
     fn join<D: Desk>(
         &mut self,
         station: &mut Station,
@@ -82,7 +84,8 @@ impl Master {
         requires peer { Contains station.old.peers peer }
         requires role { station.old.role ≡ MasterRole }
         ensures row { Performs LeadStands LeadStands (joins peer number) at.tick at.port
-            (self.old, ((station.old, tt), clock.now)) (self.new, ((station.new, tt), clock.now))
+            (record { master = self.old; station = station.old; clock = clock.now })
+            (record { master = self.new; station = station.new; clock = clock.now })
             (D.acts desk.old) (D.acts desk.new) }
         ensures room { PutsAtMost 2 (D.spare desk.old) (D.spare desk.new) (D.acts desk.old)
             (D.acts desk.new) }
@@ -96,7 +99,7 @@ impl Master {
         }
     }
 
-    /// Whether a number is a ticket, and its sender no slave yet.
+    /// Whether a number is a ticket, and its sender isn't a slave yet.
     fn may_join(&self, peer: PeerId, number: u16) -> bool
         ensures { result ≡ (nat_lt number 32768 && not (entry_of self.now.slaves peer).joined) }
     {
@@ -116,8 +119,9 @@ impl Master {
         requires room { 1 ≤ D.spare desk.old }
         requires same { peers_of self.old.slaves ≡ station.old.peers }
         requires peer { Contains station.old.peers from }
-        ensures row { (x : ℕ) → Performs (Beside MasterStands Stands) (Beside MasterStands Stands)
-            (acknowledges from number) x port (self.old, station.old) (self.new, station.new)
+        ensures row { (x : ℕ) → Performs OwnStands OwnStands (acknowledges from number) x port
+            (record { master = self.old; station = station.old })
+            (record { master = self.new; station = station.new })
             (D.acts desk.old) (D.acts desk.new) }
         ensures room { PutsAtMost 1 (D.spare desk.old) (D.spare desk.new) (D.acts desk.old)
             (D.acts desk.new) }
@@ -148,8 +152,8 @@ fn send_away<D: Desk>(station: &mut Station, tick: u64, peer: PeerId, port: Port
     requires tick { IsTick tick }
     requires room { 1 ≤ D.spare desk.old }
     requires peer { Contains station.old.peers peer }
-    ensures row { Performs StandsActing StandsActing (sends_away peer) tick port (station.old, tt)
-        (station.new, tt) (D.acts desk.old) (D.acts desk.new) }
+    ensures row { Performs StandsActing StandsActing (sends_away peer) tick port station.old
+        station.new (D.acts desk.old) (D.acts desk.new) }
     ensures room { PutsAtMost 1 (D.spare desk.old) (D.spare desk.new) (D.acts desk.old)
         (D.acts desk.new) }
     ensures port { IsSamePort station.old station.new }

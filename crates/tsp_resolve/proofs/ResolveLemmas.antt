@@ -123,26 +123,31 @@ ResolveStands_same x past acts r e c h =
 
 -- a call on the station that leaves the marks right
 pub Performs_resolving : {row : Row} {x : ℕ} {port : Port} {before after : Station} (r : Resolve) {old new : List Placed} → Emits unchanging row → Performs Stands Stands row x port before after old new →
-    Performs ResolvingStands ResolvingStands row x port (r, before) (r, after) old new
+    Performs ResolvingStands ResolvingStands row x port (record { resolve = r; station = before }) (record { resolve = r; station = after }) old new
 Performs_resolving {row = row} {x = x} r e d = record {
-  acts = λ past h. d.acts past h.second;
-  stands = λ past h. record { first = ResolveStands_by row e x past r h.first; second = d.stands past h.second };
+  acts = λ past h. d.acts past h.station;
+  stands = λ past h. record { resolve = ResolveStands_by row e x past r h.resolve; station = d.stands past h.station };
 }
 
-pub Performs_resolving_acting : {row : Row} {x : ℕ} {port : Port} {before after : Station} (r : Resolve) {old new : List Placed} → Emits unchanging row → Performs StandsActing StandsActing row x port (before, tt) (after, tt) old new →
-    Performs ResolvingActs ResolvingActs row x port (r, (before, tt)) (r, (after, tt)) old new
-Performs_resolving_acting {row = row} {x = x} r e d = record {
-  acts = λ past h. d.acts past h.second;
-  stands = λ past h. record { first = ResolveStands_by row e x past r h.first; second = d.stands past h.second };
-}
+-- the same in a step that has acted
+pub Performs_resolving_acting : {row : Row} {x : ℕ} {port : Port} {before after : Station} (r : Resolve) {old new : List Placed} → Emits unchanging row → Performs StandsActing StandsActing row x port before after old new →
+    Performs ResolvingActs ResolvingActs row x port (record { resolve = r; station = before }) (record { resolve = r; station = after }) old new
+Performs_resolving_acting {row = row} {x = x} {before = before} r e d = record {
+  acts = λ past h. d.acts past (acting_at past h);
+  stands = λ past h.
+      let stands = d.stands past (acting_at past h) in
+      record { resolve = ResolveStands_by row e x past r h.resolve; station = stands.stands; acted = stands.acted };
+} where
+  acting_at : (past : Past) → ResolvingActs past (record { resolve = r; station = before }) → StandsActing past before
+  acting_at past h = record { stands = h.station; acted = h.acted }
 
 -- an alarm rings, and the step has acted
 pub Performs_rung : (alarm : Alarm) {x : ℕ} {port : Port} {before after : Station} (r : Resolve) {old new : List Placed} → Emits unchanging (puts (Ring alarm)) → Performs Stands Stands (puts (Ring alarm)) x port before after old new →
-    Performs ResolvingStands ResolvingActs (puts (Ring alarm)) x port (r, before) (r, (after, tt)) old new
+    Performs ResolvingStands ResolvingActs (puts (Ring alarm)) x port (record { resolve = r; station = before }) (record { resolve = r; station = after }) old new
 unfolding puts
 Performs_rung alarm {x = x} r e d = record {
-  acts = λ past h. d.acts past h.second;
-  stands = λ past h. record { first = ResolveStands_by (puts (Ring alarm)) e x past r h.first; second = record { first = d.stands past h.second; second = refl } };
+  acts = λ past h. d.acts past h.station;
+  stands = λ past h. record { resolve = ResolveStands_by (puts (Ring alarm)) e x past r h.resolve; station = d.stands past h.station; acted = refl };
 }
 
 -- the rivals, as they are marked
@@ -183,35 +188,35 @@ is_new-is p x past r station peers same s h =
 
 module _ (p : PeerId) (x : ℕ) (port : Port) (station : Station) (old new : Resolve) (earlier later : List Placed) where
   -- nobody asks
-  pub Performs_unasked : deadline station.alarms ResolveAlarm ≡ None → Performs ResolvingStands ResolvingStands (finds_rival p) x port (old, station) (old, station) earlier earlier
+  pub Performs_unasked : deadline station.alarms ResolveAlarm ≡ None → Performs ResolvingStands ResolvingStands (finds_rival p) x port (record { resolve = old; station = station }) (record { resolve = old; station = station }) earlier earlier
   unfolding finds_rival
   Performs_unasked off = Performs_else_part (is_new_rival p) (puts (Rival p))
-      (λ past h. is_new-is p x past old station station.peers h.second.peers h.second h.first ∙ ap (λ d. is_some d && not (is_among p (marked station.peers old.marks))) off) Performs_nothing
+      (λ past h. is_new-is p x past old station station.peers h.station.peers h.station h.resolve ∙ ap (λ d. is_some d && not (is_among p (marked station.peers old.marks))) off) Performs_nothing
 
   -- p answers, and is marked from now on
   pub Performs_answered : (at : ℕ) → deadline station.alarms ResolveAlarm ≡ Some at → station.role ≡ Master → length new.marks ≡ length old.marks →
       ((q : PeerId) → is_among q (marked station.peers new.marks) ≡ ((p.0 == q.0) || is_among q (marked station.peers old.marks))) → not (is_among p (marked station.peers old.marks)) ≡ true →
-      later ≡ earlier ++ record { port = port; act = Rival p } ∷ [] → Performs ResolvingStands ResolvingStands (finds_rival p) x port (old, station) (new, station) earlier later
+      later ≡ earlier ++ record { port = port; act = Rival p } ∷ [] → Performs ResolvingStands ResolvingStands (finds_rival p) x port (record { resolve = old; station = station }) (record { resolve = new; station = station }) earlier later
   unfolding finds_rival puts
   Performs_answered at on lead many found fresh put = Performs_then_part (is_new_rival p) nothing
-      (λ past h. is_new-is p x past old station station.peers h.second.peers h.second h.first ∙ ap (λ d. is_some d && not (is_among p (marked station.peers old.marks))) on ∙ fresh)
+      (λ past h. is_new-is p x past old station station.peers h.station.peers h.station h.resolve ∙ ap (λ d. is_some d && not (is_among p (marked station.peers old.marks))) on ∙ fresh)
       (record {
         acts = λ past h. put;
         stands = λ past h. record {
-          first = ResolveStands_found p x past old new (sym h.second.role ∙ lead) many (λ q. ap (λ ps. is_among q (marked ps new.marks)) (sym h.second.peers) ∙ found q ∙ ap (λ ps. (p.0 == q.0) || is_among q (marked ps old.marks)) h.second.peers) h.first;
-          second = Stands_idle (Rival p) refl x past station h.second;
+          resolve = ResolveStands_found p x past old new (sym h.station.role ∙ lead) many (λ q. ap (λ ps. is_among q (marked ps new.marks)) (sym h.station.peers) ∙ found q ∙ ap (λ ps. (p.0 == q.0) || is_among q (marked ps old.marks)) h.station.peers) h.resolve;
+          station = Stands_idle (Rival p) refl x past station h.station;
         };
       })
 
   -- p answers again
   pub Performs_answered_again : (at : ℕ) → deadline station.alarms ResolveAlarm ≡ Some at → length new.marks ≡ length old.marks →
       ((q : PeerId) → is_among q (marked station.peers new.marks) ≡ ((p.0 == q.0) || is_among q (marked station.peers old.marks))) → not (is_among p (marked station.peers old.marks)) ≡ false →
-      Performs ResolvingStands ResolvingStands (finds_rival p) x port (old, station) (new, station) earlier earlier
+      Performs ResolvingStands ResolvingStands (finds_rival p) x port (record { resolve = old; station = station }) (record { resolve = new; station = station }) earlier earlier
   unfolding finds_rival
   Performs_answered_again at on many found known = Performs_else_part (is_new_rival p) (puts (Rival p))
-      (λ past h. is_new-is p x past old station station.peers h.second.peers h.second h.first ∙ ap (λ d. is_some d && not (is_among p (marked station.peers old.marks))) on ∙ known)
+      (λ past h. is_new-is p x past old station station.peers h.station.peers h.station h.resolve ∙ ap (λ d. is_some d && not (is_among p (marked station.peers old.marks))) on ∙ known)
       (Performs_to {q = ResolvingStands} (λ past h. record {
-        first = ResolveStands_again p past old new many (ap (λ ps. is_among p (marked ps old.marks)) (sym h.second.peers) ∙ not-true _ known)
-            (λ q. ap (λ ps. is_among q (marked ps new.marks)) (sym h.second.peers) ∙ found q ∙ ap (λ ps. (p.0 == q.0) || is_among q (marked ps old.marks)) h.second.peers) h.first;
-        second = h.second;
+        resolve = ResolveStands_again p past old new many (ap (λ ps. is_among p (marked ps old.marks)) (sym h.station.peers) ∙ not-true _ known)
+            (λ q. ap (λ ps. is_among q (marked ps new.marks)) (sym h.station.peers) ∙ found q ∙ ap (λ ps. (p.0 == q.0) || is_among q (marked ps old.marks)) h.station.peers) h.resolve;
+        station = h.station;
       }) Performs_nothing)

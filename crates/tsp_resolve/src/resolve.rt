@@ -54,7 +54,9 @@ impl Resolve {
         requires tick { IsTick tick }
         requires room { length station.old.peers + 1 ≤ D.spare desk.old }
         ensures row { Performs ResolvingStands ResolvingStands resolves tick port
-            (self.old, station.old) (self.new, station.new) (D.acts desk.old) (D.acts desk.new) }
+            (record { resolve = self.old; station = station.old })
+            (record { resolve = self.new; station = station.new })
+            (D.acts desk.old) (D.acts desk.new) }
         ensures same { self.new ≡ self.old }
         ensures room { PutsAtMost (length station.old.peers + 1) (D.spare desk.old)
             (D.spare desk.new) (D.acts desk.old) (D.acts desk.new) }
@@ -77,7 +79,9 @@ impl Resolve {
         requires peer { Contains station.now.peers from }
         requires role { station.now.role ≡ Master }
         ensures row { (x : ℕ) → Performs ResolvingStands ResolvingStands (finds_rival from) x port
-            (self.old, station.now) (self.new, station.now) (D.acts desk.old) (D.acts desk.new) }
+            (record { resolve = self.old; station = station.now })
+            (record { resolve = self.new; station = station.now })
+            (D.acts desk.old) (D.acts desk.new) }
         ensures many { length self.new.marks ≡ length self.old.marks }
         ensures room { PutsAtMost 1 (D.spare desk.old) (D.spare desk.new) (D.acts desk.old)
             (D.acts desk.new) }
@@ -118,7 +122,9 @@ impl Resolve {
         requires room { length station.old.peers + 1 ≤ D.spare desk.old }
         requires many { length self.old.marks ≡ length station.old.peers }
         ensures row { Performs ResolvingStands ResolvingStands resolve_rings tick port
-            (self.old, station.old) (self.new, station.new) (D.acts desk.old) (D.acts desk.new) }
+            (record { resolve = self.old; station = station.old })
+            (record { resolve = self.new; station = station.new })
+            (D.acts desk.old) (D.acts desk.new) }
         ensures same { self.new ≡ self.old }
         ensures room { PutsAtMost (length station.old.peers + 1) (D.spare desk.old)
             (D.spare desk.new) (D.acts desk.old) (D.acts desk.new) }
@@ -138,8 +144,9 @@ impl Resolve {
         requires room { length station.old.peers ≤ D.spare desk.old }
         requires many { length self.now.marks ≡ length station.old.peers }
         ensures row { Performs ResolvingActs ResolvingActs quits_rivals tick port
-            (self.now, (station.old, tt)) (self.now, (station.new, tt)) (D.acts desk.old)
-            (D.acts desk.new) }
+            (record { resolve = self.now; station = station.old })
+            (record { resolve = self.now; station = station.new })
+            (D.acts desk.old) (D.acts desk.new) }
         ensures room { PutsAtMost (length station.old.peers) (D.spare desk.old) (D.spare desk.new)
             (D.acts desk.old) (D.acts desk.new) }
         ensures port { IsSamePort station.old station.new }

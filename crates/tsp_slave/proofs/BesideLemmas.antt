@@ -1,15 +1,21 @@
 -- Rows that neither boot, take, follow nor correct leave alone what stands beside a station: what is remembered of corrections, the clock, and what was taken.
-use Rattle.std.specs.Prelude.{◌≡◌, true, List, [], ◌∷◌}
+use Rattle.std.specs.Prelude.{◌≡◌, ℕ, true, List, [], ◌∷◌, Option}
 use Rattle.std.proofs.Common.{sym, true≢false}
 use Rattle.tsp_base.specs.declared.act.Act.{Act}
 use Rattle.tsp_base.specs.declared.act.Act.TheVariants.{Boot, Took, Become, Correct}
+use Rattle.tsp_base.specs.declared.act.Placed.{Placed}
+use Rattle.tsp_base.specs.declared.place.Port.{Port}
 use Rattle.tsp_base.specs.declared.role.Role.TheVariants.{Follow}
-use Rattle.tsp_base.specs.Performs.{Keeps}
+use Rattle.tsp_base.specs.Performs.{Performs, Keeps}
+use Rattle.tsp_base.specs.PortFacts.{Received}
 use Rattle.tsp_base.specs.Rows.{Row, puts}
 use Rattle.tsp_rules.proofs.Emits.{Sort, Asking, Correcting, Numbering, Posting, Leading, Changing, Backing, Counting, Rounding, Alarming, Tabling, Rivalling, Acking, Giving, Sampling, Closing, Tracing, is_in, sort_of, Emits, Keeps_by}
+use Rattle.tsp_acks.specs.declared.station.Station.{Station}
+use Rattle.tsp_acks.specs.Stands.{Stands}
+use Rattle.tsp_clock.specs.Clocks.{ClockValue}
 use Rattle.tsp_clock.specs.ClockStands.{ClockStands}
-use Rattle.tsp_slave.specs.Lasts.{Remembers}
-use Rattle.tsp_slave.specs.SlaveStands.{AlsoStands, Took as WasTaken}
+use Rattle.tsp_slave.specs.Lasts.{LastValue, Remembers}
+use Rattle.tsp_slave.specs.SlaveStands.{AlsoStands, SlaveStands, Took as WasTaken}
 
 -- all sorts of acts but Boot, Took, to follow, and Correct
 abbrev pub beside_sorts : List Sort
@@ -42,6 +48,17 @@ ClockStands_by row e = Keeps_by beside_sorts ClockStands row ClockStands_act e
 
 pub AlsoStands_by : (row : Row) → Emits beside_sorts row → Keeps AlsoStands row
 AlsoStands_by row e x past state h = record {
-  first = Remembers_by row e x past state.0 h.first;
-  second = record { first = ClockStands_by row e x past state.1.0 h.second.first; second = Keeps_by beside_sorts WasTaken row WasTaken_act e x past state.1.1 h.second.second };
+  last = Remembers_by row e x past state.last h.last;
+  clock = ClockStands_by row e x past state.clock h.clock;
+  took = Keeps_by beside_sorts WasTaken row WasTaken_act e x past state.took h.took;
+}
+
+-- a call of the station that leaves alone what stands beside it
+pub Performs_station : {row : Row} {x : ℕ} {port : Port} {before after : Station} {last : LastValue} {clock : ClockValue} {took : Option Received} {old new : List Placed} → Keeps AlsoStands row → Performs Stands Stands row x port before after old new →
+    Performs SlaveStands SlaveStands row x port (record { station = before; last = last; clock = clock; took = took }) (record { station = after; last = last; clock = clock; took = took }) old new
+Performs_station {row = row} {x = x} {last = last} {clock = clock} {took = took} k d = record {
+  acts = λ past h. d.acts past h.station;
+  stands = λ past h.
+      let also = k x past (record { last = last; clock = clock; took = took }) (record { last = h.last; clock = h.clock; took = h.took }) in
+      record { station = d.stands past h.station; last = also.last; clock = also.clock; took = also.took };
 }

@@ -65,69 +65,68 @@ AlsoStands_reports_conflict q = AlsoStands_by (reports_conflict q) (Emits_either
 
 -- a call on the station in a step that has acted, since it has taken something
 pub Performs_since_taken : {row : Row} {x : ℕ} {port : Port} {before after : Station} (last : LastValue) (clock : ClockValue) (took : Option Received) (r : Received) {old new : List Placed} → took ≡ Some r → Keeps AlsoStands row →
-    Performs StandsActing StandsActing row x port (before, tt) (after, tt) old new → Performs SlaveStands SlaveStands row x port (before, (last, (clock, took))) (after, (last, (clock, took))) old new
+    Performs StandsActing StandsActing row x port before after old new →
+    Performs SlaveStands SlaveStands row x port (record { station = before; last = last; clock = clock; took = took }) (record { station = after; last = last; clock = clock; took = took }) old new
 Performs_since_taken {row = row} {x = x} {before = before} last clock took r e k d = record {
   acts = λ past h. d.acts past (acting_at past h);
-  stands = λ past h. record { first = (d.stands past (acting_at past h)).first; second = k x past (last, (clock, took)) h.second };
+  stands = λ past h.
+      let also = k x past (record { last = last; clock = clock; took = took }) (record { last = h.last; clock = h.clock; took = h.took }) in
+      record { station = (d.stands past (acting_at past h)).stands; last = also.last; clock = also.clock; took = also.took };
 } where
-  acting_at : (past : Past) → SlaveStands past (before, (last, (clock, took))) → StandsActing past (before, tt)
-  acting_at past h = record { first = h.first; second = taken-acts past.seen r (h.second.second.second ∙ e) }
+  acting_at : (past : Past) → SlaveStands past (record { station = before; last = last; clock = clock; took = took }) → StandsActing past before
+  acting_at past h = record { stands = h.station; acted = taken-acts past.seen r (h.took ∙ e) }
 
 -- a port that begins to follow keeps the name that was taken
 pub follow_becomes : (p : PeerId) {x : ℕ} {port : Port} {before after : Station} (first last : LastValue) (clock : ClockValue) (took : Option Received) {old new : List Placed} →
     last ≡ record first { name = name_in took } → Performs Stands Stands (puts (Become (Follow p))) x port before after old new →
-    Performs SlaveStands SlaveStands (puts (Become (Follow p))) x port (before, (first, (clock, took))) (after, (last, (clock, took))) old new
+    Performs SlaveStands SlaveStands (puts (Become (Follow p))) x port (record { station = before; last = first; clock = clock; took = took }) (record { station = after; last = last; clock = clock; took = took }) old new
 unfolding puts
 follow_becomes p first last clock took e d = record {
-  acts = λ past h. d.acts past h.first;
+  acts = λ past h. d.acts past h.station;
   stands = λ past h. record {
-    first = d.stands past h.first;
-    second = record {
-      first = record {
-        tick_is = ap (λ l. l.tick) e ∙ h.second.first.tick_is;
-        taken_is = ap (λ l. l.taken) e ∙ h.second.first.taken_is;
-        name_is = ap (λ l. l.name) e ∙ ap name_in (sym h.second.second.second);
-      };
-      second = record {
-        first = record { offset_is = h.second.second.first.offset_is; rest_is = h.second.second.first.rest_is; at_is = h.second.second.first.at_is; ticket_is = h.second.second.first.ticket_is };
-        second = h.second.second.second;
-      };
+    station = d.stands past h.station;
+    last = record {
+      tick_is = ap (λ l. l.tick) e ∙ h.last.tick_is;
+      taken_is = ap (λ l. l.taken) e ∙ h.last.taken_is;
+      name_is = ap (λ l. l.name) e ∙ ap name_in (sym h.took);
     };
+    clock = record { offset_is = h.clock.offset_is; rest_is = h.clock.rest_is; at_is = h.clock.at_is; ticket_is = h.clock.ticket_is };
+    took = h.took;
   };
 }
 
 -- a correction by what a step took: the clock moves, and whose correction it was is remembered
 pub Stands_took : (act : Act) (x : ℕ) (past : Past) (station : Station) (first last : LastValue) (clock moved : ClockValue) (took : Option Received) (by : Correcting) →
     is_correct act ≡ true → correcting_of (said took) ≡ Some by → last ≡ record first { tick = Some x; taken = Some by } →
-    SlaveStands past (station, (first, (clock, took))) → ClockStands (grown x past (act ∷ [])) moved → SlaveStands (grown x past (act ∷ [])) (station, (last, (moved, took)))
+    SlaveStands past (record { station = station; last = first; clock = clock; took = took }) → ClockStands (grown x past (act ∷ [])) moved →
+    SlaveStands (grown x past (act ∷ [])) (record { station = station; last = last; clock = moved; took = took })
 unfolding puts
 Stands_took (Correct amount stepped shown) x past station first last clock moved took by i s e h m = record {
-  first = Stands_idle (Correct amount stepped shown) refl x past station h.first;
-  second = record {
-    first = record {
-      tick_is = ap (λ l. l.tick) e;
-      taken_is = ap (λ l. l.taken) e ∙ sym s ∙ ap (λ t. correcting_of (said t)) (sym h.second.second.second);
-      name_is = ap (λ l. l.name) e ∙ h.second.first.name_is;
-    };
-    second = record { first = m; second = h.second.second.second };
+  station = Stands_idle (Correct amount stepped shown) refl x past station h.station;
+  last = record {
+    tick_is = ap (λ l. l.tick) e;
+    taken_is = ap (λ l. l.taken) e ∙ sym s ∙ ap (λ t. correcting_of (said t)) (sym h.took);
+    name_is = ap (λ l. l.name) e ∙ h.last.name_is;
   };
+  clock = m;
+  took = h.took;
 }
 Stands_took _ x past station first last clock moved took by i s e h m = absurd (false≢true i)
 
 pub Performs_adjusts : (amount : ℤ) {x : ℕ} {port : Port} (station : Station) (first last : LastValue) {clock moved : ClockValue} (took : Option Received) (by : Correcting) {old new : List Placed} →
     correcting_of (said took) ≡ Some by → last ≡ record first { tick = Some x; taken = Some by } → Performs ClockStands ClockStands (adjusts amount) x port clock moved old new →
-    Performs SlaveStands SlaveStands (adjusts amount) x port (station, (first, (clock, took))) (station, (last, (moved, took))) old new
+    Performs SlaveStands SlaveStands (adjusts amount) x port (record { station = station; last = first; clock = clock; took = took }) (record { station = station; last = last; clock = moved; took = took }) old new
 unfolding adjusts
 Performs_adjusts amount {x = x} station first last {clock = clock} {moved = moved} took by s e d = record {
-  acts = λ past h. d.acts past h.second.second.first;
-  stands = λ past h. Stands_took _ x past station first last clock moved took by refl s e h (d.stands past h.second.second.first);
+  acts = λ past h. d.acts past h.clock;
+  stands = λ past h. Stands_took _ x past station first last clock moved took by refl s e h (d.stands past h.clock);
 }
 
 pub Performs_sets : (value : ℤ) {x : ℕ} {port : Port} (station : Station) (first last : LastValue) {clock moved : ClockValue} (took : Option Received) (by : Correcting) {old new : List Placed} →
     correcting_of (said took) ≡ Some by → last ≡ record first { tick = Some x; taken = Some by } → Performs ClockStands ClockStands (sets value) x port clock moved old new →
-    Performs SlaveStands SlaveStands (sets value) x port (station, (first, (clock, took))) (station, (last, (moved, took))) old new
+    Performs SlaveStands SlaveStands (sets value) x port (record { station = station; last = first; clock = clock; took = took }) (record { station = station; last = last; clock = moved; took = took }) old new
 unfolding sets
 Performs_sets value {x = x} station first last {clock = clock} {moved = moved} took by s e d = record {
-  acts = λ past h. d.acts past h.second.second.first;
-  stands = λ past h. Stands_took _ x past station first last clock moved took by refl s e h (d.stands past h.second.second.first);
+  acts = λ past h. d.acts past h.clock;
+  stands = λ past h. Stands_took _ x past station first last clock moved took by refl s e h (d.stands past h.clock);
 }

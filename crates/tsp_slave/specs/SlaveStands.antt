@@ -6,7 +6,6 @@ use Rattle.tsp_base.specs.declared.place.PeerId.{PeerId}
 use Rattle.tsp_base.specs.declared.place.Place.TheVariants.{Peer}
 use Rattle.tsp_base.specs.History.{Past}
 use Rattle.tsp_base.specs.Messages.{MessageValue}
-use Rattle.tsp_base.specs.Performs.{Beside}
 use Rattle.tsp_base.specs.PortFacts.{Received, taken}
 use Rattle.tsp_acks.specs.declared.station.Station.{Station}
 use Rattle.tsp_acks.specs.Stands.{Stands}
@@ -22,10 +21,28 @@ Took past took = taken past.seen ≡ took
 abbrev pub IsMessage : PeerId → MessageValue → Option Received → Type 0
 IsMessage p m took = took ≡ Some (record { from = Peer p; taken = Good (Message m) })
 
--- what stands beside a station
-abbrev pub AlsoStands : Past → LastValue × (ClockValue × Option Received) → Type 0
-AlsoStands = Beside Remembers (Beside ClockStands Took)
+-- what stands beside a station: what it remembers, its node's clock, and what the step took
+pub record AlsoState : Type 0 where
+  pub last : LastValue
+  pub clock : ClockValue
+  pub took : Option Received
 
--- the station, what it remembers, the clock, and what was taken
-abbrev pub SlaveStands : Past → Station × (LastValue × (ClockValue × Option Received)) → Type 0
-SlaveStands = Beside Stands AlsoStands
+-- each of these is what the past comes to
+pub record AlsoStands (past : Past) (also : AlsoState) : Type 0 where
+  pub last : Remembers past also.last
+  pub clock : ClockStands past also.clock
+  pub took : Took past also.took
+
+-- a port's station, and what stands beside it
+pub record SlaveState : Type 0 where
+  pub station : Station
+  pub last : LastValue
+  pub clock : ClockValue
+  pub took : Option Received
+
+-- each of these is what the past comes to
+pub record SlaveStands (past : Past) (state : SlaveState) : Type 0 where
+  pub station : Stands past state.station
+  pub last : Remembers past state.last
+  pub clock : ClockStands past state.clock
+  pub took : Took past state.took

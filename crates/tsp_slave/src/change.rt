@@ -8,7 +8,7 @@ use tsp_base::kind::Kind;
 use tsp_base::message::{Body, Message};
 use tsp_clock::clock::{Clock, is_clock_value};
 
-/// What a correction asks of the clock, in microseconds.
+/// What a correction asks of the clock, in microseconds; a value is counted since 1970.
 #[derive(Clone, Copy)]
 pub(crate) enum Change {
     /// To move by this amount.
@@ -18,7 +18,7 @@ pub(crate) enum Change {
 }
 
 impl Change {
-    /// What a correction asks: a SETTIME sets the clock, an ADJTIME moves it.
+    /// What a correction asks: a SETTIME sets the clock to its time, an ADJTIME moves it by its time.
     pub(crate) fn of(m: &Message) -> Change
         ensures { result ≡ change_in m.now }
     {
@@ -32,7 +32,7 @@ impl Change {
         }
     }
 
-    /// Whether the clock stays in its range.
+    /// Whether the clock stays in its range: strictly between -`LIMIT` and `LIMIT`.
     pub(crate) fn fits(self, clock: &Clock, tick: u64) -> bool
         requires tick { IsTick tick }
         requires later { clock.now.at ≤ tick }

@@ -12,7 +12,8 @@ use tsp_base::desk::Desk;
 use tsp_base::kind::Kind;
 use tsp_base::place::{PeerId, Port};
 
-/// Begins a CONFLICT to the master that is followed, unless a send to it is open.
+/// Begins a CONFLICT to the master that is followed: another master was heard. While a send to it is open,
+/// nothing is done. At most one act.
 pub(crate) fn report_conflict<D: Desk>(
     station: &mut Station,
     master: PeerId,
@@ -24,7 +25,7 @@ pub(crate) fn report_conflict<D: Desk>(
     requires room { 1 ≤ D.spare desk.old }
     requires peer { Contains station.old.peers master }
     ensures row { Performs StandsActing StandsActing (reports_conflict master) tick port
-        (station.old, tt) (station.new, tt) (D.acts desk.old) (D.acts desk.new) }
+        station.old station.new (D.acts desk.old) (D.acts desk.new) }
     ensures room { PutsAtMost 1 (D.spare desk.old) (D.spare desk.new) (D.acts desk.old)
         (D.acts desk.new) }
     ensures port { IsSamePort station.old station.new }

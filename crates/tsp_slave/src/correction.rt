@@ -24,8 +24,9 @@ use tsp_base::kind::Kind;
 use tsp_base::place::Port;
 use tsp_clock::clock::Clock;
 
-/// Takes a correction from the master that is followed: the next one changes the clock, any other may be a
-/// repeat.
+/// Takes a correction from the master that is followed. It changes the clock and is acknowledged where its
+/// number is the clock's ticket, the last correction is `GAP` ticks or more ago, and the clock stays in its
+/// range. Else it is acknowledged where it repeats the last one, and passed over where it doesn't.
 pub(crate) fn correct<D: Desk>(
     station: &mut Station,
     last: &mut Last,
@@ -41,8 +42,10 @@ pub(crate) fn correct<D: Desk>(
     ensures row { (took : Option Received)
         → correcting_of (said took) ≡ correcting_in (Some correction)
         → Performs SlaveStands SlaveStands (correction_of correction.from correction.number change)
-        at.tick at.port (station.old, (last.old, (clock.old, took)))
-        (station.new, (last.new, (clock.new, took))) (D.acts desk.old) (D.acts desk.new) }
+        at.tick at.port
+        (record { station = station.old; last = last.old; clock = clock.old; took = took })
+        (record { station = station.new; last = last.new; clock = clock.new; took = took })
+        (D.acts desk.old) (D.acts desk.new) }
     ensures room { PutsAtMost 3 (D.spare desk.old) (D.spare desk.new) (D.acts desk.old)
         (D.acts desk.new) }
     ensures port { IsSamePort station.old station.new }
@@ -56,8 +59,8 @@ pub(crate) fn correct<D: Desk>(
     }
 }
 
-/// Whether a correction acts: its number is the next one, the last one isn't too near, and the clock stays in
-/// its range.
+/// Whether a correction acts: its number is the clock's ticket, the last one is `GAP` ticks or more ago, and
+/// the clock stays in its range.
 fn acts_now(last: &Last, clock: &Clock, tick: u64, number: u16, change: Change) -> bool
     requires tick { IsTick tick }
     requires later { clock.now.at ≤ tick }
@@ -83,7 +86,8 @@ fn change_clock<D: Desk>(
     ensures row { (station : Station) (took : Option Received)
         → correcting_of (said took) ≡ correcting_in (Some correction)
         → Performs SlaveStands SlaveStands (changes_clock change) at.tick at.port
-        (station, (last.old, (clock.old, took))) (station, (last.new, (clock.new, took)))
+        (record { station = station; last = last.old; clock = clock.old; took = took })
+        (record { station = station; last = last.new; clock = clock.new; took = took })
         (D.acts desk.old) (D.acts desk.new) }
     ensures room { PutsExactly 1 (D.spare desk.old) (D.spare desk.new) (D.acts desk.old)
         (D.acts desk.new) }
@@ -96,7 +100,7 @@ fn change_clock<D: Desk>(
     }
 }
 
-/// After a correction the master counts as heard, and gets its answer.
+/// After a correction the master counts as heard, so that the election delay begins anew, and gets an ACK.
 fn confirm<D: Desk>(station: &mut Station, at: At, correction: Correction, desk: &mut D)
     requires tick { IsTick at.tick }
     requires room { 2 ≤ D.spare desk.old }
@@ -121,7 +125,8 @@ fn ack_repeat<D: Desk>(
     requires room { 1 ≤ D.spare desk.old }
     ensures row { (x : ℕ) (clock : ClockValue) (took : Option Received)
         → Performs SlaveStands SlaveStands (acks_repeat correction.from correction.number) x port
-        (station.now, (last.now, (clock, took))) (station.now, (last.now, (clock, took)))
+        (record { station = station.now; last = last.now; clock = clock; took = took })
+        (record { station = station.now; last = last.now; clock = clock; took = took })
         (D.acts desk.old) (D.acts desk.new) }
     ensures room { PutsAtMost 1 (D.spare desk.old) (D.spare desk.new) (D.acts desk.old)
         (D.acts desk.new) }

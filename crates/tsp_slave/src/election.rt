@@ -11,8 +11,9 @@ use tsp_base::desk::Desk;
 use tsp_base::kind::Kind;
 use tsp_base::place::{PeerId, Port};
 
-/// Answers a peer that stands for election. It is backed where the hold allows it at this tick, and then the
-/// election alarm is armed anew, so that it has time to win; else it is refused.
+/// Answers a peer that stands for election. It gets an ACCEPT where the port backed nobody else for `HOLD`
+/// ticks, and then the Elect alarm is armed anew, so that it has time to win; else it gets a REFUSE. At most
+/// three acts.
 pub(crate) fn answer_candidate<D: Desk>(
     station: &mut Station,
     tick: u64,

@@ -23,8 +23,9 @@ use tsp_base::place::{PeerId, Port};
 use tsp_base::role::Role;
 use tsp_clock::clock::Clock;
 
-/// Follows one of the peers as a master, keeps the name in the message that was taken of it, and
-/// tells it the ticket.
+/// Follows one of the peers as its master, keeps the name in the message that was taken of it, and
+/// tells it the clock's ticket by a SLAVEUP. If nothing is heard of it for the election delay, the Elect
+/// alarm rings. It puts three acts.
 pub fn follow<D: Desk>(
     station: &mut Station,
     last: &mut Last,
@@ -40,7 +41,8 @@ pub fn follow<D: Desk>(
     requires peer { Contains station.old.peers p }
     ensures row { (took : Option Received) → name_in took ≡ name.now
         → Performs SlaveStands SlaveStands (follow_row p) tick port
-        (station.old, (last.old, (clock.now, took))) (station.new, (last.new, (clock.now, took)))
+        (record { station = station.old; last = last.old; clock = clock.now; took = took })
+        (record { station = station.new; last = last.new; clock = clock.now; took = took })
         (D.acts desk.old) (D.acts desk.new) }
     ensures me { station.new.me ≡ station.old.me }
     ensures role { station.new.role ≡ Follow p }
@@ -60,7 +62,8 @@ pub fn follow<D: Desk>(
     tell_ticket(station, clock, p, port, desk);
 }
 
-/// Tells a master that it is followed, and the clock's ticket.
+/// Tells a master by a SLAVEUP that it is followed, and the clock's ticket: the number that its next
+/// correction must have.
 pub(crate) fn tell_ticket<D: Desk>(
     station: &Station,
     clock: &Clock,
@@ -71,7 +74,8 @@ pub(crate) fn tell_ticket<D: Desk>(
     requires room { 1 ≤ D.spare desk.old }
     ensures row { (x : ℕ) (last : LastValue) (took : Option Received)
         → Performs SlaveStands SlaveStands (tells_ticket p) x port
-        (station.now, (last, (clock.now, took))) (station.now, (last, (clock.now, took)))
+        (record { station = station.now; last = last; clock = clock.now; took = took })
+        (record { station = station.now; last = last; clock = clock.now; took = took })
         (D.acts desk.old) (D.acts desk.new) }
     ensures room { PutsExactly 1 (D.spare desk.old) (D.spare desk.new) (D.acts desk.old)
         (D.acts desk.new) }

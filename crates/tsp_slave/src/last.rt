@@ -17,12 +17,13 @@ use tsp_base::place::PeerId;
 pub(crate) struct Correction {
     /// The master.
     pub(crate) from: PeerId,
-    /// The ticket that it carried.
+    /// Its number: the ticket that the clock had then, 0 to 32,767.
     pub(crate) number: u16,
 }
 
-/// The tick of the node's last Correct since its boot, the correction that it took if it took one on this
-/// port, and the name of the master that was followed last.
+/// What a port remembers since the boot: the tick at which the node's clock was last corrected, which message
+/// did it if it came to this port, and the name of the master that was followed last. All ports of a node
+/// have one clock.
 #[derive(Drop)]
 pub struct Last {
     tick: Option<u64>,
@@ -53,7 +54,7 @@ impl Last {
         }
     }
 
-    /// The tick of the node's last Correct; None exactly where there was none since the boot.
+    /// The tick of the last correction of the node's clock; None exactly where there was none since the boot.
     pub fn tick(&self) -> Option<u64>
         ensures { result ≡ self.now.tick }
     {
@@ -67,7 +68,7 @@ impl Last {
         &self.name
     }
 
-    /// Notes a Correct that no message of a master to this port made.
+    /// Notes a correction of the node's clock that no message of a master to this port made.
     pub fn moved(&mut self, tick: u64)
         ensures { self.new ≡ record { tick = Some tick; taken = None; name = self.old.name } }
     {
@@ -75,7 +76,7 @@ impl Last {
         self.taken = None;
     }
 
-    /// Notes a Correct that a master's message made.
+    /// Notes a correction that a master's message made.
     pub(crate) fn took(&mut self, tick: u64, correction: Correction)
         ensures { self.new ≡ record {
           tick = Some tick;
@@ -94,7 +95,7 @@ impl Last {
         self.name = name.copy();
     }
 
-    /// Whether the last Correct took this correction.
+    /// Whether this is the correction that was taken last: of the same sender, with the same number.
     pub(crate) fn is_repeat(&self, correction: Correction) -> bool
         ensures { result ≡ is_by correction.from correction.number self.now.taken }
     {
@@ -104,7 +105,7 @@ impl Last {
         }
     }
 
-    /// Whether the last Correct, if there was one, lies `GAP` ticks or more back.
+    /// Whether the last correction, if there was one, is `GAP` ticks or more ago.
     pub(crate) fn is_rested(&self, tick: u64) -> bool
         ensures { result ≡ is_past self.now.tick GAP tick }
     {

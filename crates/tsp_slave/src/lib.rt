@@ -1,8 +1,20 @@
-//! What a port does at Loose and at Follow, and how its quiet time ends.
+//! What a slave does: a port that follows a master, or looks for one.
 //!
-//! Each datagram goes to [`take::slave_take`], each alarm to [`ring::slave_ring`]. [`last::Last`]
-//! is the last correction that was taken, by which a repeat is known. [`follow`] and [`quit`] are
-//! what other roles come to when they end.
+//! A port has one role on one network: it is Starting in the quiet time after a boot, Loose while it follows
+//! nobody, and Follow while it follows a master. Only a master corrects its clock:
+//!
+//! - Each message of a peer goes to [`take::slave_take`]. A correction is an ADJTIME, which moves the clock,
+//!   or a SETTIME, which sets it. Its number must be the clock's ticket, so that each correction acts once; a
+//!   repeat of the last one is only acknowledged again.
+//! - Each alarm that is due goes to [`ring::slave_ring`]: the quiet time ends, a search for a master ends, or
+//!   no master was heard for the election delay (five to ten minutes).
+//! - [`last::Last`] is what a port remembers from a boot to the next: the last correction, by which a repeat
+//!   is known, and the name of its master.
+//! - [`follow`] and [`quit`] are also called in other roles: a candidate that hears a master follows it, and
+//!   any port heeds a QUIT.
+//!
+//! Ticks are microseconds of the node's own counter, from 0 to 2^61; clock values and amounts are
+//! microseconds. Calls put acts on the desk, for which the caller reserves the room. No call fails.
 #![tactic(auto)]
 
 mod change;

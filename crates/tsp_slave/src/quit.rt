@@ -39,7 +39,8 @@ pub fn take_quit<D: Desk>(
     requires peer { Contains station.old.peers from }
     ensures row { (took : Option Received) → name_in took ≡ m.now.name
         → Performs SlaveStands SlaveStands (quits from m.now.number) at.tick at.port
-        (station.old, (last.old, (clock.now, took))) (station.new, (last.new, (clock.now, took)))
+        (record { station = station.old; last = last.old; clock = clock.now; took = took })
+        (record { station = station.new; last = last.new; clock = clock.now; took = took })
         (D.acts desk.old) (D.acts desk.new) }
     ensures room { PutsAtMost 5 (D.spare desk.old) (D.spare desk.new) (D.acts desk.old)
         (D.acts desk.new) }
@@ -65,7 +66,8 @@ fn follow_unless_following<D: Desk>(
     requires peer { Contains station.old.peers p }
     ensures row { (took : Option Received) → name_in took ≡ name.now
         → Performs SlaveStands SlaveStands (reading role_at (follows_unless p)) at.tick at.port
-        (station.old, (last.old, (clock.now, took))) (station.new, (last.new, (clock.now, took)))
+        (record { station = station.old; last = last.old; clock = clock.now; took = took })
+        (record { station = station.new; last = last.new; clock = clock.now; took = took })
         (D.acts desk.old) (D.acts desk.new) }
     ensures room { PutsAtMost 3 (D.spare desk.old) (D.spare desk.new) (D.acts desk.old)
         (D.acts desk.new) }

@@ -17,8 +17,8 @@ use tsp_base::kind::Kind;
 use tsp_base::place::Port;
 use tsp_base::role::Role;
 
-/// Whether an Elect that is due makes the node a candidate: it is in time, the node may be master, and the
-/// hold lets it stand.
+/// Whether an Elect that is due makes the node a candidate: it is at most `SLACK` ticks late, the node may be
+/// master, and the hold lets it stand.
 pub fn becomes_candidate(station: &Station, tick: u64) -> bool
     ensures { result ≡ is_to_be_candidate tick station.now }
 {
@@ -26,8 +26,9 @@ pub fn becomes_candidate(station: &Station, tick: u64) -> bool
         && (station.me.may && station.hold.may_stand(tick, station.me.own))
 }
 
-/// Handles one alarm that is due: the quiet time ends, a search ends, or no master was heard for long. Any
-/// other alarm does nothing here. An Elect that makes the node a candidate isn't handed to it.
+/// Handles one alarm that is due: Quiet, the quiet time ends; Search, a search for a master ends; Elect, no
+/// master was heard for the election delay. Any other alarm does nothing here. An Elect for which
+/// [`becomes_candidate`] is true isn't handed to it. At most three acts, and one more for each peer.
 pub fn slave_ring<D: Desk>(station: &mut Station, alarm: Alarm, tick: u64, port: Port, desk: &mut D)
     requires tick { IsTick tick }
     requires stays { alarm ≡ Elect → is_to_be_candidate tick station.old ≡ false }
@@ -46,7 +47,7 @@ pub fn slave_ring<D: Desk>(station: &mut Station, alarm: Alarm, tick: u64, port:
     }
 }
 
-/// The quiet time ends, however late.
+/// The quiet time ends, however late: the port becomes Loose and searches for a master.
 fn end_quiet<D: Desk>(station: &mut Station, tick: u64, port: Port, desk: &mut D)
     requires tick { IsTick tick }
     requires room { length station.old.peers + 3 ≤ D.spare desk.old }
@@ -61,7 +62,7 @@ fn end_quiet<D: Desk>(station: &mut Station, tick: u64, port: Port, desk: &mut D
     search(station, tick, port, desk);
 }
 
-/// No master answered a search.
+/// No master answered a search: the port waits for one election delay.
 fn end_search<D: Desk>(station: &mut Station, tick: u64, port: Port, desk: &mut D)
     requires tick { IsTick tick }
     requires room { 2 ≤ D.spare desk.old }
@@ -75,7 +76,8 @@ fn end_search<D: Desk>(station: &mut Station, tick: u64, port: Port, desk: &mut 
     station.arm_elect(tick, port, desk);
 }
 
-/// Nothing was heard of a master for long, and the node doesn't stand.
+/// No master was heard for the election delay, and the node doesn't stand for election. In time it gives up
+/// its master and searches for another one; too late it waits for one delay more.
 fn miss_master<D: Desk>(station: &mut Station, tick: u64, port: Port, desk: &mut D)
     requires tick { IsTick tick }
     requires stays { is_to_be_candidate tick station.old ≡ false }
@@ -96,7 +98,7 @@ fn miss_master<D: Desk>(station: &mut Station, tick: u64, port: Port, desk: &mut
     }
 }
 
-/// Rings an alarm that is in time; else says that it is late.
+/// Notes that an alarm rings, or that it is late: more than `SLACK` ticks after its deadline.
 fn ring_or_late<D: Desk>(station: &mut Station, alarm: Alarm, tick: u64, port: Port, desk: &mut D)
     requires room { 1 ≤ D.spare desk.old }
     ensures row { Performs Stands Stands (rings_or_late alarm) tick port station.old station.new
@@ -127,7 +129,7 @@ fn loosen<D: Desk>(station: &mut Station, port: Port, desk: &mut D)
     }
 }
 
-/// Asks each other peer whether it is a master.
+/// Asks each other peer by a MASTERREQ whether it is a master, and waits `WINDOW` ticks for answers.
 fn search<D: Desk>(station: &mut Station, tick: u64, port: Port, desk: &mut D)
     requires tick { IsTick tick }
     requires room { length station.old.peers + 1 ≤ D.spare desk.old }

@@ -29,8 +29,15 @@ use tsp_base::place::{PeerId, Port};
 use tsp_base::role::Role;
 use tsp_clock::clock::Clock;
 
-/// Handles a message of another peer at a port that is Loose or follows. A QUIT is handled so whatever the
-/// role. At most five acts.
+/// Handles a message of another peer at a port that is Loose or follows:
+///
+/// - MASTERUP or MASTERACK: a master is there; the port follows it, or tells its own master of it.
+/// - ELECTION: a candidate asks for its vote.
+/// - ADJTIME or SETTIME: a correction, which is taken of its own master alone.
+/// - QUIT: it follows the sender unless it follows a master.
+/// - ACK: it ends the open send that it answers.
+///
+/// Any other message is passed over. At most five acts.
 pub fn slave_take<D: Desk>(
     station: &mut Station,
     last: &mut Last,
@@ -47,7 +54,8 @@ pub fn slave_take<D: Desk>(
     requires peer { Contains station.old.peers from }
     ensures row { (took : Option Received) → IsMessage from m.now took
         → Performs SlaveStands SlaveStands (slave_takes from m.now) tick port
-        (station.old, (last.old, (clock.old, took))) (station.new, (last.new, (clock.new, took)))
+        (record { station = station.old; last = last.old; clock = clock.old; took = took })
+        (record { station = station.new; last = last.new; clock = clock.new; took = took })
         (D.acts desk.old) (D.acts desk.new) }
     ensures room { PutsAtMost 5 (D.spare desk.old) (D.spare desk.new) (D.acts desk.old)
         (D.acts desk.new) }
@@ -85,7 +93,8 @@ fn hear_master<D: Desk>(
     requires peer { Contains station.old.peers from }
     ensures row { (took : Option Received) → IsMessage from m.now took
         → Performs SlaveStands SlaveStands (reading role_at (masterup_in from)) at.tick at.port
-        (station.old, (last.old, (clock.now, took))) (station.new, (last.new, (clock.now, took)))
+        (record { station = station.old; last = last.old; clock = clock.now; took = took })
+        (record { station = station.new; last = last.new; clock = clock.now; took = took })
         (D.acts desk.old) (D.acts desk.new) }
     ensures room { PutsAtMost 3 (D.spare desk.old) (D.spare desk.new) (D.acts desk.old)
         (D.acts desk.new) }
@@ -120,7 +129,8 @@ fn find_master<D: Desk>(
     requires peer { Contains station.old.peers from }
     ensures row { (took : Option Received) → IsMessage from m.now took
         → Performs SlaveStands SlaveStands (reading role_at (masterack_in from)) at.tick at.port
-        (station.old, (last.old, (clock.now, took))) (station.new, (last.new, (clock.now, took)))
+        (record { station = station.old; last = last.old; clock = clock.now; took = took })
+        (record { station = station.new; last = last.new; clock = clock.now; took = took })
         (D.acts desk.old) (D.acts desk.new) }
     ensures room { PutsAtMost 3 (D.spare desk.old) (D.spare desk.new) (D.acts desk.old)
         (D.acts desk.new) }
@@ -158,8 +168,10 @@ fn take_correction<D: Desk>(
         → correcting_of (said took) ≡ Some (record { from = from; number = m.now.number })
         → Performs SlaveStands SlaveStands
         (reading role_at (from_master from (correction_of from m.now.number (change_in m.now))))
-        at.tick at.port (station.old, (last.old, (clock.old, took)))
-        (station.new, (last.new, (clock.new, took))) (D.acts desk.old) (D.acts desk.new) }
+        at.tick at.port
+        (record { station = station.old; last = last.old; clock = clock.old; took = took })
+        (record { station = station.new; last = last.new; clock = clock.new; took = took })
+        (D.acts desk.old) (D.acts desk.new) }
     ensures room { PutsAtMost 3 (D.spare desk.old) (D.spare desk.new) (D.acts desk.old)
         (D.acts desk.new) }
     ensures port { IsSamePort station.old station.new }

@@ -3,9 +3,10 @@ use Rattle.std.proofs.Common.{◌≡◌, refl, sym, ◌∙◌, ap}
 use Rattle.tsp_base.specs.declared.kind.Kind.TheVariants.{Ack, Election, Accept, Refuse, Quit}
 use Rattle.tsp_base.specs.PortFacts.{name_in}
 use Rattle.tsp_base.specs.Rows.{nothing}
-use Rattle.tsp_base.proofs.PerformsLemmas.{Performs_beside, Performs_nothing}
+use Rattle.tsp_base.proofs.PerformsLemmas.{Performs_nothing}
 use Rattle.tsp_rules.specs.CommonRows.{follow_row}
 use Rattle.tsp_rules.specs.CandidateRows.{candidate_takes, candidate_takes_kind}
+use Rattle.tsp_slave.proofs.BesideLemmas.{Performs_station}
 use Rattle.tsp_slave.proofs.SlaveLemmas.{AlsoStands_posts, AlsoStands_acknowledges}
 use Rattle.tsp_candidate.proofs.AlsoLemmas.{AlsoStands_accepted_by, AlsoStands_refused_by}
 use Rattle.tsp_rules.proofs.RowsOther.{candidate_takes_kind-other}
@@ -26,7 +27,7 @@ returns-in-Election-clause-row g c took e =
     let k : c.args.m.now.kind ≡ Election = sym c.kind.ensures ∙ c.in-Election.is in
     let n : c.number-number.result ≡ c.args.m.now.number = c.number-number.ensures in
     let d = c.post.ensures.row c.args.tick in
-    rw k (Performs_beside _ (AlsoStands_posts c.args.from Refuse c.args.m.now.number refl) (rw n at d))
+    rw k (Performs_station (AlsoStands_posts c.args.from Refuse c.args.m.now.number refl) (rw n at d))
 
 pub returns-in-Accept-clause-row : goal.returns-in-Accept-clause-row
 unfolding candidate_takes candidate_takes_kind
@@ -34,7 +35,7 @@ returns-in-Accept-clause-row g c took e =
     let k : c.args.m.now.kind ≡ Accept = sym c.kind.ensures ∙ c.in-Accept.is in
     let n : c.number-number.result ≡ c.args.m.now.number = c.number-number.ensures in
     let d = c.take_accept.ensures.row c.args.tick in
-    rw k (Performs_beside _ (AlsoStands_accepted_by c.args.from c.args.m.now.number) (rw n at d))
+    rw k (Performs_station (AlsoStands_accepted_by c.args.from c.args.m.now.number) (rw n at d))
 
 pub returns-in-Refuse-clause-row : goal.returns-in-Refuse-clause-row
 unfolding candidate_takes candidate_takes_kind
@@ -42,7 +43,7 @@ returns-in-Refuse-clause-row g c took e =
     let k : c.args.m.now.kind ≡ Refuse = sym c.kind.ensures ∙ c.in-Refuse.is in
     let n : c.number-number.result ≡ c.args.m.now.number = c.number-number.ensures in
     let d = c.take_refuse.ensures.row in
-    rw k (Performs_beside _ (AlsoStands_refused_by c.args.from c.args.m.now.number) (rw n at d))
+    rw k (Performs_station (AlsoStands_refused_by c.args.from c.args.m.now.number) (rw n at d))
 
 pub returns-in-Quit-clause-row : goal.returns-in-Quit-clause-row
 unfolding candidate_takes candidate_takes_kind
@@ -56,7 +57,7 @@ returns-in-Ack-clause-row g c took e =
     let k : c.args.m.now.kind ≡ Ack = sym c.kind.ensures ∙ c.in-Ack.is in
     let n : c.number-number.result ≡ c.args.m.now.number = c.number-number.ensures in
     let d = c.acknowledge.ensures.row c.args.tick in
-    rw k (Performs_beside _ (AlsoStands_acknowledges c.args.from c.args.m.now.number) (rw n at d))
+    rw k (Performs_station (AlsoStands_acknowledges c.args.from c.args.m.now.number) (rw n at d))
 
 pub returns-in_default-clause-row : goal.returns-in_default-clause-row
 unfolding candidate_takes

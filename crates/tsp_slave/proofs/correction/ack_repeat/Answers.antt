@@ -2,18 +2,19 @@
 use Rattle.std.specs.Prelude.{refl}
 use Rattle.tsp_base.specs.declared.kind.Kind.TheVariants.{Ack}
 use Rattle.tsp_base.specs.Rows.{nothing, posts}
-use Rattle.tsp_base.proofs.PerformsLemmas.{Performs_then_part, Performs_else_part, Performs_beside, Performs_nothing}
+use Rattle.tsp_base.proofs.PerformsLemmas.{Performs_then_part, Performs_else_part, Performs_nothing}
 use Rattle.tsp_rules.specs.SlaveRows.{acks_repeat, is_repeated}
+use Rattle.tsp_slave.proofs.BesideLemmas.{Performs_station}
 use Rattle.tsp_slave.proofs.SlaveLemmas.{AlsoStands_posts}
 use Rattle.tsp_slave.proofs.correction.ack_repeat.Goals as goal
 
 pub returns-then-is_repeat-clause-row : goal.returns-then-is_repeat-clause-row
 unfolding acks_repeat
 returns-then-is_repeat-clause-row g c x clock took =
-    Performs_then_part (is_repeated c.args.correction.from c.args.correction.number) nothing (λ past h. let t = h.second.first.taken_is in cc)
-    (Performs_beside _ (AlsoStands_posts c.args.correction.from Ack c.args.correction.number refl) (c.post.ensures.row x))
+    Performs_then_part (is_repeated c.args.correction.from c.args.correction.number) nothing (λ past h. let t = h.last.taken_is in cc)
+    (Performs_station (AlsoStands_posts c.args.correction.from Ack c.args.correction.number refl) (c.post.ensures.row x))
 
 pub returns-else-is_repeat-clause-row : goal.returns-else-is_repeat-clause-row
 unfolding acks_repeat
 returns-else-is_repeat-clause-row g c x clock took =
-    Performs_else_part (is_repeated c.args.correction.from c.args.correction.number) (posts c.args.correction.from Ack c.args.correction.number) (λ past h. let t = h.second.first.taken_is in cc) Performs_nothing
+    Performs_else_part (is_repeated c.args.correction.from c.args.correction.number) (posts c.args.correction.from Ack c.args.correction.number) (λ past h. let t = h.last.taken_is in cc) Performs_nothing

@@ -1,8 +1,9 @@
 -- The role and the name, the alarm, and the ticket.
 use Rattle.std.proofs.Common.{sym, ◌∙◌, ap}
-use Rattle.tsp_base.proofs.PerformsLemmas.{Performs_then, Performs_beside}
+use Rattle.tsp_base.proofs.PerformsLemmas.{Performs_then}
 use Rattle.tsp_rules.specs.CommonRows.{follow_row}
 use Rattle.tsp_acks.proofs.PeerLemmas.{among-Contains}
+use Rattle.tsp_slave.proofs.BesideLemmas.{Performs_station}
 use Rattle.tsp_slave.proofs.SlaveLemmas.{AlsoStands_arms_elect, follow_becomes}
 use Rattle.tsp_slave.proofs.follow.follow.Goals as goal
 
@@ -13,4 +14,4 @@ pub returns-clause-row : goal.returns-clause-row
 unfolding follow_row
 returns-clause-row g c took e =
     Performs_then (follow_becomes c.args.p c.args.last.now _ c.args.clock.now took (c.keep_name.ensures ∙ ap (λ n. record c.args.last.now { name = n }) (sym e)) (c.become_role.ensures.row c.args.tick))
-    (Performs_then (Performs_beside _ AlsoStands_arms_elect c.arm_elect.ensures.row) (c.tell_ticket.ensures.row c.args.tick _ took))
+    (Performs_then (Performs_station AlsoStands_arms_elect c.arm_elect.ensures.row) (c.tell_ticket.ensures.row c.args.tick _ took))

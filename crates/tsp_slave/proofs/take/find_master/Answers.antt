@@ -20,30 +20,30 @@ report_conflict-requires-clause-peer g c = followed-Contains c.args.station.now 
 pub returns-then-is_some-clause-row : goal.returns-then-is_some-clause-row
 unfolding masterack_in
 returns-then-is_some-clause-row g c took e =
-    Performs_reading role_at (masterack_in c.args.from) Loose (λ past h. let r = h.first.role in let i = c.in-Loose.is in cc)
-    (Performs_then_part (is_armed Search) nothing (λ past h. let a = h.first.alarms in let s = c.is_some.ensures in let t = c.at.ensures in cc) (c.follow.ensures.row took (ap name_in e ∙ sym c.name.ensures)))
+    Performs_reading role_at (masterack_in c.args.from) Loose (λ past h. let r = h.station.role in let i = c.in-Loose.is in cc)
+    (Performs_then_part (is_armed Search) nothing (λ past h. let a = h.station.alarms in let s = c.is_some.ensures in let t = c.at.ensures in cc) (c.follow.ensures.row took (ap name_in e ∙ sym c.name.ensures)))
 
 pub returns-else-is_some-clause-row : goal.returns-else-is_some-clause-row
 unfolding masterack_in
 returns-else-is_some-clause-row g c took e =
-    Performs_reading role_at (masterack_in c.args.from) Loose (λ past h. let r = h.first.role in let i = c.in-Loose.is in cc)
-    (Performs_else_part (is_armed Search) (follow_row c.args.from) (λ past h. let a = h.first.alarms in let s = c.is_some.ensures in let t = c.at.ensures in cc) Performs_nothing)
+    Performs_reading role_at (masterack_in c.args.from) Loose (λ past h. let r = h.station.role in let i = c.in-Loose.is in cc)
+    (Performs_else_part (is_armed Search) (follow_row c.args.from) (λ past h. let a = h.station.alarms in let s = c.is_some.ensures in let t = c.at.ensures in cc) Performs_nothing)
 
 pub returns-then-q-from-clause-row : goal.returns-then-q-from-clause-row
 unfolding masterack_in
 returns-then-q-from-clause-row g c took e =
     let other : (c.in-Follow.q.0 == c.args.from.0) ≡ false = ne_eqb _ _ c.if-q-from.true in
-    Performs_reading role_at (masterack_in c.args.from) (Follow c.in-Follow.q) (λ past h. let r = h.first.role in let i = c.in-Follow.is in cc)
+    Performs_reading role_at (masterack_in c.args.from) (Follow c.in-Follow.q) (λ past h. let r = h.station.role in let i = c.in-Follow.is in cc)
     (rw other (Performs_since_taken _ _ took _ e (AlsoStands_reports_conflict c.in-Follow.q) c.report_conflict.ensures.row))
 
 pub returns-else-q-from-clause-row : goal.returns-else-q-from-clause-row
 unfolding masterack_in
 returns-else-q-from-clause-row g c took e =
     let same : (c.in-Follow.q.0 == c.args.from.0) ≡ true = eq-eqb _ _ c.if-q-from.false in
-    Performs_reading role_at (masterack_in c.args.from) (Follow c.in-Follow.q) (λ past h. let r = h.first.role in let i = c.in-Follow.is in cc)
+    Performs_reading role_at (masterack_in c.args.from) (Follow c.in-Follow.q) (λ past h. let r = h.station.role in let i = c.in-Follow.is in cc)
     (rw same Performs_nothing)
 
 pub returns-in_default-clause-row : goal.returns-in_default-clause-row
 returns-in_default-clause-row g c took e =
-    Performs_reading role_at (masterack_in c.args.from) c.args.station.now.role (λ past h. let r = h.first.role in cc)
+    Performs_reading role_at (masterack_in c.args.from) c.args.station.now.role (λ past h. let r = h.station.role in cc)
     (rw (masterack_in-other c.args.from _ c.in_default.not-Loose c.in_default.not-Follow) Performs_nothing)

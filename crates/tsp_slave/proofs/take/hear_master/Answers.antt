@@ -3,11 +3,12 @@ use Rattle.std.proofs.Common.{◌≡◌, ◌==◌, true, false, eq-eqb, ap, sym,
 use Rattle.std.proofs.lemmas.Bool.{ne_eqb}
 use Rattle.tsp_base.specs.declared.role.Role.TheVariants.{Loose, Follow}
 use Rattle.tsp_base.specs.PortFacts.{name_in}
-use Rattle.tsp_base.proofs.PerformsLemmas.{Performs_then, Performs_reading, Performs_beside, Performs_nothing}
+use Rattle.tsp_base.proofs.PerformsLemmas.{Performs_then, Performs_reading, Performs_nothing}
 use Rattle.tsp_rules.specs.SlaveRows.{masterup_in}
 use Rattle.tsp_rules.specs.Guards.{role_at}
 use Rattle.tsp_acks.proofs.FollowLemmas.{followed-Contains}
 use Rattle.tsp_rules.proofs.RowsOther.{masterup_in-other}
+use Rattle.tsp_slave.proofs.BesideLemmas.{Performs_station}
 use Rattle.tsp_slave.proofs.SlaveLemmas.{AlsoStands_arms_elect, AlsoStands_reports_conflict, Performs_since_taken}
 use Rattle.tsp_slave.proofs.take.hear_master.Goals as goal
 
@@ -17,23 +18,23 @@ report_conflict-requires-clause-peer g c = followed-Contains c.args.station.now 
 pub returns-in-Loose-clause-row : goal.returns-in-Loose-clause-row
 unfolding masterup_in
 returns-in-Loose-clause-row g c took e =
-    Performs_reading role_at (masterup_in c.args.from) Loose (λ past h. let r = h.first.role in let i = c.in-Loose.is in cc) (c.follow.ensures.row took (ap name_in e ∙ sym c.name.ensures))
+    Performs_reading role_at (masterup_in c.args.from) Loose (λ past h. let r = h.station.role in let i = c.in-Loose.is in cc) (c.follow.ensures.row took (ap name_in e ∙ sym c.name.ensures))
 
 pub returns-then-q-from-clause-row : goal.returns-then-q-from-clause-row
 unfolding masterup_in
 returns-then-q-from-clause-row g c took e =
     let same : (c.in-Follow.q.0 == c.args.from.0) ≡ true = eq-eqb _ _ c.if-q-from.true in
-    Performs_reading role_at (masterup_in c.args.from) (Follow c.in-Follow.q) (λ past h. let r = h.first.role in let i = c.in-Follow.is in cc)
-    (rw same (Performs_then (Performs_beside _ AlsoStands_arms_elect c.arm_elect.ensures.row) (c.tell_ticket.ensures.row c.args.at.tick _ took)))
+    Performs_reading role_at (masterup_in c.args.from) (Follow c.in-Follow.q) (λ past h. let r = h.station.role in let i = c.in-Follow.is in cc)
+    (rw same (Performs_then (Performs_station AlsoStands_arms_elect c.arm_elect.ensures.row) (c.tell_ticket.ensures.row c.args.at.tick _ took)))
 
 pub returns-else-q-from-clause-row : goal.returns-else-q-from-clause-row
 unfolding masterup_in
 returns-else-q-from-clause-row g c took e =
     let other : (c.in-Follow.q.0 == c.args.from.0) ≡ false = ne_eqb _ _ c.if-q-from.false in
-    Performs_reading role_at (masterup_in c.args.from) (Follow c.in-Follow.q) (λ past h. let r = h.first.role in let i = c.in-Follow.is in cc)
+    Performs_reading role_at (masterup_in c.args.from) (Follow c.in-Follow.q) (λ past h. let r = h.station.role in let i = c.in-Follow.is in cc)
     (rw other (Performs_since_taken _ _ took _ e (AlsoStands_reports_conflict c.in-Follow.q) c.report_conflict.ensures.row))
 
 pub returns-in_default-clause-row : goal.returns-in_default-clause-row
 returns-in_default-clause-row g c took e =
-    Performs_reading role_at (masterup_in c.args.from) c.args.station.now.role (λ past h. let r = h.first.role in cc)
+    Performs_reading role_at (masterup_in c.args.from) c.args.station.now.role (λ past h. let r = h.station.role in cc)
     (rw (masterup_in-other c.args.from _ c.in_default.not-Loose c.in_default.not-Follow) Performs_nothing)

@@ -4,9 +4,10 @@ use Rattle.tsp_base.specs.declared.kind.Kind.TheVariants.{AdjTime, Ack, MasterAc
 use Rattle.tsp_base.specs.PortFacts.{said, name_in}
 use Rattle.tsp_base.specs.SendFacts.{correcting_of}
 use Rattle.tsp_base.specs.Rows.{nothing}
-use Rattle.tsp_base.proofs.PerformsLemmas.{Performs_nothing, Performs_beside}
+use Rattle.tsp_base.proofs.PerformsLemmas.{Performs_nothing}
 use Rattle.tsp_rules.specs.SlaveRows.{slave_takes, slave_takes_kind}
 use Rattle.tsp_rules.proofs.RowsOther.{slave_takes_kind-other}
+use Rattle.tsp_slave.proofs.BesideLemmas.{Performs_station}
 use Rattle.tsp_slave.proofs.RowCases.{is_correction-either, slave_takes_kind-correction}
 use Rattle.tsp_slave.proofs.SlaveLemmas.{AlsoStands_election_of, AlsoStands_acknowledges}
 use Rattle.tsp_slave.proofs.take.slave_take.Goals as goal
@@ -30,7 +31,7 @@ returns-in-Election-clause-row g c took e =
     let k : m.kind ≡ Election = sym c.kind.ensures ∙ c.in-Election.is in
     let n : c.number-number.result ≡ m.number = c.number-number.ensures in
     let d = c.answer_candidate.ensures.row in
-    rw k (Performs_beside _ (AlsoStands_election_of c.args.from m.number) (rw n at d))
+    rw k (Performs_station (AlsoStands_election_of c.args.from m.number) (rw n at d))
 
 pub returns-in-Quit-clause-row : goal.returns-in-Quit-clause-row
 unfolding slave_takes slave_takes_kind
@@ -46,7 +47,7 @@ returns-in-Ack-clause-row g c took e =
     let k : m.kind ≡ Ack = sym c.kind.ensures ∙ c.in-Ack.is in
     let n : c.number-number.result ≡ m.number = c.number-number.ensures in
     let d = c.acknowledge.ensures.row c.args.tick in
-    rw k (Performs_beside _ (AlsoStands_acknowledges c.args.from m.number) (rw n at d))
+    rw k (Performs_station (AlsoStands_acknowledges c.args.from m.number) (rw n at d))
 
 pub returns-in-AdjTime-clause-row : goal.returns-in-AdjTime-clause-row
 unfolding slave_takes

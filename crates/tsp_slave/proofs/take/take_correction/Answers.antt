@@ -17,7 +17,7 @@ returns-then-from-q-clause-row g c took s =
     let n : c.number-number.result ≡ m.number = c.number-number.ensures in
     let is : c.of.result ≡ change_in m = c.of.ensures in
     let d = c.correct.ensures.row in
-    Performs_reading role_at (from_master c.args.from (correction_of c.args.from m.number (change_in m))) (Follow c.in-Follow.q) (λ past h. let r = h.first.role in let i = c.in-Follow.is in cc)
+    Performs_reading role_at (from_master c.args.from (correction_of c.args.from m.number (change_in m))) (Follow c.in-Follow.q) (λ past h. let r = h.station.role in let i = c.in-Follow.is in cc)
     (rw same ((rw (is, n) at d) took s))
 
 pub returns-else-from-q-clause-row : goal.returns-else-from-q-clause-row
@@ -25,12 +25,12 @@ unfolding from_master
 returns-else-from-q-clause-row g c took s =
     let m = c.args.m.now in
     let other : (c.in-Follow.q.0 == c.args.from.0) ≡ false = ne_eqb _ _ (λ e. c.if-from-q.false (sym e)) in
-    Performs_reading role_at (from_master c.args.from (correction_of c.args.from m.number (change_in m))) (Follow c.in-Follow.q) (λ past h. let r = h.first.role in let i = c.in-Follow.is in cc)
+    Performs_reading role_at (from_master c.args.from (correction_of c.args.from m.number (change_in m))) (Follow c.in-Follow.q) (λ past h. let r = h.station.role in let i = c.in-Follow.is in cc)
     (rw other Performs_nothing)
 
 pub returns-in_default-clause-row : goal.returns-in_default-clause-row
 returns-in_default-clause-row g c took s =
     let m = c.args.m.now in
     let row = correction_of c.args.from m.number (change_in m) in
-    Performs_reading role_at (from_master c.args.from row) c.args.station.now.role (λ past h. let r = h.first.role in cc)
+    Performs_reading role_at (from_master c.args.from row) c.args.station.now.role (λ past h. let r = h.station.role in cc)
     (rw (from_master-other c.args.from row _ c.in_default.not-Follow) Performs_nothing)

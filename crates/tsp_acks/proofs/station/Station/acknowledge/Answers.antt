@@ -1,5 +1,4 @@
 -- An ACK ends the send that it names.
-use Rattle.std.proofs.Common.{sym, ◌∙◌}
 use Rattle.tsp_sends.specs.Slots.{sending_to}
 use Rattle.tsp_acks.proofs.EndingLemmas.{answers_other-is, Performs_acknowledges}
 use Rattle.tsp_acks.proofs.station.Station.acknowledge.Goals as goal

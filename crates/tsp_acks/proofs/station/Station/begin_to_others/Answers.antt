@@ -56,6 +56,6 @@ returns-clause-row g c =
     let past_end = c.loop-place-test.false in
     let all : take n st.peers ≡ st.peers = take_all _ _ (omega (arith, end, past_end)) in
     Performs_reading others_at (for_each (begins c.args.kind)) (others st.me.own st.peers)
-    (λ past h. ap (λ own. others own past.peers) (sym h.first.own) ∙ ap (λ ps. others st.me.own ps) (sym h.first.peers))
-    (subst (λ ps. Performs StandsActing StandsActing (for_each (begins c.args.kind) (others st.me.own ps)) c.args.tick c.args.port (st, tt) (c.loop-place.self, tt) (g.D.Desk.acts c.args.desk.now) (g.D.Desk.acts c.loop-place.desk))
+    (λ past h. ap (λ own. others own past.peers) (sym h.stands.own) ∙ ap (λ ps. others st.me.own ps) (sym h.stands.peers))
+    (subst (λ ps. Performs StandsActing StandsActing (for_each (begins c.args.kind) (others st.me.own ps)) c.args.tick c.args.port st c.loop-place.self (g.D.Desk.acts c.args.desk.now) (g.D.Desk.acts c.loop-place.desk))
     all c.loop-place.invariant.row)

@@ -1,5 +1,4 @@
 -- The open send is of the kind and has the number that are asked for.
-use Rattle.std.proofs.Common.{sym, ◌∙◌, ap}
 use Rattle.tsp_sends.specs.Slots.{sending_to}
 use Rattle.tsp_acks.proofs.EndingLemmas.{answers_date-is}
 use Rattle.tsp_acks.proofs.station.Station.dated.Goals as goal

@@ -1,6 +1,5 @@
 -- The next due send is to a peer, and what is put for it is what that peer's row says.
 use Rattle.std.proofs.Common.{◌≡◌, ◌∷◌, [], ◌++◌, refl}
-use Rattle.tsp_base.specs.declared.act.Placed.{Placed}
 use Rattle.tsp_acks.proofs.DueLemmas.{act_of, next_peer, Performs_due}
 use Rattle.tsp_acks.proofs.station.Station.repeat_next.Goals.{in-Again, in-Gave}
 use Rattle.tsp_acks.proofs.station.Station.repeat_next.Goals as goal

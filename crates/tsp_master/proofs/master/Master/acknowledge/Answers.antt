@@ -11,10 +11,10 @@ returns-clause-row g c x =
     let st = c.args.station.now in
     let corrects : c.is_correction-corrects.result ≡ is_of is_correction (kind_of (sending_to st.sends c.args.from)) = c.is_correction-corrects.ensures ∙ ap (is_of is_correction) c.kind.ensures in
     record {
-      acts = λ past h. (c.acknowledge-ended.ensures.row x).acts past h.second;
+      acts = λ past h. (c.acknowledge-ended.ensures.row x).acts past h.station;
       stands = λ past h. record {
-        first = MasterStands_acknowledges c.args.from c.args.number x past _ _ st c.acknowledge-ended.result h.second (c.acknowledge-ended.ensures.test x past h.second)
-            (rw corrects at c.note_ack.ensures.entries) c.note_ack.ensures.peers c.note_ack.ensures.rounds h.first;
-        second = (c.acknowledge-ended.ensures.row x).stands past h.second;
+        master = MasterStands_acknowledges c.args.from c.args.number x past _ _ st c.acknowledge-ended.result h.station (c.acknowledge-ended.ensures.test x past h.station)
+            (rw corrects at c.note_ack.ensures.entries) c.note_ack.ensures.peers c.note_ack.ensures.rounds h.master;
+        station = (c.acknowledge-ended.ensures.row x).stands past h.station;
       };
     }

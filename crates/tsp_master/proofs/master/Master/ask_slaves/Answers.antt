@@ -73,5 +73,5 @@ returns-clause-row g c =
     let ps = peers_of m.slaves in
     let n = c.loop-place.place in
     let all : take n ps ≡ ps = take_all n ps (omega (arith, c.loop-place-test.false, c.len-place-end.ensures.value)) in
-    Performs_reading table_at (for_each asks) (joined_of m.slaves ps) (λ past h. joined-is c.args.tick past m h.stands.first)
+    Performs_reading table_at (for_each asks) (joined_of m.slaves ps) (λ past h. joined-is c.args.tick past m h.stands.master)
     (rw all at c.loop-place.invariant.row)

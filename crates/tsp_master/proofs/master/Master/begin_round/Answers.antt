@@ -25,7 +25,7 @@ returns-clause-row g c =
     (Performs_then (c.arm_round.ensures.row c.args.clock.now)
     (Performs_then
     (Performs_lead_by {P = StartsStands} {Q = StartsStands} c.arm_round.new.self c.arm_round.new.self c.args.clock.now (Emits_posts_to_others MasterUp 0 refl) (λ past h. h.stands)
-    (λ past h. Keeps_by quiet_sorts MasterStands says MasterStands_quiet (Emits_posts_to_others MasterUp 0 refl) x past _ h.stands.first)
+    (λ past h. Keeps_by quiet_sorts MasterStands says MasterStands_quiet (Emits_posts_to_others MasterUp 0 refl) x past _ h.stands.master)
     (λ past h k. record {
       stands = k;
       goes = Keeps_by (Posting ∷ []) _ says goes_posting (Emits_posts_to_others MasterUp 0 refl) x past tt h.goes;

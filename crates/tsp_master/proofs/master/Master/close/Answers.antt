@@ -30,11 +30,11 @@ returns-then-not-can_adjust-clause-row g c =
     let is : mean ≡ mean_by own k = c.mean_by-mean.ensures.value in
     let test = rw back at c.can_adjust.ensures in
     closes_same own round c.group-group.ensures.group (
-    Performs_from {p = LeadStands} {before = (c.group-group.new.self, ((c.args.station.now, tt), c.args.clock.now))}
-    (λ past h. record { first = MasterStands_same past c.args.self.now c.group-group.new.self (ap peers_of c.group-group.ensures.slaves) c.group-group.ensures.rounds (λ q. ap (λ es. entry_of es q) c.group-group.ensures.slaves) h.first; second = h.second })
+    Performs_from {p = LeadStands} {before = (record { master = c.group-group.new.self; station = c.args.station.now; clock = c.args.clock.now })}
+    (λ past h. record { master = MasterStands_same past c.args.self.now c.group-group.new.self (ap peers_of c.group-group.ensures.slaves) c.group-group.ensures.rounds (λ q. ap (λ es. entry_of es q) c.group-group.ensures.slaves) h.master; station = h.station; acted = h.acted; clock = h.clock })
     (Performs_else_part (can_adjust (mean_by own k)) (puts (close_act own k) followed_by (moves own (mean_by own k) followed_by for_each (corrects_peer (mean_by own k)) round))
-    (λ past h. ap (λ z. can_adjust z x past) (sym is) ∙ ap (λ t. is_clock_value (t +ℤ mean)) (target-is x past c.args.clock.now h.second.second) ∙ sym test ∙ c.if-not-can_adjust.true)
-    (Performs_lead _ _ c.args.clock.now (Emits_puts Abandon refl) (λ past h. MasterStands_abandon x past _ h.first) (Performs_acting (c.abandon.ensures.row x)))))
+    (λ past h. ap (λ z. can_adjust z x past) (sym is) ∙ ap (λ t. is_clock_value (t +ℤ mean)) (target-is x past c.args.clock.now h.clock) ∙ sym test ∙ c.if-not-can_adjust.true)
+    (Performs_lead _ _ c.args.clock.now (Emits_puts Abandon refl) (λ past h. MasterStands_abandon x past _ h.master) (Performs_acting (c.abandon.ensures.row x)))))
 
 pub returns-then-not-can_adjust-clause-corrects : goal.returns-then-not-can_adjust-clause-corrects
 returns-then-not-can_adjust-clause-corrects g c past h =
@@ -48,7 +48,7 @@ returns-then-not-can_adjust-clause-corrects g c past h =
     let is : mean ≡ mean_by own k = c.mean_by-mean.ensures.value in
     let test = rw back at c.can_adjust.ensures in
     sym (ap (λ j. corrects (closes_with own j round x past)) (sym c.group-group.ensures.group)
-    ∙ corrects-closes own k round x past false (ap (λ z. can_adjust z x past) (sym is) ∙ ap (λ t. is_clock_value (t +ℤ mean)) (target-is x past c.args.clock.now h.second.second) ∙ sym test ∙ c.if-not-can_adjust.true))
+    ∙ corrects-closes own k round x past false (ap (λ z. can_adjust z x past) (sym is) ∙ ap (λ t. is_clock_value (t +ℤ mean)) (target-is x past c.args.clock.now h.clock) ∙ sym test ∙ c.if-not-can_adjust.true))
 
 pub returns-clause-row : goal.returns-clause-row
 unfolding closes_with puts
@@ -70,10 +70,10 @@ returns-clause-row g c =
     let moved = rw back at c.move_own.ensures.row in
     let each = rw back at c.correct_each.ensures.row in
     closes_same own round c.group-group.ensures.group (
-    Performs_from {p = LeadStands} {before = (c.group-group.new.self, ((c.args.station.now, tt), c.args.clock.now))}
-    (λ past h. record { first = MasterStands_same past c.args.self.now c.group-group.new.self (ap peers_of c.group-group.ensures.slaves) c.group-group.ensures.rounds (λ q. ap (λ es. entry_of es q) c.group-group.ensures.slaves) h.first; second = h.second })
+    Performs_from {p = LeadStands} {before = (record { master = c.group-group.new.self; station = c.args.station.now; clock = c.args.clock.now })}
+    (λ past h. record { master = MasterStands_same past c.args.self.now c.group-group.new.self (ap peers_of c.group-group.ensures.slaves) c.group-group.ensures.rounds (λ q. ap (λ es. entry_of es q) c.group-group.ensures.slaves) h.master; station = h.station; acted = h.acted; clock = h.clock })
     (Performs_then_part (can_adjust (mean_by own k)) abandons
-    (λ past h. ap (λ z. can_adjust z x past) (sym is) ∙ ap (λ t. is_clock_value (t +ℤ mean)) (target-is x past c.args.clock.now h.second.second) ∙ sym test ∙ c.if-not-can_adjust.false)
+    (λ past h. ap (λ z. can_adjust z x past) (sym is) ∙ ap (λ t. is_clock_value (t +ℤ mean)) (target-is x past c.args.clock.now h.clock) ∙ sym test ∙ c.if-not-can_adjust.false)
     (rw (← is) (Performs_then (Performs_quiet _ c.args.clock.now (Emits_puts (CloseAct k.count k.lo k.width mean) refl) (Performs_idle (CloseAct k.count k.lo k.width mean) refl put))
     (Performs_then (moved c.group-group.new.self c.args.station.now) (each_same mean c.group-group.ensures.slaves c.group-group.ensures.rounds each))))))
 
@@ -89,4 +89,4 @@ returns-clause-corrects g c past h =
     let is : mean ≡ mean_by own k = c.mean_by-mean.ensures.value in
     let test = rw back at c.can_adjust.ensures in
     sym (ap (λ j. corrects (closes_with own j round x past)) (sym c.group-group.ensures.group)
-    ∙ corrects-closes own k round x past true (ap (λ z. can_adjust z x past) (sym is) ∙ ap (λ t. is_clock_value (t +ℤ mean)) (target-is x past c.args.clock.now h.second.second) ∙ sym test ∙ c.if-not-can_adjust.false))
+    ∙ corrects-closes own k round x past true (ap (λ z. can_adjust z x past) (sym is) ∙ ap (λ t. is_clock_value (t +ℤ mean)) (target-is x past c.args.clock.now h.clock) ∙ sym test ∙ c.if-not-can_adjust.false))

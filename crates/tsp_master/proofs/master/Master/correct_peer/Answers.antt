@@ -16,7 +16,7 @@ pub returns-in-None-clause-row : goal.returns-in-None-clause-row
 unfolding corrects_peer corrects_by puts
 returns-in-None-clause-row g c =
     let is : estimate_with c.args.self.now.rounds c.args.peer ≡ None = estimate-sample (best_of (measured_with c.args.self.now.rounds c.args.peer).samples) ∙ ap (option_map estimate_in) (sym c.in-None.ensures) in
-    rw is (Performs_lead _ _ c.args.clock.now (Emits_puts (Leave c.args.peer) refl) (λ past h. MasterStands_leaves c.args.peer c.args.at.tick past _ _ c.leave.ensures.entries c.leave.ensures.peers refl h.first)
+    rw is (Performs_lead _ _ c.args.clock.now (Emits_puts (Leave c.args.peer) refl) (λ past h. MasterStands_leaves c.args.peer c.args.at.tick past _ _ c.leave.ensures.entries c.leave.ensures.peers refl h.master)
     (Performs_idle (Leave c.args.peer) refl c.put.ensures.acts))
 
 pub returns-then-is_near-clause-row : goal.returns-then-is_near-clause-row

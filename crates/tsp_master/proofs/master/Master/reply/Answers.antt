@@ -12,10 +12,10 @@ returns-in-Request-clause-row g c = rw c.in-Request.is Performs_nothing
 pub returns-then-is_some-clause-row : goal.returns-then-is_some-clause-row
 returns-then-is_some-clause-row g c =
     rw c.in-Reply.is (Performs_from
-    (λ past h. record { stands = h; goes = ap (λ (d : Deadlines). is_some d.close) (sym h.second.first.first.alarms) ∙ ap is_some (sym c.at.ensures) ∙ sym c.is_some.ensures ∙ c.if-is_some.true })
+    (λ past h. record { stands = h; goes = ap (λ (d : Deadlines). is_some d.close) (sym h.station.alarms) ∙ ap is_some (sym c.at.ensures) ∙ sym c.is_some.ensures ∙ c.if-is_some.true })
     (c.sample.ensures.row c.args.station.now))
 
 pub returns-else-is_some-clause-row : goal.returns-else-is_some-clause-row
 returns-else-is_some-clause-row g c =
     rw c.in-Reply.is (Performs_idle_reply c.args.from c.in-Reply.reply _
-    (λ past h. ap (λ (d : Deadlines). is_some d.close) (sym h.second.first.first.alarms) ∙ ap is_some (sym c.at.ensures) ∙ sym c.is_some.ensures ∙ c.if-is_some.false))
+    (λ past h. ap (λ (d : Deadlines). is_some d.close) (sym h.station.alarms) ∙ ap is_some (sym c.at.ensures) ∙ sym c.is_some.ensures ∙ c.if-is_some.false))

@@ -13,7 +13,7 @@ use Rattle.tsp_master.proofs.master.Master.ring.Goals as goal
 
 pub returns-in-Probe-clause-row : goal.returns-in-Probe-clause-row
 unfolding master_rings
-returns-in-Probe-clause-row g c = rw c.in-Probe.is (Performs_to (λ past h. rings_stand past _ _ _ h) c.ring_probe.ensures.row)
+returns-in-Probe-clause-row g c = rw c.in-Probe.is (Performs_to (λ past h. rings_stand past _ h) c.ring_probe.ensures.row)
 
 pub returns-in-Probe-clause-corrects : goal.returns-in-Probe-clause-corrects
 unfolding master_rings
@@ -21,7 +21,7 @@ returns-in-Probe-clause-corrects g c past h = rw c.in-Probe.is (sym (probe-corre
 
 pub returns-in-Close-clause-row : goal.returns-in-Close-clause-row
 unfolding master_rings
-returns-in-Close-clause-row g c = rw c.in-Close.is (Performs_to (λ past h. rings_stand past _ _ _ h) c.ring_close.ensures.row)
+returns-in-Close-clause-row g c = rw c.in-Close.is (Performs_to (λ past h. rings_stand past _ h) c.ring_close.ensures.row)
 
 pub returns-in-Close-clause-corrects : goal.returns-in-Close-clause-corrects
 unfolding master_rings
@@ -29,7 +29,7 @@ returns-in-Close-clause-corrects g c past h = rw c.in-Close.is (c.ring_close.ens
 
 pub returns-in-Round-clause-row : goal.returns-in-Round-clause-row
 unfolding master_rings
-returns-in-Round-clause-row g c = rw c.in-Round.is (Performs_to (λ past h. rings_stand past _ _ _ h) c.ring_round.ensures.row)
+returns-in-Round-clause-row g c = rw c.in-Round.is (Performs_to (λ past h. rings_stand past _ h) c.ring_round.ensures.row)
 
 pub returns-in-Round-clause-corrects : goal.returns-in-Round-clause-corrects
 unfolding master_rings
@@ -43,4 +43,4 @@ returns-in_default-clause-corrects g c past h = rw (master_rings-other c.args.gr
 
 pub returns-in-Close-clause-recent : goal.returns-in-Close-clause-recent
 returns-in-Close-clause-recent g c e past h alone p s b =
-    since_correct past c.args.self.now p s h.first (goes_where c.args.tick past (ap (λ (d : Deadlines). is_over d.close c.args.tick) (sym h.second.first.alarms) ∙ rw e at c.requires.due)) alone b
+    since_correct past c.args.self.now p s h.master (goes_where c.args.tick past (ap (λ (d : Deadlines). is_over d.close c.args.tick) (sym h.station.alarms) ∙ rw e at c.requires.due)) alone b

@@ -20,17 +20,17 @@ pub returns-then-not-is_in_time-clause-row : goal.returns-then-not-is_in_time-cl
 unfolding close_rings abandons puts
 returns-then-not-is_in_time-clause-row g c =
     let x = c.args.tick in
-    Performs_else_part (is_in_time Close) (reading round_at (closes c.args.own)) (λ past h. let a = h.second.first.alarms in cc)
+    Performs_else_part (is_in_time Close) (reading round_at (closes c.args.own)) (λ past h. let a = h.station.alarms in cc)
     (Performs_then
     (Performs_rung (Late Close) _ _ c.args.clock.now refl (λ past. refl)
-    (λ past h. let a = h.second.first.alarms in MasterStands_late_close x past _ (no_probe x past _ (ap (λ (d : Deadlines). is_over d.probe x) (sym a) ∙ c.requires.order) (ap (λ (d : Deadlines). is_over d.close x) (sym a) ∙ c.requires.due) h.first) h.first)
+    (λ past h. let a = h.station.alarms in MasterStands_late_close x past _ (no_probe x past _ (ap (λ (d : Deadlines). is_over d.probe x) (sym a) ∙ c.requires.order) (ap (λ (d : Deadlines). is_over d.close x) (sym a) ∙ c.requires.due) h.master) h.master)
     (λ past h k. k) (c.late.ensures.row x))
-    (Performs_lead _ _ c.args.clock.now (Emits_puts Abandon refl) (λ past h. MasterStands_abandon x past _ h.first) (Performs_acting (c.abandon.ensures.row x))))
+    (Performs_lead _ _ c.args.clock.now (Emits_puts Abandon refl) (λ past h. MasterStands_abandon x past _ h.master) (Performs_acting (c.abandon.ensures.row x))))
 
 pub returns-then-not-is_in_time-clause-corrects : goal.returns-then-not-is_in_time-clause-corrects
 unfolding close_rings abandons puts either_by ◌followed_by◌
 returns-then-not-is_in_time-clause-corrects g c past h =
-    let late : is_in_time Close c.args.tick past ≡ false = let a = h.second.first.alarms in cc in
+    let late : is_in_time Close c.args.tick past ≡ false = let a = h.station.alarms in cc in
     rw late refl
 
 pub returns-clause-row : goal.returns-clause-row
@@ -38,12 +38,12 @@ unfolding close_rings closes puts
 returns-clause-row g c =
     let x = c.args.tick in
     let m = c.args.self.now in
-    Performs_then_part (is_in_time Close) (puts (Late Close) followed_by abandons) (λ past h. let a = h.second.first.alarms in cc)
+    Performs_then_part (is_in_time Close) (puts (Late Close) followed_by abandons) (λ past h. let a = h.station.alarms in cc)
     (Performs_reading round_at (closes c.args.own) (round_of m.slaves m.rounds)
-    (λ past h. round-is x past m (goes_where x past (ap (λ (d : Deadlines). is_over d.close x) (sym h.second.first.alarms) ∙ c.requires.due)) h.first)
+    (λ past h. round-is x past m (goes_where x past (ap (λ (d : Deadlines). is_over d.close x) (sym h.station.alarms) ∙ c.requires.due)) h.master)
     (Performs_then
     (Performs_rung (Ring Close) _ _ c.args.clock.now refl (λ past. refl)
-    (λ past h. let a = h.second.first.alarms in MasterStands_ring_close x past _ (no_probe x past _ (ap (λ (d : Deadlines). is_over d.probe x) (sym a) ∙ c.requires.order) (ap (λ (d : Deadlines). is_over d.close x) (sym a) ∙ c.requires.due) h.first) h.first)
+    (λ past h. let a = h.station.alarms in MasterStands_ring_close x past _ (no_probe x past _ (ap (λ (d : Deadlines). is_over d.probe x) (sym a) ∙ c.requires.order) (ap (λ (d : Deadlines). is_over d.close x) (sym a) ∙ c.requires.due) h.master) h.master)
     (λ past h k. k) (c.ring.ensures.row x))
     c.close.ensures.row))
 
@@ -52,9 +52,9 @@ unfolding close_rings closes puts either_by reading ◌followed_by◌
 returns-clause-corrects g c past h =
     let x = c.args.tick in
     let m = c.args.self.now in
-    let a = h.second.first.alarms in
+    let a = h.station.alarms in
     let timely : is_in_time Close x past ≡ true = cc in
-    let round = round-is x past m (goes_where x past (ap (λ (d : Deadlines). is_over d.close x) (sym a) ∙ c.requires.due)) h.first in
+    let round = round-is x past m (goes_where x past (ap (λ (d : Deadlines). is_over d.close x) (sym a) ∙ c.requires.due)) h.master in
     rw (timely, round) (c.close.ensures.corrects _
-    ((Performs_rung {Q = LeadStands} (Ring Close) m m c.args.clock.now refl (λ q. refl) (λ q k. MasterStands_ring_close x q m (no_probe x q m (ap (λ (d : Deadlines). is_over d.probe x) (sym k.second.first.alarms) ∙ c.requires.order) (ap (λ (d : Deadlines). is_over d.close x) (sym k.second.first.alarms) ∙ c.requires.due) k.first) k.first)
+    ((Performs_rung {Q = LeadStands} (Ring Close) m m c.args.clock.now refl (λ q. refl) (λ q k. MasterStands_ring_close x q m (no_probe x q m (ap (λ (d : Deadlines). is_over d.probe x) (sym k.station.alarms) ∙ c.requires.order) (ap (λ (d : Deadlines). is_over d.close x) (sym k.station.alarms) ∙ c.requires.due) k.master) k.master)
     (λ q k l. l) (c.ring.ensures.row x)).stands past h))

@@ -18,10 +18,10 @@ use Rattle.tsp_master.proofs.master.Master.ring_probe.Goals as goal
 pub returns-then-not-is_in_time-clause-row : goal.returns-then-not-is_in_time-clause-row
 unfolding probe_rings abandons puts
 returns-then-not-is_in_time-clause-row g c =
-    Performs_else_part (is_in_time Probe) (puts (Ring Probe) followed_by (asks_measured followed_by arms_next)) (λ past h. let a = h.second.first.alarms in cc)
+    Performs_else_part (is_in_time Probe) (puts (Ring Probe) followed_by (asks_measured followed_by arms_next)) (λ past h. let a = h.station.alarms in cc)
     (Performs_then
-    (Performs_rung (Late Probe) _ _ c.args.clock.now refl (λ past. refl) (λ past h. MasterStands_late_probe c.args.tick past _ h.first) (λ past h k. k) (c.late.ensures.row c.args.tick))
-    (Performs_lead _ _ c.args.clock.now (Emits_puts Abandon refl) (λ past h. MasterStands_abandon c.args.tick past _ h.first) (Performs_acting (c.abandon.ensures.row c.args.tick))))
+    (Performs_rung (Late Probe) _ _ c.args.clock.now refl (λ past. refl) (λ past h. MasterStands_late_probe c.args.tick past _ h.master) (λ past h k. k) (c.late.ensures.row c.args.tick))
+    (Performs_lead _ _ c.args.clock.now (Emits_puts Abandon refl) (λ past h. MasterStands_abandon c.args.tick past _ h.master) (Performs_acting (c.abandon.ensures.row c.args.tick))))
 
 pub returns-then-count_probe-clause-row : goal.returns-then-count_probe-clause-row
 unfolding probe_rings puts
@@ -29,12 +29,12 @@ returns-then-count_probe-clause-row g c =
     let x = c.args.tick in
     let due = over-some c.args.station.now.alarms.probe x c.requires.due in
     let low = met-some c.args.station.now.alarms.probe x due.0 (sym c.is_in_time.ensures ∙ c.if-not-is_in_time.false) due.1 in
-    Performs_then_part (is_in_time Probe) (puts (Late Probe) followed_by abandons) (λ past h. let a = h.second.first.alarms in cc)
+    Performs_then_part (is_in_time Probe) (puts (Late Probe) followed_by abandons) (λ past h. let a = h.station.alarms in cc)
     (Performs_then
     (Performs_rung {Q = ProbesStands x} (Ring Probe) _ _ c.args.clock.now refl (λ past. refl)
-    (λ past h. MasterStands_ring_probe x past _ _ refl c.if-count_probe.ensures.counts h.first)
+    (λ past h. MasterStands_ring_probe x past _ _ refl c.if-count_probe.ensures.counts h.master)
     (λ past h k.
-    let p = h.first.probing due.0 (ap (λ (d : Deadlines). d.probe) (sym h.second.first.alarms) ∙ due.1) in
+    let p = h.master.probing due.0 (ap (λ (d : Deadlines). d.probe) (sym h.station.alarms) ∙ due.1) in
     record { stands = k; goes = p.0; early = rings_early x due.0 past p low })
     (c.ring.ensures.row x))
     (Performs_then c.ask_measured.ensures.row (c.arm_next.ensures.row c.args.clock.now)))

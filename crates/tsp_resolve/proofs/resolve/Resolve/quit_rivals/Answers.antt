@@ -61,5 +61,5 @@ returns-clause-row g c =
     let ps = c.args.station.now.peers in
     let n = c.loop-place.place in
     let all : take n ps ≡ ps = take_all n ps (omega (arith, c.loop-place-test.false, ap length c.peers-place-end.ensures.value)) in
-    Performs_reading rivals_at (for_each (begins Quit)) (marked ps c.args.self.now.marks) (λ past h. rivals-marked c.args.tick past c.args.self.now ps c.peers-place-end.ensures.valid h.second.first.peers h.first)
+    Performs_reading rivals_at (for_each (begins Quit)) (marked ps c.args.self.now.marks) (λ past h. rivals-marked c.args.tick past c.args.self.now ps c.peers-place-end.ensures.valid h.station.peers h.resolve)
     (rw all at c.loop-place.invariant.row)

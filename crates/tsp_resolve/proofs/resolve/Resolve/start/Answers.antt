@@ -17,10 +17,10 @@ pub returns-in-Some-clause-row : goal.returns-in-Some-clause-row
 unfolding resolves
 returns-in-Some-clause-row g c =
     Performs_then_part (is_armed ResolveAlarm) (arms ResolveAlarm WINDOW followed_by posts_to_others Resolve 0)
-    (λ past h. ap (λ a. is_some (deadline a ResolveAlarm)) (sym h.second.alarms) ∙ ap is_some (sym c.at.ensures ∙ c.in-Some.is)) Performs_nothing
+    (λ past h. ap (λ a. is_some (deadline a ResolveAlarm)) (sym h.station.alarms) ∙ ap is_some (sym c.at.ensures ∙ c.in-Some.is)) Performs_nothing
 
 pub returns-in-None-clause-row : goal.returns-in-None-clause-row
 unfolding resolves
 returns-in-None-clause-row g c =
-    Performs_else_part (is_armed ResolveAlarm) nothing (λ past h. ap (λ a. is_some (deadline a ResolveAlarm)) (sym h.second.alarms) ∙ ap is_some (sym c.at.ensures ∙ c.in-None.is))
+    Performs_else_part (is_armed ResolveAlarm) nothing (λ past h. ap (λ a. is_some (deadline a ResolveAlarm)) (sym h.station.alarms) ∙ ap is_some (sym c.at.ensures ∙ c.in-None.is))
     (Performs_then (Performs_resolving c.args.self.now (Emits_arms ResolveAlarm WINDOW refl) c.arm.ensures.row) (Performs_resolving c.args.self.now (Emits_posts_to_others Resolve 0 refl) (c.post_to_others.ensures.row c.args.tick)))
