@@ -10,3 +10,4 @@ pub mod dates;
 mod pass;
 mod set;
 pub mod take;
+mod task;
