@@ -56,9 +56,9 @@ AlsoStands_by row e x past state h = record {
 -- a call of the station that leaves alone what stands beside it
 pub Performs_station : {row : Row} {x : ℕ} {port : Port} {before after : Station} {last : LastValue} {clock : ClockValue} {took : Option Received} {old new : List Placed} → Keeps AlsoStands row → Performs Stands Stands row x port before after old new →
     Performs SlaveStands SlaveStands row x port (record { station = before; last = last; clock = clock; took = took }) (record { station = after; last = last; clock = clock; took = took }) old new
-Performs_station {row = row} {x = x} {before = before} {last = last} {clock = clock} {took = took} k d = record {
+Performs_station {row = row} {x = x} {last = last} {clock = clock} {took = took} k d = record {
   acts = λ past h. d.acts past h.station;
   stands = λ past h.
-      let also = k x past (record { station = before; last = last; clock = clock; took = took }) (record { last = h.last; clock = h.clock; took = h.took }) in
+      let also = k x past (record { last = last; clock = clock; took = took }) (record { last = h.last; clock = h.clock; took = h.took }) in
       record { station = d.stands past h.station; last = also.last; clock = also.clock; took = also.took };
 }

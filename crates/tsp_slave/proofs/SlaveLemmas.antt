@@ -30,7 +30,7 @@ use Rattle.tsp_acks.proofs.StandsLemmas.{Stands_idle}
 use Rattle.tsp_clock.specs.Clocks.{ClockValue}
 use Rattle.tsp_clock.specs.ClockStands.{ClockStands}
 use Rattle.tsp_slave.specs.Lasts.{LastValue}
-use Rattle.tsp_slave.specs.SlaveStands.{AlsoStands, SlaveState, SlaveStands}
+use Rattle.tsp_slave.specs.SlaveStands.{AlsoStands, SlaveStands}
 use Rattle.tsp_slave.proofs.BesideLemmas.{AlsoStands_by, beside_sorts}
 
 abbrev pub is_correct : Act → Bool
@@ -70,13 +70,10 @@ pub Performs_since_taken : {row : Row} {x : ℕ} {port : Port} {before after : S
 Performs_since_taken {row = row} {x = x} {before = before} last clock took r e k d = record {
   acts = λ past h. d.acts past (acting_at past h);
   stands = λ past h.
-      let also = k x past now (record { last = h.last; clock = h.clock; took = h.took }) in
+      let also = k x past (record { last = last; clock = clock; took = took }) (record { last = h.last; clock = h.clock; took = h.took }) in
       record { station = (d.stands past (acting_at past h)).stands; last = also.last; clock = also.clock; took = also.took };
 } where
-  now : SlaveState
-  now = record { station = before; last = last; clock = clock; took = took }
-
-  acting_at : (past : Past) → SlaveStands past now → StandsActing past before
+  acting_at : (past : Past) → SlaveStands past (record { station = before; last = last; clock = clock; took = took }) → StandsActing past before
   acting_at past h = record { stands = h.station; acted = taken-acts past.seen r (h.took ∙ e) }
 
 -- a port that begins to follow keeps the name that was taken

@@ -21,20 +21,26 @@ Took past took = taken past.seen ≡ took
 abbrev pub IsMessage : PeerId → MessageValue → Option Received → Type 0
 IsMessage p m took = took ≡ Some (record { from = Peer p; taken = Good (Message m) })
 
--- a port's station, what it remembers, its node's clock, and what the step took
+-- what stands beside a station: what it remembers, its node's clock, and what the step took
+pub record AlsoState : Type 0 where
+  pub last : LastValue
+  pub clock : ClockValue
+  pub took : Option Received
+
+-- each of these is what the past comes to
+pub record AlsoStands (past : Past) (also : AlsoState) : Type 0 where
+  pub last : Remembers past also.last
+  pub clock : ClockStands past also.clock
+  pub took : Took past also.took
+
+-- a port's station, and what stands beside it
 pub record SlaveState : Type 0 where
   pub station : Station
   pub last : LastValue
   pub clock : ClockValue
   pub took : Option Received
 
--- what stands beside the station: what is remembered, the clock, and what was taken
-pub record AlsoStands (past : Past) (state : SlaveState) : Type 0 where
-  pub last : Remembers past state.last
-  pub clock : ClockStands past state.clock
-  pub took : Took past state.took
-
--- the station, what it remembers, the clock, and what was taken are what the past comes to
+-- each of these is what the past comes to
 pub record SlaveStands (past : Past) (state : SlaveState) : Type 0 where
   pub station : Stands past state.station
   pub last : Remembers past state.last
