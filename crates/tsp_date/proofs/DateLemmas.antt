@@ -35,7 +35,7 @@ use Rattle.tsp_acks.proofs.StandsLemmas.{Stands_idle}
 use Rattle.tsp_clock.specs.Clocks.{ClockValue}
 use Rattle.tsp_clock.specs.ClockStands.{ClockStands}
 use Rattle.tsp_slave.specs.Lasts.{LastValue}
-use Rattle.tsp_slave.specs.SlaveStands.{AlsoStands}
+use Rattle.tsp_slave.specs.SlaveStands.{AlsoState, AlsoStands}
 use Rattle.tsp_slave.proofs.BesideLemmas.{AlsoStands_by, beside_sorts}
 use Rattle.tsp_master.specs.declared.entry.Entry.{Entry}
 use Rattle.tsp_master.specs.declared.master.Master.{Master}
@@ -51,13 +51,17 @@ use Rattle.tsp_date.proofs.KeepLemmas.{DatesStand_by}
 abbrev pub posting : List Sort
 posting = Posting ∷ []
 
+-- what stands beside the station, the master and the dates
+abbrev also_of : DateState → AlsoState
+also_of s = record { last = s.last; clock = s.clock; took = s.took }
+
 -- such rows leave alone what is remembered of corrections, the clock, and what was taken
-also-kept : (s : DateState) (row : Row) → Emits beside_sorts row → (x : ℕ) (past : Past) → DateStands past s → AlsoStands (grown x past (row x past)) (s.last, (s.clock, s.took))
-also-kept s row e x past h = AlsoStands_by row e x past (s.last, (s.clock, s.took)) (record { first = h.last; second = record { first = h.clock; second = h.took } })
+also-kept : (s : DateState) (row : Row) → Emits beside_sorts row → (x : ℕ) (past : Past) → DateStands past s → AlsoStands (grown x past (row x past)) (also_of s)
+also-kept s row e x past h = AlsoStands_by row e x past (also_of s) (record { last = h.last; clock = h.clock; took = h.took })
 
 -- what stands beside the station, and the station
-stands-with : {past : Past} (s : DateState) → DatesStand past s.dates → MasterStands past s.master → Stands past s.station → AlsoStands past (s.last, (s.clock, s.took)) → DateStands past s
-stands-with s dates master station also = record { dates = dates; master = master; station = station; last = also.first; clock = also.second.first; took = also.second.second }
+stands-with : {past : Past} (s : DateState) → DatesStand past s.dates → MasterStands past s.master → Stands past s.station → AlsoStands past (also_of s) → DateStands past s
+stands-with s dates master station also = record { dates = dates; master = master; station = station; last = also.last; clock = also.clock; took = also.took }
 
 -- a call of the station that the rest doesn't feel
 pub Performs_posting : (s : DateState) {row : Row} {x : ℕ} {port : Port} {before after : Station} {old new : List Placed} → Emits (Posting ∷ []) row →
@@ -88,19 +92,19 @@ DatesStand_asks q time x past old new e acts h = record {
 }
 
 pub Performs_asks : (s : DateState) (q : PeerId) (time : ℤ) {x : ℕ} {port : Port} {before after : Station} (dates asked : DatesValue) (r : Received) {old new : List Placed} → s.took ≡ Some r → asked ≡ record dates { asked = Some x } →
-    Performs StandsActing StandsActing (begins_timed SetDateReq q time) x port (before, tt) (after, tt) old new →
+    Performs StandsActing StandsActing (begins_timed SetDateReq q time) x port before after old new →
     Performs DateStands DateStands (begins_timed SetDateReq q time) x port (record s { dates = dates; station = before }) (record s { dates = asked; station = after }) old new
 Performs_asks s q time {x = x} {before = before} {after = after} dates asked r t e d =
     let row = begins_timed SetDateReq q time in
     let sorts = begins-emits q time in
     record {
-      acts = λ past h. d.acts past (record { first = h.station; second = taken-acts past.seen r (h.took ∙ t) });
+      acts = λ past h. d.acts past (record { stands = h.station; acted = taken-acts past.seen r (h.took ∙ t) });
       stands = λ past h.
           let acts : acting past.seen ≡ true = taken-acts past.seen r (h.took ∙ t) in
           stands-with (record s { dates = asked; station = after })
           (DatesStand_asks q time x past dates asked e acts h.dates)
           (Keeps_by quiet_sorts MasterStands row MasterStands_quiet (Emits_more numbering refl sorts) x past s.master h.master)
-          (d.stands past (record { first = h.station; second = acts })).first
+          (d.stands past (record { stands = h.station; acted = acts })).stands
           (also-kept (record s { dates = dates; station = before }) row (Emits_more numbering refl sorts) x past h);
     }
 
