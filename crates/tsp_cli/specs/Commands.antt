@@ -1,4 +1,4 @@
--- What each command of the program comes to.
+-- What comes of each command of the program.
 use Rattle.std.specs.Prelude.{◌≡◌, ◌≢◌, ◌⊎◌, ◌≤◌, ℕ, ℤ, Bool, true, List, length, Option, Some}
 use Rattle.tsp_query.specs.declared.exit.QueryExit.{QueryExit}
 use Rattle.tsp_query.specs.Asks.{AsksAs}
@@ -27,7 +27,9 @@ use Rattle.tsp_cli.specs.declared.status.Status.TheVariants.{Ok, NoAnswer, OutOf
 use Rattle.tsp_cli.specs.Lines.{LineCommand, Replay as Replays, Show as Shows, Pack as Packs, Icmp as Averages, Runs}
 use Rattle.tsp_cli.specs.Statuses.{status_of, status_of_served, status_of_asking, status_of_storm}
 
--- what the four objects of a run are at one moment: what is left of the source, whether it gave its end, what sink, link and ticker tell, and the counts of failed reads, of failed writes, of failed binds and receives, and of failed sends
+-- what the four objects of a run hold at one moment: what is left of the source, and whether a read came to its end;
+-- what is told of sink, link and ticker; and the counts of failed reads, of failed writes, of failed binds and
+-- receives, and of failed sends
 pub record Now : Type 0 where
   pub left : Option (List ℕ)
   pub ended : Bool
@@ -37,61 +39,66 @@ pub record Now : Type 0 where
   pub links : ℕ
   pub sends : ℕ
 
--- a command that reads lines runs
+-- what comes of a command that reads lines
 abbrev pub RunsLines : LineCommand → Now → Now → Status → Type 0
 RunsLines c old new status = Runs c old.left new.left old.told.written new.told.written new.ended old.reads new.reads old.writes new.writes status
 
--- a daemon runs
+-- what comes of a daemon. The last numbers are the link's count of faults and the sink's, each before and after
 pub record RunsDaemon (s : ServeWords) (old new : Observed) (links links_now writes writes_now : ℕ) (status : Status) : Type 0 where
   -- how it ended
   pub served : DaemonExit
   pub status_is : status ≡ status_of_served served
-  -- where the outside is told: what was sent and written, and what came of the wall clock
+  -- if the outside is told: what was sent and written, and what came of the wall clock
   pub serves : (o : Outside) (wall : ℤ) (word : ℕ) (written : List ℕ) → Knows o wall word written old → ServesAs s o wall word written old new served
-  -- at a told wall clock in its range, where no count rose but that of failed sends: the status is Ok, or there was no memory
+  -- if the wall clock is told and in its range, and no count rose but that of failed sends: the status is Ok, or
+  -- OutOfMemory
   pub complete : (wall : ℤ) → old.wall ≡ Some wall → is_clock_value wall ≡ true → ¬ Rose links links_now → ¬ Rose writes writes_now → (status ≡ Ok) ⊎ (status ≡ OutOfMemory)
 
--- a question to a daemon runs
+-- what comes of a question to a daemon. The last numbers are the counts of the link's faults, of its failed sends, and
+-- of the sink's faults, each before and after
 pub record RunsQuery (daemon : Addr) (q : Query) (old new : Observed) (links links_now sends sends_now writes writes_now : ℕ) (status : Status) : Type 0 where
   -- how it ended
   pub asking : QueryExit
   pub status_is : status ≡ status_of_asking asking
-  -- where the outside is told: the one datagram that was sent, the answer among what came, and the line of it
+  -- if the outside is told: the one datagram that was sent, the answer among what came, and its line
   pub asks : (o : Outside) (wall : ℤ) (word : ℕ) (written : List ℕ) → Knows o wall word written old → AsksAs daemon q o wall word written old new sends sends_now asking
-  -- where no count rose: the status is Ok or NoAnswer, or there was no memory
+  -- if no count rose: the status is Ok, NoAnswer or OutOfMemory
   pub complete : ¬ Rose links links_now → ¬ Rose sends sends_now → ¬ Rose writes writes_now → (status ≡ Ok) ⊎ (status ≡ NoAnswer) ⊎ (status ≡ OutOfMemory)
 
--- a schedule is made of a number, and run
+-- what comes of a storm: a schedule that is made from a number, and run
 pub record RunsStorm (s : StormWords) (written now : Option (List ℕ)) (writes writes_now : ℕ) (status : Status) : Type 0 where
   -- how it ended
   pub end : StormEnd
   pub status_is : status ≡ status_of_storm end
-  -- what was written: the summary of the run, the number of the event for which there was no room, or a part of either
+  -- what was written: the summary of the run, or the number of the event for which there was no room, or the beginning
+  -- of one
   pub storms : StormsAs s written now end
-  -- end and text are the answer to the words, but for a failed write and lack of memory
+  -- the end and the text are the answer to the words, unless a write failed or memory ran out
   pub answers : (e : StormEnd) (text : List ℕ) → IsAnswer s e text → Agrees e text written now end
-  -- where there is room for each event and no write failed: the status is Ok, or there was no memory
+  -- if there is room for each event and no write failed: the status is Ok, or OutOfMemory
   pub complete : HasRoom s → ¬ Rose writes writes_now → (status ≡ Ok) ⊎ (status ≡ OutOfMemory)
 
--- the trace is judged that is claimed for a schedule. The counts are those of failed reads and failed writes, before and after
+-- what comes of an audit, which judges the trace that is claimed for a schedule. The last numbers are the counts of
+-- failed reads and of failed writes, each before and after
 pub record RunsAudit (input left written now : Option (List ℕ)) (ended : Bool) (reads reads_now writes writes_now : ℕ) (status : Status) : Type 0 where
-  -- how the treatment of its lines ended
+  -- how reading its lines and writing the verdict ended
   pub outcome : Outcome
   pub status_is : status ≡ status_of outcome
-  -- what that says of input and output: where a read failed, nothing was written
+  -- what that says of input and output: if a read failed, nothing was written
   pub comes : ComesGathered auditing MOST_INPUT input left written now outcome
-  -- of a told input: it agrees with the answer to it
+  -- if the input is told: it agrees with the answer to it
   pub answers : Answers auditing MOST_INPUT input written now outcome
-  -- of a told input, where no count rose: the status is that of the answer, or there was no memory
+  -- if the input is told and no count rose: the status is that of the answer, or OutOfMemory
   pub decided : (octets : List ℕ) (answer : Outcome) (output : List ℕ) → input ≡ Some octets → IsAnswerTo auditing MOST_INPUT octets answer output → ¬ Rose reads reads_now → ¬ Rose writes writes_now → (status ≡ status_of answer) ⊎ (status ≡ OutOfMemory)
-  -- of a told input of at most 64 MiB of which nothing is refused, where no count rose: the status is Ok, or there was no memory
+  -- if the input is told, has at most 64 MiB, nothing of it is refused, and no count rose: the status is Ok, or
+  -- OutOfMemory
   pub complete : (octets : List ℕ) → input ≡ Some octets → length octets ≤ MOST_INPUT → IsAuditText octets → ¬ Rose reads reads_now → ¬ Rose writes writes_now → (status ≡ Ok) ⊎ (status ≡ OutOfMemory)
-  -- the input was read to its end, or to the first octet past the limit, unless a read failed or there was no memory
+  -- the input was read to its end, or to the first octet past the limit, unless a read failed or memory ran out
   pub gathered : status ≢ ReadFault → status ≢ OutOfMemory → IsGathered MOST_INPUT input left ended
-  -- with Ok the source gave its end
+  -- with Ok the source was read to its end
   pub whole : status ≡ Ok → ended ≡ true
 
--- what a command does
+-- what comes of each command: the objects before and after it, and its status
 abbrev pub Does : Command → Now → Now → Status → Type 0
 Does Replay old new status = RunsLines Replays old new status
 Does Show old new status = RunsLines Shows old new status
@@ -102,11 +109,12 @@ Does (Ask a q) old new status = RunsQuery a q old.told new.told old.links new.li
 Does (Storm s) old new status = RunsStorm s old.told.written new.told.written old.writes new.writes status
 Does Audit old new status = RunsAudit old.left new.left old.told.written new.told.written new.ended old.reads new.reads old.writes new.writes status
 
--- the same, or there was no memory for the command's parts, and nothing has changed
+-- the same, or there was no memory for the command's own parts, and nothing has changed
 abbrev pub DoesOrNot : Command → Now → Now → Status → Type 0
 DoesOrNot c old new status = ((status ≡ OutOfMemory) × (new ≡ old)) ⊎ Does c old new status
 
--- which objects a command leaves as they are: one that reads lines the link and the ticker, one of a daemon's the source, and a storm all three
+-- which objects a command leaves unchanged: one that reads lines, the link and the ticker; a daemon or a question, the
+-- source; a storm, all three
 abbrev pub Untouched : {S L T : Type 0} → Command → S → S → L → L → T → T → Type 0
 Untouched (Serve s) source source_now link link_now ticker ticker_now = source_now ≡ source
 Untouched (Ask a q) source source_now link link_now ticker ticker_now = source_now ≡ source

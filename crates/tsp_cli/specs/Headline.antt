@@ -1,4 +1,4 @@
--- The headline: what a replay that ends well has read and written. And what any other has, up to where it ended.
+-- What a replay that ends with status 0 has read and written, and what any other has, up to where it ended.
 use Rattle.std.specs.Prelude.{◌≡◌, ◌⊎◌, ◌<◌, ◌+◌, ℕ, List, [], ◌++◌, length, reverse, Option, All}
 use Rattle.tsp_base.specs.declared.event.Event.{Event}
 use Rattle.tsp_base.specs.Headers.{HeaderValue}
@@ -19,31 +19,36 @@ use Rattle.tsp_run.specs.Ranges.{Accepted}
 use Rattle.tsp_run.specs.Run.{run}
 use Rattle.tsp_run.specs.Setting.{SetBy}
 
--- the input was the text of a schedule whose header and events are in their ranges and of which no event is refused, nothing of it is left, and what was written is exactly the trace of its run, whose history keeps the promises, each under its premises; and where a premise holds of the text, it holds of the history
+-- the input was the text of a schedule, all of it was read, its header and events are in their ranges, and none of its
+-- events is refused. What was written is exactly the trace of its run. The run's history keeps the promises, each under
+-- its premises; and a premise that holds of the text holds of the history
 abbrev pub PrintsHistory : Option (List ℕ) → Option (List ℕ) → Option (List ℕ) → Option (List ℕ) → Type 0
 PrintsHistory input left written now =
     (header : HeaderValue) × (events : List Event) × (octets : List ℕ) × IsInput MOST_INPUT input octets × IsSchedule octets header events × Accepted header events × IsOver left × Grows written now (trace header events)
     × ((setting : Setting) → SetBy header setting → Promises setting (run header events)) × KeptByText header events
 
--- a header and events that a world accepts, whose history keeps the promises, each under its premises; and where a premise holds of the text, it holds of the history
+-- a header and events that are accepted, and whose history keeps the promises, each under its premises; and a premise
+-- that holds of the text holds of the history
 abbrev pub KeepsPromises : HeaderValue → List Event → Type 0
 KeepsPromises header events = Accepted header events × ((setting : Setting) → SetBy header setting → Promises setting (run header events)) × KeptByText header events
 
--- what the lines of a schedule tell that have come so far: those of its header nothing; those of a header and events the trace of their run, which keeps the promises
+-- the trace of the lines of a schedule that have come so far: nothing, as long as they are of its header; later the
+-- trace of their run, which keeps the promises
 abbrev pub TellsSoFar : Progress → List ℕ → Type 0
 TellsSoFar (Running header events) text = KeepsPromises header events × (text ≡ trace header events)
 TellsSoFar (Ended header events) text = KeepsPromises header events × (text ≡ trace header events)
 TellsSoFar _ text = text ≡ []
 
--- what may stand behind the trace of these lines: nothing, or one line, which refuses the line behind them or says that it passes a limit
+-- what may come after the trace of these lines: nothing, or one line, which refuses the next line of the input or says
+-- that it passes a limit
 abbrev pub IsLastLine : List (List ℕ) → List ℕ → Type 0
 IsLastLine lines said = (said ≡ []) ⊎ (((cause : List ℕ) × (said ≡ bad_line (length lines + 1) cause)) ⊎ (said ≡ limit_line (length lines + 1)))
 
--- what was written is a part of this trace and of the line behind it, from the beginning on, and these octets are left
+-- of this trace and the line after it the beginning was written; these octets of them were not
 abbrev pub WritesOnly : List (List ℕ) → List ℕ → Option (List ℕ) → Option (List ℕ) → List ℕ → Type 0
 WritesOnly lines text written now rest = (said : List ℕ) × (part : List ℕ) × IsLastLine lines said × (text ++ said ≡ part ++ rest) × Grows written now part
 
--- how much of this trace and of the line behind it was written, by the status; no other comes
+-- how much of this trace and of the line after it was written, by the status; a replay ends with no other status
 abbrev pub WritesSoFar : Status → List (List ℕ) → List ℕ → Option (List ℕ) → Option (List ℕ) → Type 0
 WritesSoFar Ok lines text written now = Grows written now text
 WritesSoFar Bad lines text written now = (cause : List ℕ) × Grows written now (text ++ bad_line (length lines + 1) cause)
@@ -53,7 +58,8 @@ WritesSoFar Limit lines text written now = Grows written now (text ++ limit_line
 WritesSoFar OutOfMemory lines text written now = (rest : List ℕ) × WritesOnly lines text written now rest
 WritesSoFar _ lines text written now = ⊥
 
--- the input begins with lines that were accepted as those of a schedule, and what was written is, as far as the status says, what they tell and one line at most behind it
+-- the input begins with lines that were accepted as those of a schedule. What was written is their trace and at most
+-- one line after it, or the beginning of these, as the status says
 abbrev pub PrintsSoFar : Option (List ℕ) → Option (List ℕ) → Option (List ℕ) → Status → Type 0
 PrintsSoFar input written now status =
     (lines : List (List ℕ)) × (p : Progress) × (text : List ℕ) × All NoFeed lines × HasLines MOST_INPUT input lines × Reaches (reverse lines) p × TellsSoFar p text × WritesSoFar status lines text written now

@@ -1,4 +1,4 @@
--- The exit status of each way to end.
+-- The exit status of each way to end, as docs/FORMATS.md lists them.
 use Rattle.std.specs.Prelude.{ℕ}
 use Rattle.tsp_query.specs.declared.exit.QueryExit.{QueryExit}
 use Rattle.tsp_query.specs.declared.exit.QueryExit.TheVariants.{Answered, NoAnswer as Unanswered, LinkFault as NotAsked, WriteFault as Untold, OutOfMemory as Unasked}
@@ -11,7 +11,7 @@ use Rattle.tsp_storm.specs.declared.run.StormEnd.TheVariants.{Done as Summed, Li
 use Rattle.tsp_daemon.specs.declared.exit.DaemonExit.{DaemonExit}
 use Rattle.tsp_daemon.specs.declared.exit.DaemonExit.TheVariants.{Done as AllTurns, BadWall, LinkFault as NotHeard, WriteFault as NotShown, OutOfMemory as Unserved}
 
--- the exit status
+-- the exit status, as a number
 abbrev pub status_number : Status → ℕ
 status_number Done = 0
 status_number Usage = 1
@@ -23,7 +23,7 @@ status_number NoAnswer = 6
 status_number Limit = 7
 status_number OutOfMemory = 8
 
--- the status of what the treatment of an input comes to
+-- the status of a command that reads lines, by how that ended
 abbrev pub status_of : Outcome → Status
 status_of Treated = Done
 status_of Refused = Bad
@@ -32,7 +32,7 @@ status_of NotWritten = WriteFault
 status_of Limited = Limit
 status_of NoMemory = OutOfMemory
 
--- the status of what a daemon comes to
+-- the status of a daemon, by how it ended
 abbrev pub status_of_served : DaemonExit → Status
 status_of_served AllTurns = Done
 status_of_served BadWall = Bad
@@ -40,7 +40,7 @@ status_of_served NotHeard = LinkFault
 status_of_served NotShown = WriteFault
 status_of_served Unserved = OutOfMemory
 
--- the status of what a question comes to
+-- the status of a question, by how it ended
 abbrev pub status_of_asking : QueryExit → Status
 status_of_asking Answered = Done
 status_of_asking Unanswered = NoAnswer
@@ -48,7 +48,7 @@ status_of_asking NotAsked = LinkFault
 status_of_asking Untold = WriteFault
 status_of_asking Unasked = OutOfMemory
 
--- the status of what a storm comes to
+-- the status of a storm, by how it ended
 abbrev pub status_of_storm : StormEnd → Status
 status_of_storm Summed = Done
 status_of_storm Full = Limit

@@ -1,4 +1,4 @@
-//! The texts that the program prints of itself.
+//! What the program prints about itself.
 ghost use Rattle.std.specs.Prelude.{◌≡◌, ◌⊎◌, codes, IfSome, IfNone};
 ghost use Rattle.tsp_cli.specs.Usage.{IsAlone};
 
@@ -39,7 +39,7 @@ that fails, 6 for no answer, 7 for a limit and 8 for want of memory.
 /// What `--version` prints.
 pub const VERSION: &[u8] = b"tsp 0.1\n";
 
-/// The text that the words ask for: none but where `--help` or `--version` stands alone.
+/// The text that the words ask for, if they are `--help` or `--version` and nothing else.
 pub fn asked(words: &[String]) -> Option<&'static [u8]>
     ensures asked { IfSome result (λ text. (IsAlone words.now (codes "--help")
         × (text.now ≡ HELP.now)) ⊎ (IsAlone words.now (codes "--version")

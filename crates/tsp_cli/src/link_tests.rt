@@ -164,7 +164,7 @@ fn question(
 
 /// A request is answered and nothing shown; a step that turns the trace on is shown. A send that
 /// fails is a lost datagram. A bind or a receive that fails ends the daemon, and so does a write,
-/// behind what was written.
+/// after what was written.
 #[test]
 fn daemons_run(rt: HostRuntime) {
     for row in [

@@ -1,4 +1,7 @@
-//! The program: one call over standard input, standard output, a UDP socket and the machine's clocks.
+//! The program `tsp`, a time service after 4.3BSD's timed: one call, `run`, over standard input, standard
+//! output, a UDP socket and the machine's clocks. `run` is where the proofs meet: its clauses `headline` and
+//! `so_far` (`specs/Headline.antt`, `docs/HEADLINE.md`) say what a replay has read and written, and its clause
+//! `does` (`specs/Commands.antt`) says so of each command.
 #![tactic(auto)]
 
 mod help;
@@ -28,8 +31,8 @@ use tsp_io::clock::MachineTicker;
 use tsp_io::machine::{Reading, Writing};
 use tsp_io::udp::UdpLink;
 
-/// The words after the program's name: none where one of them isn't UTF-8, and no answer where memory
-/// for them is refused.
+/// The words after the program's name; no words if one of them isn't UTF-8. Fails only if out of
+/// memory.
 fn words_of(rt: &(impl Env + AllocGlobal)) -> Result<Vec<String>, AllocError> {
     let alloc = rt.alloc();
     match env::args(rt) {
@@ -39,7 +42,7 @@ fn words_of(rt: &(impl Env + AllocGlobal)) -> Result<Vec<String>, AllocError> {
     }
 }
 
-/// Does what the words ask for, over the machine's own streams, network and clocks.
+/// Does what the words ask for, with the machine's own streams, network and clocks.
 fn answer(rt: HostRuntime, words: &[String]) -> Status {
     let mut sink = Writing::new(io::writer(&rt));
     if let Some(text) = help::asked(words) {
@@ -58,7 +61,7 @@ fn answer(rt: HostRuntime, words: &[String]) -> Status {
     )
 }
 
-/// Logs how the program ends, where it doesn't end well.
+/// Logs the exit status, if it isn't 0.
 fn warn_of(rt: &impl Log, status: Status) {
     let number = status.number();
     if number != 0 {

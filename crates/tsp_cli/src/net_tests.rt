@@ -3,8 +3,8 @@ use crate::status::Status;
 use crate::tests::replayed;
 use std::alloc::{AllocError, Global};
 
-/// A node that joins two networks, follows on both and is corrected on the lower port alone; the
-/// last event is on a port that it lacks.
+/// A node that joins two networks, follows a master on each and is corrected on the lower port alone;
+/// the last event is on a port that it doesn't have.
 const JOINS: &str = "\
 tsp-schedule 1
 drift 0
@@ -66,8 +66,9 @@ fn a_gateway_follows_on_two_networks(rt: HostRuntime) -> Result<(), AllocError> 
     Ok(())
 }
 
-/// Networks stand behind the nodes, ascending and of nodes that there are, each node in 4 at the
-/// most; and a header that has networks ends only where each node is in one.
+/// The lines of networks come after those of the nodes. The numbers of a network are ascending and of
+/// nodes that there are, each node is in at most 4, and a header with networks ends only if each node
+/// is in one.
 #[test]
 fn networks_have_their_place(rt: HostRuntime) -> Result<(), AllocError> {
     let alloc = rt.alloc();

@@ -1,4 +1,4 @@
-//! The top call.
+//! The top call, which does what the program's words ask for.
 ghost use Rattle.std.specs.Prelude.{◌≡◌, ◌≢◌, ◌≤◌, ◌⊎◌, [], ◌∷◌, true, false, map, codes, string_bytes};
 ghost use Rattle.tsp_io.specs.Counts.{Rose};
 ghost use Rattle.tsp_args.specs.Commands.{IsCommand, IsNoCommand, words_of};
@@ -31,7 +31,7 @@ use tsp_query::command::ask;
 use tsp_replay::run::replay;
 use tsp_storm::run::storm;
 
-/// Writes a text, and then answers with this status; with another one where not all of it was written.
+/// Writes a text and answers with this status; with another one if not all of the text was written.
 pub fn say<K: Sink>(sink: &mut K, text: &[u8], status: Status) -> Status
     ensures says { Says text.now status (K.written sink.old) (K.written sink.new) result }
     ensures later { K.faults sink.old ≤ K.faults sink.new }
@@ -51,17 +51,19 @@ pub fn say<K: Sink>(sink: &mut K, text: &[u8], status: Status) -> Status
 /// Does what the words after the program's name ask for.
 ///
 /// `replay`, `show`, `pack`, `icmp` and `audit`, each alone, read the source to its end and write
-/// to the sink; link and ticker are left alone. `serve` runs a daemon over link and ticker, and the
-/// questions `msite`, `clockdiff`, `trace`, `election` and `date` ask one; these leave the source
-/// alone. `storm` makes a schedule, runs it and writes a summary; it touches the sink alone. Any
-/// other words are `Usage`, and nothing but the sink is touched.
+/// to the sink; they don't touch link and ticker. `serve` runs a daemon over link and ticker, and
+/// the questions `msite`, `clockdiff`, `trace`, `election` and `date` ask one; these don't touch
+/// the source. `storm` makes a schedule from a number, runs it and writes a summary; it touches
+/// only the sink. At any other words the line `usage` is written, the status is `Usage`, and only
+/// the sink is touched.
 ///
 /// Of each command it is said what was read, sent and written with each status
-/// (`specs/Commands.antt`). A fault of reading, of writing or of the link comes only where that
-/// object's count rose: for the link the count of failed binds and receives, or, for a question,
-/// that of failed sends. With valid input, where no count rises, a run ends with `Ok` (a question:
-/// with `Ok` or `NoAnswer`), or for lack of memory. What a replay has printed is the trace of a run
-/// that keeps its promises, or the beginning of one, however it ends (`specs/Headline.antt`).
+/// (`specs/Commands.antt`). `ReadFault`, `WriteFault` and `LinkFault` come only if that object's
+/// count of faults rose: the link's is that of failed binds and receives, or, for a question, also
+/// that of failed sends. With valid input, and if no count rises, a run ends with `Ok` (a question
+/// with `Ok` or `NoAnswer`), unless it runs out of memory. What a replay has written is the trace
+/// of a run that keeps its promises, or the beginning of one, however it ends
+/// (`specs/Headline.antt`).
 pub fn run<S: Source, K: Sink, L: Link, T: Ticker>(
     alloc: Global,
     words: &[String],
@@ -148,7 +150,7 @@ pub fn run<S: Source, K: Sink, L: Link, T: Ticker>(
     }
 }
 
-/// Does what a command asks for.
+/// Does what a command asks for; its parts are in memory already.
 fn run_command<S: Source, K: Sink, L: Link, T: Ticker>(
     alloc: Global,
     command: &Command,
@@ -229,7 +231,7 @@ fn run_command<S: Source, K: Sink, L: Link, T: Ticker>(
     }
 }
 
-/// Runs a daemon.
+/// Runs a daemon, and gives the status of its end.
 fn run_daemon<K: Sink, L: Link, T: Ticker>(
     alloc: Global,
     words: &ServeWords,
@@ -279,7 +281,7 @@ fn run_daemon<K: Sink, L: Link, T: Ticker>(
     Status::of_served(serve_words(alloc, words, sink, link, ticker))
 }
 
-/// Asks a daemon.
+/// Asks a daemon, and gives the status of its end.
 fn run_query<K: Sink, L: Link, T: Ticker>(
     daemon: Addr,
     query: &Query,
@@ -330,7 +332,7 @@ fn run_query<K: Sink, L: Link, T: Ticker>(
     Status::of_asking(ask(daemon, query, sink, link, ticker))
 }
 
-/// Makes a schedule, runs it, and writes the summary of its run.
+/// Makes a schedule from a number, runs it, and writes the summary of its run.
 fn run_storm<K: Sink>(alloc: Global, words: &StormWords, sink: &mut K) -> Status
     requires { IsStorm words.now }
     ensures runs { RunsStorm words.now (K.written sink.old) (K.written sink.new) (K.faults sink.old)

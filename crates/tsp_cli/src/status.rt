@@ -7,26 +7,27 @@ use tsp_lines::treat::Outcome;
 use tsp_query::exit::QueryExit;
 use tsp_storm::run::StormEnd;
 
-/// What a run comes to; the number is the program's exit status, 0 to 8 in this order.
+/// How a run of the program ends; the number is its exit status, 0 to 8 in this order.
 #[derive(Clone, Copy, PartialEq, Eq, Debug)]
 pub enum Status {
-    /// The input was read to its end.
+    /// All went well: the input was read to its end, the daemon took its turns, or the question was
+    /// answered.
     Ok,
     /// The words are no command.
     Usage,
-    /// A line or an event was refused, or a daemon's wall clock.
+    /// A line or an event of the input was refused, or a daemon's wall clock is out of its range.
     Bad,
     /// A read failed.
     ReadFault,
     /// A write failed.
     WriteFault,
-    /// A bind or a receive failed, or a question's send.
+    /// A bind or a receive failed, or the send of a question.
     LinkFault,
-    /// A query had no answer.
+    /// A question had no answer.
     NoAnswer,
-    /// A limit was passed.
+    /// A limit was passed, such as that of the input's size or of a schedule's events.
     Limit,
-    /// There was no memory.
+    /// Out of memory.
     OutOfMemory,
 }
 
@@ -37,7 +38,7 @@ impl Status {
     {
         *self as u8
     }
-    /// The status of what the treatment of an input comes to.
+    /// The status of a command that reads lines, by how that ended.
     pub fn of(outcome: Outcome) -> Status
         ensures { result ≡ status_of outcome }
     {
@@ -51,7 +52,7 @@ impl Status {
         }
     }
 
-    /// The status of what a daemon comes to.
+    /// The status of a daemon, by how it ended.
     pub fn of_served(served: DaemonExit) -> Status
         ensures { result ≡ status_of_served served }
     {
@@ -64,7 +65,7 @@ impl Status {
         }
     }
 
-    /// The status of what a storm comes to.
+    /// The status of a storm, by how it ended.
     pub fn of_storm(end: StormEnd) -> Status
         ensures { result ≡ status_of_storm end }
     {
@@ -76,7 +77,7 @@ impl Status {
         }
     }
 
-    /// The status of what a question to a daemon comes to.
+    /// The status of a question to a daemon, by how it ended.
     pub fn of_asking(asking: QueryExit) -> Status
         ensures { result ≡ status_of_asking asking }
     {

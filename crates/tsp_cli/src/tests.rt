@@ -312,7 +312,7 @@ fn a_failed_read_ends_the_replay(rt: HostRuntime) -> Result<(), AllocError> {
     Ok(())
 }
 
-/// A line of 1,100 octets behind a node's line is refused where it ends.
+/// A line of 1,100 octets after a node's line is refused where it ends.
 #[test]
 fn long_lines_are_refused(rt: HostRuntime) -> Result<(), AllocError> {
     let alloc = rt.alloc();

@@ -18,50 +18,50 @@ use Rattle.tsp_daemon.specs.Posts.{sends_of}
 use Rattle.tsp_daemon.specs.Sessions.{Session, port_from, acts_in, shown, turned, after_turns, unheard, waited, Rises}
 use Rattle.tsp_daemon.specs.Waits.{NotesWaits}
 
--- what a node with these ports is given by what a receive gave
+-- what a node with these ports is given by the answer of a receive
 abbrev pub given_by : List PortSetup → Recv → List ℕ → NodeGiven
 given_by ports (Datagram from count) octets = GotOn (port_from ports from) from (taken_of (take count octets))
 given_by ports _ octets = NodeTurn
 
--- the octets that a receive counts lie in the buffer
+-- a receive counts no more octets than the buffer has
 abbrev pub IsCount : Recv → ℕ → Type 0
 IsCount (Datagram from count) room = count ≤ room
 IsCount _ room = Unit {0}
 
--- these sends more were tried
+-- all of these sends were tried, after those before
 abbrev pub TriesAll : List Tried → Option (List Tried) → Option (List Tried) → Type 0
 TriesAll sends tried more = more ≡ option_map (λ ts. ts ++ sends) tried
 
--- of these sends some were tried, from the first on
+-- of these sends the first ones were tried, maybe none or all
 abbrev pub TriesSome : List Tried → Option (List Tried) → Option (List Tried) → Type 0
 TriesSome sends tried more = (part : List Tried) × (rest : List Tried) × (sends ≡ part ++ rest) × TriesAll part tried more
 
--- of this text a part was written, from its front on
+-- of this text the beginning was written, maybe nothing or all
 abbrev pub WritesSome : List ℕ → Option (List ℕ) → Option (List ℕ) → Type 0
 WritesSome text written now = (part : List ℕ) × (rest : List ℕ) × (text ≡ part ++ rest) × Grows written now part
 
--- the same, and it isn't the whole
+-- of this text the beginning was written, and not all
 abbrev pub CutsShort : List ℕ → Option (List ℕ) → Option (List ℕ) → Type 0
 CutsShort text written now = (part : List ℕ) × (rest : List ℕ) × (0 < length rest) × (text ≡ part ++ rest) × Grows written now part
 
--- how far the writing of a text has come that ends so
+-- how much of a text was written if its writing ends so: after a failed write not all of it; without memory any part
 abbrev pub TellsUntil : List ℕ → Option (List ℕ) → Option (List ℕ) → ServeEnd → Type 0
 TellsUntil text written now Done = ⊥
 TellsUntil text written now LinkFault = ⊥
 TellsUntil text written now WriteFault = CutsShort text written now
 TellsUntil text written now OutOfMemory = WritesSome text written now
 
--- how far sends and, after them, the writing of a text have come that end so
+-- how far it came if sends, and after them the writing of a text, end so
 abbrev pub FinishesUntil : List Tried → List ℕ → Option (List Tried) → Option (List Tried) → Option (List ℕ) → Option (List ℕ) → ServeEnd → Type 0
 FinishesUntil sends text tried more written now OutOfMemory = (TriesSome sends tried more × (now ≡ written)) ⊎ (TriesAll sends tried more × WritesSome text written now)
 FinishesUntil sends text tried more written now end = TriesAll sends tried more × TellsUntil text written now end
 
--- the node stands for some past
+-- the node stands for some past: it is in the state that this past gives
 pub record Lives (node : Gateway) : Type 0 where
   pub past : NodePast
   pub stands : GatewayStands past node
 
--- the node, the course and what is told of the outside are where a session has come to
+-- the node, its counts, and what the link, the ticker and the sink hold are those of this session
 pub record IsAt (s : Session) (node : Gateway) (course : Counters) (arrivals : Option (List Arrival)) (tried : Option (List Tried)) (calls : Option ℕ) (readings : Option (List ℕ)) (last : ℕ) (written : Option (List ℕ)) : Type 0 where
   pub stands : GatewayStands s.past node
   pub turns_is : course.turns ≡ s.turns
@@ -69,11 +69,12 @@ pub record IsAt (s : Session) (node : Gateway) (course : Counters) (arrivals : O
   pub tells : Tells s.outside arrivals tried calls readings last
   pub written_is : written ≡ Some s.written
 
--- what a turn has come to whose step's first sends were tried: it has waited, and taken what came
+-- the outside in a turn after the first of its sends were tried: it has waited, and taken what came
 abbrev pub tried_some : List Tried → Session → Outside
 tried_some part s = record (waited s.outside) { tried = s.outside.tried ++ part }
 
--- a turn after this session ends the daemon. Where there is no memory for the desk nothing has happened; where there is none for a send, those before it were tried
+-- the turn after this session ends the daemon so. Done never comes of a turn. Out of memory comes at one of three
+-- places: before the turn did anything; at a send, after those before it were tried; or at a line
 abbrev pub EndsTurn : Session → Option (List Arrival) → Option (List Tried) → Option ℕ → Option (List ℕ) → ℕ → Option (List ℕ) → ServeEnd → Type 0
 EndsTurn s arrivals tried calls readings last written Done = ⊥
 EndsTurn s arrivals tried calls readings last written LinkFault = Tells (unheard s.outside) arrivals tried calls readings last × (written ≡ Some s.written)
@@ -83,18 +84,20 @@ EndsTurn s arrivals tried calls readings last written OutOfMemory =
     ⊎ ((part : List Tried) × (rest : List Tried) × (sends_of (acts_in s) ≡ part ++ rest) × Tells (tried_some part s) arrivals tried calls readings last × (written ≡ Some s.written))
     ⊎ (Tells (turned s).outside arrivals tried calls readings last × WritesSome (shown s) (Some s.written) written)
 
--- how many receives a session makes that ends so behind this many turns: one in each, and one in the turn that ended it, but where there was no memory for the desk of that
+-- how many receives a session makes that ends so after i turns: one for each turn, and one for the turn that ended it,
+-- unless it ran out of memory before the receive
 abbrev pub IsReceived : ℕ → ℕ → ServeEnd → Type 0
 IsReceived i received Done = received ≡ i
 IsReceived i received OutOfMemory = (received ≡ i) ⊎ (received ≡ i + 1)
 IsReceived i received end = received ≡ i + 1
 
--- a session of so many turns ends so behind this many: all were taken, or the next one ended it
+-- a session of so many turns ends so after i of them: all were taken, or the next one ended it
 abbrev pub ServesUntil : ℕ → ℕ → Session → Option (List Arrival) → Option (List Tried) → Option ℕ → Option (List ℕ) → ℕ → Option (List ℕ) → ServeEnd → Type 0
 ServesUntil turns i s arrivals tried calls readings last written Done = (i ≡ turns) × Tells (after_turns i s).outside arrivals tried calls readings last × (written ≡ Some (after_turns i s).written)
 ServesUntil turns i s arrivals tried calls readings last written end = (i < turns) × EndsTurn (after_turns i s) arrivals tried calls readings last written end
 
--- behind how many turns a session of so many ends, and how; no tick of them fell; and how many receives it made, each of which waited as long as its turn says
+-- after how many turns a session of so many ends, and how; the ticks of its steps never fell; and how many receives it
+-- made, each of which waited as long as its turn says
 abbrev pub Serves : ℕ → Session → Option (List Arrival) → Option (List Tried) → Option ℕ → Option (List ℕ) → ℕ → Option (List ℕ) → Option (List ℕ) → Option (List ℕ) → ServeEnd → Type 0
 Serves turns s arrivals tried calls readings last written waits waits_now end =
     (i : ℕ) × (received : ℕ) × ServesUntil turns i s arrivals tried calls readings last written end × Rises i s × IsReceived i received end × NotesWaits s received waits waits_now

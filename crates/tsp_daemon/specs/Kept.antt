@@ -12,7 +12,8 @@ use Rattle.tsp_promises.specs.Setting.{Setting}
 use Rattle.tsp_rules.specs.NodeRows.{no_port}
 use Rattle.tsp_daemon.specs.Nodes.{is_strict, setups_from}
 
--- a setting of a daemon that booted at this tick, with this wall clock: true time is its own ticks, it is node 0, and each of its ports is on a network of its own with the peers that its words name
+-- a setting of a daemon that booted at this tick with this wall clock: true time is counted in its own ticks, it is
+-- node 0, and each of its ports is on a network of its own, with the peers that its words name
 pub record SetByWords (s : ServeWords) (tick : ℕ) (wall : ℤ) (setting : Setting) : Type 0 where
   pub drift_is : setting.drift ≡ 0
   pub wall_is : setting.wall 0 +ℤ pos tick ≡ wall
@@ -20,7 +21,8 @@ pub record SetByWords (s : ServeWords) (tick : ℕ) (wall : ℤ) (setting : Sett
   pub strict_is : setting.strict ≡ is_strict s.candidacy
   pub members_are : (q : Port) → q.0 < length s.ports → setting.members (setting.net 0 q) ≡ (slice_index_or (setups_from 0 s.ports) q.0 no_port).peers
 
--- a history fits, and ends where a step ends: so it keeps all that is promised; what asks for no premise it keeps whoever sends to the node
+-- a history fits, and ends where a step ends, so it keeps the promises: those without premises hold whoever sends to
+-- the node
 pub record HistoryKept (setting : Setting) (lines : List Line) : Type 0 where
   pub fits : Fits setting lines
   pub finished : Finished lines

@@ -15,15 +15,16 @@ use Rattle.tsp_args.specs.declared.serve.ServeWords.{ServeWords}
 abbrev pub peer_of : ℕ → PeerId
 peer_of number = record { 0 = number }
 
--- the peers of a port behind so many of earlier ports: the daemon itself, which is peer 0, and so many more
+-- the peers of a port that come after so many peers of earlier ports: the daemon itself, which is peer 0, and `count`
+-- more
 abbrev pub port_peers : ℕ → ℕ → List PeerId
 port_peers done count = peer_of 0 ∷ map (λ number. peer_of number) (range_with_len (done + 1) count)
 
--- how such a port is set up
+-- how a port with these peers is set up
 abbrev pub setup_of : ℕ → ℕ → PortSetup
 setup_of done count = record { own = peer_of 0; peers = port_peers done count }
 
--- how ports are set up behind so many peers of earlier ones: peers are numbered from 1 over all ports, in the order of the words
+-- how ports are set up: their peers are numbered over all ports, in the order of the words, after so many before them
 abbrev pub setups_from : ℕ → List (List Addr) → List PortSetup
 setups_from done [] = []
 setups_from done (peers ∷ ports) = setup_of done (length peers) ∷ setups_from (done + length peers) ports
@@ -40,7 +41,8 @@ is_strict Never = false
 is_strict Plain = false
 is_strict Strict = true
 
--- what the node is set up with: its name, its candidacy, and a port for each list of peers
+-- what the node is set up with: its name, whether it may be master, whether elections are strict, and one port for each
+-- list of peers
 abbrev pub config_of : ServeWords → GateConfigValue
 config_of s = record {
   name = s.name;
@@ -49,7 +51,8 @@ config_of s = record {
   ports = setups_from 0 s.ports;
 }
 
--- the past of a node that is set up so and is about to boot at this tick, with this wall clock and this word: only the step's mark stands
+-- the past of such a node when it is about to boot, at this tick, with this wall clock (microseconds) and this word:
+-- the only line is the mark of the step
 abbrev pub booting : GateConfigValue → ℕ → ℤ → ℕ → NodePast
 booting c tick wall word = in_node_step (record { at = tick; node = 0; cause = Booted word wall }) tick (record {
   name = c.name;

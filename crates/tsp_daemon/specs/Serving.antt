@@ -1,4 +1,4 @@
--- What the words behind `serve` come to.
+-- What comes of a daemon that the words after `serve` ask for.
 use Rattle.std.specs.Prelude.{◌≡◌, ◌⊎◌, ℕ, ℤ, true, false, List, ◌∷◌, Option, Some, codes}
 use Rattle.tsp_daemon.specs.declared.end.ServeEnd.{ServeEnd}
 use Rattle.tsp_daemon.specs.declared.end.ServeEnd.TheVariants.{Done as AllTurns, LinkFault as Faulty, WriteFault as Unwritten, OutOfMemory as Refused}
@@ -17,18 +17,18 @@ use Rattle.tsp_daemon.specs.declared.exit.DaemonExit.TheVariants.{Done, BadWall,
 use Rattle.tsp_daemon.specs.Nodes.{first_past}
 use Rattle.tsp_daemon.specs.Waits.{NotesWaits}
 
--- what is written where the wall clock is out of its range
+-- the line that is written if the wall clock is out of its range
 abbrev pub bad_wall : List ℕ
 bad_wall = codes "bad wall\n"
 
--- how a daemon ends whose session ended so
+-- how a daemon ends if its session ends so
 abbrev pub served_of : ServeEnd → DaemonExit
 served_of AllTurns = Done
 served_of Faulty = LinkFault
 served_of Unwritten = WriteFault
 served_of Refused = OutOfMemory
 
--- the daemon's session at its beginning: its node has booted at the first reading, where the outside held this before
+-- the daemon's session at its beginning: its node has booted at the tick that was read first
 abbrev pub first_session : ServeWords → Outside → ℤ → ℕ → List ℕ → Session
 first_session s o wall word written = record {
   past = first_past s (read_once o).last wall word;
@@ -38,56 +38,59 @@ first_session s o wall word written = record {
   written = written;
 }
 
--- what the link of a daemon is bound to: its own address is peer 0, and its words' peers stand behind it in their order
+-- what a daemon binds its link to: its own address, which is also that of peer 0, and then the peers of its words, in
+-- their order
 abbrev pub serving_binding : ServeWords → Binding
 serving_binding s = record { local = s.local; peers = s.local ∷ all_peers s.ports }
 
--- there was no memory, where the outside held this: nothing was sent, awaited or written
+-- the daemon ran out of memory at this state of the outside: nothing was sent, awaited or written since
 pub record IsRefused (o : Outside) (written : List ℕ) (waits : Option (List ℕ)) (now : Observed) (served : DaemonExit) : Type 0 where
   pub cause : served ≡ OutOfMemory
   pub tells : Tells o now.arrivals now.tried now.calls now.readings now.last
   pub written_is : now.written ≡ Some written
   pub unwaited : now.waits ≡ waits
 
--- the wall clock is out of its range: one reading was taken, nothing was sent, and what was written says so
+-- the wall clock isn't more than -2^31 s and less than 2^31 s: one tick was read, nothing was sent, and the line `bad
+-- wall` was written, or its beginning
 pub record HasBadWall (o : Outside) (wall : ℤ) (written : List ℕ) (waits : Option (List ℕ)) (now : Observed) (served : DaemonExit) : Type 0 where
   pub out : is_clock_value wall ≡ false
   pub tells : Tells (read_once o) now.arrivals now.tried now.calls now.readings now.last
   pub says : Says bad_wall BadWall WriteFault OutOfMemory (Some written) now.written served
   pub unwaited : now.waits ≡ waits
 
--- the wall clock is in its range: the daemon ends as its session does
+-- the wall clock is in its range, and the daemon ends as its session does
 pub record IsServed (s : ServeWords) (o : Outside) (wall : ℤ) (word : ℕ) (written : List ℕ) (waits : Option (List ℕ)) (now : Observed) (served : DaemonExit) : Type 0 where
   pub within : is_clock_value wall ≡ true
   pub end : ServeEnd
   pub served_is : served ≡ served_of end
-  -- behind how many turns it ended
+  -- after how many turns it ended
   pub taken : ℕ
   pub serves : ServesUntil s.turns taken (first_session s o wall word written) now.arrivals now.tried now.calls now.readings now.last now.written end
   -- each receive waited as long as its turn says
   pub received : ℕ
   pub received_is : IsReceived taken received end
   pub noted : NotesWaits (first_session s o wall word written) received waits now.waits
-  -- what its node did in these turns keeps what is promised without premises
+  -- what its node did in these turns keeps all that is promised without premises
   pub kept : (setting : Setting) → SetByWords s (read_once o).last wall setting → HistoryKept setting (after_turns taken (first_session s o wall word written)).past.lines
 
--- what a daemon comes to whose link is bound, where the outside held this then
+-- what comes of a daemon once its link is bound
 abbrev pub BoundServes : ServeWords → Outside → ℤ → ℕ → List ℕ → Option (List ℕ) → Observed → DaemonExit → Type 0
 BoundServes s o wall word written waits now served =
     IsRefused (read_once o) written waits now served ⊎ HasBadWall o wall written waits now served ⊎ IsServed s o wall word written waits now served
 
--- the bind failed: no reading was taken, nothing sent and nothing written
+-- the bind failed: no tick was read, and nothing was sent or written
 pub record IsUnbound (o : Outside) (written : List ℕ) (waits : Option (List ℕ)) (now : Observed) (served : DaemonExit) : Type 0 where
   pub cause : served ≡ LinkFault
   pub tells : Tells (bound o) now.arrivals now.tried now.calls now.readings now.last
   pub written_is : now.written ≡ Some written
   pub unwaited : now.waits ≡ waits
 
--- the link wasn't bound: there was no memory for the addresses, none for the bind, or the bind failed
+-- the link wasn't bound: there was no memory for the addresses or for the bind, or the bind failed
 abbrev pub ServesUnbound : Outside → List ℕ → Option (List ℕ) → Observed → DaemonExit → Type 0
 ServesUnbound o written waits now served = IsRefused o written waits now served ⊎ IsRefused (bound o) written waits now served ⊎ IsUnbound o written waits now served
 
--- what a daemon comes to, where the outside held this at its beginning. Once its link is bound, to its own address and its peers, the wall clock is read right after the first tick
+-- what comes of a daemon. Its link is bound to its own address and its peers; after that the wall clock is read, right
+-- after the first tick
 abbrev pub ServesAs : ServeWords → Outside → ℤ → ℕ → List ℕ → Observed → Observed → DaemonExit → Type 0
 ServesAs s o wall word written before now served =
     ((now.binds ≡ before.binds) × (now.left_at_wall ≡ before.left_at_wall) × ServesUnbound o written before.waits now served)

@@ -1,4 +1,4 @@
--- A session of the daemon: what its node does turn after turn, what is sent, and what is shown.
+-- A session of the daemon: what its node does turn after turn, what it sends, and what it shows.
 use Rattle.std.specs.Prelude.{ℕ, zero, suc, ◌+◌, ◌≤◌, ◌||◌, List, ◌++◌, length, take, None, Some}
 use Rattle.tsp_base.specs.declared.act.Placed.{Placed}
 use Rattle.tsp_base.specs.declared.place.Place.{Place}
@@ -22,21 +22,22 @@ use Rattle.tsp_daemon.specs.Posts.{sends_of, shown_lines}
 pub record Session : Type 0 where
   -- the node's past
   pub past : NodePast
-  -- what is to arrive and to be read, and what was sent and called
+  -- the datagrams that will arrive and the ticks that will be read; the sends that were tried, and the number of calls
   pub outside : Outside
-  -- the turns taken; the next one's number is one more
+  -- how many turns were taken; the next one has this number plus one
   pub turns : ℕ
-  -- the datagrams posted; this is the next one's number
+  -- how many datagrams were posted; the next one has this number
   pub posts : ℕ
   -- the octets written
   pub written : List ℕ
 
--- the port on which a node takes what comes from somebody: from a peer the lowest one that has it as another's number, from a stranger the first
+-- the port on which a node takes a datagram: from a peer, the lowest port that has it as another node's number; from a
+-- stranger, port 0
 abbrev pub port_from : List PortSetup → Place → Port
 port_from ports (Peer p) = port_of p ports
 port_from ports Stranger = first_port
 
--- what a node with these ports is given by what arrives, of which 512 octets are read
+-- what a node with these ports is given by an arrival, of which the first 512 octets are read
 abbrev pub given_of : List PortSetup → Arrival → NodeGiven
 given_of ports None = NodeTurn
 given_of ports (Some (from, octets)) = GotOn (port_from ports from) from (taken_of (take 512 octets))
@@ -45,11 +46,11 @@ given_of ports (Some (from, octets)) = GotOn (port_from ports from) from (taken_
 abbrev pub read_once : Outside → Outside
 read_once o = record o { readings = rest_of o.readings; last = reading o.last o.readings 0 }
 
--- a receive failed after the first reading of a turn
+-- what is left if the receive of a turn fails, after the turn's first reading
 abbrev pub unheard : Outside → Outside
 unheard o = record (read_once o) { calls = one_more o.calls }
 
--- what a turn finds when its node steps: a reading, one arrival or nothing, and a second reading
+-- what is left when the node of a turn steps, after a reading, a receive and a second reading
 abbrev pub waited : Outside → Outside
 waited o = heard (read_once o)
 
@@ -61,16 +62,16 @@ tick_of s = (waited s.outside).last
 abbrev pub given_in : Session → NodeGiven
 given_in s = given_of s.past.ports (next_arrival s.outside.arrivals)
 
--- the cause of a turn's step: octets were handed to the node, or it was only looked at
+-- the cause of a turn's step: octets were handed to the node, or it looks at its timers
 abbrev pub cause_of : NodeGiven → Cause
 cause_of NodeTurn = Turned
 cause_of (GotOn q from taken) = Handed
 
--- the past when the step of a turn begins at this tick, in which the node is given this
+-- the node's past when the step of a turn begins, with this given to the node at this tick
 abbrev pub begun : NodeGiven → ℕ → NodePast → NodePast
 begun g x past = in_node_step (record { at = x; node = 0; cause = cause_of g }) x past
 
--- the acts of a turn, each with its port: what the node answers to what came, at the second reading
+-- the acts of a turn, each on its port: the node's answer to what came, at the tick of the second reading
 abbrev pub acts_in : Session → List Placed
 acts_in s = answers_all (given_in s) (tick_of s) (begun (given_in s) (tick_of s) s.past)
 
@@ -78,11 +79,11 @@ acts_in s = answers_all (given_in s) (tick_of s) (begun (given_in s) (tick_of s)
 abbrev pub past_after : Session → NodePast
 past_after s = spread (tick_of s) (begun (given_in s) (tick_of s) s.past) (acts_in s)
 
--- the text that a turn shows: the lines of its acts, where the trace was on before the turn or is on after it
+-- the text that a turn shows: the lines of its acts, if the trace was on before the turn or is on after it
 abbrev pub shown : Session → List ℕ
 shown s = shown_lines (tracing (dids s.past.lines) || tracing (dids (past_after s).lines)) (s.turns + 1) (tick_of s) s.posts (acts_in s)
 
--- a turn
+-- the session after one turn more
 abbrev pub turned : Session → Session
 turned s = record {
   past = past_after s;
@@ -92,12 +93,12 @@ turned s = record {
   written = s.written ++ shown s;
 }
 
--- so many turns
+-- the session after so many turns more
 abbrev pub after_turns : ℕ → Session → Session
 after_turns zero s = s
 after_turns (suc n) s = turned (after_turns n s)
 
--- in so many turns no step's tick was below the reading before the turn
+-- in each of so many turns the tick of the step wasn't below the last reading of the turn before
 abbrev pub Rises : ℕ → Session → Type 0
 Rises zero s = Unit {0}
 Rises (suc n) s = Rises n s × ((after_turns n s).outside.last ≤ tick_of (after_turns n s))

@@ -18,7 +18,7 @@ use tsp_io::sink::Sink;
 use tsp_io::ticker::Ticker;
 use tsp_lines::output::{Unwritten, write_all};
 
-/// Says that the wall clock is out of its range.
+/// Writes the line `bad wall`.
 fn say_bad_wall<K: Sink>(sink: &mut K) -> DaemonExit
     ensures says { Says bad_wall DaemonExit.BadWall DaemonExit.WriteFault DaemonExit.OutOfMemory
         (K.written sink.old) (K.written sink.new) result }
@@ -36,7 +36,7 @@ fn say_bad_wall<K: Sink>(sink: &mut K) -> DaemonExit
     }
 }
 
-/// Boots the daemon's node over a link that is bound, and serves its turns.
+/// Reads the clocks, boots the daemon's node, and takes its turns, over a link that is bound.
 fn serve_bound<K: Sink, L: Link, T: Ticker>(
     alloc: Global,
     words: &ServeWords,
@@ -98,16 +98,16 @@ fn serve_bound<K: Sink, L: Link, T: Ticker>(
     }
 }
 
-/// Runs the daemon that the words behind `serve` ask for.
+/// Runs the daemon that the words after `serve` ask for.
 ///
 /// The link is bound with the daemon's own address as peer 0, and then its peers in their order.
-/// The ticker's tick, wall and word are read once each, and the node boots with them; where the
-/// wall doesn't lie strictly between -2^31 and 2^31 seconds, `bad wall` is written. Then the
-/// session takes its turns, as `tsp_daemon` has them. What its node does in them keeps what is
-/// promised without premises (`specs/Kept.antt`).
+/// The ticker's tick, wall clock and word are read once each, in this order, and the node boots
+/// with them. If the wall clock isn't more than -2^31 and less than 2^31 seconds, the line `bad
+/// wall` is written, and no node boots. Then the session takes its turns, as `tsp_daemon` has them.
+/// What its node does in them keeps what is promised without premises (`specs/Kept.antt`).
 ///
-/// `LinkFault` comes only where the bind or a receive failed, and their count rose; `WriteFault`
-/// only where a write failed, and the sink's count rose.
+/// `LinkFault` comes only if the bind or a receive failed, and the link's count of faults rose;
+/// `WriteFault` only if a write failed, and the sink's count rose.
 pub fn serve_words<K: Sink, L: Link, T: Ticker>(
     alloc: Global,
     words: &ServeWords,

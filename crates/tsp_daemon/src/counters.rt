@@ -3,8 +3,8 @@
 /// What the daemon counts over its turns.
 #[derive(Clone, Copy, PartialEq, Eq, Debug)]
 pub(crate) struct Counters {
-    /// The turns taken.
+    /// How many turns were taken.
     pub turns: u64,
-    /// The datagrams posted, which are numbered from 0.
+    /// How many datagrams were posted; they are numbered from 0.
     pub posts: u64,
 }

@@ -1,4 +1,4 @@
-//! How the daemon ends.
+//! How the daemon's session ends.
 
 /// How a session ends.
 #[derive(Clone, Copy, PartialEq, Eq, Debug)]
@@ -9,6 +9,6 @@ pub enum ServeEnd {
     LinkFault,
     /// A write failed.
     WriteFault,
-    /// There was no memory.
+    /// Out of memory.
     OutOfMemory,
 }

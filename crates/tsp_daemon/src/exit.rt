@@ -1,26 +1,27 @@
-//! How a daemon ends.
+//! How the daemon ends as a command.
 ghost use Rattle.std.specs.Prelude.{◌≡◌};
 ghost use Rattle.tsp_daemon.specs.Serving.{served_of};
 
 use crate::end::ServeEnd;
 
-/// How a daemon ends as a command.
+/// How a daemon ends as a command. `tsp_cli` gives each of these ends a status.
 #[derive(Clone, Copy, PartialEq, Eq, Debug)]
 pub enum DaemonExit {
     /// All turns were taken.
     Done,
-    /// The wall clock doesn't lie strictly between -2^31 and 2^31 seconds, and a line says so.
+    /// The wall clock isn't more than -2^31 and less than 2^31 seconds since 1970, and the line
+    /// `bad wall` was written.
     BadWall,
-    /// The bind or a receive failed.
+    /// The bind failed, or a receive did. A failed send is only a lost datagram.
     LinkFault,
     /// A write failed.
     WriteFault,
-    /// There was no memory.
+    /// Out of memory.
     OutOfMemory,
 }
 
 impl DaemonExit {
-    /// How a daemon ends whose session ended so.
+    /// How a daemon ends if its session ends so.
     pub(crate) fn of(end: ServeEnd) -> DaemonExit
         ensures { result ≡ served_of end }
     {

@@ -24,7 +24,8 @@ fn line_of(turn: u64, tick: u64, number: u64, placed: &Placed) -> ArrayVec<u8, 1
     line
 }
 
-/// Writes a line, by one write where the sink takes it whole.
+/// Writes a line, in one write if the sink takes it whole. Fails if a write fails, or if out of
+/// memory; then only its beginning may be written.
 fn tell_line<K: Sink>(sink: &mut K, line: &[u8]) -> Result<(), ServeEnd>
     ensures ok { OnOk result (Grows (K.written sink.old) (K.written sink.new) line.now) }
     ensures err { IfErr result (TellsUntil line.now (K.written sink.old) (K.written sink.new)) }
@@ -42,7 +43,8 @@ fn tell_line<K: Sink>(sink: &mut K, line: &[u8]) -> Result<(), ServeEnd>
     }
 }
 
-/// Writes the lines of the acts of a turn, of which the first post has this number.
+/// Writes the lines of the acts of a turn; the first post among them has the number `first`. Fails
+/// as `tell_line` does.
 pub(crate) fn tell<K: Sink>(
     sink: &mut K,
     turn: u64,

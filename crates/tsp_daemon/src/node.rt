@@ -20,13 +20,14 @@ use tsp_node::BootFault;
 /// Why the node doesn't boot.
 #[derive(Clone, Copy, PartialEq, Eq, Debug)]
 pub(crate) enum Unbooted {
-    /// The wall clock is out of its range.
+    /// The wall clock isn't more than -2^31 and less than 2^31 seconds.
     BadWall,
-    /// There was no memory.
+    /// Out of memory.
     OutOfMemory,
 }
 
-/// The addresses to bind with: the daemon's own, and those of its peers in their order.
+/// The addresses to bind with: the daemon's own, and those of its peers in their order. Fails only
+/// if out of memory.
 pub(crate) fn addrs_of(alloc: Global, words: &ServeWords) -> Result<Vec<Addr>, AllocError>
     ensures { IfOk result (λ addrs. addrs.items ≡ words.now.local ∷ all_peers words.now.ports) }
 {
@@ -37,7 +38,8 @@ pub(crate) fn addrs_of(alloc: Global, words: &ServeWords) -> Result<Vec<Addr>, A
     Ok(addrs)
 }
 
-/// The peers of a port behind so many of earlier ports: the daemon itself, and so many more.
+/// The peers of a port that come after `done` peers of earlier ports: the daemon itself, which is
+/// peer 0, and `count` more. Fails only if out of memory.
 fn port_peers(alloc: Global, done: u32, count: u32) -> Result<Vec<PeerId>, AllocError>
     requires { done + count ≤ 999 }
     ensures { IfOk result (λ peers. peers.items ≡ port_peers done count) }
@@ -50,8 +52,8 @@ fn port_peers(alloc: Global, done: u32, count: u32) -> Result<Vec<PeerId>, Alloc
     Ok(peers)
 }
 
-/// Gives the node one port more, with so many peers behind those of earlier ports. Fails only if
-/// out of memory: a daemon has 4 ports at the most.
+/// Gives the node one port more, with `count` peers, which come after `done` of earlier ports.
+/// Fails only if out of memory: a daemon has 4 ports at most.
 fn join(alloc: Global, config: &mut GateConfig, done: u32, count: u32) -> Result<(), AllocError>
     requires { done + count ≤ 999 }
     ensures { OnOk result (config.new ≡ record config.old {
@@ -88,7 +90,7 @@ fn is_strict(candidacy: Candidacy) -> bool
     }
 }
 
-/// What the node is set up with.
+/// What the node is set up with. Fails only if out of memory.
 fn config_of(alloc: Global, words: &ServeWords) -> Result<GateConfig, AllocError>
     requires { length (all_peers words.now.ports) ≤ 999 }
     ensures { IfOk result (λ config. config ≡ config_of words.now) }
@@ -105,7 +107,7 @@ fn config_of(alloc: Global, words: &ServeWords) -> Result<GateConfig, AllocError
     Ok(config)
 }
 
-/// The node that boots at this tick and wall clock, with this word.
+/// A node that boots at this tick, with this wall clock (microseconds since 1970) and this word.
 pub(crate) fn boot(
     alloc: Global,
     words: &ServeWords,

@@ -9,8 +9,8 @@ use tsp_base::act::{Act, Placed};
 use tsp_codec::encode;
 use tsp_io::link::{Link, Sent};
 
-/// Tries the send of one act, if it posts; a datagram that is lost isn't an error. Fails only if
-/// out of memory: then the send wasn't tried.
+/// Tries the send of an act, if it is a post. A send that fails is a lost datagram, and no error.
+/// Fails only if out of memory: then the send wasn't tried.
 fn send_one<L: Link>(link: &mut L, act: &Act) -> Result<(), AllocError>
     requires known { IsKnown (L.stranger link.old) act.now }
     ensures ok { OnOk result (TriesAll (send_of act.now) (L.tried link.old) (L.tried link.new)) }
@@ -31,8 +31,8 @@ fn send_one<L: Link>(link: &mut L, act: &Act) -> Result<(), AllocError>
     }
 }
 
-/// Tries a send for each act that posts, in order. Fails only if out of memory: then some of the
-/// sends were tried, from the first on.
+/// Tries the sends of all posts among the acts, in order. Fails only if out of memory: then only
+/// the first of them were tried.
 pub(crate) fn send_all<L: Link>(link: &mut L, acts: &[Placed]) -> Result<(), AllocError>
     requires known { AreKnown (L.stranger link.old) acts.now }
     ensures ok { OnOk result (TriesAll (sends_of acts.now) (L.tried link.old) (L.tried link.new)) }
@@ -50,7 +50,7 @@ pub(crate) fn send_all<L: Link>(link: &mut L, acts: &[Placed]) -> Result<(), All
     Ok(())
 }
 
-/// How many sends an act asks for.
+/// How many sends an act asks for: one if it is a post.
 pub(crate) fn posts_by(act: &Act) -> u64
     ensures count { result ≡ length (send_of act.now) }
     ensures one { result ≤ 1 }

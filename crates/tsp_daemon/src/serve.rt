@@ -16,21 +16,22 @@ use tsp_io::link::Link;
 use tsp_io::sink::Sink;
 use tsp_io::ticker::Ticker;
 
-/// Runs a node over a link for so many turns; the node ends with the call.
+/// Runs a node over a link for `turns` turns. The node is gone after the call.
 ///
 /// Each turn reads the ticker, receives, reads the ticker again, and lets the node step with the
 /// datagram that came, or with none. A peer's datagram comes on the lowest port that has the peer
-/// as another's number, and a stranger's on port 0. The turn tries one send for each datagram that
-/// the step posts, in order; one that fails is a lost datagram. Where the trace was on before the
-/// step or is on after it, the lines of its acts are written then: the turn's number from 1 stands
-/// for the event, the node has number 0, each act its port, and datagrams are numbered from 0 over
-/// all turns. So they reach the sink before the next receive. There is one receive for each turn,
-/// and one for the turn that ends the session, but where there was no memory for its desk.
+/// as another node's number, and a stranger's on port 0. The turn tries one send for each datagram
+/// that the step posts, in order; one that fails is a lost datagram. If the trace was on before the
+/// step or is on after it, the lines of its acts are written then: the turn's number, from 1, is in
+/// place of the event's, the node is node 0, each act has its port, and datagrams are numbered from
+/// 0 over all turns. So they reach the sink before the next receive. There is one receive for each
+/// turn, and one for the turn that ends the session, unless that ran out of memory before its
+/// receive.
 ///
-/// `LinkFault` comes only where a receive failed, and its count rose; `WriteFault` only where a
-/// write failed, and the sink's count rose. The node is one that stands for a past, as each does
-/// that `Gateway::boot` gave, and the turns are few enough that the numbers of their datagrams fit
-/// 64 bits.
+/// `LinkFault` comes only if a receive failed, and the link's count of faults rose; `WriteFault`
+/// only if a write failed, and the sink's count rose. The node must stand for a past, as each does
+/// that `Gateway::boot` gave, and the turns must be few enough that the numbers of their datagrams
+/// are less than 2^64.
 pub fn serve<K: Sink, L: Link, T: Ticker>(
     alloc: Global,
     mut gateway: Gateway,

@@ -18,7 +18,8 @@ use tsp_base::place::{Place, Port};
 use tsp_gateway::Gateway;
 use tsp_io::link::Recv;
 
-/// Empties the pad and makes room on it. After the first turn there is room already.
+/// Empties the pad, on which the acts of a step are put, and makes room for `room` acts. Fails only
+/// if out of memory; after the first turn there is room already.
 pub(crate) fn make_room(pad: &mut Pad, room: usize) -> Result<(), AllocError>
     ensures idle { acts_of pad.new ≡ [] }
     ensures room { OnOk result (room ≤ spare_of pad.new) }
@@ -27,7 +28,8 @@ pub(crate) fn make_room(pad: &mut Pad, room: usize) -> Result<(), AllocError>
     pad.reserve(room)
 }
 
-/// The port on which the node takes what comes from somebody.
+/// The port on which the node takes a datagram: from a peer, the lowest port that has it; from a
+/// stranger, port 0.
 fn port_from(node: &Gateway, from: Place) -> Port
     ensures value { result ≡ port_from (setups_in node.now) from }
     ensures inside { result.0 < length (ports_in node.now) }
@@ -38,7 +40,7 @@ fn port_from(node: &Gateway, from: Place) -> Port
     }
 }
 
-/// A step of the node with what a receive gave; its acts stand alone on the pad.
+/// A step of the node with what a receive gave. Its acts are all that is on the pad afterwards.
 pub(crate) fn step(node: &mut Gateway, tick: u64, received: Recv, octets: &[u8], pad: &mut Pad)
     requires tick { IsTick tick }
     requires later { clock_at node.old ≤ tick }

@@ -22,7 +22,8 @@ use tsp_io::link::{Link, Recv};
 use tsp_io::sink::Sink;
 use tsp_io::ticker::Ticker;
 
-/// Tries the sends of the acts of a turn, and then writes their lines where they are to be shown.
+/// Tries the sends of the acts of a turn, and then writes their lines, if they are to be shown.
+/// Fails if a write fails, or if out of memory.
 fn finish<K: Sink, L: Link>(
     shown: bool,
     course: &Counters,
@@ -59,8 +60,9 @@ fn finish<K: Sink, L: Link>(
     Ok(())
 }
 
-/// A turn: a reading, an arrival or nothing, a reading, the node's step, its sends, and the lines
-/// of a traced step.
+/// A turn: reads the tick, waits for a datagram, reads the tick again, and lets the node step; then
+/// tries its sends, and writes the lines of a traced step. Fails if the receive or a write fails,
+/// or if out of memory: that ends the session.
 pub(crate) fn turn<K: Sink, L: Link, T: Ticker>(
     node: &mut Gateway,
     pad: &mut Pad,

@@ -2,8 +2,8 @@
 ghost use Rattle.std.specs.Prelude.{◌≡◌};
 ghost use Rattle.tsp_daemon.specs.Waits.{wait_until};
 
-/// How long to wait for a datagram at this tick, in microseconds: until the node is to be looked
-/// at, but no more than a second and no less than a thousandth of one.
+/// How many microseconds to wait for a datagram at this tick: until tick `due`, when the node's
+/// next alarm or repeat is due, but at least 1,000 and at most 1,000,000.
 pub fn wait_until(due: u64, tick: u64) -> u64
     ensures { result ≡ wait_until due tick }
 {

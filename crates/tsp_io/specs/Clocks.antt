@@ -1,18 +1,19 @@
--- What clocks answer.
+-- What tick counters and wall clocks answer.
 use Rattle.std.specs.Prelude.{◌≡◌, ℕ, ◌^◌, Bool, true, ◌&&◌, nat_le, List, [], ◌∷◌, None, Some, Option, ℤ, pos, negsuc, ◌≤ℤ◌}
 
--- the answer is the next reading, or the last one again once they are used up; where the readings weren't known, they stay so
+-- the answer is the next of the readings, or the last one again once they are used up. If the readings weren't told,
+-- they aren't told afterwards either
 abbrev pub TakesReading : Option (List ℕ) → Option (List ℕ) → ℕ → ℕ → Type 0
 TakesReading None rest last tick = rest ≡ None
 TakesReading (Some []) rest last tick = (rest ≡ Some []) × (tick ≡ last)
 TakesReading (Some (x ∷ xs)) rest last tick = (rest ≡ Some xs) × (tick ≡ x)
 
--- whether these readings never fall, the first being at least this one, and are at most 2 ^ 61
+-- whether these readings never fall, begin at this one or later, and are at most 2^61 microseconds
 abbrev pub climbs : ℕ → List ℕ → Bool
 climbs last [] = true
 climbs last (x ∷ xs) = nat_le last x && (nat_le x (2 ^ 61) && climbs x xs)
 
--- a wall clock's time in microseconds, from -2 ^ 62 to 2 ^ 62
+-- a wall clock's time: from -2^62 to 2^62 microseconds since 1970
 pub record IsWall (x : ℤ) : Type 0 where
   pub low : negsuc 4611686018427387903 ≤ℤ x
   pub high : x ≤ℤ pos 4611686018427387904

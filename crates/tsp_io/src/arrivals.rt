@@ -43,7 +43,7 @@ impl Arrivals {
         }
     }
 
-    /// One more is to come, behind the others.
+    /// Adds an arrival after the others. Fails only if out of memory.
     pub(crate) fn push(&mut self, coming: Coming) -> Result<(), AllocError>
         ensures { MatchResult result (λ _. self.new ≡ self.old ++ arrival_of coming ∷ [])
             (λ _. self.new ≡ self.old) }
@@ -52,7 +52,8 @@ impl Arrivals {
         Ok(())
     }
 
-    /// Takes the next arrival. A datagram's first octets, at most 512, are copied to the front of the buffer.
+    /// Takes the next arrival; None if that is nothing, or if none is left. The first octets of a
+    /// datagram, at most 512, are copied to the front of the buffer.
     pub(crate) fn take(&mut self, buf: &mut [u8]) -> Option<(Place, usize)>
         requires { length buf.old ≡ 512 }
         ensures { MatchOption result (TakesNothing (Some self.old) (Some self.new))

@@ -12,11 +12,10 @@ const LAST_TICK: u64 = 1 << 61;
 const LAST_WALL: u64 = 1 << 62;
 
 /// The machine's monotonic clock as a tick counter, and its wall clock. What they will answer isn't
-/// known beforehand.
+/// told.
 ///
-/// The counter begins at 0 with its first reading. The wall clock is read once; that reading is the
-/// word too. Where the machine gives no reading, the counter answers its last one, and wall and
-/// word are 0.
+/// The counter's first reading is 0. The wall clock is read once; that reading is the word too. If
+/// the machine gives no reading, the counter answers its last one, and wall and word are 0.
 #[derive(Drop)]
 pub struct MachineTicker<R> {
     rt: R,
@@ -40,7 +39,7 @@ impl<R: Clock> MachineTicker<R> {
     }
 }
 
-/// The microseconds since the first reading.
+/// The microseconds since the first reading; None if the machine gives no reading.
 fn since_start(rt: &impl Clock, start: &mut Option<Instant>) -> Option<u64> {
     let now = Instant::now(rt).ok()?;
     let start = *start.get_or_insert(now);
@@ -48,14 +47,16 @@ fn since_start(rt: &impl Clock, start: &mut Option<Instant>) -> Option<u64> {
     u64::try_from(passed.as_micros()).ok()
 }
 
-/// The wall clock in microseconds since 1970.
+/// The wall clock, in microseconds since 1970; None if the machine gives no reading, or an earlier
+/// one.
 fn wall_now(rt: &impl Clock) -> Option<u64> {
     let now = SystemTime::now(rt).ok()?;
     let since = now.duration_since(SystemTime::UNIX_EPOCH).ok()?;
     u64::try_from(since.as_micros()).ok()
 }
 
-/// The wall clock as it was at the first call.
+/// The wall clock as it was at the first call, in microseconds since 1970; 0 if there was no
+/// reading then.
 fn wall_once(rt: &impl Clock, wall: &mut Option<u64>) -> u64
     ensures { result ≤ 2 ^ 62 }
 {

@@ -1,9 +1,9 @@
-//! Calls that a test lets fail.
+//! Calls that a test makes fail.
 ghost use Rattle.std.specs.Prelude.{◌≡◌, ◌↔◌, ◌+◌, ◌-◌, ◌^◌, IfOk, IsTrue, Contains, min};
 
 use std::alloc::{AllocError, Global};
 
-/// Calls that are to fail: each call has a number, from 0 on, and those listed fail.
+/// The numbers of the calls that are to fail; calls are counted from 0.
 #[derive(Drop)]
 pub(crate) struct Failing {
     calls: Vec<u32>,

@@ -1,4 +1,4 @@
-//! The outside: octets that are read and written, datagrams that come and go, and clocks that tick.
+//! The outside: octets that are read and written, datagrams that come and go, and clocks.
 //!
 //! Four traits, each with an implementation in memory, for tests, and one over the machine:
 //!
@@ -6,16 +6,19 @@
 //! |---|---|---|
 //! | [`source::Source`] | [`memory::MemorySource`] | [`machine::Reading`], over a reader |
 //! | [`sink::Sink`] | [`memory::MemorySink`] | [`machine::Writing`], over a writer |
-//! | [`link::Link`] | [`memory_link::MemoryLink`] | [`udp::UdpLink`], over a UDP socket |
+//! | [`link::Link`] | [`memory_link::MemoryLink`] | [`udp::UdpLink`], over a UDP socket (IPv4) |
 //! | [`ticker::Ticker`] | [`memory_ticker::MemoryTicker`] | [`clock::MachineTicker`], over the machine's clocks |
 //!
 //! The contracts of a trait speak of what an object holds: the octets left or written, the arrivals
-//! to come, the sends that were tried, the readings to come. In memory these are known (`Some`), so a
-//! contract says exactly what a call answers. Over the machine they aren't (`None`), since nothing can
-//! be proved of the operating system: the contract says only which calls fail and what range an answer
-//! has. A call answers `Failed` only where its object's count of faults rose in that call.
+//! to come, the sends that were tried, the readings to come. In memory these are *told*: contracts know
+//! them (`Some`), and say exactly what a call answers. Over the machine they aren't told (`None`), since
+//! nothing can be proved of the operating system: contracts say only which calls fail, and in which
+//! range an answer is. A call answers `Failed` only if its object's count of faults rose in that call, or was
+//! 2^64 - 1 already.
 //!
-//! A caller binds a link once, with its peers in the order of their numbers, and then sends and waits:
+//! All times are microseconds. A datagram is a peer's if it came from that peer's address and UDP port,
+//! and else a stranger's. A caller binds a link once, with the addresses of its peers in the order of
+//! their numbers, from 0, and then sends and waits:
 //!
 //! ```
 //! let mut link = MemoryLink::new(alloc, &[])?;

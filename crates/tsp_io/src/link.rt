@@ -12,7 +12,7 @@ use tsp_base::place::Place;
 pub enum Bound {
     /// The link has its address and its peers.
     Bound,
-    /// The system refused the address, for instance since another socket has it.
+    /// The system refused the address, for instance because another socket has it.
     Failed,
     /// Out of memory for the list of peers.
     OutOfMemory,
@@ -21,7 +21,7 @@ pub enum Bound {
 /// What one receive answers.
 #[derive(Clone, Copy, PartialEq, Eq, Debug)]
 pub enum Recv {
-    /// A datagram came from there: it is so many octets at the front of the buffer, at most 512.
+    /// A datagram came from this place; so many octets of it, at most 512, are at the front of the buffer.
     Datagram(Place, usize),
     /// None came within the wait.
     Nothing,
@@ -36,7 +36,7 @@ pub enum Sent {
     Sent,
     /// The send failed, and the datagram is lost.
     Failed,
-    /// Nothing was tried: out of memory.
+    /// Out of memory, and nothing was tried.
     OutOfMemory,
 }
 
@@ -45,19 +45,19 @@ pub enum Sent {
 /// A caller binds it once, and then receives and sends. Failed sends are counted apart from failed binds
 /// and receives, since a lost datagram is no reason to end a daemon, and a receive that fails is one.
 pub trait Link {
-    /// The arrivals to come; None where they aren't known.
+    /// The arrivals to come; None if they aren't told.
     ghost arrivals: { Self → Option (List Arrival) };
 
-    /// The sends that were tried; None where they aren't known.
+    /// The sends that were tried; None if they aren't told.
     ghost tried: { Self → Option (List Tried) };
 
-    /// What it was bound to, bind by bind; None where that isn't known.
+    /// What it was bound to, bind by bind; None if that isn't told.
     ghost binds: { Self → Option (List Binding) };
 
-    /// How many microseconds each receive was to wait; None where that isn't known.
+    /// How many microseconds each receive was to wait; None if that isn't told.
     ghost waits: { Self → Option (List ℕ) };
 
-    /// How many binds and receives were made, at most 2^64 - 1; None where that isn't known.
+    /// How many binds and receives were made, up to 2^64 - 1; None if that isn't told.
     ghost calls: { Self → Option ℕ };
 
     /// Whether the last datagram that came was a stranger's.
@@ -69,9 +69,10 @@ pub trait Link {
     /// How often a send failed; it never falls, and stays at 2^64 - 1 once it is there.
     ghost send_faults: { Self → ℕ };
 
-    /// Binds to an address of this machine, with the addresses of the peers: the first is peer 0, and so on.
+    /// Binds to an address of this machine, with the addresses of the peers: the first is that of peer 0, and
+    /// so on.
     ///
-    /// `Failed` comes only where the count of faults rose in this call; with any other answer the count is
+    /// `Failed` comes only if the count of faults rose in this call; with any other answer the count is
     /// unchanged.
     fn bind(&mut self, local: Addr, peers: &[Addr]) -> Bound
         ensures binds { NotesBind (binds self.old) (binds self.new) result
@@ -84,10 +85,10 @@ pub trait Link {
         ensures cause { result ≡ Bound.Failed → Rose (faults self.old) (faults self.new) }
         ensures still { result ≢ Bound.Failed → faults self.new ≡ faults self.old };
 
-    /// Waits at most `wait` microseconds for a datagram, and gives its first 512 octets; of a longer one the
-    /// rest is lost.
+    /// Waits at most `wait` microseconds for a datagram, and gives its first 512 octets; the rest of a longer
+    /// one is lost.
     ///
-    /// `Failed` comes only where the count of faults rose in this call; with any other answer the count is
+    /// `Failed` comes only if the count of faults rose in this call; with any other answer the count is
     /// unchanged.
     fn recv(&mut self, buf: &mut [u8], wait: u64) -> Recv
         requires { length buf.old ≡ 512 }
@@ -101,9 +102,9 @@ pub trait Link {
         ensures cause { result ≡ Recv.Failed → Rose (faults self.old) (faults self.new) }
         ensures still { result ≢ Recv.Failed → faults self.new ≡ faults self.old };
 
-    /// Sends a datagram to a peer, or to the stranger whose datagram came last.
+    /// Sends a datagram to a peer, or to the stranger whose datagram was the last that came.
     ///
-    /// `Failed` comes only where the count of failed sends rose in this call; with any other answer that count
+    /// `Failed` comes only if the count of failed sends rose in this call; with any other answer that count
     /// is unchanged.
     fn send(&mut self, to: Place, octets: &[u8]) -> Sent
         requires { to ≡ Place.Stranger → stranger self.old ≡ true }

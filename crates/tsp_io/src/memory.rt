@@ -11,7 +11,8 @@ use crate::sink::{Sink, Wrote};
 use crate::source::{Got, Source};
 use std::alloc::{AllocError, Global};
 
-/// Copies octets to the front of the buffer: as many as it has room for, at most `most`. Gives their count.
+/// Copies octets to the front of the buffer, as many as it has room for, but at most `most`.
+/// Answers how many.
 pub(crate) fn copy_front(octets: &[u8], buf: &mut [u8], most: usize) -> usize
     ensures count { result ≡ min (length octets.now) (min (length buf.old) most) }
     ensures split { octets.now ≡ take result buf.new ++ drop result octets.now }
@@ -22,7 +23,7 @@ pub(crate) fn copy_front(octets: &[u8], buf: &mut [u8], most: usize) -> usize
     count
 }
 
-/// Octets to be read, and the reads that fail.
+/// Octets to be read, and the numbers of the reads that fail.
 #[derive(Drop)]
 pub struct MemorySource {
     octets: Vec<u8>,
@@ -103,7 +104,7 @@ impl Source for MemorySource {
     }
 }
 
-/// Octets that were written, and the writes that fail.
+/// Octets that were written, and the numbers of the writes that fail.
 #[derive(Drop)]
 pub struct MemorySink {
     octets: Vec<u8>,

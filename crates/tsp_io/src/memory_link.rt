@@ -15,7 +15,7 @@ use crate::tried_sends::TriedSends;
 use std::alloc::{AllocError, Global};
 use tsp_base::place::Place;
 
-/// What is to come, what was sent, and the calls that fail.
+/// What is to come, what was sent, and the numbers of the calls that fail.
 #[derive(Drop)]
 pub struct MemoryLink {
     alloc: Global,
@@ -75,7 +75,8 @@ impl MemoryLink {
         Ok(())
     }
 
-    /// How many microseconds each receive was to wait; None once memory for one of them was lacking.
+    /// How many microseconds each receive was to wait; None if there was no memory to note one of
+    /// them.
     pub fn waits(&self) -> Option<&[u64]>
         ensures { option_map (λ waits. waits.now) result ≡ self.now.waits }
     {
@@ -89,7 +90,7 @@ impl MemoryLink {
         self.tried.len()
     }
 
-    /// To whom the send with this number went; they are counted from 0.
+    /// To whom the send with this number went; sends are counted from 0.
     pub fn tried_to(&self, i: usize) -> Place
         requires { i < length self.now.tried }
         ensures { option_map (λ t. t.0) (slice_get self.now.tried i) ≡ Some result }
@@ -97,7 +98,7 @@ impl MemoryLink {
         self.tried.get(i).0
     }
 
-    /// The datagram of the send with this number; they are counted from 0.
+    /// The datagram of the send with this number; sends are counted from 0.
     pub fn tried_octets(&self, i: usize) -> &[u8]
         requires { i < length self.now.tried }
         ensures { option_map (λ t. t.1) (slice_get self.now.tried i) ≡ Some result.now }

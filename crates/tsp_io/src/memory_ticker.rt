@@ -6,7 +6,7 @@ ghost use Rattle.tsp_io.specs.Clocks.{climbs, IsWall};
 use crate::ticker::Ticker;
 use std::alloc::{AllocError, Global};
 
-/// A counter whose readings are known, and a fixed wall clock and word.
+/// A tick counter whose readings are told, and a wall clock and a word that don't change.
 #[derive(Drop)]
 pub struct MemoryTicker {
     ticks: Vec<u64>,
@@ -22,8 +22,8 @@ pub struct MemoryTicker {
 }
 
 impl MemoryTicker {
-    /// A counter that gives these readings (microseconds), and then the last one again and again. Fails only if
-    /// out of memory.
+    /// A counter that gives these readings, in microseconds, and then the last one again and again.
+    /// There is at least one; they don't fall, and are at most 2^61. Fails only if out of memory.
     pub fn new(
         alloc: Global,
         ticks: &[u64],
@@ -47,7 +47,7 @@ impl MemoryTicker {
         })
     }
 
-    /// How many of the readings weren't given yet.
+    /// How many of the readings are still to be given.
     pub fn left(&self) -> usize
         ensures { result ≡ length (drop self.now.at self.now.ticks.items) }
     {

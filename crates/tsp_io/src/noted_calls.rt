@@ -1,4 +1,4 @@
-//! What a link in memory remembers of its binds and receives.
+//! What a link in memory notes of its binds and receives.
 ghost use Rattle.std.specs.Prelude.{◌≡◌, ℕ, List, [], Option, Some, map};
 ghost use Rattle.std.specs.Option.{option_map};
 ghost use Rattle.tsp_io.specs.Links.{Binding, Notes};
@@ -8,7 +8,8 @@ use crate::addr::Addr;
 use std::alloc::Global;
 use std::marker::Model;
 
-/// How long each receive was to wait, in microseconds; None once memory for one of them was lacking.
+/// How long each receive was to wait, in microseconds; None if there was no memory to note one of
+/// them.
 #[derive(Drop)]
 pub(crate) struct NotedWaits {
     waits: Option<Vec<u64>>,
@@ -61,7 +62,7 @@ pub(crate) struct NotedBind {
     pub peers: Vec<Addr>,
 }
 
-/// What the link was bound to, bind by bind; None once memory for one of them was lacking.
+/// What the link was bound to, bind by bind; None if there was no memory to note one of them.
 #[derive(Drop)]
 pub(crate) struct NotedBinds {
     alloc: Global,

@@ -7,7 +7,8 @@ use std::io::ErrorKind;
 use std::net::{IpAddr, Ipv4Addr, Net, SocketAddr, UdpSocket};
 use std::time::Duration;
 
-/// A bound socket, and the wait in microseconds that was last set for it; 0 where it waits for ever.
+/// A bound socket, and the wait in microseconds that was last set for it; 0 if none was set, so
+/// that it waits for ever.
 #[derive(Drop)]
 pub(crate) struct Socket {
     udp: UdpSocket,
@@ -15,13 +16,13 @@ pub(crate) struct Socket {
 }
 
 impl Socket {
-    /// A socket bound to this address.
+    /// A socket bound to this address. Fails if the system refuses it.
     pub(crate) fn bind(rt: &impl Net, local: Addr) -> io::Result<Socket> {
         let udp = UdpSocket::bind(rt, socket_addr(local))?;
         Ok(Socket { udp, wait: 0 })
     }
 
-    /// Sets how many microseconds receives wait, at least one.
+    /// Sets how many microseconds receives wait, at least 1. Fails if the system refuses it.
     fn set_wait(&mut self, wait: u64) -> io::Result<()> {
         let wait = wait.max(1);
         if wait != self.wait {
@@ -32,7 +33,8 @@ impl Socket {
         Ok(())
     }
 
-    /// The size and the sender of a datagram that came; None where none came within the wait.
+    /// The size and the sender of a datagram that came; None if none came within the wait. Fails at
+    /// any other error of the system.
     pub(crate) fn receive(
         &mut self,
         buf: &mut [u8],
@@ -49,7 +51,7 @@ impl Socket {
         }
     }
 
-    /// Sends a datagram, and says whether the system took it whole.
+    /// Sends a datagram, and says whether the system took all of it.
     pub(crate) fn send(&self, octets: &[u8], to: SocketAddr) -> bool {
         match self.udp.send_to(octets, to) {
             Ok(count) => count == octets.len(),
@@ -58,8 +60,9 @@ impl Socket {
     }
 }
 
-/// Whether a receive with this error just had no datagram: the wait was over, a signal came, or the
-/// network reported that an earlier datagram of this socket couldn't be delivered.
+/// Whether this error of a receive only means that there was no datagram: the wait was over, a
+/// signal came, or the network reported that an earlier datagram of this socket couldn't be
+/// delivered.
 fn is_no_datagram(kind: ErrorKind) -> bool {
     matches!(
         kind,
@@ -78,7 +81,7 @@ pub(crate) fn socket_addr(addr: Addr) -> SocketAddr {
     SocketAddr::new(IpAddr::V4(Ipv4Addr::from_octets(addr.ip)), addr.port)
 }
 
-/// The address; None where it isn't an IPv4 one.
+/// The address; None if it isn't an IPv4 one.
 pub(crate) fn addr_of(from: SocketAddr) -> Option<Addr> {
     match from.ip() {
         IpAddr::V4(ip) => Some(Addr {

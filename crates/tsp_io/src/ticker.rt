@@ -3,25 +3,25 @@ ghost use Rattle.std.specs.Prelude.{◌≡◌, ℕ, ℤ, ◌≤◌, ◌^◌, Lis
 ghost use Rattle.std.specs.Option.{option_map};
 ghost use Rattle.tsp_io.specs.Clocks.{TakesReading, IsWall};
 
-/// Clocks: a tick counter and a wall clock. No call fails.
+/// Clocks: a tick counter and a wall clock, both in microseconds. No call fails.
 pub trait Ticker {
-    /// The readings that `tick` has left; None where they aren't known.
+    /// The readings that `tick` still has to give; None if they aren't told.
     ghost readings: { Self → Option (List ℕ) };
 
-    /// What `wall` answers; None where that isn't known.
+    /// What `wall` answers; None if that isn't told.
     ghost wall_is: { Self → Option ℤ };
 
-    /// What `word` answers; None where that isn't known.
+    /// What `word` answers; None if that isn't told.
     ghost word_is: { Self → Option ℕ };
 
-    /// The readings that `tick` had left when the wall clock was last read: None where they aren't known,
-    /// Some None before `wall` was read.
+    /// The readings that `tick` still had to give when the wall clock was last read: None if they
+    /// aren't told, Some None if `wall` wasn't read yet.
     ghost left_at_wall: { Self → Option (Option (List ℕ)) };
 
-    /// The last answer of `tick`; 0 before one.
+    /// The last answer of `tick`; 0 before the first.
     ghost last: { Self → ℕ };
 
-    /// The tick counter, in microseconds: it never falls, and is at most 2^61.
+    /// The tick counter, in microseconds. It never falls, and is at most 2^61.
     fn tick(&mut self) -> u64
         ensures low { last self.old ≤ result }
         ensures high { result ≤ 2 ^ 61 }
@@ -41,7 +41,7 @@ pub trait Ticker {
             × (wall_is self.new ≡ wall_is self.old) × (word_is self.new ≡ word_is self.old)
             × (last self.new ≡ last self.old) };
 
-    /// A number that should differ from boot to boot: the word of a node's life.
+    /// A number that should differ at each boot: the word of a node's life.
     fn word(&mut self) -> u64
         ensures answers { IfSome (word_is self.old) (λ word. result ≡ word) }
         ensures same { (readings self.new ≡ readings self.old)

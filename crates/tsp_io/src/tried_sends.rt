@@ -37,7 +37,7 @@ impl TriedSends {
         }
     }
 
-    /// Adds a send.
+    /// Adds a send. Fails only if out of memory.
     pub(crate) fn push(&mut self, alloc: Global, to: Place, octets: &[u8]) -> Result<(), AllocError>
         ensures { MatchResult result (λ _. self.new ≡ self.old ++ (to, octets.now) ∷ [])
             (λ _. self.new ≡ self.old) }

@@ -8,10 +8,10 @@ use std::alloc::Global;
 use std::net::{Net, SocketAddr};
 use tsp_base::place::{PeerId, Place};
 
-/// A UDP socket and the addresses of its peers. What will come over it isn't known, nor what was sent.
+/// A UDP socket and the addresses of its peers. What will come over it isn't told, nor what was sent.
 ///
-/// A receive that only reports that an earlier datagram couldn't be delivered answers `Nothing` and is no
-/// fault: so a peer whose port is closed doesn't end a daemon.
+/// A receive that only reports that an earlier datagram couldn't be delivered (ICMP's 'port unreachable' and
+/// the like) answers `Nothing` and is no fault. So a peer whose port is closed doesn't end a daemon.
 #[derive(Drop)]
 pub struct UdpLink<R> {
     rt: R,
@@ -25,7 +25,7 @@ pub struct UdpLink<R> {
 }
 
 impl<R: Net> UdpLink<R> {
-    /// A link that isn't bound yet: before `bind`, each receive and each send fails.
+    /// A link that isn't bound yet: until `bind`, each receive and each send fails.
     pub fn new(rt: R, alloc: Global) -> UdpLink<R>
         ensures { (result.socket ≡ None) × (result.peers.items ≡ []) × (result.last ≡ None)
             × (result.stranger ≡ false) × (result.faults ≡ 0) × (result.send_faults ≡ 0) }
@@ -42,7 +42,7 @@ impl<R: Net> UdpLink<R> {
         }
     }
 
-    /// The address of a peer, or of the stranger whose datagram came last.
+    /// The address of a peer, or of the stranger whose datagram was the last that came.
     fn addr_at(&self, place: Place) -> Option<SocketAddr> {
         match place {
             Place::Peer(PeerId(number)) => {
@@ -54,7 +54,7 @@ impl<R: Net> UdpLink<R> {
     }
 }
 
-/// Who has this address: the first peer that does, or else a stranger.
+/// Who has this address: the peer with the lowest number that does, or else a stranger.
 fn place_of(peers: &[Addr], from: SocketAddr) -> Place {
     let number = match addr_of(from) {
         Some(addr) => peers.iter().position(|peer| *peer == addr),

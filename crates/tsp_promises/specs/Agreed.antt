@@ -1,4 +1,4 @@
--- The promise that clocks corrected in one round agree.
+-- The promise that the clocks that one round corrected agree.
 use Rattle.std.specs.Prelude.{◌≡◌, ◌⊎◌, ◌≤◌, ◌≤ℤ◌, ℕ, ◌+◌, ◌-◌, ◌*◌, ℤ, pos, ◌+ℤ◌, ◌-ℤ◌, nat_abs, Bool, true, List, ◌∷◌, Some, is_some}
 use Rattle.tsp_base.specs.declared.act.Act.{Act}
 use Rattle.tsp_base.specs.declared.act.Act.TheVariants.{Correct, Post}
@@ -24,7 +24,7 @@ use Rattle.tsp_promises.specs.StepFacts.{closed}
 use Rattle.tsp_base.specs.Takings.{Undisturbed, peer_of, posted}
 use Rattle.tsp_base.specs.Ticks.{width}
 
--- the reading r of a sample that port q of m has at a place: the post of the reply that the Sample's step took
+-- the reading of a sample that port q of m has at a place is r: the post of the reply that the Sample's step took
 pub record ReadingOf (m : ℕ) (q : Port) (place : List Seen) (world : List Line) (r : Line) (older : List Line) : Type 0 where
   pub line : Line
   pub before : List Line
@@ -38,7 +38,9 @@ pub record ReadingOf (m : ℕ) (q : Port) (place : List Seen) (world : List Line
   pub datagram : Datagram
   pub deed : r.did.deed ≡ Acts (Post to datagram)
 
--- this Close of m, the last one before it in its step on its port, begins an ADJTIME to the node of the Correct c, which takes a post of that send; r is the reading of the best sample that the Close had of that node, and err that sample's error
+-- this Close of m, the last one in its step and on its port, begins an ADJTIME to the node of the Correct c, and c
+-- takes a post of that send. r is the reading of the best sample that the Close had of that node, and err that sample's
+-- error in microseconds
 pub record Cast (m : ℕ) (close : Line) (cpast : List Line) (c : Line) (past : List Line) (r : Line) (older : List Line) (err : ℤ) : Type 0 where
   pub post : Line
   pub before : List Line
@@ -59,12 +61,12 @@ pub record Cast (m : ℕ) (close : Line) (cpast : List Line) (c : Line) (past : 
   pub err_is : sample.err ≡ err
   pub reading : ReadingOf m post.port sample.place past r older
 
--- node n neither booted nor corrected its clock after the place s
+-- node n is left alone after the place s: it neither boots nor corrects its clock
 pub record Unchanged (n : ℕ) (s h : List Line) : Type 0 where
   pub within : Within s h
   pub since : Undisturbed (dids (of n s)) (dids (of n h))
 
--- the next act of all after the Close is m's last Correct
+-- the next act after the Close, of all acts of the history, is the last Correct of m so far
 pub record RightAfter (m : ℕ) (close : Line) (cpast h : List Line) : Type 0 where
   pub next : Line
   pub before : List Line
@@ -77,29 +79,31 @@ pub record RightAfter (m : ℕ) (close : Line) (cpast h : List Line) : Type 0 wh
   pub deed : next.did.deed ≡ Acts (Correct amount stepped shown)
   pub corrects : all_corrects (dids (of m (next ∷ before))) ≡ all_corrects (dids (of m h))
 
--- since its Close m has no Boot, and no Correct but one that is the next act of all
+-- after its Close m neither boots nor corrects its clock, but for a Correct that is the next act after it, of all acts
+-- of the history
 pub record UnchangedBut (m : ℕ) (close : Line) (cpast h : List Line) : Type 0 where
   pub lives : lives (dids (of m (close ∷ cpast))) ≡ lives (dids (of m h))
   pub corrects : (all_corrects (dids (of m (close ∷ cpast))) ≡ all_corrects (dids (of m h))) ⊎ RightAfter m close cpast h
 
--- after the history h, at true time t: two nodes that one Close corrected, as long as they are left alone, differ by at most their errors and drift
+-- after the history h, at true time t: two nodes that one Close corrected, and that neither booted nor corrected their
+-- clocks since, differ by at most their errors and drift. Drift is twice `width` of the time since each reading
 abbrev pub PeersAgree : Setting → List Line → ℕ → Type 0
 PeersAgree setting h t = (m : ℕ) (close : Line) (cpast : List Line) (c d : Line) (past qast : List Line) (r q : Line) (rolder qolder : List Line) (e f : ℤ) →
     Cast m close cpast c past r rolder e → Cast m close cpast d qast q qolder f → Unchanged (node_of c) (c ∷ past) h → Unchanged (node_of d) (d ∷ qast) h →
     pos (nat_abs (clock_at setting (node_of c) h t -ℤ clock_at setting (node_of d) h t)) ≤ℤ ((e +ℤ f) +ℤ pos (2 * width setting.drift (t - r.did.step.at) + 2 * width setting.drift (t - q.did.step.at)))
 
--- likewise a node that a Close corrected and the master that closed: they differ by at most the error and drift
+-- the same of a node that a Close corrected and the master that closed: they differ by at most the error and drift
 abbrev pub MasterAgrees : Setting → List Line → ℕ → Type 0
 MasterAgrees setting h t = (m : ℕ) (close : Line) (cpast : List Line) (c : Line) (past : List Line) (r : Line) (rolder : List Line) (e : ℤ) →
     Cast m close cpast c past r rolder e → Unchanged (node_of c) (c ∷ past) h → UnchangedBut m close cpast h →
     pos (nat_abs (clock_at setting (node_of c) h t -ℤ clock_at setting m h t)) ≤ℤ (e +ℤ pos (2 * width setting.drift (t - r.did.step.at)))
 
--- both
+-- both, after the history h at true time t
 pub record ClocksAgree (setting : Setting) (h : List Line) (t : ℕ) : Type 0 where
   pub peers : PeersAgree setting h t
   pub master : MasterAgrees setting h t
 
--- an ADJTIME that a Close begins rests on a sample of its addressee
+-- an ADJTIME that a Close begins rests on a sample of its addressee's clock
 abbrev pub RestsOnSample : Line → List Seen → Type 0
 RestsOnSample l seen = (p : PeerId) (m : MessageValue) (close : Did) (older : List Seen) → l.did.deed ≡ Acts (Post (Peer p) (Message m)) → m.kind ≡ AdjTime → acting seen ≡ true →
     closed seen ≡ Here close ∷ older → is_some (best p older) ≡ true

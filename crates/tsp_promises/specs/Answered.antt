@@ -1,4 +1,4 @@
--- The promise that what is asked is answered: a step takes one datagram, a QUIT is acknowledged, and strangers get one answer for one datagram.
+-- The promise that what is asked is answered, and that a stranger gets at most one answer for one datagram.
 use Rattle.std.specs.Prelude.{◌≡◌, ◌≤◌, ◌⊎◌, ℕ, ◌+◌, Bool, true, false, List, [], ◌∷◌, None}
 use Rattle.tsp_base.specs.declared.act.Act.TheVariants.{Post, Quit, Took}
 use Rattle.tsp_base.specs.declared.datagram.Datagram.{Datagram}
@@ -34,7 +34,7 @@ abbrev pub has_quit : List Did → Bool
 has_quit [] = false
 has_quit (d ∷ before) = has_quit_after d.deed (has_quit before)
 
--- a Quit of p is its node's next deed after the Took of a QUIT of p, on that port, and the only Quit of its step
+-- a Quit of p is the next deed of its node after the Took of a QUIT from p, on that port, and the only Quit of its step
 pub record HeedsQuit (l : Line) (world : List Line) (p : PeerId) : Type 0 where
   pub took : Line
   pub older : List Line
@@ -48,12 +48,14 @@ pub record HeedsQuit (l : Line) (world : List Line) (p : PeerId) : Type 0 where
 abbrev pub QuitsAt : Line → List Line → Type 0
 QuitsAt l world = (p : PeerId) → l.did.deed ≡ Acts (Quit p) → HeedsQuit l world p
 
--- at each step's end, on each port: if the step has a Quit, an ACK of the QUIT's number was posted to its sender behind it
+-- at the end of each step, on each port: if the step has a Quit, an ACK with the QUIT's number was posted to its sender
+-- after it
 pub record Acknowledged (world : List Line) : Type 0 where
   pub marks : Everywhere (λ (l : Line) (before : List Line). l.did.deed ≡ Begins → (q : Port) → unacknowledged (view q (of (node_of l) before)) ≡ None) world
   pub ends : (n : ℕ) (q : Port) → unacknowledged (view q (of n world)) ≡ None
 
--- a datagram answers another: a reply with its word and counter answers a stamp request, and an ACK or a DATEACK of its number a message
+-- a datagram answers another: a stamp request is answered by a reply with its word and counter, and a message by an ACK
+-- or a DATEACK with its number
 abbrev pub AnswersWith : Datagram → Datagram → Type 0
 AnswersWith (Stamp (Request word counter)) (Stamp (Reply reply)) = (reply.word ≡ word) × (reply.counter ≡ counter)
 AnswersWith (Message asked) (Message answer) = ((answer.kind ≡ Ack) ⊎ (answer.kind ≡ DateAck)) × (answer.number ≡ asked.number)
@@ -69,7 +71,9 @@ abbrev pub has_answered : List Did → Bool
 has_answered [] = false
 has_answered (d ∷ before) = has_answered_after d.deed (has_answered before)
 
--- a post to a stranger answers the datagram that its step has taken from a stranger on that port, and is the step's first to one; a message's answer is in the node's own name, but that of MSITE names the master that the port knows of
+-- a post to a stranger answers the datagram that its step has taken from a stranger on that port, and is the only such
+-- post of the step so far. A message's answer has the node's own name, but that of MSITE names the master that the port
+-- knows of
 pub record AnswersStranger (setting : Setting) (l : Line) (world : List Line) (datagram : Datagram) : Type 0 where
   pub asked : Datagram
   pub took : TakesFrom (view l.port (of (node_of l) world)) Stranger asked
@@ -98,7 +102,7 @@ abbrev pub from_strangers : List Did → ℕ
 from_strangers [] = 0
 from_strangers (d ∷ before) = from_strangers_after d.deed (from_strangers before)
 
--- of all nodes together, up to each place: strangers were posted no more datagrams than were taken from them
+-- at each place, over all nodes together: no more datagrams were posted to strangers than were taken from them
 abbrev pub OneForOneAt : Line → List Line → Type 0
 OneForOneAt l world = to_strangers (dids (l ∷ world)) ≤ from_strangers (dids (l ∷ world))
 

@@ -8,7 +8,7 @@ use Rattle.tsp_base.specs.Places.{Within}
 use Rattle.tsp_base.specs.PortFacts.{role}
 use Rattle.tsp_promises.specs.StepFacts.{owes}
 
--- the port became a follower of p in this step, after the QUIT of p that it took as a master
+-- in this step the port became a follower of p, after it took the QUIT of p as a master
 pub record Became (seen : List Seen) (p : PeerId) : Type 0 where
   pub did : Did
   pub before : List Seen
@@ -16,6 +16,7 @@ pub record Became (seen : List Seen) (p : PeerId) : Type 0 where
   pub deed : did.deed ≡ Acts (Become (Follow p))
   pub after : owes before ≡ Some p
 
--- whoever follows p at the end of the step in which it took the QUIT of p as a master became its follower after the QUIT
+-- whoever follows p at the end of a step in which it took the QUIT of p as a master became p's follower in that step,
+-- after the QUIT
 abbrev pub BecomesAfter : Type 0
 BecomesAfter = (seen : List Seen) (p : PeerId) → owes seen ≡ Some p → role seen ≡ Follow p → Became seen p

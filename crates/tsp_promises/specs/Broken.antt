@@ -1,4 +1,4 @@
--- That the promises say something: for each part a small history that breaks it.
+-- That the promises say something: for each part of one a small history that breaks it.
 use Rattle.std.specs.Prelude.{List}
 use Rattle.tsp_promises.specs.Agreed.{Agreed, StayAgreed}
 use Rattle.tsp_promises.specs.AgreedShown.{AgreedShown, ShownNear, Waited}
@@ -32,7 +32,7 @@ pub record Breaks (Promise : List Line → Type 0) : Type 0 where
 
 -- what breaks the promises of roles
 pub record RolesBreak (setting : Setting) : Type 0 where
-  -- two candidates backed within the hold
+  -- two candidates that one port backs within HOLD ticks
   pub holds : Breaks OneBack
   -- an ACCEPT without a Back
   pub accepts : Breaks OneBack
@@ -65,9 +65,9 @@ pub record RolesBreak (setting : Setting) : Type 0 where
 
 -- what breaks the promises of sends
 pub record SendsBreak (setting : Setting) : Type 0 where
-  -- two Corrects in short order
+  -- two Corrects of a clock less than GAP apart
   pub spaced : Breaks OnceSpaced
-  -- a boot between
+  -- the same, with a boot between
   pub spaced_over_lives : Breaks OnceSpacedOverLives
   -- a follower that corrects its clock by itself
   pub obeyed : Breaks (OnceObeyed setting)
@@ -79,7 +79,7 @@ pub record SendsBreak (setting : Setting) : Type 0 where
   pub elsewhere : Breaks OnceCorrected
   -- a date that is taken again, after a forged one
   pub dated : Breaks OnceTaken
-  -- an Acked that nobody caused
+  -- an Acked of a correction that nobody took
   pub confirmed : Breaks OnceConfirmed
   -- a message that is posted four times
   pub fourth : Breaks Thrice
@@ -98,22 +98,23 @@ pub record ClocksBreak (setting : Setting) : Type 0 where
   pub unasked : Breaks Trips
   -- a Sample of an exchange that an earlier life began
   pub outlived : Breaks Trips
-  -- an ADJTIME of another amount than the mean less the sample, obeyed
+  -- an ADJTIME that carries another amount than the mean less the sample, and a follower that obeys it
   pub misled : Breaks (Agreed setting)
   -- a clock that moves by another amount than the ADJTIME says
   pub agreed : Breaks (Agreed setting)
-  -- of two clocks of one round one that does so
+  -- two clocks that one round corrected, one of which does so
   pub peers : Breaks (Agreed setting)
-  -- the first, and the clock boots
+  -- the history of `agreed`, after which the clock boots
   pub agreed_before : Breaks (Agreed setting)
   -- an ADJTIME of a Close to a peer of which there is no sample
   pub unsampled : Breaks (Agreed setting)
-  -- the first, seen later
+  -- the history of `agreed`, seen at a later time
   pub stay_agreed : Breaks (StayAgreed setting)
   -- a relayed clock that moves by another amount than the ADJTIME says
   pub relayed : Breaks (Relayed setting)
 
--- what breaks the promises of shown values; that a clock meets its target is how its value is defined, and nothing breaks it
+-- what breaks the promises of shown values; that a clock meets its target is how its value is defined, and nothing
+-- breaks it
 pub record ReadingsBreak (setting : Setting) : Type 0 where
   -- a node whose ticks go back, so that it slews twice in one time
   pub steady : Breaks (Steady setting)
@@ -123,20 +124,20 @@ pub record ReadingsBreak (setting : Setting) : Type 0 where
   pub agreed_shown : Breaks (AgreedShown setting)
   -- a boot that shows another wall clock than the node's
   pub shown_near : Breaks (ShownNear setting)
-  -- a Correct of -250 that says it is slewed, and prints the new target
+  -- a Correct by -250 microseconds that says it is slewed, and prints the new target
   pub falls : Breaks Shows
-  -- the same of 250
+  -- the same by 250 microseconds
   pub leaps : Breaks Shows
-  -- a Correct of 250, in a step that took nothing, that says it is stepped, and prints the new target
+  -- a Correct by 250 microseconds, in a step that took nothing, that says it is stepped, and prints the new target
   pub steps : Breaks Shows
-  -- a Correct of 20.000001 s that says it is slewed
+  -- a Correct by 20.000001 s that says it is slewed
   pub slews : Breaks Shows
 
 -- what breaks the promises of chains and of single corrections
 pub record ChainsBreak (setting : Setting) : Type 0 where
   -- a relayed clock that moves by another amount than the ADJTIME says
   pub down : Breaks (Chained setting)
-  -- of two clocks of one Close one that does so
+  -- two clocks that one Close corrected, one of which does so
   pub across : Breaks (Chained setting)
   -- the same, over the master
   pub tree : Breaks (Chained setting)
@@ -156,7 +157,7 @@ pub record ChainsBreak (setting : Setting) : Type 0 where
   pub answered_late : Breaks OneError
   -- a clock that a SETTIME moves by another amount than it says
   pub first_set : Breaks (FirstSet setting)
-  -- likewise, by more than a datagram's life
+  -- a clock that a SETTIME sets more than 34 s behind, and drift
   pub first_set_soon : Breaks (FirstSetSoon setting)
 
 -- what breaks the promises of a round's majority, and of rounds
@@ -175,9 +176,9 @@ pub record RoundsBreak (setting : Setting) : Type 0 where
   pub peer_far : Breaks (Moderate setting)
   -- which has slewed for 8 s, and still doesn't show its target
   pub late_met : Breaks (Moderate setting)
-  -- the first, and the peer is left alone
+  -- the history of `mean_far`, after which the peer is left alone
   pub clocks_far : Breaks (ModerateClocks setting)
-  -- two rounds of a port that close in short order
+  -- two rounds of a port that close less than 239 s apart
   pub close_soon : Breaks Seldom
 
 -- what breaks the promise of answers

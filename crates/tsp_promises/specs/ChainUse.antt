@@ -6,7 +6,9 @@ use Rattle.tsp_base.specs.History.{Line}
 use Rattle.tsp_promises.specs.Kept.{Kept}
 use Rattle.tsp_promises.specs.Setting.{Setting}
 
--- a history that fits and keeps every premise, in which a master corrects a gateway, that one a second one, and that one a last node; all are left alone since. The clocks at both ends of the row are bounded down the chain, and those of its last two nodes across two chains of the one Close, and as those of a tree
+-- a history that fits and keeps the premises (Kept), in which a master corrects a gateway, that one a second one, and
+-- that one a last node; all are left alone since. The clocks at both ends of the row are bounded down the chain, and
+-- those of its last two nodes across two chains of the one Close, and as those of a tree
 pub record ChainUse : Type 0 where
   pub setting : Setting
   pub world : List Line

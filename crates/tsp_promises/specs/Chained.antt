@@ -9,7 +9,8 @@ use Rattle.tsp_base.specs.Places.{Within}
 use Rattle.tsp_promises.specs.Setting.{Setting}
 use Rattle.tsp_base.specs.Ticks.{width}
 
--- one link: a Close, the Correct that takes its ADJTIME, the reading on which that rests, and its error
+-- one link of a chain: a Close, the Correct that takes its ADJTIME, the reading on which that rests, and its error in
+-- microseconds
 pub record Hop : Type 0 where
   pub close : Line
   pub cpast : List Line
@@ -28,16 +29,16 @@ abbrev pub last_hop : Hop → List Hop → Hop
 last_hop first [] = first
 last_hop first (x ∷ rest) = x
 
--- how far a link may put its clock off
+-- how far one link may put its clock off, in microseconds: its error and drift
 abbrev pub hop_bound : Setting → ℕ → Hop → ℤ
 hop_bound setting t x = x.err +ℤ pos (2 * width setting.drift (t - x.reading.did.step.at))
 
--- how far these links may put the last clock off the first link's
+-- how far these links may put the last clock off, against the first link's
 abbrev pub bound : Setting → ℕ → List Hop → ℤ
 bound setting t [] = pos 0
 bound setting t (x ∷ rest) = bound setting t rest +ℤ hop_bound setting t x
 
--- a Close of m corrects the link's node, which is left alone since
+-- a Close of m corrects the link's node, which since then neither booted nor corrected its clock
 pub record Hops (m : ℕ) (x : Hop) (h : List Line) : Type 0 where
   pub cast : Cast m x.close x.cpast x.correct x.past x.reading x.older x.err
   pub unchanged : Unchanged (node_at x) (x.correct ∷ x.past) h
@@ -47,17 +48,19 @@ abbrev pub IsChain : Hop → List Hop → List Line → Type 0
 IsChain first [] h = Unit {0}
 IsChain first (x ∷ rest) h = Hops (node_at (last_hop first rest)) x h × Within ((last_hop first rest).correct ∷ (last_hop first rest).past) x.cpast × IsChain first rest h
 
--- down a chain from m, which is left alone since the first link's Close
+-- down a chain: the clock of its last node and that of m, which is left alone since the first link's Close, differ by
+-- at most the sum of the links' bounds
 abbrev pub ChainAgrees : Setting → List Line → ℕ → Type 0
 ChainAgrees setting h t = (m : ℕ) (first : Hop) (rest : List Hop) → Hops m first h → IsChain first rest h → UnchangedBut m first.close first.cpast h →
     pos (nat_abs (clock_at setting (node_at (last_hop first rest)) h t -ℤ clock_at setting m h t)) ≤ℤ (bound setting t rest +ℤ hop_bound setting t first)
 
--- across, between two chains of one Close; its master may have been changed since
+-- across: the clocks of the last nodes of two chains that begin with one Close; its master may have changed since
 abbrev pub ChainsAgree : Setting → List Line → ℕ → Type 0
 ChainsAgree setting h t = (m : ℕ) (a b : Hop) (xs ys : List Hop) → Hops m a h → Hops m b h → a.close ≡ b.close → a.cpast ≡ b.cpast → IsChain a xs h → IsChain b ys h →
     pos (nat_abs (clock_at setting (node_at (last_hop a xs)) h t -ℤ clock_at setting (node_at (last_hop b ys)) h t)) ≤ℤ ((bound setting t xs +ℤ hop_bound setting t a) +ℤ (bound setting t ys +ℤ hop_bound setting t b))
 
--- between two chains of two Closes of one node, which is left alone since each of them: so between any two clocks of a tree
+-- over a tree: the clocks of the last nodes of two chains that begin with two Closes of one node, which is left alone
+-- since each of them
 abbrev pub TreeAgrees : Setting → List Line → ℕ → Type 0
 TreeAgrees setting h t = (g : ℕ) (a b : Hop) (xs ys : List Hop) → Hops g a h → Hops g b h → UnchangedBut g a.close a.cpast h → UnchangedBut g b.close b.cpast h → IsChain a xs h → IsChain b ys h →
     pos (nat_abs (clock_at setting (node_at (last_hop a xs)) h t -ℤ clock_at setting (node_at (last_hop b ys)) h t)) ≤ℤ ((bound setting t xs +ℤ hop_bound setting t a) +ℤ (bound setting t ys +ℤ hop_bound setting t b))
@@ -68,6 +71,6 @@ pub record ChainedAt (setting : Setting) (h : List Line) (t : ℕ) : Type 0 wher
   pub across : ChainsAgree setting h t
   pub tree : TreeAgrees setting h t
 
--- at each place, and after it at any later time, as long as nothing more happens
+-- so it is at each place, and after it at any later time, as long as nothing more happens
 abbrev pub Chained : Setting → List Line → Type 0
 Chained setting = Everywhere (λ l world. (t : ℕ) → l.did.step.at ≤ t → ChainedAt setting (l ∷ world) t)

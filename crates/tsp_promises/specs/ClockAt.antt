@@ -5,7 +5,8 @@ use Rattle.tsp_base.specs.NodeFacts.{moved, time_of}
 use Rattle.tsp_promises.specs.Setting.{Setting}
 use Rattle.tsp_base.specs.Ticks.{tick_at}
 
--- the clock of node n at a true time, when the history is h: its wall at tick 0, its tick then, and the amounts of its Corrects since its last boot
+-- the clock of node n at a true time, in microseconds, when the history is h: its wall clock at tick 0, its tick then,
+-- and the sum of the amounts of its Corrects since its last boot
 abbrev pub clock_at : Setting → ℕ → List Line → ℕ → ℤ
 clock_at setting n h at = (setting.wall n +ℤ moved (dids (of n h))) +ℤ pos (tick_at (setting.rate n) at)
 

@@ -17,7 +17,8 @@ use Rattle.tsp_base.specs.SendFacts.{open_to, posts_of, last_to, last_post, is_a
 use Rattle.tsp_promises.specs.StepFacts.{closed}
 use Rattle.tsp_base.specs.Takings.{Receives, Undisturbed, time_in}
 
--- a repeat posts what the open send's beginning posted, at most LAST after it, and that was posted fewer than TRIES times before
+-- a repeat posts the message of the open send again, at most LAST ticks after its first post, and that was posted fewer
+-- than TRIES times so far
 pub record RepeatFits (here : Did) (before : List Seen) (p : PeerId) (m : MessageValue) : Type 0 where
   pub first : Did
   pub older : List Seen
@@ -26,7 +27,7 @@ pub record RepeatFits (here : Did) (before : List Seen) (p : PeerId) (m : Messag
   pub soon : here.tick ≤ first.tick + LAST
   pub few : posts_of p before < TRIES
 
--- a SETTIME whose number is that of the SLAVEUP of p which the step took
+-- a SETTIME that answers the SLAVEUP which the step took from p, with its number
 pub record AnswersSlaveUp (before : List Seen) (p : PeerId) (m : MessageValue) : Type 0 where
   pub sets : m.kind ≡ SetTime
   pub message : MessageValue
@@ -42,7 +43,8 @@ pub record FollowedBy (close : Did) (past before : List Seen) (mean : ℤ) : Typ
   pub shown : ℤ
   pub deed : next.deed ≡ Acts (Correct mean stepped shown)
 
--- this Close, the last one of the step, begins the correction before the step takes anything, from the best sample of p in its round: the number is the sample's ticket, and an ADJTIME's time is what p lacks to the mean
+-- this Close, the last one of the step, begins the correction before the step takes anything. It rests on the best
+-- sample of p in its round: the number is the sample's ticket, and an ADJTIME carries the mean less the sample's diff
 pub record FromClose (here : Did) (before : List Seen) (p : PeerId) (m : MessageValue) (close : Did) (past : List Seen) (mean : ℤ) (sample : Sampled) : Type 0 where
   pub is : closed before ≡ Here close ∷ past
   pub count : ℕ
@@ -70,11 +72,11 @@ pub record AtClose (here : Did) (before : List Seen) (p : PeerId) (m : MessageVa
   pub sample : Sampled
   pub is : FromClose here before p m close past mean sample
 
--- no correction was posted to p for REUSE
+-- no correction was posted to p in the last REUSE ticks
 pub record Rests (here : Did) (before : List Seen) (p : PeerId) : Type 0 where
   pub long : (x : ℕ) → last_post p before ≡ Some x → x + REUSE ≤ here.tick
 
--- the last correction that began to p was acknowledged, and this one has the next number
+-- the last correction that began to p was acknowledged, and this one has the next number, modulo 32,768
 pub record Follows (before : List Seen) (p : PeerId) (m : MessageValue) : Type 0 where
   pub last : Did
   pub older : List Seen
@@ -84,20 +86,22 @@ pub record Follows (before : List Seen) (p : PeerId) (m : MessageValue) : Type 0
   pub number : m.number ≡ (message.number + 1) % 32768
   pub acknowledged : is_acknowledged p before ≡ true
 
--- a SETTIME carries the target of its place, which is in a clock's range
+-- a SETTIME carries the node's target at its tick, which is more than -LIMIT and less than LIMIT
 pub record SetsTarget (here : Did) (before : List Seen) (m : MessageValue) : Type 0 where
   pub time : time_in m.body ≡ target (plain before) here.tick
   pub low : neg_ℤ LIMIT <ℤ target (plain before) here.tick
   pub high : target (plain before) here.tick <ℤ LIMIT
 
--- the first post of a correction
+-- what the first post of a correction owes: it comes at least QUIET ticks after the boot, for a SLAVEUP or a Close, to
+-- a peer that was posted no correction for REUSE ticks or has acknowledged the last one
 pub record BeginFits (here : Did) (before : List Seen) (p : PeerId) (m : MessageValue) : Type 0 where
   pub rested : boot_tick (plain before) + QUIET ≤ here.tick
   pub from : AnswersSlaveUp before p m ⊎ AtClose here before p m
   pub may : Rests here before p ⊎ Follows before p m
   pub sets : m.kind ≡ SetTime → SetsTarget here before m
 
--- only a master posts a correction; after an alarm or a datagram in its step the post begins a send, else it repeats the open one
+-- only a master posts a correction. After an alarm or a datagram in its step the post begins a send; before that it
+-- repeats the open one
 pub record CorrectionFits (here : Did) (before : List Seen) (p : PeerId) (m : MessageValue) : Type 0 where
   pub leads : role before ≡ Master
   pub begins : acting before ≡ true → BeginFits here before p m

@@ -12,19 +12,20 @@ use Rattle.tsp_base.specs.NodeFacts.{boot_tick}
 use Rattle.tsp_base.specs.SendFacts.{Dating, is_date_request, last_asked, last_date}
 use Rattle.tsp_base.specs.Takings.{Receives, TakesFrom}
 
--- a date begins to be passed on QUIET after the boot, and REUSE after the port last began that
+-- a date begins to be passed on at least QUIET ticks after the boot, and at least REUSE ticks after the port last began
+-- to pass one on
 pub record PassOnFits (here : Did) (before : List Seen) : Type 0 where
   pub rested : boot_tick (plain before) + QUIET ≤ here.tick
   pub seldom : (x : ℕ) → last_asked before ≡ Some x → x + REUSE ≤ here.tick
 
--- a client's date, with this number, was taken from there in this step
+-- this step took the date of a client (DATE or SETDATE) with this number from there
 pub record AnswersClient (to : Place) (before : List Seen) (number : ℕ) : Type 0 where
   pub message : MessageValue
   pub took : TakesFrom before to (Message message)
   pub kind : (message.kind ≡ Date) ⊎ (message.kind ≡ SetDate)
   pub number_is : message.number ≡ number
 
--- a date that p passes on, with this number, was taken in this step, and it was set less than DATEHOLD ago
+-- this step took a date with this number that p passes on, and that date was set less than DATEHOLD ticks ago
 pub record AnswersPassedOn (here : Did) (before : List Seen) (p : PeerId) (number : ℕ) : Type 0 where
   pub message : MessageValue
   pub took : Receives before p (Message message)
@@ -35,7 +36,7 @@ pub record AnswersPassedOn (here : Did) (before : List Seen) (p : PeerId) (numbe
   pub same : last.number ≡ number
   pub fresh : here.tick < last.at + DATEHOLD
 
--- what a DATEACK owes
+-- what a DATEACK owes: it answers a client's date, or, to a peer, a date that was set before
 abbrev pub DateAckFits : Place → Did → List Seen → ℕ → Type 0
 DateAckFits (Peer p) here before number = AnswersClient (Peer p) before number ⊎ AnswersPassedOn here before p number
 DateAckFits Stranger here before number = AnswersClient Stranger before number

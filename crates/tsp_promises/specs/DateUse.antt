@@ -10,7 +10,8 @@ use Rattle.tsp_promises.specs.Premises.{Life, Words}
 use Rattle.tsp_promises.specs.Setting.{Setting}
 use Rattle.tsp_promises.specs.Kept.{Kept}
 
--- a history that fits and keeps every premise, in which a Correct takes a date that is passed on, and in the next life of its node another does
+-- a history that fits and keeps the premises (Kept), in which a Correct takes a date that is passed on, and in the next
+-- life of its node another does
 pub record DateUse : Type 0 where
   pub setting : Setting
   pub world : List Line
@@ -32,7 +33,8 @@ pub record DateUse : Type 0 where
   pub node : node_of correct ≡ node_of later
   pub booted : lives (dids (of (node_of later) past)) < lives (dids (of (node_of later) lpast))
 
--- with forged octets, all else as it should be, such a date is taken twice: the promise needs that no peer's datagram is forged
+-- with forged octets, all else as it should be, such a date is taken twice: the promise needs that no peer's datagram
+-- is forged
 pub record ForgedDate : Type 0 where
   pub setting : Setting
   pub world : List Line

@@ -17,7 +17,8 @@ use Rattle.tsp_base.specs.SendFacts.{open_to, sets_date}
 use Rattle.tsp_promises.specs.Setting.{Setting}
 use Rattle.tsp_base.specs.Takings.{heard}
 
--- a history that fits and keeps every premise, in which a clock is set to a date, and the one who passed that date on notes that it was acknowledged
+-- a history that fits and keeps the premises (Kept and Few), in which a clock is set to a date, and the one who passed
+-- that date on notes that it was acknowledged
 pub record DatedUse : Type 0 where
   pub setting : Setting
   pub world : List Line

@@ -32,7 +32,8 @@ use Rattle.tsp_base.specs.Setup.{Setup}
 use Rattle.tsp_promises.specs.StepFacts.{StepEnds, is_answered, is_unbacked}
 use Rattle.tsp_base.specs.Takings.{TakesFrom, heard}
 
--- a numbered send that is no correction: its number is no ticket but the port's next own one, and it begins a send or repeats the open one
+-- what the post of a numbered message owes that is no correction: it begins a send with the port's own next number,
+-- from 32,768 to 65,535, where no ticket is, or it repeats the open send
 pub record NumberedFits (here : Did) (before : List Seen) (p : PeerId) (m : MessageValue) : Type 0 where
   pub number : 32768 ≤ m.number
   pub next : acting before ≡ true → m.number ≡ 32768 + (word (plain before) + begun before) % 32768
@@ -43,12 +44,12 @@ pub record ElectionFits (here : Did) (before : List Seen) (p : PeerId) (m : Mess
   pub numbered : NumberedFits here before p m
   pub backs : is_unbacked before ≡ false
 
--- a date that is passed on
+-- what a SETDATEREQ owes, by which a date is passed on to the master
 pub record DateRequestFits (here : Did) (before : List Seen) (p : PeerId) (m : MessageValue) : Type 0 where
   pub numbered : NumberedFits here before p m
   pub begins : acting before ≡ true → PassOnFits here before
 
--- what the post of a message to a peer owes, by its kind; what a node acknowledges to anybody it never posts
+-- what the post of a message to a peer owes, by its kind; kinds that only clients send are never posted
 abbrev pub MessageFits : Setup → Kind → Did → List Seen → PeerId → MessageValue → Type 0
 MessageFits setup AdjTime here before p m = CorrectionFits here before p m
 MessageFits setup SetTime here before p m = CorrectionFits here before p m
@@ -75,7 +76,7 @@ MessageFits setup Date here before p m = ⊥
 MessageFits setup DateReq here before p m = ⊥
 MessageFits setup SetDate here before p m = ⊥
 
--- what the post of a message to a stranger owes: acknowledgments alone go there
+-- what the post of a message to a stranger owes: only ACKs and DATEACKs go there
 abbrev pub StrangerFits : Kind → Did → List Seen → ℕ → Type 0
 StrangerFits Ack here before number = AckFits Stranger before number
 StrangerFits DateAck here before number = DateAckFits Stranger here before number
@@ -86,7 +87,8 @@ abbrev pub asks_name : Kind → Bool
 asks_name Msite = true
 asks_name _ = false
 
--- the name in which a message of this kind is answered: that of the master that the port knows of, where it asks for that, and else the node's own
+-- the name that an answer to a message of this kind has: that of the master that the port knows of, where the message
+-- asks for it, and else the node's own
 abbrev pub answer_name : Kind → Setup → List Seen → List ℕ
 answer_name kind setup before = if asks_name kind then master_name_in (role before) setup.name (kept_name before) else setup.name
 
@@ -94,7 +96,7 @@ answer_name kind setup before = if asks_name kind then master_name_in (role befo
 abbrev pub NamedFits : Setup → List Seen → MessageValue → Type 0
 NamedFits setup before m = (asked : MessageValue) → TakesFrom before Stranger (Message asked) → m.name ≡ answer_name asked.kind setup before
 
--- what a post owes, by its addressee; strangers get answers alone, and one in a step
+-- what a post owes, by its addressee; strangers get answers alone, and at most one in a step
 abbrev pub PostFits : Setup → Place → Datagram → Did → List Seen → Type 0
 PostFits setup (Peer p) (Message m) here before = MessageFits setup m.kind here before p m
 PostFits setup (Peer p) (Stamp (Request word counter)) here before = RequestFits before word counter
@@ -103,7 +105,7 @@ PostFits setup Stranger (Stamp (Request word counter)) here before = ⊥
 PostFits setup (Peer p) (Stamp (Reply reply)) here before = ReplyFits here before (Peer p) reply
 PostFits setup Stranger (Stamp (Reply reply)) here before = ReplyFits here before Stranger reply × (is_answered before ≡ false)
 
--- questions that are answered in the quiet time too
+-- questions that are answered in the quiet time too, the first QUIET ticks after a boot
 abbrev pub is_answered_early : Kind → Bool
 is_answered_early Msite = true
 is_answered_early TraceOn = true
@@ -123,12 +125,12 @@ AnswersEarly (Stamp (Reply reply)) before = Unit {0}
 AnswersEarly (Stamp (Request word counter)) before = ⊥
 AnswersEarly (Message m) before = (m.kind ≡ Ack) × AskedEarly before
 
--- what any post owes: nothing else is posted for QUIET after the boot
+-- what any post owes: in the first QUIET ticks after the boot nothing but such answers is posted
 pub record PostsFit (setup : Setup) (to : Place) (datagram : Datagram) (here : Did) (before : List Seen) : Type 0 where
   pub rested : (boot_tick (plain before) + QUIET ≤ here.tick) ⊎ AnswersEarly datagram before
   pub fits : PostFits setup to datagram here before
 
--- what an act owes; a step takes one datagram at most, on whatever port
+-- what an act owes; a step takes at most one datagram, on whatever port
 abbrev pub ActFits : Setup → Act → Did → List Seen → Type 0
 ActFits setup (Post to datagram) here before = PostsFit setup to datagram here before
 ActFits setup (Took from taken) here before = heard (plain before) ≡ None
@@ -143,7 +145,8 @@ ActFits setup (Correct amount stepped shown) here before = CorrectFits setup her
 ActFits setup (Acked p) here before = AckedFits before p
 ActFits setup _ here before = Unit {0}
 
--- what a deed owes: a mark, that the step before it has ended well
+-- what a deed owes: the mark of a new step, that the step before it has ended as it must (StepEnds); an act, what
+-- ActFits says
 abbrev pub DeedFits : Setup → Deed → Did → List Seen → Type 0
 DeedFits setup Begins here before = StepEnds before
 DeedFits setup (Acts a) here before = ActFits setup a here before

@@ -1,4 +1,4 @@
--- What the estimates of a round tell of the clocks.
+-- What the estimates of a round say of the clocks.
 use Rattle.std.specs.Prelude.{◌≡◌, ◌≤◌, ◌≤ℤ◌, ℕ, ◌+◌, ◌-◌, ◌*◌, ℤ, pos, ◌+ℤ◌, ◌-ℤ◌, nat_abs, true, List, ◌∷◌, Some}
 use Rattle.tsp_base.specs.declared.act.Act.TheVariants.{Close, Post}
 use Rattle.tsp_base.specs.declared.datagram.Datagram.TheVariants.{Message}
@@ -36,26 +36,29 @@ pub record CloseBegins (m : ℕ) (close : Line) (cpast : List Line) (mean : ℤ)
   pub begins : acting (view f.port (of m fw)) ≡ true
   pub close_is : closed (view f.port (of m fw)) ≡ Here close.did ∷ view f.port (of m cpast)
 
--- the estimate that the Close has of k: its best sample, and the reading r of that, since which k is left alone up to the history h
+-- the estimate that the Close has of k: its best sample x, and the reading r of that; after r, k neither boots nor
+-- corrects its clock up to the history h
 pub record Estimate (m k : ℕ) (close : Line) (cpast : List Line) (x : Sampled) (r : Line) (older h : List Line) : Type 0 where
   pub best_is : best (peer_of k) (view close.port (of m cpast)) ≡ Some x
   pub reading : ReadingOf m close.port x.place cpast r older
   pub unchanged : Undisturbed (dids (of k (r ∷ older))) (dids (of k h))
 
--- the estimates of two nodes differ by no more than their clocks do at the Close, their errors and drift
+-- the estimates of two nodes differ by at most as much as their clocks do at the Close, plus their errors and drift
 abbrev pub EstimatesNear : Setting → Line → List Line → Type 0
 EstimatesNear setting f fw = (m k l : ℕ) (close : Line) (cpast : List Line) (mean : ℤ) (x y : Sampled) (r q : Line) (rolder qolder : List Line) → CloseBegins m close cpast mean f fw →
     Estimate m k close cpast x r rolder cpast → Estimate m l close cpast y q qolder cpast →
     pos (nat_abs (x.diff -ℤ y.diff)) ≤ℤ ((pos (nat_abs (clock_at setting k cpast close.did.step.at -ℤ clock_at setting l cpast close.did.step.at)) +ℤ (x.err +ℤ y.err))
     +ℤ pos (2 * width setting.drift (close.did.step.at - r.did.step.at) + 2 * width setting.drift (close.did.step.at - q.did.step.at)))
 
--- after the history h, at true time t: where a node is left alone since its reading and the master but for the Correct right after the Close, their clocks differ by at most what the estimate differs from the mean, its error and drift
+-- after the history h, at true time t: if a node is left alone since its reading, and the master is but for the Correct
+-- right after the Close, their clocks differ by at most what the estimate differs from the mean, plus its error and
+-- drift
 abbrev pub MasterNear : Setting → List Line → ℕ → Type 0
 MasterNear setting h t = (m k : ℕ) (close : Line) (cpast : List Line) (mean : ℤ) (f : Line) (fw : List Line) (x : Sampled) (r : Line) (older : List Line) → Within (f ∷ fw) h → CloseBegins m close cpast mean f fw →
     Estimate m k close cpast x r older h → UnchangedBut m close cpast h →
     pos (nat_abs (clock_at setting m h t -ℤ clock_at setting k h t)) ≤ℤ ((pos (nat_abs (mean -ℤ x.diff)) +ℤ x.err) +ℤ pos (2 * width setting.drift (t - r.did.step.at)))
 
--- at each place, and after it at any later time as long as nothing more happens
+-- the first holds at each place; so does the second, and after that at any later time, as long as nothing more happens
 pub record EstimatesHold (setting : Setting) (world : List Line) : Type 0 where
   pub apart : Everywhere (EstimatesNear setting) world
   pub near : Everywhere (λ l before. (t : ℕ) → l.did.step.at ≤ t → MasterNear setting (l ∷ before) t) world

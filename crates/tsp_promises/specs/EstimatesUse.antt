@@ -8,7 +8,8 @@ use Rattle.tsp_base.specs.Places.{Within}
 use Rattle.tsp_base.specs.RoundFacts.{Sampled}
 use Rattle.tsp_promises.specs.Setting.{Setting}
 
--- a history that fits and keeps every premise, in which a round has estimates of two nodes, which are left alone from their readings to its Close, and for a while after it, as is the master
+-- a history that fits and keeps the premises (Kept), in which a round has estimates of two nodes, which are left alone
+-- from their readings to its Close, and for a while after it, as is the master
 pub record EstimatesUse : Type 0 where
   pub setting : Setting
   pub world : List Line

@@ -1,4 +1,4 @@
--- Histories that fit: what a schedule gives of each line, and what each deed owes.
+-- Histories that fit: each line has what a schedule gives it, and does what it owes to the lines before it.
 use Rattle.std.specs.Prelude.{◌≡◌, ◌≤◌, ◌<◌, ℕ, ◌^◌, ◌==◌, ◌||◌, pos, ◌+ℤ◌, Bool, true, List, [], ◌∷◌}
 use Rattle.tsp_base.specs.declared.act.Act.TheVariants.{Boot, Took, Post}
 use Rattle.tsp_base.specs.declared.datagram.Datagram.{Datagram}
@@ -21,23 +21,25 @@ use Rattle.tsp_base.specs.Ticks.{tick_at}
 abbrev pub node_of : Line → ℕ
 node_of l = l.did.step.node
 
--- port q sees the line as its own
+-- port q sees the line as its own: it is on q, or a mark or a boot, which every port of a node sees
 abbrev pub Sees : Port → Line → Type 0
 Sees q l = ((l.port.0 == q.0) || is_shared l.did.deed) ≡ true
 
--- each line but a mark is of the step of the line before it
+-- each line but a mark is in the step of the line before it; a mark begins a new step
 abbrev pub SameStep : Deed → Step → List Did → Type 0
 SameStep Begins step world = Unit {0}
 SameStep (Acts a) step [] = ⊥
 SameStep (Acts a) step (last ∷ before) = last.step ≡ step
 
--- a boot stands in a step for it and shows the node's wall clock; all else is done by a node that has booted
+-- a boot is in a step that a boot causes, which has the node's wall clock then, in microseconds; all other acts are
+-- those of a node that has booted
 abbrev pub Alive : Setting → Deed → Did → Bool → Type 0
 Alive setting Begins here is_up = Unit {0}
 Alive setting (Acts Boot) here is_up = (word : ℕ) × (here.step.cause ≡ Booted word (setting.wall here.step.node +ℤ pos here.tick))
 Alive setting (Acts a) here is_up = is_up ≡ true
 
--- the datagram number k was posted to this line's node, on the network of its port, as the line says
+-- the datagram number k, counted from 0 over all nodes, was posted to this line's node, on the network of its port, by
+-- the sender and with the content that the line says
 pub record Posted (setting : Setting) (l : Line) (world : List Line) (k : ℕ) (from : Place) (taken : Taken) : Type 0 where
   pub post : Line
   pub older : List Line
@@ -49,14 +51,16 @@ pub record Posted (setting : Setting) (l : Line) (world : List Line) (k : ℕ) (
   pub from_is : from ≡ Peer (peer_of (node_of post))
   pub taken_is : taken ≡ Good datagram
 
--- what a node took, by the cause of its step
+-- what a node may take, by the cause of its step: the datagram that came, as it was posted; any octets that were handed
+-- to it from outside; and nothing at a boot or at a look at its timers
 abbrev pub TookFits : Cause → Setting → Line → List Line → Place → Taken → Type 0
 TookFits (Came k) setting l world from taken = Posted setting l world k from taken
 TookFits Handed setting l world from taken = Unit {0}
 TookFits (Booted word wall) setting l world from taken = ⊥
 TookFits Turned setting l world from taken = ⊥
 
--- a line fits the history before it: time doesn't go back, its tick is its node's, and it does what it owes on each port that sees it
+-- a line fits the history before it: true time doesn't go back, its tick is its node's at that time, fewer than 2^64
+-- datagrams were posted, and it does what it owes on each port that sees it
 pub record LineFits (setting : Setting) (l : Line) (world : List Line) : Type 0 where
   pub order : time_of (dids world) ≤ l.did.step.at
   pub tick : l.did.tick ≡ tick_at (setting.rate (node_of l)) l.did.step.at
@@ -70,6 +74,6 @@ pub record LineFits (setting : Setting) (l : Line) (world : List Line) : Type 0 
 abbrev pub Fits : Setting → List Line → Type 0
 Fits setting = Everywhere (LineFits setting)
 
--- the history ends where a step ends, on every port of every node
+-- the history ends where a step ends: no port of any node owes anything there
 abbrev pub Finished : List Line → Type 0
 Finished world = (n : ℕ) (q : Port) → StepEnds (view q (of n world))

@@ -18,12 +18,14 @@ use Rattle.tsp_base.specs.Setup.{Setup}
 use Rattle.tsp_promises.specs.StepFacts.{backed}
 use Rattle.tsp_base.specs.Takings.{Receives, peer_of}
 
--- a Back comes QUIET after the boot, and HOLD after the last Back, unless that was of the same candidate
+-- a Back comes at least QUIET ticks after the boot, and at least HOLD ticks after the last Back, unless that was of the
+-- same candidate
 pub record BackFits (here : Did) (before : List Seen) (p : PeerId) : Type 0 where
   pub rested : boot_tick (plain before) + QUIET ≤ here.tick
   pub holds : (x : ℕ) (q : PeerId) → (held before).back ≡ Some (x, q) → (q ≡ p) ⊎ (x + HOLD ≤ here.tick)
 
--- an ACCEPT answers the ELECTION that the step took from its addressee, with its number, after a Back of that peer
+-- an ACCEPT answers the ELECTION that the step took from its addressee, has its number, and comes after a Back of that
+-- peer in the same step
 pub record AcceptFits (before : List Seen) (p : PeerId) (number : ℕ) : Type 0 where
   pub backs : backed before ≡ Some p
   pub message : MessageValue
@@ -31,7 +33,8 @@ pub record AcceptFits (before : List Seen) (p : PeerId) (number : ℕ) : Type 0 
   pub kind : message.kind ≡ Election
   pub number_is : message.number ≡ number
 
--- a Backer is another peer, which hasn't backed this candidature yet; it stands right after the Acked that ended an ELECTION to it, in a step that took its ACCEPT of that number
+-- a Backer notes the vote of another peer of the port, which hasn't voted for this candidature yet. It stands right
+-- after the Acked that ended an ELECTION to that peer, in a step that took its ACCEPT of the same number
 pub record BackerFits (setup : Setup) (here : Did) (before : List Seen) (p : PeerId) : Type 0 where
   pub peer : is_among p setup.peers ≡ true
   pub other : p ≢ peer_of here.step.node
@@ -51,7 +54,9 @@ pub record BackerFits (setup : Setup) (here : Did) (before : List Seen) (p : Pee
   pub election : message.kind ≡ Election
   pub number : message.number ≡ answer.number
 
--- a port becomes master ELECT_MIN after the boot and after the last Quit, as a candidate that has backed itself, at most WINDOW and SLACK after it stood; a strict election is won by a majority of the peers, itself counted
+-- a port becomes master at least ELECT_MIN ticks after the boot and after the last Quit, as a candidate that has backed
+-- itself, and at most WINDOW and SLACK ticks after it stood for election. A strict election is won by more than half of
+-- the peers, the port itself counted
 pub record LeadFits (setup : Setup) (here : Did) (before : List Seen) : Type 0 where
   pub rested : boot_tick (plain before) + ELECT_MIN ≤ here.tick
   pub quiet : (x : ℕ) → (held before).quit ≡ Some x → x + ELECT_MIN ≤ here.tick
@@ -63,7 +68,8 @@ pub record LeadFits (setup : Setup) (here : Did) (before : List Seen) : Type 0 w
   pub backs : (held before).back ≡ Some (start.tick, peer_of here.step.node)
   pub wins : setup.strict ≡ true → length setup.peers < 2 * length (backers before) + 2
 
--- a master gives its lead up for a LOOP alone, which came back to this port with the node's own name, from one of its lower ports
+-- a master becomes Loose only for a LOOP that came to this port with the node's own name, and whose number, that of the
+-- port from which it set out, is below this port's
 pub record YieldFits (setup : Setup) (before : List Seen) : Type 0 where
   pub from : PeerId
   pub message : MessageValue
@@ -72,7 +78,7 @@ pub record YieldFits (setup : Setup) (before : List Seen) : Type 0 where
   pub name : message.name ≡ setup.name
   pub number : message.number < setup.port.0
 
--- what a change of the role owes
+-- what a change of the role owes: one to Master, and a master's to Loose; all others owe nothing
 abbrev pub BecomeFits : Setup → Role → Did → List Seen → Type 0
 BecomeFits setup Master here before = LeadFits setup here before
 BecomeFits setup Loose here before = role before ≡ Master → YieldFits setup before

@@ -1,4 +1,4 @@
--- A reply of an earlier life: what comes of no open exchange is no Sample.
+-- A reply to a request of an earlier life: it ends no open exchange, so no Sample may come of it.
 use Rattle.std.specs.Prelude.{◌≡◌, ◌<◌, ℤ, List, ◌∷◌}
 use Rattle.tsp_base.specs.declared.act.Act.TheVariants.{Post, Took}
 use Rattle.tsp_base.specs.declared.datagram.Datagram.TheVariants.{Stamp}
@@ -15,7 +15,8 @@ use Rattle.tsp_promises.specs.Setting.{Setting}
 use Rattle.tsp_promises.specs.Kept.{Kept}
 use Rattle.tsp_base.specs.Stamps.{ReplyValue}
 
--- a history that fits and keeps every premise, in which a node takes the reply to a request that it posted in an earlier life; a Sample right after would end no exchange
+-- a history that fits and keeps the premises (Kept), in which a node takes the reply to a request that it posted in an
+-- earlier life; a Sample right after would end no exchange
 pub record LateReply : Type 0 where
   pub setting : Setting
   pub world : List Line

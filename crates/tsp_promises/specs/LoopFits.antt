@@ -12,13 +12,14 @@ use Rattle.tsp_base.specs.Messages.{MessageValue}
 use Rattle.tsp_base.specs.Setup.{Setup}
 use Rattle.tsp_base.specs.Takings.{heard}
 
--- a LOOP sets out with the node's own name, the port as its number, and all its hops
+-- a LOOP sets out with the node's own name, the number of its port, and HOPS hops
 pub record SetsOut (setup : Setup) (m : MessageValue) : Type 0 where
   pub name : m.name ≡ setup.name
   pub number : m.number ≡ setup.port.0
   pub hops : m.body ≡ Hops HOPS
 
--- a LOOP is passed on that the step took from a peer, on whatever port: another node's, with one hop less
+-- a LOOP is passed on that the step took from a peer, on whatever port: it has another node's name, and goes on with
+-- one hop less
 pub record PassesOn (setup : Setup) (before : List Seen) (m : MessageValue) : Type 0 where
   pub from : PeerId
   pub message : MessageValue

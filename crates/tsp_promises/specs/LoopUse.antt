@@ -12,7 +12,8 @@ use Rattle.tsp_base.specs.PortFacts.{role}
 use Rattle.tsp_promises.specs.Premises.{NamesApart}
 use Rattle.tsp_promises.specs.Setting.{Setting}
 
--- a history that fits and keeps every premise, in which a gateway leads on two networks that are joined by two other nodes: its LOOP comes back over both, and it gives the lead of the higher port up
+-- a history that fits and keeps the premises (Kept and NamesApart), in which a gateway leads on two networks that are
+-- joined by two other nodes: its LOOP comes back over both, and it gives up the lead of the higher port
 pub record LoopUse : Type 0 where
   pub setting : Setting
   pub world : List Line

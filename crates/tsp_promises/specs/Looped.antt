@@ -1,4 +1,4 @@
--- The promise of LOOPs: each comes along a chain of posts, and a master gives its lead up for its own alone.
+-- The promise of LOOPs: each comes along a chain of posts, and a master gives up only for its own.
 use Rattle.std.specs.Prelude.{◌≡◌, ◌≢◌, ℕ, ◌+◌, ◌<◌, ◌≤◌, true, List, [], ◌∷◌, length, is_some}
 use Rattle.tsp_base.specs.declared.act.Act.TheVariants.{Become, Post}
 use Rattle.tsp_base.specs.declared.constants.TheConstants.{HOPS}
@@ -31,18 +31,19 @@ pub record LoopPost : Type 0 where
   pub hops : ℕ
   pub hops_is : message.body ≡ Hops hops
 
--- the line stands after the Took of its step, by which such a post came to its node
+-- the line comes after the Took of its step, which took this post
 pub record TakesPost (l : Line) (world : List Line) (early : LoopPost) : Type 0 where
   pub brings : Brings l world early.post early.older
   pub took : is_some (heard (dids (of (node_of l) world))) ≡ true
 
--- a chain of posts, the last one first: the first has all hops, and each other stands after the Took of the one before it, in the step of that, with one hop less
+-- a chain of posts, the last one first: the first has HOPS hops, and each other comes in the step that has taken the
+-- one before it, with one hop less
 abbrev pub IsChain : List LoopPost → Type 0
 IsChain [] = ⊥
 IsChain (first ∷ []) = first.hops ≡ HOPS
 IsChain (late ∷ early ∷ rest) = TakesPost late.post late.older early × ((early.hops ≡ late.hops + 1) × IsChain (early ∷ rest))
 
--- the post of a LOOP here ends a chain of at most so many posts
+-- the post of a LOOP here ends a chain of at most HOPS + 1 posts, eleven
 pub record EndsChain (l : Line) (world : List Line) : Type 0 where
   pub last : LoopPost
   pub rest : List LoopPost
@@ -51,7 +52,7 @@ pub record EndsChain (l : Line) (world : List Line) : Type 0 where
   pub chain : IsChain (last ∷ rest)
   pub few : length (last ∷ rest) ≤ HOPS + 1
 
--- a LOOP that is posted has at most so many hops
+-- a LOOP that is posted has at most HOPS hops, ten
 abbrev pub HopsAt : Line → List Line → Type 0
 HopsAt l world = (to : Place) (m : MessageValue) → l.did.deed ≡ Acts (Post to (Message m)) → m.kind ≡ LoopKind → (hops : ℕ) × ((m.body ≡ Hops hops) × (hops ≤ HOPS))
 
@@ -65,7 +66,8 @@ SentBy n p [] = ⊥
 SentBy n p (first ∷ []) = (node_of first.post ≡ n) × (first.post.port.0 < p.0)
 SentBy n p (late ∷ early ∷ rest) = (node_of late.post ≢ n) × SentBy n p (early ∷ rest)
 
--- the step has taken the last post of a chain that this node began on a lower port and that others passed on
+-- the step has taken the last post of a chain that this node began on a port with a lower number, and that only other
+-- nodes passed on
 pub record GivesUp (l : Line) (world : List Line) : Type 0 where
   pub last : LoopPost
   pub rest : List LoopPost
@@ -77,7 +79,8 @@ pub record GivesUp (l : Line) (world : List Line) : Type 0 where
 abbrev pub GivesUpAt : Line → List Line → Type 0
 GivesUpAt l world = l.did.deed ≡ Acts (Become Loose) → role (view l.port (of (node_of l) world)) ≡ Master → GivesUp l world
 
--- few hops in every history, chains where no peer's datagram is forged, and what a master gives its lead up for where the nodes' names differ besides
+-- each LOOP has few hops in every history. It ends a chain if no peer's datagram is forged; and if the nodes' names
+-- differ besides, a master becomes Loose only for a LOOP of its own
 pub record Looped (setting : Setting) (world : List Line) : Type 0 where
   pub hops : Everywhere HopsAt world
   pub chains : Honest world → Everywhere ChainAt world

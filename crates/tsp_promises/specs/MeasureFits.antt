@@ -11,18 +11,20 @@ use Rattle.tsp_base.specs.Samples.{sample_diff, sample_err}
 use Rattle.tsp_base.specs.Stamps.{ReplyValue}
 use Rattle.tsp_base.specs.Takings.{Receives, TakesFrom, Undisturbed}
 
--- a request has the boot's word, and the number of requests before it as its counter
+-- a request has the word of the boot, and as its counter the number of requests before it, modulo 2^64
 pub record RequestFits (before : List Seen) (request_word counter : ℕ) : Type 0 where
   pub word_is : request_word ≡ word (plain before)
   pub counter_is : counter ≡ asked before % 2 ^ 64
 
--- a reply answers the request that the step took from its addressee, a peer or a stranger, with the ticket and the target
+-- a reply answers the request that the step took from its addressee, a peer or a stranger. It carries the node's
+-- ticket, and the node's target as its reading
 pub record ReplyFits (here : Did) (before : List Seen) (to : Place) (reply : ReplyValue) : Type 0 where
   pub took : TakesFrom before to (Stamp (Request reply.word reply.counter))
   pub ticket_is : reply.ticket ≡ ticket (plain before)
   pub reading_is : reply.reading ≡ target (plain before) here.tick
 
--- a Sample ends an open exchange of the going round by the reply that its step took, and its node was left alone since the round began
+-- a Sample ends an open exchange of the going round by the reply that its step took; its node neither booted nor
+-- corrected its clock since the round began
 pub record SampleFits (here : Did) (before : List Seen) (p : PeerId) (counter : ℕ) (diff err : ℤ) (number : ℕ) : Type 0 where
   pub start : Did
   pub idle : List Seen

@@ -17,7 +17,8 @@ use Rattle.tsp_promises.specs.Setting.{Setting}
 use Rattle.tsp_base.specs.Stamps.{ReplyValue}
 use Rattle.tsp_base.specs.Takings.{peer_of, posted}
 
--- the reading of a Sample of p: its step takes a reply that p posted to this node, and when that was posted p's clock stood ahead of this node's by diff, give or take err
+-- the reading of a Sample of p: its step takes a reply that p posted to this node, and when that was posted p's clock
+-- was ahead of this node's by diff, give or take err, both in microseconds
 pub record ReadBy (setting : Setting) (l : Line) (world : List Line) (p : PeerId) (diff err : ℤ) : Type 0 where
   pub post : Line
   pub older : List Line
@@ -32,7 +33,8 @@ pub record ReadBy (setting : Setting) (l : Line) (world : List Line) (p : PeerId
 abbrev pub MeasuredAt : Setting → Line → List Line → Type 0
 MeasuredAt setting l world = (p : PeerId) (counter : ℕ) (diff err : ℤ) (number : ℕ) → l.did.deed ≡ Acts (Sample p counter diff err number) → ReadBy setting l world p diff err
 
--- the open exchange of the going round that a Sample ends, and half the time from its request to the Sample by the node's own clock, rounded up
+-- the open exchange of the going round that a Sample ends; err is half the time from its request to the Sample, by the
+-- node's own clock, rounded up
 pub record TripOf (l : Line) (seen : List Seen) (p : PeerId) (counter : ℕ) (err : ℤ) : Type 0 where
   pub request : Did
   pub older : List Seen
@@ -40,7 +42,7 @@ pub record TripOf (l : Line) (seen : List Seen) (p : PeerId) (counter : ℕ) (er
   pub exchange_is : exchange p counter seen ≡ Here request ∷ older
   pub err_is : err ≡ half_up (target (plain seen) l.did.tick -ℤ target (plain older) request.tick)
 
--- a Sample ends an open exchange, and its err is half that round trip
+-- a Sample ends an open exchange, and its err is half of that round trip
 abbrev pub TripAt : Line → List Line → Type 0
 TripAt l world = (p : PeerId) (counter : ℕ) (diff err : ℤ) (number : ℕ) → l.did.deed ≡ Acts (Sample p counter diff err number) → TripOf l (view l.port (of (node_of l) world)) p counter err
 

@@ -23,11 +23,12 @@ use Rattle.tsp_promises.specs.StepFacts.{closed}
 use Rattle.tsp_base.specs.Takings.{peer_of, time_in}
 use Rattle.tsp_base.specs.Ticks.{width}
 
--- the estimates that port q of m has after this history: 0 for its own clock, and what the best sample of each measured peer says, where that is near
+-- the estimates that port q of m has after this history, in microseconds: 0 for its own clock, and the diff of the best
+-- sample of each measured peer, where its magnitude is less than FAR
 abbrev pub estimates_of : Setting → ℕ → Port → List Line → List ℤ
 estimates_of setting m q past = estimates_at (setup_of setting m q) (view q (of m past))
 
--- the values that pass the test are more than half of all, and any two of them lie within SPAN of each other
+-- the values that pass the test are more than half of all, and any two of them are within SPAN (20 ms) of each other
 pub record Majority (values : List ℤ) (test : ℤ → Bool) : Type 0 where
   pub more : length values < 2 * count_by test values
   pub agrees : Agree SPAN values test
@@ -58,20 +59,20 @@ pub record PeerAgrees (setting : Setting) (m : ℕ) (p : PeerId) (close : Line) 
   pub best_is : best p (view close.port (of m cpast)) ≡ Some sample
   pub agrees : Agrees setting m close cpast sample.diff
 
--- a round's Correct is off by at most twice the span from each estimate of the majority
+-- a round's Correct differs by at most twice SPAN (40 ms) from each estimate of the majority
 abbrev pub MeanNear : Setting → Line → List Line → Type 0
 MeanNear setting l world = (m : ℕ) (close : Line) (cpast : List Line) (amount value : ℤ) → world ≡ (close ∷ cpast) → Moves m close l amount → Agrees setting m close cpast value → nat_abs (amount -ℤ value) ≤ 2 * SPAN
 
--- it is by at most twice the span, and slewed
+-- a Correct by at most twice SPAN, which is slewed
 pub record Little (amount : ℤ) (stepped : Bool) : Type 0 where
   pub near : nat_abs amount ≤ 2 * SPAN
   pub slews : stepped ≡ false
 
--- so it moves the own clock by little, where that is of the majority
+-- so it moves the master's own clock by little, if that is one of the majority
 abbrev pub OwnNear : Setting → Line → List Line → Type 0
 OwnNear setting l world = (m : ℕ) (close : Line) (cpast : List Line) (amount : ℤ) → world ≡ (close ∷ cpast) → (v : Moves m close l amount) → Agrees setting m close cpast (pos 0) → Little amount v.stepped
 
--- an ADJTIME that the round begins to a peer of the majority is of at most twice the span
+-- an ADJTIME that the round begins to a peer of the majority carries at most twice SPAN
 abbrev pub AdjTimeNear : Setting → Line → List Line → Type 0
 AdjTimeNear setting l world = (m : ℕ) (close c : Line) (cpast : List Line) (mean amount : ℤ) (begins : CloseBegins m close cpast mean l world) → Within (c ∷ (close ∷ cpast)) world → Moves m close c amount →
     PeerAgrees setting m begins.peer close cpast → nat_abs (time_in begins.message.body) ≤ 2 * SPAN
@@ -91,7 +92,8 @@ pub record PeerCorrects (setting : Setting) (l : Line) (world : List Line) : Typ
   pub port : close.port ≡ taking.post.port
   pub agrees : PeerAgrees setting m (peer_of (node_of l)) close cpast
 
--- it moves the peer's clock by little; where nothing was left to slew before, the peer shows its target again once it has slewed twice the span, as long as nothing more happens
+-- it moves the peer's clock by little. If nothing was left to slew before, the peer shows its target again once it has
+-- slewed twice SPAN, 8 s of its ticks later, as long as nothing more happens
 pub record PeerNear (setting : Setting) (l : Line) (world : List Line) (p : PeerCorrects setting l world) : Type 0 where
   pub little : Little p.taking.acts.amount p.taking.acts.stepped
   pub meets : rest_at (dids (of (node_of l) world)) l.did.tick ≡ pos 0 → (x : ℕ) → l.did.tick + 2 * SPAN * SLEW ≤ x → shown (dids (of (node_of l) (l ∷ world))) x ≡ target (dids (of (node_of l) (l ∷ world))) x
@@ -103,16 +105,17 @@ pub record ModerateAt (setting : Setting) (l : Line) (world : List Line) : Type 
   pub adjtime : AdjTimeNear setting l world
   pub peer : (p : PeerCorrects setting l world) → PeerNear setting l world p
 
--- who agrees with more than half of a round's estimates is moved by at most twice the span
+-- who agrees with more than half of a round's estimates is moved by at most twice SPAN
 abbrev pub Moderate : Setting → List Line → Type 0
 Moderate setting = Everywhere (ModerateAt setting)
 
--- after the history h, at true time t: the master of a round, left alone since its Correct, stands with each clock of the majority that is left alone since its reading, to within twice the span, the error and drift
+-- after the history h, at true time t: the clock of the master of a round, left alone since its Correct, and each clock
+-- of the majority, left alone since its reading, differ by at most twice SPAN, the error and drift
 abbrev pub WithMajority : Setting → List Line → ℕ → Type 0
 WithMajority setting h t = (m k : ℕ) (close c : Line) (cpast : List Line) (amount : ℤ) (x : Sampled) (r : Line) (older : List Line) → Unchanged m (c ∷ (close ∷ cpast)) h → Moves m close c amount →
     Estimate m k close cpast x r older h → Agrees setting m close cpast x.diff →
     pos (nat_abs (clock_at setting m h t -ℤ clock_at setting k h t)) ≤ℤ ((pos (2 * SPAN) +ℤ x.err) +ℤ pos (2 * width setting.drift (t - r.did.step.at)))
 
--- at each place, and after it at any later time as long as nothing more happens
+-- so it is at each place, and after it at any later time, as long as nothing more happens
 abbrev pub ModerateClocks : Setting → List Line → Type 0
 ModerateClocks setting = Everywhere (λ l before. (t : ℕ) → l.did.step.at ≤ t → WithMajority setting (l ∷ before) t)

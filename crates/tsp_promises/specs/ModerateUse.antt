@@ -14,7 +14,8 @@ use Rattle.tsp_base.specs.RoundFacts.{Sampled, best}
 use Rattle.tsp_promises.specs.Setting.{Setting}
 use Rattle.tsp_base.specs.Takings.{peer_of}
 
--- a history that fits and keeps every premise, in which a master and a peer agree in a round, and another peer stands about a second off: the first two are moved little, and the last by about a second
+-- a history that fits and keeps the premises (Kept), in which a master and a peer agree in a round, and another peer's
+-- clock seems about a second off: the first two are moved little, the last by about a second
 pub record ModerateUse : Type 0 where
   pub setting : Setting
   pub world : List Line
@@ -30,7 +31,7 @@ pub record ModerateUse : Type 0 where
   pub moved : Within (correct ∷ (close ∷ cpast)) world
   pub own : Agrees setting master close cpast (pos 0)
   pub peer : PeerAgrees setting master (peer_of near) close cpast
-  -- who is off, as far as the master can tell
+  -- who seems off to the master
   pub sample : Sampled
   pub best_is : best (peer_of far) (view close.port (of master cpast)) ≡ Some sample
   pub counted : Contains (estimates_of setting master close.port cpast) sample.diff

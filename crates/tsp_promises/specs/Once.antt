@@ -20,7 +20,7 @@ use Rattle.tsp_base.specs.SendFacts.{begun_to, is_correction, is_numbered, open_
 use Rattle.tsp_promises.specs.Setting.{Setting}
 use Rattle.tsp_base.specs.Takings.{heard, peer_of, posted, time_in}
 
--- the line's step is the coming of the message that is posted at this place, to the line's node
+-- the step of this line is the coming of the message that is posted at that place, to the line's node
 pub record Brings (l : Line) (world : List Line) (post : Line) (older : List Line) : Type 0 where
   pub place : Within (post ∷ older) world
   pub cause : l.did.step.cause ≡ Came (posted (dids older))
@@ -36,19 +36,20 @@ pub record ActsOn (l : Line) (world : List Line) (post : Line) (older : List Lin
   pub brings : Brings l world post older
   pub took : is_some (heard (dids (of (node_of l) world))) ≡ true
 
--- the message posted here to node k is numbered, and belongs to the send that begins at this place: the last one to k that began on the poster's port since its boot
+-- the message posted here to node k is numbered, and belongs to the send whose first post is at this place: the last
+-- send to k that began on the poster's port since its boot
 pub record OfSend (k : ℕ) (post : Line) (older : List Line) (first : Did) (begun : List Seen) : Type 0 where
   pub message : MessageValue
   pub deed : post.did.deed ≡ Acts (Post (Peer (peer_of k)) (Message message))
   pub numbered : is_numbered message.kind ≡ true
   pub is : begun_to (peer_of k) (Here post.did ∷ view post.port (of (node_of post) older)) ≡ Here first ∷ begun
 
--- a node's Correct stands GAP ticks after each earlier one of that node in this life
+-- a node's Correct comes at least GAP ticks (1 s) after each earlier one of that node in this life
 abbrev pub SpacedAt : Line → List Line → Type 0
 SpacedAt l world = (other : Line) (older : List Line) (a b : ℤ) (s t : Bool) (x y : ℤ) → l.did.deed ≡ Acts (Correct a s x) → Within (other ∷ older) world → node_of other ≡ node_of l →
     other.did.deed ≡ Acts (Correct b t y) → lives (dids (of (node_of l) older)) ≡ lives (dids (of (node_of l) world)) → other.did.tick + GAP ≤ l.did.tick
 
--- and after each earlier one in an earlier life
+-- and at least GAP ticks after each one in an earlier life
 abbrev pub SpacedOverLivesAt : Line → List Line → Type 0
 SpacedOverLivesAt l world = (other : Line) (older : List Line) (a b : ℤ) (s t : Bool) (x y : ℤ) → l.did.deed ≡ Acts (Correct a s x) → Within (other ∷ older) world → node_of other ≡ node_of l →
     other.did.deed ≡ Acts (Correct b t y) → other.did.tick + GAP ≤ l.did.tick
@@ -66,7 +67,7 @@ pub record Obeys (setting : Setting) (l : Line) (world : List Line) (amount : �
 abbrev pub ObeysAt : Setting → Line → List Line → Type 0
 ObeysAt setting l world = (q : PeerId) (amount : ℤ) (stepped : Bool) (shown : ℤ) → l.did.deed ≡ Acts (Correct amount stepped shown) → role (view l.port (of (node_of l) world)) ≡ Follow q → Obeys setting l world amount q
 
--- where this Correct takes a post of a send of these kinds, no Correct before it has taken one of that send
+-- if this Correct takes a post of a send of these kinds, no Correct before it has taken a post of the same send
 abbrev pub OnceAt : (Kind → Bool) → Line → List Line → Type 0
 OnceAt sends l world = (post c other : Line) (older past rest : List Line) (first : Did) (begun : List Seen) → (acts : ActsOn l world post older) → sends acts.brings.message.kind ≡ true →
     Within (c ∷ past) world → ActsOn c past other rest → OfSend (node_of l) post older first begun → OfSend (node_of c) other rest first begun → ⊥
@@ -83,12 +84,12 @@ pub record Acted (m k : ℕ) (world : List Line) (first : Did) (begun : List See
   pub from : node_of post ≡ m
   pub of_send : OfSend k post older first begun
 
--- an Acked that ends a correction's send stands after a Correct that takes a post of it
+-- an Acked that ends a correction's send comes after a Correct that takes a post of that send
 abbrev pub ConfirmedAt : Line → List Line → Type 0
 ConfirmedAt l world = (p : PeerId) (first : Did) (older : List Seen) (m : MessageValue) → l.did.deed ≡ Acts (Acked p) → open_to p (view l.port (of (node_of l) world)) ≡ Here first ∷ older →
     first.deed ≡ Acts (Post (Peer p) (Message m)) → is_correction m.kind ≡ true → Acted (node_of l) p.0 world first older
 
--- corrections of a clock stand apart in one life
+-- corrections of a clock are apart in one life, from a boot to the next
 abbrev pub OnceSpaced : List Line → Type 0
 OnceSpaced = Everywhere SpacedAt
 

@@ -1,4 +1,4 @@
--- The promise that no node backs two candidates within the hold.
+-- The promise that no node backs two candidates within HOLD ticks.
 use Rattle.std.specs.Prelude.{◌≡◌, ◌≤◌, ◌⊎◌, ℕ, ◌+◌, false, List, ◌∷◌, Some}
 use Rattle.tsp_base.specs.declared.act.Act.TheVariants.{Post, Back}
 use Rattle.tsp_base.specs.declared.constants.TheConstants.{HOLD}
@@ -15,18 +15,20 @@ use Rattle.tsp_base.specs.Messages.{MessageValue}
 use Rattle.tsp_base.specs.Places.{Within}
 use Rattle.tsp_promises.specs.StepFacts.{backed, is_unbacked}
 
--- of two Backs of a node on one port for different candidates, the later stands HOLD ticks after the earlier, boots between included
+-- of two Backs of a node on one port for different candidates, the later comes at least HOLD ticks (60 s) after the
+-- earlier, even if the node boots between
 abbrev pub HoldsAt : Line → List Line → Type 0
 HoldsAt l world = (p q : PeerId) (other : Line) (older : List Line) → l.did.deed ≡ Acts (Back p) → Within (other ∷ older) world → node_of other ≡ node_of l → other.port ≡ l.port →
     other.did.deed ≡ Acts (Back q) → (q ≡ p) ⊎ (other.did.tick + HOLD ≤ l.did.tick)
 
--- each ACCEPT stands in a step that has backed its addressee before; a port that became a candidate has backed itself before it posts an ELECTION, and at its step's end
+-- in the step of each ACCEPT its addressee was backed before; a port that became a candidate has backed itself before
+-- it posts an ELECTION, and at the end of its step
 pub record BacksAt (l : Line) (world : List Line) : Type 0 where
   pub accepts : (p : PeerId) (m : MessageValue) → l.did.deed ≡ Acts (Post (Peer p) (Message m)) → m.kind ≡ Accept → backed (view l.port (of (node_of l) world)) ≡ Some p
   pub asks : (to : Place) (m : MessageValue) → l.did.deed ≡ Acts (Post to (Message m)) → m.kind ≡ Election → is_unbacked (view l.port (of (node_of l) world)) ≡ false
   pub ends : l.did.deed ≡ Begins → (q : Port) → is_unbacked (view q (of (node_of l) world)) ≡ false
 
--- of a history that ends with a step
+-- both hold at each line of a history that ends with a step, and at its end each candidate has backed itself
 pub record OneBack (world : List Line) : Type 0 where
   pub holds : Everywhere HoldsAt world
   pub backs : Everywhere BacksAt world

@@ -1,4 +1,4 @@
--- The promise that a clock is corrected only as it was measured.
+-- The promise that no error of a clock is corrected twice.
 use Rattle.std.specs.Prelude.{◌≡◌, ◌⊎◌, ℕ, true, List, ◌∷◌, None, Some}
 use Rattle.tsp_base.specs.declared.act.Act.TheVariants.{Post}
 use Rattle.tsp_base.specs.declared.datagram.Datagram.{Datagram}
@@ -31,7 +31,8 @@ pub record Taking (m : ℕ) (c : Line) (past : List Line) : Type 0 where
   pub begun : List Seen
   pub of_send : OfSend (node_of c) post before first begun
 
--- the send begins at a Close of m: it is an ADJTIME, or its step has taken nothing before it; the source of its number is the reading r of the best sample that the Close had of c's node
+-- the send begins at a Close of m: it is an ADJTIME, or its step has taken nothing before it. The source of its number
+-- is r, the reading of the best sample that the Close had of c's node
 pub record FromReading (m : ℕ) (c : Line) (past : List Line) (t : Taking m c past) (close : Line) (cpast : List Line) (r : Line) (older : List Line) : Type 0 where
   pub none : (t.acts.brings.message.kind ≡ AdjTime) ⊎ (taken t.begun ≡ None)
   pub closes : Within (close ∷ cpast) past
@@ -42,7 +43,8 @@ pub record FromReading (m : ℕ) (c : Line) (past : List Line) (t : Taking m c p
   pub best_is : best (peer_of (node_of c)) (view t.post.port (of m cpast)) ≡ Some sample
   pub reading : ReadingOf m t.post.port sample.place past r older
 
--- the send begins in a step that took a SLAVEUP of c's node with its number: the source of its number is the post r of that
+-- the send begins in a step that took a SLAVEUP of c's node, and has its number. The source of its number is r, the
+-- post of that SLAVEUP
 pub record FromSlaveUp (m : ℕ) (c : Line) (past : List Line) (t : Taking m c past) (r : Line) (older : List Line) : Type 0 where
   pub message : MessageValue
   pub kind : message.kind ≡ SlaveUp
@@ -54,7 +56,8 @@ pub record FromSlaveUp (m : ℕ) (c : Line) (past : List Line) (t : Taking m c p
   pub datagram : Datagram
   pub deed : r.did.deed ≡ Acts (Post to datagram)
 
--- the source of the number that a Correct takes is a reading: the number is the sample's, and the sample is by a reply of the Correct's node
+-- the source of the number that a Correct takes is a reading: the number is the sample's ticket, which a reply of the
+-- Correct's node carried
 pub record SourceReading (m : ℕ) (c : Line) (past : List Line) (t : Taking m c past) : Type 0 where
   pub close : Line
   pub cpast : List Line
@@ -75,7 +78,8 @@ pub record SourceSlaveUp (m : ℕ) (c : Line) (past : List Line) (t : Taking m c
   pub node : node_of r ≡ node_of c
   pub posted : r.did.deed ≡ Acts (Post is.to (Message is.message))
 
--- the number that a Correct takes has a source, and from that to the Correct its node neither booted nor corrected its clock
+-- the number that a Correct takes has a source, and between that and the Correct its node neither boots nor corrects
+-- its clock
 pub record OneErrorAt (l : Line) (world : List Line) : Type 0 where
   pub source : (m : ℕ) (t : Taking m l world) → SourceReading m l world t ⊎ SourceSlaveUp m l world t
   pub by_reading : (m : ℕ) (t : Taking m l world) (close : Line) (cpast : List Line) (r : Line) (older : List Line) → FromReading m l world t close cpast r older →

@@ -1,4 +1,4 @@
--- The promise that one candidate wins a strict election.
+-- The promise that of the candidates of a strict election at most one wins.
 use Rattle.std.specs.Prelude.{◌≡◌, ◌≢◌, ◌<◌, ◌+◌, List, ◌∷◌}
 use Rattle.tsp_base.specs.declared.act.Act.TheVariants.{Become}
 use Rattle.tsp_base.specs.declared.role.Role.TheVariants.{Master}
@@ -8,11 +8,12 @@ use Rattle.tsp_base.specs.History.{Acts, Line}
 use Rattle.tsp_base.specs.Places.{Within}
 use Rattle.tsp_promises.specs.Setting.{Setting}
 
--- of two changes to master of different nodes on one network the later stands more than 50 s of true time after the earlier
+-- of two changes to master, by different nodes on one network, the later comes more than 50 s of true time after the
+-- earlier
 abbrev pub WinsAt : Setting → Line → List Line → Type 0
 WinsAt setting l world = (other : Line) (older : List Line) → l.did.deed ≡ Acts (Become Master) → Within (other ∷ older) world → other.did.deed ≡ Acts (Become Master) → node_of other ≢ node_of l →
     setting.net (node_of other) other.port ≡ setting.net (node_of l) l.port → other.did.step.at + 50000000 < l.did.step.at
 
--- one candidate wins
+-- it is so at each change to master: within 50 s only one node of a network wins
 abbrev pub OneWinner : Setting → List Line → Type 0
 OneWinner setting = Everywhere (WinsAt setting)

@@ -15,7 +15,8 @@ use Rattle.tsp_base.specs.SendFacts.{is_correction}
 abbrev pub Leads : Line → List Line → Type 0
 Leads l world = role (view l.port (of (node_of l) world)) ≡ Master
 
--- at each post of an ADJTIME or a SETTIME, at each Close, and at a Correct that is the next act of all after a Close the port is a master
+-- the port is a master at each post of an ADJTIME or a SETTIME, at each Close, and at a Correct that is the next act
+-- after a Close, of all acts of the history
 pub record LeadsAt (l : Line) (world : List Line) : Type 0 where
   pub posts : (to : Place) (m : MessageValue) → l.did.deed ≡ Acts (Post to (Message m)) → is_correction m.kind ≡ true → Leads l world
   pub closes : (count : ℕ) (lo size mean : ℤ) → l.did.deed ≡ Acts (Close count lo size mean) → Leads l world

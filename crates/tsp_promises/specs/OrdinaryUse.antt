@@ -47,7 +47,8 @@ pub record Closes (world : List Line) : Type 0 where
   pub apart : node_of one.correct ≢ node_of other.correct
   pub unchanged_but : UnchangedBut master close cpast world
 
--- a history that fits and keeps every premise, in which corrections are acknowledged and a round corrects two followers
+-- a history that fits and keeps the premises (Kept), in which corrections are acknowledged and a round corrects two
+-- followers
 pub record OrdinaryUse : Type 0 where
   pub setting : Setting
   pub world : List Line

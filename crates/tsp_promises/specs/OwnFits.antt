@@ -8,7 +8,7 @@ use Rattle.tsp_base.specs.History.{Line, dids, view}
 use Rattle.tsp_base.specs.NodeFacts.{time_of, tick_of, up}
 use Rattle.tsp_promises.specs.Setting.{Setting, setup_of}
 
--- a line fits its node's lines before it
+-- a line fits the lines of its node before it
 pub record OwnLineFits (setting : Setting) (l : Line) (before : List Line) : Type 0 where
   pub time : time_of (dids before) ≤ l.did.step.at
   pub tick : tick_of (dids before) ≤ l.did.tick
@@ -16,6 +16,6 @@ pub record OwnLineFits (setting : Setting) (l : Line) (before : List Line) : Typ
   pub alive : Alive setting l.did.deed l.did (up (dids before))
   pub deeds : (q : Port) → Sees q l → DeedFits (setup_of setting (node_of l) q) l.did.deed l.did (view q before)
 
--- each line of the node fits its lines before
+-- each line of the node fits those before it
 abbrev pub OwnFits : Setting → List Line → Type 0
 OwnFits setting = Everywhere (OwnLineFits setting)

@@ -9,7 +9,8 @@ use Rattle.tsp_promises.specs.Kept.{Kept}
 use Rattle.tsp_promises.specs.Setting.{Setting}
 use Rattle.tsp_promises.specs.Steady.{Unstepped}
 
--- a history that fits and keeps every premise, in which a Correct of a small amount is stepped, since it sets the clock, and a later one of that life slews it
+-- a history that fits and keeps the premises (Kept), in which a Correct of a small amount is stepped, since it sets the
+-- clock, and a later one of that life slews it
 pub record PrintsUse : Type 0 where
   pub setting : Setting
   pub world : List Line

@@ -14,7 +14,8 @@ use Rattle.tsp_promises.specs.Kept.{Kept}
 use Rattle.tsp_promises.specs.Setting.{Setting}
 use Rattle.tsp_base.specs.Stamps.{ReplyValue}
 
--- a history that fits and keeps every premise, in which a node replies to a request and acknowledges a message in its quiet time
+-- a history that fits and keeps the premises (Kept), in which a node replies to a stamp request and acknowledges a
+-- message in its quiet time, the first QUIET ticks after its boot
 pub record QuietUse : Type 0 where
   pub setting : Setting
   pub world : List Line

@@ -9,13 +9,15 @@ use Rattle.tsp_base.specs.Places.{Within}
 use Rattle.tsp_promises.specs.Setting.{Setting}
 use Rattle.tsp_base.specs.Ticks.{width}
 
--- after the history h, at true time t: k's Correct c takes an ADJTIME of a Close of g, and g's Correct d before that Close one of a Close of m; as long as k, g and m are left alone since, the clocks of k and m differ by at most both errors and drift
+-- after the history h, at true time t: the Correct c of a node k takes an ADJTIME of a Close of g, and the Correct d of
+-- g, before that Close, one of a Close of m. As long as k, g and m are left alone since, m but for the Correct right
+-- after its Close, the clocks of k and m differ by at most both errors and drift
 abbrev pub RelayAgrees : Setting → List Line → ℕ → Type 0
 RelayAgrees setting h t = (g m : ℕ) (close shut : Line) (cpast spast : List Line) (c d : Line) (past qast : List Line) (r q : Line) (rolder qolder : List Line) (e f : ℤ) →
     Cast g close cpast c past r rolder e → Cast m shut spast d qast q qolder f → node_of d ≡ g → Within (d ∷ qast) cpast →
     Unchanged (node_of c) (c ∷ past) h → Unchanged (node_of d) (d ∷ qast) h → UnchangedBut m shut spast h →
     pos (nat_abs (clock_at setting (node_of c) h t -ℤ clock_at setting m h t)) ≤ℤ ((f +ℤ e) +ℤ pos (2 * width setting.drift (t - q.did.step.at) + 2 * width setting.drift (t - r.did.step.at)))
 
--- at each place, and after it at any later time, as long as nothing more happens
+-- so it is at each place, and after it at any later time, as long as nothing more happens
 abbrev pub Relayed : Setting → List Line → Type 0
 Relayed setting = Everywhere (λ l world. (t : ℕ) → l.did.step.at ≤ t → RelayAgrees setting (l ∷ world) t)

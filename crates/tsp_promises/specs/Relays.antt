@@ -7,7 +7,8 @@ use Rattle.tsp_base.specs.Places.{Within}
 use Rattle.tsp_promises.specs.Setting.{Setting}
 use Rattle.tsp_promises.specs.Kept.{Kept}
 
--- a history that fits and keeps every premise, in which a node follows by one port and leads by another: a Close of its master corrects it, and then a Close of its own corrects a third node; all are left alone since
+-- a history that fits and keeps the premises (Kept), in which a node follows by one port and leads by another: a Close
+-- of its master corrects it, and then a Close of its own corrects a third node; all are left alone since
 pub record Relays : Type 0 where
   pub setting : Setting
   pub world : List Line

@@ -1,4 +1,4 @@
--- The promise that a rival that takes Quit stops being master.
+-- The promise that a master that takes a QUIT stops being master.
 use Rattle.std.specs.Prelude.{◌≡◌, ◌≢◌, ◌≤◌, ℕ, ◌+◌, List, ◌∷◌, Some}
 use Rattle.tsp_base.specs.declared.act.Act.TheVariants.{Become, Post, Quit, Ring}
 use Rattle.tsp_base.specs.declared.alarm.Alarm.TheVariants.{Resolve}
@@ -20,16 +20,16 @@ use Rattle.tsp_promises.specs.Premises.{Life}
 use Rattle.tsp_promises.specs.StepFacts.{owes}
 use Rattle.tsp_base.specs.Takings.{peer_of, posted, steps}
 
--- a master that took a QUIT of p in the step that ends here follows p
+-- if the port took a QUIT from p as a master in the step that ends here, it follows p
 abbrev pub YieldsAt : List Seen → Type 0
 YieldsAt seen = (p : PeerId) → owes seen ≡ Some p → role seen ≡ Follow p
 
--- at each step's end: of the step that a mark ends, and of the last one
+-- YieldsAt holds at the end of each step: before each mark, and at the end of the history
 pub record Yields (world : List Line) : Type 0 where
   pub marks : Everywhere (λ (l : Line) (before : List Line). l.did.deed ≡ Begins → (q : Port) → YieldsAt (view q (of (node_of l) before))) world
   pub ends : (n : ℕ) (q : Port) → YieldsAt (view q (of n world))
 
--- after a Quit a port doesn't become master for ELECT_MIN ticks, boots between included
+-- after a Quit a port doesn't become master for ELECT_MIN ticks (300 s), even if its node boots between
 abbrev pub QuietAt : Line → List Line → Type 0
 QuietAt l world = (other : Line) (older : List Line) (p : PeerId) → l.did.deed ≡ Acts (Become Master) → Within (other ∷ older) world → node_of other ≡ node_of l → other.port ≡ l.port →
     other.did.deed ≡ Acts (Quit p) → other.did.tick + ELECT_MIN ≤ l.did.tick
@@ -37,7 +37,8 @@ QuietAt l world = (other : Line) (older : List Line) (p : PeerId) → l.did.deed
 abbrev pub StaysQuiet : List Line → Type 0
 StaysQuiet = Everywhere QuietAt
 
--- in this line a node takes the QUIT that an alarm's step of m begins: the line is its Quit, and its step takes a post of that send
+-- at line x a node heeds a QUIT whose send began in the step of the alarm at the line ring: x is its Quit, and its step
+-- takes a post of that send
 pub record TakesQuit (ring : Line) (past : List Line) (x : Line) (xpast : List Line) : Type 0 where
   pub quits : x.did.deed ≡ Acts (Quit (peer_of (node_of ring)))
   pub post : Line
@@ -54,12 +55,13 @@ pub record TakesQuit (ring : Line) (past : List Line) (x : Line) (xpast : List L
   -- it begins in the alarm's step
   pub step : steps (plain begun) ≡ steps (dids (of (node_of ring) (ring ∷ past)))
 
--- where a step ends in which the rival y takes a QUIT of this alarm: no rival x that has taken one leads on the port on which it took it
+-- at the end of a step in which the rival y takes a QUIT of this alarm: no rival x that has taken one is a master on
+-- the port on which it took it
 abbrev pub StopsBy : List Line → Type 0
 StopsBy h = (ring x y : Line) (past xpast ypast : List Line) → Within (ring ∷ past) h → ring.did.deed ≡ Acts (Ring Resolve) → Within (x ∷ xpast) h → TakesQuit ring past x xpast →
     Within (y ∷ ypast) h → TakesQuit ring past y ypast → steps (dids (y ∷ ypast)) ≡ steps (dids h) → role (view x.port (of (node_of x) h)) ≢ Master
 
--- at each step's end: of the step that a mark ends, and of the last one
+-- StopsBy holds at the end of each step: before each mark, and at the end of the history
 pub record StopsLeading (world : List Line) : Type 0 where
   pub marks : Everywhere (λ (l : Line) (before : List Line). l.did.deed ≡ Begins → StopsBy before) world
   pub ends : StopsBy world

@@ -12,7 +12,8 @@ use Rattle.tsp_promises.specs.Resolved.{TakesQuit}
 use Rattle.tsp_promises.specs.Setting.{Setting}
 use Rattle.tsp_base.specs.Takings.{steps}
 
--- a history that fits, in which a rival takes the QUIT of a resolution, its step ends and another begins, the rival leads again later, and a node backs two candidates
+-- a history that fits and in which no datagram outlives LIFE: a rival takes the QUIT of a resolution, its step ends and
+-- another begins, the rival leads again later, and a node backs two candidates
 pub record RivalsMeet : Type 0 where
   pub setting : Setting
   pub world : List Line

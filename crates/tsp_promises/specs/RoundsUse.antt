@@ -1,4 +1,4 @@
--- Two rounds: the promises that a round's bound outlasts later Corrects, and that rounds stand apart, aren't empty.
+-- Two rounds: the promises that a round's bound outlasts later Corrects, and that rounds are apart, aren't empty.
 use Rattle.std.specs.Prelude.{◌≡◌, ◌≢◌, ℕ, ℤ, pos, ◌-ℤ◌, List, ◌∷◌}
 use Rattle.tsp_base.specs.declared.act.Act.TheVariants.{Close}
 use Rattle.tsp_promises.specs.Fits.{node_of}
@@ -9,7 +9,8 @@ use Rattle.tsp_base.specs.Places.{Within}
 use Rattle.tsp_promises.specs.Setting.{Setting}
 use Rattle.tsp_promises.specs.Throughout.{SinceClose, SinceCorrect, moved_since}
 
--- a history that fits and keeps every premise, in which a round corrects two nodes, and a later one moves one of them and its master again
+-- a history that fits and keeps the premises (Kept), in which a round corrects two nodes, and a later one moves one of
+-- them and its master again
 pub record RoundsUse : Type 0 where
   pub setting : Setting
   pub world : List Line

@@ -1,4 +1,4 @@
--- A port that runs by the rules.
+-- A port that runs by the rules of tsp_rules.
 use Rattle.std.specs.Prelude.{◌≡◌, ◌≤◌, ℕ, List, [], ◌∷◌}
 use Rattle.tsp_base.specs.History.{Step, Past}
 use Rattle.tsp_base.specs.Rows.{Row, grown, in_step}
@@ -7,17 +7,17 @@ use Rattle.tsp_rules.specs.Answers.{Given, answers}
 use Rattle.tsp_rules.specs.CommonRows.{boots}
 use Rattle.tsp_promises.specs.PortFits.{PortFits, setup_in}
 
--- what a step is made of: a boot, or an answer to what is given
+-- what a step consists of: a boot, or the answer to what the port is given, a look at its timers or a datagram
 pub data Makes : Type 0 where
   Boots : Makes
   Answers : Given → Makes
 
--- the row that a step puts
+-- the acts of a step, as a row: acts that each depend on the past before them
 abbrev pub row_of : Makes → Row
 row_of Boots = boots
 row_of (Answers g) = answers g
 
--- one step of a port, at this tick
+-- one step of a port, and the tick at which it happens
 pub record Happening : Type 0 where
   pub step : Step
   pub tick : ℕ
@@ -42,6 +42,7 @@ abbrev pub Ordered : ℕ → List Happening → Type 0
 Ordered n [] = Unit {0}
 Ordered n (h ∷ before) = (last_tick before ≤ h.tick) × (h.step.node ≡ n) × Ordered n before
 
--- a port that has done nothing yet runs by the rules: each deed fits what the port is set up with, and each step ends well
+-- a port that has done nothing yet takes any steps by the rules: each of its deeds does what it owes, for what the port
+-- is set up with (PortFits), and each step ends as it must (StepEnds)
 abbrev pub RulesFit : Type 0
 RulesFit = (past : Past) (hs : List Happening) → past.seen ≡ [] → Ordered past.own.0 hs → PortFits (setup_in past) (ran hs past).seen × StepEnds (ran hs past).seen

@@ -25,7 +25,9 @@ use Rattle.tsp_promises.specs.Steady.{Meets, Steady}
 use Rattle.tsp_promises.specs.Thrice.{Thrice}
 use Rattle.tsp_promises.specs.Throughout.{Throughout}
 
--- who is backed and who corrects, what is answered and how often a message is posted, how the shown clock runs and what is printed of it, and how far off a setting is, is safe whatever is delivered; the rest rests on who sends and on how long datagrams live; a measurement, where they may live longer, on words of a node's boots that differ
+-- all promises, each under its premises. Those that ask nothing hold whatever is delivered. The others ask that no
+-- peer's datagram is forged (Honest), that no datagram lives longer than LIFE (Life), or both; for a measurement, words
+-- that differ at any two boots of one node do in place of Life (OwnWords)
 pub record Safe (setting : Setting) (world : List Line) : Type 0 where
   pub one_back : OneBack world
   pub silent : Silent world

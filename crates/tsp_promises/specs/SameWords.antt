@@ -1,4 +1,4 @@
--- Boots with one word: words that differ are asked for by no promise of corrections and of clocks, but measurements need them where datagrams may live long.
+-- Boots with the same word: which promises hold all the same, and which one needs words that differ.
 use Rattle.std.specs.Prelude.{◌≡◌, ℕ, ℤ, List, ◌∷◌}
 use Rattle.tsp_base.specs.declared.act.Act.TheVariants.{Boot}
 use Rattle.tsp_promises.specs.Agreed.{Cast}
@@ -9,7 +9,7 @@ use Rattle.tsp_base.specs.Places.{Within}
 use Rattle.tsp_promises.specs.Premises.{Honest, Life}
 use Rattle.tsp_promises.specs.Setting.{Setting}
 
--- two boots of one node have one word, the later of them at this place
+-- two boots of one node have the same word; this is the place of the later one
 pub record Repeats (world : List Line) : Type 0 where
   pub again : Line
   pub past : List Line
@@ -38,7 +38,8 @@ pub record Round (m : ℕ) (world : List Line) : Type 0 where
   pub err : ℤ
   pub cast : Cast m close cpast correct past reading older err
 
--- a history that fits, in which no peer's datagram is forged and none outlives LIFE: a master boots again with its old word, and in each of both lives a round of it corrects a node
+-- a history that fits, in which no peer's datagram is forged and none outlives LIFE: a master boots again with its old
+-- word, and in each of its two lives a round of it corrects a node
 pub record SameWords : Type 0 where
   pub setting : Setting
   pub world : List Line
@@ -51,7 +52,8 @@ pub record SameWords : Type 0 where
   pub after : Round (node_of repeats.again) world
   pub begins : Within (repeats.again ∷ repeats.past) after.cpast
 
--- a history that fits, in which no peer's datagram is forged, a master boots again with its old word, and then takes a reply of its first life: it measures wrongly
+-- a history that fits, in which no peer's datagram is forged: a master boots again with its old word, and then takes a
+-- reply of its first life, which is older than LIFE. It measures wrongly
 pub record MeasuresWrongly : Type 0 where
   pub setting : Setting
   pub world : List Line

@@ -1,4 +1,4 @@
--- The promise that rounds of a port stand apart.
+-- The promise that the rounds of a port close at least 239 s of its node's ticks apart.
 use Rattle.std.specs.Prelude.{◌≡◌, ◌≤◌, ℕ, ◌+◌, ◌-◌, ℤ, List, ◌∷◌}
 use Rattle.tsp_base.specs.declared.act.Act.TheVariants.{Close}
 use Rattle.tsp_base.specs.declared.constants.TheConstants.{ROUND, SLACK}
@@ -8,11 +8,11 @@ use Rattle.tsp_base.specs.History.{Acts, Line, of, dids}
 use Rattle.tsp_base.specs.NodeFacts.{lives}
 use Rattle.tsp_base.specs.Places.{Within}
 
--- a Close stands ROUND less SLACK after each earlier one on its port in one life of its node
+-- a Close comes at least ROUND less SLACK ticks (239 s) after each earlier one on its port, in one life of its node
 abbrev pub SeldomAt : Line → List Line → Type 0
 SeldomAt l world = (other : Line) (older : List Line) (count n : ℕ) (lo size mean low long middle : ℤ) → l.did.deed ≡ Acts (Close count lo size mean) → Within (other ∷ older) world → node_of other ≡ node_of l → other.port ≡ l.port →
     other.did.deed ≡ Acts (Close n low long middle) → lives (dids (of (node_of l) older)) ≡ lives (dids (of (node_of l) world)) → other.did.tick + (ROUND - SLACK) ≤ l.did.tick
 
--- rounds close seldom
+-- it is so at each Close
 abbrev pub Seldom : List Line → Type 0
 Seldom = Everywhere SeldomAt

@@ -8,7 +8,8 @@ use Rattle.tsp_base.specs.Places.{Within}
 use Rattle.tsp_promises.specs.Kept.{Kept}
 use Rattle.tsp_promises.specs.Setting.{Setting}
 
--- a history that fits and keeps every premise, in which a Correct takes the SETTIME that answers a SLAVEUP, after which its node and the master are left alone for a while; and another takes an ADJTIME that rests on a reading
+-- a history that fits and keeps the premises (Kept), in which a Correct takes the SETTIME that answers a SLAVEUP, after
+-- which its node and the master are left alone for a while; and another takes an ADJTIME that rests on a reading
 pub record SetUse : Type 0 where
   pub setting : Setting
   pub world : List Line

@@ -1,4 +1,4 @@
--- What a history is set in.
+-- What is around the nodes of a history: their clocks, names and networks.
 use Rattle.std.specs.Prelude.{◌≡◌, ◌≤◌, ℕ, ℤ, Bool, true, List, nat_abs}
 use Rattle.tsp_base.specs.declared.place.PeerId.{PeerId}
 use Rattle.tsp_base.specs.declared.place.Port.{Port}
@@ -6,13 +6,15 @@ use Rattle.tsp_base.specs.Peers.{is_among}
 use Rattle.tsp_base.specs.Setup.{Setup}
 use Rattle.tsp_base.specs.Takings.{peer_of}
 
--- a network: one that the schedule names, or that of a port which its node doesn't have, where there is nobody else
+-- a network: one of the schedule's header, or, for a port that its node doesn't have, one with nobody else on it
 pub data Network : Type 0 where
   -- the k-th of the header
   Named : (k : ℕ) → Network
   Alone : (n : ℕ) → (q : ℕ) → Network
 
--- the clocks, names and networks of all nodes: the greatest drift and each node's rate, in millionths; its wall clock at tick 0; its name; the network of each of its ports, and who is on it; and whether a candidate needs a majority
+-- the greatest drift, at most 1,000, and each node's rate, both in parts in a million; its wall clock at tick 0, in
+-- microseconds; its name; the network of each of its ports, and who is on it; and whether elections are strict, so that
+-- a candidate needs a majority
 pub record Setting : Type 0 where
   pub drift : ℕ
   pub rate : ℕ → ℤ

@@ -10,7 +10,9 @@ use Rattle.tsp_promises.specs.Setting.{Setting}
 use Rattle.tsp_promises.specs.ShownAt.{shown_at}
 use Rattle.tsp_promises.specs.Steady.{ReadTicks, ReadTimes, Unstepped, shown_width}
 
--- a history that fits and keeps every premise, in which a node is read before and after a Correct that slews its clock, the second time when it has met its target; and another node is read at the first time too, and then waits long enough
+-- a history that fits and keeps the premises (Kept), in which a node is read before and after a Correct that slews its
+-- clock, the second time when it has met its target; and another node is read at the first time too, and then waits
+-- long enough
 pub record ShownUse : Type 0 where
   pub setting : Setting
   pub world : List Line

@@ -1,4 +1,4 @@
--- What a node's deeds up to one place tell of its deeds up to a later one.
+-- What a node's deeds up to one place say of its deeds up to a later one.
 use Rattle.std.specs.Prelude.{◌≡◌, ◌+◌, ◌*◌, ◌<◌, ◌≤◌, ◌⊎◌, List}
 use Rattle.tsp_base.specs.declared.constants.TheConstants.{GAP}
 use Rattle.tsp_base.specs.History.{Did}
@@ -18,7 +18,7 @@ pub record NewLife (s t : List Did) : Type 0 where
   pub lives : lives s < lives t
   pub boot : tick_of s ≤ boot_tick t
 
--- the order of times, ticks, corrections and lives; corrections stand GAP apart
+-- the order of times, ticks, corrections and lives; corrections are at least GAP ticks apart
 pub record Since (s t : List Did) : Type 0 where
   pub time : time_of s ≤ time_of t
   pub tick : tick_of s ≤ tick_of t

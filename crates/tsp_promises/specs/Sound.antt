@@ -18,24 +18,24 @@ use Rattle.tsp_base.specs.Times.{IsMicros}
 use Rattle.tsp_rules.specs.Answers.{Given, Turn, Got, answers}
 use Rattle.tsp_base.specs.Rows.{grown}
 
--- a body's number is in its range
+-- a body's number is in its range: hops are less than 256, and a time is from -LIMIT to LIMIT - 1
 abbrev pub IsSoundBody : Body → Type 0
 IsSoundBody Nothing = Unit {0}
 IsSoundBody (Hops h) = h < 2 ^ 8
 IsSoundBody (Time t) = IsMicros t
 
--- the parts of a datagram are in their ranges, as they are where octets were read
+-- the parts of a datagram are in their ranges, as they are in one that was read from octets
 abbrev pub IsSound : Datagram → Type 0
 IsSound (Message m) = (m.number < 2 ^ 16) × (body_fits m.kind m.body ≡ true) × IsName m.name × IsSoundBody m.body
 IsSound (Stamp (Request word counter)) = (word < 2 ^ 64) × (counter < 2 ^ 64)
 IsSound (Stamp (Reply r)) = (r.word < 2 ^ 64) × (r.counter < 2 ^ 64) × IsReply r.ticket r.reading
 
--- so is what was taken, where it is a datagram
+-- what was taken is no datagram, or a sound one
 abbrev pub IsSoundTaken : Taken → Type 0
 IsSoundTaken (Good datagram) = IsSound datagram
 IsSoundTaken (Bad fault) = Unit {0}
 
--- an act takes or posts a sound datagram, and a sample has a ticket
+-- an act takes or posts a sound datagram; the ticket of a sample is less than 32,768
 abbrev pub IsSoundAct : Act → Type 0
 IsSoundAct (Took from taken) = IsSoundTaken taken
 IsSoundAct (Post to datagram) = IsSound datagram
@@ -52,7 +52,7 @@ AreSound [] = Unit {0}
 AreSound (Here d ∷ before) = IsSoundDeed d.deed × AreSound before
 AreSound (Elsewhere d ∷ before) = AreSound before
 
--- a port whose name is one, whose node booted with a word of 64 bits, and whose acts are sound
+-- a port whose node's name is valid, whose node booted with a word of 64 bits, and whose acts are sound
 pub record SoundPast (past : Past) : Type 0 where
   pub name : IsName past.name
   pub word_fits : word (plain past.seen) < 2 ^ 64

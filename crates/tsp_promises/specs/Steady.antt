@@ -21,14 +21,15 @@ pub record Unstepped (n : ℕ) (s h : List Line) : Type 0 where
   pub lives : lives (dids (of n s)) ≡ lives (dids (of n h))
   pub none : NoneStepped n s h
 
--- n is read at tick x at the place s, before its next line, and at tick y, no earlier, after the history h
+-- node n is read at tick x at the place s, before its next line, and at tick y, no earlier, after the history h
 pub record ReadTicks (n : ℕ) (s h : List Line) (x y : ℕ) : Type 0 where
   pub from : tick_of (dids (of n s)) ≤ x
   pub next : (l : Line) (before : List Line) → Within (l ∷ before) h → Within s before → node_of l ≡ n → x ≤ l.did.tick
   pub order : x ≤ y
   pub to : tick_of (dids (of n h)) ≤ y
 
--- a shown value advances by the ticks between two readings, give or take one in two hundred, rounded up; so it never falls, and rises over any two ticks
+-- a shown value advances by the ticks between two readings, give or take one microsecond for each 200 ticks, rounded
+-- up. So it never falls, and rises over any two ticks
 pub record Advances (early late : ℤ) (ticks : ℕ) : Type 0 where
   pub rate : nat_abs ((late -ℤ early) -ℤ pos ticks) ≤ (ticks + 199) / 200
   pub never_back : early ≤ℤ late
@@ -45,7 +46,7 @@ pub record ReadTimes (n : ℕ) (s h : List Line) (a b : ℕ) : Type 0 where
   pub order : a ≤ b
   pub to : time_of (dids (of n h)) ≤ b
 
--- how far, at most, the advance of a shown value over so much true time stands off it
+-- how far, at most, the advance of a shown value over so many microseconds of true time differs from that time
 abbrev pub shown_width : ℕ → ℕ → ℕ
 shown_width drift x = width drift x + (x + width drift x + 199) / 200
 
@@ -59,11 +60,12 @@ pub record SteadyAt (setting : Setting) (h : List Line) : Type 0 where
   pub ticks : RunsOn h
   pub time : RunsOverTime setting h
 
--- at each place of the history
+-- so it is at each place of the history
 abbrev pub Steady : Setting → List Line → Type 0
 Steady setting = Everywhere (λ l before. SteadyAt setting (l ∷ before))
 
--- at tick y a clock shows its target but for what is left of the rest that it had right after its last Correct or boot: a microsecond less each 200 ticks, until it shows the target
+-- the rest is what a clock has to slew right after its last Correct or boot. What it shows at tick y differs from its
+-- target by the rest, less a microsecond for each 200 ticks since then, until it shows the target
 pub record MeetsBy (ds : List Did) (y : ℕ) : Type 0 where
   pub left : nat_abs (shown ds y -ℤ target ds y) ≡ nat_abs (rest ds) - (y - last_correct ds) / 200
   pub met : last_correct ds + 200 * nat_abs (rest ds) ≤ y → shown ds y ≡ target ds y

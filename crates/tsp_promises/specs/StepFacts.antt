@@ -42,7 +42,7 @@ closed_after Begins here keep = []
 closed_after (Acts (Close count lo size mean)) here keep = here
 closed_after _ here keep = keep
 
--- the place of the last Close of this step; empty where there is none
+-- the place of the last Close of this step; empty if there is none
 abbrev pub closed : List Seen → List Seen
 closed [] = []
 closed (Here d ∷ before) = closed_after d.deed (Here d ∷ before) (closed before)
@@ -53,7 +53,7 @@ owes_after Begins r keep = None
 owes_after (Acts (Quit p)) Master keep = Some p
 owes_after _ r keep = keep
 
--- whom the port must follow at the step's end: the peer whose QUIT it took in this step while it was a master
+-- whom the port must follow at the step's end: the peer whose QUIT it took in this step, while it was a master
 abbrev pub owes : List Seen → Option PeerId
 owes [] = None
 owes (Here d ∷ before) = owes_after d.deed (role before) (owes before)
@@ -74,7 +74,7 @@ unacknowledged_after (Acts (Quit p)) took keep = said took
 unacknowledged_after (Acts (Post (Peer q) (Message m))) took keep = acked_by q m keep
 unacknowledged_after _ took keep = keep
 
--- the message for which this step has a Quit, as long as no ACK of its number was posted to its sender since
+-- the message for which this step has a Quit, as long as no ACK of its number was posted to its sender
 abbrev pub unacknowledged : List Seen → Option Said
 unacknowledged [] = None
 unacknowledged (Here d ∷ before) = unacknowledged_after d.deed (taken before) (unacknowledged before)
@@ -91,7 +91,9 @@ is_answered [] = false
 is_answered (Here d ∷ before) = is_answered_after d.deed (is_answered before)
 is_answered (Elsewhere d ∷ before) = is_answered before
 
--- what a port owes at the end of each step: a candidate has backed itself, a master that took a QUIT follows its sender, each QUIT that was heeded is acknowledged, and since an exchange that is open was begun the node neither booted nor corrected its clock
+-- what a port owes at the end of each step: a candidate has backed itself; a master that took a QUIT follows its
+-- sender; each QUIT that it heeded is acknowledged; and since each open exchange began the node neither booted nor
+-- corrected its clock
 pub record StepEnds (before : List Seen) : Type 0 where
   pub backs : is_unbacked before ≡ false
   pub follows : (p : PeerId) → owes before ≡ Some p → role before ≡ Follow p

@@ -9,7 +9,8 @@ use Rattle.tsp_promises.specs.Premises.{Few}
 use Rattle.tsp_promises.specs.Setting.{Setting}
 use Rattle.tsp_promises.specs.Kept.{Kept}
 
--- a history that fits and keeps every premise, in which elections are strict and two nodes on one network win one after another
+-- a history that fits and keeps the premises (Kept and Few), in which elections are strict and two nodes on one network
+-- win one after another
 pub record StrictElections : Type 0 where
   pub setting : Setting
   pub strict : setting.strict ≡ true

@@ -14,7 +14,8 @@ use Rattle.tsp_promises.specs.Kept.{Kept}
 use Rattle.tsp_promises.specs.Setting.{Setting}
 use Rattle.tsp_promises.specs.Thrice.{sent}
 
--- a history that fits and keeps every premise, in which a message is posted for the last time that it may be
+-- a history that fits and keeps the premises (Kept), in which a message is posted for the third time, the last one that
+-- is allowed
 pub record ThriceUse : Type 0 where
   pub setting : Setting
   pub world : List Line

@@ -1,4 +1,4 @@
--- The promise that a round's bound outlasts later Corrects: it holds of the clocks with those taken back, until either boots.
+-- The promise that a round's bound outlasts later Corrects, if those are taken back, until either node boots.
 use Rattle.std.specs.Prelude.{◌≡◌, ◌≤◌, ◌≤ℤ◌, ℕ, ◌+◌, ◌-◌, ◌*◌, ℤ, pos, ◌+ℤ◌, ◌-ℤ◌, nat_abs, List, ◌∷◌}
 use Rattle.tsp_base.specs.declared.act.Act.TheVariants.{Close}
 use Rattle.tsp_promises.specs.Agreed.{Cast}
@@ -26,7 +26,9 @@ pub record SinceClose (m : ℕ) (close : Line) (cpast : List Line) (mean : ℤ) 
   pub one_life : lives (dids (of (node_of c) (c ∷ past))) ≡ lives (dids (of (node_of c) h))
   pub one_life_master : lives (dids (of m (close ∷ cpast))) ≡ lives (dids (of m h))
 
--- after the history h, at true time t: without what c's node was moved by since c, and what m was moved by since its Close but the mean, their clocks differ by at most the error and drift; and so the clocks themselves by what that is besides
+-- after the history h, at true time t: take back what c's node was moved by since c, and what m was moved by since its
+-- Close, but not the mean. Then the two clocks differ by at most the error and drift (taken_back); the clocks
+-- themselves differ by at most that and the amounts that were taken back (now)
 pub record StillBound (setting : Setting) (m : ℕ) (cpast : List Line) (mean : ℤ) (c : Line) (past : List Line) (r : Line) (err : ℤ) (h : List Line) (t : ℕ) : Type 0 where
   pub taken_back : pos (nat_abs ((clock_at setting (node_of c) h t -ℤ moved_since (node_of c) (c ∷ past) h) -ℤ (clock_at setting m h t -ℤ (moved_since m cpast h -ℤ mean)))) ≤ℤ (err +ℤ pos (2 * width setting.drift (t - r.did.step.at)))
   pub now : pos (nat_abs (clock_at setting (node_of c) h t -ℤ clock_at setting m h t)) ≤ℤ
@@ -42,7 +44,8 @@ pub record SinceCorrect (m : ℕ) (close : Line) (cpast : List Line) (c : Line) 
   pub within : Within (c ∷ past) h
   pub one_life : lives (dids (of (node_of c) (c ∷ past))) ≡ lives (dids (of (node_of c) h))
 
--- likewise the clocks of two nodes at c and d, less what each was moved by since: they differ by at most both errors and drift
+-- likewise the clocks of two nodes at c and d, less what each was moved by since: they differ by at most both errors
+-- and drift
 pub record PeersStill (setting : Setting) (c : Line) (past : List Line) (r : Line) (e : ℤ) (d : Line) (qast : List Line) (q : Line) (f : ℤ) (h : List Line) (t : ℕ) : Type 0 where
   pub taken_back : pos (nat_abs ((clock_at setting (node_of c) h t -ℤ moved_since (node_of c) (c ∷ past) h) -ℤ (clock_at setting (node_of d) h t -ℤ moved_since (node_of d) (d ∷ qast) h))) ≤ℤ
       ((e +ℤ f) +ℤ pos (2 * width setting.drift (t - r.did.step.at) + 2 * width setting.drift (t - q.did.step.at)))
@@ -54,11 +57,11 @@ abbrev pub PeersBound : Setting → List Line → ℕ → Type 0
 PeersBound setting h t = (m : ℕ) (close : Line) (cpast : List Line) (c d : Line) (past qast : List Line) (r q : Line) (rolder qolder : List Line) (e f : ℤ) →
     SinceCorrect m close cpast c past r rolder e h → SinceCorrect m close cpast d qast q qolder f h → PeersStill setting c past r e d qast q f h t
 
--- both
+-- both bounds, after the history h at true time t
 pub record BoundsLast (setting : Setting) (h : List Line) (t : ℕ) : Type 0 where
   pub master : BoundAt setting h t
   pub peers : PeersBound setting h t
 
--- at each place, and after it at any later time
+-- so it is at each place, and after it at any later time
 abbrev pub Throughout : Setting → List Line → Type 0
 Throughout setting = Everywhere (λ l world. (t : ℕ) → l.did.step.at ≤ t → BoundsLast setting (l ∷ world) t)

@@ -1,17 +1,18 @@
-//! The laws.
+//! A node with one port does what that port does: laws, which do nothing.
 ghost use Rattle.tsp_promises.specs.Alone.{AnswersAlone, BootsAlone, RunsAlone};
 
-/// Whatever a node of one port has done so far, it answers in its next step what its only port answers.
+/// Whatever a node with one port has done so far, it answers in its next step what its port
+/// answers.
 pub fn answers_alone()
     ensures { AnswersAlone }
 {}
 
-/// It boots as its only port does.
+/// A node with one port boots as its port does.
 pub fn boots_alone()
     ensures { BootsAlone }
 {}
 
-/// So the runs of such a node are the runs of its only port.
+/// So the runs of a node with one port are the runs of that port.
 pub fn runs_alone()
     ensures { RunsAlone }
 {}

@@ -1,6 +1,6 @@
 //! What is promised of the network's date in any history that fits: of any number of nodes, and of
-//! any number of ports of a node. Nothing here runs. The function's contract is a theorem; whoever
-//! keeps what each deed owes to its past keeps the promise.
+//! any number of ports of a node. Nothing here runs. Each function's contract is a theorem: where
+//! each deed does what it owes to its past, the promise holds.
 ghost use Rattle.std.specs.Prelude.{List};
 ghost use Rattle.tsp_promises.specs.Fits.{Fits};
 ghost use Rattle.tsp_base.specs.History.{Line};
@@ -9,9 +9,9 @@ ghost use Rattle.tsp_promises.specs.Dated.{Dated};
 ghost use Rattle.tsp_promises.specs.DatedUse.{DatedUse};
 ghost use Rattle.tsp_promises.specs.DatesBroken.{DatesBreak};
 
-/// A date is set at a master alone, to the time that was taken. A date that was passed on and
-/// acknowledged was set, if no peer's datagram is forged, no datagram outlives `LIFE`, and no port
-/// begins 32,768 sends with own numbers in one life of its node.
+/// Only a master sets a date, and it sets its clock to the time that it took. A date that was
+/// passed on and acknowledged was set, if no peer's datagram is forged, no datagram outlives `LIFE`
+/// (30 s), and no port begins 32,768 sends with own numbers in one life of its node.
 pub fn dated()
     ensures { (setting : Setting) (world : List Line) → Fits setting world → Dated setting world }
 {}

@@ -1,21 +1,21 @@
-//! The rules keep what each deed owes to its port's past: laws, which do nothing.
+//! By the rules each deed does what it owes to its port's past: laws, which do nothing.
 ghost use Rattle.tsp_promises.specs.NodeRuns.{NodesFit};
 ghost use Rattle.tsp_promises.specs.Runs.{RulesFit};
 ghost use Rattle.tsp_promises.specs.Sound.{AnswersAreSound};
 
-/// A port that has done nothing yet and then runs by the rules, whatever it is given and whenever,
-/// does nothing that doesn't fit.
+/// A port that has done nothing yet and then runs by the rules does only what fits, whatever it is
+/// given and whenever.
 pub fn rules_fit()
     ensures { RulesFit }
 {}
 
-/// A node that runs by the rules over several ports does nothing on any of them that doesn't fit.
+/// A node that runs by the rules over several ports does only what fits on each of them.
 pub fn nodes_fit()
     ensures { NodesFit }
 {}
 
-/// What the rules post has its parts in their ranges, as long as what they took has, so the octets
-/// in which it is written are read as what was posted.
+/// If the parts of all that was taken are in their ranges, so are those of what the rules post. So
+/// the octets in which it is written are read back as what was posted.
 pub fn answers_are_sound()
     ensures { AnswersAreSound }
 {}

@@ -1,17 +1,45 @@
-//! What is promised of every history, and why it is true. Nothing here runs: each function's
-//! contract is a theorem.
+//! What is promised of every history of a network of nodes, and why it is true. Nothing here runs:
+//! each function's contract is a theorem.
 //!
-//! A history is a list of lines: which node, at which of its ticks, did what. Read `specs/` in this
-//! order: `Setting` (the clocks and links around the nodes), `DeedFits` and `StepFacts` (what each
-//! deed owes to its node's past), `Fits` (a history in which nobody owes anything), `Premises`
-//! (what a promise may ask besides, such as that no datagram is forged), then the promises, one a
-//! file, which `Safe` puts together, and `Dated` and `Looped`.
+//! The nodes run the Time Synchronization Protocol of 4.3BSD's timed (4.4BSD System Manager's
+//! Manual, chapter 12, 'The Berkeley UNIX Time Synchronization Protocol'; message kinds as in its
+//! `protocols/timed.h`), as `docs/PROTOCOL.md` has it. Names in capitals, such as `QUIET`, are the
+//! protocol's numbers, in `tsp_base::constants`.
 //!
-//! [`fit`] says that a node which keeps the rules of `tsp_rules` owes nothing. [`safe`], [`date`]
-//! and [`loops`] say that a history in which nobody owes anything keeps the promises, whichever
-//! nodes they are and however many. [`alone`] says that a gateway with one port runs as a node
-//! does. Small histories show that each promise can be kept with all of its premises, and that each
-//! can be broken.
+//! - A *history* is a list of lines, the newest first. A *line* is a deed, with its node, the port
+//!   on which it is done, its true time and its tick. A *deed* is an act of `tsp_base::act`, such
+//!   as Post or Correct, or the mark with which a step begins.
+//! - *True time* is counted in microseconds. A *tick* is a node's own count of microseconds, which
+//!   gains or loses at most `drift` parts in a million, and `drift` is at most 1,000.
+//! - A *step* is a boot, a look at the timers, or a datagram that reaches a node, with the acts
+//!   that follow from it. A *life* of a node lasts from a boot to its next boot; its *word* is a
+//!   number that it is handed at the boot.
+//! - A *place* of a history is a line together with the lines before it. What a port *has seen* is
+//!   its node's part of that.
+//! - A node's *clock* is its target: the wall clock at the boot, the ticks since, and the amounts
+//!   of all Corrects since, in microseconds. What it *shows* slews to the target, one microsecond
+//!   for each 200 ticks, or is stepped to it. A node is *left alone* as long as it neither boots
+//!   nor corrects its clock.
+//! - A *send* is the first post of a numbered message, which begins it, and its repeats. A
+//!   *correction* is the send of an ADJTIME or a SETTIME, or the Correct that takes one. Its number
+//!   is the *ticket* of the node that is to take it, from 0 to 32,767; other sends have *own
+//!   numbers* of the port, from 32,768 on.
+//! - A master measures its slaves in a *round*, and ends it with a Close. A *Sample* is one
+//!   measurement: its *reading* is the post of the reply that it rests on, and its error is half
+//!   the round trip. An *estimate* is the diff of a peer's best Sample, the one with the shortest
+//!   round trip. 'Errors and drift' are those errors and what the clocks may have drifted since the
+//!   readings.
+//!
+//! Read `specs/` in this order: `Setting` (the clocks and networks around the nodes), `DeedFits`
+//! and `StepFacts` (what each deed owes to its node's past), `Fits` (a history in which each deed
+//! has done what it owes), `Premises` (what a promise may ask besides, such as that no datagram is
+//! forged), then the promises, one a file, which `Safe` puts together, and `Dated` and `Looped`.
+//!
+//! [`fit`] says that a node which runs by the rules of `tsp_rules` does what each deed owes.
+//! [`safe`], [`date`] and [`loops`] say that a history in which that is so keeps the promises,
+//! whichever nodes there are and however many. [`alone`] says that a gateway, a node with several
+//! ports, runs as a node does if it has one port. Small histories show that each promise can be
+//! kept with all of its premises, and that each can be broken.
 #![tactic(auto)]
 
 pub mod alone;

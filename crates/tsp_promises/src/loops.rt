@@ -1,6 +1,7 @@
-//! What LOOPs show of any history that fits: of any number of nodes, and of any number of ports of
-//! a node. Nothing here runs. The function's contract is a theorem; whoever keeps what each deed
-//! owes to its past keeps the promise.
+//! What is promised of LOOPs in any history that fits: of any number of nodes, and of any number of
+//! ports of a node. A LOOP is a message by which a gateway finds out that two of its networks are
+//! joined elsewhere too. Nothing here runs. Each function's contract is a theorem: where each deed
+//! does what it owes to its past, the promise holds.
 ghost use Rattle.std.specs.Prelude.{List};
 ghost use Rattle.tsp_promises.specs.Fits.{Fits};
 ghost use Rattle.tsp_base.specs.History.{Line};
@@ -9,15 +10,15 @@ ghost use Rattle.tsp_promises.specs.Looped.{Looped};
 ghost use Rattle.tsp_promises.specs.LoopUse.{LoopUse};
 ghost use Rattle.tsp_promises.specs.LoopsBroken.{LoopsBreak};
 
-/// Each LOOP comes along a chain of at most eleven posts, if no peer's datagram is forged. A master
-/// becomes Loose for its node's own alone, which set out on a lower port and was passed on by other
-/// nodes, if the nodes' names differ besides.
+/// Each LOOP comes along a chain of at most eleven posts, if no peer's datagram is forged. If the
+/// nodes' names differ besides, a master becomes Loose only for a LOOP of its own node, which set
+/// out from a port with a lower number and was passed on by other nodes.
 pub fn looped()
     ensures { (setting : Setting) (world : List Line) → Fits setting world → Looped setting world }
 {}
 
-/// The promise isn't empty: a history that fits sees a LOOP go round over two other nodes, and the
-/// master that began it give the lead of its higher port up.
+/// The promise isn't empty: in a history that fits a LOOP goes round over two other nodes, and the
+/// master that began it gives up the lead of its higher port.
 pub fn loops_use()
     ensures { LoopUse }
 {}

@@ -1,7 +1,7 @@
 //! The promises of the protocol, each proved of every history that fits: of any number of nodes,
 //! and of any number of ports of a node. Nothing here runs. Each function's contract is a theorem
-//! about the definitions of `specs/`; whoever keeps what each deed owes to its past keeps the
-//! promises.
+//! about the definitions of `specs/`: where each deed does what it owes to its past, the promises
+//! hold. The front page of this crate says what the words mean.
 ghost use Rattle.std.specs.Prelude.{◌≡◌, ◌≤◌, ◌⊎◌, ◌+◌, nat_abs, true, ℕ, ℤ, List};
 ghost use Rattle.tsp_base.specs.History.{Line};
 ghost use Rattle.tsp_base.specs.Ticks.{tick_at, width};
@@ -58,34 +58,35 @@ pub fn safe()
         → Safe setting world }
 {}
 
-/// No node backs two candidates within the hold, forged datagrams or not.
+/// No node backs two candidates within `HOLD` ticks, 60 s, even if datagrams are forged.
 pub fn one_back()
     ensures { (setting : Setting) (world : List Line) → Fits setting world → Finished world
         → OneBack world }
 {}
 
-/// For `QUIET` ticks after a boot a node posts replies to stamp requests and acknowledgments of
-/// MSITE, TRACEON and TRACEOFF alone, and doesn't correct its clock.
+/// For `QUIET` ticks, 80 s, after a boot a node posts only replies to stamp requests and
+/// acknowledgments of MSITE, TRACEON and TRACEOFF, and doesn't correct its clock.
 pub fn silent_after_boot()
     ensures { (setting : Setting) (world : List Line) → Fits setting world → Silent world }
 {}
 
-/// A step takes one datagram at most. A port heeds a QUIT right after it took it, once in a step,
-/// and acknowledges it in that step, in every role. What goes to a stranger answers the datagram
-/// that the step took from one on that port, in the node's own name unless that asks for the
-/// master's, and is the only thing that it posts to strangers; so no more datagrams are posted to
-/// strangers than are taken from them.
+/// A step takes at most one datagram. A port heeds a QUIT right after it took it, once in a step,
+/// and acknowledges it in that step, in every role. What a step posts to a stranger answers the
+/// datagram that it took from one on that port, and is the only thing that it posts to strangers. A
+/// message's answer is in the node's own name, but that of MSITE has the master's. So no more
+/// datagrams are posted to strangers than are taken from them.
 pub fn answered()
     ensures { (setting : Setting) (world : List Line) → Fits setting world → Finished world
         → Answered setting world }
 {}
 
-/// Only masters post corrections, close rounds and correct their clocks right after.
+/// Only masters post corrections, close rounds, and correct their clocks right after a Close.
 pub fn only_master()
     ensures { (setting : Setting) (world : List Line) → Fits setting world → OnlyMaster world }
 {}
 
-/// Two corrections of one clock stand apart, in one life of the node and over lives.
+/// Two corrections of one clock are at least `GAP` ticks, 1 s, apart: in one life of the node, and
+/// over its lives.
 pub fn once_spaced()
     ensures one_life { (setting : Setting) (world : List Line) → Fits setting world
         → OnceSpaced world }
@@ -100,49 +101,49 @@ pub fn once_obeyed()
 {}
 
 /// No two corrections of clocks take posts of one ADJTIME or SETTIME, if no datagram outlives
-/// `LIFE`; forged datagrams don't matter.
+/// `LIFE`, even if datagrams are forged.
 pub fn once_corrected()
     ensures { (setting : Setting) (world : List Line) → Fits setting world → Life world
         → OnceCorrected world }
 {}
 
-/// No two corrections of clocks take posts of one send, whether that corrects a clock or passes a
-/// date on, if no datagram outlives `LIFE` and no peer's datagram is forged.
+/// No two corrections of clocks take posts of one send, whether it is a correction or a date that
+/// is passed on, if no datagram outlives `LIFE` and no peer's datagram is forged.
 pub fn once_taken()
     ensures { (setting : Setting) (world : List Line) → Fits setting world → Honest world
         → Life world → OnceTaken world }
 {}
 
 /// A correction that was acknowledged was taken, if no peer's datagram is forged and none outlives
-/// `LIFE`. Boots may have equal words, here and wherever clocks are compared.
+/// `LIFE`. Two boots may have the same word, here and in all promises that compare clocks.
 pub fn once_confirmed()
     ensures { (setting : Setting) (world : List Line) → Fits setting world → Honest world
         → Life world → OnceConfirmed world }
 {}
 
-/// A numbered message is posted at most three times, the last time at most 4 s of its node's count
+/// A numbered message is posted at most three times, the last time at most 4 s of its node's ticks
 /// after the first.
 pub fn thrice()
     ensures { (setting : Setting) (world : List Line) → Fits setting world → Thrice world }
 {}
 
-/// A measurement ends an open exchange of the going round, and the error that it states is half
-/// that round trip, rounded up.
+/// A measurement ends an open exchange of the going round, and the error that it states is half of
+/// that round trip, rounded up to a microsecond.
 pub fn measured_trips()
     ensures { (setting : Setting) (world : List Line) → Fits setting world → Trips world }
 {}
 
-/// A measurement rests on a reply that its peer posted, and errs by at most the error that it
-/// states, if no peer's datagram is forged, and none outlives `LIFE` or no two boots of one node
-/// have one word.
+/// A measurement rests on a reply that its peer posted, and is wrong by at most the error that it
+/// states, if no peer's datagram is forged, and either no datagram outlives `LIFE` or no two boots
+/// of one node have the same word.
 pub fn measured()
     ensures { (setting : Setting) (world : List Line) → Fits setting world → Honest world
         → Life world ⊎ OwnWords world → Measured setting world }
 {}
 
-/// An ADJTIME that a Close begins rests on a sample, and clocks that one Close corrected agree with
-/// one another and with the master's: at each act, and from there on as long as nothing more
-/// happens.
+/// An ADJTIME that a Close begins rests on a sample. Clocks that one Close corrected agree with one
+/// another and with the master's, within their errors and drift: at each act, and after each line
+/// as long as nothing more happens.
 pub fn agreed()
     ensures at { (setting : Setting) (world : List Line) → Fits setting world → Honest world
         → Life world → Agreed setting world }
@@ -150,10 +151,10 @@ pub fn agreed()
         → Life world → StayAgreed setting world }
 {}
 
-/// A round's estimates tell of the clocks: any two differ by no more than the clocks do at its
-/// Close, their errors and drift; and the master's clock, once it moved by the mean, stands apart
-/// from a clock that nobody has corrected since by what the estimate of that stands apart from the
-/// mean, its error and drift.
+/// What a round's estimates say of the clocks: two estimates differ by at most as much as the
+/// clocks do at the Close, plus their errors and drift. And the master's clock, once it has moved
+/// by the mean, differs from a clock that is left alone by at most what that clock's estimate
+/// differs from the mean, plus its error and drift.
 pub fn estimates_hold()
     ensures { (setting : Setting) (world : List Line) → Fits setting world → Honest world
         → Life world → EstimatesHold setting world }
@@ -165,12 +166,13 @@ pub fn errs_bounded()
     ensures { (setting : Setting) (world : List Line) → Fits setting world → ErrsBounded world }
 {}
 
-/// A minority of a round's estimates, whatever it says, moves nobody of the majority by much. Where
-/// more than half of the estimates lie within 20 ms of one another, the mean is off by at most
-/// 40 ms from each of them: so a master among them slews its clock by at most that, and so does
-/// each peer among them that takes the round's ADJTIME. What such a peer shows meets its clock
-/// within 8 s, if nothing was left to slew before. If no peer's datagram is forged and none outlives
-/// `LIFE`, the master's clock then stands with theirs.
+/// A minority of a round's estimates, whatever it says, moves no clock of the majority by much.
+/// Where more than half of the estimates are within 20 ms of one another, the mean differs by at
+/// most 40 ms from each of them. So a master among them slews its clock by at most that, and so
+/// does each peer among them that takes the round's ADJTIME. What such a peer shows meets its clock
+/// within 8 s of its ticks, if nothing was left to slew before. If no peer's datagram is forged and
+/// none outlives `LIFE`, the master's clock then agrees with theirs, within 40 ms, the error and
+/// drift.
 pub fn moderate()
     ensures moves { (setting : Setting) (world : List Line) → Fits setting world
         → Moderate setting world }
@@ -178,31 +180,31 @@ pub fn moderate()
         → Life world → ModerateClocks setting world }
 {}
 
-/// In one life of a node two rounds close on one port at least 239 s of its ticks apart.
+/// In one life of a node two rounds of one port close at least 239 s of its ticks apart.
 pub fn seldom()
     ensures { (setting : Setting) (world : List Line) → Fits setting world → Seldom world }
 {}
 
-/// A round's bound outlasts later Corrects: with what the two nodes were moved by since taken back,
-/// the clock of a node that a Close corrected and that of the master agree as they did, until
-/// either boots; so the clocks differ by at most that besides. The same goes for two nodes that one
-/// Close corrected, whatever becomes of the master.
+/// A round's bound outlasts later Corrects, until either node boots. Take back what the two nodes
+/// were moved by since: then the clock of a node that a Close corrected and the clock of the master
+/// agree as they did. So the clocks themselves differ by at most those amounts besides. The same is
+/// so of two nodes that one Close corrected, whatever becomes of the master.
 pub fn throughout()
     ensures { (setting : Setting) (world : List Line) → Fits setting world → Honest world
         → Life world → Throughout setting world }
 {}
 
-/// No error is corrected twice: each correction that a clock takes rests on a reading or a SLAVEUP,
-/// and from that to the Correct that takes it the node neither boots nor corrects its clock,
-/// whichever masters there are, if no peer's datagram is forged and none outlives `LIFE`.
+/// No error is corrected twice, whichever masters there are, if no peer's datagram is forged and
+/// none outlives `LIFE`. Each correction that a clock takes rests on a reading or a SLAVEUP, and
+/// from that to the Correct that takes it the node neither boots nor corrects its clock.
 pub fn one_error()
     ensures { (setting : Setting) (world : List Line) → Fits setting world → Honest world
         → Life world → OneError world }
 {}
 
-/// After a SETTIME a clock is behind its master's by the time that the datagram took since it was
-/// first posted, and drift; forged datagrams or not. If no datagram outlives `LIFE` that is at most
-/// 34 s and drift.
+/// After a SETTIME a clock is behind its master's by the time since the SETTIME was first posted,
+/// give or take drift, even if datagrams are forged. If no datagram outlives `LIFE`, that is at
+/// most 34 s and drift.
 pub fn first_set()
     ensures at { (setting : Setting) (world : List Line) → Fits setting world
         → FirstSet setting world }
@@ -218,38 +220,38 @@ pub fn chained()
         → Life world → Chained setting world }
 {}
 
-/// A clock that a corrected master corrected agrees with the first master's, at each line and from
-/// there on.
+/// A clock corrected by a master that was itself corrected agrees with the first master's, within
+/// both errors and drift: at each line, and after it as long as nothing more happens.
 pub fn relayed()
     ensures { (setting : Setting) (world : List Line) → Fits setting world → Honest world
         → Life world → Relayed setting world }
 {}
 
-/// The shown clock never falls between steps and boots, and is off in rate by at most one in two
-/// hundred, beside its node's drift; forged datagrams or not.
+/// What a clock shows never falls between steps of it and boots, and its rate is off by at most one
+/// in two hundred, beside its node's drift, even if datagrams are forged.
 pub fn runs_steadily()
     ensures { (setting : Setting) (world : List Line) → Fits setting world → Steady setting world }
 {}
 
-/// A Correct prints the value that its clock shows right after it. It says that it is stepped
-/// exactly where it sets the clock, by a SETTIME or a date, or where its amount is more than
-/// `MAXADJ`; then the clock shows its new target, and else what it showed before. So a trace can be
-/// checked: as long as a node doesn't boot and none is stepped after the first, what two of its
+/// A Correct prints what its clock shows right after it. It says that it is stepped exactly where
+/// it sets the clock, by a SETTIME or a date, or where its amount is more than `MAXADJ`, 20 s. Then
+/// the clock shows its new target; otherwise it shows what it showed before. So a trace can be
+/// checked: as long as a node doesn't boot, and none after the first is stepped, what two of its
 /// Corrects print differs by the ticks between them, give or take one in two hundred.
 pub fn shows()
     ensures { (setting : Setting) (world : List Line) → Fits setting world → Shows world }
 {}
 
-/// It meets its target: what is left to slew is less by a microsecond each 200 ticks. No deed can
-/// break this; it is how the shown value is defined.
+/// What a clock shows meets its target: what is left to slew is less by a microsecond for each 200
+/// ticks. No deed can break this; it is how the shown value is defined.
 pub fn meets_target()
     ensures { (world : List Line) → Meets world }
 {}
 
 /// What clocks show agrees as the clocks do, wherever a Close or a chain bounds them: within the
-/// same errors and drift, and what is still to be slewed on each. Whatever else bounds
-/// the clocks of two nodes that have booted bounds what they show likewise, and as closely once
-/// both have met their targets; forged datagrams or not.
+/// same errors and drift, and what is still to be slewed on each. Any other bound of the clocks of
+/// two nodes that have booted bounds what they show likewise, and as closely once both show their
+/// targets, even if datagrams are forged.
 pub fn agreed_shown()
     ensures clocks { (setting : Setting) (world : List Line) → Fits setting world → Honest world
         → Life world → AgreedShown setting world }
@@ -257,8 +259,8 @@ pub fn agreed_shown()
         → ShownNear setting world }
 {}
 
-/// Whoever waits for longer than his clock and another's may be apart knows that what the other
-/// shows then is later than what his own showed before.
+/// Whoever waits for longer than what his clock and another show may differ knows that what the
+/// other shows then is later than what his own showed before.
 pub fn stamps_in_order()
     ensures { (setting : Setting) (world : List Line) → Fits setting world → Waited setting world }
 {}
@@ -274,34 +276,37 @@ pub fn resolved_becomes()
     ensures { BecomesAfter }
 {}
 
-/// After a QUIT a port isn't a master again for the least election delay.
+/// After a QUIT a port isn't a master again for `ELECT_MIN` ticks, 300 s.
 pub fn resolved_stays_quiet()
     ensures { (setting : Setting) (world : List Line) → Fits setting world → StaysQuiet world }
 {}
 
-/// At the end of the step in which the last rival takes its QUIT no rival is a master, if no
-/// datagram outlives `LIFE`.
+/// A master that finds rivals sends each of them a QUIT, when its alarm Resolve rings. At the end
+/// of the step in which the last rival takes its QUIT no rival is a master, if no datagram outlives
+/// `LIFE`.
 pub fn resolved_stops()
     ensures { (setting : Setting) (world : List Line) → Fits setting world → Finished world
         → Life world → StopsLeading world }
 {}
 
-/// In strict elections two wins of different nodes on one network stand more than 50 s apart, if no
-/// peer's datagram is forged, no datagram outlives `LIFE`, and no port begins 32,768 sends with own
-/// numbers in one life of its node.
+/// In strict elections, where a candidate needs a majority, two wins of different nodes on one
+/// network are more than 50 s apart, if no peer's datagram is forged, no datagram outlives `LIFE`,
+/// and no port begins 32,768 sends with own numbers in one life of its node.
 pub fn one_winner()
     ensures { (setting : Setting) (world : List Line) → setting.strict ≡ true → Fits setting world
         → Honest world → Life world → Few world → OneWinner setting world }
 {}
 
-/// Over some span of true time a tick counter advances by that span, give or take the width.
+/// Over a span of true time a tick counter advances by that span, give or take its `width`: the
+/// drift of that span, rounded up, and 1. Times are microseconds, rate and drift parts in a
+/// million.
 pub fn ticks_keep_width()
     ensures { (rate : ℤ) (drift start span : ℕ) → nat_abs rate ≤ drift → drift ≤ 1000
         → (tick_at rate (start + span) ≤ tick_at rate start + span + width drift span)
         × (tick_at rate start + span ≤ tick_at rate (start + span) + width drift span) }
 {}
 
-/// No promise is empty: a history that fits and keeps every premise sees three nodes boot, one of
+/// No promise is empty: a history that fits and keeps the premises sees three nodes boot, one of
 /// them win an election, the others take a SETTIME each and acknowledge it, and a whole round that
 /// corrects both.
 pub fn ordinary_use()
@@ -320,21 +325,21 @@ pub fn chain_use()
     ensures { ChainUse }
 {}
 
-/// Nor is the promise that a round's bound outlasts later Corrects, nor that rounds stand apart: a
+/// Nor is the promise that a round's bound outlasts later Corrects, nor that rounds are apart: a
 /// history that fits sees a second round of one life move both clocks of the first.
 pub fn rounds_use()
     ensures { RoundsUse }
 {}
 
-/// Nor is what estimates tell: a history that fits sees a round that estimates two nodes, which
+/// Nor is what estimates say: a history that fits sees a round that estimates two nodes, which
 /// nobody corrects until after its Close.
 pub fn estimates_use()
     ensures { EstimatesUse }
 {}
 
 /// Nor is what is promised of a majority: a history that fits sees a round in which a master and a
-/// peer agree, and another peer seems to stand a second off. The first two are moved by 51 and
-/// 50 microseconds, the last one by a second.
+/// peer agree, and another peer seems to be a second off. The first two are moved by 51 and 50
+/// microseconds, the last one by a second.
 pub fn moderate_use()
     ensures { ModerateUse }
 {}
@@ -357,8 +362,8 @@ pub fn prints_use()
     ensures { PrintsUse }
 {}
 
-/// Nor is the promise of silence after a boot: a history that fits sees a node answer a stranger in
-/// its quiet time.
+/// Nor is the promise of silence after a boot: a history that fits sees a node answer in its quiet
+/// time, the `QUIET` ticks after its boot.
 pub fn quiet_use()
     ensures { QuietUse }
 {}
@@ -375,9 +380,8 @@ pub fn answered_use()
     ensures { AnsweredUse }
 {}
 
-/// Nor are the promises of backings and of resolutions empty: a history that fits sees a node back
-/// two candidates, and a rival take the QUIT of a resolution and lead again after the least
-/// election delay.
+/// Nor are the promises of backings and of resolutions: a history that fits sees a node back two
+/// candidates, and a rival take the QUIT of a resolution and be master again after `ELECT_MIN`.
 pub fn rivals_meet()
     ensures { RivalsMeet }
 {}
@@ -388,23 +392,23 @@ pub fn strict_elections()
     ensures { StrictElections }
 {}
 
-/// A history that fits sees dates passed on and set, in two lives of a master. Where forged octets
-/// come between, one date is set twice, so `once_taken` needs its premise.
+/// A history that fits sees dates passed on and set, in two lives of a master. With forged octets
+/// between, one date is set twice, so `once_taken` needs its premise.
 pub fn dates_pass()
     ensures used { DateUse }
     ensures forged { ForgedDate }
 {}
 
-/// Boots may have one word: a history that fits sees a master boot again with its old word and
-/// close a round in each of its lives, each of which corrects a node. Where a datagram outlives
-/// `LIFE` besides, a measurement goes wrong, so `measured` needs one of both.
+/// Two boots may have the same word: a history that fits sees a master boot again with its old word
+/// and close a round in each of its lives, each of which corrects a node. If a datagram outlives
+/// `LIFE` too, a measurement goes wrong, so `measured` needs one of the two premises.
 pub fn words_repeat()
     ensures used { SameWords }
     ensures late { MeasuresWrongly }
 {}
 
-/// A history that fits may bring a reply to a request of an earlier life; it ends no exchange, and
-/// so a Sample of it would break a promise.
+/// A history that fits may bring a reply to a request of an earlier life. It ends no exchange, so a
+/// Sample of it would break a promise.
 pub fn late_reply()
     ensures { LateReply }
 {}

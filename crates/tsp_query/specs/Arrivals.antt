@@ -1,4 +1,4 @@
--- What answers a question, and the first answer among the arrivals.
+-- Which datagrams answer a question, and the first answer among the arrivals.
 use Rattle.std.specs.Prelude.{ℕ, Bool, true, false, ◌&&◌, ◌==◌, if◌then◌else◌, List, [], ◌∷◌, take, Option, Some, None, zero, suc, ◌+◌}
 use Rattle.tsp_base.specs.declared.datagram.Datagram.{Datagram}
 use Rattle.tsp_base.specs.declared.datagram.Datagram.TheVariants.{Message, Stamp as StampOf}
@@ -25,7 +25,8 @@ is_date_answer Ack = true
 is_date_answer DateAck = true
 is_date_answer _ = false
 
--- whether a datagram answers a question: an ACK with its number (for a date a DATEACK too), or a stamp reply with its word and counter 0
+-- whether a datagram answers a question: an ACK with its number, or, to a date, a DATEACK with it too; or a stamp reply
+-- with its word and counter 0
 abbrev pub answers : Question → Datagram → Bool
 answers (OfNumber number) (Message m) = is_ack m.kind && (m.number == number)
 answers (OfNumber number) (StampOf s) = false
@@ -35,22 +36,22 @@ answers (OfWord word) (Message m) = false
 answers (OfWord word) (StampOf (Request w c)) = false
 answers (OfWord word) (StampOf (Reply r)) = (r.word == word) && (r.counter == 0)
 
--- the datagram that was read, where it is an answer
+-- the datagram that was read, if it is an answer
 abbrev pub answer_of : Question → Taken → Option Datagram
 answer_of q (Good d) = if answers q d then Some d else None
 answer_of q (Bad fault) = None
 
--- the daemon is the only peer
+-- whether a sender is the daemon, which is the link's only peer, number 0
 abbrev pub is_daemon : Place → Bool
 is_daemon (Peer p) = p.0 == 0
 is_daemon Stranger = false
 
--- the answer that comes within a wait, if one does
+-- the answer that comes within one wait, if one does; the first 512 octets of a datagram are read
 abbrev pub answer_in : Question → Arrival → Option Datagram
 answer_in q None = None
 answer_in q (Some r) = if is_daemon r.0 then answer_of q (taken_of (take 512 r.1)) else None
 
--- what comes next: nothing where no arrival is left
+-- what comes next: nothing if no arrival is left
 abbrev pub next_arrival : List Arrival → Arrival
 next_arrival [] = None
 next_arrival (a ∷ rest) = a
@@ -60,12 +61,12 @@ abbrev pub rest_of : {A : Type 0} → List A → List A
 rest_of [] = []
 rest_of (x ∷ rest) = rest
 
--- an answer with the number of its wait, or else a later one
+-- this answer with the number of its wait, or, if there is none, a later one
 abbrev pub or_later : Option Datagram → ℕ → Option (ℕ × Datagram) → Option (ℕ × Datagram)
 or_later None i later = later
 or_later (Some d) i later = Some (i, d)
 
--- the first answer within so many waits, and the number of its wait, where they are counted from i on
+-- the first answer within so many waits, and the number of its wait; the first of these has number i
 unfoldable pub asked_from : Question → ℕ → ℕ → List Arrival → Option (ℕ × Datagram)
 asked_from q i zero arrivals = None
 asked_from q i (suc n) arrivals = or_later (answer_in q (next_arrival arrivals)) i (asked_from q (i + 1) n (rest_of arrivals))

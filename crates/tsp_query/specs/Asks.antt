@@ -1,4 +1,4 @@
--- How a question ends as a command.
+-- How a question ends as a command: what is read, sent, awaited and written.
 use Rattle.std.specs.Prelude.{◌≡◌, ◌⊎◌, ℕ, ℤ, ◌%◌, List, [], ◌∷◌, Option, Some}
 use Rattle.tsp_base.specs.declared.kind.Kind.TheVariants.{Msite as MsiteKind, Test}
 use Rattle.tsp_io.specs.declared.addr.Addr.{Addr}
@@ -17,7 +17,7 @@ use Rattle.tsp_query.specs.declared.exit.QueryExit.{QueryExit}
 use Rattle.tsp_query.specs.declared.exit.QueryExit.TheVariants.{Answered, NoAnswer, LinkFault, WriteFault, OutOfMemory}
 use Rattle.tsp_query.specs.Lines.{end_line}
 
--- how a question ends once its line is written
+-- how a command ends if its question ends so and its line is written
 abbrev pub asking_of : QueryEnd → QueryExit
 asking_of (Master name) = Answered
 asking_of (Diff diff err) = Answered
@@ -27,7 +27,7 @@ asking_of Unanswered = NoAnswer
 asking_of Faulty = LinkFault
 asking_of Refused = OutOfMemory
 
--- a question ends so: the wall clock and the word are read, and a request goes out whose number is made of the word
+-- a question ends so: the wall clock and the word were read, and a request was sent, whose number is made from the word
 abbrev pub QueryComes : Query → ℤ → ℕ → Outside → Option (List Arrival) → Option (List Tried) → Option ℕ → Option (List ℕ) → ℕ → ℕ → ℕ → QueryEnd → Type 0
 QueryComes Msite wall word o arrivals tried calls readings last sends sends_now end = QueryEnds (message MsiteKind word) (OfNumber (word % 65536)) master_in o arrivals tried calls readings last sends sends_now end
 QueryComes ClockDiff wall word o arrivals tried calls readings last sends sends_now end = QueryEnds (stamp word) (OfWord word) (diff_in wall (reading o.last o.readings 0) (reading o.last o.readings 1)) o arrivals tried calls readings last sends sends_now end
@@ -35,15 +35,15 @@ QueryComes (Trace on) wall word o arrivals tried calls readings last sends sends
 QueryComes Election wall word o arrivals tried calls readings last sends sends_now end = QueryEnds (message Test word) (OfNumber (word % 65536)) heard_in o arrivals tried calls readings last sends sends_now end
 QueryComes (Date time) wall word o arrivals tried calls readings last sends sends_now end = QueryEnds (date_message time word) (OfDate (word % 65536)) date_in o arrivals tried calls readings last sends sends_now end
 
--- the address from which a question is asked: any of this machine, and a port that the system chooses
+-- the address from which a question is asked: any address of this machine, and a UDP port that the system chooses
 abbrev pub anywhere : Addr
 anywhere = record { ip = 0 ∷ 0 ∷ 0 ∷ 0 ∷ []; port = 0 }
 
--- what the link of a question is bound to: the daemon is its only peer
+-- what the link of a question is bound to: that address, and the daemon as the only peer
 abbrev pub asking_binding : Addr → Binding
 asking_binding daemon = record { local = anywhere; peers = daemon ∷ [] }
 
--- the bind failed: nothing was read of the ticker, nothing sent and nothing written
+-- the bind failed, or there was no memory for it: no tick was read, and nothing was sent or written
 pub record IsUnbound (o : Outside) (written : List ℕ) (before now : Observed) (asking : QueryExit) : Type 0 where
   pub cause : (asking ≡ LinkFault) ⊎ (asking ≡ OutOfMemory)
   pub tells : Tells (bound o) now.arrivals now.tried now.calls now.readings now.last
@@ -52,7 +52,8 @@ pub record IsUnbound (o : Outside) (written : List ℕ) (before now : Observed) 
   pub unwaited : now.waits ≡ before.waits
   pub unread : now.left_at_wall ≡ before.left_at_wall
 
--- the link was bound, the question asked, and its line written, or the beginning of it; the last two numbers are the failed sends before and after
+-- the link was bound, the question was asked, and its line was written, all of it or only the beginning; the last two
+-- numbers are the counts of failed sends before and after
 pub record IsAsked (daemon : Addr) (query : Query) (o : Outside) (wall : ℤ) (word : ℕ) (written : List ℕ) (before now : Observed) (sends sends_now : ℕ) (asking : QueryExit) : Type 0 where
   pub end : QueryEnd
   pub comes : QueryComes query wall word (bound o) now.arrivals now.tried now.calls now.readings now.last sends sends_now end
@@ -63,6 +64,6 @@ pub record IsAsked (daemon : Addr) (query : Query) (o : Outside) (wall : ℤ) (w
   -- the wall clock was read between the first two ticks
   pub walled : now.left_at_wall ≡ Some (Some (rest_of o.readings))
 
--- how a question ends as a command, where this was known of the outside at its beginning
+-- how a question ends as a command, if this was known of the outside at its beginning
 abbrev pub AsksAs : Addr → Query → Outside → ℤ → ℕ → List ℕ → Observed → Observed → ℕ → ℕ → QueryExit → Type 0
 AsksAs daemon query o wall word written before now sends sends_now asking = IsUnbound o written before now asking ⊎ IsAsked daemon query o wall word written before now sends sends_now asking

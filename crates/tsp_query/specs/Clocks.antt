@@ -1,12 +1,13 @@
--- The clock of this machine, as a question reads it.
+-- The clock of this machine, as a question reads it, in microseconds.
 use Rattle.std.specs.Prelude.{ℕ, ◌-◌, ℤ, pos, ◌+ℤ◌, List, [], ◌∷◌, zero, suc}
 
--- the reading with this number, counted from 0, of a counter with these readings, whose last answer was this one; after the last of them it repeats
+-- the k-th tick, from 0, that a counter gives which still has these readings and has answered this one last; after its
+-- last reading it gives that again
 abbrev pub reading : ℕ → List ℕ → ℕ → ℕ
 reading last [] k = last
 reading last (x ∷ xs) zero = x
 reading last (x ∷ xs) (suc k) = reading x xs k
 
--- the wall clock, and the ticks since the first reading
+-- the wall clock that was read at the first tick, and the ticks since
 abbrev pub own_clock : ℤ → ℕ → ℕ → ℤ
 own_clock wall first tick = wall +ℤ pos (tick - first)

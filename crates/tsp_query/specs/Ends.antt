@@ -1,4 +1,4 @@
--- How asking a daemon ends.
+-- How asking a daemon ends, and what is left of the outside then.
 use Rattle.std.specs.Prelude.{◌≡◌, ◌⊎◌, ℕ, ◌+◌, ◌<◌, ◌≤◌, ◌^◌, true, List, [], ◌∷◌, ◌++◌, All, Option, Some, None, zero, suc}
 use Rattle.tsp_base.specs.declared.datagram.Datagram.{Datagram}
 use Rattle.tsp_base.specs.declared.place.Place.TheVariants.{Peer}
@@ -13,7 +13,8 @@ use Rattle.tsp_query.specs.declared.ask.Heard.{Heard}
 use Rattle.tsp_query.specs.declared.ask.Heard.TheVariants.{Answer as HeardAnswer, Other, Failed}
 use Rattle.tsp_query.specs.declared.question.Question.{Question}
 
--- what a link and a ticker hold, where all of it is known
+-- what a link and a ticker hold, if all of it is known: the arrivals to come, the sends that were tried, the number of
+-- binds and receives, the ticks still to be read, and the last tick that was read
 pub record Outside : Type 0 where
   pub arrivals : List Arrival
   pub tried : List Tried
@@ -29,60 +30,62 @@ pub record Tells (o : Outside) (arrivals : Option (List Arrival)) (tried : Optio
   pub readings_are : readings ≡ Some o.readings
   pub last_is : last ≡ o.last
 
--- what is held once a wait is over and the tick right after it is read
+-- the outside after a wait, and after the tick right after it was read
 abbrev pub heard : Outside → Outside
 heard o = record { arrivals = rest_of o.arrivals; tried = o.tried; calls = one_more o.calls; readings = rest_of o.readings; last = reading o.last o.readings 0 }
 
--- what is held after so many waits
+-- the outside after so many waits
 abbrev pub heard_times : ℕ → Outside → Outside
 heard_times zero o = o
 heard_times (suc n) o = heard (heard_times n o)
 
--- what is held once a receive failed: it was called, and nothing else happened
+-- the outside after a receive that failed: it is counted, and nothing else has happened
 abbrev pub failed : Outside → Outside
 failed o = record o { calls = one_more o.calls }
 
--- the receives until an answer; eight where there is none
+-- how many receives there are up to the answer; eight if there is none
 abbrev pub receives : Option (ℕ × Datagram) → ℕ
 receives None = 8
 receives (Some r) = r.0 + 1
 
--- what one receive gives
+-- what one receive comes to: an answer and the tick right after it, something else or nothing, or a failure
 abbrev pub Hears : Question → Outside → Option (List Arrival) → Option (List Tried) → Option ℕ → Option (List ℕ) → ℕ → Heard → Type 0
 Hears q o arrivals tried calls readings last (HeardAnswer d tick) = Tells (heard o) arrivals tried calls readings last × (answer_in q (next_arrival o.arrivals) ≡ Some d) × (tick ≡ last)
 Hears q o arrivals tried calls readings last Other = Tells (heard o) arrivals tried calls readings last × (answer_in q (next_arrival o.arrivals) ≡ None)
 Hears q o arrivals tried calls readings last Failed = Tells (failed o) arrivals tried calls readings last
 
--- a heard answer answers the question, and its tick is from the last tick to 2 ^ 61
+-- what was heard as an answer does answer the question, and its tick is at least the last one and at most 2^61
 abbrev pub HearsWell : Question → ℕ → Heard → Type 0
 HearsWell q last (HeardAnswer d tick) = (answers q d ≡ true) × (last ≤ tick) × (tick ≤ 2 ^ 61)
 HearsWell q last _ = Unit {0}
 
--- what eight receives give: the first answer among them, unless one fails before; nothing happens after either
+-- what up to eight receives come to: the first answer among them, unless one fails before it; nothing happens after
+-- either
 abbrev pub Listens : Question → Outside → Option (List Arrival) → Option (List Tried) → Option ℕ → Option (List ℕ) → ℕ → AskEnd → Type 0
 Listens q o arrivals tried calls readings last (Answer d tick) = (i : ℕ) × (asked q o.arrivals ≡ Some (i, d)) × (tick ≡ reading o.last o.readings i) × Tells (heard_times (i + 1) o) arrivals tried calls readings last
 Listens q o arrivals tried calls readings last NoAnswer = (asked q o.arrivals ≡ None) × Tells (heard_times 8 o) arrivals tried calls readings last
 Listens q o arrivals tried calls readings last LinkFault = (n : ℕ) × (n < receives (asked q o.arrivals)) × Tells (failed (heard_times n o)) arrivals tried calls readings last
 Listens q o arrivals tried calls readings last OutOfMemory = ⊥
 
--- one datagram more was sent to the daemon
+-- the outside after one datagram more was sent to the daemon
 abbrev pub sent : Datagram → Outside → Outside
 sent request o = record o { tried = o.tried ++ (Peer (record { 0 = 0 }), canon request) ∷ [] }
 
--- how asking ends, with the number of failed sends before and after: the one datagram was tried, unless out of memory; where the send failed, nothing more happened
+-- how asking ends; the last two numbers are the counts of failed sends before and after. The one datagram was tried,
+-- unless there was no memory for it. If its send failed, nothing more happened
 abbrev pub Asks : Datagram → Question → Outside → Option (List Arrival) → Option (List Tried) → Option ℕ → Option (List ℕ) → ℕ → ℕ → ℕ → AskEnd → Type 0
 Asks request q o arrivals tried calls readings last sends sends_now OutOfMemory = Tells o arrivals tried calls readings last
 Asks request q o arrivals tried calls readings last sends sends_now LinkFault =
     (Tells (sent request o) arrivals tried calls readings last × Rose sends sends_now) ⊎ (Listens q (sent request o) arrivals tried calls readings last LinkFault × (sends_now ≡ sends))
 Asks request q o arrivals tried calls readings last sends sends_now end = Listens q (sent request o) arrivals tried calls readings last end
 
--- each receive waited a second, where the waits are known before and after
+-- each receive waited a second, if it is told how long receives wait
 abbrev pub WaitsSeconds : Option (List ℕ) → Option (List ℕ) → Type 0
 WaitsSeconds waits None = Unit {0}
 WaitsSeconds None (Some now) = ⊥
 WaitsSeconds (Some before) (Some now) = (more : List ℕ) × (now ≡ before ++ more) × All (λ wait. wait ≡ 1000000) more
 
--- an answer answers the question, and its tick is from the last tick to 2 ^ 61
+-- an answer does answer the question, and its tick is at least the last one and at most 2^61
 abbrev pub AsksWell : Question → ℕ → AskEnd → Type 0
 AsksWell q last (Answer d tick) = (answers q d ≡ true) × (last ≤ tick) × (tick ≤ 2 ^ 61)
 AsksWell q last _ = Unit {0}

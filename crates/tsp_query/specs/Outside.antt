@@ -5,7 +5,7 @@ use Rattle.tsp_io.specs.Links.{Arrival, Binding, Tried}
 use Rattle.tsp_io.specs.Streams.{Grows}
 use Rattle.tsp_query.specs.Ends.{Outside, Tells}
 
--- what they hold, where that is known
+-- what they hold, each part None if it isn't told
 pub record Observed : Type 0 where
   pub arrivals : Option (List Arrival)
   pub tried : Option (List Tried)
@@ -19,21 +19,23 @@ pub record Observed : Type 0 where
   pub waits : Option (List ℕ)
   pub left_at_wall : Option (Option (List ℕ))
 
--- all of it is known: this of the link and of the tick counter, this wall clock, this word, and these octets written
+-- all of it is told: of the link and the ticker this outside, this wall clock (microseconds since 1970), this word, and
+-- these octets written
 pub record Knows (o : Outside) (wall : ℤ) (word : ℕ) (written : List ℕ) (t : Observed) : Type 0 where
   pub tells : Tells o t.arrivals t.tried t.calls t.readings t.last
   pub wall_is : t.wall ≡ Some wall
   pub word_is : t.word ≡ Some word
   pub written_is : t.written ≡ Some written
 
--- a bind was tried, whether it failed or not
+-- the outside after a bind was tried, whether it failed or not
 abbrev pub bound : Outside → Outside
 bound o = record o { calls = one_more o.calls }
 
--- the beginning of this text was written, and not the whole
+-- of this text the beginning was written, and not all
 abbrev pub IsCutShort : List ℕ → Option (List ℕ) → Option (List ℕ) → Type 0
 IsCutShort text written now = (part : List ℕ) × (rest : List ℕ) × (0 < length rest) × (text ≡ part ++ rest) × Grows written now part
 
--- a command was to write a text and then end in a certain way: it does, and all of the text was written, or a write failed or out of memory, and the beginning of it was
+-- a command was to write a text and then end as `meant`: it did so, or a write failed or it ran out of memory, and then
+-- only the beginning of the text was written
 abbrev pub Says : {E : Type 0} → List ℕ → E → E → E → Option (List ℕ) → Option (List ℕ) → E → Type 0
 Says text meant fault memory written now end = ((end ≡ meant) × Grows written now text) ⊎ (((end ≡ fault) ⊎ (end ≡ memory)) × IsCutShort text written now)

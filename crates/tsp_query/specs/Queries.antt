@@ -19,44 +19,44 @@ use Rattle.tsp_query.specs.declared.question.Question.TheVariants.{OfNumber, OfD
 use Rattle.tsp_query.specs.declared.query.QueryEnd.{QueryEnd}
 use Rattle.tsp_query.specs.declared.query.QueryEnd.TheVariants.{Master, Diff, Heard, Date, NoAnswer, LinkFault, OutOfMemory}
 
--- what is held once the tick counter was read twice
+-- the outside after the tick counter was read twice
 abbrev pub read_twice : Outside → Outside
 read_twice o = record o { readings = rest_of (rest_of o.readings); last = reading o.last o.readings 1 }
 
--- the message that turns a trace on or off
+-- the kind of message that turns a trace on or off
 abbrev pub trace_kind : Bool → Kind
 trace_kind true = TraceOn
 trace_kind false = TraceOff
 
--- the message that asks, with this body and a number made of the word
+-- the message that asks, with this body: its number is the word modulo 65,536, and its name `timedc`
 abbrev pub message_with : Kind → Body → ℕ → Datagram
 message_with kind body word = Message (record { kind = kind; number = word % 65536; body = body; name = codes "timedc" })
 
--- the message that asks and carries nothing
+-- the same with no body
 abbrev pub message : Kind → ℕ → Datagram
 message kind word = message_with kind Nothing word
 
--- the message that sets the date
+-- the message that sets the date to this time, in microseconds since 1970
 abbrev pub date_message : ℤ → ℕ → Datagram
 date_message time word = message_with SetDate (Time time) word
 
--- what the answer to a message with this number must repeat; the flag says whether the message sets the date
+-- what the answer to a message with this number must repeat; the flag is whether the message sets the date
 abbrev pub question_of : Bool → ℕ → Question
 question_of true number = OfDate number
 question_of false number = OfNumber number
 
--- the stamp request that asks
+-- the stamp request that asks, with counter 0
 abbrev pub stamp : ℕ → Datagram
 stamp word = StampOf (Request word 0)
 
--- the end of a question, given how it reads an answer
+-- the end of a question, if its answer is read by this function
 abbrev pub end_of : (Datagram → ℕ → QueryEnd) → AskEnd → QueryEnd
 end_of answer (Answer d tick) = answer d tick
 end_of answer Unanswered = NoAnswer
 end_of answer Faulty = LinkFault
 end_of answer Refused = OutOfMemory
 
--- how a question ends that sends this request and reads its answer so
+-- how a question ends that sends this request, and reads its answer by this function
 abbrev pub QueryEnds : Datagram → Question → (Datagram → ℕ → QueryEnd) → Outside → Option (List Arrival) → Option (List Tried) → Option ℕ → Option (List ℕ) → ℕ → ℕ → ℕ → QueryEnd → Type 0
 QueryEnds request q answer o arrivals tried calls readings last sends sends_now NoAnswer = Asks request q (read_twice o) arrivals tried calls readings last sends sends_now Unanswered
 QueryEnds request q answer o arrivals tried calls readings last sends sends_now LinkFault = Asks request q (read_twice o) arrivals tried calls readings last sends sends_now Faulty
@@ -68,11 +68,11 @@ abbrev pub name_in : Datagram → List ℕ
 name_in (Message m) = m.name
 name_in (StampOf s) = []
 
--- the answer to who is master
+-- the answer to who is master: the name in it
 abbrev pub master_in : Datagram → ℕ → QueryEnd
 master_in d tick = Master (name_in d)
 
--- the answer that says that a daemon has heard
+-- the answer that says only that the daemon has heard
 abbrev pub heard_in : Datagram → ℕ → QueryEnd
 heard_in d tick = Heard
 
@@ -81,27 +81,28 @@ abbrev pub is_date_ack : Kind → Bool
 is_date_ack DateAck = true
 is_date_ack _ = false
 
--- whether a datagram says that the date was set; an ACK says that it was passed on
+-- whether a datagram says that the date was set: a DATEACK does; an ACK says that it is passed on
 abbrev pub says_set : Datagram → Bool
 says_set (Message m) = is_date_ack m.kind
 says_set (StampOf s) = false
 
--- the answer to a date
+-- the answer to a date: whether it was set, or is passed on
 abbrev pub date_in : Datagram → ℕ → QueryEnd
 date_in d tick = Date (says_set d)
 
--- a datagram is a reply
+-- the datagram is a stamp reply
 abbrev pub IsReplied : Datagram → Type 0
 IsReplied (StampOf (Reply r)) = Unit {0}
 IsReplied (StampOf (Request w c)) = ⊥
 IsReplied (Message m) = ⊥
 
--- the reading of a reply
+-- the reading of a reply: the daemon's clock, in microseconds since 1970
 abbrev pub reading_in : Datagram → ℤ
 reading_in (StampOf (Reply r)) = r.reading
 reading_in (StampOf (Request w c)) = pos 0
 reading_in (Message m) = pos 0
 
--- the answer to how far a daemon's clock is: the sample of a request between two ticks, by a clock that began at the first one
+-- the answer to how far the daemon's clock is ahead, and by how much that may be wrong: the sample of a request that
+-- went out at the tick `sent` and was answered at the tick `tick`, by a clock that showed `wall` at the tick `first`
 abbrev pub diff_in : ℤ → ℕ → ℕ → Datagram → ℕ → QueryEnd
 diff_in wall first sent d tick = Diff (sample_diff (own_clock wall first sent) (reading_in d) (own_clock wall first tick)) (sample_err (own_clock wall first sent) (own_clock wall first tick))

@@ -1,4 +1,5 @@
-//! Asks a question: one datagram out, and the first answer among eight receives.
+//! Asks a question: one datagram goes out, and the first answer counts among at most eight
+//! receives.
 ghost use Rattle.std.specs.Prelude.{◌≡◌, ◌≢◌, ◌⊎◌, ◌≤◌, None, true, IfSome, if◌then◌else◌};
 ghost use Rattle.tsp_codec.specs.Taken.{taken_of};
 ghost use Rattle.tsp_io.specs.Counts.{Rose};
@@ -44,7 +45,7 @@ pub(crate) enum Heard {
     Failed,
 }
 
-/// Waits for a datagram, and reads the tick right after the wait.
+/// Waits a second at most for a datagram, and reads the tick right after the wait.
 fn hear<L: Link, T: Ticker>(link: &mut L, ticker: &mut T, question: Question) -> Heard
     ensures hears { (o : Outside)
         → Tells o (L.arrivals link.old) (L.tried link.old) (L.calls link.old)
@@ -78,7 +79,8 @@ fn hear<L: Link, T: Ticker>(link: &mut L, ticker: &mut T, question: Question) ->
     }
 }
 
-/// The datagram of octets from this sender; None where they aren't the daemon's answer to the question.
+/// The datagram of these octets, which came from this sender; None if it isn't the daemon's answer
+/// to the question.
 fn answer_from(question: Question, from: Place, octets: &[u8]) -> Option<Datagram>
     ensures answer { result ≡ (if is_daemon from then answer_of question (taken_of octets.now) else
         None) }
@@ -90,7 +92,7 @@ fn answer_from(question: Question, from: Place, octets: &[u8]) -> Option<Datagra
     }
 }
 
-/// Receives up to eight times, until an answer comes or a receive fails.
+/// Receives at most eight times, until an answer comes or a receive fails.
 fn listen<L: Link, T: Ticker>(link: &mut L, ticker: &mut T, question: Question) -> AskEnd
     ensures listens { (o : Outside)
         → Tells o (L.arrivals link.old) (L.tried link.old) (L.calls link.old)
@@ -118,7 +120,8 @@ fn listen<L: Link, T: Ticker>(link: &mut L, ticker: &mut T, question: Question) 
     AskEnd::NoAnswer
 }
 
-/// Sends the request to the daemon, which is peer 0, and listens for the answer.
+/// Sends the request to the daemon, which is peer 0, and listens for the answer. A send that fails
+/// ends it at once.
 pub(crate) fn ask<L: Link, T: Ticker>(
     link: &mut L,
     ticker: &mut T,

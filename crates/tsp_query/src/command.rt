@@ -17,13 +17,13 @@ use tsp_io::sink::Sink;
 use tsp_io::ticker::Ticker;
 use tsp_lines::output::{Unwritten, write_all};
 
-/// Any address of this machine, and a port that the system chooses.
+/// Any address of this machine, and a UDP port that the system chooses.
 const ANYWHERE: Addr = Addr {
     ip: [0, 0, 0, 0],
     port: 0,
 };
 
-/// Asks over a link that is bound to the daemon.
+/// Asks the question, over a link that is bound to the daemon.
 fn ask_bound<L: Link, T: Ticker>(query: &Query, link: &mut L, ticker: &mut T) -> QueryEnd
     ensures comes { (o : Outside) (wall : ℤ) (word : ℕ)
         → Tells o (L.arrivals link.old) (L.tried link.old) (L.calls link.old)
@@ -74,11 +74,11 @@ fn tell<K: Sink>(query: &Query, end: &QueryEnd, sink: &mut K) -> QueryExit
 
 /// Asks the daemon at an address, and writes the answer as one line.
 ///
-/// The link is bound to any address, with the daemon as peer 0. The lines are `master NAME`, or `no
-/// master` for the empty name; `clockdiff DIFF ERR` in microseconds; `trace on` or `trace off`;
-/// `election heard`; `date set` or `date forwarded`; and `no answer`. `LinkFault` comes only where
-/// one of the link's counts of faults rose, and `WriteFault` only where the sink's did. With
-/// `LinkFault` nothing is written.
+/// The link is bound to any address of this machine, with the daemon as peer 0. The lines are
+/// `master NAME`, or `no master` for the empty name; `clockdiff DIFF ERR` in microseconds; `trace
+/// on` or `trace off`; `election heard`; `date set` or `date forwarded`; and `no answer`.
+/// `LinkFault` comes only if one of the link's counts of faults rose, and `WriteFault` only if the
+/// sink's did. With `LinkFault` nothing is written.
 pub fn ask<K: Sink, L: Link, T: Ticker>(
     daemon: Addr,
     query: &Query,

@@ -4,12 +4,12 @@ ghost use Rattle.tsp_query.specs.Asks.{asking_of};
 
 use crate::query::QueryEnd;
 
-/// How a question ends as a command.
+/// How a question ends as a command. `tsp_cli` gives each of these ends a status.
 #[derive(Clone, Copy, PartialEq, Eq, Debug)]
 pub enum QueryExit {
-    /// The answer came, and its line is written.
+    /// The answer came, and its line was written.
     Answered,
-    /// No answer came in eight receives, and `no answer` is written.
+    /// No answer came in eight receives, and the line `no answer` was written.
     NoAnswer,
     /// The bind, the send or a receive failed.
     LinkFault,
@@ -20,7 +20,7 @@ pub enum QueryExit {
 }
 
 impl QueryExit {
-    /// How a question ends once its line is written.
+    /// How a command ends if its question ends so and its line is written.
     pub(crate) fn of(end: &QueryEnd) -> QueryExit
         ensures { result ≡ asking_of end.now }
     {

@@ -1,9 +1,11 @@
-//! The questions to a running daemon, as timedc of 4.3BSD asks them: one datagram goes out, and the first
-//! answer counts that comes within eight receives of at most a second each.
+//! The questions to a running daemon, as timedc(8) of 4.3BSD asks them: one datagram goes out, and the first
+//! answer counts that comes within eight receives of at most a second each. A datagram that is no answer
+//! uses up a receive.
 //!
 //! Each function of [`query`] is a question, over a link that is bound with the daemon as its only
 //! peer. [`command::ask`] is a question as a command: it binds the link, asks once, and writes the
-//! answer's line, which `specs/Lines.antt` defines.
+//! answer's line, which `specs/Lines.antt` defines. Times and ticks are microseconds. A ticker's *word* is a
+//! number that differs from question to question; the request's number is made from it.
 //!
 //! ```
 //! link.bind(local, &[daemon]);

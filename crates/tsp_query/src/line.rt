@@ -19,7 +19,7 @@ fn text_of(text: &[u8]) -> ArrayVec<u8, 1024>
     line
 }
 
-/// The line of the master's name, or `no master` for the empty name.
+/// The line of the master's name; `no master` for the empty name.
 fn master_line(name: &Name) -> ArrayVec<u8, 1024>
     ensures { result.items ≡ master_line name.now }
 {
@@ -33,7 +33,8 @@ fn master_line(name: &Name) -> ArrayVec<u8, 1024>
     line
 }
 
-/// The line of a clock's difference and of its error, in microseconds.
+/// The line of how far the daemon's clock is ahead, and by how much that may be wrong, in
+/// microseconds.
 fn diff_line(diff: i64, err: i64) -> ArrayVec<u8, 1024>
     ensures { result.items ≡ diff_line diff err }
 {
@@ -45,7 +46,7 @@ fn diff_line(diff: i64, err: i64) -> ArrayVec<u8, 1024>
     line
 }
 
-/// The line of a question that the daemon has heard.
+/// The line of a question to which every answer means the same: the daemon has heard it.
 fn heard_line(query: &Query) -> &'static [u8]
     ensures text { result.now ≡ heard_line query.now }
     ensures short { length result.now ≤ 1024 }
@@ -57,7 +58,7 @@ fn heard_line(query: &Query) -> &'static [u8]
     }
 }
 
-/// The line of a date that was set, or passed on.
+/// The line of a date: it was set (true), or is passed on to the master (false).
 fn date_line(set: bool) -> &'static [u8]
     ensures text { result.now ≡ date_line set }
     ensures short { length result.now ≤ 1024 }
@@ -69,7 +70,7 @@ fn date_line(set: bool) -> &'static [u8]
     }
 }
 
-/// The line that says how a question ended; empty where the link failed or out of memory.
+/// The line that says how a question ended; empty if the link failed or memory ran out.
 pub(crate) fn line_of(query: &Query, end: &QueryEnd) -> ArrayVec<u8, 1024>
     ensures { result.items ≡ end_line query.now end.now }
 {

@@ -1,4 +1,4 @@
-//! The questions to a running daemon, each a function.
+//! The questions to a running daemon, each of them a function.
 ghost use Rattle.std.specs.Prelude.{◌≡◌, ◌≢◌, ◌⊎◌, ◌≤◌, ◌^◌, ◌%◌, ℕ, ℤ, List, Some, IfSome, codes};
 ghost use Rattle.std.specs.Prelude.{true, pos, negsuc, ◌<ℤ◌};
 ghost use Rattle.tsp_base.specs.Messages.{body_fits};
@@ -28,13 +28,15 @@ use tsp_io::ticker::Ticker;
 /// The answer to a question, or why there is none.
 #[derive(Drop)]
 pub enum QueryEnd {
-    /// The daemon's master has this name. The empty name means that it knows none.
+    /// The master that the daemon knows of has this name. The empty name means that it knows of
+    /// none.
     Master(Name),
-    /// How many microseconds the daemon's clock is ahead of this machine's, and by how many that may be wrong.
+    /// By how many microseconds the daemon's clock is ahead of this machine's (negative if it is
+    /// behind), and by how many that may be wrong.
     Diff(i64, i64),
     /// The daemon has heard the question.
     Heard,
-    /// The network's date was set (true), or is being passed on to the master (false).
+    /// The network's date was set (true), or is passed on to the master (false).
     Date(bool),
     /// No answer came in eight receives, and none of them failed.
     NoAnswer,
@@ -44,16 +46,16 @@ pub enum QueryEnd {
     OutOfMemory,
 }
 
-/// What is read of the ticker when a question begins.
+/// What is read of the ticker when a question begins. Times are microseconds.
 #[derive(Clone, Copy, PartialEq, Eq, Debug)]
 struct Start {
     /// The first tick.
     first: u64,
     /// The tick right before the request goes out.
     sent: u64,
-    /// The wall clock.
+    /// The wall clock, since 1970.
     wall: i64,
-    /// The number that makes this question differ from others.
+    /// The word, from which the number of the request is made.
     word: u64,
 }
 
@@ -84,7 +86,7 @@ fn begin<T: Ticker>(ticker: &mut T) -> Start
     }
 }
 
-/// The name that questions carry: `timedc`.
+/// The name that the requests carry: `timedc`.
 fn client() -> Name
     ensures { result ≡ codes "timedc" }
 {
@@ -94,7 +96,8 @@ fn client() -> Name
     }
 }
 
-/// What the answer to a message with this number must repeat; `dates` says whether the message sets the date.
+/// What the answer to a message with this number must repeat; `dates` is whether the message sets
+/// the date.
 fn question_of(dates: bool, number: u16) -> Question
     ensures { result ≡ question_of dates number }
 {
@@ -105,7 +108,8 @@ fn question_of(dates: bool, number: u16) -> Question
     }
 }
 
-/// Asks by a message of this kind with this body. `dates` says whether it sets the date.
+/// Asks by a message of this kind with this body; `dates` is whether it sets the date. Its number
+/// is the word modulo 65,536.
 fn ask_by_message<L: Link, T: Ticker>(
     link: &mut L,
     ticker: &mut T,
@@ -139,7 +143,7 @@ fn ask_by_message<L: Link, T: Ticker>(
     ask(link, ticker, &request, question_of(dates, number))
 }
 
-/// The end of a question whose every answer means the same: the daemon has heard it.
+/// The end of a question to which every answer means the same: the daemon has heard it.
 fn heard_end(asked: AskEnd) -> QueryEnd
     ensures { result ≡ end_of heard_in asked }
 {
@@ -166,8 +170,8 @@ fn master_end(asked: AskEnd) -> QueryEnd
 
 /// Asks who is master (MSITE).
 ///
-/// Here and in the other questions the link must be bound with the daemon as peer 0, and `LinkFault` comes
-/// only where one of the link's counts of faults rose in this call.
+/// Here and in the other questions the link must be bound with the daemon as peer 0. `LinkFault` comes only
+/// if one of the link's counts of faults rose in this call.
 pub fn msite<L: Link, T: Ticker>(link: &mut L, ticker: &mut T) -> QueryEnd
     ensures asks { (o : Outside) (word : ℕ)
         → Tells o (L.arrivals link.old) (L.tried link.old) (L.calls link.old)
@@ -191,7 +195,8 @@ pub fn msite<L: Link, T: Ticker>(link: &mut L, ticker: &mut T) -> QueryEnd
     master_end(ask_by_message(link, ticker, Kind::Msite, Body::Nothing, false))
 }
 
-/// Asks the daemon to stand for election (TEST). It does so where it may; the answer says only that it heard.
+/// Asks the daemon to stand for election (TEST). It does so if it may. The answer says only that it
+/// has heard.
 pub fn election<L: Link, T: Ticker>(link: &mut L, ticker: &mut T) -> QueryEnd
     ensures asks { (o : Outside) (word : ℕ)
         → Tells o (L.arrivals link.old) (L.tried link.old) (L.calls link.old)
@@ -262,8 +267,8 @@ fn date_end(asked: AskEnd) -> QueryEnd
     }
 }
 
-/// Sets the network's date, in microseconds since 1970 (SETDATE). A daemon that is master sets it, one that
-/// follows passes it on to its master.
+/// Sets the network's date, in microseconds since 1970 (SETDATE). A daemon that is master sets it;
+/// one that follows passes it on to its master.
 pub fn setdate<L: Link, T: Ticker>(time: Micros, link: &mut L, ticker: &mut T) -> QueryEnd
     ensures asks { (o : Outside) (word : ℕ)
         → Tells o (L.arrivals link.old) (L.tried link.old) (L.calls link.old)
@@ -287,7 +292,7 @@ pub fn setdate<L: Link, T: Ticker>(time: Micros, link: &mut L, ticker: &mut T) -
     date_end(ask_by_message(link, ticker, Kind::SetDate, Body::Time(time), true))
 }
 
-/// The reading of a reply.
+/// The reading of a reply: the daemon's clock, in microseconds since 1970.
 fn reading_of(reply: &Datagram) -> i64
     requires { IsReplied reply.now }
     ensures reading { result ≡ reading_in reply.now }
@@ -303,7 +308,8 @@ fn reading_of(reply: &Datagram) -> i64
     }
 }
 
-/// How far the daemon's clock is ahead by a reply that came at this tick, and by how much that may be wrong.
+/// How far the daemon's clock is ahead, by a reply that came at this tick, and by how much that may
+/// be wrong: half the round trip, rounded up.
 fn sample(start: &Start, reply: &Datagram, came: u64) -> QueryEnd
     requires wall { IsWall start.now.wall }
     requires reply { IsReplied reply.now }
@@ -318,7 +324,7 @@ fn sample(start: &Start, reply: &Datagram, came: u64) -> QueryEnd
     QueryEnd::Diff(reading_of(reply) - own - half as i64, (trip - half) as i64)
 }
 
-/// Asks how far the daemon's clock is ahead of this machine's (a stamp request with counter 0).
+/// Asks how far the daemon's clock is ahead of this machine's, by a stamp request with counter 0.
 pub fn clockdiff<L: Link, T: Ticker>(link: &mut L, ticker: &mut T) -> QueryEnd
     ensures asks { (o : Outside) (word : ℕ) (wall : ℤ)
         → Tells o (L.arrivals link.old) (L.tried link.old) (L.calls link.old)

@@ -43,7 +43,7 @@ fn answers(question: Question, datagram: &Datagram) -> bool
     }
 }
 
-/// The datagram of these octets; None where they don't answer the question.
+/// The datagram of these octets; None if it doesn't answer the question.
 pub(crate) fn answer_of(question: Question, octets: &[u8]) -> Option<Datagram>
     ensures { result ≡ answer_of question (taken_of octets.now) }
 {

@@ -1,4 +1,4 @@
--- A run on two networks, written out: a node joins both, follows on both, and is corrected on one.
+-- A run on two networks, written out: a node joins both, follows a master on each, and is corrected on one.
 use Rattle.std.specs.Prelude.{◌≡◌, ℕ, pos, false, List, [], ◌∷◌, codes, Option, None, Some}
 use Rattle.tsp_base.specs.declared.act.Act.{Act}
 use Rattle.tsp_base.specs.declared.act.Act.TheVariants.{Boot, Took, Post, Become, Arm, Ring, Correct}
@@ -20,10 +20,11 @@ use Rattle.tsp_run.specs.declared.line.Line.{Line}
 use Rattle.tsp_run.specs.Refusals.{refusal, scene, Valid}
 use Rattle.tsp_run.specs.Run.{told}
 
+-- a node that has this name, no drift and wall clock 0, and that is never master
 abbrev pub slave_named : List ℕ → NodeLine
 slave_named name = record { name = name; rate = pos 0; wall = pos 0; may = false }
 
--- g is on a network with a, and on one with b
+-- the header: g (node 0) is on a network with a (node 1), and on one with b (node 2)
 abbrev pub two_networks : HeaderValue
 two_networks = record {
   drift = 0;
@@ -32,19 +33,20 @@ two_networks = record {
   nets = (0 ∷ 1 ∷ []) ∷ (0 ∷ 2 ∷ []) ∷ [];
 }
 
--- the octets of a message without number and time, of this kind and with a name of one letter
+-- the octets of a message of this kind, with number 0, no time, and a name of one letter
 abbrev pub spelled : ℕ → ℕ → List ℕ
 spelled kind letter = kind ∷ 1 ∷ 0 ∷ 0 ∷ 0 ∷ 0 ∷ 0 ∷ 0 ∷ 0 ∷ 0 ∷ 0 ∷ 0 ∷ letter ∷ 0 ∷ []
 
--- those of an ADJTIME numbered 7 by some microseconds
+-- those of an ADJTIME with number 7, by so many microseconds, fewer than 256
 abbrev pub spelled_adjtime : ℕ → ℕ → List ℕ
 spelled_adjtime micros letter = 1 ∷ 1 ∷ 0 ∷ 7 ∷ 0 ∷ 0 ∷ 0 ∷ 0 ∷ 0 ∷ 0 ∷ 0 ∷ micros ∷ letter ∷ 0 ∷ []
 
--- g takes these octets on a port, and they seem to come from a node
+-- at this true time g takes these octets on a port, and they seem to come from a node
 abbrev pub hands_g : ℕ → ℕ → ℕ → List ℕ → Event
 hands_g at port from octets = Bytes at 0 (record { 0 = port }) (Peer (peer from)) octets
 
--- what happens, the newest first
+-- the events, the newest first. In the order of time: g boots and looks at its timers; b and a say that they are
+-- masters (MASTERUP, kind 6); b and a send an ADJTIME each
 abbrev pub six_events : List Event
 six_events =
     hands_g 84000000 0 1 (spelled_adjtime 10 97) ∷
@@ -55,19 +57,19 @@ six_events =
     BootAt 0 0 7 ∷
     []
 
--- the line of an act of g on a port
+-- the line of an act of g on a port, at an event and a tick
 abbrev pub g_line : ℕ → ℕ → ℕ → Option ℕ → Act → Line
 g_line event tick port number act = record { event = event; node = 0; tick = tick; number = number; placed = record { port = record { 0 = port }; act = act } }
 
--- the line of a Took
+-- the line of a Took of a message by g
 abbrev pub g_takes : ℕ → ℕ → ℕ → ℕ → MessageValue → Line
 g_takes event tick port from m = g_line event tick port None (Took (Peer (peer from)) (Good (Message m)))
 
--- the line of a post
+-- the line of a post by g, which is datagram number k
 abbrev pub g_posts : ℕ → ℕ → ℕ → ℕ → ℕ → MessageValue → Line
 g_posts event tick port k to m = g_line event tick port (Some k) (Post (Peer (peer to)) (Message m))
 
--- the lines of its trace
+-- the lines of the trace of these events, the oldest first
 abbrev pub told_of_six : List Line
 told_of_six =
     g_line 1 0 0 None Boot ∷
@@ -98,7 +100,7 @@ told_of_six =
     g_posts 6 84000000 0 4 1 (bare Ack 7 (codes "g")) ∷
     []
 
--- nothing refuses the six events, their trace has these lines, and an event on a port that g doesn't have is refused
+-- none of the six events is refused, and their trace has these lines; an event on a port that g doesn't have is refused
 pub record JoinsTwoNetworks : Type 0 where
   pub valid : Valid two_networks six_events
   pub told_is : told two_networks six_events ≡ told_of_six

@@ -1,4 +1,4 @@
--- The premises of the promises, as statements about the text of a schedule: its header and its events, the newest first.
+-- The premises of the promises, as statements about the text of a schedule: its header and its events, newest first.
 use Rattle.std.specs.Prelude.{◌≡◌, ◌≢◌, ◌<◌, ◌≤◌, ℕ, ◌+◌, List, [], ◌∷◌, length, Some, slice_get}
 use Rattle.tsp_base.specs.declared.constants.TheConstants.{LIFE}
 use Rattle.tsp_base.specs.declared.event.Event.{Event}
@@ -13,7 +13,7 @@ use Rattle.tsp_run.specs.Run.{posts, run}
 use Rattle.tsp_run.specs.Setting.{SetBy}
 use Rattle.tsp_run.specs.Setup.{node_line}
 
--- an event isn't octets that seem to come from a peer
+-- an event isn't a `bytes` whose octets seem to come from a peer
 abbrev pub IsSealed : Event → Type 0
 IsSealed (Bytes at node port (Peer p) octets) = ⊥
 IsSealed _ = Unit {0}
@@ -23,12 +23,12 @@ abbrev pub Sealed : List Event → Type 0
 Sealed [] = Unit {0}
 Sealed (e ∷ before) = IsSealed e × Sealed before
 
--- an event takes no datagram that was posted more than LIFE before it
+-- an event isn't a `take` of a datagram that was posted more than LIFE (30 s of true time) before it
 abbrev pub IsPrompt : HeaderValue → List Event → Event → Type 0
 IsPrompt header before (Take at k) = (p : Posted) → slice_get (posts (run header before)) k ≡ Some p → at ≤ p.at + LIFE
 IsPrompt header before _ = Unit {0}
 
--- no `take` comes more than LIFE after the event in whose line its datagram was posted
+-- no `take` comes more than LIFE after the event that posted its datagram
 abbrev pub Prompt : HeaderValue → List Event → Type 0
 Prompt header [] = Unit {0}
 Prompt header (e ∷ before) = IsPrompt header before e × Prompt header before
@@ -61,7 +61,7 @@ Short header events = length (posts (run header events)) < 32768
 abbrev pub NamesDiffer : HeaderValue → Type 0
 NamesDiffer header = (m n : ℕ) → m < length header.nodes → n < length header.nodes → (node_line header m).name ≡ (node_line header n).name → m ≡ n
 
--- the premises of the promises hold of a run where they hold of its text
+-- each premise of the promises holds of a run if its counterpart holds of the schedule's text
 pub record KeptByText (header : HeaderValue) (events : List Event) : Type 0 where
   pub honest : Sealed events → Honest (run header events)
   pub life : Prompt header events → Life (run header events)

@@ -1,4 +1,4 @@
--- What is promised of a history.
+-- What is promised of a run's history.
 use Rattle.std.specs.Prelude.{◌≡◌, true, List}
 use Rattle.tsp_base.specs.History.{Line}
 use Rattle.tsp_promises.specs.OneWinner.{OneWinner}
@@ -9,7 +9,8 @@ use Rattle.tsp_promises.specs.Dated.{Dated}
 use Rattle.tsp_promises.specs.Looped.{Looped}
 use Rattle.tsp_run.specs.AnswerOctets.{AnswerOctets}
 
--- the history is Safe, and keeps what is promised of dates, of LOOPs, and of how many octets strangers are sent; and where elections are strict, each has one winner
+-- the history is Safe, and keeps the promises of dates, of LOOPs, and of how many octets strangers are sent; if
+-- elections are strict, each has at most one winner
 pub record Promises (setting : Setting) (world : List Line) : Type 0 where
   pub safe : Safe setting world
   pub one_winner : setting.strict ≡ true → Honest world → Life world → Few world → OneWinner setting world

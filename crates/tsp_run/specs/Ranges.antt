@@ -1,4 +1,4 @@
--- The values of events are in their ranges.
+-- The ranges of the values of events, and which events are accepted.
 use Rattle.std.specs.Prelude.{ℕ, ◌<◌, ◌^◌, List, All}
 use Rattle.tsp_base.specs.declared.event.Event.{Event}
 use Rattle.tsp_base.specs.declared.event.Event.TheVariants.{Boot, Bytes}
@@ -6,13 +6,13 @@ use Rattle.tsp_base.specs.Headers.{HeaderValue, IsHeader}
 use Rattle.tsp_codec.specs.Numbers.{octet_at}
 use Rattle.tsp_run.specs.Refusals.{Valid}
 
--- a boot's word has 64 bits, and octets are below 256
+-- a boot's word is less than 2^64, and octets are less than 256
 abbrev pub IsInRange : Event → Type 0
 IsInRange (Boot at node word) = word < 2 ^ 64
 IsInRange (Bytes at node port from octets) = (i : ℕ) → octet_at octets i < 256
 IsInRange _ = Unit {0}
 
--- a header and events, the newest first, that are accepted: their values are in their ranges, and none of them is refused
+-- a header and events, the newest first, that are accepted: their values are in their ranges, and no event is refused
 pub record Accepted (header : HeaderValue) (events : List Event) : Type 0 where
   pub header_is : IsHeader header
   pub ranges : All IsInRange events

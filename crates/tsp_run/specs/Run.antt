@@ -1,4 +1,4 @@
--- The run of a schedule: what each event makes its node do, and the history and the posts that come of it. Lists of events have the newest first.
+-- The run of a schedule: its history, and its trace. Lists of events and of lines have the newest first.
 use Rattle.std.specs.Prelude.{ℕ, ◌+◌, pos, ◌+ℤ◌, List, [], ◌∷◌, ◌++◌, length, Option, None, Some, slice_get}
 use Rattle.tsp_base.specs.declared.act.Act.{Act}
 use Rattle.tsp_base.specs.declared.act.Act.TheVariants.{Post}
@@ -23,14 +23,14 @@ use Rattle.tsp_run.specs.declared.posted.Posted.{Posted}
 use Rattle.tsp_run.specs.Networks.{networks, address_of}
 use Rattle.tsp_run.specs.Setup.{node_line, past_of}
 
--- the time of an event
+-- the true time of an event, in microseconds
 abbrev pub event_at : Event → ℕ
 event_at (BootAt at node word) = at
 event_at (Turn at node) = at
 event_at (Take at datagram) = at
 event_at (Bytes at node port from octets) = at
 
--- the time of the last event; 0 before one
+-- the true time of the last event; 0 before the first
 abbrev pub last_at : List Event → ℕ
 last_at [] = 0
 last_at (e ∷ before) = event_at e
@@ -40,26 +40,27 @@ abbrev pub posted_by : ℕ → ℕ → Port → Act → List Posted
 posted_by at node port (Post to datagram) = record { at = at; from = node; port = port; to = to; datagram = datagram } ∷ []
 posted_by at node port _ = []
 
+-- the datagram that a deed posts on a port, if it posts one
 abbrev pub posted_in : Port → Step → Deed → List Posted
 posted_in port step Begins = []
 posted_in port step (Acts a) = posted_by step.at step.node port a
 
--- the datagrams posted in a history, in the order of their posts
+-- the datagrams posted in a history, the oldest first; each has its place here, from 0, as its number
 abbrev pub posts : List Line → List Posted
 posts [] = []
 posts (l ∷ before) = posts before ++ posted_in l.port l.did.step l.did.deed
 
--- the datagrams that some acts post, in order
+-- the datagrams that these acts of a step post, in order
 abbrev pub posts_from : ℕ → ℕ → List Placed → List Posted
 posts_from at node [] = []
 posts_from at node (p ∷ rest) = posted_by at node p.port p.act ++ posts_from at node rest
 
--- the time of a post, if there is one
+-- the true time of a post, if there is one
 abbrev pub posted_time : Option Posted → Option ℕ
 posted_time None = None
 posted_time (Some p) = Some p.at
 
--- what an event makes its node do: the step, its tick, and the acts, each on its port
+-- what an event makes its node do: a step, its tick, and its acts, each on its port
 pub record Happening : Type 0 where
   pub step : Step
   pub tick : ℕ
@@ -69,17 +70,17 @@ pub record Happening : Type 0 where
 abbrev pub step_tick : HeaderValue → Step → ℕ
 step_tick header step = tick_at (node_line header step.node).rate step.at
 
--- a step by a row
+-- a step of which the acts are those of this row
 unfoldable pub steps : HeaderValue → List Line → NodeRow → Step → Happening
 steps header history row step =
     let x = step_tick header step in
     record { step = step; tick = x; acts = row x (in_node_step step x (past_of header step history)) }
 
--- the step of a boot: the wall clock is the node's wall and its tick
+-- the step of a boot: the wall clock then is the node's wall clock at tick 0 and its tick
 abbrev pub boot_step : HeaderValue → ℕ → ℕ → ℕ → Step
 boot_step header at node word = record { at = at; node = node; cause = Booted word ((node_line header node).wall +ℤ pos (tick_at (node_line header node).rate at)) }
 
--- a posted datagram as it reaches a node: its sender is the node that posted it, and its octets are read again
+-- a posted datagram as it reaches a node: its sender is the node that posted it, and it is read again from its octets
 abbrev pub arrives_at : Posted → Option Address → Option Arrival
 arrives_at p None = None
 arrives_at p (Some a) = Some (record { node = a.node; port = a.port; from = Peer (peer_of p.from); taken = taken_of (canon p.datagram) })
@@ -89,10 +90,12 @@ abbrev pub goes_to : List (List ℕ) → Option Posted → Option Address
 goes_to nets None = None
 goes_to nets (Some p) = address_of nets p.from p.port p.to
 
+-- what reaches a node of a posted datagram, if it goes to one
 abbrev pub arrives : List (List ℕ) → Option Posted → Option Arrival
 arrives nets None = None
 arrives nets (Some p) = arrives_at p (address_of nets p.from p.port p.to)
 
+-- what the coming of datagram k makes happen, if it reaches a node
 abbrev pub reaches : HeaderValue → List Line → ℕ → ℕ → Option Arrival → Option Happening
 reaches header history at k None = None
 reaches header history at k (Some a) = Some (steps header history (answers_all (GotOn a.port a.from a.taken)) (record { at = at; node = a.node; cause = TakesPost k }))
@@ -125,15 +128,16 @@ abbrev pub posts_by : Act → ℕ
 posts_by (Post to datagram) = 1
 posts_by _ = 0
 
--- the line of an act, with this number if it is a post
+-- the trace's line of an act; k is its number if it is a post
 abbrev pub told_line : ℕ → ℕ → ℕ → ℕ → Placed → ToldLine
 told_line event node x k p = record { event = event; node = node; tick = x; number = number_of p.act k; placed = p }
 
--- the lines of some acts, of which the first post gets this number
+-- the lines of some acts; the first post among them is number k
 abbrev pub told_from : ℕ → ℕ → ℕ → ℕ → List Placed → List ToldLine
 told_from event node x k [] = []
 told_from event node x k (p ∷ rest) = told_line event node x k p ∷ told_from event node x (k + posts_by p.act) rest
 
+-- the lines of what an event made happen, if it made a node act
 abbrev pub told_of : ℕ → ℕ → Option Happening → List ToldLine
 told_of event k None = []
 told_of event k (Some h) = told_from event h.step.node h.tick k h.acts
@@ -143,7 +147,8 @@ abbrev pub gained : HeaderValue → List Event → List ToldLine
 gained header [] = []
 gained header (e ∷ before) = told_of (length before + 1) (length (posts (run header before))) (happening header (run header before) e)
 
--- the lines of the trace of a schedule's run, in order: each act, with the numbers of its event and of its post
+-- the lines of the trace of a schedule's run, the oldest first: each act, with the numbers of its event (from 1) and of
+-- its post
 abbrev pub told : HeaderValue → List Event → List ToldLine
 told header [] = []
 told header (e ∷ before) = told header before ++ gained header (e ∷ before)

@@ -13,6 +13,7 @@ use Rattle.tsp_run.specs.Run.{run}
 use Rattle.tsp_run.specs.Networks.{network_at, networks, peers_on}
 use Rattle.tsp_run.specs.Setup.{node_line}
 
+-- the network with this number, if there is one, else the other
 abbrev pub named_or : Network → Option ℕ → Network
 named_or alone None = alone
 named_or alone (Some k) = Named k
@@ -26,7 +27,8 @@ abbrev pub members_of : List (List ℕ) → Network → List PeerId
 members_of nets (Named k) = peers_on (slice_index_or nets k [])
 members_of nets (Alone n q) = peer_of n ∷ []
 
--- a setting has the header's drift, rates, wall clocks, names and networks, and elections are strict where the header says so
+-- a setting has the drift, rates, wall clocks, names and networks of the header, and its elections are strict if the
+-- header says so
 pub record SetBy (header : HeaderValue) (setting : Setting) : Type 0 where
   pub rate_is : (n : ℕ) → setting.rate n ≡ (node_line header n).rate
   pub wall_is : (n : ℕ) → setting.wall n ≡ (node_line header n).wall
@@ -36,11 +38,11 @@ pub record SetBy (header : HeaderValue) (setting : Setting) : Type 0 where
   pub net_is : (n : ℕ) (q : Port) → setting.net n q ≡ network_of (networks header) n q
   pub members_are : (k : Network) → setting.members k ≡ members_of (networks header) k
 
--- the history of every schedule fits, and ends where a step ends
+-- the history of every accepted schedule fits, and ends where a step ends
 abbrev pub RunsFit : Type 0
 RunsFit = (header : HeaderValue) (setting : Setting) (events : List Event) → SetBy header setting → Accepted header events → Fits setting (run header events) × Finished (run header events)
 
--- the history of every schedule keeps the promises
+-- the history of every accepted schedule keeps the promises
 abbrev pub RunsKeepPromises : Type 0
 RunsKeepPromises = (header : HeaderValue) (setting : Setting) (events : List Event) → SetBy header setting → Accepted header events → Promises setting (run header events)
 

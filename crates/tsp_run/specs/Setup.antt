@@ -6,7 +6,7 @@ use Rattle.tsp_base.specs.History.{Step, Turned, Line, of}
 use Rattle.tsp_rules.specs.NodeRows.{NodePast}
 use Rattle.tsp_run.specs.Networks.{networks, ports_on}
 
--- a node without a name, for a number that no node has
+-- a node without a name, in place of one that doesn't exist
 abbrev pub nobody : NodeLine
 nobody = record { name = []; rate = pos 0; wall = pos 0; may = false }
 
@@ -14,7 +14,7 @@ nobody = record { name = []; rate = pos 0; wall = pos 0; may = false }
 abbrev pub node_line : HeaderValue → ℕ → NodeLine
 node_line header n = slice_index_or header.nodes n nobody
 
--- the past of the node of a step
+-- the past of the node of a step, in this step and after this history
 abbrev pub past_of : HeaderValue → Step → List Line → NodePast
 past_of header step history = record {
   name = (node_line header step.node).name;
@@ -25,6 +25,6 @@ past_of header step history = record {
   lines = of step.node history;
 }
 
--- an empty step, for a node's past outside of any step
+-- a step in which nothing happens, for the past of a node outside of any step
 abbrev pub rests : ℕ → Step
 rests n = record { at = 0; node = n; cause = Turned }

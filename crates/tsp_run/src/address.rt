@@ -2,10 +2,10 @@
 
 use tsp_base::place::Port;
 
-/// A node, and one of its ports.
+/// Where a posted datagram goes: a node, and one of its ports.
 #[derive(Clone, Copy)]
 pub struct Address {
-    /// The node.
+    /// The node's number, from 0.
     pub node: u32,
     /// Its port on the network of the post.
     pub port: Port,

@@ -1,11 +1,19 @@
-//! The run of a schedule, as definitions: what each event makes its node do, when an event is refused,
-//! and what is promised of every run. The code here is a few types that `tsp_world` uses, and theorems.
+//! The run of a schedule, as definitions: what each event makes its node do, when an event is
+//! refused, and what is promised of every run. The code here is a few types that `tsp_world` uses,
+//! and theorems.
+//!
+//! A *schedule* is a text (`docs/FORMATS.md`): a header, which names the nodes, their clocks and
+//! their networks, and then events in the order of true time, which is counted in microseconds. An
+//! event is a `boot`, a `turn` (a node looks at its timers), a `take` (a posted datagram reaches
+//! its node) or `bytes` (octets reach a node that no node posted). Its *history* is what the nodes
+//! do at these events, and its *trace* is the text of their acts. Events are numbered from 1,
+//! nodes, ports, networks and datagrams from 0.
 //!
 //! Read `specs/` in this order: `Networks` (who is on which network), `Setup` (a node's past in a
 //! history), `Run` (events to a history, and the lines of its trace), `Refusals` (why an event is
 //! refused), `Setting` and `Promises` (what is promised of the history), and `Premised` (what the
-//! promises ask of the schedule's text). [`laws`] has the theorems: `runs_fit`, `runs_keep_promises`
-//! and `runs_keep_premises`.
+//! promises ask of the schedule's text). [`laws`] has the theorems: `runs_fit`,
+//! `runs_keep_promises` and `runs_keep_premises`.
 #![tactic(auto)]
 
 pub mod address;

@@ -2,14 +2,14 @@
 
 use tsp_base::act::Placed;
 
-/// An act with the numbers of its event and of its datagram.
+/// An act, the event at which it was done, and the number of the datagram that it posted.
 #[derive(Drop)]
 pub struct Line {
     /// The event's number, from 1.
     pub event: u64,
-    /// The node that acted.
+    /// The number of the node that acted, from 0.
     pub node: u32,
-    /// The node's tick.
+    /// The node's tick: its own count of microseconds.
     pub tick: u64,
     /// The number of the posted datagram, counted from 0 over all nodes; None where the act is no post.
     pub number: Option<u64>,

@@ -8,7 +8,7 @@ use tsp_base::place::{Place, Port};
 pub struct Posted {
     /// The true time of its post, in microseconds.
     pub at: u64,
-    /// The node that posted it.
+    /// The number of the node that posted it, from 0.
     pub from: u32,
     /// The port on which it was posted, which gives its network.
     pub port: Port,

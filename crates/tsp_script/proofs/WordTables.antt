@@ -3,6 +3,7 @@ use Rattle.std.proofs.Common.{◌≡◌, ℕ, ◌<◌, List, [], ◌∷◌, refl
 use Rattle.std.specs.Prelude.{◌==◌, ◌&&◌, if◌then◌else◌}
 use Rattle.tsp_base.specs.declared.alarm.Alarm.{Alarm}
 use Rattle.tsp_base.specs.declared.alarm.Alarm.TheVariants.{Quiet, Search, Elect, Window, Probe, Close, Resolve, Round}
+use Rattle.tsp_base.specs.declared.alarm.TheConstants.Alarm.{ALL}
 use Rattle.tsp_base.specs.declared.datagram.DecodeFault.{DecodeFault}
 use Rattle.tsp_base.specs.declared.datagram.DecodeFault.TheVariants.{Short, Long, Version, Kind, StampLength, NoEnd, NameTooLong, Reserved, Time}
 use Rattle.tsp_script.proofs.Outcomes.{some_injective}
@@ -23,9 +24,6 @@ abbrev first_with : {A : Type 0} → (A → List ℕ) → List A → List ℕ �
 first_with w [] word = None
 first_with w (a ∷ rest) word = if same_word (w a) word then Some a else first_with w rest word
 
-abbrev pub alarms : List Alarm
-alarms = Quiet ∷ Search ∷ Elect ∷ Window ∷ Probe ∷ Close ∷ Resolve ∷ Round ∷ []
-
 abbrev pub alarm_place : Alarm → ℕ
 alarm_place Quiet = 0
 alarm_place Search = 1
@@ -36,7 +34,7 @@ alarm_place Close = 5
 alarm_place Resolve = 6
 alarm_place Round = 7
 
-pub alarm_there : (a d : Alarm) → slice_index_or alarms (alarm_place a) d ≡ a
+pub alarm_there : (a d : Alarm) → slice_index_or ALL (alarm_place a) d ≡ a
 alarm_there Quiet d = refl
 alarm_there _ d = refl
 
@@ -44,13 +42,13 @@ pub alarm_within : (a : Alarm) → alarm_place a < 8
 alarm_within Quiet = lit< tt
 alarm_within _ = lit< tt
 
-first_alarm : (a : Alarm) → first_with alarm_word alarms (alarm_word a) ≡ Some a
+first_alarm : (a : Alarm) → first_with alarm_word ALL (alarm_word a) ≡ Some a
 first_alarm Quiet = refl
 first_alarm _ = refl
 
 -- a word is one alarm's
 pub one_alarm : (a b : Alarm) → alarm_word a ≡ alarm_word b → a ≡ b
-one_alarm a b e = some_injective a b (sym (first_alarm a) ∙ ap (λ w. first_with alarm_word alarms w) e ∙ first_alarm b)
+one_alarm a b e = some_injective a b (sym (first_alarm a) ∙ ap (λ w. first_with alarm_word ALL w) e ∙ first_alarm b)
 
 abbrev pub faults : List DecodeFault
 faults = Short ∷ Long ∷ Version ∷ Kind ∷ StampLength ∷ NoEnd ∷ NameTooLong ∷ Reserved ∷ Time ∷ []

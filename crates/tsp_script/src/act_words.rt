@@ -9,18 +9,6 @@ use crate::words::is_same;
 use tsp_base::alarm::Alarm;
 use tsp_base::datagram::DecodeFault;
 
-/// All alarms.
-const ALARMS: [Alarm; 8] = [
-    Alarm::Quiet,
-    Alarm::Search,
-    Alarm::Elect,
-    Alarm::Window,
-    Alarm::Probe,
-    Alarm::Close,
-    Alarm::Resolve,
-    Alarm::Round,
-];
-
 /// All faults of reading octets.
 const FAULTS: [DecodeFault; 9] = [
     DecodeFault::Short,
@@ -38,7 +26,7 @@ const FAULTS: [DecodeFault; 9] = [
 pub(crate) fn alarm_of(word: &[u8]) -> Option<Alarm>
     ensures { (a : Alarm) → word.now ≡ alarm_word a → result ≡ Some a }
 {
-    for alarm in &ALARMS {
+    for alarm in &Alarm::ALL {
         if is_same(alarm_word(*alarm), word) {
             return Some(*alarm);
         }

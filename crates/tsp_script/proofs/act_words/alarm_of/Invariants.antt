@@ -1,9 +1,9 @@
 -- None of the alarms so far has the word.
 use Rattle.std.proofs.Common.{◌≡◌, ℕ, ◌<◌, slice_index_or}
 use Rattle.tsp_base.specs.declared.alarm.Alarm.{Alarm}
+use Rattle.tsp_base.specs.declared.alarm.TheConstants.Alarm.{ALL}
 use Rattle.tsp_script.specs.Traces.{alarm_word}
-use Rattle.tsp_script.proofs.WordTables.{alarms}
 use Rattle.tsp_script.proofs.act_words.alarm_of.Given as goal
 
 abbrev pub invariant-loop-alarm : goal.invariant-loop-alarm
-invariant-loop-alarm l = (i : ℕ) (d : Alarm) → i < l.alarm-index → l.word ≡ alarm_word (slice_index_or alarms i d) → ⊥
+invariant-loop-alarm l = (i : ℕ) (d : Alarm) → i < l.alarm-index → l.word ≡ alarm_word (slice_index_or ALL i d) → ⊥
