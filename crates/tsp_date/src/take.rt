@@ -32,14 +32,14 @@ use tsp_master::master::Master;
 
 /// Handles a DATE, SETDATE, DATEREQ, SETDATEREQ or DATEACK, and tells whether the clock was set.
 ///
-/// `tick` is the step's tick, in microseconds since the node's start, from 0 to 2^61. `corrected` is the
-/// tick at which the node's clock was last corrected since its boot, by whatever cause; None where it
-/// wasn't. `charge` is whether this port is in charge of its node's date: on a node with one port it always
-/// is. `from` is the sender, which must not be the port itself.
+/// `tick` is the step's tick: the node's own count of microseconds, from 0 to 2^61. `corrected` is the tick at
+/// which the node's clock was last corrected since its boot, by whatever cause; None where it wasn't. `charge`
+/// is whether this port is in charge of its node's date: it steers the node's clock or leads it. A node's only
+/// port always is. In this step the message was taken, and not as from the port itself.
 ///
-/// A refused date changes nothing, and its sender gets no answer: it asks again, or gives up. After a
-/// true the caller still has to end the rounds that go on, and to note the tick as `corrected`. Puts at
-/// most two acts for each peer, and two more. Takes no memory and doesn't fail.
+/// A date that can't be set or passed on now changes nothing, and its sender gets no answer. After a true the
+/// caller has to note this tick as that of the last correction, and to end the rounds that go on. Puts at most
+/// two acts for each peer, and two more. Takes no memory, and can't fail.
 pub fn date_take<D: Desk>(
     station: &mut Station,
     master: &mut Master,
