@@ -66,8 +66,11 @@ pub(crate) fn correct<D: Desk>(
         → s.took ≡ Some (record { from = from; taken = Good (MessageOf m.now) })
         → Performs DateStands DateStands (sets (time_in m.now.body)) at.tick at.port
         (record s { dates = dates.old; clock = clock.old })
-        (record s { dates = dates.new; last = moved_where true at.tick s.last;
-          clock = clock.new })
+        (record s {
+          dates = dates.new;
+          last = moved_where true at.tick s.last;
+          clock = clock.new;
+        })
         (D.acts desk.old) (D.acts desk.new) }
     ensures room { PutsAtMost 1 (D.spare desk.old) (D.spare desk.new) (D.acts desk.old)
         (D.acts desk.new) }

@@ -63,16 +63,34 @@ pub fn date_take<D: Desk>(
     ensures row { (last : LastValue) (took : Option Received) → last.tick ≡ corrected
         → took ≡ Some (record { from = from; taken = Good (MessageOf m.now) })
         → Performs DateStands DateStands (handles_kind charge from m.now m.now.kind) tick port
-        (record { dates = dates.old; master = master.old; station = station.old;
-          last = last; clock = clock.old; took = took })
-        (record { dates = dates.new; master = master.new; station = station.new;
-          last = moved_where result tick last; clock = clock.new; took = took })
+        (record {
+          dates = dates.old;
+          master = master.old;
+          station = station.old;
+          last = last;
+          clock = clock.old;
+          took = took;
+        })
+        (record {
+          dates = dates.new;
+          master = master.new;
+          station = station.new;
+          last = moved_where result tick last;
+          clock = clock.new;
+          took = took;
+        })
         (D.acts desk.old) (D.acts desk.new) }
     ensures corrects { (past : Past) (last : LastValue) (took : Option Received)
         → last.tick ≡ corrected
         → DateStands past
-        (record { dates = dates.old; master = master.old; station = station.old;
-          last = last; clock = clock.old; took = took })
+        (record {
+          dates = dates.old;
+          master = master.old;
+          station = station.old;
+          last = last;
+          clock = clock.old;
+          took = took;
+        })
         → result ≡ corrects (handles_kind charge from m.now m.now.kind tick past) }
     ensures room { PutsAtMost (2 * length station.old.peers + 2) (D.spare desk.old)
         (D.spare desk.new) (D.acts desk.old) (D.acts desk.new) }
