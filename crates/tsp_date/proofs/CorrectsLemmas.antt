@@ -1,30 +1,25 @@
 -- Which rows of dates correct the clock.
-use Rattle.std.proofs.Common.{◌≡◌, ◌≢◌, ℕ, ℤ, Bool, true, false, if◌then◌else◌, ◌⊎◌, inl, inr, refl, sym, ap}
-use Rattle.std.proofs.lemmas.Bool.{false≢true}
+use Rattle.std.proofs.Common.{◌≡◌, ℕ, ℤ, Bool, true, false, if◌then◌else◌, refl}
 use Rattle.tsp_base.specs.declared.act.Act.TheVariants.{Acked}
 use Rattle.tsp_base.specs.declared.kind.Kind.{Kind}
-use Rattle.tsp_base.specs.declared.kind.Kind.TheVariants.{Ack, Date, DateAck, DateReq, SetDate, SetDateReq}
+use Rattle.tsp_base.specs.declared.kind.Kind.TheVariants.{Ack, SetDateReq}
 use Rattle.tsp_base.specs.declared.place.PeerId.{PeerId}
 use Rattle.tsp_base.specs.declared.place.Place.{Place}
 use Rattle.tsp_base.specs.declared.place.Place.TheVariants.{Peer, Stranger}
 use Rattle.tsp_base.specs.declared.role.Role.{Role}
-use Rattle.tsp_base.specs.declared.role.Role.TheVariants.{Follow, Master}
+use Rattle.tsp_base.specs.declared.role.Role.TheVariants.{Follow}
 use Rattle.tsp_base.specs.History.{Past}
 use Rattle.tsp_base.specs.Messages.{MessageValue}
-use Rattle.tsp_base.specs.PortFacts.{role}
-use Rattle.tsp_base.specs.Rows.{Row, ◌followed_by◌, either_by, nothing, posts, posts_back, puts, reading}
-use Rattle.tsp_base.specs.Takings.{time_in}
-use Rattle.tsp_rules.specs.Answers.{from_peer, handles_kind}
+use Rattle.tsp_base.specs.Rows.{◌followed_by◌, either_by, nothing, posts, posts_back, puts}
+use Rattle.tsp_rules.specs.Answers.{from_peer}
 use Rattle.tsp_rules.specs.ClockRows.{sets}
-use Rattle.tsp_rules.specs.DateRows.{date_acked, date_acked_in, date_in, date_of, date_request_in, date_request_of, has_date, is_dated, is_last, may_date, may_pass_on, new_date, passes_on, sets_date_where, sets_in_charge}
+use Rattle.tsp_rules.specs.DateRows.{date_acked, date_acked_in, has_date, may_date, may_pass_on, new_date, passes_on, sets_date_where}
 use Rattle.tsp_rules.specs.RoundRows.{corrects}
 use Rattle.tsp_rules.specs.SendRows.{begins_timed}
 use Rattle.tsp_rules.specs.Guards.{is_heard, role_at}
 use Rattle.tsp_rules.proofs.Emits.{Emits, Emits_either, Emits_more, Emits_nothing, Emits_posts_back, Emits_puts, Emits_reading, Emits_then}
 use Rattle.tsp_master.proofs.CloseLemmas.{corrects-none}
 use Rattle.tsp_master.proofs.LeadLemmas.{still_sorts}
-use Rattle.tsp_date.specs.Dates.{DatesValue, last_in}
-use Rattle.tsp_date.specs.DateStands.{DatesStand, is_of_dates}
 use Rattle.tsp_date.proofs.DateLemmas.{begins-emits, numbering}
 
 pub corrects-nothing : (x : ℕ) (past : Past) → corrects (nothing x past) ≡ false

@@ -2,7 +2,7 @@
 use Rattle.std.proofs.Common.{◌≡◌, ℕ, ℤ, ◌==◌, ◌&&◌, not, Bool, true, false, if◌then◌else◌, List, [], ◌∷◌, ◌++◌, Option, Some, None, refl, sym, ◌∙◌, ap}
 use Rattle.std.specs.Prelude.{MatchBool}
 use Rattle.std.proofs.lemmas.Bool.{false≢true, ne_eqb}
-use Rattle.tsp_base.specs.declared.act.Act.TheVariants.{Acked, Correct, Leave, Ring, Late, Took}
+use Rattle.tsp_base.specs.declared.act.Act.TheVariants.{Acked, Correct, Leave}
 use Rattle.tsp_base.specs.declared.act.Placed.{Placed}
 use Rattle.tsp_base.specs.declared.datagram.Datagram.TheVariants.{Message}
 use Rattle.tsp_base.specs.declared.datagram.Taken.TheVariants.{Good}
@@ -14,11 +14,11 @@ use Rattle.tsp_base.specs.declared.place.Place.TheVariants.{Peer, Stranger}
 use Rattle.tsp_base.specs.declared.place.Port.{Port}
 use Rattle.tsp_base.specs.declared.role.Role.{Role}
 use Rattle.tsp_base.specs.declared.role.Role.TheVariants.{Follow}
-use Rattle.tsp_base.specs.History.{Deed, Begins, Acts, Past, Seen, Here, Elsewhere}
+use Rattle.tsp_base.specs.History.{Past}
 use Rattle.tsp_base.specs.Messages.{MessageValue}
 use Rattle.tsp_base.specs.Peers.{is_among}
 use Rattle.tsp_base.specs.Performs.{Keeps, Performs}
-use Rattle.tsp_base.specs.PortFacts.{Received, acting, acting_after, said, said_by, taken, taken_after}
+use Rattle.tsp_base.specs.PortFacts.{Received, acting, said, said_by, taken}
 use Rattle.tsp_base.specs.Rows.{Row, either_by, for_each, grown, nothing, posts_time, puts, reading}
 use Rattle.tsp_base.specs.SendFacts.{Sending, correcting_of, corrects_in, dating_of, is_correction, is_set_date_request, last_asked, last_date, open_send, sets_date}
 use Rattle.tsp_base.proofs.PerformsLemmas.{Keeps_each, Keeps_reading, Performs_else_part, Performs_nothing, Performs_then_part}
@@ -34,7 +34,6 @@ use Rattle.tsp_acks.proofs.ActingLemmas.{taken-acts}
 use Rattle.tsp_acks.proofs.StandsLemmas.{Stands_idle}
 use Rattle.tsp_clock.specs.Clocks.{ClockValue}
 use Rattle.tsp_clock.specs.ClockStands.{ClockStands}
-use Rattle.tsp_slave.specs.Lasts.{LastValue}
 use Rattle.tsp_slave.specs.SlaveStands.{AlsoState, AlsoStands}
 use Rattle.tsp_slave.proofs.BesideLemmas.{AlsoStands_by, beside_sorts}
 use Rattle.tsp_master.specs.declared.entry.Entry.{Entry}

@@ -14,7 +14,7 @@ use Rattle.tsp_base.specs.History.{Past}
 use Rattle.tsp_base.specs.Messages.{MessageValue}
 use Rattle.tsp_base.specs.Performs.{Performs}
 use Rattle.tsp_base.specs.PortFacts.{role}
-use Rattle.tsp_base.specs.Rows.{Row, either_by, nothing, reading}
+use Rattle.tsp_base.specs.Rows.{either_by, reading}
 use Rattle.tsp_base.specs.SendFacts.{is_date_request, sets_date}
 use Rattle.tsp_base.specs.Takings.{time_in}
 use Rattle.tsp_base.proofs.PerformsLemmas.{Performs_same}
@@ -25,7 +25,7 @@ use Rattle.tsp_acks.specs.Stands.{Stands}
 use Rattle.tsp_date.specs.declared.task.Task.{Task}
 use Rattle.tsp_date.specs.declared.task.Task.TheVariants.{AnswerAgain, Nothing, Set}
 use Rattle.tsp_date.specs.Dates.{DatesValue, last_in}
-use Rattle.tsp_date.specs.DateStands.{DatesStand, DateState, DateStands, is_of_dates}
+use Rattle.tsp_date.specs.DateStands.{DatesStand, DateState, DateStands}
 use Rattle.tsp_date.specs.Tasks.{task_row}
 
 -- what kind of message has which row

@@ -24,8 +24,9 @@ use tsp_base::message::Message;
 use tsp_base::place::{PeerId, Place, Port};
 use tsp_base::role::Role;
 
-/// Acknowledges a client's date, and begins to pass it on to the master that is followed; nothing where the
-/// port passed one on lately, or a send to the master is open. In this step a datagram was taken.
+/// Acknowledges a client's date, and begins to pass it on to the master that is followed. Does nothing where the
+/// port began to pass one on less than `REUSE` ticks ago, or a numbered send to the master is still open. In
+/// this step a datagram must have been taken.
 pub(crate) fn pass_on<D: Desk>(
     station: &mut Station,
     dates: &mut Dates,
@@ -58,7 +59,8 @@ pub(crate) fn pass_on<D: Desk>(
     }
 }
 
-/// Whether the port began to pass no date on for `REUSE` ticks, and no send to its master is open.
+/// Whether the port may pass a date on: it began no other for `REUSE` ticks, and no numbered send to its master
+/// is open.
 fn may_pass_on(station: &Station, dates: &Dates, master: PeerId, tick: u64) -> bool
     ensures { (past : Past) → Stands past station.now → DatesStand past dates.now
         → may_pass_on master tick past ≡ result }
@@ -66,7 +68,7 @@ fn may_pass_on(station: &Station, dates: &Dates, master: PeerId, tick: u64) -> b
     dates.is_rested(tick) && station.sends.kind(master).is_none()
 }
 
-/// Hears that a date was set, once the quiet time is over: only a peer is believed.
+/// Handles a DATEACK. It counts only if it comes from a peer, and once the quiet time after the boot is over.
 pub(crate) fn hear_end<D: Desk>(
     station: &mut Station,
     from: Place,
@@ -94,7 +96,7 @@ pub(crate) fn hear_end<D: Desk>(
     }
 }
 
-/// Ends the send that passed a date on to a peer, where this number is its.
+/// Ends the open SETDATEREQ to this peer, where it has the message's number and the port is a follower.
 fn end<D: Desk>(station: &mut Station, from: PeerId, m: &Message, port: Port, desk: &mut D)
     requires room { 1 ≤ D.spare desk.old }
     ensures row { (x : ℕ) (s : DateState)

@@ -36,8 +36,8 @@ use tsp_base::place::{Place, Port};
 use tsp_clock::clock::{Clock, is_clock_value};
 use tsp_master::master::Master;
 
-/// Whether a master may set this date now: the node's last Correct isn't too near, the clock stays in its
-/// range, and to no slave a correction is on its way that it hasn't acknowledged.
+/// Whether a master may set this date now. The node's clock wasn't corrected for `GAP` ticks, one second; the
+/// date lies strictly between -`LIMIT` and `LIMIT`; and no correction is still on its way to a slave.
 pub(crate) fn may_date(master: &Master, corrected: Option<u64>, time: Micros, tick: u64) -> bool
     ensures test { (past : Past) → MasterStands past master.now
         → correct_tick (plain past.seen) ≡ corrected → may_date time tick past ≡ result }
@@ -46,7 +46,7 @@ pub(crate) fn may_date(master: &Master, corrected: Option<u64>, time: Micros, ti
     is_past(corrected, GAP, tick) && (is_clock_value(time.get()) && master.settled(tick))
 }
 
-/// Sets the clock to the date in a message, and notes the date where a peer passed it on.
+/// Steps the clock to the date in a message, and notes the date where a peer passed it on.
 pub(crate) fn correct<D: Desk>(
     dates: &mut Dates,
     clock: &mut Clock,
@@ -66,8 +66,11 @@ pub(crate) fn correct<D: Desk>(
         → s.took ≡ Some (record { from = from; taken = Good (MessageOf m.now) })
         → Performs DateStands DateStands (sets (time_in m.now.body)) at.tick at.port
         (record s { dates = dates.old; clock = clock.old })
-        (record s { dates = dates.new; last = moved_where true at.tick s.last;
-          clock = clock.new })
+        (record s {
+          dates = dates.new;
+          last = moved_where true at.tick s.last;
+          clock = clock.new;
+        })
         (D.acts desk.old) (D.acts desk.new) }
     ensures room { PutsAtMost 1 (D.spare desk.old) (D.spare desk.new) (D.acts desk.old)
         (D.acts desk.new) }
@@ -98,8 +101,8 @@ fn note(dates: &mut Dates, tick: u64, from: Place, m: &Message)
     }
 }
 
-/// Tells of a date that was set: its sender is answered, each slave leaves, and the other peers hear that they
-/// have to report to the master anew.
+/// Tells of a date that was set. Its sender gets a DATEACK, each slave leaves the master's table, and every other
+/// peer gets a MASTERUP: so each reports again, and is sent the new time.
 pub(crate) fn announce<D: Desk>(
     station: &Station,
     master: &mut Master,
@@ -125,7 +128,7 @@ pub(crate) fn announce<D: Desk>(
     station.post_to_others(Kind::MasterUp, 0, port, desk);
 }
 
-/// Each slave leaves, ascending.
+/// Each slave leaves the master's table, ascending.
 fn dismiss<D: Desk>(station: &Station, master: &mut Master, port: Port, desk: &mut D)
     requires room { length station.now.peers ≤ D.spare desk.old }
     requires same { slave_peers_of master.old.slaves ≡ station.now.peers }

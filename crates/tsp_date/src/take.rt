@@ -32,14 +32,14 @@ use tsp_master::master::Master;
 
 /// Handles a DATE, SETDATE, DATEREQ, SETDATEREQ or DATEACK, and tells whether the clock was set.
 ///
-/// `tick` is the step's tick, in microseconds since the node's start, from 0 to 2^61. `corrected` is the
-/// tick at which the node's clock was last corrected since its boot, by whatever cause; None where it
-/// wasn't. `charge` is whether this port is in charge of its node's date: on a node with one port it always
-/// is. `from` is the sender, which must not be the port itself.
+/// `tick` is the step's tick: the node's own count of microseconds, from 0 to 2^61. `corrected` is the tick at
+/// which the node's clock was last corrected since its boot, by whatever cause; None where it wasn't. `charge`
+/// is whether this port is in charge of its node's date: it steers the node's clock or leads it. A node's only
+/// port always is. In this step the message was taken, and not as from the port itself.
 ///
-/// A refused date changes nothing, and its sender gets no answer: it asks again, or gives up. After a
-/// true the caller still has to end the rounds that go on, and to note the tick as `corrected`. Puts at
-/// most two acts for each peer, and two more. Takes no memory and doesn't fail.
+/// A date that can't be set or passed on now changes nothing, and its sender gets no answer. After a true the
+/// caller has to note this tick as that of the last correction, and to end the rounds that go on. Puts at most
+/// two acts for each peer, and two more. Takes no memory, and can't fail.
 pub fn date_take<D: Desk>(
     station: &mut Station,
     master: &mut Master,
@@ -63,16 +63,34 @@ pub fn date_take<D: Desk>(
     ensures row { (last : LastValue) (took : Option Received) → last.tick ≡ corrected
         → took ≡ Some (record { from = from; taken = Good (MessageOf m.now) })
         → Performs DateStands DateStands (handles_kind charge from m.now m.now.kind) tick port
-        (record { dates = dates.old; master = master.old; station = station.old;
-          last = last; clock = clock.old; took = took })
-        (record { dates = dates.new; master = master.new; station = station.new;
-          last = moved_where result tick last; clock = clock.new; took = took })
+        (record {
+          dates = dates.old;
+          master = master.old;
+          station = station.old;
+          last = last;
+          clock = clock.old;
+          took = took;
+        })
+        (record {
+          dates = dates.new;
+          master = master.new;
+          station = station.new;
+          last = moved_where result tick last;
+          clock = clock.new;
+          took = took;
+        })
         (D.acts desk.old) (D.acts desk.new) }
     ensures corrects { (past : Past) (last : LastValue) (took : Option Received)
         → last.tick ≡ corrected
         → DateStands past
-        (record { dates = dates.old; master = master.old; station = station.old;
-          last = last; clock = clock.old; took = took })
+        (record {
+          dates = dates.old;
+          master = master.old;
+          station = station.old;
+          last = last;
+          clock = clock.old;
+          took = took;
+        })
         → result ≡ corrects (handles_kind charge from m.now m.now.kind tick past) }
     ensures room { PutsAtMost (2 * length station.old.peers + 2) (D.spare desk.old)
         (D.spare desk.new) (D.acts desk.old) (D.acts desk.new) }

@@ -29,16 +29,16 @@ use tsp_base::role::Role;
 pub(crate) enum Task {
     /// It does nothing.
     Nothing,
-    /// It passes the date on to this peer, its master, where it may.
+    /// It passes the date on to this peer, its master, unless it passed one on lately.
     PassOn(PeerId),
-    /// It answers this peer again, since it set the same date already.
+    /// It answers this peer again: it has set the same date already.
     AnswerAgain(PeerId),
-    /// It sets the date, where it may.
+    /// It sets the date, unless it can't be set now.
     Set,
 }
 
-/// What the port does with the message. A client's date counts only where the port is in charge. A date that
-/// a peer passes on counts only at a master, and only once the quiet time after the boot is over.
+/// What the port does with a DATE, SETDATE, DATEREQ or SETDATEREQ. A DATE or SETDATE counts from anybody, on a
+/// port in charge. A DATEREQ or SETDATEREQ counts only from a peer, at a master.
 pub(crate) fn task_of(
     station: &Station,
     dates: &Dates,
@@ -114,7 +114,7 @@ pub(crate) fn is_date_request(kind: Kind) -> bool
     matches!(kind, Kind::DateReq | Kind::SetDateReq)
 }
 
-/// The date in a message that carries one.
+/// The date in a message that carries one, in microseconds since 1970.
 pub(crate) fn time_of(m: &Message) -> Micros
     requires { sets_date m.now.kind ≡ true }
     ensures { result ≡ time_in m.now.body }

@@ -356,26 +356,25 @@ Performs_acting_by {r = r} {row = row} {x = x} {before = before} e f g k keep ma
 -- a date is set, passed on or answered
 pub Performs_dated : {r : Received} {row : Row} {x : ℕ} {port : Port} {before after : Part × ClockValue} {old new : List Placed} (corrected : Bool) → after.0.last ≡ moved_where corrected x before.0.last → after.0.resolve ≡ before.0.resolve → Emits date_sorts row →
     ((took : Option Received) → took ≡ Some r →
-    Performs DateStands DateStands row x port (before.0.dates, (before.0.master, (before.0.station, (before.0.last, (before.1, took))))) (after.0.dates, (after.0.master, (after.0.station, (moved_where corrected x before.0.last, (after.1, took))))) old new) →
+    Performs DateStands DateStands row x port
+    (record { dates = before.0.dates; master = before.0.master; station = before.0.station; last = before.0.last; clock = before.1; took = took })
+    (record { dates = after.0.dates; master = after.0.master; station = after.0.station; last = moved_where corrected x before.0.last; clock = after.1; took = took }) old new) →
     Performs (PartTook r) PartStands row x port before after old new
 Performs_dated {r = r} {row = row} {x = x} {before = before} corrected e f k d = record {
   acts = λ past h. (d (Some r) refl).acts past (dated past h);
   stands = λ past h.
       let s = (d (Some r) refl).stands past (dated past h) in
       record {
-        station = s.second.second.first;
-        last = rw e s.second.second.second.first;
-        master = s.second.first;
+        station = s.station;
+        last = rw e s.last;
+        master = s.master;
         resolve = rw f (ResolveStands_by row (Emits_more date_sorts refl k) x past before.0.resolve h.stands.resolve);
-        dates = s.first;
-        clock = s.second.second.second.second.first;
+        dates = s.dates;
+        clock = s.clock;
       };
 } where
-  dated : (past : Past) → PartTook r past before → DateStands past (before.0.dates, (before.0.master, (before.0.station, (before.0.last, (before.1, Some r)))))
-  dated past h = record {
-    first = h.stands.dates;
-    second = record { first = h.stands.master; second = record { first = h.stands.station; second = record { first = h.stands.last; second = record { first = h.stands.clock; second = h.took } } } };
-  }
+  dated : (past : Past) → PartTook r past before → DateStands past (record { dates = before.0.dates; master = before.0.master; station = before.0.station; last = before.0.last; clock = before.1; took = Some r })
+  dated past h = record { dates = h.stands.dates; master = h.stands.master; station = h.stands.station; last = h.stands.last; clock = h.stands.clock; took = h.took }
 
 -- nothing is done with what was taken, and the trace stays
 pub took_pass : {r : Received} {x : ℕ} {port : Port} {state : (Part × ClockValue) × Bool} {old : List Placed} → Performs (TookStands r) TakeStands nothing x port state state old old

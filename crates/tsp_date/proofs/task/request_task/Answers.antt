@@ -1,5 +1,5 @@
 -- At a master the last date is answered again, and another is set where the port is in charge.
-use Rattle.std.proofs.Common.{◌≡◌, Bool, true, false, sym, ◌∙◌, ap}
+use Rattle.std.proofs.Common.{sym, ◌∙◌, ap}
 use Rattle.tsp_base.specs.declared.role.Role.TheVariants.{Master}
 use Rattle.tsp_rules.specs.DateRows.{date_request_in, is_last}
 use Rattle.tsp_date.specs.Dates.{last_in}

@@ -31,7 +31,7 @@ returns-then-hears-clause-row c past h d =
     let k : is_date_request m.kind ≡ true = ap is_date_request (sym c.kind.ensures) ∙ sym c.is_date_request.ensures ∙ c.if-not-is_date_request.false in
     let heard : is_heard p c.args.tick past ≡ true = heard-is p c.args.tick past c.args.station.now h ∙ sym c.hears.ensures ∙ c.if-hears.true in
     let row : from_peer c.args.from (date_request_of c.args.charge m) c.args.tick past ≡ task_row c.request_task.result c.args.from m c.args.tick past =
-        rw c.in-Peer.is (request-heard c.args.charge m p c.args.station.now.role c.request_task.result c.args.tick past heard (sym h.role) (c.request_task.ensures.row past d)) in
+    rw c.in-Peer.is (request-heard c.args.charge m p c.args.station.now.role c.request_task.result c.args.tick past heard (sym h.role) (c.request_task.ensures.row past d)) in
     ap (λ row. row c.args.tick past) (handles-request c.args.charge c.args.from m m.kind k) ∙ row
 
 pub returns-else-hears-clause-row : goal.returns-else-hears-clause-row
