@@ -2,7 +2,7 @@
 use Rattle.std.proofs.Common.{◌≡◌, ℕ, ℤ, ◌==◌, ◌&&◌, not, Bool, true, false, if◌then◌else◌, List, [], ◌∷◌, ◌++◌, Option, Some, None, refl, sym, ◌∙◌, ap}
 use Rattle.std.specs.Prelude.{MatchBool}
 use Rattle.std.proofs.lemmas.Bool.{false≢true, ne_eqb}
-use Rattle.tsp_base.specs.declared.act.Act.TheVariants.{Acked, Correct, Leave, Ring, Late, Took}
+use Rattle.tsp_base.specs.declared.act.Act.TheVariants.{Acked, Correct, Leave}
 use Rattle.tsp_base.specs.declared.act.Placed.{Placed}
 use Rattle.tsp_base.specs.declared.datagram.Datagram.TheVariants.{Message}
 use Rattle.tsp_base.specs.declared.datagram.Taken.TheVariants.{Good}
@@ -14,11 +14,11 @@ use Rattle.tsp_base.specs.declared.place.Place.TheVariants.{Peer, Stranger}
 use Rattle.tsp_base.specs.declared.place.Port.{Port}
 use Rattle.tsp_base.specs.declared.role.Role.{Role}
 use Rattle.tsp_base.specs.declared.role.Role.TheVariants.{Follow}
-use Rattle.tsp_base.specs.History.{Deed, Begins, Acts, Past, Seen, Here, Elsewhere}
+use Rattle.tsp_base.specs.History.{Past}
 use Rattle.tsp_base.specs.Messages.{MessageValue}
 use Rattle.tsp_base.specs.Peers.{is_among}
 use Rattle.tsp_base.specs.Performs.{Keeps, Performs}
-use Rattle.tsp_base.specs.PortFacts.{Received, acting, acting_after, said, said_by, taken, taken_after}
+use Rattle.tsp_base.specs.PortFacts.{Received, acting, said, said_by, taken}
 use Rattle.tsp_base.specs.Rows.{Row, either_by, for_each, grown, nothing, posts_time, puts, reading}
 use Rattle.tsp_base.specs.SendFacts.{Sending, correcting_of, corrects_in, dating_of, is_correction, is_set_date_request, last_asked, last_date, open_send, sets_date}
 use Rattle.tsp_base.proofs.PerformsLemmas.{Keeps_each, Keeps_reading, Performs_else_part, Performs_nothing, Performs_then_part}
@@ -27,15 +27,15 @@ use Rattle.tsp_rules.specs.ClockRows.{sets}
 use Rattle.tsp_rules.specs.DateRows.{answers_date, date_acked_in, has_date, leaves, leaves_all}
 use Rattle.tsp_rules.specs.SendRows.{begins_timed, next_number}
 use Rattle.tsp_rules.specs.Guards.{is_heard, is_starting_role, table_at}
-use Rattle.tsp_rules.proofs.Emits.{Sort, Acking, Numbering, Posting, Tabling, Emits, Emits_more, Emits_posts_time, Emits_puts, Emits_reading, Keeps_by}
+use Rattle.tsp_rules.proofs.Emits.{Sort, Acking, Numbering, Posting, Tabling, Emits, Emits_each, Emits_more, Emits_posts_time, Emits_puts, Emits_reading, Keeps_by}
 use Rattle.tsp_acks.specs.declared.station.Station.{Station}
 use Rattle.tsp_acks.specs.Stands.{Stands, StandsActing}
+use Rattle.tsp_acks.proofs.ActingLemmas.{taken-acts}
 use Rattle.tsp_acks.proofs.StandsLemmas.{Stands_idle}
 use Rattle.tsp_clock.specs.Clocks.{ClockValue}
 use Rattle.tsp_clock.specs.ClockStands.{ClockStands}
-use Rattle.tsp_slave.specs.Lasts.{LastValue}
-use Rattle.tsp_slave.specs.SlaveStands.{AlsoStands}
-use Rattle.tsp_slave.proofs.BesideLemmas.{AlsoStands_by}
+use Rattle.tsp_slave.specs.SlaveStands.{AlsoState, AlsoStands}
+use Rattle.tsp_slave.proofs.BesideLemmas.{AlsoStands_by, beside_sorts}
 use Rattle.tsp_master.specs.declared.entry.Entry.{Entry}
 use Rattle.tsp_master.specs.declared.master.Master.{Master}
 use Rattle.tsp_master.specs.MasterStands.{MasterStands}
@@ -43,41 +43,36 @@ use Rattle.tsp_master.specs.Slaves.{Changes, acks_where, entry_of}
 use Rattle.tsp_master.proofs.MasterLemmas.{MasterStands_aside}
 use Rattle.tsp_master.proofs.TableLemmas.{MasterStands_changed, MasterStands_quiet, acked-after, quiet_sorts}
 use Rattle.tsp_date.specs.Dates.{DatesValue, last_in, peers_of}
-use Rattle.tsp_date.specs.DateStands.{DatesStand, DateStands}
+use Rattle.tsp_date.specs.DateStands.{DatesStand, DateState, DateStands}
 use Rattle.tsp_date.proofs.KeepLemmas.{DatesStand_by}
-
--- a step that has taken something has acted
-acting-deed : (d : Deed) (took : Option Received) (acts : Bool) (r : Received) → (took ≡ Some r → acts ≡ true) → taken_after d took ≡ Some r → acting_after d acts ≡ true
-acting-deed Begins took acts r k e = let bad : ⊥ = cc in absurd bad
-acting-deed (Acts (Took from t)) took acts r k e = refl
-acting-deed (Acts (Ring alarm)) took acts r k e = refl
-acting-deed (Acts (Late alarm)) took acts r k e = refl
-acting-deed (Acts _) took acts r k e = k e
-
-pub acting_taken : (seen : List Seen) (r : Received) → taken seen ≡ Some r → acting seen ≡ true
-acting_taken [] r e = let bad : ⊥ = cc in absurd bad
-acting_taken (Here d ∷ before) r e = acting-deed d.deed (taken before) (acting before) r (acting_taken before r) e
-acting_taken (Elsewhere d ∷ before) r e = acting_taken before r e
-
--- a call of the station that the rest doesn't feel
-pub Performs_station : {row : Row} {x : ℕ} {port : Port} {before after : Station} (dates : DatesValue) (master : Master) (also : LastValue × (ClockValue × Option Received)) {old new : List Placed} → Keeps DatesStand row → Keeps MasterStands row → Keeps AlsoStands row →
-    Performs Stands Stands row x port before after old new → Performs DateStands DateStands row x port (dates, (master, (before, also))) (dates, (master, (after, also))) old new
-Performs_station {row = row} {x = x} dates master also kd km ka d = record {
-  acts = λ past h. d.acts past h.second.second.first;
-  stands = λ past h. record {
-    first = kd x past dates h.first;
-    second = record { first = km x past master h.second.first; second = record { first = d.stands past h.second.second.first; second = ka x past also h.second.second.second } };
-  };
-}
 
 -- posts that are no sends
 abbrev pub posting : List Sort
 posting = Posting ∷ []
 
-pub Performs_posting : {row : Row} {x : ℕ} {port : Port} {before after : Station} (dates : DatesValue) (master : Master) (also : LastValue × (ClockValue × Option Received)) {old new : List Placed} → Emits (Posting ∷ []) row →
-    Performs Stands Stands row x port before after old new → Performs DateStands DateStands row x port (dates, (master, (before, also))) (dates, (master, (after, also))) old new
-Performs_posting {row = row} dates master also e d =
-    Performs_station dates master also (DatesStand_by row (Emits_more posting refl e)) (Keeps_by quiet_sorts MasterStands row MasterStands_quiet (Emits_more posting refl e)) (AlsoStands_by row (Emits_more posting refl e)) d
+-- what stands beside the station, the master and the dates
+abbrev also_of : DateState → AlsoState
+also_of s = record { last = s.last; clock = s.clock; took = s.took }
+
+-- such rows leave alone what is remembered of corrections, the clock, and what was taken
+also-kept : (s : DateState) (row : Row) → Emits beside_sorts row → (x : ℕ) (past : Past) → DateStands past s → AlsoStands (grown x past (row x past)) (also_of s)
+also-kept s row e x past h = AlsoStands_by row e x past (also_of s) (record { last = h.last; clock = h.clock; took = h.took })
+
+-- what stands beside the station, and the station
+stands-with : {past : Past} (s : DateState) → DatesStand past s.dates → MasterStands past s.master → Stands past s.station → AlsoStands past (also_of s) → DateStands past s
+stands-with s dates master station also = record { dates = dates; master = master; station = station; last = also.last; clock = also.clock; took = also.took }
+
+-- a call of the station that the rest doesn't feel
+pub Performs_posting : (s : DateState) {row : Row} {x : ℕ} {port : Port} {before after : Station} {old new : List Placed} → Emits (Posting ∷ []) row →
+    Performs Stands Stands row x port before after old new → Performs DateStands DateStands row x port (record s { station = before }) (record s { station = after }) old new
+Performs_posting s {row = row} {x = x} {before = before} {after = after} e d = record {
+  acts = λ past h. d.acts past h.station;
+  stands = λ past h. stands-with (record s { station = after })
+      (DatesStand_by row (Emits_more posting refl e) x past s.dates h.dates)
+      (Keeps_by quiet_sorts MasterStands row MasterStands_quiet (Emits_more posting refl e) x past s.master h.master)
+      (d.stands past h.station)
+      (also-kept (record s { station = before }) row (Emits_more posting refl e) x past h);
+}
 
 -- a date begins to be passed on
 abbrev pub numbering : List Sort
@@ -95,22 +90,21 @@ DatesStand_asks q time x past old new e acts h = record {
   asked = ap (λ (d : DatesValue). d.asked) e ∙ sym (ap (λ b. if b then Some x else last_asked past.seen) acts);
 }
 
-pub Performs_asks : (q : PeerId) (time : ℤ) {x : ℕ} {port : Port} {before after : Station} (dates asked : DatesValue) (master : Master) (last : LastValue) (clock : ClockValue) (r : Received) {old new : List Placed} → asked ≡ record dates { asked = Some x } →
-    Performs StandsActing StandsActing (begins_timed SetDateReq q time) x port (before, tt) (after, tt) old new →
-    Performs DateStands DateStands (begins_timed SetDateReq q time) x port (dates, (master, (before, (last, (clock, Some r))))) (asked, (master, (after, (last, (clock, Some r))))) old new
-Performs_asks q time {x = x} {before = before} dates asked master last clock r e d =
+pub Performs_asks : (s : DateState) (q : PeerId) (time : ℤ) {x : ℕ} {port : Port} {before after : Station} (dates asked : DatesValue) (r : Received) {old new : List Placed} → s.took ≡ Some r → asked ≡ record dates { asked = Some x } →
+    Performs StandsActing StandsActing (begins_timed SetDateReq q time) x port before after old new →
+    Performs DateStands DateStands (begins_timed SetDateReq q time) x port (record s { dates = dates; station = before }) (record s { dates = asked; station = after }) old new
+Performs_asks s q time {x = x} {before = before} {after = after} dates asked r t e d =
     let row = begins_timed SetDateReq q time in
+    let sorts = begins-emits q time in
     record {
-      acts = λ past h. d.acts past (record { first = h.second.second.first; second = acting_taken past.seen r h.second.second.second.second.second });
+      acts = λ past h. d.acts past (record { stands = h.station; acted = taken-acts past.seen r (h.took ∙ t) });
       stands = λ past h.
-          let acts : acting past.seen ≡ true = acting_taken past.seen r h.second.second.second.second.second in
-          record {
-            first = DatesStand_asks q time x past dates asked e acts h.first;
-            second = record {
-              first = Keeps_by quiet_sorts MasterStands row MasterStands_quiet (Emits_more numbering refl (begins-emits q time)) x past master h.second.first;
-              second = record { first = (d.stands past (record { first = h.second.second.first; second = acts })).first; second = AlsoStands_by row (Emits_more numbering refl (begins-emits q time)) x past (last, (clock, Some r)) h.second.second.second };
-            };
-          };
+          let acts : acting past.seen ≡ true = taken-acts past.seen r (h.took ∙ t) in
+          stands-with (record s { dates = asked; station = after })
+          (DatesStand_asks q time x past dates asked e acts h.dates)
+          (Keeps_by quiet_sorts MasterStands row MasterStands_quiet (Emits_more numbering refl sorts) x past s.master h.master)
+          (d.stands past (record { stands = h.station; acted = acts })).stands
+          (also-kept (record s { dates = dates; station = before }) row (Emits_more numbering refl sorts) x past h);
     }
 
 -- messages of dates don't correct as a master's do
@@ -128,39 +122,34 @@ uncorrected (Peer p) m e = none-taken (is_correction m.kind) _ e
 uncorrected Stranger m e = refl
 
 -- the clock is set to a date that was taken, which is noted
-pub Stands_dated : (amount : ℤ) (shown : ℤ) (x : ℕ) (past : Past) (dates noted : DatesValue) (master : Master) (station : Station) (last : LastValue) (clock moved : ClockValue) (from : Place) (m : MessageValue) (took : Option Received) →
-    took ≡ Some (record { from = from; taken = Good (Message m) }) → sets_date m.kind ≡ true → ((q : PeerId) → last_in noted.dated q ≡ dating_of q x (said_by from (Some m)) (last_in dates.dated q)) → peers_of noted.dated ≡ peers_of dates.dated → noted.asked ≡ dates.asked →
-    DateStands past (dates, (master, (station, (last, (clock, took))))) → ClockStands (grown x past (Correct amount true shown ∷ [])) moved →
-    DateStands (grown x past (Correct amount true shown ∷ [])) (noted, (master, (station, (record { tick = Some x; taken = None; name = last.name }, (moved, took)))))
+stands-dated : (s : DateState) (amount : ℤ) (shown : ℤ) (x : ℕ) (past : Past) (dates noted : DatesValue) (clock moved : ClockValue) (from : Place) (m : MessageValue) →
+    s.took ≡ Some (record { from = from; taken = Good (Message m) }) → sets_date m.kind ≡ true → ((q : PeerId) → last_in noted.dated q ≡ dating_of q x (said_by from (Some m)) (last_in dates.dated q)) → peers_of noted.dated ≡ peers_of dates.dated → noted.asked ≡ dates.asked →
+    DateStands past (record s { dates = dates; clock = clock }) → ClockStands (grown x past (Correct amount true shown ∷ [])) moved →
+    DateStands (grown x past (Correct amount true shown ∷ [])) (record s { dates = noted; last = record { tick = Some x; taken = None; name = s.last.name }; clock = moved })
 unfolding puts
-Stands_dated amount shown x past dates noted master station last clock moved from m took t k n ps a h c =
-    let is : taken past.seen ≡ Some (record { from = from; taken = Good (Message m) }) = h.second.second.second.second.second ∙ t in
+stands-dated s amount shown x past dates noted clock moved from m t k n ps a h c =
+    let is : taken past.seen ≡ Some (record { from = from; taken = Good (Message m) }) = h.took ∙ t in
     record {
-      first = record {
-        peers = ps ∙ h.first.peers;
-        last = λ q. n q ∙ ap (dating_of q x (said_by from (Some m))) (h.first.last q) ∙ ap (λ r. dating_of q x (said r) (last_date q past.seen)) (sym is);
-        asked = a ∙ h.first.asked;
+      dates = record {
+        peers = ps ∙ h.dates.peers;
+        last = λ q. n q ∙ ap (dating_of q x (said_by from (Some m))) (h.dates.last q) ∙ ap (λ r. dating_of q x (said r) (last_date q past.seen)) (sym is);
+        asked = a ∙ h.dates.asked;
       };
-      second = record {
-        first = MasterStands_aside (Correct amount true shown) x past master master refl refl refl h.second.first.entries h.second.first.empty h.second.first;
-        second = record {
-          first = Stands_idle (Correct amount true shown) refl x past station h.second.second.first;
-          second = record {
-            first = record { tick_is = refl; taken_is = sym (ap (λ r. correcting_of (said r)) is ∙ uncorrected from m (date-no-correction m.kind k)); name_is = h.second.second.second.first.name_is };
-            second = record { first = c; second = h.second.second.second.second.second };
-          };
-        };
-      };
+      master = MasterStands_aside (Correct amount true shown) x past s.master s.master refl refl refl h.master.entries h.master.empty h.master;
+      station = Stands_idle (Correct amount true shown) refl x past s.station h.station;
+      last = record { tick_is = refl; taken_is = sym (ap (λ r. correcting_of (said r)) is ∙ uncorrected from m (date-no-correction m.kind k)); name_is = h.last.name_is };
+      clock = c;
+      took = h.took;
     }
 
-pub Performs_dated : (time : ℤ) {x : ℕ} {port : Port} (dates noted : DatesValue) (master : Master) (station : Station) (last : LastValue) {clock moved : ClockValue} (from : Place) (m : MessageValue) (took : Option Received) {old new : List Placed} →
-    took ≡ Some (record { from = from; taken = Good (Message m) }) → sets_date m.kind ≡ true → ((q : PeerId) → last_in noted.dated q ≡ dating_of q x (said_by from (Some m)) (last_in dates.dated q)) → peers_of noted.dated ≡ peers_of dates.dated → noted.asked ≡ dates.asked →
+pub Performs_dated : (s : DateState) (time : ℤ) {x : ℕ} {port : Port} (dates noted : DatesValue) {clock moved : ClockValue} (from : Place) (m : MessageValue) {old new : List Placed} →
+    s.took ≡ Some (record { from = from; taken = Good (Message m) }) → sets_date m.kind ≡ true → ((q : PeerId) → last_in noted.dated q ≡ dating_of q x (said_by from (Some m)) (last_in dates.dated q)) → peers_of noted.dated ≡ peers_of dates.dated → noted.asked ≡ dates.asked →
     Performs ClockStands ClockStands (sets time) x port clock moved old new →
-    Performs DateStands DateStands (sets time) x port (dates, (master, (station, (last, (clock, took))))) (noted, (master, (station, (record { tick = Some x; taken = None; name = last.name }, (moved, took))))) old new
+    Performs DateStands DateStands (sets time) x port (record s { dates = dates; clock = clock }) (record s { dates = noted; last = record { tick = Some x; taken = None; name = s.last.name }; clock = moved }) old new
 unfolding sets
-Performs_dated time {x = x} dates noted master station last {clock = clock} {moved = moved} from m took t k n ps a d = record {
-  acts = λ past h. d.acts past h.second.second.second.second.first;
-  stands = λ past h. Stands_dated _ time x past dates noted master station last clock moved from m took t k n ps a h (d.stands past h.second.second.second.second.first);
+Performs_dated s time {x = x} dates noted {clock = clock} {moved = moved} from m t k n ps a d = record {
+  acts = λ past h. d.acts past h.clock;
+  stands = λ past h. stands-dated s _ time x past dates noted clock moved from m t k n ps a h (d.stands past h.clock);
 }
 
 -- a date that is passed on is no correction, so that its end leaves the table alone
@@ -197,27 +186,25 @@ abbrev acking : List Sort
 acking = Acking ∷ []
 
 -- the master has set the date that was passed on
-pub Performs_ends : (p : PeerId) (number : ℕ) {x : ℕ} {port : Port} {before after : Station} (dates : DatesValue) (master : Master) (also : LastValue × (ClockValue × Option Received)) {old new : List Placed} → ((past : Past) → Stands past before → has_date p number x past ≡ true) →
-    Performs Stands Stands (puts (Acked p)) x port before after old new → Performs DateStands DateStands (puts (Acked p)) x port (dates, (master, (before, also))) (dates, (master, (after, also))) old new
-Performs_ends p number {x = x} dates master also test d =
+Performs_ends : (s : DateState) (p : PeerId) (number : ℕ) {x : ℕ} {port : Port} {before after : Station} {old new : List Placed} → ((past : Past) → Stands past before → has_date p number x past ≡ true) →
+    Performs Stands Stands (puts (Acked p)) x port before after old new → Performs DateStands DateStands (puts (Acked p)) x port (record s { station = before }) (record s { station = after }) old new
+Performs_ends s p number {x = x} {before = before} {after = after} test d =
     let emits : Emits (Acking ∷ []) (puts (Acked p)) = Emits_puts (Acked p) refl in
     record {
-      acts = λ past h. d.acts past h.second.second.first;
-      stands = λ past h. record {
-        first = DatesStand_by (puts (Acked p)) (Emits_more acking refl emits) x past dates h.first;
-        second = record {
-          first = unputs p x past master (MasterStands_dated p number x past master (test past h.second.second.first) h.second.first);
-          second = record { first = d.stands past h.second.second.first; second = AlsoStands_by (puts (Acked p)) (Emits_more acking refl emits) x past also h.second.second.second };
-        };
-      };
+      acts = λ past h. d.acts past h.station;
+      stands = λ past h. stands-with (record s { station = after })
+          (DatesStand_by (puts (Acked p)) (Emits_more acking refl emits) x past s.dates h.dates)
+          (unputs p x past s.master (MasterStands_dated p number x past s.master (test past h.station) h.master))
+          (d.stands past h.station)
+          (also-kept (record s { station = before }) (puts (Acked p)) (Emits_more acking refl emits) x past h);
     }
 
 -- an answer ends the date that it names, or nothing
-pub Performs_ended : (p : PeerId) (number : ℕ) {x : ℕ} {port : Port} {before after : Station} (dates : DatesValue) (master : Master) (also : LastValue × (ClockValue × Option Received)) (ended : Bool) (Ends : Type 0) {old new : List Placed} → ((past : Past) → Stands past before → has_date p number x past ≡ ended) →
+pub Performs_ended : (s : DateState) (p : PeerId) (number : ℕ) {x : ℕ} {port : Port} {before after : Station} (ended : Bool) (Ends : Type 0) {old new : List Placed} → ((past : Past) → Stands past before → has_date p number x past ≡ ended) →
     (ended ≡ true → Performs Stands Stands (puts (Acked p)) x port before after old new) → (ended ≡ false → new ≡ old) → MatchBool ended Ends (after ≡ before) →
-    Performs DateStands DateStands (either_by (has_date p number) (puts (Acked p)) nothing) x port (dates, (master, (before, also))) (dates, (master, (after, also))) old new
-Performs_ended p number dates master also true Ends test row same sends = Performs_then_part (has_date p number) nothing (λ past h. test past h.second.second.first) (Performs_ends p number dates master also test (row refl))
-Performs_ended p number dates master also false Ends test row same sends = rw (same refl, sends) (Performs_else_part (has_date p number) (puts (Acked p)) (λ past h. test past h.second.second.first) Performs_nothing)
+    Performs DateStands DateStands (either_by (has_date p number) (puts (Acked p)) nothing) x port (record s { station = before }) (record s { station = after }) old new
+Performs_ended s p number true Ends test row same sends = Performs_then_part (has_date p number) nothing (λ past h. test past h.station) (Performs_ends s p number test (row refl))
+Performs_ended s p number false Ends test row same sends = rw (same refl, sends) (Performs_else_part (has_date p number) (puts (Acked p)) (λ past h. test past h.station) Performs_nothing)
 
 pub date_acked_in-other : (m : MessageValue) (p : PeerId) (r : Role) → ((q : PeerId) → r ≡ Follow q → ⊥) → date_acked_in m p r ≡ nothing
 unfolding date_acked_in
@@ -225,28 +212,29 @@ date_acked_in-other m p (Follow q) n = absurd (n q refl)
 date_acked_in-other m p _ n = refl
 
 -- every slave leaves
-Keeps_leaves : {T : Type 0} (also : Past → T → Type 0) → ((p : PeerId) → Keeps also (puts (Leave p))) → Keeps also leaves_all
+leaves-keep : Keeps Stands leaves_all
 unfolding leaves leaves_all
-Keeps_leaves also k = Keeps_reading also table_at (for_each leaves) (λ ps. Keeps_each also leaves ps k)
+leaves-keep = Keeps_reading Stands table_at (for_each leaves) (λ ps. Keeps_each Stands leaves ps (λ p. Stands_idle (Leave p) refl))
 
 abbrev tabling : List Sort
 tabling = Tabling ∷ []
 
-pub Performs_leaves : {x : ℕ} {port : Port} (dates : DatesValue) {before after : Master} (station : Station) (also : LastValue × (ClockValue × Option Received)) {old new : List Placed} → Performs MasterStands MasterStands leaves_all x port before after old new →
-    Performs DateStands DateStands leaves_all x port (dates, (before, (station, also))) (dates, (after, (station, also))) old new
-Performs_leaves {x = x} dates station also d = record {
-  acts = λ past h. d.acts past h.second.first;
-  stands = λ past h. record {
-    first = Keeps_leaves DatesStand (λ p. DatesStand_by (puts (Leave p)) (Emits_more tabling refl (Emits_puts (Leave p) refl))) x past dates h.first;
-    second = record {
-      first = d.stands past h.second.first;
-      second = record {
-        first = Keeps_leaves Stands (λ p. Stands_idle (Leave p) refl) x past station h.second.second.first;
-        second = Keeps_leaves AlsoStands (λ p. AlsoStands_by (puts (Leave p)) (Emits_more tabling refl (Emits_puts (Leave p) refl))) x past also h.second.second.second;
-      };
-    };
-  };
-}
+leaves-emit : Emits (Tabling ∷ []) leaves_all
+unfolding leaves leaves_all
+leaves-emit = Emits_reading table_at (for_each leaves) (λ ps. Emits_each leaves ps (λ p. Emits_puts (Leave p) refl))
+
+pub Performs_leaves : (s : DateState) {x : ℕ} {port : Port} {before after : Master} {old new : List Placed} → Performs MasterStands MasterStands leaves_all x port before after old new →
+    Performs DateStands DateStands leaves_all x port (record s { master = before }) (record s { master = after }) old new
+Performs_leaves s {x = x} {before = before} {after = after} d =
+    let emits : Emits (Tabling ∷ []) leaves_all = leaves-emit in
+    record {
+      acts = λ past h. d.acts past h.master;
+      stands = λ past h. stands-with (record s { master = after })
+          (DatesStand_by leaves_all (Emits_more tabling refl emits) x past s.dates h.dates)
+          (d.stands past h.master)
+          (leaves-keep x past s.station h.station)
+          (also-kept (record s { master = before }) leaves_all (Emits_more tabling refl emits) x past h);
+    }
 
 -- one slave leaves
 pub Performs_leave : (p : PeerId) {x : ℕ} {port : Port} {before after : Master} {old new : List Placed} → ((y : ℕ) (past : Past) → MasterStands past before → MasterStands (grown y past (Leave p ∷ [])) after) → new ≡ old ++ record { port = port; act = Leave p } ∷ [] →
@@ -263,18 +251,17 @@ pub heard-is : (p : PeerId) (x : ℕ) (past : Past) (station : Station) → Stan
 heard-is p x past station s = rw (s.peers, s.role) refl
 
 -- what only a peer may say that is heard
-pub Performs_heard : (p : PeerId) (r : PeerId → Row) {x : ℕ} {port : Port} {dates after_dates : DatesValue} {master after_master : Master} {station after : Station} {also after_also : LastValue × (ClockValue × Option Received)} {old new : List Placed} → (is_among p station.peers && not (is_starting_role station.role)) ≡ true →
-    Performs DateStands DateStands (r p) x port (dates, (master, (station, also))) (after_dates, (after_master, (after, after_also))) old new →
-    Performs DateStands DateStands (from_peer (Peer p) r) x port (dates, (master, (station, also))) (after_dates, (after_master, (after, after_also))) old new
+pub Performs_heard : (p : PeerId) (r : PeerId → Row) {x : ℕ} {port : Port} {before after : DateState} {old new : List Placed} → (is_among p before.station.peers && not (is_starting_role before.station.role)) ≡ true →
+    Performs DateStands DateStands (r p) x port before after old new → Performs DateStands DateStands (from_peer (Peer p) r) x port before after old new
 unfolding from_peer
-Performs_heard p r {x = x} {station = station} e d = Performs_then_part (is_heard p) nothing (λ past h. heard-is p x past station h.second.second.first ∙ e) d
+Performs_heard p r {x = x} {before = before} e d = Performs_then_part (is_heard p) nothing (λ past h. heard-is p x past before.station h.station ∙ e) d
 
-pub Performs_unheard : (p : PeerId) (r : PeerId → Row) {x : ℕ} {port : Port} {dates : DatesValue} {master : Master} {station : Station} {also : LastValue × (ClockValue × Option Received)} {old : List Placed} → (is_among p station.peers && not (is_starting_role station.role)) ≡ false →
-    Performs DateStands DateStands (from_peer (Peer p) r) x port (dates, (master, (station, also))) (dates, (master, (station, also))) old old
+pub Performs_unheard : (p : PeerId) (r : PeerId → Row) {x : ℕ} {port : Port} {state : DateState} {old : List Placed} → (is_among p state.station.peers && not (is_starting_role state.station.role)) ≡ false →
+    Performs DateStands DateStands (from_peer (Peer p) r) x port state state old old
 unfolding from_peer
-Performs_unheard p r {x = x} {station = station} e = Performs_else_part (is_heard p) (r p) (λ past h. heard-is p x past station h.second.second.first ∙ e) Performs_nothing
+Performs_unheard p r {x = x} {state = state} e = Performs_else_part (is_heard p) (r p) (λ past h. heard-is p x past state.station h.station ∙ e) Performs_nothing
 
-pub Performs_stranger : (r : PeerId → Row) {x : ℕ} {port : Port} {dates : DatesValue} {master : Master} {station : Station} {also : LastValue × (ClockValue × Option Received)} {old : List Placed} →
-    Performs DateStands DateStands (from_peer Stranger r) x port (dates, (master, (station, also))) (dates, (master, (station, also))) old old
+pub Performs_stranger : (r : PeerId → Row) {x : ℕ} {port : Port} {state : DateState} {old : List Placed} →
+    Performs DateStands DateStands (from_peer Stranger r) x port state state old old
 unfolding from_peer
 Performs_stranger r = Performs_nothing

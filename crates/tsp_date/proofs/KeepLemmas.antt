@@ -14,7 +14,7 @@ use Rattle.tsp_base.specs.declared.role.Role.TheVariants.{Follow, Master}
 use Rattle.tsp_base.specs.declared.stamp.Stamp.TheVariants.{Reply, Request}
 use Rattle.tsp_base.specs.History.{Past, Seen}
 use Rattle.tsp_base.specs.Messages.{MessageValue}
-use Rattle.tsp_base.specs.Performs.{Beside, Keeps}
+use Rattle.tsp_base.specs.Performs.{Keeps}
 use Rattle.tsp_base.specs.PortFacts.{Said, acting, said, taken}
 use Rattle.tsp_base.specs.Rows.{Row, bare, for_each, grown, posts, puts}
 use Rattle.tsp_base.specs.SendFacts.{Dating, dating_of, is_date_request, is_set_date_request, last_asked, last_date}
@@ -22,7 +22,6 @@ use Rattle.tsp_base.proofs.PerformsLemmas.{Keeps_each, Keeps_reading}
 use Rattle.tsp_rules.specs.SendRows.{begins, begins_to_others, next_number, others_at}
 use Rattle.tsp_rules.proofs.Emits.{Sort, Taking, Asking, Correcting, Posting, Leading, Following, Changing, Backing, Counting, Rounding, Alarming, Tabling, Rivalling, Acking, Giving, Sampling, Closing, Moving, Tracing, is_in, sort_of, sort_of_kind, Emits, Keeps_by}
 use Rattle.tsp_rules.proofs.EmitsSends.{send_sorts}
-use Rattle.tsp_acks.specs.Stands.{HasNotActed}
 use Rattle.tsp_date.specs.Dates.{DatesValue}
 use Rattle.tsp_date.specs.DateStands.{DatesStand}
 
@@ -83,13 +82,10 @@ pub DatesStand_begins_to_others : (kind : Kind) → is_set_date_request kind ≡
 unfolding begins_to_others
 DatesStand_begins_to_others kind e = Keeps_reading DatesStand others_at (for_each (begins kind)) (λ ps. Keeps_each DatesStand (begins kind) ps (λ p. DatesStand_begins kind p e))
 
--- a step that has taken no date that is passed on
-abbrev pub TakesNoDate : Past → Unit {0} → Type 0
-TakesNoDate past _ = passes_date (said (taken past.seen)) ≡ false
-
--- the dates in such a step
-abbrev pub DatesAside : Past → DatesValue × Unit {0} → Type 0
-DatesAside = Beside DatesStand TakesNoDate
+-- the dates in a step that has taken no date that is passed on
+pub record DatesAside (past : Past) (dates : DatesValue) : Type 0 where
+  pub stands : DatesStand past dates
+  pub none : passes_date (said (taken past.seen)) ≡ false
 
 -- all sorts of acts but Boot, Took, and sends with the port's own numbers
 abbrev pub aside_sorts : List Sort
@@ -103,9 +99,9 @@ pub DatesAside_act : (a : Act) → is_in (sort_of a) aside_sorts ≡ true → Ke
 unfolding puts
 DatesAside_act Boot e x past d h = absurd (false≢true e)
 DatesAside_act (Took from t) e x past d h = absurd (false≢true e)
-DatesAside_act (Post to (Message m)) e x past d h = record { first = DatesStand_post to m x past d.0 (false-and (is_set_date_request m.kind) (acting past.seen) (kind-aside m.kind e)) h.first; second = h.second }
-DatesAside_act (Correct amount stepped shown) e x past d h = record { first = DatesStand_correct amount stepped shown x past d.0 h.second h.first; second = h.second }
-DatesAside_act _ e x past d h = record { first = record { peers = h.first.peers; last = h.first.last; asked = h.first.asked }; second = h.second }
+DatesAside_act (Post to (Message m)) e x past d h = record { stands = DatesStand_post to m x past d (false-and (is_set_date_request m.kind) (acting past.seen) (kind-aside m.kind e)) h.stands; none = h.none }
+DatesAside_act (Correct amount stepped shown) e x past d h = record { stands = DatesStand_correct amount stepped shown x past d h.none h.stands; none = h.none }
+DatesAside_act _ e x past d h = record { stands = record { peers = h.stands.peers; last = h.stands.last; asked = h.stands.asked }; none = h.none }
 
 -- a row of such acts
 pub DatesAside_by : (row : Row) → Emits aside_sorts row → Keeps DatesAside row
@@ -114,15 +110,16 @@ DatesAside_by row e = Keeps_by aside_sorts DatesAside row DatesAside_act e
 -- a send with an own number that passes no date on
 pub DatesAside_begins : (kind : Kind) (p : PeerId) → is_set_date_request kind ≡ false → Keeps DatesAside (begins kind p)
 unfolding begins posts
-DatesAside_begins kind p e = Keeps_reading DatesAside next_number (posts p kind) (λ number x past d h. record { first = DatesStand_post (Peer p) (bare kind number past.name) x past d.0 (false-and (is_set_date_request kind) (acting past.seen) e) h.first; second = h.second })
+DatesAside_begins kind p e = Keeps_reading DatesAside next_number (posts p kind) (λ number x past d h. record { stands = DatesStand_post (Peer p) (bare kind number past.name) x past d (false-and (is_set_date_request kind) (acting past.seen) e) h.stands; none = h.none })
 
 pub DatesAside_begins_to_others : (kind : Kind) → is_set_date_request kind ≡ false → Keeps DatesAside (begins_to_others kind)
 unfolding begins_to_others
 DatesAside_begins_to_others kind e = Keeps_reading DatesAside others_at (for_each (begins kind)) (λ ps. Keeps_each DatesAside (begins kind) ps (λ p. DatesAside_begins kind p e))
 
 -- the dates in a step that hasn't acted, whose numbered posts are repeats
-abbrev pub DatesStill : Past → DatesValue × Unit {0} → Type 0
-DatesStill = Beside DatesStand HasNotActed
+pub record DatesStill (past : Past) (dates : DatesValue) : Type 0 where
+  pub stands : DatesStand past dates
+  pub still : acting past.seen ≡ false
 
 and-false : (a b : Bool) → b ≡ false → (a && b) ≡ false
 and-false true b e = e
@@ -130,12 +127,12 @@ and-false false b e = refl
 
 DatesStill_act : (a : Act) → is_in (sort_of a) send_sorts ≡ true → Keeps DatesStill (puts a)
 unfolding puts
-DatesStill_act (Post to (Message m)) e x past d h = record { first = DatesStand_post to m x past d.0 (and-false (is_set_date_request m.kind) (acting past.seen) h.second) h.first; second = h.second }
+DatesStill_act (Post to (Message m)) e x past d h = record { stands = DatesStand_post to m x past d (and-false (is_set_date_request m.kind) (acting past.seen) h.still) h.stands; still = h.still }
 DatesStill_act (Post to (Stamp (Request word counter))) e x past d h = absurd (false≢true e)
-DatesStill_act (Post to (Stamp (Reply r))) e x past d h = record { first = record { peers = h.first.peers; last = h.first.last; asked = h.first.asked }; second = h.second }
-DatesStill_act (Gave p) e x past d h = record { first = record { peers = h.first.peers; last = h.first.last; asked = h.first.asked }; second = h.second }
-DatesStill_act (Join p) e x past d h = record { first = record { peers = h.first.peers; last = h.first.last; asked = h.first.asked }; second = h.second }
-DatesStill_act (Leave p) e x past d h = record { first = record { peers = h.first.peers; last = h.first.last; asked = h.first.asked }; second = h.second }
+DatesStill_act (Post to (Stamp (Reply r))) e x past d h = record { stands = record { peers = h.stands.peers; last = h.stands.last; asked = h.stands.asked }; still = h.still }
+DatesStill_act (Gave p) e x past d h = record { stands = record { peers = h.stands.peers; last = h.stands.last; asked = h.stands.asked }; still = h.still }
+DatesStill_act (Join p) e x past d h = record { stands = record { peers = h.stands.peers; last = h.stands.last; asked = h.stands.asked }; still = h.still }
+DatesStill_act (Leave p) e x past d h = record { stands = record { peers = h.stands.peers; last = h.stands.last; asked = h.stands.asked }; still = h.still }
 DatesStill_act (Become Master) e x past d h = absurd (false≢true e)
 DatesStill_act (Become (Follow p)) e x past d h = absurd (false≢true e)
 DatesStill_act (Become _) e x past d h = absurd (false≢true e)

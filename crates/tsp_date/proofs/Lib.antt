@@ -3,4 +3,5 @@ pub mod CorrectsLemmas
 pub mod DateLemmas
 pub mod DatesLemmas
 pub mod KeepLemmas
+pub mod TaskLemmas
 pub mod TimeLemmas

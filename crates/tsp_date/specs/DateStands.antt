@@ -4,13 +4,13 @@ use Rattle.tsp_base.specs.declared.kind.Kind.{Kind}
 use Rattle.tsp_base.specs.declared.kind.Kind.TheVariants.{DateAck}
 use Rattle.tsp_base.specs.declared.place.PeerId.{PeerId}
 use Rattle.tsp_base.specs.History.{Past}
-use Rattle.tsp_base.specs.Performs.{Beside}
-use Rattle.tsp_base.specs.PortFacts.{Received}
+use Rattle.tsp_base.specs.PortFacts.{Received, taken}
 use Rattle.tsp_base.specs.SendFacts.{last_asked, last_date, sets_date}
 use Rattle.tsp_acks.specs.declared.station.Station.{Station}
+use Rattle.tsp_acks.specs.Stands.{Stands}
 use Rattle.tsp_clock.specs.Clocks.{ClockValue}
-use Rattle.tsp_slave.specs.Lasts.{LastValue}
-use Rattle.tsp_slave.specs.SlaveStands.{SlaveStands}
+use Rattle.tsp_clock.specs.ClockStands.{ClockStands}
+use Rattle.tsp_slave.specs.Lasts.{LastValue, Remembers}
 use Rattle.tsp_master.specs.declared.master.Master.{Master}
 use Rattle.tsp_master.specs.MasterStands.{MasterStands}
 use Rattle.tsp_date.specs.Dates.{DatesValue, last_in, peers_of}
@@ -21,13 +21,23 @@ pub record DatesStand (past : Past) (dates : DatesValue) : Type 0 where
   pub last : (p : PeerId) → last_in dates.dated p ≡ last_date p past.seen
   pub asked : dates.asked ≡ last_asked past.seen
 
--- what stands beside the dates: the master, the station, what is remembered of corrections, the clock, and what the step took
-abbrev pub BesideDates : Past → Master × (Station × (LastValue × (ClockValue × Option Received))) → Type 0
-BesideDates = Beside MasterStands SlaveStands
+-- what a date may read or change: the port's dates, its master and its station, what is remembered of corrections, the node's clock, and what the step took
+pub record DateState : Type 0 where
+  pub dates : DatesValue
+  pub master : Master
+  pub station : Station
+  pub last : LastValue
+  pub clock : ClockValue
+  pub took : Option Received
 
--- the dates, and what stands beside them
-abbrev pub DateStands : Past → DatesValue × (Master × (Station × (LastValue × (ClockValue × Option Received)))) → Type 0
-DateStands = Beside DatesStand BesideDates
+-- each of these is what the past comes to
+pub record DateStands (past : Past) (s : DateState) : Type 0 where
+  pub dates : DatesStand past s.dates
+  pub master : MasterStands past s.master
+  pub station : Stands past s.station
+  pub last : Remembers past s.last
+  pub clock : ClockStands past s.clock
+  pub took : taken past.seen ≡ s.took
 
 -- whether messages of this kind set a date, pass one on, or say that one was set
 abbrev pub is_of_dates : Kind → Bool

@@ -1,2 +1,3 @@
 pub mod DateStands
 pub mod Dates
+pub mod Tasks

@@ -18,16 +18,16 @@ use std::marker::Model;
 use tsp_base::constants::{DATEHOLD, REUSE};
 use tsp_base::place::PeerId;
 
-/// A date that was set: the tick of its Correct, and the number of the message that passed it on.
+/// A date that was set here, and that a peer had passed on.
 #[derive(Clone, Copy)]
 pub(crate) struct Date {
-    /// The tick of the Correct.
+    /// The tick at which it was set.
     pub(crate) at: u64,
-    /// The message's number.
+    /// The sequence number of the message that passed it on.
     pub(crate) number: u16,
 }
 
-/// A peer, and the last date since the boot that it passed on and that was set here.
+/// A peer, and the last date that it passed on and that was set here since the boot.
 #[derive(Clone, Copy)]
 pub(crate) struct Dated {
     /// Which peer.
@@ -36,7 +36,8 @@ pub(crate) struct Dated {
     pub(crate) last: Option<Date>,
 }
 
-/// The last date of each of a port's peers, and the tick at which the port last began to pass one on.
+/// What a port remembers of dates: the last one of each peer, and the tick at which the port itself last
+/// began to pass one on to its master.
 #[derive(Drop)]
 pub struct Dates {
     dated: BoxedSlice<Dated>,
@@ -65,7 +66,7 @@ fn idle_peers(alloc: Global, peers: &[PeerId]) -> Result<Vec<Dated>, AllocError>
         .collect(alloc)
 }
 
-/// The place of a peer.
+/// Where a peer stands among these; None where it doesn't.
 fn place_of(dated: &[Dated], peer: PeerId) -> Option<usize>
     ensures { result ≡ position (λ (d : Dated). d.peer.0 == peer.0) dated.now }
 {
@@ -75,9 +76,9 @@ fn place_of(dated: &[Dated], peer: PeerId) -> Option<usize>
 impl Dates {
     ghost use Rattle.tsp_date.specs.DateStands.{DatesStand};
 
-    /// No date was set or passed on yet, on a port with these peers.
+    /// What a port with these peers remembers at its boot: nothing.
     ///
-    /// Fails only if out of memory; no later call takes any.
+    /// Fails only if out of memory. No later call takes memory.
     pub fn new(alloc: Global, peers: &[PeerId]) -> Result<Dates, AllocError>
         ensures peers { IfOk result (λ d. peers_of d.dated ≡ peers.now) }
         ensures stands { IfOk result (λ d. (x : ℕ) (past : Past) → past.peers ≡ peers.now
@@ -90,7 +91,7 @@ impl Dates {
         })
     }
 
-    /// Whether the last date of a peer has this number, and was set less than `DATEHOLD` ticks ago.
+    /// Whether the peer's last date has this number, and was set less than `DATEHOLD` ticks, 45 seconds, ago.
     pub(crate) fn is_last(&self, peer: PeerId, number: u16, tick: u64) -> bool
         ensures { result ≡ is_last number tick (last_in self.now.dated peer) }
     {
@@ -110,7 +111,7 @@ impl Dates {
         }
     }
 
-    /// Notes that a peer's date was set at a tick, under this number.
+    /// Notes that this peer's date was set at this tick, under this number.
     pub(crate) fn set(&mut self, peer: PeerId, tick: u64, number: u16)
         requires { is_among peer (peers_of self.old.dated) ≡ true }
         ensures last { (q : PeerId)
@@ -126,14 +127,14 @@ impl Dates {
         }
     }
 
-    /// Whether the port began to pass no date on for `REUSE` ticks.
+    /// Whether the port began to pass no date on for at least `REUSE` ticks, 70 seconds.
     pub(crate) fn is_rested(&self, tick: u64) -> bool
         ensures { result ≡ is_past self.now.asked REUSE tick }
     {
         is_past(self.asked, REUSE, tick)
     }
 
-    /// Notes that the port began to pass a date on at a tick.
+    /// Notes that the port began to pass a date on at this tick.
     pub(crate) fn ask(&mut self, tick: u64)
         ensures { self.new ≡ record self.old { asked = Some tick } }
     {
@@ -141,7 +142,7 @@ impl Dates {
     }
 }
 
-/// Whether a tick lies so many ticks or more back, or there is none.
+/// Whether `at` lies at least `long` ticks before `tick`, or is None.
 pub(crate) fn is_past(at: Option<u64>, long: u64, tick: u64) -> bool
     ensures { result ≡ is_past at long tick }
 {

@@ -1,12 +1,16 @@
-//! The network's date: a client sets it through any node, a follower passes it on to its master, and a master
-//! sets it once.
+//! The network's date: what timed's `date` command sets on all clocks at once.
 //!
-//! A port keeps [`dates::Dates`], made with its peers. Each datagram that speaks of a date goes to
-//! [`take::date_take`], with whether the port is in charge of its node's date; a gateway gives up
-//! its rounds where the clock was corrected.
+//! A client sends it to any node, as DATE or SETDATE. A follower answers with ACK, and passes the date on to its
+//! master as SETDATEREQ; a DATEREQ means the same. A master steps its own clock to the date, answers with
+//! DATEACK, forgets its slaves, and calls all peers by MASTERUP: each reports again, and is sent the new time.
+//! A repeat of a date that was set less than `DATEHOLD` ago is only answered again.
+//!
+//! A port keeps [`dates::Dates`], made with its peers at its boot. Each of these messages goes to
+//! [`take::date_take`]. It says whether the clock was set; the caller then ends the rounds that go on.
 #![tactic(auto)]
 
 pub mod dates;
 mod pass;
 mod set;
 pub mod take;
+mod task;

@@ -1,64 +1,66 @@
 //! How a follower passes a date on to its master, and learns that it was set.
-ghost use Rattle.std.specs.Prelude.{◌≡◌, ◌≤◌, ℕ, Some};
+ghost use Rattle.std.specs.Prelude.{◌≡◌, ◌≤◌, ℕ, true, Some};
 ghost use Rattle.std.specs.List.{Contains};
 ghost use Rattle.tsp_base.specs.Frames.{IsTick, PutsAtMost};
 ghost use Rattle.tsp_base.specs.History.{Past};
 ghost use Rattle.tsp_base.specs.Performs.{Performs};
 ghost use Rattle.tsp_base.specs.PortFacts.{Received};
+ghost use Rattle.tsp_base.specs.SendFacts.{sets_date};
+ghost use Rattle.tsp_base.specs.Takings.{time_in};
 ghost use Rattle.tsp_rules.specs.Answers.{from_peer};
 ghost use Rattle.tsp_rules.specs.DateRows.{date_acked, may_pass_on, passes_on};
 ghost use Rattle.tsp_acks.specs.Changes.{IsSamePort};
 ghost use Rattle.tsp_acks.specs.Stands.{Stands};
-ghost use Rattle.tsp_clock.specs.Clocks.{ClockValue};
-ghost use Rattle.tsp_master.specs.declared.master.Master.{Master};
-ghost use Rattle.tsp_slave.specs.Lasts.{LastValue};
-ghost use Rattle.tsp_date.specs.Dates.{DatesValue, peers_of};
-ghost use Rattle.tsp_date.specs.DateStands.{DatesStand, DateStands};
+ghost use Rattle.tsp_date.specs.Dates.{peers_of};
+ghost use Rattle.tsp_date.specs.DateStands.{DatesStand, DateState, DateStands};
 
 use crate::dates::Dates;
+use crate::task::time_of;
 use tsp_acks::station::Station;
+use tsp_base::at::At;
 use tsp_base::desk::Desk;
 use tsp_base::kind::Kind;
 use tsp_base::message::Message;
-use tsp_base::micros::Micros;
 use tsp_base::place::{PeerId, Place, Port};
 use tsp_base::role::Role;
 
-/// Acknowledges a client's date, and begins to pass it on to the master that is followed; nothing where the
-/// port passed one on lately, or a send to the master is open. In this step a datagram was taken.
+/// Acknowledges a client's date, and begins to pass it on to the master that is followed. Does nothing where the
+/// port began to pass one on less than `REUSE` ticks ago, or a numbered send to the master is still open. In
+/// this step a datagram must have been taken.
 pub(crate) fn pass_on<D: Desk>(
     station: &mut Station,
     dates: &mut Dates,
-    tick: u64,
+    at: At,
     from: Place,
+    m: &Message,
     master: PeerId,
-    number: u16,
-    time: Micros,
-    port: Port,
     desk: &mut D,
 )
-    requires tick { IsTick tick }
+    requires tick { IsTick at.tick }
     requires room { 2 ≤ D.spare desk.old }
+    requires kind { sets_date m.now.kind ≡ true }
     requires peer { Contains station.old.peers master }
-    ensures row { (m : Master) (last : LastValue) (clock : ClockValue) (r : Received)
-        → Performs DateStands DateStands (passes_on from master number time) tick port
-        (dates.old, (m, (station.old, (last, (clock, Some r)))))
-        (dates.new, (m, (station.new, (last, (clock, Some r))))) (D.acts desk.old)
-        (D.acts desk.new) }
+    ensures row { (s : DateState) (r : Received) → s.took ≡ Some r
+        → Performs DateStands DateStands
+        (passes_on from master m.now.number (time_in m.now.body)) at.tick at.port
+        (record s { dates = dates.old; station = station.old })
+        (record s { dates = dates.new; station = station.new })
+        (D.acts desk.old) (D.acts desk.new) }
     ensures room { PutsAtMost 2 (D.spare desk.old) (D.spare desk.new) (D.acts desk.old)
         (D.acts desk.new) }
     ensures port { IsSamePort station.old station.new }
     ensures role { station.new.role ≡ station.old.role }
     ensures peers { peers_of dates.new.dated ≡ peers_of dates.old.dated }
 {
-    if may_pass_on(station, dates, master, tick) {
-        station.post_back(from, Kind::Ack, number, port, desk);
-        station.begin_timed(Kind::SetDateReq, master, time, tick, port, desk);
-        dates.ask(tick);
+    if may_pass_on(station, dates, master, at.tick) {
+        station.post_back(from, Kind::Ack, m.number(), at.port, desk);
+        station.begin_timed(Kind::SetDateReq, master, time_of(m), at.tick, at.port, desk);
+        dates.ask(at.tick);
     }
 }
 
-/// Whether the port began to pass no date on for `REUSE` ticks, and no send to its master is open.
+/// Whether the port may pass a date on: it began no other for `REUSE` ticks, and no numbered send to its master
+/// is open.
 fn may_pass_on(station: &Station, dates: &Dates, master: PeerId, tick: u64) -> bool
     ensures { (past : Past) → Stands past station.now → DatesStand past dates.now
         → may_pass_on master tick past ≡ result }
@@ -66,7 +68,7 @@ fn may_pass_on(station: &Station, dates: &Dates, master: PeerId, tick: u64) -> b
     dates.is_rested(tick) && station.sends.kind(master).is_none()
 }
 
-/// Hears that a date was set, once the quiet time is over: only a peer is believed.
+/// Handles a DATEACK. It counts only if it comes from a peer, and once the quiet time after the boot is over.
 pub(crate) fn hear_end<D: Desk>(
     station: &mut Station,
     from: Place,
@@ -75,12 +77,10 @@ pub(crate) fn hear_end<D: Desk>(
     desk: &mut D,
 )
     requires room { 1 ≤ D.spare desk.old }
-    ensures row { (x : ℕ) (dates : DatesValue) (master : Master) (last : LastValue)
-        (clock : ClockValue) (r : Received)
+    ensures row { (x : ℕ) (s : DateState)
         → Performs DateStands DateStands (from_peer from (date_acked m.now)) x port
-        (dates, (master, (station.old, (last, (clock, Some r)))))
-        (dates, (master, (station.new, (last, (clock, Some r))))) (D.acts desk.old)
-        (D.acts desk.new) }
+        (record s { station = station.old }) (record s { station = station.new })
+        (D.acts desk.old) (D.acts desk.new) }
     ensures room { PutsAtMost 1 (D.spare desk.old) (D.spare desk.new) (D.acts desk.old)
         (D.acts desk.new) }
     ensures port { IsSamePort station.old station.new }
@@ -96,15 +96,13 @@ pub(crate) fn hear_end<D: Desk>(
     }
 }
 
-/// Ends the send that passed a date on to a peer, where this number is its.
+/// Ends the open SETDATEREQ to this peer, where it has the message's number and the port is a follower.
 fn end<D: Desk>(station: &mut Station, from: PeerId, m: &Message, port: Port, desk: &mut D)
     requires room { 1 ≤ D.spare desk.old }
-    ensures row { (x : ℕ) (dates : DatesValue) (master : Master) (last : LastValue)
-        (clock : ClockValue) (r : Received)
+    ensures row { (x : ℕ) (s : DateState)
         → Performs DateStands DateStands (date_acked m.now from) x port
-        (dates, (master, (station.old, (last, (clock, Some r)))))
-        (dates, (master, (station.new, (last, (clock, Some r))))) (D.acts desk.old)
-        (D.acts desk.new) }
+        (record s { station = station.old }) (record s { station = station.new })
+        (D.acts desk.old) (D.acts desk.new) }
     ensures room { PutsAtMost 1 (D.spare desk.old) (D.spare desk.new) (D.acts desk.old)
         (D.acts desk.new) }
     ensures port { IsSamePort station.old station.new }

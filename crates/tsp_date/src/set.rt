@@ -2,6 +2,7 @@
 ghost use Rattle.std.specs.Prelude.{◌≡◌, ◌≤◌, ◌+◌, ◌*◌, ℕ, true, length, Option, Some};
 ghost use Rattle.tsp_base.specs.declared.datagram.Datagram.TheVariants.{Message as MessageOf};
 ghost use Rattle.tsp_base.specs.declared.datagram.Taken.TheVariants.{Good};
+ghost use Rattle.tsp_base.specs.declared.kind.Kind.TheVariants.{DateAck, MasterUp};
 ghost use Rattle.tsp_base.specs.declared.place.PeerId.{PeerId};
 ghost use Rattle.tsp_base.specs.declared.place.Place.TheVariants.{Peer};
 ghost use Rattle.tsp_base.specs.Frames.{IsTick, PutsAtMost};
@@ -9,22 +10,23 @@ ghost use Rattle.tsp_base.specs.History.{Past, plain};
 ghost use Rattle.tsp_base.specs.NodeFacts.{correct_tick};
 ghost use Rattle.tsp_base.specs.Peers.{is_among};
 ghost use Rattle.tsp_base.specs.Performs.{Performs};
-ghost use Rattle.tsp_base.specs.PortFacts.{Received, said_by};
+ghost use Rattle.tsp_base.specs.PortFacts.{said_by};
+ghost use Rattle.tsp_base.specs.Rows.{◌followed_by◌, posts_back, posts_to_others};
 ghost use Rattle.tsp_base.specs.SendFacts.{dating_of, is_date_request, sets_date};
+ghost use Rattle.tsp_base.specs.Takings.{time_in};
 ghost use Rattle.tsp_rules.specs.ClockRows.{sets};
-ghost use Rattle.tsp_rules.specs.DateRows.{leaves_all, may_date, sets_date_where};
+ghost use Rattle.tsp_rules.specs.DateRows.{leaves_all, may_date};
 ghost use Rattle.tsp_rules.specs.Guards.{is_clock_value};
-ghost use Rattle.tsp_acks.specs.declared.station.Station.{Station};
-ghost use Rattle.tsp_master.specs.declared.master.Master.{Master};
 ghost use Rattle.tsp_master.specs.MasterStands.{MasterStands};
 ghost use Rattle.tsp_master.specs.Slaves.{peers_of as slave_peers_of};
-ghost use Rattle.tsp_slave.specs.Lasts.{LastValue};
 ghost use Rattle.tsp_date.specs.Dates.{last_in, peers_of};
-ghost use Rattle.tsp_date.specs.DateStands.{DateStands, moved_where};
+ghost use Rattle.tsp_date.specs.DateStands.{DateState, DateStands, moved_where};
 
 use crate::dates::{Dates, is_past};
+use crate::task::{is_date_request, time_of};
 use tsp_acks::station::Station;
 use tsp_base::act::Act;
+use tsp_base::at::At;
 use tsp_base::constants::GAP;
 use tsp_base::desk::Desk;
 use tsp_base::kind::Kind;
@@ -34,58 +36,9 @@ use tsp_base::place::{Place, Port};
 use tsp_clock::clock::{Clock, is_clock_value};
 use tsp_master::master::Master;
 
-/// Sets the date, where a master may set it now, and tells whether it did: the clock is set, the
-/// sender is answered, and each slave leaves and hears that it has to report anew. `corrected` is
-/// the tick of the node's last Correct since its boot. At most twice as many acts as there are
-/// peers, and two.
-pub(crate) fn set_date<D: Desk>(
-    station: &Station,
-    master: &mut Master,
-    dates: &mut Dates,
-    clock: &mut Clock,
-    corrected: Option<u64>,
-    tick: u64,
-    from: Place,
-    m: &Message,
-    time: Micros,
-    port: Port,
-    desk: &mut D,
-) -> bool
-    requires tick { IsTick tick }
-    requires later { clock.old.at ≤ tick }
-    requires room { 2 * length station.now.peers + 2 ≤ D.spare desk.old }
-    requires same { slave_peers_of master.old.slaves ≡ station.now.peers }
-    requires dates { peers_of dates.old.dated ≡ station.now.peers }
-    requires kind { sets_date m.now.kind ≡ true }
-    requires asker { (p : PeerId) → from ≡ Peer p → is_date_request m.now.kind ≡ true
-        → is_among p station.now.peers ≡ true }
-    ensures row { (last : LastValue) (took : Option Received) → last.tick ≡ corrected
-        → took ≡ Some (record { from = from; taken = Good (MessageOf m.now) })
-        → Performs DateStands DateStands (sets_date_where from m.now.number time) tick port
-        (dates.old, (master.old, (station.now, (last, (clock.old, took)))))
-        (dates.new, (master.new, (station.now, (moved_where result tick last, (clock.new, took)))))
-        (D.acts desk.old) (D.acts desk.new) }
-    ensures sets { (past : Past) → MasterStands past master.old
-        → correct_tick (plain past.seen) ≡ corrected → may_date time tick past ≡ result }
-    ensures room { PutsAtMost (2 * length station.now.peers + 2) (D.spare desk.old)
-        (D.spare desk.new) (D.acts desk.old) (D.acts desk.new) }
-    ensures slaves { slave_peers_of master.new.slaves ≡ slave_peers_of master.old.slaves }
-    ensures peers { peers_of dates.new.dated ≡ peers_of dates.old.dated }
-    ensures clock { clock.new.at ≤ tick }
-{
-    if !may_date(master, corrected, time, tick) {
-        return false;
-    }
-    correct(dates, clock, tick, from, m, time, port, desk);
-    station.post_back(from, Kind::DateAck, m.number(), port, desk);
-    dismiss(station, master, port, desk);
-    station.post_to_others(Kind::MasterUp, 0, port, desk);
-    true
-}
-
-/// Whether a master may set this date now: the node's last Correct isn't too near, the clock stays in its
-/// range, and to no slave a correction is on its way that it hasn't acknowledged.
-fn may_date(master: &Master, corrected: Option<u64>, time: Micros, tick: u64) -> bool
+/// Whether a master may set this date now. The node's clock wasn't corrected for `GAP` ticks, one second; the
+/// date lies strictly between -`LIMIT` and `LIMIT`; and no correction is still on its way to a slave.
+pub(crate) fn may_date(master: &Master, corrected: Option<u64>, time: Micros, tick: u64) -> bool
     ensures test { (past : Past) → MasterStands past master.now
         → correct_tick (plain past.seen) ≡ corrected → may_date time tick past ≡ result }
     ensures range { result ≡ true → is_clock_value time ≡ true }
@@ -93,37 +46,39 @@ fn may_date(master: &Master, corrected: Option<u64>, time: Micros, tick: u64) ->
     is_past(corrected, GAP, tick) && (is_clock_value(time.get()) && master.settled(tick))
 }
 
-/// Sets the clock to the date, and notes it where a peer passed it on.
-fn correct<D: Desk>(
+/// Steps the clock to the date in a message, and notes the date where a peer passed it on.
+pub(crate) fn correct<D: Desk>(
     dates: &mut Dates,
     clock: &mut Clock,
-    tick: u64,
+    at: At,
     from: Place,
     m: &Message,
-    time: Micros,
-    port: Port,
     desk: &mut D,
 )
-    requires tick { IsTick tick }
-    requires later { clock.old.at ≤ tick }
-    requires range { is_clock_value time ≡ true }
-    requires room { 1 ≤ D.spare desk.old }
+    requires tick { IsTick at.tick }
+    requires later { clock.old.at ≤ at.tick }
     requires kind { sets_date m.now.kind ≡ true }
+    requires range { is_clock_value (time_in m.now.body) ≡ true }
+    requires room { 1 ≤ D.spare desk.old }
     requires asker { (p : PeerId) → from ≡ Peer p → is_date_request m.now.kind ≡ true
         → is_among p (peers_of dates.old.dated) ≡ true }
-    ensures row { (master : Master) (station : Station) (last : LastValue) (took : Option Received)
-        → took ≡ Some (record { from = from; taken = Good (MessageOf m.now) })
-        → Performs DateStands DateStands (sets time) tick port
-        (dates.old, (master, (station, (last, (clock.old, took)))))
-        (dates.new, (master, (station, (moved_where true tick last, (clock.new, took)))))
+    ensures row { (s : DateState)
+        → s.took ≡ Some (record { from = from; taken = Good (MessageOf m.now) })
+        → Performs DateStands DateStands (sets (time_in m.now.body)) at.tick at.port
+        (record s { dates = dates.old; clock = clock.old })
+        (record s {
+          dates = dates.new;
+          last = moved_where true at.tick s.last;
+          clock = clock.new;
+        })
         (D.acts desk.old) (D.acts desk.new) }
     ensures room { PutsAtMost 1 (D.spare desk.old) (D.spare desk.new) (D.acts desk.old)
         (D.acts desk.new) }
     ensures peers { peers_of dates.new.dated ≡ peers_of dates.old.dated }
-    ensures clock { clock.new.at ≤ tick }
+    ensures clock { clock.new.at ≤ at.tick }
 {
-    clock.correct_to(tick, time.get(), port, desk);
-    note(dates, tick, from, m);
+    clock.correct_to(at.tick, time_of(m).get(), at.port, desk);
+    note(dates, at.tick, from, m);
 }
 
 /// Notes a date that was set, where a peer passed it on.
@@ -146,14 +101,34 @@ fn note(dates: &mut Dates, tick: u64, from: Place, m: &Message)
     }
 }
 
-/// Whether messages of this kind pass a date on.
-fn is_date_request(kind: Kind) -> bool
-    ensures { result ≡ is_date_request kind }
+/// Tells of a date that was set. Its sender gets a DATEACK, each slave leaves the master's table, and every other
+/// peer gets a MASTERUP: so each reports again, and is sent the new time.
+pub(crate) fn announce<D: Desk>(
+    station: &Station,
+    master: &mut Master,
+    from: Place,
+    number: u16,
+    port: Port,
+    desk: &mut D,
+)
+    requires room { 2 * length station.now.peers + 1 ≤ D.spare desk.old }
+    requires same { slave_peers_of master.old.slaves ≡ station.now.peers }
+    ensures row { (x : ℕ) (s : DateState) → Performs DateStands DateStands
+        (posts_back from DateAck number followed_by (leaves_all followed_by posts_to_others
+        MasterUp 0)) x port
+        (record s { master = master.old; station = station.now })
+        (record s { master = master.new; station = station.now })
+        (D.acts desk.old) (D.acts desk.new) }
+    ensures room { PutsAtMost (2 * length station.now.peers + 1) (D.spare desk.old)
+        (D.spare desk.new) (D.acts desk.old) (D.acts desk.new) }
+    ensures slaves { slave_peers_of master.new.slaves ≡ slave_peers_of master.old.slaves }
 {
-    matches!(kind, Kind::DateReq | Kind::SetDateReq)
+    station.post_back(from, Kind::DateAck, number, port, desk);
+    dismiss(station, master, port, desk);
+    station.post_to_others(Kind::MasterUp, 0, port, desk);
 }
 
-/// Each slave leaves, ascending.
+/// Each slave leaves the master's table, ascending.
 fn dismiss<D: Desk>(station: &Station, master: &mut Master, port: Port, desk: &mut D)
     requires room { length station.now.peers ≤ D.spare desk.old }
     requires same { slave_peers_of master.old.slaves ≡ station.now.peers }

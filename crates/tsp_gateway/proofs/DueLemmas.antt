@@ -9,10 +9,11 @@ use Rattle.tsp_sends.specs.Repeating.{IsEarliest}
 use Rattle.tsp_acks.specs.declared.station.Station.{Station}
 use Rattle.tsp_acks.specs.Stands.{Stands}
 use Rattle.tsp_node.specs.declared.part.Part.{Part}
+use Rattle.tsp_node.specs.Dues.{IsPartDue}
 use Rattle.tsp_node.specs.NodeStands.{due_of}
 use Rattle.tsp_node.proofs.DueLemmas.{IsEarliest-open}
 use Rattle.tsp_gateway.specs.declared.gateway.Gateway.{Gateway}
-use Rattle.tsp_gateway.specs.Dues.{IsNodeDue, IsPartDue, IsPortDue, least_of}
+use Rattle.tsp_gateway.specs.Dues.{IsNodeDue, IsPortDue, least_of}
 use Rattle.tsp_gateway.specs.GatewayStands.{GatewayStands, port_at}
 
 earlier_none : (a : Option ℕ) → earlier a None ≡ a

@@ -3,6 +3,7 @@ pub mod AnyLemmas
 pub mod AsideLemmas
 pub mod BootLemmas
 pub mod DueLemmas
+pub mod IdleLemmas
 pub mod JudgeLemmas
 pub mod LiftLemmas
 pub mod LoopLemmas

@@ -5,9 +5,7 @@ use Rattle.tsp_base.specs.History.{Seen, view}
 use Rattle.tsp_base.specs.PortFacts.{armed}
 use Rattle.tsp_base.specs.SendFacts.{open_send}
 use Rattle.tsp_rules.specs.NodeRows.{NodePast}
-use Rattle.tsp_sends.specs.Slots.{sending_to}
 use Rattle.tsp_sends.specs.Repeating.{IsEarliest}
-use Rattle.tsp_node.specs.declared.part.Part.{Part}
 use Rattle.tsp_node.specs.NodeStands.{due_of}
 use Rattle.tsp_gateway.specs.GatewayStands.{port_at}
 
@@ -21,12 +19,6 @@ pub record IsPortDue (seen : List Seen) (due : Option ℕ) : Type 0 where
   pub sends : Option ℕ
   pub first : IsEarliest (λ p. open_send p seen) sends
   pub due_is : due ≡ earlier (least_deadline (armed seen)) sends
-
--- the same, from the state of the port
-pub record IsPartDue (part : Part) (due : Option ℕ) : Type 0 where
-  pub sends : Option ℕ
-  pub first : IsEarliest (sending_to part.station.sends) sends
-  pub due_is : due ≡ earlier (least_deadline part.station.alarms) sends
 
 -- the earliest deadline of all ports; the greatest number of 64 bits where there is none
 pub record IsNodeDue (past : NodePast) (at : ℕ) : Type 0 where

@@ -16,7 +16,7 @@
 //! let mut config = GateConfig::new(alloc, Name::new(b"alpha"), true, false)?;
 //! config.port(PeerId(0), &[PeerId(0), PeerId(1)])?;
 //! let mut desk = Pad::new(alloc);
-//! desk.reserve(3)?;
+//! desk.reserve(3)?; // a boot puts at most 3 acts for each port
 //! let mut gateway = Gateway::boot(alloc, &config, 0, 1_000_000, 17, &mut desk)?;
 //! desk.clear();
 //! desk.reserve(gateway.room())?;
@@ -25,6 +25,15 @@
 //!
 //! A step allocates no memory and can't fail. It puts exactly the acts that the rules give for its
 //! past: the clause `row` of each call says so.
+//!
+//! All ports share one clock. It is corrected by the master of the lowest port that follows one; where no port
+//! follows, by the rounds of the lowest port that is a master. A correction by one port ends the rounds of
+//! the others, since what they have measured is no longer true. While a port has a round going, the next
+//! rounds of the others wait.
+//!
+//! After each of its rounds a port that leads posts LOOPs, and a gateway passes those of other nodes on to its
+//! other ports. Where one of a node's own comes back on a higher port, another gateway joins the same
+//! networks, and that port stops leading.
 #![tactic(auto)]
 
 mod booting;

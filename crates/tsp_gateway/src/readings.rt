@@ -5,13 +5,12 @@ ghost use Rattle.tsp_base.specs.History.{dids};
 ghost use Rattle.tsp_base.specs.NodeFacts.{tracing};
 ghost use Rattle.tsp_rules.specs.NodeRows.{NodePast};
 ghost use Rattle.tsp_node.specs.NodeStands.{due_of};
-ghost use Rattle.tsp_gateway.specs.Dues.{IsNodeDue, IsPartDue};
+ghost use Rattle.tsp_gateway.specs.Dues.{IsNodeDue};
 ghost use Rattle.tsp_gateway.specs.PortOf.{port_of};
 
 use crate::gateway::{FIRST, Gateway, port_at};
 use tsp_base::alarms::earlier;
 use tsp_base::place::{PeerId, Port};
-use tsp_node::Part;
 use tsp_rules::room::room_for;
 
 impl Gateway {
@@ -37,7 +36,7 @@ impl Gateway {
     {
         let mut due = None;
         for part in &self.ports {
-            due = earlier(due, due_on(part));
+            due = earlier(due, part.due());
         }
         match due {
             Some(at) => at,
@@ -77,12 +76,4 @@ impl Gateway {
         }
         FIRST
     }
-}
-
-/// The earliest deadline of a port.
-fn due_on(part: &Part) -> Option<u64>
-    ensures { IsPartDue part.now result }
-{
-    let station = part.station();
-    earlier(station.alarms.least(), station.sends.least())
 }

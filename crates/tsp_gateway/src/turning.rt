@@ -1,5 +1,5 @@
 //! The due sends and the due alarms of a node, port by port.
-ghost use Rattle.std.specs.Prelude.{◌≡◌, ◌≤◌, ◌<◌, ◌+◌, ◌*◌, false, length, Some, slice_get};
+ghost use Rattle.std.specs.Prelude.{◌≡◌, ◌≤◌, ◌<◌, ◌+◌, ◌*◌, ℕ, Option, false, not, length, Some, slice_get};
 ghost use Rattle.tsp_base.specs.declared.alarm.Alarm.TheVariants.{Close, Probe};
 ghost use Rattle.tsp_base.specs.Frames.{IsTick, PutsAtMost};
 ghost use Rattle.tsp_rules.specs.GateRows.{alarm_on, alarms_on, all_ports, turns_on};
@@ -8,13 +8,16 @@ ghost use Rattle.tsp_rules.specs.NodeRows.{for_ports, on, reading_all};
 ghost use Rattle.tsp_rules.specs.SendRows.{due_sends};
 ghost use Rattle.tsp_rules.specs.Guards.{is_over};
 ghost use Rattle.tsp_node.specs.declared.part.Part.{Part};
+ghost use Rattle.tsp_node.specs.Dues.{IsPartDue};
 ghost use Rattle.tsp_gateway.specs.RoundAlarms.{is_of_round};
 ghost use Rattle.tsp_gateway.specs.GatewayStands.{GatewayBegun, GatewayStands, GatewayTurning, clock_at, port_at};
 ghost use Rattle.tsp_gateway.specs.Rooms.{alarm_room, peers_at, ports_in, room_of_ports, turn_room, turns_room};
 
 use crate::gateway::{Gateway, port_at};
 use tsp_base::alarm::Alarm;
+use tsp_base::at::At;
 use tsp_base::desk::Desk;
+use tsp_node::RingTerms;
 
 impl Gateway {
     /// For every port in turn: repeats its due sends, and then handles its due alarms.
@@ -35,7 +38,7 @@ impl Gateway {
         }
     }
 
-    /// Repeats the due sends and then handles the due alarms of a port.
+    /// Repeats the due sends and then handles the due alarms of a port. Most turns end at once: nothing is due.
     fn turn_port<D: Desk>(&mut self, q: usize, tick: u64, desk: &mut D)
         requires port { q < length (ports_in self.old) }
         requires room { turn_room (peers_at q (ports_in self.old)) ≤ D.spare desk.old }
@@ -48,8 +51,23 @@ impl Gateway {
         ensures room { PutsAtMost (turn_room (peers_at q (ports_in self.old))) (D.spare desk.old)
             (D.spare desk.new) (D.acts desk.old) (D.acts desk.new) }
     {
+        if self.is_idle(q, tick) {
+            return;
+        }
         self.send(q, tick, desk);
         self.ring_alarms(q, tick, desk);
+    }
+
+    /// Whether neither a send nor an alarm of a port is due.
+    fn is_idle(&self, q: usize, tick: u64) -> bool
+        requires { q < length (ports_in self.now) }
+        ensures { (part : Part) → slice_get self.now.ports.items q ≡ Some part
+            → (due : Option ℕ) × IsPartDue part due × (result ≡ not (is_over due tick)) }
+    {
+        match self.ports[q].due() {
+            Some(at) => tick < at,
+            None => true,
+        }
     }
 
     /// Handles the due alarms of a port, each when its turn comes.
@@ -129,6 +147,10 @@ impl Gateway {
         ensures room { PutsAtMost (2 * peers_at q (ports_in self.old) + 4) (D.spare desk.old)
             (D.spare desk.new) (D.acts desk.old) (D.acts desk.new) }
     {
-        let _ = self.ports[q].ring(&mut self.clock, alarm, true, false, tick, port_at(q), desk);
+        let terms = RingTerms::alone(At {
+            tick,
+            port: port_at(q),
+        });
+        let _ = self.ports[q].ring(&mut self.clock, alarm, terms, desk);
     }
 }

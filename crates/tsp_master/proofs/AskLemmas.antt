@@ -113,8 +113,8 @@ Performs_probes p {x = x} {port = port} old new st clock {earlier = earlier} m s
       let same : (q : PeerId) → entry_at q (seen_act past.step x (asked_act p past) ∷ past.seen) ≡ entry_at q past.seen = λ q. asks-measured p q past x (ap (λ (e : Entry). e.measured) (sym (h.stands.master.entries p)) ∙ m) in
       record {
         stands = lead-asks p x past old new st clock h.stands (MasterStands_asks p x past old new h.goes (starts-is p x past st clock old.rounds new.rounds h.stands.station h.stands.clock starts) (ap peers_of ss)
-              (λ q. ap (λ es. entry_of es q) ss ∙ h.stands.master.entries q ∙ sym (same q))
-              (λ other q. let e = h.stands.master.empty other q in (ap (λ (k : Entry). k.joined) (same q) ∙ e.0, ap (λ (k : Entry). k.measured) (same q) ∙ e.1)) h.stands.master);
+            (λ q. ap (λ es. entry_of es q) ss ∙ h.stands.master.entries q ∙ sym (same q))
+            (λ other q. let e = h.stands.master.empty other q in (ap (λ (k : Entry). k.joined) (same q) ∙ e.0, ap (λ (k : Entry). k.measured) (same q) ∙ e.1)) h.stands.master);
         goes = h.goes;
         early = h.early;
       };
@@ -129,8 +129,8 @@ Performs_starts p {x = x} {port = port} old new st clock {earlier = earlier} j c
   acts = λ past h. put ∙ ap (λ acts. earlier ++ placed port acts) (sym (asks-is p x past old st h.stands.station h.stands.master));
   stands = λ past h. record {
     stands = lead-asks p x past old new st clock h.stands (MasterStands_asks p x past old new h.goes (starts-is p x past st clock old.rounds new.rounds h.stands.station h.stands.clock starts) ps
-          (EntriesAfter_changed p measures past x (asked_act p past) old new (λ q. asks-starting p q past x h.starts) change h.stands.master.entries)
-          (λ other q. let none = (h.stands.master.empty other p).0 in let is : in_table p past.seen ≡ true = ap (λ (e : Entry). e.joined) (sym (h.stands.master.entries p)) ∙ j in let bad : ⊥ = cc in absurd bad) h.stands.master);
+        (EntriesAfter_changed p measures past x (asked_act p past) old new (λ q. asks-starting p q past x h.starts) change h.stands.master.entries)
+        (λ other q. let none = (h.stands.master.empty other p).0 in let is : in_table p past.seen ≡ true = ap (λ (e : Entry). e.joined) (sym (h.stands.master.entries p)) ∙ j in let bad : ⊥ = cc in absurd bad) h.stands.master);
     goes = h.goes;
     starts = h.starts;
   };

@@ -53,7 +53,7 @@ impl Master {
             (D.acts desk.old) (D.acts desk.new) }
         ensures corrects { (past : Past)
             → RingStands past
-                (record { master = self.old; station = station.old; clock = clock.old })
+            (record { master = self.old; station = station.old; clock = clock.old })
             → result ≡ corrects (close_rings own tick past) }
         ensures room { PutsAtMost (length (peers_of self.old.slaves) + 3) (D.spare desk.old)
             (D.spare desk.new) (D.acts desk.old) (D.acts desk.new) }
@@ -92,7 +92,7 @@ impl Master {
             (D.acts desk.old) (D.acts desk.new) }
         ensures corrects { (past : Past)
             → LeadStands past
-                (record { master = self.old; station = station.old; clock = clock.old })
+            (record { master = self.old; station = station.old; clock = clock.old })
             → result ≡ corrects (closes_here own self.old tick past) }
         ensures room { PutsAtMost (length (peers_of self.old.slaves) + 2) (D.spare desk.old)
             (D.spare desk.new) (D.acts desk.old) (D.acts desk.new) }

@@ -60,11 +60,11 @@ impl Master {
             (D.acts desk.old) (D.acts desk.new) }
         ensures corrects { (past : Past)
             → RingStands past
-                (record { master = self.old; station = station.old; clock = clock.old })
+            (record { master = self.old; station = station.old; clock = clock.old })
             → result ≡ corrects (master_rings group_mean alarm tick past) }
         ensures recent { alarm ≡ CloseAlarm → (past : Past)
             → RingStands past
-                (record { master = self.old; station = station.old; clock = clock.old })
+            (record { master = self.old; station = station.old; clock = clock.old })
             → IsLeftAlone past.seen
             → (p : PeerId) (s : Sampled) → best p past.seen ≡ Some s
             → IsSinceCorrect p s past.seen }

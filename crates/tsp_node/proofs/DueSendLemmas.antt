@@ -128,16 +128,16 @@ of_port : {row : Row} {x : ℕ} {port : Port} {before after : Part × ClockValue
 of_port d = record { acts = d.acts; stands = d.stands }
 
 -- a send is given up
-gave_first : {x : ℕ} {port : Port} (q : PeerId) (before : PortValue) (station : Station) {old new : List Placed} → Performs StandsStill StandsStill (puts (GaveAct q)) x port (before.station, tt) (station, tt) old new →
+gave_first : {x : ℕ} {port : Port} (q : PeerId) (before : PortValue) (station : Station) {old new : List Placed} → Performs StandsStill StandsStill (puts (GaveAct q)) x port before.station station old new →
     Performs PortBegun PortBegun (puts (GaveAct q)) x port before (record before { station = station }) old new
 unfolding puts
 gave_first {x = x} q before station d = record {
-  acts = λ past h. d.acts past (record { first = h.stands.station; second = h.still });
+  acts = λ past h. d.acts past (record { stands = h.stands.station; still = h.still });
   stands = λ past h.
-      let s = d.stands past (record { first = h.stands.station; second = h.still }) in
+      let s = d.stands past (record { stands = h.stands.station; still = h.still }) in
       record {
         stands = record {
-          station = s.first;
+          station = s.stands;
           last = record { tick_is = h.stands.last.tick_is; taken_is = h.stands.last.taken_is; name_is = h.stands.last.name_is };
           master = MasterStands_quiet (GaveAct q) refl x past before.master h.stands.master;
           resolve = record { many = h.stands.resolve.many; rivals = h.stands.resolve.rivals; empty = h.stands.resolve.empty };
@@ -145,7 +145,7 @@ gave_first {x = x} q before station d = record {
           clock = record { offset_is = h.stands.clock.offset_is; rest_is = h.stands.clock.rest_is; at_is = h.stands.clock.at_is; ticket_is = h.stands.clock.ticket_is };
         };
         untaken = h.untaken;
-        still = s.second;
+        still = s.still;
       };
 }
 
@@ -176,31 +176,31 @@ due_repeats q s is due fresh d =
 
 -- a send is given up, and a slave that didn't acknowledge a correction leaves
 pub Performs_gave : {x : ℕ} {port : Port} {before after : Part × ClockValue} {old mid new : List Placed} (last : Option PeerId) (q : PeerId) (k : Kind) → RepeatsNext last x before.0.station.sends after.0.station.sends (Some (Gave q k)) →
-    after.0.last ≡ before.0.last → after.0.resolve ≡ before.0.resolve → after.0.dates ≡ before.0.dates → after.1 ≡ before.1 → Performs StandsStill StandsStill (bare_send q) x port (before.0.station, tt) (after.0.station, tt) old mid →
+    after.0.last ≡ before.0.last → after.0.resolve ≡ before.0.resolve → after.0.dates ≡ before.0.dates → after.1 ≡ before.1 → Performs StandsStill StandsStill (bare_send q) x port before.0.station after.0.station old mid →
     Performs MasterStands MasterStands (leaves_after q k) x port before.0.master after.0.master mid new → Performs PartBegun PartBegun (due_send q) x port before after old new
 Performs_gave {x = x} {port = port} {before = before} {after = after} {old = old} {mid = mid} {new = new} last q k t e u v f bare leave =
     let g = given_of last x before.0.station.sends after.0.station.sends q k t in
-    let gave = Performs_same (puts (GaveAct q)) (λ past h. bare_gives q g.s x past (sym (h.first.sends q) ∙ g.sending) g.due g.spent) bare in
+    let gave = Performs_same (puts (GaveAct q)) (λ past h. bare_gives q g.s x past (sym (h.stands.sends q) ∙ g.sending) g.due g.spent) bare in
     let whole = Performs_then (gave_first q (port_in before) after.0.station gave) (leaves_next q k (record (port_in before) { station = after.0.station }) after.0.master leave) in
     of_port (due_gives q g.s k g.sending g.due g.spent g.kind (rw (e, u, v, f) whole))
 
 -- a send is posted again
 pub Performs_again : {x : ℕ} {port : Port} {before after : Part × ClockValue} {old new : List Placed} (last : Option PeerId) (q : PeerId) (m : MessageValue) → RepeatsNext last x before.0.station.sends after.0.station.sends (Some (Again q m)) →
-    after.0.last ≡ before.0.last → after.0.resolve ≡ before.0.resolve → after.0.dates ≡ before.0.dates → after.1 ≡ before.1 → Performs StandsStill StandsStill (bare_send q) x port (before.0.station, tt) (after.0.station, tt) old new →
+    after.0.last ≡ before.0.last → after.0.resolve ≡ before.0.resolve → after.0.dates ≡ before.0.dates → after.1 ≡ before.1 → Performs StandsStill StandsStill (bare_send q) x port before.0.station after.0.station old new →
     ((past : Past) → acting past.seen ≡ false → MasterStands past before.0.master → MasterStands (grown x past (Post (Peer q) (Message m) ∷ [])) after.0.master) → Performs PartBegun PartBegun (due_send q) x port before after old new
 unfolding repeats puts
 Performs_again {x = x} {before = before} {after = after} last q m t e u v f bare master =
     let g = again_of last x before.0.station.sends after.0.station.sends q m t in
-    let again = rw g.message at (Performs_same (repeats q g.s.message) (λ past h. bare_repeats q g.s x past (sym (h.first.sends q) ∙ g.sending) g.due g.fresh) bare) in
+    let again = rw g.message at (Performs_same (repeats q g.s.message) (λ past h. bare_repeats q g.s x past (sym (h.stands.sends q) ∙ g.sending) g.due g.fresh) bare) in
     let put : Emits beside_sorts (puts (Post (Peer q) (Message m))) = Emits_puts (Post (Peer q) (Message m)) (posts-beside m.kind) in
     of_port (due_repeats q g.s g.sending g.due g.fresh (rw g.message (record {
-      acts = λ past h. again.acts past (record { first = h.stands.station; second = h.still });
+      acts = λ past h. again.acts past (record { stands = h.stands.station; still = h.still });
       stands = λ past h.
-          let s = again.stands past (record { first = h.stands.station; second = h.still }) in
+          let s = again.stands past (record { stands = h.stands.station; still = h.still }) in
           record {
-            stands = record { station = s.first; last = rw e (Remembers_by (puts (Post (Peer q) (Message m))) put x past before.0.last h.stands.last); master = master past h.still h.stands.master; resolve = rw u (record { many = h.stands.resolve.many; rivals = h.stands.resolve.rivals; empty = h.stands.resolve.empty }); dates = rw v (DatesStand_post (Peer q) m x past before.0.dates (and-false (is_set_date_request m.kind) (acting past.seen) h.still) h.stands.dates); clock = rw f (ClockStands_by (puts (Post (Peer q) (Message m))) put x past before.1 h.stands.clock) };
+            stands = record { station = s.stands; last = rw e (Remembers_by (puts (Post (Peer q) (Message m))) put x past before.0.last h.stands.last); master = master past h.still h.stands.master; resolve = rw u (record { many = h.stands.resolve.many; rivals = h.stands.resolve.rivals; empty = h.stands.resolve.empty }); dates = rw v (DatesStand_post (Peer q) m x past before.0.dates (and-false (is_set_date_request m.kind) (acting past.seen) h.still) h.stands.dates); clock = rw f (ClockStands_by (puts (Post (Peer q) (Message m))) put x past before.1 h.stands.clock) };
             untaken = h.untaken;
-            still = s.second;
+            still = s.still;
           };
     })))
 

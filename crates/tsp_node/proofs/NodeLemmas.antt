@@ -13,7 +13,7 @@ use Rattle.tsp_base.specs.declared.role.Role.{Role}
 use Rattle.tsp_base.specs.declared.role.Role.TheVariants.{Master as MasterRole}
 use Rattle.tsp_base.specs.declared.stamp.Stamp.TheVariants.{Reply}
 use Rattle.tsp_base.specs.History.{Acts, Begins, Deed, Elsewhere, Here, Past, Seen}
-use Rattle.tsp_base.specs.Performs.{Beside, Performs, Keeps}
+use Rattle.tsp_base.specs.Performs.{Performs, Keeps}
 use Rattle.tsp_base.specs.PortFacts.{Received, acting, acting_after, role, said, taken, taken_after}
 use Rattle.tsp_base.specs.Rows.{Row, nothing, puts, grown}
 use Rattle.tsp_base.specs.Stamps.{ReplyValue}
@@ -32,7 +32,7 @@ use Rattle.tsp_slave.specs.SlaveStands.{SlaveStands}
 use Rattle.tsp_slave.proofs.BesideLemmas.{beside_sorts, ClockStands_by, Remembers_by}
 use Rattle.tsp_master.specs.declared.master.Master.{Master}
 use Rattle.tsp_master.specs.Clearing.{Clears}
-use Rattle.tsp_master.specs.MasterStands.{MasterStands, LeadStands}
+use Rattle.tsp_master.specs.MasterStands.{MasterStands, LeadStands, OwnStands}
 use Rattle.tsp_master.proofs.TableLemmas.{MasterStands_quiet, quiet_sorts}
 use Rattle.tsp_master.proofs.TurnLemmas.{MasterStands_parted}
 use Rattle.tsp_date.specs.Dates.{DatesValue}
@@ -158,25 +158,25 @@ Performs_took d = Performs_from {p = PartStands} (λ past h. h.stands) d
 
 -- the dates are left alone by what passes none on
 pub dates_aside : {r : Received} (row : Row) (x : ℕ) (past : Past) (both : Part × ClockValue) → Keeps DatesAside row → passes_date (said (Some r)) ≡ false → PartTook r past both → DatesStand (grown x past (row x past)) both.0.dates
-dates_aside row x past both keep none h = (keep x past (both.0.dates, tt) (record { first = h.stands.dates; second = ap (λ t. passes_date (said t)) h.took ∙ none })).first
+dates_aside row x past both keep none h = (keep x past both.0.dates (record { stands = h.stands.dates; none = ap (λ t. passes_date (said t)) h.took ∙ none })).stands
 
 -- what changes but a port's station, what it remembers and the clock, by what was taken
 pub Performs_heard : {r : Received} {row : Row} {x : ℕ} {port : Port} {before after : Part × ClockValue} {old new : List Placed} → after.0.dates ≡ before.0.dates → Keeps DatesAside row → passes_date (said (Some r)) ≡ false →
     ((past : Past) → PartStands past before → Stands (grown x past (row x past)) after.0.station → MasterStands (grown x past (row x past)) after.0.master) →
     ((past : Past) → PartStands past before → Stands (grown x past (row x past)) after.0.station → ResolveStands (grown x past (row x past)) after.0.resolve) →
-    ((took : Option Received) → took ≡ Some r → Performs SlaveStands SlaveStands row x port (before.0.station, (before.0.last, (before.1, took))) (after.0.station, (after.0.last, (after.1, took))) old new) →
+    ((took : Option Received) → took ≡ Some r → Performs SlaveStands SlaveStands row x port (record { station = before.0.station; last = before.0.last; clock = before.1; took = took }) (record { station = after.0.station; last = after.0.last; clock = after.1; took = took }) old new) →
     Performs (PartTook r) PartStands row x port before after old new
 Performs_heard {r = r} {row = row} {x = x} {before = before} same keep none master resolve d = record {
-  acts = λ past h. (d (Some r) refl).acts past (record { first = h.stands.station; second = record { first = h.stands.last; second = record { first = h.stands.clock; second = h.took } } });
+  acts = λ past h. (d (Some r) refl).acts past (record { station = h.stands.station; last = h.stands.last; clock = h.stands.clock; took = h.took });
   stands = λ past h.
-      let s = (d (Some r) refl).stands past (record { first = h.stands.station; second = record { first = h.stands.last; second = record { first = h.stands.clock; second = h.took } } }) in
+      let s = (d (Some r) refl).stands past (record { station = h.stands.station; last = h.stands.last; clock = h.stands.clock; took = h.took }) in
       record {
-        station = s.first;
-        last = s.second.first;
-        master = master past h.stands s.first;
-        resolve = resolve past h.stands s.first;
+        station = s.station;
+        last = s.last;
+        master = master past h.stands s.station;
+        resolve = resolve past h.stands s.station;
         dates = rw same (dates_aside row x past before keep none h);
-        clock = s.second.second.first;
+        clock = s.clock;
       };
 }
 
@@ -196,36 +196,36 @@ acted (Elsewhere d ∷ before) r e = acted before r e
 -- what a master makes of what was taken
 pub Performs_led : {r : Received} {row : Row} {x : ℕ} {port : Port} {before after : Part × ClockValue} {old new : List Placed} → after.0.last ≡ before.0.last → after.0.resolve ≡ before.0.resolve → after.0.dates ≡ before.0.dates →
     Emits beside_sorts row → Emits unchanging row → Keeps DatesStand row →
-    Performs LeadStands LeadStands row x port (before.0.master, ((before.0.station, tt), before.1)) (after.0.master, ((after.0.station, tt), after.1)) old new → Performs (PartTook r) PartStands row x port before after old new
+    Performs LeadStands LeadStands row x port (record { master = before.0.master; station = before.0.station; clock = before.1 }) (record { master = after.0.master; station = after.0.station; clock = after.1 }) old new → Performs (PartTook r) PartStands row x port before after old new
 Performs_led {r = r} {row = row} {x = x} {before = before} e f g k u keep d = record {
   acts = λ past h. d.acts past (lead past h);
   stands = λ past h.
       let s = d.stands past (lead past h) in
       record {
-        station = s.second.first.first;
+        station = s.station;
         last = rw e (Remembers_by row k x past before.0.last h.stands.last);
-        master = s.first;
+        master = s.master;
         resolve = rw f (ResolveStands_by row u x past before.0.resolve h.stands.resolve);
         dates = rw g (keep x past before.0.dates h.stands.dates);
-        clock = s.second.second;
+        clock = s.clock;
       };
 } where
-  lead : (past : Past) → PartTook r past before → LeadStands past (before.0.master, ((before.0.station, tt), before.1))
-  lead past h = record { first = h.stands.master; second = record { first = record { first = h.stands.station; second = acted past.seen r h.took }; second = h.stands.clock } }
+  lead : (past : Past) → PartTook r past before → LeadStands past (record { master = before.0.master; station = before.0.station; clock = before.1 })
+  lead past h = record { master = h.stands.master; station = h.stands.station; acted = acted past.seen r h.took; clock = h.stands.clock }
 
 -- what is done about rivals
 pub Performs_resolved : {row : Row} {x : ℕ} {port : Port} {before after : Part × ClockValue} {old new : List Placed} → after.0.last ≡ before.0.last → after.0.master ≡ before.0.master → after.0.dates ≡ before.0.dates → after.1 ≡ before.1 →
     Emits beside_sorts row → Emits quiet_sorts row → Keeps DatesStand row →
-    Performs ResolvingStands ResolvingStands row x port (before.0.resolve, before.0.station) (after.0.resolve, after.0.station) old new → Performs PartStands PartStands row x port before after old new
+    Performs ResolvingStands ResolvingStands row x port (record { resolve = before.0.resolve; station = before.0.station }) (record { resolve = after.0.resolve; station = after.0.station }) old new → Performs PartStands PartStands row x port before after old new
 Performs_resolved {row = row} {x = x} {before = before} e m g f k q keep d = record {
-  acts = λ past h. d.acts past (record { first = h.resolve; second = h.station });
+  acts = λ past h. d.acts past (record { resolve = h.resolve; station = h.station });
   stands = λ past h.
-      let s = d.stands past (record { first = h.resolve; second = h.station }) in
+      let s = d.stands past (record { resolve = h.resolve; station = h.station }) in
       record {
-        station = s.second;
+        station = s.station;
         last = rw e (Remembers_by row k x past before.0.last h.last);
         master = rw m (Keeps_by quiet_sorts MasterStands row MasterStands_quiet q x past before.0.master h.master);
-        resolve = s.first;
+        resolve = s.resolve;
         dates = rw g (keep x past before.0.dates h.dates);
         clock = rw f (ClockStands_by row k x past before.1 h.clock);
       };
@@ -282,15 +282,15 @@ no_lead both r n e h f = n (sym e ∙ h.station.role ∙ f)
 -- an answer ends a send
 pub Performs_acknowledged : {r : Received} {row : Row} {x : ℕ} {port : Port} {before after : Part × ClockValue} {old new : List Placed} → after.0.last ≡ before.0.last → after.0.resolve ≡ before.0.resolve → after.0.dates ≡ before.0.dates → after.1 ≡ before.1 →
     Emits (Acking ∷ []) row →
-    Performs (Beside MasterStands Stands) (Beside MasterStands Stands) row x port (before.0.master, before.0.station) (after.0.master, after.0.station) old new → Performs (PartTook r) PartStands row x port before after old new
+    Performs OwnStands OwnStands row x port (record { master = before.0.master; station = before.0.station }) (record { master = after.0.master; station = after.0.station }) old new → Performs (PartTook r) PartStands row x port before after old new
 Performs_acknowledged {row = row} {x = x} {before = before} e u g f k d = record {
-  acts = λ past h. d.acts past (record { first = h.stands.master; second = h.stands.station });
+  acts = λ past h. d.acts past (record { master = h.stands.master; station = h.stands.station });
   stands = λ past h.
-      let s = d.stands past (record { first = h.stands.master; second = h.stands.station }) in
+      let s = d.stands past (record { master = h.stands.master; station = h.stands.station }) in
       record {
-        station = s.second;
+        station = s.station;
         last = rw e (Remembers_by row (Emits_more (Acking ∷ []) refl k) x past before.0.last h.stands.last);
-        master = s.first;
+        master = s.master;
         resolve = rw u (ResolveStands_by row (Emits_more (Acking ∷ []) refl k) x past before.0.resolve h.stands.resolve);
         dates = rw g (DatesStand_by row (Emits_more (Acking ∷ []) refl k) x past before.0.dates h.stands.dates);
         clock = rw f (ClockStands_by row (Emits_more (Acking ∷ []) refl k) x past before.1 h.stands.clock);
@@ -299,14 +299,14 @@ Performs_acknowledged {row = row} {x = x} {before = before} e u g f k d = record
 
 -- a port answers a client, which changes nothing but the trace
 pub Performs_named_by : {r : Received} {row : Row} {x : ℕ} {port : Port} {before after : Part × ClockValue} {old new : List Placed} → after.0.master ≡ before.0.master → after.0.resolve ≡ before.0.resolve → after.0.dates ≡ before.0.dates → after.1 ≡ before.1 → Emits (Posting ∷ []) row →
-    Performs NamingStands NamingStands row x port (before.0.station, before.0.last) (after.0.station, after.0.last) old new → Performs (PartTook r) PartStands row x port before after old new
+    Performs NamingStands NamingStands row x port (record { station = before.0.station; last = before.0.last }) (record { station = after.0.station; last = after.0.last }) old new → Performs (PartTook r) PartStands row x port before after old new
 Performs_named_by {row = row} {x = x} {before = before} m u v f k d = record {
-  acts = λ past h. d.acts past (record { first = h.stands.station; second = h.stands.last });
+  acts = λ past h. d.acts past (record { station = h.stands.station; last = h.stands.last });
   stands = λ past h.
-      let s = d.stands past (record { first = h.stands.station; second = h.stands.last }) in
+      let s = d.stands past (record { station = h.stands.station; last = h.stands.last }) in
       record {
-        station = s.first;
-        last = s.second;
+        station = s.station;
+        last = s.last;
         master = rw m (Keeps_by quiet_sorts MasterStands row MasterStands_quiet (Emits_more (Posting ∷ []) refl k) x past before.0.master h.stands.master);
         resolve = rw u (ResolveStands_by row (Emits_more (Posting ∷ []) refl k) x past before.0.resolve h.stands.resolve);
         dates = rw v (DatesStand_by row (Emits_more (Posting ∷ []) refl k) x past before.0.dates h.stands.dates);
@@ -316,21 +316,21 @@ Performs_named_by {row = row} {x = x} {before = before} m u v f k d = record {
 
 pub Performs_turned_by : {r : Received} {row : Row} {x : ℕ} {port : Port} {before after : Part × ClockValue} {was is : Bool} {old new : List Placed} → after.0.last ≡ before.0.last → after.0.master ≡ before.0.master → after.0.resolve ≡ before.0.resolve → after.0.dates ≡ before.0.dates →
     after.1 ≡ before.1 → Emits (Tracing ∷ Posting ∷ []) row →
-    Performs TracingStands TracingStands row x port (before.0.station, was) (after.0.station, is) old new → Performs (TookStands r) TakeStands row x port (before, was) (after, is) old new
+    Performs TracingStands TracingStands row x port (record { station = before.0.station; on = was }) (record { station = after.0.station; on = is }) old new → Performs (TookStands r) TakeStands row x port (before, was) (after, is) old new
 Performs_turned_by {row = row} {x = x} {before = before} l m u v f k d = record {
-  acts = λ past h. d.acts past (record { first = h.first.stands.station; second = h.second });
+  acts = λ past h. d.acts past (record { station = h.first.stands.station; trace = h.second });
   stands = λ past h.
-      let s = d.stands past (record { first = h.first.stands.station; second = h.second }) in
+      let s = d.stands past (record { station = h.first.stands.station; trace = h.second }) in
       record {
         first = record {
-          station = s.first;
+          station = s.station;
           last = rw l (Remembers_by row (Emits_more (Tracing ∷ Posting ∷ []) refl k) x past before.0.last h.first.stands.last);
           master = rw m (Keeps_by quiet_sorts MasterStands row MasterStands_quiet (Emits_more (Tracing ∷ Posting ∷ []) refl k) x past before.0.master h.first.stands.master);
           resolve = rw u (ResolveStands_by row (Emits_more (Tracing ∷ Posting ∷ []) refl k) x past before.0.resolve h.first.stands.resolve);
           dates = rw v (DatesStand_by row (Emits_more (Tracing ∷ Posting ∷ []) refl k) x past before.0.dates h.first.stands.dates);
           clock = rw f (ClockStands_by row (Emits_more (Tracing ∷ Posting ∷ []) refl k) x past before.1 h.first.stands.clock);
         };
-        second = s.second;
+        second = s.trace;
       };
 }
 
@@ -338,11 +338,11 @@ Performs_turned_by {row = row} {x = x} {before = before} l m u v f k d = record 
 pub Performs_acting_by : {r : Received} {row : Row} {x : ℕ} {port : Port} {before after : Part × ClockValue} {old new : List Placed} → after.0.last ≡ before.0.last → after.1 ≡ before.1 → after.0.dates ≡ before.0.dates → Emits beside_sorts row → Keeps DatesStand row →
     ((past : Past) → PartStands past before → Stands (grown x past (row x past)) after.0.station → MasterStands (grown x past (row x past)) after.0.master) →
     ((past : Past) → PartStands past before → Stands (grown x past (row x past)) after.0.station → ResolveStands (grown x past (row x past)) after.0.resolve) →
-    Performs StandsActing StandsActing row x port (before.0.station, tt) (after.0.station, tt) old new → Performs (PartTook r) PartStands row x port before after old new
+    Performs StandsActing StandsActing row x port before.0.station after.0.station old new → Performs (PartTook r) PartStands row x port before after old new
 Performs_acting_by {r = r} {row = row} {x = x} {before = before} e f g k keep master resolve d = record {
-  acts = λ past h. d.acts past (record { first = h.stands.station; second = acted past.seen r h.took });
+  acts = λ past h. d.acts past (record { stands = h.stands.station; acted = acted past.seen r h.took });
   stands = λ past h.
-      let s = (d.stands past (record { first = h.stands.station; second = acted past.seen r h.took })).first in
+      let s = (d.stands past (record { stands = h.stands.station; acted = acted past.seen r h.took })).stands in
       record {
         station = s;
         last = rw e (Remembers_by row k x past before.0.last h.stands.last);
@@ -356,26 +356,25 @@ Performs_acting_by {r = r} {row = row} {x = x} {before = before} e f g k keep ma
 -- a date is set, passed on or answered
 pub Performs_dated : {r : Received} {row : Row} {x : ℕ} {port : Port} {before after : Part × ClockValue} {old new : List Placed} (corrected : Bool) → after.0.last ≡ moved_where corrected x before.0.last → after.0.resolve ≡ before.0.resolve → Emits date_sorts row →
     ((took : Option Received) → took ≡ Some r →
-    Performs DateStands DateStands row x port (before.0.dates, (before.0.master, (before.0.station, (before.0.last, (before.1, took))))) (after.0.dates, (after.0.master, (after.0.station, (moved_where corrected x before.0.last, (after.1, took))))) old new) →
+    Performs DateStands DateStands row x port
+    (record { dates = before.0.dates; master = before.0.master; station = before.0.station; last = before.0.last; clock = before.1; took = took })
+    (record { dates = after.0.dates; master = after.0.master; station = after.0.station; last = moved_where corrected x before.0.last; clock = after.1; took = took }) old new) →
     Performs (PartTook r) PartStands row x port before after old new
 Performs_dated {r = r} {row = row} {x = x} {before = before} corrected e f k d = record {
   acts = λ past h. (d (Some r) refl).acts past (dated past h);
   stands = λ past h.
       let s = (d (Some r) refl).stands past (dated past h) in
       record {
-        station = s.second.second.first;
-        last = rw e s.second.second.second.first;
-        master = s.second.first;
+        station = s.station;
+        last = rw e s.last;
+        master = s.master;
         resolve = rw f (ResolveStands_by row (Emits_more date_sorts refl k) x past before.0.resolve h.stands.resolve);
-        dates = s.first;
-        clock = s.second.second.second.second.first;
+        dates = s.dates;
+        clock = s.clock;
       };
 } where
-  dated : (past : Past) → PartTook r past before → DateStands past (before.0.dates, (before.0.master, (before.0.station, (before.0.last, (before.1, Some r)))))
-  dated past h = record {
-    first = h.stands.dates;
-    second = record { first = h.stands.master; second = record { first = h.stands.station; second = record { first = h.stands.last; second = record { first = h.stands.clock; second = h.took } } } };
-  }
+  dated : (past : Past) → PartTook r past before → DateStands past (record { dates = before.0.dates; master = before.0.master; station = before.0.station; last = before.0.last; clock = before.1; took = Some r })
+  dated past h = record { dates = h.stands.dates; master = h.stands.master; station = h.stands.station; last = h.stands.last; clock = h.stands.clock; took = h.took }
 
 -- nothing is done with what was taken, and the trace stays
 pub took_pass : {r : Received} {x : ℕ} {port : Port} {state : (Part × ClockValue) × Bool} {old : List Placed} → Performs (TookStands r) TakeStands nothing x port state state old old

@@ -43,18 +43,18 @@ to_be_candidate-is x past station s = rw (s.alarms, s.may, s.hold, s.own) refl
 
 -- a station whose Elect has rung in this step, of a node that may stand
 record Ready (x : ℕ) (past : Past) (station : Station) : Type 0 where
-  pub acting : StandsActing past (station, tt)
+  pub acting : StandsActing past station
   pub may : may_stand_at x past ≡ true
 
 -- a node that stands
 pub Performs_stands : {x : ℕ} {port : Port} {before mid after : Station} {old middle new : List Placed} → ((past : Past) → Stands past before → (is_in_time Elect x past && may_stand_at x past) ≡ true) →
-    Performs Stands Stands (puts (Ring Elect)) x port before mid old middle → Performs StandsActing StandsActing candidature_row x port (mid, tt) (after, tt) middle new → Performs Stands Stands elect_rings x port before after old new
+    Performs Stands Stands (puts (Ring Elect)) x port before mid old middle → Performs StandsActing StandsActing candidature_row x port mid after middle new → Performs Stands Stands elect_rings x port before after old new
 unfolding elect_rings puts
 Performs_stands {x = x} {port = port} {before = before} {mid = mid} {old = old} {middle = middle} t ring stand =
     Performs_then_part (is_in_time Elect) (puts (Late Elect) followed_by arms_elect) (λ past s. first_true (is_in_time Elect x past) (may_stand_at x past) (t past s))
-    (Performs_then rung (Performs_then_part may_stand_at (loosens followed_by searches) (λ past r. r.may) (Performs_from {p = StandsActing} (λ past r. r.acting) (Performs_to {q = StandsActing} (λ past h. h.first) stand)))) where
+    (Performs_then rung (Performs_then_part may_stand_at (loosens followed_by searches) (λ past r. r.may) (Performs_from {p = StandsActing} (λ past r. r.acting) (Performs_to {q = StandsActing} (λ past h. h.stands) stand)))) where
       rung : Performs Stands (Ready x) (puts (Ring Elect)) x port before mid old middle
       rung = record {
         acts = ring.acts;
-        stands = λ past s. record { acting = record { first = ring.stands past s; second = refl }; may = second_true (is_in_time Elect x past) (may_stand_at x past) (t past s) };
+        stands = λ past s. record { acting = record { stands = ring.stands past s; acted = refl }; may = second_true (is_in_time Elect x past) (may_stand_at x past) (t past s) };
       }

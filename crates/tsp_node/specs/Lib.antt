@@ -1,5 +1,6 @@
 pub mod Audiences
 pub mod Configs
+pub mod Dues
 pub mod Inputs
 pub mod NodeStands
 pub mod RoleAlarms

@@ -14,7 +14,9 @@ ghost use Rattle.tsp_node.specs.RoleAlarms.{is_of_slave};
 
 use crate::part::Part;
 use crate::ringing::{ring_slave, wait_round};
+use crate::terms::RingTerms;
 use tsp_base::alarm::Alarm;
+use tsp_base::at::At;
 use tsp_base::desk::Desk;
 use tsp_base::place::Port;
 use tsp_candidate::ring::candidate_ring;
@@ -23,38 +25,35 @@ use tsp_clock::clock::Clock;
 impl Part {
     ghost use Rattle.tsp_node.specs.NodeStands.{PartUntaken};
 
-    /// Handles one alarm where it is due, and says whether that corrected the clock. `group_mean` says
-    /// whether a Close moves the node's clock by the group's mean; where it is false, the Close uses the mean
-    /// 0 and doesn't move the clock. `wait` says whether a Round that is in time is put off for `WAIT`
-    /// ticks. The caller handles a due Probe before the Close.
+    /// Handles one alarm where it is due, and says whether that corrected the clock. The caller handles a due
+    /// Probe before the Close.
     pub fn ring<D: Desk>(
         &mut self,
         clock: &mut Clock,
         alarm: Alarm,
-        group_mean: bool,
-        wait: bool,
-        tick: u64,
-        port: Port,
+        terms: RingTerms,
         desk: &mut D,
     ) -> bool
-        requires tick { IsTick tick }
-        requires later { clock.old.at ≤ tick }
-        requires order { alarm ≡ Close → is_over self.old.station.alarms.probe tick ≡ false }
+        requires tick { IsTick terms.at.tick }
+        requires later { clock.old.at ≤ terms.at.tick }
+        requires order { alarm ≡ Close
+            → is_over self.old.station.alarms.probe terms.at.tick ≡ false }
         requires room { 2 * length self.old.station.peers + 16 ≤ D.spare desk.old }
-        ensures row { Performs PartUntaken PartUntaken (rings group_mean wait alarm) tick port
-            (self.old, clock.old) (self.new, clock.new) (D.acts desk.old) (D.acts desk.new) }
+        ensures row { Performs PartUntaken PartUntaken (rings terms.group_mean terms.wait alarm)
+            terms.at.tick terms.at.port (self.old, clock.old) (self.new, clock.new)
+            (D.acts desk.old) (D.acts desk.new) }
         ensures corrects { (past : Past) → PartUntaken past (self.old, clock.old)
-            → result ≡ corrects (rings group_mean wait alarm tick past) }
-        ensures over { alarm ≡ Probe → is_over self.new.station.alarms.probe tick ≡ false }
-        ensures clock { clock.new.at ≤ tick }
+            → result ≡ corrects (rings terms.group_mean terms.wait alarm terms.at.tick past) }
+        ensures over { alarm ≡ Probe → is_over self.new.station.alarms.probe terms.at.tick ≡ false }
+        ensures clock { clock.new.at ≤ terms.at.tick }
         ensures peers { self.new.station.peers ≡ self.old.station.peers }
         ensures room { PutsAtMost (2 * length self.old.station.peers + 4) (D.spare desk.old)
             (D.spare desk.new) (D.acts desk.old) (D.acts desk.new) }
     {
-        if !self.station.is_due(alarm, tick) {
+        if !self.station.is_due(alarm, terms.at.tick) {
             return false;
         }
-        self.ring_due(clock, alarm, group_mean, wait, tick, port, desk)
+        self.ring_due(clock, alarm, terms, desk)
     }
 
     /// Handles an alarm that is due.
@@ -62,36 +61,36 @@ impl Part {
         &mut self,
         clock: &mut Clock,
         alarm: Alarm,
-        group_mean: bool,
-        wait: bool,
-        tick: u64,
-        port: Port,
+        terms: RingTerms,
         desk: &mut D,
     ) -> bool
-        requires tick { IsTick tick }
-        requires later { clock.old.at ≤ tick }
-        requires due { is_over (deadline self.old.station.alarms alarm) tick ≡ true }
-        requires order { alarm ≡ Close → is_over self.old.station.alarms.probe tick ≡ false }
+        requires tick { IsTick terms.at.tick }
+        requires later { clock.old.at ≤ terms.at.tick }
+        requires due { is_over (deadline self.old.station.alarms alarm) terms.at.tick ≡ true }
+        requires order { alarm ≡ Close
+            → is_over self.old.station.alarms.probe terms.at.tick ≡ false }
         requires room { 2 * length self.old.station.peers + 4 ≤ D.spare desk.old }
-        ensures row { Performs PartUntaken PartUntaken (alarm_rings group_mean wait alarm) tick port
+        ensures row { Performs PartUntaken PartUntaken
+            (alarm_rings terms.group_mean terms.wait alarm) terms.at.tick terms.at.port
             (self.old, clock.old) (self.new, clock.new) (D.acts desk.old) (D.acts desk.new) }
         ensures corrects { (past : Past) → PartUntaken past (self.old, clock.old)
-            → result ≡ corrects (alarm_rings group_mean wait alarm tick past) }
-        ensures over { alarm ≡ Probe → is_over self.new.station.alarms.probe tick ≡ false }
-        ensures clock { clock.new.at ≤ tick }
+            → result ≡ corrects (alarm_rings terms.group_mean terms.wait alarm terms.at.tick past) }
+        ensures over { alarm ≡ Probe → is_over self.new.station.alarms.probe terms.at.tick ≡ false }
+        ensures clock { clock.new.at ≤ terms.at.tick }
         ensures peers { self.new.station.peers ≡ self.old.station.peers }
         ensures room { PutsAtMost (2 * length self.old.station.peers + 4) (D.spare desk.old)
             (D.spare desk.new) (D.acts desk.old) (D.acts desk.new) }
     {
+        let At { tick, port } = terms.at;
         match alarm {
-            Alarm::Probe => self.ring_round(clock, alarm, group_mean, tick, port, desk),
-            Alarm::Close => self.ring_round(clock, alarm, group_mean, tick, port, desk),
+            Alarm::Probe => self.ring_round(clock, alarm, terms.group_mean, tick, port, desk),
+            Alarm::Close => self.ring_round(clock, alarm, terms.group_mean, tick, port, desk),
             Alarm::Round => {
-                if wait {
+                if terms.wait {
                     wait_round(&mut self.station, tick, port, desk);
                     false
                 } else {
-                    self.ring_round(clock, alarm, group_mean, tick, port, desk)
+                    self.ring_round(clock, alarm, terms.group_mean, tick, port, desk)
                 }
             }
             Alarm::Window => {

@@ -23,6 +23,7 @@ ghost use Rattle.tsp_node.specs.NodeStands.{PartStands, PartTook, TakeStands, To
 
 use crate::audience::{Audience, audience_of};
 use crate::part::Part;
+use crate::terms::TakeTerms;
 use tsp_base::at::At;
 use tsp_base::desk::Desk;
 use tsp_base::kind::Kind;
@@ -37,40 +38,36 @@ use tsp_slave::quit::take_quit;
 use tsp_slave::take::slave_take;
 
 impl Part {
-    /// Handles a message: some may come from anybody, others only from a peer. Where the port doesn't steer the
-    /// clock, it ignores the corrections of the master that it follows.
+    /// Handles a message: some may come from anybody, others only from a peer.
     pub(crate) fn hear<D: Desk>(
         &mut self,
         clock: &mut Clock,
         tracing: &mut bool,
-        steer: bool,
-        charge: bool,
-        tick: u64,
+        terms: TakeTerms,
         from: Place,
         m: &Message,
-        port: Port,
         desk: &mut D,
     )
         requires room { 2 * length self.old.station.peers + 10 ≤ D.spare desk.old }
-        requires tick { IsTick tick }
-        requires later { clock.old.at ≤ tick }
+        requires tick { IsTick terms.at.tick }
+        requires later { clock.old.at ≤ terms.at.tick }
         ensures row { Performs (TookStands (record { from = from; taken = Good (MessageOf m.now) }))
-            TakeStands (either_by (is_left steer m.now.kind) nothing (handles_kind charge from m.now
-            m.now.kind)) tick port ((self.old, clock.old), tracing.old) (
-              (self.new, clock.new),
-              tracing.new,
-            ) (D.acts desk.old) (D.acts desk.new) }
+            TakeStands (either_by (is_left terms.steer m.now.kind) nothing
+            (handles_kind terms.charge from m.now m.now.kind)) terms.at.tick terms.at.port
+            ((self.old, clock.old), tracing.old) ((self.new, clock.new), tracing.new)
+            (D.acts desk.old) (D.acts desk.new) }
         ensures peers { self.new.station.peers ≡ self.old.station.peers }
-        ensures clock { clock.new.at ≤ tick }
+        ensures clock { clock.new.at ≤ terms.at.tick }
         ensures room { PutsAtMost (2 * length self.old.station.peers + 10) (D.spare desk.old)
             (D.spare desk.new) (D.acts desk.old) (D.acts desk.new) }
     {
-        if leaves(self.station.role, steer, m.kind()) {
+        if leaves(self.station.role, terms.steer, m.kind()) {
             return;
         }
+        let At { tick, port } = terms.at;
         match audience_of(m.kind()) {
             Audience::OfClients => self.answer(tracing, tick, from, m, port, desk),
-            Audience::OfDates => self.hear_date(clock, charge, tick, from, m, port, desk),
+            Audience::OfDates => self.hear_date(clock, terms.charge, terms.at, from, m, desk),
             Audience::OfNode => {}
             Audience::OfRoles => self.hear_peer(clock, tick, from, m, port, desk),
         }
@@ -81,24 +78,24 @@ impl Part {
         &mut self,
         clock: &mut Clock,
         charge: bool,
-        tick: u64,
+        at: At,
         from: Place,
         m: &Message,
-        port: Port,
         desk: &mut D,
     )
         requires room { 2 * length self.old.station.peers + 2 ≤ D.spare desk.old }
-        requires tick { IsTick tick }
-        requires later { clock.old.at ≤ tick }
+        requires tick { IsTick at.tick }
+        requires later { clock.old.at ≤ at.tick }
         requires audience { audience_of m.now.kind ≡ OfDates }
         ensures row { Performs (PartTook (record { from = from; taken = Good (MessageOf m.now) }))
-            PartStands (handles_kind charge from m.now m.now.kind) tick port (self.old, clock.old)
-            (self.new, clock.new) (D.acts desk.old) (D.acts desk.new) }
+            PartStands (handles_kind charge from m.now m.now.kind) at.tick at.port
+            (self.old, clock.old) (self.new, clock.new) (D.acts desk.old) (D.acts desk.new) }
         ensures peers { self.new.station.peers ≡ self.old.station.peers }
-        ensures clock { clock.new.at ≤ tick }
+        ensures clock { clock.new.at ≤ at.tick }
         ensures room { PutsAtMost (2 * length self.old.station.peers + 2) (D.spare desk.old)
             (D.spare desk.new) (D.acts desk.old) (D.acts desk.new) }
     {
+        let At { tick, port } = at;
         let corrected = date_take(
             &mut self.station,
             &mut self.master,

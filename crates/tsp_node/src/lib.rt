@@ -13,7 +13,7 @@
 //! ```
 //! let config = Config::new(alloc, Name::new(b"alpha"), PeerId(0), &[PeerId(0), PeerId(1)], true, false)?;
 //! let mut desk = Pad::new(alloc);
-//! desk.reserve(3)?;
+//! desk.reserve(3)?; // a boot puts 3 acts
 //! let mut node = Node::boot(alloc, &config, 0, 1_000_000, 17, &mut desk)?;
 //! assert_eq!(node.due(), 80_000_000); // the end of the quiet time
 //! desk.clear();
@@ -22,7 +22,12 @@
 //! ```
 //!
 //! A node with several ports is `Gateway` of `tsp_gateway`. Both have a [`Part`] for each port: all of its
-//! state but the clock.
+//! state but the clock. A `Part` takes octets on [`TakeTerms`] and handles alarms on [`RingTerms`], which say
+//! what the port may do to its node's clock and date.
+//!
+//! A datagram's way: `Part::take` puts Took; `handle` ignores what seems to come from the port itself; `hear`
+//! sends a message by its kind to those who answer it: clients' questions, dates, or the port's role. Each
+//! role's crate has the rest (`tsp_slave`, `tsp_candidate`, `tsp_master`).
 #![tactic(auto)]
 
 mod alarms;
@@ -39,8 +44,10 @@ mod ringing;
 mod sends;
 mod stepping;
 mod taking;
+mod terms;
 
 pub use config::{Config, is_port};
 pub use fault::BootFault;
 pub use node::Node;
 pub use part::Part;
+pub use terms::{RingTerms, TakeTerms};

@@ -33,9 +33,9 @@ impl Node {
     ghost use Rattle.tsp_node.specs.NodeStands.{NodeStands, Unbooted, peers_in, clock_at};
 
     /// Boots a node with a word, at a tick and a wall clock (microseconds since 1970): puts Boot,
-    /// Become(Starting) and Arm(Quiet). `Peers` comes exactly where the node can't have its peers, else `Range`
-    /// exactly where the wall clock isn't strictly between -2^31 and 2^31 seconds. Else it fails only if out
-    /// of memory. Where it fails, nothing is put.
+    /// Become(Starting) and Arm(Quiet). `Peers` comes exactly where the configuration's peers aren't allowed,
+    /// else `Range` exactly where the wall clock isn't strictly between -2^31 and 2^31 seconds. Else it fails
+    /// only if out of memory. Where it fails, nothing is put.
     pub fn boot<D: Desk>(
         alloc: Global,
         config: &Config,

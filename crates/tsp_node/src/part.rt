@@ -36,10 +36,15 @@ use tsp_slave::last::Last;
 /// master has: its slaves and its rivals.
 #[derive(Drop)]
 pub struct Part {
+    /// What all roles share: who the node is here, its role, its peers, its alarms and its open sends.
     pub(crate) station: Station,
+    /// When the node's clock was last corrected, and by which message of a master, if by one.
     pub(crate) last: Last,
+    /// What a master has: its slaves, its last correction of each, and its last round.
     pub(crate) master: Master,
+    /// The rivals that a master has found.
     pub(crate) resolve: Resolve,
+    /// The last date that came from each peer, and when the port last began to pass one on.
     pub(crate) dates: Dates,
     ghost same: { peers_of master.slaves ≡ station.peers },
     ghost marks: { length resolve.marks ≡ length station.peers },
@@ -73,8 +78,8 @@ impl Part {
         })
     }
 
-    /// Goes on right after the Boot, at its tick: the port is Starting until the quiet time ends. It puts two
-    /// acts.
+    /// Begins the port's life right after the node's Boot, at its tick: the port is Starting until the quiet
+    /// time ends. It puts two acts.
     pub fn begin<D: Desk>(&mut self, tick: u64, port: Port, desk: &mut D)
         requires room { 2 ≤ D.spare desk.old }
         requires tick { IsTick tick }

@@ -1,4 +1,4 @@
-//! What a caller can read of a node.
+//! What a caller can read of a node, and of a port.
 ghost use Rattle.std.specs.Prelude.{◌≡◌, ℕ, ◌≤◌, Option};
 ghost use Rattle.tsp_base.specs.Alarms.{earlier, least_deadline};
 ghost use Rattle.tsp_base.specs.Frames.{IsTick};
@@ -9,10 +9,22 @@ ghost use Rattle.tsp_base.specs.SendFacts.{open_send};
 ghost use Rattle.tsp_clock.specs.Clocks.{shown_of};
 ghost use Rattle.tsp_sends.specs.Slots.{sending_to};
 ghost use Rattle.tsp_sends.specs.Repeating.{IsEarliest};
+ghost use Rattle.tsp_node.specs.Dues.{IsPartDue};
 
 use crate::node::Node;
+use crate::part::Part;
 use tsp_base::alarms::earlier;
 use tsp_base::role::Role;
+
+impl Part {
+    /// The earliest deadline of an armed alarm or an open send, which may be in the past; None exactly where no
+    /// alarm is armed and no send open.
+    pub fn due(&self) -> Option<u64>
+        ensures { IsPartDue self.now result }
+    {
+        earlier(self.station.alarms.least(), self.station.sends.least())
+    }
+}
 
 impl Node {
     ghost use Rattle.tsp_node.specs.NodeStands.{NodeStands, clock_at, due_of};
@@ -26,8 +38,7 @@ impl Node {
             → (o : Option ℕ) × IsEarliest (λ p. open_send p past.seen) o
             × (result ≡ due_of (earlier (least_deadline (armed past.seen)) o)) }
     {
-        let station = self.part.station();
-        match earlier(station.alarms.least(), station.sends.least()) {
+        match self.part.due() {
             Some(at) => at,
             None => u64::MAX,
         }

@@ -11,47 +11,46 @@ ghost use Rattle.tsp_node.specs.NodeStands.{TakeStands, TookStands};
 
 use crate::part::Part;
 use crate::reply::reply;
+use crate::terms::TakeTerms;
 use tsp_base::act::Act;
+use tsp_base::at::At;
 use tsp_base::datagram::{Datagram, Taken};
 use tsp_base::desk::Desk;
-use tsp_base::place::{PeerId, Place, Port};
+use tsp_base::place::{PeerId, Place};
 use tsp_base::stamp::Stamp;
 use tsp_clock::clock::Clock;
 
 impl Part {
-    /// Takes what was read of octets from `from`, and says whether that corrected the clock. Where the port
-    /// doesn't `steer` its node's clock, it ignores the corrections of the master that it follows; where it
-    /// isn't in `charge` of its node's date, it sets none.
+    /// Takes what was read of octets from `from`, and says whether that corrected the clock.
     pub fn take<D: Desk>(
         &mut self,
         clock: &mut Clock,
         tracing: &mut bool,
-        steer: bool,
-        charge: bool,
-        tick: u64,
+        terms: TakeTerms,
         from: Place,
         taken: &Taken,
-        port: Port,
         desk: &mut D,
     ) -> bool
         requires room { 2 * length self.old.station.peers + 16 ≤ D.spare desk.old }
-        requires tick { IsTick tick }
-        requires later { clock.old.at ≤ tick }
-        ensures row { Performs TakeStands TakeStands (takes steer charge from taken.now) tick port
+        requires tick { IsTick terms.at.tick }
+        requires later { clock.old.at ≤ terms.at.tick }
+        ensures row { Performs TakeStands TakeStands
+            (takes terms.steer terms.charge from taken.now) terms.at.tick terms.at.port
             ((self.old, clock.old), tracing.old) ((self.new, clock.new), tracing.new)
             (D.acts desk.old) (D.acts desk.new) }
         ensures corrects { (past : Past) → TakeStands past ((self.old, clock.old), tracing.old)
-            → result ≡ corrects (takes steer charge from taken.now tick past) }
+            → result ≡ corrects
+            (takes terms.steer terms.charge from taken.now terms.at.tick past) }
         ensures peers { self.new.station.peers ≡ self.old.station.peers }
-        ensures clock { clock.new.at ≤ tick }
+        ensures clock { clock.new.at ≤ terms.at.tick }
         ensures room { PutsAtMost (2 * length self.old.station.peers + 16) (D.spare desk.old)
             (D.spare desk.new) (D.acts desk.old) (D.acts desk.new) }
     {
         let ticket = clock.ticket();
         // At most 1,000 peers, and so too few acts to correct the clock so often that its ticket is the same again.
         let _peers = self.station.peers();
-        desk.put(port, Act::Took(from, taken.copy()));
-        self.handle(clock, tracing, steer, charge, tick, from, taken, port, desk);
+        desk.put(terms.at.port, Act::Took(from, taken.copy()));
+        self.handle(clock, tracing, terms, from, taken, desk);
         clock.ticket() != ticket
     }
 
@@ -61,23 +60,20 @@ impl Part {
         &mut self,
         clock: &mut Clock,
         tracing: &mut bool,
-        steer: bool,
-        charge: bool,
-        tick: u64,
+        terms: TakeTerms,
         from: Place,
         taken: &Taken,
-        port: Port,
         desk: &mut D,
     )
         requires room { 2 * length self.old.station.peers + 10 ≤ D.spare desk.old }
-        requires tick { IsTick tick }
-        requires later { clock.old.at ≤ tick }
+        requires tick { IsTick terms.at.tick }
+        requires later { clock.old.at ≤ terms.at.tick }
         ensures row { Performs (TookStands (record { from = from; taken = taken.now })) TakeStands
-            (either_by (is_own from) nothing (handles steer charge from taken.now)) tick port
-            ((self.old, clock.old), tracing.old) ((self.new, clock.new), tracing.new)
+            (either_by (is_own from) nothing (handles terms.steer terms.charge from taken.now))
+            terms.at.tick terms.at.port ((self.old, clock.old), tracing.old) ((self.new, clock.new), tracing.new)
             (D.acts desk.old) (D.acts desk.new) }
         ensures peers { self.new.station.peers ≡ self.old.station.peers }
-        ensures clock { clock.new.at ≤ tick }
+        ensures clock { clock.new.at ≤ terms.at.tick }
         ensures room { PutsAtMost (2 * length self.old.station.peers + 10) (D.spare desk.old)
             (D.spare desk.new) (D.acts desk.old) (D.acts desk.new) }
     {
@@ -87,10 +83,9 @@ impl Part {
         let Taken::Good(datagram) = taken else {
             return;
         };
+        let At { tick, port } = terms.at;
         match datagram {
-            Datagram::Message(m) => {
-                self.hear(clock, tracing, steer, charge, tick, from, m, port, desk)
-            }
+            Datagram::Message(m) => self.hear(clock, tracing, terms, from, m, desk),
             Datagram::Stamp(stamp) => match stamp {
                 Stamp::Request { word, counter } => {
                     reply(clock, tick, from, *word, *counter, port, desk)

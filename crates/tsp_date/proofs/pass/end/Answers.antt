@@ -1,5 +1,5 @@
 -- Only a follower has passed a date on.
-use Rattle.std.proofs.Common.{sym, Some, ◌∙◌}
+use Rattle.std.proofs.Common.{sym, ◌∙◌}
 use Rattle.tsp_base.specs.declared.role.Role.TheVariants.{Follow}
 use Rattle.tsp_base.proofs.PerformsLemmas.{Performs_nothing, Performs_reading}
 use Rattle.tsp_rules.specs.DateRows.{date_acked, date_acked_in}
@@ -9,13 +9,13 @@ use Rattle.tsp_date.proofs.pass.end.Goals as goal
 
 pub returns-in-Follow-clause-row : goal.returns-in-Follow-clause-row
 unfolding date_acked date_acked_in
-returns-in-Follow-clause-row g c x dates master last clock r =
+returns-in-Follow-clause-row g c x s =
     let d = c.dated.ensures in
-    Performs_reading role_at (date_acked_in c.args.m.now c.args.from) (Follow c.in-Follow.field-0) (λ past h. sym h.second.second.first.role ∙ c.in-Follow.is)
-    (rw (← c.number.ensures) (Performs_ended c.args.from c.number.result dates master (last, (clock, Some r)) c.dated.result _ (d.test x) (λ e. d.row e x) d.same d.sends))
+    Performs_reading role_at (date_acked_in c.args.m.now c.args.from) (Follow c.in-Follow.field-0) (λ past h. sym h.station.role ∙ c.in-Follow.is)
+    (rw (← c.number.ensures) (Performs_ended s c.args.from c.number.result c.dated.result _ (d.test x) (λ e. d.row e x) d.same d.sends))
 
 pub returns-in_default-clause-row : goal.returns-in_default-clause-row
 unfolding date_acked
-returns-in_default-clause-row g c x dates master last clock r =
-    Performs_reading role_at (date_acked_in c.args.m.now c.args.from) c.args.station.now.role (λ past h. sym h.second.second.first.role)
+returns-in_default-clause-row g c x s =
+    Performs_reading role_at (date_acked_in c.args.m.now c.args.from) c.args.station.now.role (λ past h. sym h.station.role)
     (rw (date_acked_in-other c.args.m.now c.args.from c.args.station.now.role c.in_default.not-Follow) Performs_nothing)

@@ -5,12 +5,12 @@ use Rattle.tsp_date.proofs.DateLemmas.{Performs_heard, Performs_stranger, Perfor
 use Rattle.tsp_date.proofs.pass.hear_end.Goals as goal
 
 pub returns-then-hears-clause-row : goal.returns-then-hears-clause-row
-returns-then-hears-clause-row g c x dates master last clock r =
-    rw c.in-Peer.is (Performs_heard c.in-Peer.p (date_acked c.args.m.now) (sym c.hears.ensures ∙ c.if-hears.true) (c.end.ensures.row x dates master last clock r))
+returns-then-hears-clause-row g c x s =
+    rw c.in-Peer.is (Performs_heard c.in-Peer.p (date_acked c.args.m.now) (sym c.hears.ensures ∙ c.if-hears.true) (c.end.ensures.row x s))
 
 pub returns-else-hears-clause-row : goal.returns-else-hears-clause-row
-returns-else-hears-clause-row g c x dates master last clock r =
+returns-else-hears-clause-row g c x s =
     rw c.in-Peer.is (Performs_unheard c.in-Peer.p (date_acked c.args.m.now) (sym c.hears.ensures ∙ c.if-hears.false))
 
 pub returns-in-Stranger-clause-row : goal.returns-in-Stranger-clause-row
-returns-in-Stranger-clause-row g c x dates master last clock r = rw c.in-Stranger.is (Performs_stranger (date_acked c.args.m.now))
+returns-in-Stranger-clause-row g c x s = rw c.in-Stranger.is (Performs_stranger (date_acked c.args.m.now))

@@ -1,13 +1,16 @@
 -- The clock is set, and the date is noted.
 use Rattle.std.proofs.Common.{◌≡◌, to_z, of_z, w64, to_z-of_z, SFits, rules}
+use Rattle.tsp_base.specs.Takings.{time_in}
 use Rattle.tsp_date.proofs.DateLemmas.{Performs_dated}
 use Rattle.tsp_date.proofs.set.correct.Goals as goal
 
 pub returns-clause-row : goal.returns-clause-row
-returns-clause-row g c master station last took t =
+returns-clause-row g c s t =
+    let m = c.args.m.now in
     let d = c.correct_to.ensures.row in
     let n = c.note.ensures in
     let range = c.get.ensures.range in
-    let fits : SFits w64 c.args.time = search rules in
-    let back : to_z w64 (of_z w64 c.args.time) ≡ c.args.time = to_z-of_z fits in
-    Performs_dated c.args.time c.args.dates.now _ master station last c.args.from c.args.m.now took t c.requires.kind n.last n.peers n.asked (rw (c.get.ensures.value, back) at d)
+    let time : c.time_of.result ≡ time_in m.body = c.time_of.ensures in
+    let fits : SFits w64 c.time_of.result = search rules in
+    let back : to_z w64 (of_z w64 c.time_of.result) ≡ c.time_of.result = to_z-of_z fits in
+    Performs_dated s (time_in m.body) c.args.dates.now _ c.args.from m t c.requires.kind n.last n.peers n.asked (rw (c.get.ensures.value, back, time) at d)

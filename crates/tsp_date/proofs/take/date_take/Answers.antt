@@ -1,93 +1,119 @@
--- Each kind has its row.
-use Rattle.std.proofs.Common.{◌≡◌, ◌⊎◌, false, refl, sym, ◌∙◌, ap, arith, Some}
-use Rattle.tsp_base.specs.declared.datagram.Datagram.TheVariants.{Message as MessageOf}
-use Rattle.tsp_base.specs.declared.datagram.Taken.TheVariants.{Good}
-use Rattle.tsp_base.specs.declared.kind.Kind.TheVariants.{Date, DateReq, SetDate, SetDateReq}
-use Rattle.tsp_base.proofs.PerformsLemmas.{Performs_nothing}
-use Rattle.tsp_rules.specs.DateRows.{date_request_of}
-use Rattle.tsp_date.proofs.CorrectsLemmas.{corrects-end, corrects-heard, corrects-nothing, corrects-stranger, corrects-unheard, date_of-false, date_of-true, handles-date, handles-end, handles-request}
-use Rattle.tsp_date.proofs.DateLemmas.{Performs_heard, Performs_stranger, Performs_unheard, heard-is}
+-- Each message has its row.
+use Rattle.std.proofs.Common.{◌≡◌, true, refl, sym, ◌∙◌, ap, arith}
+use Rattle.tsp_base.specs.declared.kind.Kind.TheVariants.{DateAck}
+use Rattle.tsp_base.specs.Rows.{nothing}
+use Rattle.tsp_base.specs.Takings.{time_in}
+use Rattle.tsp_base.proofs.PerformsLemmas.{Performs_else_part, Performs_nothing, Performs_then, Performs_then_part}
+use Rattle.tsp_rules.specs.DateRows.{may_date, new_date, sets_date_where}
+use Rattle.tsp_rules.specs.RoundRows.{corrects}
+use Rattle.tsp_rules.proofs.Emits.{Emits_posts}
+use Rattle.tsp_date.specs.declared.task.Task.TheVariants.{AnswerAgain, Nothing, PassOn, Set}
+use Rattle.tsp_date.specs.DateStands.{DateState, moved_where}
+use Rattle.tsp_date.proofs.CorrectsLemmas.{corrects-end, corrects-nothing, corrects-passes, corrects-posts, corrects-sets}
+use Rattle.tsp_date.proofs.DateLemmas.{Performs_posting}
+use Rattle.tsp_date.proofs.TaskLemmas.{Performs_task, handles-end}
 use Rattle.tsp_date.proofs.take.date_take.Goals as goal
 
-pub returns-then-charge-clause-row : goal.returns-then-charge-clause-row
-returns-then-charge-clause-row g c last took e t =
+pub returns-in-DateAck-clause-row : goal.returns-in-DateAck-clause-row
+returns-in-DateAck-clause-row g c last took e t =
     let m = c.args.m.now in
-    let k : (m.kind ≡ Date) ⊎ (m.kind ≡ SetDate) = rw c.kind.ensures at c.in-Date.is in
-    rw (handles-date c.args.charge c.args.from m m.kind k, date_of-true c.args.charge c.args.from m c.if-charge.true) (c.take_date.ensures.row last took e t)
+    let k : m.kind ≡ DateAck = sym c.kind.ensures ∙ c.in-DateAck.is in
+    let s : DateState = record { dates = c.args.dates.now; master = c.args.master.now; station = c.args.station.now; last = last; clock = c.args.clock.now; took = took } in
+    rw (handles-end c.args.charge c.args.from m m.kind k) (c.hear_end.ensures.row c.args.tick s)
 
-pub returns-then-charge-clause-corrects : goal.returns-then-charge-clause-corrects
-returns-then-charge-clause-corrects g c past last took e h =
+pub returns-in-DateAck-clause-corrects : goal.returns-in-DateAck-clause-corrects
+returns-in-DateAck-clause-corrects g c past last took e h =
     let m = c.args.m.now in
-    let k : (m.kind ≡ Date) ⊎ (m.kind ≡ SetDate) = rw c.kind.ensures at c.in-Date.is in
-    rw (handles-date c.args.charge c.args.from m m.kind k, date_of-true c.args.charge c.args.from m c.if-charge.true) (c.take_date.ensures.corrects past last took e h)
+    let k : m.kind ≡ DateAck = sym c.kind.ensures ∙ c.in-DateAck.is in
+    sym (ap (λ row. corrects (row c.args.tick past)) (handles-end c.args.charge c.args.from m m.kind k) ∙ corrects-end c.args.from m c.args.tick past)
 
-pub returns-else-charge-clause-row : goal.returns-else-charge-clause-row
-returns-else-charge-clause-row g c last took e t =
+pub returns-in-Nothing : goal.returns-in-Nothing
+returns-in-Nothing g c =
     let m = c.args.m.now in
-    let k : (m.kind ≡ Date) ⊎ (m.kind ≡ SetDate) = rw c.kind.ensures at c.in-Date.is in
-    rw (c.if-charge.false, handles-date false c.args.from m m.kind k, date_of-false false c.args.from m refl) Performs_nothing
-
-pub returns-else-charge-clause-corrects : goal.returns-else-charge-clause-corrects
-returns-else-charge-clause-corrects g c past last took e h =
-    let m = c.args.m.now in
-    let k : (m.kind ≡ Date) ⊎ (m.kind ≡ SetDate) = rw c.kind.ensures at c.in-Date.is in
-    rw (handles-date c.args.charge c.args.from m m.kind k, date_of-false c.args.charge c.args.from m c.if-charge.false) (c.if-charge.false ∙ sym (corrects-nothing c.args.tick past))
-
-pub returns-then-hears-clause-row : goal.returns-then-hears-clause-row
-unfolding date_request_of
-returns-then-hears-clause-row g c last took e t =
-    let m = c.args.m.now in
-    let k : (m.kind ≡ DateReq) ⊎ (m.kind ≡ SetDateReq) = rw c.kind.ensures at c.in-DateReq.is in
-    let from = c.in-Peer.is in
-    rw (handles-request c.args.charge c.args.from m m.kind k, from)
-    (Performs_heard c.in-Peer.p (date_request_of c.args.charge m) (sym c.hears.ensures ∙ c.if-hears.true) (c.take_request.ensures.row last took e (t ∙ ap (λ f. Some (record { from = f; taken = Good (MessageOf m) })) from)))
-
-pub returns-then-hears-clause-corrects : goal.returns-then-hears-clause-corrects
-unfolding date_request_of
-returns-then-hears-clause-corrects g c past last took e h =
-    let m = c.args.m.now in
-    let k : (m.kind ≡ DateReq) ⊎ (m.kind ≡ SetDateReq) = rw c.kind.ensures at c.in-DateReq.is in
-    rw (handles-request c.args.charge c.args.from m m.kind k, c.in-Peer.is)
-    (c.take_request.ensures.corrects past last took e h
-    ∙ sym (corrects-heard c.in-Peer.p (date_request_of c.args.charge m) c.args.tick past (heard-is c.in-Peer.p c.args.tick past c.args.station.now h.second.second.first ∙ sym c.hears.ensures ∙ c.if-hears.true)))
-
-pub returns-else-hears-clause-row : goal.returns-else-hears-clause-row
-returns-else-hears-clause-row g c last took e t =
-    let m = c.args.m.now in
-    let k : (m.kind ≡ DateReq) ⊎ (m.kind ≡ SetDateReq) = rw c.kind.ensures at c.in-DateReq.is in
-    rw (c.if-hears.false, handles-request c.args.charge c.args.from m m.kind k, c.in-Peer.is) (Performs_unheard c.in-Peer.p (date_request_of c.args.charge m) (sym c.hears.ensures ∙ c.if-hears.false))
-
-pub returns-else-hears-clause-corrects : goal.returns-else-hears-clause-corrects
-returns-else-hears-clause-corrects g c past last took e h =
-    let m = c.args.m.now in
-    let k : (m.kind ≡ DateReq) ⊎ (m.kind ≡ SetDateReq) = rw c.kind.ensures at c.in-DateReq.is in
-    rw (handles-request c.args.charge c.args.from m m.kind k, c.in-Peer.is)
-    (c.if-hears.false ∙ sym (corrects-unheard c.in-Peer.p (date_request_of c.args.charge m) c.args.tick past (heard-is c.in-Peer.p c.args.tick past c.args.station.now h.second.second.first ∙ sym c.hears.ensures ∙ c.if-hears.false)))
-
-pub returns-in-Stranger-clause-row : goal.returns-in-Stranger-clause-row
-returns-in-Stranger-clause-row g c last took e t =
-    let m = c.args.m.now in
-    let k : (m.kind ≡ DateReq) ⊎ (m.kind ≡ SetDateReq) = rw c.kind.ensures at c.in-DateReq.is in
-    rw (handles-request c.args.charge c.args.from m m.kind k, c.in-Stranger.is) (Performs_stranger (date_request_of c.args.charge m))
-
-pub returns-in-Stranger-clause-corrects : goal.returns-in-Stranger-clause-corrects
-returns-in-Stranger-clause-corrects g c past last took e h =
-    let m = c.args.m.now in
-    let k : (m.kind ≡ DateReq) ⊎ (m.kind ≡ SetDateReq) = rw c.kind.ensures at c.in-DateReq.is in
-    rw (handles-request c.args.charge c.args.from m m.kind k, c.in-Stranger.is) (sym (corrects-stranger (date_request_of c.args.charge m) c.args.tick past))
-
-pub returns-in_default : goal.returns-in_default
-returns-in_default g c =
-    let m = c.args.m.now in
-    let d = c.in_default in
-    let k = handles-end c.args.charge c.args.from m m.kind c.requires.kind (λ e. d.not-Date (c.kind.ensures ∙ e)) (λ e. d.not-SetDate (c.kind.ensures ∙ e)) (λ e. d.not-DateReq (c.kind.ensures ∙ e)) (λ e. d.not-SetDateReq (c.kind.ensures ∙ e)) in
     record {
-      row = λ last took e t. rw (k, t) (c.hear_end.ensures.row c.args.tick c.args.dates.now c.args.master.now last c.args.clock.now _);
-      corrects = λ past last took e h. rw k (sym (corrects-end c.args.from m c.args.tick past));
-      room = record { spare = omega (arith, c.hear_end.ensures.room.spare); few = omega (arith, c.hear_end.ensures.room.few) };
-      port = c.hear_end.ensures.port;
-      role = c.hear_end.ensures.role;
+      row = λ last took e t. Performs_task Nothing c.args.charge c.args.from m c.in-Nothing.ensures.row Performs_nothing;
+      corrects = λ past last took e h. sym (ap corrects (c.in-Nothing.ensures.row past h.station h.dates) ∙ corrects-nothing c.args.tick past);
+      room = record { spare = omega arith; few = omega arith };
+      port = record { me = refl; peers = refl };
+      role = refl;
       slaves = refl;
       peers = refl;
       clock = c.requires.later;
+    }
+
+pub returns-in-PassOn : goal.returns-in-PassOn
+returns-in-PassOn g c =
+    let m = c.args.m.now in
+    let q = c.in-PassOn.followed in
+    record {
+      row = λ last took e t. Performs_task (PassOn q) c.args.charge c.args.from m c.in-PassOn.ensures.row
+          (c.pass_on.ensures.row (record { dates = c.args.dates.now; master = c.args.master.now; station = c.args.station.now; last = last; clock = c.args.clock.now; took = took }) _ t);
+      corrects = λ past last took e h. sym (ap corrects (c.in-PassOn.ensures.row past h.station h.dates) ∙ corrects-passes c.args.from q m.number (time_in m.body) c.args.tick past);
+      room = record { spare = omega (arith, c.pass_on.ensures.room.spare); few = omega (arith, c.pass_on.ensures.room.few) };
+      port = c.pass_on.ensures.port;
+      role = c.pass_on.ensures.role;
+      slaves = refl;
+      peers = c.pass_on.ensures.peers;
+      clock = c.requires.later;
+    }
+
+pub returns-in-AnswerAgain : goal.returns-in-AnswerAgain
+returns-in-AnswerAgain g c =
+    let m = c.args.m.now in
+    let p = c.in-AnswerAgain.p in
+    let n : c.number.result ≡ m.number = c.number.ensures in
+    let answer = c.post.ensures.row c.args.tick in
+    record {
+      row = λ last took e t. Performs_task (AnswerAgain p) c.args.charge c.args.from m c.in-AnswerAgain.ensures.row
+          (Performs_posting (record { dates = c.args.dates.now; master = c.args.master.now; station = c.args.station.now; last = last; clock = c.args.clock.now; took = took }) (Emits_posts p DateAck m.number refl) (rw n at answer));
+      corrects = λ past last took e h. sym (ap corrects (c.in-AnswerAgain.ensures.row past h.station h.dates) ∙ corrects-posts p DateAck m.number c.args.tick past);
+      room = record { spare = omega (arith, c.post.ensures.room.spare); few = omega (arith, c.post.ensures.room.count) };
+      port = record { me = refl; peers = refl };
+      role = refl;
+      slaves = refl;
+      peers = refl;
+      clock = c.requires.later;
+    }
+
+pub returns-then-not-may_date : goal.returns-then-not-may_date
+unfolding sets_date_where
+returns-then-not-may_date g c =
+    let m = c.args.m.now in
+    let time : c.time_of.result ≡ time_in m.body = c.time_of.ensures in
+    let may = c.may_date.ensures.test in
+    let test = rw time at may in
+    record {
+      row = λ last took e t. Performs_task Set c.args.charge c.args.from m c.in-Set.ensures.row
+          (Performs_else_part (may_date (time_in m.body)) (new_date c.args.from m.number (time_in m.body)) (λ past h. test past h.master (sym h.last.tick_is ∙ e) ∙ c.if-not-may_date.true) Performs_nothing);
+      corrects = λ past last took e h. sym (ap corrects (c.in-Set.ensures.row past h.station h.dates) ∙ corrects-sets c.args.from m.number (time_in m.body) c.args.tick past ∙ test past h.master (sym h.last.tick_is ∙ e) ∙ c.if-not-may_date.true);
+      room = record { spare = omega arith; few = omega arith };
+      port = record { me = refl; peers = refl };
+      role = refl;
+      slaves = refl;
+      peers = refl;
+      clock = c.requires.later;
+    }
+
+pub returns-else-not-may_date : goal.returns-else-not-may_date
+unfolding sets_date_where new_date
+returns-else-not-may_date g c =
+    let m = c.args.m.now in
+    let time : c.time_of.result ≡ time_in m.body = c.time_of.ensures in
+    let may = c.may_date.ensures.test in
+    let test = rw time at may in
+    let n : c.number-in-Set.result ≡ m.number = c.number-in-Set.ensures in
+    let tells = c.announce.ensures.row c.args.tick in
+    let announces = rw n at tells in
+    record {
+      row = λ last took e t. Performs_task Set c.args.charge c.args.from m c.in-Set.ensures.row
+          (Performs_then_part (may_date (time_in m.body)) nothing (λ past h. test past h.master (sym h.last.tick_is ∙ e) ∙ c.if-not-may_date.false)
+          (Performs_then (c.correct.ensures.row (record { dates = c.args.dates.now; master = c.args.master.now; station = c.args.station.now; last = last; clock = c.args.clock.now; took = took }) t)
+          (announces (record { dates = c.correct.new.dates; master = c.args.master.now; station = c.args.station.now; last = moved_where true c.args.tick last; clock = c.correct.new.clock; took = took }))));
+      corrects = λ past last took e h. sym (ap corrects (c.in-Set.ensures.row past h.station h.dates) ∙ corrects-sets c.args.from m.number (time_in m.body) c.args.tick past ∙ test past h.master (sym h.last.tick_is ∙ e) ∙ c.if-not-may_date.false);
+      room = record { spare = omega (arith, c.correct.ensures.room.spare, c.announce.ensures.room.spare); few = omega (arith, c.correct.ensures.room.few, c.announce.ensures.room.few) };
+      port = record { me = refl; peers = refl };
+      role = refl;
+      slaves = c.announce.ensures.slaves;
+      peers = c.correct.ensures.peers;
+      clock = c.correct.ensures.clock;
     }

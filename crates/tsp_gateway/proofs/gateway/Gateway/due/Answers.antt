@@ -5,20 +5,20 @@ use Rattle.std.proofs.lemmas.List.{length-append}
 use Rattle.std.proofs.lemmas.Option.{slice_get-get_or}
 use Rattle.tsp_base.specs.Alarms.{earlier}
 use Rattle.tsp_node.specs.declared.part.Part.{Part}
+use Rattle.tsp_node.specs.Dues.{IsPartDue}
 use Rattle.tsp_node.specs.NodeStands.{due_of}
-use Rattle.tsp_gateway.specs.Dues.{IsPartDue}
 use Rattle.tsp_gateway.proofs.DueLemmas.{IsNodeDue-of, get-append, least_of-append}
 use Rattle.tsp_gateway.proofs.gateway.Gateway.due.Goals as goal
 
 pub loop-part-preserved : goal.loop-part-preserved
 loop-part-preserved c =
     let before = c.loop-part.invariant in
-    let d = c.due_on.result in (
+    let d = c.due.result in (
       before.0 ++ d ∷ [],
       rw (length-append, before.1) refl,
       (λ q due there. elim (get-append before.0 d due q there) [
         | inl h ↦ before.2 q due h
-        | inr h ↦ (c.part-item.result, rw (h.0, before.1, ← c.deref-part-items.ensures.value) (slice_get-get_or c.deref-part-items.result.now c.loop-part.part-index c.part-item.result c.loop-part-test.true ∙ ap Some (sym c.part-item.is)), subst (λ (o : Option ℕ). IsPartDue c.part-item.result o) h.1 c.due_on.ensures)
+        | inr h ↦ (c.part-item.result, rw (h.0, before.1, ← c.deref-part-items.ensures.value) (slice_get-get_or c.deref-part-items.result.now c.loop-part.part-index c.part-item.result c.loop-part-test.true ∙ ap Some (sym c.part-item.is)), subst (λ (o : Option ℕ). IsPartDue c.part-item.result o) h.1 c.due.ensures)
       ]),
       c.earlier-due.ensures ∙ (ap (λ (o : Option ℕ). earlier o d) before.3 ∙ sym (least_of-append before.0 d)),
     )

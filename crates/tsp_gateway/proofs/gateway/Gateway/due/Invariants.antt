@@ -1,7 +1,8 @@
 -- The ports so far have these deadlines, and their earliest is at hand.
 use Rattle.std.proofs.Common.{◌≡◌, ℕ, length, List, Option, Some, slice_get}
 use Rattle.tsp_node.specs.declared.part.Part.{Part}
-use Rattle.tsp_gateway.specs.Dues.{IsPartDue, least_of}
+use Rattle.tsp_node.specs.Dues.{IsPartDue}
+use Rattle.tsp_gateway.specs.Dues.{least_of}
 use Rattle.tsp_gateway.proofs.gateway.Gateway.due.Given as goal
 
 abbrev pub invariant-loop-part : goal.invariant-loop-part

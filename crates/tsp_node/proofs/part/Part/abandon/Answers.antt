@@ -13,7 +13,7 @@ returns-then-abandon-clause-row g c x clock =
     Performs_then_part is_going_at nothing (λ past h. c.abandon.ensures.going past h.station ∙ c.if-abandon.true)
     (record {
       acts = λ past h. c.put.ensures.acts;
-      stands = λ past h. let s = c.abandon.ensures.stands c.if-abandon.true x past (record { first = h.master; second = h.station }) in abandoned x past h.last h.clock h.resolve h.dates s.second s.first;
+      stands = λ past h. let s = c.abandon.ensures.stands c.if-abandon.true x past (record { master = h.master; station = h.station }) in abandoned x past h.last h.clock h.resolve h.dates s.station s.master;
     })
 
 pub returns-else-abandon-clause-row : goal.returns-else-abandon-clause-row

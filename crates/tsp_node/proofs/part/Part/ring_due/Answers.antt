@@ -32,32 +32,32 @@ pub returns-in-Close-clause-corrects : goal.returns-in-Close-clause-corrects
 unfolding alarm_rings master_rings
 returns-in-Close-clause-corrects g c past h = let k = c.ring_round-in-Close.ensures.corrects past h in rw c.in-Close.is (rw c.in-Close.is at k)
 
-pub returns-then-wait-clause-row : goal.returns-then-wait-clause-row
+pub returns-then-terms-clause-row : goal.returns-then-terms-clause-row
 unfolding alarm_rings
-returns-then-wait-clause-row g c =
-    let x = c.args.tick in
-    rw (c.in-Round.is, c.if-wait.true) (Performs_untaken (Emits_more (Alarming ∷ []) refl emits_wait)
+returns-then-terms-clause-row g c =
+    let x = c.args.terms.at.tick in
+    rw (c.in-Round.is, c.if-terms.true) (Performs_untaken (Emits_more (Alarming ∷ []) refl emits_wait)
     (Performs_station refl refl refl (Emits_more (Alarming ∷ []) refl emits_wait) (DatesStand_by (round_rings true) (Emits_more (Alarming ∷ []) refl emits_wait))
     (λ past h s. Keeps_by quiet_sorts MasterStands (round_rings true) MasterStands_quiet (Emits_more (Alarming ∷ []) refl emits_wait) x past c.args.self.now.master h.master)
     (λ past h s. ResolveStands_by (round_rings true) (Emits_more (Alarming ∷ []) refl emits_wait) x past c.args.self.now.resolve h.resolve)
     c.wait_round.ensures.row))
 
-pub returns-then-wait-clause-corrects : goal.returns-then-wait-clause-corrects
+pub returns-then-terms-clause-corrects : goal.returns-then-terms-clause-corrects
 unfolding alarm_rings
-returns-then-wait-clause-corrects g c past h = rw (c.in-Round.is, c.if-wait.true) (corrects_wait c.args.tick past)
+returns-then-terms-clause-corrects g c past h = rw (c.in-Round.is, c.if-terms.true) (corrects_wait c.args.terms.at.tick past)
 
-pub returns-else-wait-clause-row : goal.returns-else-wait-clause-row
+pub returns-else-terms-clause-row : goal.returns-else-terms-clause-row
 unfolding alarm_rings master_rings
-returns-else-wait-clause-row g c = rw (c.in-Round.is, c.if-wait.false) (rw c.in-Round.is at c.ring_round-else-wait.ensures.row)
+returns-else-terms-clause-row g c = rw (c.in-Round.is, c.if-terms.false) (rw c.in-Round.is at c.ring_round-else-terms.ensures.row)
 
-pub returns-else-wait-clause-corrects : goal.returns-else-wait-clause-corrects
+pub returns-else-terms-clause-corrects : goal.returns-else-terms-clause-corrects
 unfolding alarm_rings master_rings
-returns-else-wait-clause-corrects g c past h = let k = c.ring_round-else-wait.ensures.corrects past h in rw (c.in-Round.is, c.if-wait.false) (rw c.in-Round.is at k)
+returns-else-terms-clause-corrects g c past h = let k = c.ring_round-else-terms.ensures.corrects past h in rw (c.in-Round.is, c.if-terms.false) (rw c.in-Round.is at k)
 
 pub returns-in-Window-clause-row : goal.returns-in-Window-clause-row
 unfolding alarm_rings
 returns-in-Window-clause-row g c =
-    let x = c.args.tick in
+    let x = c.args.terms.at.tick in
     rw c.in-Window.is (Performs_untaken (Emits_more (Leading ∷ calm_sorts) refl emits_window)
     (Performs_station refl refl refl beside_window (DatesStand_by window_rings (Emits_more (Leading ∷ calm_sorts) refl emits_window))
     (λ past h s. MasterStands_changing window_rings (Emits_more (Leading ∷ calm_sorts) {all = turning_sorts} refl emits_window) x past c.args.self.now.master c.clear.new.self (window_changes x past) (record { slaves = c.clear.ensures.slaves; peers = c.clear.ensures.peers; rounds = c.clear.ensures.rounds }) h.master)
@@ -66,7 +66,7 @@ returns-in-Window-clause-row g c =
 
 pub returns-in-Window-clause-corrects : goal.returns-in-Window-clause-corrects
 unfolding alarm_rings
-returns-in-Window-clause-corrects g c past h = rw c.in-Window.is (corrects_window c.args.tick past)
+returns-in-Window-clause-corrects g c past h = rw c.in-Window.is (corrects_window c.args.terms.at.tick past)
 
 pub returns-in-Resolve-clause-row : goal.returns-in-Resolve-clause-row
 unfolding alarm_rings
@@ -76,11 +76,11 @@ returns-in-Resolve-clause-row g c =
 
 pub returns-in-Resolve-clause-corrects : goal.returns-in-Resolve-clause-corrects
 unfolding alarm_rings
-returns-in-Resolve-clause-corrects g c past h = rw c.in-Resolve.is (corrects_resolve c.args.tick past)
+returns-in-Resolve-clause-corrects g c past h = rw c.in-Resolve.is (corrects_resolve c.args.terms.at.tick past)
 
 pub returns-in_default-clause-row : goal.returns-in_default-clause-row
-returns-in_default-clause-row g c = c.ring_role.ensures.row c.args.group_mean c.args.wait c.args.clock.now
+returns-in_default-clause-row g c = c.ring_role.ensures.row c.args.terms.group_mean c.args.terms.wait c.args.clock.now
 
 pub returns-in_default-clause-corrects : goal.returns-in_default-clause-corrects
 returns-in_default-clause-corrects g c past h =
-    corrects_alarm c.args.group_mean c.args.wait c.args.alarm (of_slave c.args.alarm c.in_default.not-Probe c.in_default.not-Close c.in_default.not-Round c.in_default.not-Window c.in_default.not-Resolve) c.args.tick past
+    corrects_alarm c.args.terms.group_mean c.args.terms.wait c.args.alarm (of_slave c.args.alarm c.in_default.not-Probe c.in_default.not-Close c.in_default.not-Round c.in_default.not-Window c.in_default.not-Resolve) c.args.terms.at.tick past

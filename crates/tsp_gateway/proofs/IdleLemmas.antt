@@ -1,0 +1,108 @@
+-- A port with nothing due has nothing to do in its turn.
+use Rattle.std.specs.Prelude.{◌≡◌, ◌<◌, ◌+◌, ℕ, min, false, List, [], ◌∷◌, Option, None, Some, slice_get, refl}
+use Rattle.std.proofs.Common.{append-nil, arith, leb-false, sym}
+use Rattle.std.proofs.lemmas.Bool.{lt-leb}
+use Rattle.tsp_base.specs.declared.act.Placed.{Placed}
+use Rattle.tsp_base.specs.declared.alarm.Alarm.{Alarm}
+use Rattle.tsp_base.specs.declared.alarm.Alarm.TheVariants.{Close, Elect, Probe, Quiet, Resolve, Round, Search, Window}
+use Rattle.tsp_base.specs.declared.alarm.TheConstants.Alarm.{ALL}
+use Rattle.tsp_base.specs.declared.place.PeerId.{PeerId}
+use Rattle.tsp_base.specs.declared.place.Port.{Port}
+use Rattle.tsp_base.specs.Alarms.{Deadlines, deadline, earlier, least_deadline}
+use Rattle.tsp_base.specs.History.{Past}
+use Rattle.tsp_base.specs.Rows.{either_by, for_each, nothing, reading, ◌followed_by◌}
+use Rattle.tsp_base.specs.SendFacts.{Sending, deadline_of, open_send}
+use Rattle.tsp_rules.specs.Answers.{rings}
+use Rattle.tsp_rules.specs.GateRows.{alarm_on, alarms_on, begins_round_on, closes_on, each_on, loops_after, probes_on, turns_on}
+use Rattle.tsp_rules.specs.Guards.{is_due, is_over}
+use Rattle.tsp_rules.specs.NodePerforms.{PerformsAll}
+use Rattle.tsp_rules.specs.NodeRows.{NodePast, nothing_at_all, on, on_port, reading_all, stirring, ◌and_then◌}
+use Rattle.tsp_rules.specs.SendRows.{due_send, due_sends, repeats_send}
+use Rattle.tsp_sends.specs.Repeating.{IsEarliest, is_due_send}
+use Rattle.tsp_node.specs.declared.part.Part.{Part}
+use Rattle.tsp_node.specs.Dues.{IsPartDue}
+use Rattle.tsp_node.specs.NodeStands.{PartStands}
+use Rattle.tsp_node.proofs.DueLemmas.{IsEarliest-open}
+use Rattle.tsp_clock.specs.Clocks.{ClockValue}
+use Rattle.tsp_gateway.specs.declared.gateway.Gateway.{Gateway}
+use Rattle.tsp_gateway.specs.GatewayStands.{GatewayTurning, port_at}
+
+-- neither of two deadlines has come before the earlier one has
+neither_over : (a b : Option ℕ) (x : ℕ) → is_over (earlier a b) x ≡ false → (is_over a x ≡ false) × (is_over b x ≡ false)
+neither_over None b x e = (refl, e)
+neither_over (Some p) None x e = (e, refl)
+neither_over (Some p) (Some q) x e =
+    let before : x < min p q = leb-false (min p q) x e in
+    (lt-leb p x (omega (arith, before)), lt-leb q x (omega (arith, before)))
+
+-- no alarm is due before the earliest is
+alarm_waits : (d : Deadlines) (x : ℕ) → is_over (least_deadline d) x ≡ false → (alarm : Alarm) → is_over (deadline d alarm) x ≡ false
+alarm_waits d x e alarm =
+    let halves = neither_over (earlier (earlier d.quiet d.search) (earlier d.elect d.window)) (earlier (earlier d.probe d.close) (earlier d.resolve d.round)) x e in
+    let first = neither_over (earlier d.quiet d.search) (earlier d.elect d.window) x halves.0 in
+    let last = neither_over (earlier d.probe d.close) (earlier d.resolve d.round) x halves.1 in
+    by_alarm alarm (neither_over d.quiet d.search x first.0) (neither_over d.elect d.window x first.1) (neither_over d.probe d.close x last.0) (neither_over d.resolve d.round x last.1) where
+      by_alarm : (a : Alarm) → (is_over d.quiet x ≡ false) × (is_over d.search x ≡ false) → (is_over d.elect x ≡ false) × (is_over d.window x ≡ false) → (is_over d.probe x ≡ false) × (is_over d.close x ≡ false) →
+          (is_over d.resolve x ≡ false) × (is_over d.round x ≡ false) → is_over (deadline d a) x ≡ false
+      by_alarm Quiet p q r s = p.0
+      by_alarm Search p q r s = p.1
+      by_alarm Elect p q r s = q.0
+      by_alarm Window p q r s = q.1
+      by_alarm Probe p q r s = r.0
+      by_alarm Close p q r s = r.1
+      by_alarm Resolve p q r s = s.0
+      by_alarm Round p q r s = s.1
+
+-- no send is due before the earliest is
+send_waits : (sending : PeerId → Option Sending) (first : Option ℕ) (x : ℕ) → IsEarliest sending first → is_over first x ≡ false → (p : PeerId) → is_due_send x (sending p) ≡ false
+send_waits sending None x none e p = rw (none p) refl
+send_waits sending (Some t) x least e p = by_send (sending p) refl where
+  by_send : (o : Option Sending) → sending p ≡ o → is_due_send x o ≡ false
+  by_send None is = refl
+  by_send (Some s) is = let before = leb-false t x e in let first = least.first p s is in lt-leb (deadline_of s) x (omega (arith, before, first))
+
+-- rows of sends and alarms that aren't due
+no_send : (p : PeerId) (x : ℕ) (past : Past) → is_due_send x (open_send p past.seen) ≡ false → due_send p x past ≡ []
+unfolding due_send repeats_send reading either_by nothing
+no_send p x past e = by_send (open_send p past.seen) e where
+  by_send : (o : Option Sending) → is_due_send x o ≡ false → repeats_send p o x past ≡ []
+  by_send None e = refl
+  by_send (Some s) e = rw e refl
+
+no_sends : (peers : List PeerId) (x : ℕ) (past : Past) → ((p : PeerId) → is_due_send x (open_send p past.seen) ≡ false) → for_each due_send peers x past ≡ []
+unfolding for_each nothing ◌followed_by◌
+no_sends [] x past e = refl
+no_sends (p ∷ rest) x past e = rw (no_send p x past (e p)) (no_sends rest x past e)
+
+no_alarm : (q : Port) (alarm : Alarm) (x : ℕ) (past : NodePast) → is_due alarm x (on_port q past) ≡ false → alarm_on q alarm x past ≡ []
+unfolding alarm_on probes_on closes_on begins_round_on loops_after rings on reading_all stirring either_by nothing ◌and_then◌
+no_alarm q Probe x past e = rw e refl
+no_alarm q Close x past e = rw e refl
+no_alarm q Round x past e = rw e refl
+no_alarm q _ x past e = rw e refl
+
+no_alarms : (q : Port) (alarms : List Alarm) (x : ℕ) (past : NodePast) → ((alarm : Alarm) → is_due alarm x (on_port q past) ≡ false) → each_on q alarms x past ≡ []
+unfolding nothing_at_all ◌and_then◌
+no_alarms q [] x past e = refl
+no_alarms q (a ∷ []) x past e = no_alarm q a x past (e a)
+no_alarms q (a ∷ b ∷ rest) x past e = rw (no_alarm q a x past (e a)) (no_alarms q (b ∷ rest) x past e)
+
+no_alarms_on : (q : Port) (x : ℕ) (past : NodePast) → ((alarm : Alarm) → is_due alarm x (on_port q past) ≡ false) → alarms_on q x past ≡ []
+unfolding alarms_on
+no_alarms_on q x past e = no_alarms q ALL x past e
+
+-- the turn of a port where the earliest deadline hasn't come
+no_turn : (q : Port) (x : ℕ) (past : NodePast) (part : Part) (clock : ClockValue) (due : Option ℕ) → PartStands (on_port q past) (part, clock) → IsPartDue part due → is_over due x ≡ false → turns_on q x past ≡ []
+unfolding turns_on on due_sends reading ◌and_then◌
+no_turn q x past part clock due h d e =
+    let both = neither_over (least_deadline part.station.alarms) d.sends x (rw d.due_is at e) in
+    let sends = send_waits (λ p. open_send p (on_port q past).seen) d.sends x (IsEarliest-open (on_port q past) part.station d.sends h.station d.first) both.1 in
+    let alarms = alarm_waits part.station.alarms x both.0 in
+    rw (no_sends (on_port q past).peers x (on_port q past) sends) (no_alarms_on q x past (λ alarm. rw (← h.station.alarms) (alarms alarm)))
+
+-- the node does nothing in it
+pub All_waits : {x q : ℕ} {g : Gateway} {old : List Placed} (part : Part) (due : Option ℕ) → slice_get g.ports.items q ≡ Some part → IsPartDue part due → is_over due x ≡ false → PerformsAll (GatewayTurning q) (GatewayTurning (q + 1)) (turns_on (port_at q)) x g g old old
+All_waits {x} {q} {g} {old} part due there d e = record {
+  acts = λ past w. rw (no_turn (port_at q) x past part g.clock due (w.stands.ports q part there) d e) (sym (append-nil old));
+  stands = λ past w. rw (no_turn (port_at q) x past part g.clock due (w.stands.ports q part there) d e) (record { stands = w.stands; turns = record { untaken = w.turns.untaken; still = λ r from. w.turns.still r (omega (arith, from)) } });
+}
