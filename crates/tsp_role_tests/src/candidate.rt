@@ -92,9 +92,14 @@ fn first_wrong(node: &mut Node, rows: &[Row]) -> Result<Option<usize>, AllocErro
     Ok(None)
 }
 
+/// Goes through steps at a new node, where elections aren't strict.
+fn tried(alloc: Global, rows: &[Row]) -> Result<Option<usize>, Fail> {
+    let mut node = node(alloc, false)?;
+    Ok(first_wrong(&mut node, rows)?)
+}
+
 #[test]
 fn counts_who_accepts(rt: HostRuntime) -> Result<(), Fail> {
-    let mut node = node(rt.alloc(), false)?;
     let rows: [Row; 3] = [
         STANDS,
         (400_000_001, Hears(Kind::Accept, 32_774), &[]),
@@ -104,13 +109,12 @@ fn counts_who_accepts(rt: HostRuntime) -> Result<(), Fail> {
             &["acked 1", "backer 1"],
         ),
     ];
-    assert_eq!(rt; first_wrong(&mut node, &rows)?, None);
+    assert_eq!(rt; tried(rt.alloc(), &rows)?, None);
     Ok(())
 }
 
 #[test]
 fn leads_where_nobody_refuses(rt: HostRuntime) -> Result<(), Fail> {
-    let mut node = node(rt.alloc(), false)?;
     let rows: [Row; 3] = [
         STANDS,
         (
@@ -129,13 +133,12 @@ fn leads_where_nobody_refuses(rt: HostRuntime) -> Result<(), Fail> {
             ],
         ),
     ];
-    assert_eq!(rt; first_wrong(&mut node, &rows)?, None);
+    assert_eq!(rt; tried(rt.alloc(), &rows)?, None);
     Ok(())
 }
 
 #[test]
 fn gives_way_at_a_refusal(rt: HostRuntime) -> Result<(), Fail> {
-    let mut node = node(rt.alloc(), false)?;
     let rows: [Row; 3] = [
         STANDS,
         (400_000_001, Hears(Kind::Refuse, 32_776), &[]),
@@ -145,13 +148,12 @@ fn gives_way_at_a_refusal(rt: HostRuntime) -> Result<(), Fail> {
             &["acked 1", "become loose", "arm elect 700000009"],
         ),
     ];
-    assert_eq!(rt; first_wrong(&mut node, &rows)?, None);
+    assert_eq!(rt; tried(rt.alloc(), &rows)?, None);
     Ok(())
 }
 
 #[test]
 fn gives_way_when_late(rt: HostRuntime) -> Result<(), Fail> {
-    let mut node = node(rt.alloc(), false)?;
     let rows: [Row; 3] = [
         STANDS,
         (
@@ -170,7 +172,7 @@ fn gives_way_when_late(rt: HostRuntime) -> Result<(), Fail> {
             ],
         ),
     ];
-    assert_eq!(rt; first_wrong(&mut node, &rows)?, None);
+    assert_eq!(rt; tried(rt.alloc(), &rows)?, None);
     Ok(())
 }
 

@@ -94,9 +94,14 @@ fn first_wrong(
     Ok(None)
 }
 
+/// Goes through steps at a new node whose trace is off.
+fn tried(alloc: Global, rows: &[Row]) -> Result<Option<usize>, Fail> {
+    let mut node = node(alloc)?;
+    Ok(first_wrong(&mut node, &mut false, rows)?)
+}
+
 #[test]
 fn names_the_master(rt: HostRuntime) -> Result<(), Fail> {
-    let mut node = node(rt.alloc())?;
     let rows: [Row; 7] = [
         (Names(1), &["post 0 - ack 1 %"]),
         (
@@ -113,7 +118,7 @@ fn names_the_master(rt: HostRuntime) -> Result<(), Fail> {
         (Names(4), &["post 0 - ack 4 a"]),
         (Says(5), &["post 0 - ack 5 a"]),
     ];
-    assert_eq!(rt; first_wrong(&mut node, &mut false, &rows)?, None);
+    assert_eq!(rt; tried(rt.alloc(), &rows)?, None);
     Ok(())
 }
 
@@ -133,7 +138,6 @@ fn turns_the_trace(rt: HostRuntime) -> Result<(), Fail> {
 /// It may stand for election 300 seconds after its boot.
 #[test]
 fn stands_when_it_is_asked_to(rt: HostRuntime) -> Result<(), Fail> {
-    let mut node = node(rt.alloc())?;
     let rows: [Row; 4] = [
         (Tests(79_000_000, 1), &[]),
         (Loosens, &["become loose"]),
@@ -149,6 +153,6 @@ fn stands_when_it_is_asked_to(rt: HostRuntime) -> Result<(), Fail> {
             ],
         ),
     ];
-    assert_eq!(rt; first_wrong(&mut node, &mut false, &rows)?, None);
+    assert_eq!(rt; tried(rt.alloc(), &rows)?, None);
     Ok(())
 }
