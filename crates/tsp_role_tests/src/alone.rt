@@ -144,13 +144,19 @@ fn first_wrong(node: &mut Node, pad: &mut Pad, rows: &[Row]) -> Result<Option<us
     Ok(None)
 }
 
-/// The node called `a` of three, which may not be master, as it boots.
+/// Peer 0 of three, called `a`, which may not be master.
+fn config_of(alloc: Global) -> Result<Config, Fail> {
+    let peers = [PeerId(0), PeerId(1), PeerId(2)];
+    let name = Name::of(b"a")?;
+    Ok(Config::new(alloc, name, PeerId(0), &peers, false, false)?)
+}
+
+/// The node as it boots.
 fn booted(alloc: Global, pad: &mut Pad) -> Result<Node, Fail>
     ensures clock { IfOk result (λ node. clock_at node ≤ 0) }
 {
-    let peers = [PeerId(0), PeerId(1), PeerId(2)];
-    let config = Config::new(alloc, Name::of(b"a")?, PeerId(0), &peers, false, false)?;
     pad.reserve(3)?;
+    let config = config_of(alloc)?;
     Ok(Node::boot(alloc, &config, 0, WALL, 0, pad)?)
 }
 
