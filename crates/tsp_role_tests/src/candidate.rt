@@ -197,10 +197,16 @@ fn follows_a_master(rt: HostRuntime) -> Result<(), Fail> {
     Ok(())
 }
 
+/// Goes through steps at a new node, where elections are strict. What it is after them comes second.
+fn tried_strictly(alloc: Global, rows: &[Row]) -> Result<(Option<usize>, Role), Fail> {
+    let mut node = node(alloc, true)?;
+    let wrong = first_wrong(&mut node, rows)?;
+    Ok((wrong, node.station.role))
+}
+
 /// One of two isn't a majority, and two of two are one.
 #[test]
 fn wins_strictly_with_more_than_half(rt: HostRuntime) -> Result<(), Fail> {
-    let mut node = node(rt.alloc(), true)?;
     let rows: [Row; 5] = [
         STANDS,
         (
@@ -234,7 +240,6 @@ fn wins_strictly_with_more_than_half(rt: HostRuntime) -> Result<(), Fail> {
             ],
         ),
     ];
-    assert_eq!(rt; first_wrong(&mut node, &rows)?, None);
-    assert!(rt; node.station.role == Role::Master);
+    assert_eq!(rt; tried_strictly(rt.alloc(), &rows)?, (None, Role::Master));
     Ok(())
 }

@@ -122,16 +122,23 @@ fn names_the_master(rt: HostRuntime) -> Result<(), Fail> {
     Ok(())
 }
 
+/// Goes through two lists of steps at a new node whose trace is off. What goes wrong in each, and whether the trace is
+/// on after it.
+fn turned(alloc: Global, first: &[Row], last: &[Row]) -> Result<[(Option<usize>, bool); 2], Fail> {
+    let mut node = node(alloc)?;
+    let mut tracing = false;
+    let wrong = first_wrong(&mut node, &mut tracing, first)?;
+    let is_on = tracing;
+    let wrong_last = first_wrong(&mut node, &mut tracing, last)?;
+    Ok([(wrong, is_on), (wrong_last, tracing)])
+}
+
 #[test]
 fn turns_the_trace(rt: HostRuntime) -> Result<(), Fail> {
-    let mut node = node(rt.alloc())?;
-    let mut tracing = false;
     let on: [Row; 1] = [(Traces(true, 6), &["trace on", "post 0 - ack 6 a"])];
-    assert_eq!(rt; first_wrong(&mut node, &mut tracing, &on)?, None);
-    assert!(rt; tracing);
     let off: [Row; 1] = [(Traces(false, 7), &["trace off", "post 0 - ack 7 a"])];
-    assert_eq!(rt; first_wrong(&mut node, &mut tracing, &off)?, None);
-    assert!(rt; !tracing);
+    let turned = turned(rt.alloc(), &on, &off)?;
+    assert_eq!(rt; turned, [(None, true), (None, false)]);
     Ok(())
 }
 
