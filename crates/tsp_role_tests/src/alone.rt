@@ -4,7 +4,9 @@ ghost use Rattle.tsp_base.specs.Frames.{IsTick};
 ghost use Rattle.tsp_node.specs.NodeStands.{clock_at};
 
 use crate::acts::are_told;
+use std::alloc::Global;
 use std::test::Fail;
+use tsp_base::act::Placed;
 use tsp_base::desk::Desk;
 use tsp_base::input::Input;
 use tsp_base::name::Name;
@@ -142,23 +144,41 @@ fn first_wrong(node: &mut Node, pad: &mut Pad, rows: &[Row]) -> Result<Option<us
     Ok(None)
 }
 
-/// The node called `a` of three, which may not be master.
+/// Peer 0 of three, called `a`, which may not be master.
+fn config_of(alloc: Global) -> Result<Config, Fail> {
+    let peers = [PeerId(0), PeerId(1), PeerId(2)];
+    let name = Name::of(b"a")?;
+    Ok(Config::new(alloc, name, PeerId(0), &peers, false, false)?)
+}
+
+/// The node as it boots.
+fn booted(alloc: Global, pad: &mut Pad) -> Result<Node, Fail>
+    ensures clock { IfOk result (λ node. clock_at node ≤ 0) }
+{
+    pad.reserve(3)?;
+    let config = config_of(alloc)?;
+    Ok(Node::boot(alloc, &config, 0, WALL, 0, pad)?)
+}
+
+/// Whether a node has just booted with these acts.
+fn has_booted(node: &Node, acts: &[Placed]) -> bool {
+    are_told(acts, &["boot", "become starting", "arm quiet 80000000"])
+        && node.due() == 80_000_000
+        && node.role() == Role::Starting
+        && !node.tracing()
+}
+
+/// The index of the first row that goes wrong after a boot, and whether the boot and the last role are right.
+fn tried(alloc: Global) -> Result<(Option<usize>, bool), Fail> {
+    let mut pad = Pad::new(alloc);
+    let mut node = booted(alloc, &mut pad)?;
+    let is_right = has_booted(&node, pad.acts());
+    let wrong = first_wrong(&mut node, &mut pad, &ROWS)?;
+    Ok((wrong, is_right && node.role() == Role::Loose))
+}
+
 #[test]
 fn a_node_holds_one_candidate(rt: HostRuntime) -> Result<(), Fail> {
-    let peers = [PeerId(0), PeerId(1), PeerId(2)];
-    let config = Config::new(rt.alloc(), Name::of(b"a")?, PeerId(0), &peers, false, false)?;
-    let mut pad = Pad::new(rt.alloc());
-    pad.reserve(3)?;
-    let mut node = Node::boot(rt.alloc(), &config, 0, WALL, 0, &mut pad)?;
-    assert!(rt;
-        are_told(
-            pad.acts(),
-            &["boot", "become starting", "arm quiet 80000000"]
-        )
-    );
-    assert_eq!(rt; (node.due(), node.role()), (80_000_000, Role::Starting));
-    assert!(rt; !node.tracing());
-    assert_eq!(rt; first_wrong(&mut node, &mut pad, &ROWS)?, None);
-    assert_eq!(rt; node.role(), Role::Loose);
+    assert_eq!(rt; tried(rt.alloc())?, (None, true));
     Ok(())
 }

@@ -92,9 +92,14 @@ fn first_wrong(node: &mut Node, rows: &[Row]) -> Result<Option<usize>, AllocErro
     Ok(None)
 }
 
+/// Goes through steps at a new node, where elections aren't strict.
+fn tried(alloc: Global, rows: &[Row]) -> Result<Option<usize>, Fail> {
+    let mut node = node(alloc, false)?;
+    Ok(first_wrong(&mut node, rows)?)
+}
+
 #[test]
 fn counts_who_accepts(rt: HostRuntime) -> Result<(), Fail> {
-    let mut node = node(rt.alloc(), false)?;
     let rows: [Row; 3] = [
         STANDS,
         (400_000_001, Hears(Kind::Accept, 32_774), &[]),
@@ -104,13 +109,12 @@ fn counts_who_accepts(rt: HostRuntime) -> Result<(), Fail> {
             &["acked 1", "backer 1"],
         ),
     ];
-    assert_eq!(rt; first_wrong(&mut node, &rows)?, None);
+    assert_eq!(rt; tried(rt.alloc(), &rows)?, None);
     Ok(())
 }
 
 #[test]
 fn leads_where_nobody_refuses(rt: HostRuntime) -> Result<(), Fail> {
-    let mut node = node(rt.alloc(), false)?;
     let rows: [Row; 3] = [
         STANDS,
         (
@@ -129,13 +133,12 @@ fn leads_where_nobody_refuses(rt: HostRuntime) -> Result<(), Fail> {
             ],
         ),
     ];
-    assert_eq!(rt; first_wrong(&mut node, &rows)?, None);
+    assert_eq!(rt; tried(rt.alloc(), &rows)?, None);
     Ok(())
 }
 
 #[test]
 fn gives_way_at_a_refusal(rt: HostRuntime) -> Result<(), Fail> {
-    let mut node = node(rt.alloc(), false)?;
     let rows: [Row; 3] = [
         STANDS,
         (400_000_001, Hears(Kind::Refuse, 32_776), &[]),
@@ -145,13 +148,12 @@ fn gives_way_at_a_refusal(rt: HostRuntime) -> Result<(), Fail> {
             &["acked 1", "become loose", "arm elect 700000009"],
         ),
     ];
-    assert_eq!(rt; first_wrong(&mut node, &rows)?, None);
+    assert_eq!(rt; tried(rt.alloc(), &rows)?, None);
     Ok(())
 }
 
 #[test]
 fn gives_way_when_late(rt: HostRuntime) -> Result<(), Fail> {
-    let mut node = node(rt.alloc(), false)?;
     let rows: [Row; 3] = [
         STANDS,
         (
@@ -170,7 +172,7 @@ fn gives_way_when_late(rt: HostRuntime) -> Result<(), Fail> {
             ],
         ),
     ];
-    assert_eq!(rt; first_wrong(&mut node, &rows)?, None);
+    assert_eq!(rt; tried(rt.alloc(), &rows)?, None);
     Ok(())
 }
 
@@ -195,10 +197,16 @@ fn follows_a_master(rt: HostRuntime) -> Result<(), Fail> {
     Ok(())
 }
 
+/// Goes through steps at a new node, where elections are strict. What it is after them comes second.
+fn tried_strictly(alloc: Global, rows: &[Row]) -> Result<(Option<usize>, Role), Fail> {
+    let mut node = node(alloc, true)?;
+    let wrong = first_wrong(&mut node, rows)?;
+    Ok((wrong, node.station.role))
+}
+
 /// One of two isn't a majority, and two of two are one.
 #[test]
 fn wins_strictly_with_more_than_half(rt: HostRuntime) -> Result<(), Fail> {
-    let mut node = node(rt.alloc(), true)?;
     let rows: [Row; 5] = [
         STANDS,
         (
@@ -232,7 +240,6 @@ fn wins_strictly_with_more_than_half(rt: HostRuntime) -> Result<(), Fail> {
             ],
         ),
     ];
-    assert_eq!(rt; first_wrong(&mut node, &rows)?, None);
-    assert!(rt; node.station.role == Role::Master);
+    assert_eq!(rt; tried_strictly(rt.alloc(), &rows)?, (None, Role::Master));
     Ok(())
 }

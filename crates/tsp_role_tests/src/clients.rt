@@ -94,9 +94,14 @@ fn first_wrong(
     Ok(None)
 }
 
+/// Goes through steps at a new node whose trace is off.
+fn tried(alloc: Global, rows: &[Row]) -> Result<Option<usize>, Fail> {
+    let mut node = node(alloc)?;
+    Ok(first_wrong(&mut node, &mut false, rows)?)
+}
+
 #[test]
 fn names_the_master(rt: HostRuntime) -> Result<(), Fail> {
-    let mut node = node(rt.alloc())?;
     let rows: [Row; 7] = [
         (Names(1), &["post 0 - ack 1 %"]),
         (
@@ -113,27 +118,33 @@ fn names_the_master(rt: HostRuntime) -> Result<(), Fail> {
         (Names(4), &["post 0 - ack 4 a"]),
         (Says(5), &["post 0 - ack 5 a"]),
     ];
-    assert_eq!(rt; first_wrong(&mut node, &mut false, &rows)?, None);
+    assert_eq!(rt; tried(rt.alloc(), &rows)?, None);
     Ok(())
+}
+
+/// Goes through two lists of steps at a new node whose trace is off. What goes wrong in each, and whether the trace is
+/// on after it.
+fn turned(alloc: Global, first: &[Row], last: &[Row]) -> Result<[(Option<usize>, bool); 2], Fail> {
+    let mut node = node(alloc)?;
+    let mut tracing = false;
+    let wrong = first_wrong(&mut node, &mut tracing, first)?;
+    let is_on = tracing;
+    let wrong_last = first_wrong(&mut node, &mut tracing, last)?;
+    Ok([(wrong, is_on), (wrong_last, tracing)])
 }
 
 #[test]
 fn turns_the_trace(rt: HostRuntime) -> Result<(), Fail> {
-    let mut node = node(rt.alloc())?;
-    let mut tracing = false;
     let on: [Row; 1] = [(Traces(true, 6), &["trace on", "post 0 - ack 6 a"])];
-    assert_eq!(rt; first_wrong(&mut node, &mut tracing, &on)?, None);
-    assert!(rt; tracing);
     let off: [Row; 1] = [(Traces(false, 7), &["trace off", "post 0 - ack 7 a"])];
-    assert_eq!(rt; first_wrong(&mut node, &mut tracing, &off)?, None);
-    assert!(rt; !tracing);
+    let turned = turned(rt.alloc(), &on, &off)?;
+    assert_eq!(rt; turned, [(None, true), (None, false)]);
     Ok(())
 }
 
 /// It may stand for election 300 seconds after its boot.
 #[test]
 fn stands_when_it_is_asked_to(rt: HostRuntime) -> Result<(), Fail> {
-    let mut node = node(rt.alloc())?;
     let rows: [Row; 4] = [
         (Tests(79_000_000, 1), &[]),
         (Loosens, &["become loose"]),
@@ -149,6 +160,6 @@ fn stands_when_it_is_asked_to(rt: HostRuntime) -> Result<(), Fail> {
             ],
         ),
     ];
-    assert_eq!(rt; first_wrong(&mut node, &mut false, &rows)?, None);
+    assert_eq!(rt; tried(rt.alloc(), &rows)?, None);
     Ok(())
 }
