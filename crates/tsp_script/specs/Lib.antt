@@ -1,3 +1,4 @@
+pub mod Plains
 pub mod Ranges
 pub mod Schedules
 pub mod Texts

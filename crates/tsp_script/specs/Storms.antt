@@ -8,7 +8,10 @@ use Rattle.tsp_base.specs.declared.stamp.Stamp.TheVariants.{Request}
 use Rattle.tsp_base.specs.declared.datagram.Datagram.TheVariants.{Stamp as StampOf}
 use Rattle.tsp_base.specs.Joins.{first_port}
 use Rattle.tsp_codec.specs.Canon.{canon}
-use Rattle.tsp_script.specs.Schedules.{IsEvent}
+use Rattle.tsp_script.specs.Schedules.{IsEvent, IsTrueTime}
+use Rattle.tsp_script.specs.Plains.{event_in}
+use Rattle.tsp_script.specs.declared.storm.Choice.{Choice}
+use Rattle.tsp_script.specs.declared.storm.Choice.TheVariants.{Plain, Request as Asked, Ask as Asks}
 use Rattle.tsp_script.specs.declared.storm.Draw.{Draw}
 use Rattle.tsp_script.specs.declared.storm.Draw.TheVariants.{Event as Gives, Ask}
 
@@ -57,9 +60,13 @@ turns_one at v = (Turn at (drawn v.nodes (moved v)), gave at (moved v))
 abbrev pub request_octets : ℕ → List ℕ
 request_octets word = canon (StampOf (Request word 0))
 
+-- a stranger's request with this word at a node
+abbrev pub request_event : ℕ → ℕ → ℕ → Event
+request_event at node word = Bytes at node first_port Stranger (request_octets word)
+
 -- a node that is drawn takes a stranger's request, whose word is the state
 abbrev pub asks_one : ℕ → StormValue → Event × StormValue
-asks_one at v = (Bytes at (drawn v.nodes (moved v)) first_port Stranger (request_octets (moved v).state), gave at (moved v))
+asks_one at v = (request_event at (drawn v.nodes (moved v)) (moved v).state, gave at (moved v))
 
 -- one of the last datagrams, at most four for each node, of so many
 abbrev pub recent_one : ℕ → StormValue → ℕ
@@ -105,6 +112,18 @@ storm_next posted (Some time) v = storm_answer posted v.asked time v
 abbrev pub IsDraw : ℕ → Draw → Type 0
 IsDraw posted (Gives e) = IsEvent e
 IsDraw posted (Ask k) = k < posted
+
+-- what a choice gives, with the octets of a request
+abbrev pub draw_of : Choice → Draw
+draw_of (Plain plain) = Gives (event_in plain)
+draw_of (Asked at node word) = Gives (request_event at node word)
+draw_of (Asks k) = Ask k
+
+-- the same of a choice: its numbers are in their ranges
+abbrev pub IsChoice : ℕ → Choice → Type 0
+IsChoice posted (Plain plain) = IsEvent (event_in plain)
+IsChoice posted (Asked at node word) = IsTrueTime at × (node < 2 ^ 32)
+IsChoice posted (Asks k) = k < posted
 
 -- the latest time that may be reached: each event moves it by at most 20,000 microseconds, and a question counts as the event to come
 abbrev pub latest : ℕ → Option ℕ → ℕ

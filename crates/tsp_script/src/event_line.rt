@@ -7,6 +7,7 @@ ghost use Rattle.tsp_base.specs.declared.event.Event.{Event};
 ghost use Rattle.tsp_base.specs.declared.place.Place.{Place};
 ghost use Rattle.tsp_base.specs.declared.place.Port.{Port};
 ghost use Rattle.tsp_script.specs.declared.event_line.EventItem.{EventItem};
+ghost use Rattle.tsp_script.specs.Plains.{event_in};
 ghost use Rattle.tsp_script.specs.Schedules.{event_text, port_text, NamesPort, IsHexOf, IsPlace};
 ghost use Rattle.tsp_script.specs.Schedules.{IsEvent, SpellsEvent, SpellsRest, ReadsEvent};
 ghost use Rattle.tsp_script.specs.Traces.{place_text};
@@ -18,6 +19,7 @@ use crate::numbers::{
     append, append_next_number, append_number, front_number, long_of, next_number, number_of,
     octets_in,
 };
+use crate::plain::Plain;
 use crate::words::{cut, is_same, part};
 use arrayvec::ArrayVec;
 use tsp_base::constants::SCHEDULE_END;
@@ -265,40 +267,48 @@ pub fn event_line(line: &[u8]) -> Result<EventItem, LineFault>
     if is_same(line, b"end") {
         return Ok(EventItem::End);
     }
-    match common_event(line) {
+    if let Some(plain) = plain_line(line) {
+        return Ok(EventItem::Event(plain.event()));
+    }
+    match common_bytes(line) {
         Some(item) => Ok(item),
         None => any_event(line),
     }
 }
 
-/// The event of the most frequent lines: a turn, a take, or octets on port 0. None says nothing: the line
-/// may be another event's.
-fn common_event(line: &[u8]) -> Option<EventItem>
-    ensures { IfSome result (λ item. SpellsEvent line.now item) }
+/// The time of an event's line, and what follows the space after it.
+fn front_time(line: &[u8]) -> Option<(u64, &[u8])>
+    ensures { IfSome result (λ r. (r.0 ≤ 1000000000000000)
+        × (line.now ≡ codes "at " ++ (decimal r.0 ++ 32 ∷ r.1.now))) }
 {
     let line = after(line, b"at ")?;
     let (at, line) = front_number(line)?;
     if at > SCHEDULE_END {
         return None;
     }
-    if let Some(rest) = after(line, b"turn ") {
-        let node = long_number(rest)?;
-        return Some(EventItem::Event(Event::Turn { at, node }));
-    }
-    if let Some(rest) = after(line, b"take ") {
-        let datagram = number_of(rest)?;
-        return Some(EventItem::Event(Event::Take { at, datagram }));
-    }
-    let rest = after(line, b"bytes ")?;
-    common_bytes(at, rest)
+    Some((at, line))
 }
 
-/// Reads what follows `bytes`, of octets on port 0.
-fn common_bytes(at: u64, line: &[u8]) -> Option<EventItem>
-    requires { at ≤ 1000000000000000 }
-    ensures { IfSome result (λ item. SpellsEvent (codes "at "
-        ++ (decimal at ++ 32 ∷ (codes "bytes " ++ line.now))) item) }
+/// The event of the most frequent lines, a turn or a take. None says nothing: the line may be another event's.
+fn plain_line(line: &[u8]) -> Option<Plain>
+    ensures { IfSome result (λ plain. SpellsEvent line.now (EventItem.Event (event_in plain))) }
 {
+    let (at, line) = front_time(line)?;
+    if let Some(rest) = after(line, b"turn ") {
+        let node = long_number(rest)?;
+        return Some(Plain::Turn { at, node });
+    }
+    let rest = after(line, b"take ")?;
+    let datagram = number_of(rest)?;
+    Some(Plain::Take { at, datagram })
+}
+
+/// The event of a line with octets on port 0. None says nothing: the line may be another event's.
+fn common_bytes(line: &[u8]) -> Option<EventItem>
+    ensures { IfSome result (λ item. SpellsEvent line.now item) }
+{
+    let (at, line) = front_time(line)?;
+    let line = after(line, b"bytes ")?;
     let (node, line) = front_number(line)?;
     let node = long_of(node)?;
     let (from, hex) = front_place(line)?;

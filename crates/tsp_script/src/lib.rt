@@ -22,6 +22,9 @@
 //!
 //! [`storm::Storm`] makes schedules from a number: call `head` once for each node, and then `next` for
 //! each event.
+//!
+//! An `Event` has room for 300 octets, so handing it on costs time. `Storm::choice` is `next` for callers to
+//! whom that matters: it gives an event without octets as a small [`plain::Plain`].
 #![tactic(auto)]
 
 pub mod act_laws;
@@ -38,6 +41,7 @@ pub mod messages;
 pub mod names;
 mod net_line;
 pub mod numbers;
+pub mod plain;
 pub mod storm;
 pub mod trace;
 mod verbs;

@@ -1,7 +1,9 @@
 //! The generator of schedules.
 ghost use Rattle.std.specs.Prelude.{◌≡◌, ◌<◌, ◌≤◌, ◌↔◌, ◌+◌, ◌*◌, ◌^◌, ℕ, IsSome, ◌∷◌, length, decimal};
-ghost use Rattle.tsp_script.specs.Storms.{request_octets};
+ghost use Rattle.tsp_script.specs.Schedules.{IsEvent};
+ghost use Rattle.tsp_script.specs.Storms.{request_octets, request_event};
 
+use crate::plain::Plain;
 use arrayvec::ArrayVec;
 use itoa::Buffer;
 use std::marker::Model;
@@ -25,6 +27,39 @@ pub enum Draw {
     /// A question to the caller: when was the datagram with this number posted? The answer goes into the next
     /// call of `next`. The event takes the datagram if that was lately.
     Ask(u64),
+}
+
+/// What the generator chooses, without the octets of a request.
+#[derive(Clone, Copy)]
+pub enum Choice {
+    /// An event without octets.
+    Plain(Plain),
+    /// A stranger's request.
+    Request {
+        /// The true time.
+        at: u64,
+        /// The node that takes it.
+        node: u32,
+        /// The request's word.
+        word: u64,
+    },
+    /// A question to the caller, as `Draw::Ask` is.
+    Ask(u64),
+}
+
+/// A stranger's request at a node, as an event.
+pub fn request(at: u64, node: u32, word: u64) -> Event
+    requires { at ≤ 1000000000000000 }
+    ensures event { result ≡ request_event at node word }
+    ensures range { IsEvent result }
+{
+    Event::Bytes {
+        at,
+        node,
+        port: Port(0),
+        from: Place::Stranger,
+        octets: request_octets(word),
+    }
 }
 
 /// A schedule that is computed from a number: first a line for each node, then a boot of each node, and
@@ -68,6 +103,7 @@ impl Storm {
     ghost use Rattle.tsp_script.specs.Storms.{storm_begins, moved, drawn, storm_line, storm_named};
     ghost use Rattle.tsp_script.specs.Storms.{gave, boots_next, turns_one, asks_one, asks_or_turns, as_event};
     ghost use Rattle.tsp_script.specs.Storms.{storm_draw, storm_take, storm_next, IsDraw};
+    ghost use Rattle.tsp_script.specs.Storms.{draw_of, IsChoice};
 
     /// The generator that begins with this number, for 1 to 64 nodes.
     pub fn new(seed: u64, nodes: u32) -> Storm
@@ -132,6 +168,21 @@ impl Storm {
         ensures next { (result, self.new) ≡ storm_next posted recent self.old }
         ensures range { IsDraw posted result }
     {
+        match self.choice(posted, recent) {
+            Choice::Plain(plain) => Draw::Event(plain.event()),
+            Choice::Request { at, node, word } => Draw::Event(request(at, node, word)),
+            Choice::Ask(k) => Draw::Ask(k),
+        }
+    }
+
+    /// The same as `next`, but an event's octets are left to `request`.
+    pub fn choice(&mut self, posted: u64, recent: Option<u64>) -> Choice
+        requires named { self.old.named ≡ self.old.nodes }
+        requires few { self.old.given < 200000 }
+        requires recent { IsSome recent ↔ IsSome self.old.asked }
+        ensures next { (draw_of result, self.new) ≡ storm_next posted recent self.old }
+        ensures range { IsChoice posted result }
+    {
         let Some(time) = recent else {
             return self.choose(posted);
         };
@@ -142,11 +193,11 @@ impl Storm {
     }
 
     /// What comes next, where no question is open.
-    fn choose(&mut self, posted: u64) -> Draw
+    fn choose(&mut self, posted: u64) -> Choice
         requires few { self.old.given < 200000 }
         requires quiet { self.old.asked ≡ None }
-        ensures next { (result, self.new) ≡ storm_draw posted self.old }
-        ensures range { IsDraw posted result }
+        ensures next { (draw_of result, self.new) ≡ storm_draw posted self.old }
+        ensures range { IsChoice posted result }
     {
         if self.given < self.nodes {
             return self.boot();
@@ -163,11 +214,11 @@ impl Storm {
     }
 
     /// A question for one of the last datagrams, or a turn where none was posted.
-    fn ask(&mut self, at: u64, posted: u64) -> Draw
+    fn ask(&mut self, at: u64, posted: u64) -> Choice
         requires few { self.old.given < 200000 }
         requires time { at ≤ 20000 * (self.old.given + 1) }
-        ensures next { (result, self.new) ≡ asks_or_turns at posted self.old }
-        ensures range { IsDraw posted result }
+        ensures next { (draw_of result, self.new) ≡ asks_or_turns at posted self.old }
+        ensures range { IsChoice posted result }
     {
         if posted == 0 {
             return self.turn(at);
@@ -176,35 +227,35 @@ impl Storm {
         let k = posted - 1 - self.draw(among);
         self.at = at;
         self.asked = Some(k);
-        Draw::Ask(k)
+        Choice::Ask(k)
     }
 
     /// The event after a question whose answer is this time: the datagram's take, or a turn where the time is too
     /// long ago.
-    fn answer(&mut self, k: u64, time: u64) -> Draw
+    fn answer(&mut self, k: u64, time: u64) -> Choice
         requires few { self.old.given < 200000 }
         requires number { k < 2 ^ 64 }
-        ensures next { (result, self.new) ≡ as_event (storm_take k time self.old) }
-        ensures range { (posted : ℕ) → IsDraw posted result }
+        ensures next { (draw_of result, self.new) ≡ as_event (storm_take k time self.old) }
+        ensures range { (posted : ℕ) → IsChoice posted result }
     {
         let at = self.at;
         if at > time && at - time > RECENT {
             return self.turn(at);
         }
         self.give(at);
-        Draw::Event(Event::Take { at, datagram: k })
+        Choice::Plain(Plain::Take { at, datagram: k })
     }
 
     /// A boot of the next node.
-    fn boot(&mut self) -> Draw
+    fn boot(&mut self) -> Choice
         requires few { self.old.given < self.old.nodes }
-        ensures next { (result, self.new) ≡ as_event (boots_next self.old) }
-        ensures range { (posted : ℕ) → IsDraw posted result }
+        ensures next { (draw_of result, self.new) ≡ as_event (boots_next self.old) }
+        ensures range { (posted : ℕ) → IsChoice posted result }
     {
         self.step();
         let node = self.given;
         self.give(0);
-        Draw::Event(Event::Boot {
+        Choice::Plain(Plain::Boot {
             at: 0,
             node,
             word: self.state,
@@ -212,34 +263,28 @@ impl Storm {
     }
 
     /// A turn of a node that is drawn at random.
-    fn turn(&mut self, at: u64) -> Draw
+    fn turn(&mut self, at: u64) -> Choice
         requires few { self.old.given < 200000 }
         requires time { at ≤ 20000 * (self.old.given + 1) }
-        ensures next { (result, self.new) ≡ as_event (turns_one at self.old) }
-        ensures range { (posted : ℕ) → IsDraw posted result }
+        ensures next { (draw_of result, self.new) ≡ as_event (turns_one at self.old) }
+        ensures range { (posted : ℕ) → IsChoice posted result }
     {
         let node = self.draw(self.nodes as u64) as u32;
         self.give(at);
-        Draw::Event(Event::Turn { at, node })
+        Choice::Plain(Plain::Turn { at, node })
     }
 
     /// A stranger's request at a node that is drawn at random.
-    fn request(&mut self, at: u64) -> Draw
+    fn request(&mut self, at: u64) -> Choice
         requires few { self.old.given < 200000 }
         requires time { at ≤ 20000 * (self.old.given + 1) }
-        ensures next { (result, self.new) ≡ as_event (asks_one at self.old) }
-        ensures range { (posted : ℕ) → IsDraw posted result }
+        ensures next { (draw_of result, self.new) ≡ as_event (asks_one at self.old) }
+        ensures range { (posted : ℕ) → IsChoice posted result }
     {
         let node = self.draw(self.nodes as u64) as u32;
-        let octets = request_octets(self.state);
+        let word = self.state;
         self.give(at);
-        Draw::Event(Event::Bytes {
-            at,
-            node,
-            port: Port(0),
-            from: Place::Stranger,
-            octets,
-        })
+        Choice::Request { at, node, word }
     }
 
     /// Counts an event of this time.

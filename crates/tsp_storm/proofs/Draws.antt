@@ -8,9 +8,12 @@ use Rattle.tsp_base.specs.declared.event.Event.TheVariants.{Boot, Turn, Take, By
 use Rattle.tsp_base.specs.declared.place.Place.TheVariants.{Stranger}
 use Rattle.tsp_base.specs.Headers.{HeaderValue}
 use Rattle.tsp_base.specs.Joins.{first_port}
+use Rattle.tsp_script.specs.Plains.{event_in}
+use Rattle.tsp_script.specs.declared.storm.Choice.{Choice}
+use Rattle.tsp_script.specs.declared.storm.Choice.TheVariants.{Plain, Request, Ask as Asked}
 use Rattle.tsp_script.specs.declared.storm.Draw.{Draw}
 use Rattle.tsp_script.specs.declared.storm.Draw.TheVariants.{Event as Gives, Ask}
-use Rattle.tsp_script.specs.Storms.{StormValue, moved, drawn, gave, boots_next, turns_one, asks_one, recent_one, as_event, as_question, asks_or_turns, chosen, storm_draw, storm_take, storm_next}
+use Rattle.tsp_script.specs.Storms.{StormValue, moved, drawn, gave, boots_next, turns_one, asks_one, recent_one, as_event, as_question, asks_or_turns, chosen, storm_draw, storm_take, storm_next, draw_of, request_event}
 use Rattle.tsp_storm.specs.Schedules.{event_of, next_event, posted_in, time_in}
 use Rattle.tsp_run.specs.declared.posted.Posted.{Posted}
 use Rattle.tsp_run.specs.Run.{event_at, posted_time}
@@ -132,6 +135,21 @@ unfolding next_event event_of
 next-asked header events v posted k time u r same is at taken =
     let drawn_is : (Ask k, u) ≡ storm_draw (posted_in header events) v = is ∙ ap (λ p. storm_draw p v) same in
     taken ∙ ap (λ t. storm_take k t u) at ∙ ap (λ (d : Draw × StormValue). event_of header events d.0 d.1) drawn_is
+
+-- a choice that isn't a question is the next
+pub next-chosen : (header : HeaderValue) (events : List Event) (v : StormValue) (posted : ℕ) (c : Choice) (w : StormValue) → posted ≡ posted_in header events → (draw_of c, w) ≡ storm_next posted None v → ((k : ℕ) → c ≡ Asked k → ⊥) →
+    (draw_of c, w) ≡ as_event (next_event header events v)
+next-chosen header events v posted (Plain p) w same is other = ap (λ (r : Event × StormValue). as_event r) (next-given header events v posted (event_in p) w same is)
+next-chosen header events v posted (Request at node word) w same is other = ap (λ (r : Event × StormValue). as_event r) (next-given header events v posted (request_event at node word) w same is)
+next-chosen header events v posted (Asked k) w same is other = absurd (other k refl)
+
+-- the event of a draw is given back
+pub given-back : (e : Event) (w : StormValue) (r : Event × StormValue) → (Gives e, w) ≡ as_event r → (e, w) ≡ r
+given-back e w (f, x) is = let event : Gives e ≡ Gives f = ap (λ (d : Draw × StormValue). d.0) is in let storm : w ≡ x = ap (λ (d : Draw × StormValue). d.1) is in let same : e ≡ f = cc in cc
+
+-- a question is no event
+pub asks-none : (k : ℕ) (w : StormValue) (r : Event × StormValue) → (Ask k, w) ≡ as_event r → ⊥
+asks-none k w (f, x) is = let event : Ask k ≡ Gives f = ap (λ (d : Draw × StormValue). d.0) is in cc
 
 -- a generator that asked waits for the answer
 pub asks_is : (posted k : ℕ) (v u : StormValue) → 1 ≤ v.nodes → (Ask k, u) ≡ storm_next posted None v → Asks posted v k u

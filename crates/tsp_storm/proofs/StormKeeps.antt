@@ -9,17 +9,16 @@ use Rattle.tsp_args.specs.Storms.{IsStorm}
 use Rattle.tsp_args.specs.declared.storm.StormWords.{StormWords}
 use Rattle.tsp_base.specs.declared.header.NodeLine.{NodeLine}
 use Rattle.tsp_base.specs.declared.name.NameFault.TheVariants.{TooLong, HasNul}
-use Rattle.tsp_base.specs.Headers.{HeaderValue, IsHeader, Keeps}
+use Rattle.tsp_base.specs.Headers.{IsHeader, Keeps}
 use Rattle.tsp_base.specs.Names.{IsName}
 use Rattle.tsp_run.specs.Premised.{NamesDiffer}
 use Rattle.tsp_run.specs.Ranges.{Accepted}
-use Rattle.tsp_run.specs.Refusals.{Valid}
-use Rattle.tsp_run.specs.Setup.{node_line, nobody}
+use Rattle.tsp_run.specs.Setup.{nobody}
 use Rattle.tsp_run.proofs.RunPremises.{runs-keep-premises}
 use Rattle.tsp_run.proofs.RunPromises.{runs-keep-promises}
 use Rattle.tsp_script.specs.Storms.{StormValue, storm_line}
 use Rattle.tsp_script.proofs.NodeNames.{node_name_fits}
-use Rattle.tsp_storm.specs.Kept.{KeptOutright, StormKept}
+use Rattle.tsp_storm.specs.Kept.{StormKept}
 use Rattle.tsp_storm.specs.Schedules.{after_lines, events_of, generator_of, header_of, lines_of, made}
 use Rattle.tsp_storm.proofs.Draws.{next_moves}
 use Rattle.tsp_storm.proofs.Heads.{rate_near, wall_near}

@@ -8,7 +8,6 @@ use Rattle.std.proofs.lemmas.Nat.{mod_below}
 use Rattle.tsp_base.specs.declared.event.Event.{Event}
 use Rattle.tsp_base.specs.declared.event.Event.TheVariants.{Boot, Turn, Take, Bytes}
 use Rattle.tsp_base.specs.declared.constants.TheConstants.{LIFE}
-use Rattle.tsp_base.specs.declared.place.Place.TheVariants.{Stranger}
 use Rattle.tsp_base.specs.Headers.{HeaderValue}
 use Rattle.tsp_run.specs.declared.posted.Posted.{Posted}
 use Rattle.tsp_run.specs.Premised.{Apart, IsSealed, Prompt, Sealed}

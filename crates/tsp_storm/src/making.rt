@@ -1,11 +1,13 @@
-//! A schedule in the making: the generator, and the world that its events happen in.
-ghost use Rattle.std.specs.Prelude.{◌≡◌, ◌<◌, ◌≤◌, ◌+◌, List, None, Some, IfOk, IfErr, OnOk, length};
+//! A schedule in the making: the generator, and the world that its events happen in. An event with octets is
+//! made only when it happens, since it is long.
+ghost use Rattle.std.specs.Prelude.{◌≡◌, ◌<◌, ◌≤◌, ◌+◌, ◌∷◌, List, None, Some, IfOk, IfErr, OnOk};
+ghost use Rattle.std.specs.Prelude.{length};
 ghost use Rattle.tsp_base.specs.Headers.{HeaderValue};
 ghost use Rattle.tsp_base.specs.declared.event.Event.{Event};
 ghost use Rattle.tsp_script.specs.Schedules.{IsEvent};
-ghost use Rattle.tsp_script.specs.Storms.{storm_take};
+ghost use Rattle.tsp_script.specs.Storms.{storm_take, draw_of, as_event, IsChoice};
 ghost use Rattle.tsp_storm.specs.Makings.{MakingStands, StopsFor};
-ghost use Rattle.tsp_storm.specs.Schedules.{next_event};
+ghost use Rattle.tsp_storm.specs.Schedules.{header_of, events_of, event_after, next_event};
 ghost use Rattle.tsp_args.specs.Storms.{IsStorm};
 ghost use Rattle.tsp_world.specs.WorldStands.{WorldStands};
 
@@ -14,7 +16,7 @@ use std::alloc::{AllocError, Global};
 use tsp_args::storm::StormWords;
 use tsp_base::event::{Event, EventFault};
 use tsp_run::line::Line;
-use tsp_script::storm::{Draw, Storm};
+use tsp_script::storm::{Choice, Storm, request};
 use tsp_world::world::World;
 
 /// Why no event more was made.
@@ -33,38 +35,58 @@ pub struct Making {
     world: World,
 }
 
-/// The event that comes after those of a world.
-fn draw(storm: &mut Storm, world: &World) -> Event
+/// The event that comes after those of a world, as a choice, which isn't a question.
+fn draw(storm: &mut Storm, world: &World) -> Choice
     requires some { 1 ≤ storm.old.nodes }
     requires named { storm.old.named ≡ storm.old.nodes }
     requires few { storm.old.given < 200000 }
     requires quiet { storm.old.asked ≡ None }
     ensures next { (header : HeaderValue) (events : List Event)
         → WorldStands header events world.now
-        → (result, storm.new) ≡ next_event header events storm.old }
-    ensures range { IsEvent result }
+        → (draw_of result, storm.new) ≡ as_event (next_event header events storm.old) }
+    ensures range { IsChoice (length world.now.sent.items) result }
 {
     let posted = world.posted();
-    match storm.next(posted, None) {
-        Draw::Event(e) => e,
-        Draw::Ask(k) => match world.posted_at(k) {
+    match storm.choice(posted, None) {
+        Choice::Ask(k) => match world.posted_at(k) {
             Some(time) => answer(storm, posted, k, time),
             None => unreachable!(),
         },
+        choice => choice,
     }
 }
 
 /// The event after a question for this datagram, which was posted at this time.
-fn answer(storm: &mut Storm, posted: u64, k: u64, time: u64) -> Event
+fn answer(storm: &mut Storm, posted: u64, k: u64, time: u64) -> Choice
     requires named { storm.old.named ≡ storm.old.nodes }
     requires few { storm.old.given < 200000 }
     requires asked { storm.old.asked ≡ Some k }
-    ensures next { (result, storm.new) ≡ storm_take k time storm.old }
-    ensures range { IsEvent result }
+    ensures next { (draw_of result, storm.new) ≡ as_event (storm_take k time storm.old) }
+    ensures range { IsChoice posted result }
 {
-    match storm.next(posted, Some(time)) {
-        Draw::Event(e) => e,
-        Draw::Ask(_) => unreachable!(),
+    storm.choice(posted, Some(time))
+}
+
+/// Lets the event happen that comes after those of the world: `Limit` exactly where there is no room for it, with
+/// its number, from 1 on.
+fn happen(world: &mut World, words: &StormWords, e: &Event) -> Result<(), Stopped>
+    requires words { IsStorm words.now }
+    requires more { world.old.events < words.now.events }
+    requires stands { WorldStands (header_of words.now) (events_of words.now world.old.events)
+        world.old }
+    requires event { e.now ≡ event_after words.now world.old.events }
+    requires range { IsEvent e.now }
+    ensures stands { OnOk result (WorldStands (header_of words.now) (events_of words.now
+        (world.old.events + 1)) world.new) }
+    ensures stops { IfErr result (λ stop. StopsFor words.now world.old.events stop) }
+{
+    match world.event(e) {
+        Ok(()) => Ok(()),
+        Err(fault) => match fault {
+            EventFault::Limit(events, _) => Err(Stopped::Limit(events + 1)),
+            EventFault::OutOfMemory => Err(Stopped::OutOfMemory),
+            _ => unreachable!(),
+        },
     }
 }
 
@@ -91,16 +113,15 @@ impl Making {
         requires more { self.old.storm.given < words.now.events }
         ensures stands { OnOk result (MakingStands words.now self.new) }
         ensures given { OnOk result (self.new.storm.given ≡ self.old.storm.given + 1) }
+        ensures event { OnOk result (WorldStands (header_of words.now) (event_after words.now
+            self.old.storm.given ∷ events_of words.now self.old.storm.given) self.new.world) }
         ensures stops { IfErr result (λ stop. StopsFor words.now self.old.storm.given stop) }
     {
-        let e = draw(&mut self.storm, &self.world);
-        match self.world.event(&e) {
-            Ok(()) => Ok(()),
-            Err(fault) => match fault {
-                EventFault::Limit(events, _) => Err(Stopped::Limit(events + 1)),
-                EventFault::OutOfMemory => Err(Stopped::OutOfMemory),
-                _ => unreachable!(),
-            },
+        let world = &mut self.world;
+        match draw(&mut self.storm, world) {
+            Choice::Plain(plain) => happen(world, words, &plain.event()),
+            Choice::Request { at, node, word } => happen(world, words, &request(at, node, word)),
+            Choice::Ask(_) => unreachable!(),
         }
     }
 

@@ -67,8 +67,13 @@ fn say<K: Sink>(sink: &mut K, text: &[u8], end: StormEnd) -> StormEnd
     }
 }
 
-/// Makes a schedule from a number, runs it, and writes the summary of its run in one line. That run keeps
-/// the promises with nothing asked (`specs/Kept.antt`).
+/// Makes a schedule from a number, runs it, and writes the summary of its run in one line: the numbers of
+/// events, of datagrams posted and taken, of clock corrections, and of times that a node became master.
+///
+/// That run keeps the promises (`specs/Kept.antt`): in it no datagram is forged or taken too late, and the boots'
+/// words and the nodes' names differ. One promise asks for more, that who acknowledges a date has taken
+/// it: no port may begin 32,768 sends in one life of its node, as none does where fewer than 32,768
+/// datagrams are posted.
 ///
 /// An event for which there is no room ends it with `Limit` and the line `limit E`, where E is the event's
 /// number, from 1 on. `WriteFault` comes only where the sink's count of faults rose in this call.

@@ -1,51 +1,107 @@
 -- A step is the schedule's next event, and only a limit refuses it.
-use Rattle.std.proofs.Common.{ap, arith, ◌+◌}
+use Rattle.std.proofs.Common.{◌∙◌}
+use Rattle.tsp_script.specs.Plains.{event_in}
+use Rattle.tsp_script.specs.Storms.{request_event}
 use Rattle.tsp_storm.specs.Schedules.{header_of, events_of}
-use Rattle.tsp_storm.proofs.Steps.{made_now, moves_now, stands_next, no_other_now, stops_now}
+use Rattle.tsp_storm.proofs.Draws.{given-back}
+use Rattle.tsp_storm.proofs.Steps.{made_now, more_now, world_now, event_now, on_step, stops_step}
 use Rattle.tsp_storm.proofs.making.Making.step.Goals as goal
 
-pub draw-e-requires-clause-some : goal.draw-e-requires-clause-some
-draw-e-requires-clause-some c = (made_now c.args.words.now c.args.self.now c.requires.stands).some
+pub draw-requires-clause-some : goal.draw-requires-clause-some
+draw-requires-clause-some c = (made_now c.args.words.now c.args.self.now c.requires.stands).some
 
-pub draw-e-requires-clause-named : goal.draw-e-requires-clause-named
-draw-e-requires-clause-named c = (made_now c.args.words.now c.args.self.now c.requires.stands).named
+pub draw-requires-clause-named : goal.draw-requires-clause-named
+draw-requires-clause-named c = (made_now c.args.words.now c.args.self.now c.requires.stands).named
 
-pub draw-e-requires-clause-quiet : goal.draw-e-requires-clause-quiet
-draw-e-requires-clause-quiet c = (made_now c.args.words.now c.args.self.now c.requires.stands).quiet
+pub draw-requires-clause-quiet : goal.draw-requires-clause-quiet
+draw-requires-clause-quiet c = (made_now c.args.words.now c.args.self.now c.requires.stands).quiet
 
-pub unreachable-requires : goal.unreachable-requires
-unreachable-requires c =
-    let header = header_of c.args.words.now in
-    let events = events_of c.args.words.now c.args.self.now.storm.given in
-    let world = c.requires.stands.world in
-    no_other_now c.args.words.now c.args.self.now c.draw-e.result c.draw-e.new.storm c.in-Err.fault c.requires.stands (c.draw-e.ensures.next header events world) (c.in-Err.ensures.fault header events world) c.in_default.not-Limit c.in_default.not-OutOfMemory
+pub happen-requires-clause-more : goal.happen-requires-clause-more
+happen-requires-clause-more c = more_now c.args.words.now c.args.self.now c.requires.stands c.requires.more
 
-pub overflow_add-result : goal.overflow_add-result
-overflow_add-result c =
-    let header = header_of c.args.words.now in
-    let events = events_of c.args.words.now c.args.self.now.storm.given in
-    let world = c.requires.stands.world in
-    let stops = stops_now c.args.words.now c.args.self.now c.draw-e.result c.draw-e.new.storm c.in-Err.fault c.in-Limit.events c.in-Limit.field-1 c.requires.stands c.requires.more (c.draw-e.ensures.next header events world) (c.in-Err.ensures.fault header events world) c.in-Limit.is in
-    let same = stops.0 in
-    let more = c.requires.more in
-    let few = c.requires.stands.words.events in
-    omega (arith, same, more, few)
+pub happen-requires-clause-stands : goal.happen-requires-clause-stands
+happen-requires-clause-stands c = world_now c.args.words.now c.args.self.now c.requires.stands
 
-pub returns-in-Limit-clause-stops : goal.returns-in-Limit-clause-stops
-returns-in-Limit-clause-stops c =
-    let header = header_of c.args.words.now in
-    let events = events_of c.args.words.now c.args.self.now.storm.given in
-    let world = c.requires.stands.world in
-    let stops = stops_now c.args.words.now c.args.self.now c.draw-e.result c.draw-e.new.storm c.in-Err.fault c.in-Limit.events c.in-Limit.field-1 c.requires.stands c.requires.more (c.draw-e.ensures.next header events world) (c.in-Err.ensures.fault header events world) c.in-Limit.is in
-    (ap (λ n. n + 1) stops.0, stops.1)
+pub happen-requires-clause-event : goal.happen-requires-clause-event
+happen-requires-clause-event c =
+    let s = c.args.words.now in
+    let m = c.args.self.now in
+    let st = c.requires.stands in
+    let next = c.in-Plain.ensures.next (header_of s) (events_of s m.storm.given) st.world in
+    let comes = given-back (event_in c.in-Plain.plain) c.draw.new.storm _ next in
+    c.event.ensures ∙ event_now s m (event_in c.in-Plain.plain) c.draw.new.storm st comes
 
-pub returns-in-Ok-clause-stands : goal.returns-in-Ok-clause-stands
-returns-in-Ok-clause-stands c =
-    let header = header_of c.args.words.now in
-    let events = events_of c.args.words.now c.args.self.now.storm.given in
-    let world = c.requires.stands.world in
-    stands_next c.args.words.now c.args.self.now c.draw-e.result c.draw-e.new.storm c.event.new.self c.requires.stands (c.draw-e.ensures.next header events world) (c.in-Ok.ensures.stands header events world)
+pub returns-in-Plain-clause-stands : goal.returns-in-Plain-clause-stands
+returns-in-Plain-clause-stands c =
+    let s = c.args.words.now in
+    let m = c.args.self.now in
+    let st = c.requires.stands in
+    let next = c.in-Plain.ensures.next (header_of s) (events_of s m.storm.given) st.world in
+    let comes = given-back (event_in c.in-Plain.plain) c.draw.new.storm _ next in
+    on_step s m (event_in c.in-Plain.plain) c.draw.new.storm c.happen.new.world c.happen.result _ st comes (λ d. d.stands) c.happen.ensures.stands
 
-pub returns-in-Ok-clause-given : goal.returns-in-Ok-clause-given
-returns-in-Ok-clause-given c =
-    (moves_now c.args.words.now c.args.self.now c.draw-e.result c.draw-e.new.storm c.requires.stands (c.draw-e.ensures.next (header_of c.args.words.now) (events_of c.args.words.now c.args.self.now.storm.given) c.requires.stands.world)).given
+pub returns-in-Plain-clause-given : goal.returns-in-Plain-clause-given
+returns-in-Plain-clause-given c =
+    let s = c.args.words.now in
+    let m = c.args.self.now in
+    let st = c.requires.stands in
+    let next = c.in-Plain.ensures.next (header_of s) (events_of s m.storm.given) st.world in
+    let comes = given-back (event_in c.in-Plain.plain) c.draw.new.storm _ next in
+    on_step s m (event_in c.in-Plain.plain) c.draw.new.storm c.happen.new.world c.happen.result _ st comes (λ d. d.given) c.happen.ensures.stands
+
+pub returns-in-Plain-clause-event : goal.returns-in-Plain-clause-event
+returns-in-Plain-clause-event c =
+    let s = c.args.words.now in
+    let m = c.args.self.now in
+    let st = c.requires.stands in
+    let next = c.in-Plain.ensures.next (header_of s) (events_of s m.storm.given) st.world in
+    let comes = given-back (event_in c.in-Plain.plain) c.draw.new.storm _ next in
+    on_step s m (event_in c.in-Plain.plain) c.draw.new.storm c.happen.new.world c.happen.result _ st comes (λ d. d.event) c.happen.ensures.stands
+
+pub returns-in-Plain-clause-stops : goal.returns-in-Plain-clause-stops
+returns-in-Plain-clause-stops c = stops_step c.args.words.now c.args.self.now c.happen.result c.requires.stands c.happen.ensures.stops
+
+pub happen-requires-in-Request-clause-more : goal.happen-requires-in-Request-clause-more
+happen-requires-in-Request-clause-more c = more_now c.args.words.now c.args.self.now c.requires.stands c.requires.more
+
+pub happen-requires-in-Request-clause-stands : goal.happen-requires-in-Request-clause-stands
+happen-requires-in-Request-clause-stands c = world_now c.args.words.now c.args.self.now c.requires.stands
+
+pub happen-requires-in-Request-clause-event : goal.happen-requires-in-Request-clause-event
+happen-requires-in-Request-clause-event c =
+    let s = c.args.words.now in
+    let m = c.args.self.now in
+    let st = c.requires.stands in
+    let next = c.in-Request.ensures.next (header_of s) (events_of s m.storm.given) st.world in
+    let comes = given-back (request_event c.in-Request.at c.in-Request.node c.in-Request.word) c.draw.new.storm _ next in
+    c.request.ensures.event ∙ event_now s m (request_event c.in-Request.at c.in-Request.node c.in-Request.word) c.draw.new.storm st comes
+
+pub returns-in-Request-clause-stands : goal.returns-in-Request-clause-stands
+returns-in-Request-clause-stands c =
+    let s = c.args.words.now in
+    let m = c.args.self.now in
+    let st = c.requires.stands in
+    let next = c.in-Request.ensures.next (header_of s) (events_of s m.storm.given) st.world in
+    let comes = given-back (request_event c.in-Request.at c.in-Request.node c.in-Request.word) c.draw.new.storm _ next in
+    on_step s m (request_event c.in-Request.at c.in-Request.node c.in-Request.word) c.draw.new.storm c.happen-in-Request.new.world c.happen-in-Request.result _ st comes (λ d. d.stands) c.happen-in-Request.ensures.stands
+
+pub returns-in-Request-clause-given : goal.returns-in-Request-clause-given
+returns-in-Request-clause-given c =
+    let s = c.args.words.now in
+    let m = c.args.self.now in
+    let st = c.requires.stands in
+    let next = c.in-Request.ensures.next (header_of s) (events_of s m.storm.given) st.world in
+    let comes = given-back (request_event c.in-Request.at c.in-Request.node c.in-Request.word) c.draw.new.storm _ next in
+    on_step s m (request_event c.in-Request.at c.in-Request.node c.in-Request.word) c.draw.new.storm c.happen-in-Request.new.world c.happen-in-Request.result _ st comes (λ d. d.given) c.happen-in-Request.ensures.stands
+
+pub returns-in-Request-clause-event : goal.returns-in-Request-clause-event
+returns-in-Request-clause-event c =
+    let s = c.args.words.now in
+    let m = c.args.self.now in
+    let st = c.requires.stands in
+    let next = c.in-Request.ensures.next (header_of s) (events_of s m.storm.given) st.world in
+    let comes = given-back (request_event c.in-Request.at c.in-Request.node c.in-Request.word) c.draw.new.storm _ next in
+    on_step s m (request_event c.in-Request.at c.in-Request.node c.in-Request.word) c.draw.new.storm c.happen-in-Request.new.world c.happen-in-Request.result _ st comes (λ d. d.event) c.happen-in-Request.ensures.stands
+
+pub returns-in-Request-clause-stops : goal.returns-in-Request-clause-stops
+returns-in-Request-clause-stops c = stops_step c.args.words.now c.args.self.now c.happen-in-Request.result c.requires.stands c.happen-in-Request.ensures.stops
