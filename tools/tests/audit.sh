@@ -1,6 +1,6 @@
 #!/bin/sh
-# What the audit says of claimed traces: of the examples' own, of one with a changed field, of schedules with other traces, and of
-# inputs at its limits.
+# What the audit says of claimed traces: of the examples' own, of one with a changed field, of schedules with other traces, of a
+# history that breaks each clause of each part, and of inputs at its limits.
 . "$(dirname "$0")/common.sh"
 ./tsp show </dev/null || fail "the program isn't there"
 program=crates/tsp_cli/out/tsp_cli
@@ -50,6 +50,9 @@ audits "$out/input" 'fails 14 6' 0 'two corrections within the gap'
 sed '/^5 .* took /a\
 5 0 0 149999999 back 2' examples/hold.trace | cat examples/hold.tsp - >"$out/input"
 audits "$out/input" 'fails 12 5' 0 'two candidates within the hold'
+
+# For each clause of each part a history that breaks it, and one that keeps it.
+python3 tools/tests/audit_clauses.py "$program" || fail 'a clause is judged otherwise'
 
 # Nothing is claimed: a boot lacks its line.
 audits examples/first.tsp "bad $(($(wc -l <examples/first.tsp) + 1)) history" 2 'a boot without its line'

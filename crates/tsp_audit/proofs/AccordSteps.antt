@@ -140,6 +140,10 @@ pub all-bounded : (h : List Line) (states : List NodeState) → AllAre h states 
 all-bounded h states a = λ n s at. (a n s at).bounded
 
 -- the state at an index, read by whatever default
+-- what stands at an index is what stands there
+pub here-at : (states : List NodeState) (i : ℕ) (d : NodeState) → i < length states → IsAt states i (get_or states i d)
+here-at states i d lt = record { below = lt; is = get_or_default states i (get_or states i d) d lt }
+
 pub state-at : (states : List NodeState) (i k : ℕ) (d b : NodeState) → IsAt states k b → i ≡ k → get_or states i d ≡ b
 state-at states i k d b at e = get_or_default states i d b (omega (arith, e, at.below)) ∙ (ap (λ (j : ℕ). get_or states j b) e ∙ at.is)
 

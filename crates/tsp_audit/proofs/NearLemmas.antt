@@ -1,11 +1,14 @@
 -- Whether clocks are near each other, as it is computed.
-use Rattle.std.specs.Prelude.{◌≡◌, ◌+◌, ◌*◌, ◌≤ℤ◌, ◌<◌, ◌≤◌, ℕ, ℤ, pos, ◌+ℤ◌, ◌-ℤ◌, nat_abs, Bool, List, length, MatchBool}
-use Rattle.std.proofs.Common.{arith, subst, subst₂, sym, ◌⊎◌, inl, inr}
+use Rattle.std.specs.Prelude.{◌≡◌, ◌+◌, ◌*◌, ◌≤ℤ◌, ◌<◌, ◌≤◌, ℕ, ℤ, pos, ◌+ℤ◌, ◌-ℤ◌, nat_abs, Bool, true, false, Option, Some, List, length, MatchBool}
+use Rattle.std.proofs.Common.{arith, rules, refl, subst, subst₂, sym, ◌⊎◌, inl, inr}
 use Rattle.std.proofs.lemmas.Bool.{cases_lt}
 use Rattle.std.proofs.lemmas.Int.{ints}
 use Rattle.tsp_base.specs.Headers.{HeaderValue}
-use Rattle.tsp_audit.specs.Agreeing.{AgreesBack, AllAgree, IsAt, NodeAgrees, PairAgrees, shown_by}
+use Rattle.tsp_audit.specs.Standings.{StandsAs}
+use Rattle.tsp_audit.specs.declared.standing.Standing.{Standing}
+use Rattle.tsp_audit.specs.Agreeing.{AgreesBack, AllAgree, BossAgrees, IsAt, NodeAgrees, PairAgrees, PairNear, shown_by}
 use Rattle.tsp_audit.specs.declared.round_correction.NodeState.{NodeState}
+use Rattle.tsp_audit.specs.declared.round_correction.RoundCorrection.{RoundCorrection}
 
 pub near-told : (b : Bool) (u v most x y w : ℤ) → u ≡ x → v ≡ y → most ≡ w → MatchBool b (pos (nat_abs (u -ℤ v)) ≤ℤ most) (pos (nat_abs (u -ℤ v)) ≤ℤ most → ⊥) → MatchBool b (pos (nat_abs (x -ℤ y)) ≤ℤ w) (pos (nat_abs (x -ℤ y)) ≤ℤ w → ⊥)
 near-told b u v most x y w ux vy mw m =
@@ -16,6 +19,20 @@ bound-same a e b f s t u v ae bf su tv = omega (arith, ints, ae, bf, su, tv)
 
 pub lone-same : (a e : ℤ) (s u : ℕ) → a ≡ e → s ≡ u → (a +ℤ pos 0) +ℤ pos (2 * s + 2 * 0) ≡ e +ℤ pos (2 * u)
 lone-same a e s u ae su = omega (arith, ints, ae, su)
+
+-- a clock that stands so shows its wall, its corrections and its tick
+pub stands-shown : (header : HeaderValue) (t n : ℕ) (a : NodeState) (s : Standing) (m : ℤ) → StandsAs header t n a s → (s.wall +ℤ m) +ℤ pos s.tick ≡ shown_by header n m t
+stands-shown header t n a s m is =
+    subst₂ (λ (w : ℤ) (k : ℕ). (s.wall +ℤ m) +ℤ pos s.tick ≡ (w +ℤ m) +ℤ pos k) is.wall_is is.tick_is refl
+
+some-same : (o : Option RoundCorrection) (c d : RoundCorrection) → o ≡ Some c → o ≡ Some d → c ≡ d
+some-same o c d is was = search (rules, is, was)
+
+-- two nodes that one Close corrected agree exactly where they are near
+pub pair-told : (header : HeaderValue) (t n k : ℕ) (a b : NodeState) (c d : RoundCorrection) (r : Bool) → a.cast ≡ Some c → b.cast ≡ Some d → c.master ≡ d.master → c.close ≡ d.close →
+    MatchBool r (PairNear header t n a c k b d) (PairNear header t n a c k b d → ⊥) → MatchBool r (PairAgrees header t n a k b) (PairAgrees header t n a k b → ⊥)
+pair-told header t n k a b c d true ac bd masters closes near = λ e f ae bf ms cs. subst₂ (λ (x y : RoundCorrection). PairNear header t n a x k b y) (some-same a.cast c e ac ae) (some-same b.cast d f bd bf) near
+pair-told header t n k a b c d false ac bd masters closes far = λ agrees. far (agrees c d ac bd masters closes)
 
 near-turned : (x y m w : ℤ) → pos (nat_abs (x -ℤ y)) ≤ℤ m → m ≡ w → pos (nat_abs (y -ℤ x)) ≤ℤ w
 near-turned x y m w near same = omega (arith, ints, near, same)
@@ -36,3 +53,9 @@ all-back header t states back n a at = record { pairs = pairs; master = (back n 
 
 pub back-all : (header : HeaderValue) (t n : ℕ) (a : NodeState) (states : List NodeState) → NodeAgrees header t n a states → AgreesBack header t n a states
 back-all header t n a states agrees = record { pairs = λ k b le at. agrees.pairs k b at; master = agrees.master }
+
+-- a node that agrees with the others agrees exactly where it does with its master
+pub agrees-then : (header : HeaderValue) (t n : ℕ) (a : NodeState) (states : List NodeState) (r : Bool) → ((k : ℕ) (b : NodeState) → k ≤ n → IsAt states k b → PairAgrees header t n a k b) →
+    MatchBool r (BossAgrees header t n a states) (BossAgrees header t n a states → ⊥) → MatchBool r (AgreesBack header t n a states) (AgreesBack header t n a states → ⊥)
+agrees-then header t n a states true pairs master = record { pairs = pairs; master = master }
+agrees-then header t n a states false pairs differs = λ agrees. differs agrees.master

@@ -13,4 +13,5 @@ pub mod Parts
 pub mod Premised
 pub mod Resting
 pub mod Settings
+pub mod Standings
 pub mod Verdicts

@@ -186,7 +186,7 @@ impl AgreementTracker {
 
     /// Whether the clocks of all nodes agree at a time, which may be known.
     fn agree_at(&self, header: &Header, at: u64, known: bool) -> bool
-        requires few { length self.now.nodes.items < 2 ^ 32 }
+        requires few { length self.now.nodes.items ≤ 64 }
         requires known { known ≡ true → at ≤ 1000000000000000 → AllBounded self.now.nodes.items
             → AllAgree header.now at self.now.nodes.items }
         ensures { at ≤ 1000000000000000 → AllBounded self.now.nodes.items

@@ -1,6 +1,5 @@
 //! The clocks of a schedule's nodes.
 ghost use Rattle.std.specs.Prelude.{◌≡◌, ◌≤◌, ◌<◌, ◌^◌, ◌+ℤ◌, pos, length, nat_abs};
-ghost use Rattle.tsp_audit.specs.Agreeing.{shown_by};
 ghost use Rattle.tsp_audit.specs.Settings.{clock_in};
 ghost use Rattle.tsp_base.specs.Ticks.{tick_at};
 ghost use Rattle.tsp_run.specs.Setup.{node_line};
@@ -16,7 +15,7 @@ use tsp_history::line::HistoryLine;
 
 /// A node's rate, in millionths, and its wall clock at tick 0, in microseconds; 0 for a number that
 /// no node has.
-fn clock_of(header: &Header, node: u32) -> (i32, i64)
+pub(crate) fn clock_of(header: &Header, node: u32) -> (i32, i64)
     ensures rate { result.0 ≡ (node_line header.now node).rate }
     ensures small { nat_abs result.0 ≤ 1000 }
     ensures wall { result.1 ≡ (node_line header.now node).wall }
@@ -28,7 +27,7 @@ fn clock_of(header: &Header, node: u32) -> (i32, i64)
 }
 
 /// The tick of a counter that gains `rate` microseconds a second, at a true time of a schedule.
-fn tick_of(rate: i32, at: u64) -> u64
+pub(crate) fn tick_of(rate: i32, at: u64) -> u64
     requires { nat_abs rate ≤ 1000 }
     ensures { at ≤ 1000000000000000 → result ≡ tick_at rate at }
 {
@@ -40,7 +39,7 @@ fn tick_of(rate: i32, at: u64) -> u64
 }
 
 /// A clock's wall at tick 0, the amounts of its corrections, and its tick, in microseconds.
-fn add(wall: i64, moved: i128, tick: u64) -> i128
+pub(crate) fn add(wall: i64, moved: i128, tick: u64) -> i128
     requires { IsSumOf 4294967295 moved }
     ensures sum { result ≡ (wall +ℤ moved) +ℤ pos tick }
     ensures small { IsSmall result }
@@ -63,7 +62,7 @@ pub(crate) fn clock_at(header: &Header, lines: &[HistoryLine], node: u32, at: u6
 }
 
 /// The amounts of corrections, if they are no more than those of all lines can be; else 0.
-fn bounded(moved: i128) -> i128
+pub(crate) fn bounded(moved: i128) -> i128
     ensures same { IsSumOf 4294967295 moved → result ≡ moved }
     ensures bounded { IsSumOf 4294967295 result }
 {
@@ -73,15 +72,4 @@ fn bounded(moved: i128) -> i128
     } else {
         0
     }
-}
-
-/// A node's clock at a true time of a schedule, in microseconds, where its corrections since its
-/// last boot come to `moved`.
-pub(crate) fn clock_of_moved(header: &Header, node: u32, moved: i128, at: u64) -> i128
-    ensures clock { at ≤ 1000000000000000 → IsSumOf 4294967295 moved
-        → result ≡ shown_by header.now node moved at }
-    ensures small { IsSmall result }
-{
-    let (rate, wall) = clock_of(header, node);
-    add(wall, bounded(moved), tick_of(rate, at))
 }

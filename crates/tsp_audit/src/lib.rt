@@ -40,5 +40,6 @@ pub mod premised;
 pub mod premises;
 mod resting;
 mod round_correction;
+mod standing;
 mod states;
 pub mod verdict;

@@ -2,29 +2,15 @@
 ghost use Rattle.std.specs.Prelude.{◌≡◌, ◌≤◌, ◌<◌, ◌^◌, ◌+◌, ◌-◌, ◌*◌, ◌≤ℤ◌, ◌+ℤ◌, ◌-ℤ◌, pos};
 ghost use Rattle.std.specs.Prelude.{neg_ℤ, nat_abs, ℕ, length, get_or, Some, MatchBool};
 ghost use Rattle.tsp_audit.specs.Agreeing.{AllAgree, AllBounded, BossAgrees, IsAt, MasterNear};
-ghost use Rattle.tsp_audit.specs.Agreeing.{AgreesBack, PairAgrees, PairNear, Stands, shown_by};
+ghost use Rattle.tsp_audit.specs.Agreeing.{AgreesBack, PairAgrees, PairNear, Stands};
+ghost use Rattle.tsp_audit.specs.Standings.{AllStand, StandsAs};
 ghost use Rattle.tsp_audit.specs.declared.round_correction.NodeState.{NodeState as NodeValue};
-ghost use Rattle.tsp_base.specs.Ticks.{width};
+ghost use Rattle.tsp_base.specs.Headers.{HeaderValue};
 ghost use Rattle.tsp_history.specs.Clocks.{IsSumOf, IsTrip};
 
-use crate::clock::clock_of_moved;
 use crate::round_correction::{NodeState, RoundCorrection};
-use tsp_base::constants::SCHEDULE_END;
-use tsp_base::drift::width;
+use crate::standing::{Standing, standings};
 use tsp_base::header::Header;
-
-/// How far, at most, a clock may have drifted since a reading, in microseconds.
-fn drifted(drift: u32, at: u64, reading: u64) -> u64
-    requires { drift ≤ 1000 }
-    ensures { at ≤ 1000000000000000 → result ≡ width drift (at - reading) }
-{
-    let time = at.saturating_sub(reading);
-    if time <= SCHEDULE_END {
-        width(drift, time)
-    } else {
-        0
-    }
-}
 
 /// Whether two clocks, or two times, differ by at most so many microseconds.
 pub(crate) fn is_near(a: i128, b: i128, most: i128) -> bool
@@ -70,50 +56,37 @@ fn bound(a: i64, b: i64, since: u64, then: u64) -> i128
 
 /// Whether two nodes that one Close corrected differ by at most their errors and drift.
 fn pair_near(
-    header: &Header,
-    at: u64,
-    first: u32,
     a: &NodeState,
     c: &RoundCorrection,
-    second: u32,
+    own: &Standing,
     b: &NodeState,
     d: &RoundCorrection,
+    other: &Standing,
 ) -> bool
-    ensures { at ≤ 1000000000000000 → IsSumOf 4294967295 a.now.moved
-        → IsSumOf 4294967295 b.now.moved
-        → MatchBool result (PairNear header.now at first a.now c.now second b.now d.now)
-        (PairNear header.now at first a.now c.now second b.now d.now → ⊥) }
+    ensures { (header : HeaderValue) (at first second : ℕ) → StandsAs header at first a.now own.now
+        → StandsAs header at second b.now other.now → a.now.cast ≡ Some c.now
+        → b.now.cast ≡ Some d.now → IsSumOf 4294967295 a.now.moved → IsSumOf 4294967295 b.now.moved
+        → MatchBool result (PairNear header at first a.now c.now second b.now d.now)
+        (PairNear header at first a.now c.now second b.now d.now → ⊥) }
 {
-    let drift = header.drift();
-    let most = bound(
-        c.err,
-        d.err,
-        drifted(drift, at, c.at),
-        drifted(drift, at, d.at),
-    );
-    let clock = clock_of_moved(header, first, a.moved, at);
-    let other = clock_of_moved(header, second, b.moved, at);
-    is_near(clock, other, most)
+    let most = bound(c.err, d.err, own.drift, other.drift);
+    let clock = own.clock(a.moved);
+    let other_clock = other.clock(b.moved);
+    is_near(clock, other_clock, most)
 }
 
 /// The same, as far as one Close corrected both.
-fn pair_agrees(
-    header: &Header,
-    at: u64,
-    first: u32,
-    a: &NodeState,
-    second: u32,
-    b: &NodeState,
-) -> bool
-    ensures { at ≤ 1000000000000000 → IsSumOf 4294967295 a.now.moved
+fn pair_agrees(a: &NodeState, own: &Standing, b: &NodeState, other: &Standing) -> bool
+    ensures { (header : HeaderValue) (at first second : ℕ) → StandsAs header at first a.now own.now
+        → StandsAs header at second b.now other.now → IsSumOf 4294967295 a.now.moved
         → IsSumOf 4294967295 b.now.moved
-        → MatchBool result (PairAgrees header.now at first a.now second b.now)
-        (PairAgrees header.now at first a.now second b.now → ⊥) }
+        → MatchBool result (PairAgrees header at first a.now second b.now)
+        (PairAgrees header at first a.now second b.now → ⊥) }
 {
     match (&a.cast, &b.cast) {
         (Some(c), Some(d)) => {
             if c.master == d.master && c.close == d.close {
-                pair_near(header, at, first, a, c, second, b, d)
+                pair_near(a, c, own, b, d, other)
             } else {
                 true
             }
@@ -124,16 +97,17 @@ fn pair_agrees(
 
 /// Whether a node agrees with each, up to itself, that the same Close corrected. What two nodes ask
 /// of each other is the same, so that all pairs are looked at once.
-fn pairs_agree(header: &Header, at: u64, node: u32, a: &NodeState, states: &[NodeState]) -> bool
+fn pairs_agree(node: usize, a: &NodeState, states: &[NodeState], stand: &[Standing]) -> bool
     requires node { node < length states.now }
-    requires few { length states.now < 2 ^ 32 }
-    ensures { at ≤ 1000000000000000 → IsSumOf 4294967295 a.now.moved → AllBounded states.now
+    requires many { length states.now ≤ length stand.now }
+    ensures { (header : HeaderValue) (at : ℕ) → AllStand header at states.now stand.now
+        → IsAt states.now node a.now → AllBounded states.now
         → MatchBool result ((k : ℕ) (b : NodeValue) → k ≤ node → IsAt states.now k b
-        → PairAgrees header.now at node a.now k b) (((k : ℕ) (b : NodeValue) → k ≤ node
-        → IsAt states.now k b → PairAgrees header.now at node a.now k b) → ⊥) }
+        → PairAgrees header at node a.now k b) (((k : ℕ) (b : NodeValue) → k ≤ node
+        → IsAt states.now k b → PairAgrees header at node a.now k b) → ⊥) }
 {
     for k in 0..node + 1 {
-        if !pair_agrees(header, at, node, a, k, &states[k as usize]) {
+        if !pair_agrees(a, &stand[node], &states[k], &stand[k]) {
             return false;
         }
     }
@@ -158,29 +132,32 @@ fn stands(c: &RoundCorrection, b: &NodeState) -> bool
 
 /// Whether a node and its master differ by at most the error and drift.
 fn master_near(
-    header: &Header,
-    at: u64,
-    node: u32,
     a: &NodeState,
     c: &RoundCorrection,
+    own: &Standing,
     b: &NodeState,
+    other: &Standing,
 ) -> bool
-    ensures { at ≤ 1000000000000000 → IsSumOf 4294967295 a.now.moved
-        → IsSumOf 4294967295 b.now.moved
-        → MatchBool result (MasterNear header.now at node a.now c.now b.now)
-        (MasterNear header.now at node a.now c.now b.now → ⊥) }
+    ensures { (header : HeaderValue) (at node : ℕ) → StandsAs header at node a.now own.now
+        → StandsAs header at c.now.master b.now other.now → a.now.cast ≡ Some c.now
+        → IsSumOf 4294967295 a.now.moved → IsSumOf 4294967295 b.now.moved
+        → MatchBool result (MasterNear header at node a.now c.now b.now)
+        (MasterNear header at node a.now c.now b.now → ⊥) }
 {
-    let most = bound(c.err, 0, drifted(header.drift(), at, c.at), 0);
-    let clock = clock_of_moved(header, node, a.moved, at);
-    let other = clock_of_moved(header, c.master, b.moved, at);
-    is_near(clock, other, most)
+    let most = bound(c.err, 0, own.drift, 0);
+    let clock = own.clock(a.moved);
+    let other_clock = other.clock(b.moved);
+    is_near(clock, other_clock, most)
 }
 
 /// The same, as far as the master was left alone.
-fn master_agrees(header: &Header, at: u64, node: u32, a: &NodeState, states: &[NodeState]) -> bool
-    ensures { at ≤ 1000000000000000 → IsSumOf 4294967295 a.now.moved → AllBounded states.now
-        → MatchBool result (BossAgrees header.now at node a.now states.now)
-        (BossAgrees header.now at node a.now states.now → ⊥) }
+fn master_agrees(node: usize, a: &NodeState, states: &[NodeState], stand: &[Standing]) -> bool
+    requires node { node < length states.now }
+    requires many { length states.now ≤ length stand.now }
+    ensures { (header : HeaderValue) (at : ℕ) → AllStand header at states.now stand.now
+        → IsAt states.now node a.now → AllBounded states.now
+        → MatchBool result (BossAgrees header at node a.now states.now)
+        (BossAgrees header at node a.now states.now → ⊥) }
 {
     let Some(c) = &a.cast else {
         return true;
@@ -191,35 +168,37 @@ fn master_agrees(header: &Header, at: u64, node: u32, a: &NodeState, states: &[N
     }
     let b = &states[master];
     if stands(c, b) {
-        master_near(header, at, node, a, c, b)
+        master_near(a, c, &stand[node], b, &stand[master])
     } else {
         true
     }
 }
 
 /// Whether a node agrees with each, up to itself, that the same Close corrected, and with its master.
-fn node_agrees(header: &Header, at: u64, node: u32, a: &NodeState, states: &[NodeState]) -> bool
+fn node_agrees(node: usize, a: &NodeState, states: &[NodeState], stand: &[Standing]) -> bool
     requires node { node < length states.now }
-    requires few { length states.now < 2 ^ 32 }
-    ensures { at ≤ 1000000000000000 → IsSumOf 4294967295 a.now.moved → AllBounded states.now
-        → MatchBool result (AgreesBack header.now at node a.now states.now)
-        (AgreesBack header.now at node a.now states.now → ⊥) }
+    requires many { length states.now ≤ length stand.now }
+    ensures { (header : HeaderValue) (at : ℕ) → AllStand header at states.now stand.now
+        → IsAt states.now node a.now → AllBounded states.now
+        → MatchBool result (AgreesBack header at node a.now states.now)
+        (AgreesBack header at node a.now states.now → ⊥) }
 {
     if a.cast.is_none() {
         return true;
     }
-    pairs_agree(header, at, node, a, states) && master_agrees(header, at, node, a, states)
+    pairs_agree(node, a, states, stand) && master_agrees(node, a, states, stand)
 }
 
 /// Whether each of these nodes does.
 pub(crate) fn all_agree(header: &Header, at: u64, states: &[NodeState]) -> bool
-    requires { length states.now < 2 ^ 32 }
+    requires { length states.now ≤ 64 }
     ensures { at ≤ 1000000000000000 → AllBounded states.now
         → MatchBool result (AllAgree header.now at states.now) (AllAgree header.now at states.now
         → ⊥) }
 {
+    let stand = standings(header, at, states);
     for n in 0..states.len() {
-        if !node_agrees(header, at, n as u32, &states[n], states) {
+        if !node_agrees(n, &states[n], states, &stand[..]) {
             return false;
         }
     }

@@ -1,12 +1,5 @@
 //! The lines that are claimed of a schedule's events.
-ghost use Rattle.std.specs.Prelude.{◌≡◌, ◌≤◌, ◌<◌, ◌+◌, ◌∷◌, ◌↔◌, List, [], Some, length, IsTrue};
-ghost use Rattle.std.specs.Prelude.{IfOk, OnOk, MatchResult, codes};
-ghost use Rattle.tsp_base.specs.Headers.{HeaderValue};
-ghost use Rattle.tsp_claims.specs.ClaimedHistory.{Claim};
-ghost use Rattle.tsp_claims.specs.Fitting.{Fit};
-ghost use Rattle.tsp_claims.specs.Listed.{NamesNode};
-ghost use Rattle.tsp_claims.specs.Stands.{ClaimsStand, claim_of};
-ghost use Rattle.tsp_run.specs.Run.{event_at};
+ghost use Rattle.std.specs.Prelude.{◌≡◌, ◌↔◌, [], Some, length, IsTrue, IfOk, MatchResult, codes};
 
 use crate::copies::copy_header;
 use crate::event_lines::EventLines;
@@ -16,7 +9,6 @@ use tsp_audit::premised::{all_kept, keep_with};
 use tsp_audit::premises::Premises;
 use tsp_base::event::Event;
 use tsp_base::header::Header;
-use tsp_claims::audit_fault::AuditFault;
 use tsp_claims::claims::Claims;
 use tsp_claims::tally::Tally;
 use tsp_lines::cause::Cause;
@@ -26,24 +18,6 @@ use tsp_script::trace::Line2;
 
 /// How many lines may be claimed.
 const MOST_LINES: u64 = 20_000;
-
-/// Takes in an event and its lines, which fit. Fails only if out of memory.
-fn take_in(claims: &mut Claims, e: &Event, lines: &[Line2]) -> Result<(), AllocError>
-    requires time { event_at e.now ≤ 1000000000000000 }
-    requires node { NamesNode (length claims.old.header.nodes) e.now }
-    requires events { claims.old.events < 20000 }
-    requires lines { claims.old.told + length lines.now ≤ 20000 }
-    requires fit { (header : HeaderValue) × (before : List Claim)
-        × ClaimsStand header before claims.old × Fit header before e.now lines.now }
-    ensures { (header : HeaderValue) (before : List Claim) → ClaimsStand header before claims.old
-        → OnOk result (ClaimsStand header (claim_of e.now lines.now ∷ before) claims.new) }
-{
-    match claims.event(e, lines) {
-        Ok(()) => Ok(()),
-        Err(AuditFault::History(_)) => unreachable!(),
-        Err(AuditFault::OutOfMemory) => Err(AllocError),
-    }
-}
 
 /// The refusal of a line, or of the input's end, that doesn't fit.
 fn bad_history() -> Stop
@@ -143,7 +117,7 @@ impl ClaimReader {
             return Err(bad_history());
         }
         let premises = keep_with(self.premises, &events[..at], claims.posts(), e);
-        if take_in(&mut claims, e, pending.lines()).is_err() {
+        if claims.add(e, pending.lines()).is_err() {
             return Err(Stop::OutOfMemory);
         }
         if told.push(pending).is_err() {

@@ -35,7 +35,9 @@ impl EventLines {
         ensures ok { OnOk result (self.new ≡ self.old ++ line ∷ []) }
         ensures err { OnErr result (self.new ≡ self.old) }
     {
-        self.lines.push(line)?;
+        // Most events have a line or two, so no room is made for more.
+        self.lines.reserve_exact(1)?;
+        self.lines.push_reserved(line);
         Ok(())
     }
 

@@ -1,7 +1,7 @@
 //! The events of a schedule that is to be audited.
 ghost use Rattle.std.specs.Prelude.{◌≡◌, ◌≤◌, ◌∷◌, [], true, List, length, vec_len, IfOk};
 ghost use Rattle.tsp_base.specs.Headers.{is_whole};
-ghost use Rattle.tsp_audit_command.specs.Listings.{AreListed, AreListed-prop};
+ghost use Rattle.tsp_audit_command.specs.Listings.{AreListed, AreListed-prop as is-prop};
 ghost use Rattle.tsp_run.specs.Networks.{numbers_below};
 
 use crate::copies::copy_event;
@@ -31,7 +31,7 @@ pub(crate) struct Listing {
     ghost whole: { is_whole header ≡ true },
     ghost places: { vec_len up ≡ length header.nodes },
     ghost one_is: { one.items ≡ numbers_below (length header.nodes) ∷ [] },
-    ghost listed: { AreListed (length header.nodes) events.items } by { AreListed-prop (length header.nodes) events.items },
+    ghost listed: { AreListed (length header.nodes) events.items } by { is-prop (length header.nodes) events.items },
 }
 
 impl Listing {

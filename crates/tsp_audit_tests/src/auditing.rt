@@ -20,16 +20,12 @@ pub(crate) enum Answer {
     Unread,
 }
 
-/// An audit of nodes on one network, with all premises except that no datagram is forged.
-pub(crate) fn audit_of(
-    alloc: Global,
-    drift: u32,
-    clocks: &[(i32, i64)],
-    honest: bool,
-) -> Option<Audit> {
-    let header = header_of(alloc, drift, clocks)?;
+/// An audit of nodes on one network whose clocks don't drift, with all premises except that no
+/// datagram is forged.
+pub(crate) fn audit_of(alloc: Global, clocks: &[(i32, i64)]) -> Option<Audit> {
+    let header = header_of(alloc, 0, clocks)?;
     let premises = Premises {
-        honest,
+        honest: false,
         life: true,
         words: true,
     };

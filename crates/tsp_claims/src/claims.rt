@@ -48,10 +48,10 @@ impl Claims {
     ghost use Rattle.tsp_history.specs.Histories.{history_of};
     ghost use Rattle.tsp_history.specs.Notes.{Told};
     ghost use Rattle.tsp_claims.specs.ClaimedHistory.{Claim, base_of, claimed, posts_of};
-    ghost use Rattle.tsp_claims.specs.Fitting.{FitsNext};
+    ghost use Rattle.tsp_claims.specs.Fitting.{Fit, FitsNext};
     ghost use Rattle.tsp_claims.specs.Listed.{NamesNode};
-    ghost use Rattle.tsp_claims.specs.Stands.{ClaimsStand, TakesIn};
-    ghost use Rattle.std.specs.Prelude.{List, ℕ};
+    ghost use Rattle.tsp_claims.specs.Stands.{ClaimsStand, TakesIn, claim_of};
+    ghost use Rattle.std.specs.Prelude.{List, OnErr, OnOk, ℕ};
 
     /// Nothing is claimed. Takes memory for the nodes; fails only if out of memory, and then drops
     /// the header.
@@ -92,6 +92,28 @@ impl Claims {
         if self.make_room(acts.len()).is_err() {
             return Err(AuditFault::OutOfMemory);
         }
+        self.take_in(e, step, acts);
+        Ok(())
+    }
+
+    /// Takes in an event and lines that are known to fit it. Fails only if out of memory, and then
+    /// the claims are what they were.
+    pub fn add(&mut self, e: &Event, acts: &[Line2]) -> Result<(), AllocError>
+        requires time { event_at e.now ≤ 1000000000000000 }
+        requires node { NamesNode (length self.old.header.nodes) e.now }
+        requires events { self.old.events < 20000 }
+        requires lines { self.old.told + length acts.now ≤ 20000 }
+        requires fit { (header : HeaderValue) × (before : List Claim)
+            × ClaimsStand header before self.old × Fit header before e.now acts.now }
+        ensures taken { (header : HeaderValue) (claims : List Claim)
+            → ClaimsStand header claims self.old
+            → OnOk result (ClaimsStand header (claim_of e.now acts.now ∷ claims) self.new) }
+        ensures refused { (header : HeaderValue) (claims : List Claim)
+            → ClaimsStand header claims self.old
+            → OnErr result (ClaimsStand header claims self.new) }
+    {
+        let step = self.acting(e);
+        self.make_room(acts.len())?;
         self.take_in(e, step, acts);
         Ok(())
     }

@@ -1,9 +1,8 @@
-use Rattle.std.proofs.Common.{◌≡◌, ℕ, pos, sym, subst, subst₂, arith, inl, inr, get_or, None}
+use Rattle.std.proofs.Common.{◌≡◌, ℕ, pos, subst₂, arith, inl, inr, get_or, None}
 use Rattle.std.proofs.lemmas.Bool.{cases_lt}
-use Rattle.tsp_audit.specs.Agreeing.{AgreesBack}
+use Rattle.tsp_audit.specs.Agreeing.{AgreesBack, IsAt}
 use Rattle.tsp_audit.specs.declared.round_correction.NodeState.{NodeState}
-use Rattle.tsp_audit.proofs.AccordSteps.{state-at}
-use Rattle.tsp_history.specs.Clocks.{IsSumOf}
+use Rattle.tsp_audit.proofs.AccordSteps.{here-at, state-at}
 use Rattle.tsp_audit.proofs.NearLemmas.{all-back, back-all}
 use Rattle.tsp_audit.proofs.nearness.all_agree.Goals as goal
 
@@ -15,9 +14,15 @@ loop-n-preserved c soon all n a lt at =
       | inr le ↦
           let e : c.loop-n.n ≡ n = omega (arith, lt, le) in
           let here : get_or c.args.states.now c.loop-n.n none ≡ a = state-at c.args.states.now c.loop-n.n n none a at e in
-          let small : IsSumOf 4294967295 (get_or c.args.states.now c.loop-n.n none).moved = subst (λ (s : NodeState). IsSumOf 4294967295 s.moved) (sym here) (all n a at) in
-          subst₂ (λ (j : ℕ) (s : NodeState). AgreesBack c.args.header.now c.args.at j s c.args.states.now) e here (c.if-not-node_agrees.ensures soon small all)
+          let kat : IsAt c.args.states.now c.loop-n.n (get_or c.args.states.now c.loop-n.n none) = here-at c.args.states.now c.loop-n.n none (omega (arith, e, at.below)) in
+          subst₂ (λ (j : ℕ) (s : NodeState). AgreesBack c.args.header.now c.args.at j s c.args.states.now) e here (c.if-not-node_agrees.ensures c.args.header.now c.args.at (c.standings-stand.ensures soon) kat all)
     ]
 
 pub returns : goal.returns
 returns c soon all = all-back c.args.header.now c.args.at c.args.states.now (λ n a lt at. c.loop-n.invariant soon all n a (omega arith) at)
+
+pub returns-then-not-node_agrees : goal.returns-then-not-node_agrees
+returns-then-not-node_agrees c soon all agrees =
+    let none : NodeState = record { moved = pos 0; lives = 0; corrects = 0; after = None; cast = None } in
+    let kat : IsAt c.args.states.now c.loop-n.n (get_or c.args.states.now c.loop-n.n none) = here-at c.args.states.now c.loop-n.n none (omega arith) in
+    c.if-not-node_agrees.ensures c.args.header.now c.args.at (c.standings-stand.ensures soon) kat all (back-all c.args.header.now c.args.at c.loop-n.n (get_or c.args.states.now c.loop-n.n none) c.args.states.now (agrees c.loop-n.n (get_or c.args.states.now c.loop-n.n none) kat))

@@ -12,14 +12,14 @@ use Rattle.tsp_claims.specs.Stands.{ClaimsStand, claim_of}
 use Rattle.tsp_audit_command.proofs.SoundLemmas.{Sound-passed, at-fit, few-passed, got-at, view-passed}
 use Rattle.tsp_audit_command.proofs.claim_reader.ClaimReader.pass_one.Goals as goal
 
-pub take_in-requires-clause-events : goal.take_in-requires-clause-events
-take_in-requires-clause-events c =
+pub add-requires-clause-events : goal.add-requires-clause-events
+add-requires-clause-events c =
     let i = c.self.inside in
     let at : slice_get i.events.items (length i.told.items) ≡ Some c.in-Some.e.now = got-at c.deref.result.now i.events.items c.len-at.result (length i.told.items) c.in-Some.e.now c.deref.ensures.value (search rules) c.in-Some.ensures.lookup.3.0 c.in-Some.ensures.lookup.1 in
     few-passed i.header i.events.items i.claims i.told.items i.pending i.tally i.premises c.self.invariant (slice_get_within i.events.items (length i.told.items) c.in-Some.e.now at)
 
-pub take_in-requires-clause-fit : goal.take_in-requires-clause-fit
-take_in-requires-clause-fit c =
+pub add-requires-clause-fit : goal.add-requires-clause-fit
+add-requires-clause-fit c =
     let i = c.self.inside in
     let passed = claims_on [] i.events.items i.told.items in
     let at : slice_get i.events.items (length i.told.items) ≡ Some c.in-Some.e.now = got-at c.deref.result.now i.events.items c.len-at.result (length i.told.items) c.in-Some.e.now c.deref.ensures.value (search rules) c.in-Some.ensures.lookup.3.0 c.in-Some.ensures.lookup.1 in
@@ -37,8 +37,8 @@ invariant_of-result c =
     let passed = claims_on [] i.events.items i.told.items in
     let at : slice_get i.events.items (length i.told.items) ≡ Some e = got-at c.deref.result.now i.events.items c.len-at.result (length i.told.items) e c.deref.ensures.value (search rules) c.in-Some.ensures.lookup.3.0 c.in-Some.ensures.lookup.1 in
     let none : lacks e i.tally ≡ false = sym c.lacks.ensures ∙ c.if-lacks.false in
-    let took : OnOk c.take_in.result (ClaimsStand i.header (claim_of e c.lines.result.now ∷ passed) c.take_in.new.claims) = c.take_in.ensures i.header passed c.self.invariant.stand in
-    let stand : ClaimsStand i.header (claim_of e c.lines.result.now ∷ passed) c.take_in.new.claims = search rules in
+    let took : OnOk c.add.result (ClaimsStand i.header (claim_of e c.lines.result.now ∷ passed) c.add.new.self) = c.add.ensures.taken i.header passed c.self.invariant.stand in
+    let stand : ClaimsStand i.header (claim_of e c.lines.result.now ∷ passed) c.add.new.self = search rules in
     let more_is : c.push.new.self.items ≡ i.told.items ++ i.pending ∷ [] = search rules in
     let kept_is : c.keep_with-premises.result ≡ kept_with i.premises (reverse (take (length i.told.items) i.events.items)) (posts_of i.header passed) e =
     (let k : c.keep_with-premises.result ≡ kept_with i.premises (reverse (take c.len-at.result c.deref-2.result.now)) c.posts.result.now e = c.keep_with-premises.ensures in
@@ -46,8 +46,8 @@ invariant_of-result c =
     k ∙ (ap (λ n. kept_with i.premises (reverse (take n c.deref-2.result.now)) c.posts.result.now e) len
     ∙ (ap (λ es. kept_with i.premises (reverse (take (length i.told.items) es)) c.posts.result.now e) c.deref-2.ensures.value
     ∙ ap (λ ps. kept_with i.premises (reverse (take (length i.told.items) i.events.items)) ps e) (c.posts.ensures i.header passed c.self.invariant.stand)))) in
-    Sound-passed i.header i.events.items i.claims i.told.items i.pending i.tally i.premises c.self.invariant e at none c.take_in.new.claims c.push.new.self.items _ _ _
-    (subst (λ ls. ClaimsStand i.header (claim_of e ls ∷ passed) c.take_in.new.claims) c.lines.ensures stand) more_is c.new.ensures c.new-2.ensures kept_is
+    Sound-passed i.header i.events.items i.claims i.told.items i.pending i.tally i.premises c.self.invariant e at none c.add.new.self c.push.new.self.items _ _ _
+    (subst (λ ls. ClaimsStand i.header (claim_of e ls ∷ passed) c.add.new.self) c.lines.ensures stand) more_is c.new.ensures c.new-2.ensures kept_is
 
 pub returns : goal.returns
 returns c =

@@ -1,0 +1,87 @@
+//! How clocks stand at one time.
+ghost use Rattle.std.specs.Prelude.{◌≡◌, ◌≤◌, ◌-◌, ◌^◌, ◌+ℤ◌, pos, length, Some};
+ghost use Rattle.tsp_audit.specs.Standings.{AllStand, StandsAs};
+ghost use Rattle.tsp_audit.specs.declared.round_correction.RoundCorrection.{RoundCorrection as CorrectionValue};
+ghost use Rattle.tsp_base.specs.Ticks.{width};
+ghost use Rattle.tsp_history.specs.Clocks.{IsSmall, IsSumOf};
+
+use crate::clock::{add, bounded, clock_of, tick_of};
+use crate::round_correction::NodeState;
+use tsp_base::constants::SCHEDULE_END;
+use tsp_base::drift::width;
+use tsp_base::header::Header;
+
+/// How a node's clock stands at a time, but for its corrections.
+#[derive(Clone, Copy)]
+pub(crate) struct Standing {
+    /// Its wall at tick 0, in microseconds.
+    pub(crate) wall: i64,
+    /// Its tick.
+    pub(crate) tick: u64,
+    /// How far, at most, it may have drifted, in microseconds, since the reading by which a round
+    /// corrected it; 0 where none has.
+    pub(crate) drift: u64,
+}
+
+/// How far, at most, a clock may have drifted since a reading, in microseconds.
+fn drifted(drift: u32, at: u64, reading: u64) -> u64
+    requires { drift ≤ 1000 }
+    ensures { at ≤ 1000000000000000 → result ≡ width drift (at - reading) }
+{
+    let time = at.saturating_sub(reading);
+    if time <= SCHEDULE_END {
+        width(drift, time)
+    } else {
+        0
+    }
+}
+
+impl Standing {
+    /// What the clock shows, in microseconds, where its corrections since its last boot come to `moved`.
+    pub(crate) fn clock(&self, moved: i128) -> i128
+        ensures sum { IsSumOf 4294967295 moved
+            → result ≡ (self.now.wall +ℤ moved) +ℤ pos self.now.tick }
+        ensures small { IsSmall result }
+    {
+        add(self.wall, bounded(moved), self.tick)
+    }
+}
+
+/// How far a node's clock may have drifted at a time since the reading by which a round corrected it.
+fn drifted_of(header: &Header, at: u64, a: &NodeState) -> u64
+    ensures { at ≤ 1000000000000000 → (c : CorrectionValue) → a.now.cast ≡ Some c
+        → result ≡ width header.now.drift (at - c.at) }
+{
+    match &a.cast {
+        Some(c) => drifted(header.drift(), at, c.at),
+        None => 0,
+    }
+}
+
+/// How a node's clock stands at a time.
+fn stand_of(header: &Header, at: u64, node: u32, a: &NodeState) -> Standing
+    ensures { at ≤ 1000000000000000 → StandsAs header.now at node a.now result }
+{
+    let (rate, wall) = clock_of(header, node);
+    Standing {
+        wall,
+        tick: tick_of(rate, at),
+        drift: drifted_of(header, at, a),
+    }
+}
+
+/// How each of these nodes' clocks stands at a time, each under its number.
+pub(crate) fn standings(header: &Header, at: u64, states: &[NodeState]) -> [Standing; 64]
+    requires { length states.now ≤ 64 }
+    ensures { at ≤ 1000000000000000 → AllStand header.now at states.now result }
+{
+    let mut stand = [Standing {
+        wall: 0,
+        tick: 0,
+        drift: 0,
+    }; 64];
+    for node in 0..states.len() {
+        stand[node] = stand_of(header, at, node as u32, &states[node]);
+    }
+    stand
+}
