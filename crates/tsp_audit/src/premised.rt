@@ -23,7 +23,7 @@ fn forges(e: &Event) -> bool
     )
 }
 
-/// Whether an event takes no claimed post that is older than `LIFE`.
+/// Whether an event takes no claimed post that is older than `LIFE`; also one of which no line is claimed.
 fn takes_early(posts: &[Claimed], e: &Event) -> bool
     ensures { result ≡ takes_early posts.now e.now }
 {

@@ -7,7 +7,8 @@ ghost use Rattle.tsp_audit.specs.Parts.{AllKept};
 pub struct Premises {
     /// No octets from outside are handed to a node as a peer's.
     pub honest: bool,
-    /// Each take of a claimed datagram comes at most `LIFE` of true time after its claimed post.
+    /// Each take of a claimed datagram comes at most `LIFE`, 30,000,000 microseconds of true time, after
+    /// the event of which its post is claimed.
     pub life: bool,
     /// The words of any two boots differ.
     pub words: bool,

@@ -5,7 +5,7 @@ use tsp_base::act::Placed;
 /// A post that is claimed.
 #[derive(Drop)]
 pub struct Claimed {
-    /// The event of which it is claimed, from 1.
+    /// The number of the event of which it is claimed, from 1.
     pub event: u64,
     /// The true time of the event, in microseconds.
     pub at: u64,

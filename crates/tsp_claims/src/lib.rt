@@ -16,7 +16,8 @@
 //! ```
 //!
 //! A reader that gets one line at a time asks [`claims::Claims::fits`] of each, counts it in a
-//! [`tally::Tally`], and hands all lines over with the event's last one.
+//! [`tally::Tally`], and hands an event's lines to [`claims::Claims::add`] once they are all there:
+//! then none of them is asked again.
 #![tactic(auto)]
 
 mod acting;

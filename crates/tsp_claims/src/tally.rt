@@ -1,4 +1,4 @@
-//! What the lines of an event so far come to.
+//! What the lines so far of one event come to: what the next line's fit depends on.
 ghost use Rattle.std.specs.Prelude.{◌≡◌, ◌<◌, ◌^◌};
 ghost use Rattle.tsp_claims.specs.Fitting.{counted, lacks, untold};
 

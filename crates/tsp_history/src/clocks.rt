@@ -86,7 +86,8 @@ pub(crate) fn latest_after(line: &HistoryLine, node: u32, keep: Option<u64>) -> 
     }
 }
 
-/// Whether a correction of a node at this tick stands GAP ticks after each before it in the same life.
+/// Whether a correction of a node at this tick stands `GAP` ticks or more after each before it since
+/// the node's last boot.
 pub fn is_spaced(lines: &[HistoryLine], node: u32, tick: u64) -> bool
     requires told { Told lines.now }
     ensures { MatchBool result (Spaced node tick (history_of lines.now))
@@ -125,7 +126,7 @@ pub(crate) fn clock_after(line: &HistoryLine, node: u32, keep: Clock) -> Clock
     }
 }
 
-/// The amounts of a node's corrections since its boot, in microseconds.
+/// The sum of a node's corrections since its last boot, in microseconds; 0 before one.
 pub fn moved_at(lines: &[HistoryLine], node: u32) -> i128
     requires told { Told lines.now }
     ensures moved { result ≡ moved (dids (of node (history_of lines.now))) }
@@ -134,7 +135,8 @@ pub fn moved_at(lines: &[HistoryLine], node: u32) -> i128
     node_at(lines, node).clock.moved
 }
 
-/// The target of a node's clock at a tick, in microseconds.
+/// The target of a node's clock at a tick, in microseconds: what it shows once all corrections are
+/// slewed.
 pub fn target_at(lines: &[HistoryLine], node: u32, tick: u64) -> i128
     requires few { length lines.now < 2 ^ 32 }
     requires told { Told lines.now }

@@ -48,7 +48,8 @@ impl History {
         self.lines.reserve(count)
     }
 
-    /// Puts a line behind the others, whose note is found here; there is to be room for it.
+    /// Puts a line behind the others; its note is found here. There must be room for it, by
+    /// `make_room`: a push takes no memory.
     pub fn push(&mut self, line: HistoryLine)
         requires few { length self.old.lines < 2 ^ 31 }
         requires room { 1 ≤ self.old.room }

@@ -1,4 +1,4 @@
-//! Lines that were noted.
+//! A line of a history, with a note of what is known after it.
 
 use crate::notes::Note;
 use tsp_base::act::Act;
@@ -7,31 +7,31 @@ use tsp_base::place::Port;
 /// Why a step happens.
 #[derive(Clone, Copy, PartialEq, Eq, Debug)]
 pub enum Why {
-    /// The node boots with a word, at a wall clock.
+    /// The node boots with this word, at this wall clock in microseconds.
     Booted(u64, i64),
     /// Its timers are looked at.
     Turned,
-    /// The datagram with this number reaches it.
+    /// The datagram with this number, from 0, reaches it.
     Came(u64),
-    /// It is handed octets.
+    /// It is handed octets that no node posted.
     Handed,
 }
 
 /// A line of a history: the mark of a step, or an act.
 #[derive(Drop)]
 pub struct HistoryLine {
-    /// The true time.
+    /// The true time, in microseconds.
     pub at: u64,
-    /// The node.
+    /// The node, by its number from 0.
     pub node: u32,
     /// Why its step happens.
     pub why: Why,
-    /// Its tick.
+    /// Its tick: microseconds by its own counter.
     pub tick: u64,
-    /// The port.
+    /// The port on which the act is done; 0 at a mark.
     pub port: Port,
     /// The act; none at the mark where a step begins.
     pub act: Option<Act>,
-    /// What is known after it; a `History` fills it in.
+    /// What is known after it. `History::push` finds it, whatever stands here: hand it `Note::new()`.
     pub note: Note,
 }

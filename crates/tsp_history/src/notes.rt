@@ -40,7 +40,7 @@ pub struct PortNote {
 /// What is known after a line.
 #[derive(Clone, Copy)]
 pub struct Note {
-    /// How many datagrams were posted.
+    /// How many datagrams were posted over all nodes so far.
     pub(crate) posted: u64,
     /// What is known of the line's node.
     pub(crate) node: NodeNote,

@@ -24,11 +24,11 @@ use tsp_base::stamp::Stamp;
 /// The best sample of a peer, and where it stands.
 #[derive(Clone, Copy)]
 pub struct Best {
-    /// The index of its line.
+    /// The index of its line among the history's, from 0.
     pub index: usize,
     /// How far the peer's clock stands ahead, in microseconds.
     pub diff: i64,
-    /// By how much diff may be wrong.
+    /// By how much diff may be wrong, in microseconds.
     pub err: i64,
     /// Its round trip, in microseconds.
     pub trip: i128,

@@ -52,7 +52,8 @@ fn is_apart(line: &HistoryLine, node: u32, port: Port, tick: u64, p: PeerId) -> 
     }
 }
 
-/// Whether a Back of p at this tick keeps the hold.
+/// Whether a Back of p at this tick keeps the hold: each Back of the port for another candidate lies
+/// `HOLD` ticks or more before it, whatever boots came between.
 pub fn is_held(lines: &[HistoryLine], node: u32, port: Port, tick: u64, p: PeerId) -> bool
     ensures { MatchBool result (Everywhere (λ other older. Apart node port tick p other)
         (history_of lines.now)) (Everywhere (λ other older. Apart node port tick p other)
