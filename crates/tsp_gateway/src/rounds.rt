@@ -17,9 +17,7 @@ use crate::gateway::{Gateway, port_at};
 use crate::leading::Asked;
 use tsp_base::alarm::Alarm;
 use tsp_base::alarms::Alarms;
-use tsp_base::at::At;
 use tsp_base::desk::Desk;
-use tsp_node::RingTerms;
 
 /// Whether a round is going, and its last Probe is over.
 fn asks_no_more(alarms: &Alarms) -> bool
@@ -91,11 +89,7 @@ impl Gateway {
             (D.spare desk.new) (D.acts desk.old) (D.acts desk.new) }
     {
         let clock = &mut self.clock;
-        let terms = RingTerms::alone(At {
-            tick,
-            port: port_at(q),
-        });
-        let _ = self.ports[q].ring(clock, Alarm::Probe, terms, desk);
+        let _ = self.ports[q].ring(clock, Alarm::Probe, true, false, tick, port_at(q), desk);
     }
 
     /// Handles a port's Close where it is due: it moves the clock where the port leads it, and then the
@@ -115,16 +109,9 @@ impl Gateway {
         ensures room { PutsAtMost (2 * peers_at q (ports_in self.old) + 8) (D.spare desk.old)
             (D.spare desk.new) (D.acts desk.old) (D.acts desk.new) }
     {
-        let terms = RingTerms {
-            at: At {
-                tick,
-                port: port_at(q),
-            },
-            group_mean: self.leads_clock(q),
-            wait: false,
-        };
+        let own = self.leads_clock(q);
         let clock = &mut self.clock;
-        if self.ports[q].ring(clock, Alarm::Close, terms, desk) {
+        if self.ports[q].ring(clock, Alarm::Close, own, false, tick, port_at(q), desk) {
             self.upset(q, false, tick, desk);
         }
     }
@@ -143,15 +130,8 @@ impl Gateway {
         ensures room { PutsAtMost (2 * peers_at q (ports_in self.old) + 4) (D.spare desk.old)
             (D.spare desk.new) (D.acts desk.old) (D.acts desk.new) }
     {
-        let terms = RingTerms {
-            at: At {
-                tick,
-                port: port_at(q),
-            },
-            group_mean: true,
-            wait: self.any_other(q, Asked::Goes),
-        };
+        let wait = self.any_other(q, Asked::Goes);
         let clock = &mut self.clock;
-        let _ = self.ports[q].ring(clock, Alarm::Round, terms, desk);
+        let _ = self.ports[q].ring(clock, Alarm::Round, true, wait, tick, port_at(q), desk);
     }
 }

@@ -16,13 +16,11 @@ ghost use Rattle.tsp_gateway.specs.Rooms.{all_peers, peers_at, ports_in};
 
 use crate::gateway::{Gateway, port_at};
 use tsp_base::act::Act;
-use tsp_base::at::At;
 use tsp_base::datagram::{Datagram, Taken};
 use tsp_base::desk::Desk;
 use tsp_base::kind::Kind;
 use tsp_base::message::Message;
 use tsp_base::place::Place;
-use tsp_node::TakeTerms;
 
 impl Gateway {
     /// Takes, on a port, what was read of octets from `from`.
@@ -79,17 +77,21 @@ impl Gateway {
         ensures room { PutsAtMost (2 * peers_at q (ports_in self.old) + 24) (D.spare desk.old)
             (D.spare desk.new) (D.acts desk.old) (D.acts desk.new) }
     {
-        let terms = TakeTerms {
-            at: At {
-                tick,
-                port: port_at(q),
-            },
-            steer: self.steers(q),
-            charge: self.in_charge(q),
-        };
+        let steer = self.steers(q);
+        let charge = self.in_charge(q);
         let clock = &mut self.clock;
         let tracing = &mut self.tracing;
-        if self.ports[q].take(clock, tracing, terms, from, taken, desk) {
+        if self.ports[q].take(
+            clock,
+            tracing,
+            steer,
+            charge,
+            tick,
+            from,
+            taken,
+            port_at(q),
+            desk,
+        ) {
             self.upset(q, m.kind().sets_date(), tick, desk);
         }
     }
@@ -155,12 +157,18 @@ impl Gateway {
         ensures room { PutsAtMost (2 * peers_at q (ports_in self.old) + 24) (D.spare desk.old)
             (D.spare desk.new) (D.acts desk.old) (D.acts desk.new) }
     {
-        let terms = TakeTerms::alone(At {
-            tick,
-            port: port_at(q),
-        });
         let clock = &mut self.clock;
         let tracing = &mut self.tracing;
-        let _ = self.ports[q].take(clock, tracing, terms, from, taken, desk);
+        let _ = self.ports[q].take(
+            clock,
+            tracing,
+            true,
+            true,
+            tick,
+            from,
+            taken,
+            port_at(q),
+            desk,
+        );
     }
 }

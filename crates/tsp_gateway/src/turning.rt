@@ -15,9 +15,7 @@ ghost use Rattle.tsp_gateway.specs.Rooms.{alarm_room, peers_at, ports_in, room_o
 
 use crate::gateway::{Gateway, port_at};
 use tsp_base::alarm::Alarm;
-use tsp_base::at::At;
 use tsp_base::desk::Desk;
-use tsp_node::RingTerms;
 
 impl Gateway {
     /// For every port in turn: repeats its due sends, and then handles its due alarms.
@@ -147,10 +145,6 @@ impl Gateway {
         ensures room { PutsAtMost (2 * peers_at q (ports_in self.old) + 4) (D.spare desk.old)
             (D.spare desk.new) (D.acts desk.old) (D.acts desk.new) }
     {
-        let terms = RingTerms::alone(At {
-            tick,
-            port: port_at(q),
-        });
-        let _ = self.ports[q].ring(&mut self.clock, alarm, terms, desk);
+        let _ = self.ports[q].ring(&mut self.clock, alarm, true, false, tick, port_at(q), desk);
     }
 }

@@ -25,34 +25,42 @@ use tsp_clock::clock::Clock;
 impl Part {
     ghost use Rattle.tsp_node.specs.NodeStands.{PartUntaken};
 
-    /// Handles one alarm where it is due, and says whether that corrected the clock. The caller handles a due
-    /// Probe before the Close.
+    /// Handles one alarm where it is due, and says whether that corrected the clock. `group_mean` says
+    /// whether a Close moves the node's clock by the group's mean; where it is false, the Close uses the mean
+    /// 0 and doesn't move the clock. `wait` says whether a Round that is in time is put off for `WAIT`
+    /// ticks. The caller handles a due Probe before the Close.
     pub fn ring<D: Desk>(
         &mut self,
         clock: &mut Clock,
         alarm: Alarm,
-        terms: RingTerms,
+        group_mean: bool,
+        wait: bool,
+        tick: u64,
+        port: Port,
         desk: &mut D,
     ) -> bool
-        requires tick { IsTick terms.at.tick }
-        requires later { clock.old.at ≤ terms.at.tick }
-        requires order { alarm ≡ Close
-            → is_over self.old.station.alarms.probe terms.at.tick ≡ false }
+        requires tick { IsTick tick }
+        requires later { clock.old.at ≤ tick }
+        requires order { alarm ≡ Close → is_over self.old.station.alarms.probe tick ≡ false }
         requires room { 2 * length self.old.station.peers + 16 ≤ D.spare desk.old }
-        ensures row { Performs PartUntaken PartUntaken (rings terms.group_mean terms.wait alarm)
-            terms.at.tick terms.at.port (self.old, clock.old) (self.new, clock.new)
-            (D.acts desk.old) (D.acts desk.new) }
+        ensures row { Performs PartUntaken PartUntaken (rings group_mean wait alarm) tick port
+            (self.old, clock.old) (self.new, clock.new) (D.acts desk.old) (D.acts desk.new) }
         ensures corrects { (past : Past) → PartUntaken past (self.old, clock.old)
-            → result ≡ corrects (rings terms.group_mean terms.wait alarm terms.at.tick past) }
-        ensures over { alarm ≡ Probe → is_over self.new.station.alarms.probe terms.at.tick ≡ false }
-        ensures clock { clock.new.at ≤ terms.at.tick }
+            → result ≡ corrects (rings group_mean wait alarm tick past) }
+        ensures over { alarm ≡ Probe → is_over self.new.station.alarms.probe tick ≡ false }
+        ensures clock { clock.new.at ≤ tick }
         ensures peers { self.new.station.peers ≡ self.old.station.peers }
         ensures room { PutsAtMost (2 * length self.old.station.peers + 4) (D.spare desk.old)
             (D.spare desk.new) (D.acts desk.old) (D.acts desk.new) }
     {
-        if !self.station.is_due(alarm, terms.at.tick) {
+        if !self.station.is_due(alarm, tick) {
             return false;
         }
+        let terms = RingTerms {
+            at: At { tick, port },
+            group_mean,
+            wait,
+        };
         self.ring_due(clock, alarm, terms, desk)
     }
 

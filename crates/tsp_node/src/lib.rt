@@ -22,8 +22,8 @@
 //! ```
 //!
 //! A node with several ports is `Gateway` of `tsp_gateway`. Both have a [`Part`] for each port: all of its
-//! state but the clock. A `Part` takes octets on [`TakeTerms`] and handles alarms on [`RingTerms`], which say
-//! what the port may do to its node's clock and date.
+//! state but the clock. What a `Part` takes and each alarm that it handles come with terms: whether the port
+//! may correct its node's clock and set its date.
 //!
 //! A datagram's way: `Part::take` puts Took; `handle` ignores what seems to come from the port itself; `hear`
 //! sends a message by its kind to those who answer it: clients' questions, dates, or the port's role. Each
@@ -50,4 +50,3 @@ pub use config::{Config, is_port};
 pub use fault::BootFault;
 pub use node::Node;
 pub use part::Part;
-pub use terms::{RingTerms, TakeTerms};

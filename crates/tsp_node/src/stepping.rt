@@ -10,9 +10,7 @@ ghost use Rattle.tsp_rules.specs.RoundRows.{upsetting};
 ghost use Rattle.tsp_node.specs.Inputs.{given};
 
 use crate::node::{Node, PORT};
-use crate::terms::{RingTerms, TakeTerms};
 use tsp_base::alarm::Alarm;
-use tsp_base::at::At;
 use tsp_base::datagram::Taken;
 use tsp_base::desk::Desk;
 use tsp_base::input::Input;
@@ -97,8 +95,10 @@ impl Node {
     {
         let clock = &mut self.clock;
         let tracing = &mut self.tracing;
-        let terms = TakeTerms::alone(At { tick, port: PORT });
-        if self.part.take(clock, tracing, terms, from, taken, desk) {
+        if self
+            .part
+            .take(clock, tracing, true, true, tick, from, taken, PORT, desk)
+        {
             self.part.abandon(PORT, desk);
         }
     }
@@ -134,7 +134,8 @@ impl Node {
         ensures room { PutsAtMost (2 * length (peers_in self.old) + 4) (D.spare desk.old)
             (D.spare desk.new) (D.acts desk.old) (D.acts desk.new) }
     {
-        let terms = RingTerms::alone(At { tick, port: PORT });
-        let _ = self.part.ring(&mut self.clock, alarm, terms, desk);
+        let _ = self
+            .part
+            .ring(&mut self.clock, alarm, true, false, tick, PORT, desk);
     }
 }

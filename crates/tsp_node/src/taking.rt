@@ -16,40 +16,48 @@ use tsp_base::act::Act;
 use tsp_base::at::At;
 use tsp_base::datagram::{Datagram, Taken};
 use tsp_base::desk::Desk;
-use tsp_base::place::{PeerId, Place};
+use tsp_base::place::{PeerId, Place, Port};
 use tsp_base::stamp::Stamp;
 use tsp_clock::clock::Clock;
 
 impl Part {
-    /// Takes what was read of octets from `from`, and says whether that corrected the clock.
+    /// Takes what was read of octets from `from`, and says whether that corrected the clock. Where the port
+    /// doesn't `steer` its node's clock, it ignores the corrections of the master that it follows; where it
+    /// isn't in `charge` of its node's date, it sets none.
     pub fn take<D: Desk>(
         &mut self,
         clock: &mut Clock,
         tracing: &mut bool,
-        terms: TakeTerms,
+        steer: bool,
+        charge: bool,
+        tick: u64,
         from: Place,
         taken: &Taken,
+        port: Port,
         desk: &mut D,
     ) -> bool
         requires room { 2 * length self.old.station.peers + 16 ≤ D.spare desk.old }
-        requires tick { IsTick terms.at.tick }
-        requires later { clock.old.at ≤ terms.at.tick }
-        ensures row { Performs TakeStands TakeStands
-            (takes terms.steer terms.charge from taken.now) terms.at.tick terms.at.port
+        requires tick { IsTick tick }
+        requires later { clock.old.at ≤ tick }
+        ensures row { Performs TakeStands TakeStands (takes steer charge from taken.now) tick port
             ((self.old, clock.old), tracing.old) ((self.new, clock.new), tracing.new)
             (D.acts desk.old) (D.acts desk.new) }
         ensures corrects { (past : Past) → TakeStands past ((self.old, clock.old), tracing.old)
-            → result ≡ corrects
-            (takes terms.steer terms.charge from taken.now terms.at.tick past) }
+            → result ≡ corrects (takes steer charge from taken.now tick past) }
         ensures peers { self.new.station.peers ≡ self.old.station.peers }
-        ensures clock { clock.new.at ≤ terms.at.tick }
+        ensures clock { clock.new.at ≤ tick }
         ensures room { PutsAtMost (2 * length self.old.station.peers + 16) (D.spare desk.old)
             (D.spare desk.new) (D.acts desk.old) (D.acts desk.new) }
     {
         let ticket = clock.ticket();
         // At most 1,000 peers, and so too few acts to correct the clock so often that its ticket is the same again.
         let _peers = self.station.peers();
-        desk.put(terms.at.port, Act::Took(from, taken.copy()));
+        desk.put(port, Act::Took(from, taken.copy()));
+        let terms = TakeTerms {
+            at: At { tick, port },
+            steer,
+            charge,
+        };
         self.handle(clock, tracing, terms, from, taken, desk);
         clock.ticket() != ticket
     }

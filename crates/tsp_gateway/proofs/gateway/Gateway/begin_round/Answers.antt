@@ -12,7 +12,7 @@ use Rattle.tsp_gateway.proofs.gateway.Gateway.begin_round.Goals as goal
 pub returns-clause-row : goal.returns-clause-row
 unfolding alarm_on begins_round_on
 returns-clause-row g c =
-    let wait = c.any_other.result in
+    let wait = c.any_other-wait.result in
     let there = part_there c.args.self.now c.args.q c.index_mut.result.now c.requires.port c.index_mut.ensures.value in
-    All_reading (waits (port_at c.args.q)) (begins_round_on (port_at c.args.q)) wait (λ past h. sym (c.any_other.ensures past h.stands))
+    All_reading (waits (port_at c.args.q)) (begins_round_on (port_at c.args.q)) wait (λ past h. sym (c.any_other-wait.ensures past h.stands))
     (All_rung (rings true wait Round) (emits_rings true wait Round) (rings_still true wait Round refl) there refl refl (rw c.port_at.ensures at c.ring.ensures.row))

@@ -17,9 +17,9 @@ pub returns-then-ring-clause-row : goal.returns-then-ring-clause-row
 unfolding alarm_on closes_on
 returns-then-ring-clause-row g c =
     let q = c.args.q in
-    let own = c.leads_clock.result in
+    let own = c.leads_clock-own.result in
     let there = part_there c.args.self.now q c.index_mut.result.now c.requires.port c.index_mut.ensures.value in
-    All_reading (leads_clock (port_at q)) (closes_on (port_at q)) own (λ past h. sym (c.leads_clock.ensures c.args.tick past h.stands))
+    All_reading (leads_clock (port_at q)) (closes_on (port_at q)) own (λ past h. sym (c.leads_clock-own.ensures c.args.tick past h.stands))
     (All_upset (rings own false Close) (emits_rings own false Close) (λ past w. sym (c.ring.ensures.corrects (on_port (port_at q) past) (untaken_there _ q past c.args.self.now c.index_mut.result.now there w)) ∙ c.if-ring.true)
     there refl refl (rw c.port_at.ensures at c.ring.ensures.row) (c.upset.ensures.row c.args.tick))
 
@@ -27,8 +27,8 @@ pub returns-else-ring-clause-row : goal.returns-else-ring-clause-row
 unfolding alarm_on closes_on
 returns-else-ring-clause-row g c =
     let q = c.args.q in
-    let own = c.leads_clock.result in
+    let own = c.leads_clock-own.result in
     let there = part_there c.args.self.now q c.index_mut.result.now c.requires.port c.index_mut.ensures.value in
-    All_reading (leads_clock (port_at q)) (closes_on (port_at q)) own (λ past h. sym (c.leads_clock.ensures c.args.tick past h.stands))
+    All_reading (leads_clock (port_at q)) (closes_on (port_at q)) own (λ past h. sym (c.leads_clock-own.ensures c.args.tick past h.stands))
     (All_calm (rings own false Close) (emits_rings own false Close) (λ past w. sym (c.ring.ensures.corrects (on_port (port_at q) past) (untaken_there _ q past c.args.self.now c.index_mut.result.now there w)) ∙ c.if-ring.false)
     there refl refl (rw c.port_at.ensures at c.ring.ensures.row))

@@ -9,7 +9,7 @@ returns-then-take-clause-row g c =
     let q = c.args.q in
     let x = c.args.tick in
     let there = part_there c.args.self.now q c.index_mut.result.now c.requires.port c.index_mut.ensures.value in
-    All_taken q c.steers.result c.in_charge.result c.args.from c.args.m.now (λ past w. (sym (c.steers.ensures x past w), sym (c.in_charge.ensures x past w))) there refl
+    All_taken q c.steers-steer.result c.in_charge-charge.result c.args.from c.args.m.now (λ past w. (sym (c.steers-steer.ensures x past w), sym (c.in_charge-charge.ensures x past w))) there refl
     (λ past t. sym (rw c.requires.is at (c.take.ensures.corrects past t)) ∙ c.if-take.true) (rw (c.port_at.ensures, c.requires.is) at c.take.ensures.row) (rw (c.sets_date.ensures, c.kind.ensures) at (c.upset.ensures.row x))
 
 pub returns-else-take-clause-row : goal.returns-else-take-clause-row
@@ -17,5 +17,5 @@ returns-else-take-clause-row g c =
     let q = c.args.q in
     let x = c.args.tick in
     let there = part_there c.args.self.now q c.index_mut.result.now c.requires.port c.index_mut.ensures.value in
-    All_passed q c.steers.result c.in_charge.result c.args.from c.args.m.now (λ past w. (sym (c.steers.ensures x past w), sym (c.in_charge.ensures x past w))) there refl
+    All_passed q c.steers-steer.result c.in_charge-charge.result c.args.from c.args.m.now (λ past w. (sym (c.steers-steer.ensures x past w), sym (c.in_charge-charge.ensures x past w))) there refl
     (λ past t. sym (rw c.requires.is at (c.take.ensures.corrects past t)) ∙ c.if-take.false) (rw (c.port_at.ensures, c.requires.is) at c.take.ensures.row)

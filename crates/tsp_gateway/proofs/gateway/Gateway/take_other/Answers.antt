@@ -15,4 +15,4 @@ returns-clause-row g c =
     let taken = c.args.taken.now in
     let there = part_there c.args.self.now q c.index_mut.result.now c.requires.port c.index_mut.ensures.value in
     All_on {W = GatewayStands} {P = TakeStands} {Q = TakeStands} (emits_takes true true from taken) (λ past w. other_still from taken c.requires.other c.args.tick (on_port (port_at q) past)) refl (λ past w. w)
-    (λ past w. take_stands q past c.args.self.now c.index_mut.result.now there w) (λ past t. t) (rw (c.alone-terms.ensures, c.port_at.ensures) at c.take.ensures.row)
+    (λ past w. take_stands q past c.args.self.now c.index_mut.result.now there w) (λ past t. t) (rw c.port_at.ensures at c.take.ensures.row)

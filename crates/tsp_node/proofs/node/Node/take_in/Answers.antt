@@ -9,13 +9,9 @@ use Rattle.tsp_node.proofs.node.Node.take_in.Goals as goal
 
 pub returns-then-take-clause-row : goal.returns-then-take-clause-row
 returns-then-take-clause-row g c =
-    let row = rw c.alone-terms.ensures at c.take.ensures.row in
-    let corrects = rw c.alone-terms.ensures at c.take.ensures.corrects in
-    Performs_upset (takes true true c.args.from c.args.taken.now) (λ past h. sym (corrects past (record { first = h.first.stands; second = h.second })) ∙ c.if-take.true)
-    (node_takes row) (node_stands refl (Emits_more (Rounding ∷ []) refl emits_abandons) (c.abandon.ensures.row c.args.tick c.take.new.clock))
+    Performs_upset (takes true true c.args.from c.args.taken.now) (λ past h. sym (c.take.ensures.corrects past (record { first = h.first.stands; second = h.second })) ∙ c.if-take.true)
+    (node_takes c.take.ensures.row) (node_stands refl (Emits_more (Rounding ∷ []) refl emits_abandons) (c.abandon.ensures.row c.args.tick c.take.new.clock))
 
 pub returns-else-take-clause-row : goal.returns-else-take-clause-row
 returns-else-take-clause-row g c =
-    let row = rw c.alone-terms.ensures at c.take.ensures.row in
-    let corrects = rw c.alone-terms.ensures at c.take.ensures.corrects in
-    Performs_calm (takes true true c.args.from c.args.taken.now) (λ past h. sym (corrects past (record { first = h.first.stands; second = h.second })) ∙ c.if-take.false) (node_takes row)
+    Performs_calm (takes true true c.args.from c.args.taken.now) (λ past h. sym (c.take.ensures.corrects past (record { first = h.first.stands; second = h.second })) ∙ c.if-take.false) (node_takes c.take.ensures.row)
