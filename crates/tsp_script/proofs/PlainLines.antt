@@ -5,7 +5,7 @@ use Rattle.std.specs.Prelude.{decimal, codes, Contains}
 use Rattle.tsp_script.specs.declared.event_line.EventItem.TheVariants.{Event as EventOf}
 use Rattle.tsp_script.specs.declared.plain.Plain.{Plain}
 use Rattle.tsp_script.specs.declared.plain.Plain.TheVariants.{Boot, Turn, Take}
-use Rattle.tsp_script.specs.Plains.{event_in, IsTurnOrTake}
+use Rattle.tsp_script.specs.Plains.{event_in}
 use Rattle.tsp_script.specs.Schedules.{SpellsEvent, IsEvent}
 use Rattle.tsp_script.proofs.Apart.{words_apart}
 use Rattle.tsp_script.proofs.Cuts.{before_mark-alone, cut_front, no_space-decimal}
@@ -49,10 +49,3 @@ take_read at line rest hex (Boot t node word) r h a e l f =
     absurd (words_differ (codes "boot") (codes "take") (verb_is line rest hex (codes "take") (Boot t node word) (no_space-spaceless (codes "take") refl) e l).0 (omega arith))
 take_read at line rest hex (Turn t node) r h a e l f =
     absurd (words_differ (codes "turn") (codes "take") (verb_is line rest hex (codes "take") (Turn t node) (no_space-spaceless (codes "take") refl) e l).0 (omega arith))
-
--- what begins with neither word is no turn and no take
-pub neither : (line hex : List ℕ) (plain : Plain) → IsTurnOrTake plain → line ≡ verb_of (event_in plain) ++ 32 ∷ rest_of (event_in plain) hex
-    → ((rest : List ℕ) → line ≡ codes "turn " ++ rest → ⊥) → ((rest : List ℕ) → line ≡ codes "take " ++ rest → ⊥) → ⊥
-neither line hex (Boot t node word) i l no_turn no_take = i
-neither line hex (Turn t node) i l no_turn no_take = no_turn (decimal node) l
-neither line hex (Take t datagram) i l no_turn no_take = no_take (decimal datagram) l

@@ -3,7 +3,7 @@ use Rattle.tsp_script.specs.declared.plain.Plain.TheVariants.{Turn, Take}
 use Rattle.tsp_script.specs.Plains.{event_in}
 use Rattle.tsp_script.proofs.EventLines.{at_of, verb_of, rest_of, IsTrueTime-at_of}
 use Rattle.tsp_script.proofs.Outcomes.{none_or_some, some_once}
-use Rattle.tsp_script.proofs.PlainLines.{plain_front, turn_read, take_read, neither}
+use Rattle.tsp_script.proofs.PlainLines.{plain_front, turn_read, take_read}
 use Rattle.tsp_script.proofs.event_line.plain_line.Goals as goal
 
 pub returns-in_err-at-clause-reads : goal.returns-in_err-at-clause-reads
