@@ -14,7 +14,7 @@ use tsp_base::event::Event;
 use tsp_base::header::Header;
 use tsp_lines::cause::Cause;
 use tsp_lines::treatment::Stop;
-use tsp_script::event_line::{EventItem, event_line};
+use tsp_script::event_line::{EventItem, event_line, plain_line};
 
 /// The state after the lines that follow a header.
 #[derive(Drop)]
@@ -85,6 +85,10 @@ impl<C: EventHandler> Run<C> {
             line.now self.new) (Halts C.refused (Running header events) line.now) }
         ensures kind { result ≢ Err Stop.WriteFault }
     {
+        // The most frequent events have no octets, so that they are cheap to read.
+        if let Some(plain) = plain_line(line) {
+            return self.happen(&plain.event());
+        }
         match event_line(line) {
             Ok(EventItem::Event(e)) => self.happen(&e),
             Ok(EventItem::End) => {

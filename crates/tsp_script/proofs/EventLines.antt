@@ -56,7 +56,7 @@ rest_of (Turn at node) hex = decimal node
 rest_of (Take at datagram) hex = decimal datagram
 rest_of (Bytes at node port from octets) hex = (decimal node ++ port_text port) ++ 32 ∷ (place_text from ++ 32 ∷ hex)
 
-event_parts : (e : Event) (hex : List ℕ) → event_text e hex ≡ codes "at" ++ 32 ∷ (decimal (at_of e) ++ 32 ∷ (verb_of e ++ 32 ∷ rest_of e hex))
+pub event_parts : (e : Event) (hex : List ℕ) → event_text e hex ≡ codes "at" ++ 32 ∷ (decimal (at_of e) ++ 32 ∷ (verb_of e ++ 32 ∷ rest_of e hex))
 event_parts (Boot at node word) hex = simp append_assoc
 event_parts (Turn at node) hex = simp append_assoc
 event_parts (Take at datagram) hex = simp append_assoc

@@ -17,6 +17,7 @@ pub mod NodeNames
 pub mod OneEvent
 pub mod OneHead
 pub mod Outcomes
+pub mod PlainLines
 pub mod Ports
 pub mod StormDraws
 pub mod WordTables

@@ -23,7 +23,7 @@ place_text-injective (Peer p) Stranger h k e = absurd (dash_no_number (decimal p
 place_text-injective (Peer p) (Peer q) h k e = ap (λ n. Peer (record { 0 = n })) (decimal_injective p.0 q.0 (omega arith) (omega arith) e)
 
 -- words with another second letter are other words
-words_differ : (v w : List ℕ) → v ≡ w → slice_index_or v 1 0 ≢ slice_index_or w 1 0 → ⊥
+pub words_differ : (v w : List ℕ) → v ≡ w → slice_index_or v 1 0 ≢ slice_index_or w 1 0 → ⊥
 words_differ v w e n = n (ap (λ l. slice_index_or l 1 0) e)
 
 -- what follows the word is one event's

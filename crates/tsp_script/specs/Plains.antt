@@ -9,3 +9,8 @@ abbrev pub event_in : Plain → Event
 event_in (PlainBoot at node word) = Boot at node word
 event_in (PlainTurn at node) = Turn at node
 event_in (PlainTake at datagram) = Take at datagram
+
+-- a node looks at its timers, or a datagram is taken
+abbrev pub IsTurnOrTake : Plain → Type 0
+IsTurnOrTake (PlainBoot at node word) = ⊥
+IsTurnOrTake _ = Unit {0}

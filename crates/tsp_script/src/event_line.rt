@@ -7,7 +7,8 @@ ghost use Rattle.tsp_base.specs.declared.event.Event.{Event};
 ghost use Rattle.tsp_base.specs.declared.place.Place.{Place};
 ghost use Rattle.tsp_base.specs.declared.place.Port.{Port};
 ghost use Rattle.tsp_script.specs.declared.event_line.EventItem.{EventItem};
-ghost use Rattle.tsp_script.specs.Plains.{event_in};
+ghost use Rattle.tsp_script.specs.Plains.{event_in, IsTurnOrTake};
+ghost use Rattle.tsp_script.specs.declared.plain.Plain.{Plain};
 ghost use Rattle.tsp_script.specs.Schedules.{event_text, port_text, NamesPort, IsHexOf, IsPlace};
 ghost use Rattle.tsp_script.specs.Schedules.{IsEvent, SpellsEvent, SpellsRest, ReadsEvent};
 ghost use Rattle.tsp_script.specs.Traces.{place_text};
@@ -278,8 +279,11 @@ pub fn event_line(line: &[u8]) -> Result<EventItem, LineFault>
 
 /// The time of an event's line, and what follows the space after it.
 fn front_time(line: &[u8]) -> Option<(u64, &[u8])>
-    ensures { IfSome result (λ r. (r.0 ≤ 1000000000000000)
+    ensures found { IfSome result (λ r. (r.0 ≤ 1000000000000000)
         × (line.now ≡ codes "at " ++ (decimal r.0 ++ 32 ∷ r.1.now))) }
+    ensures reads { (at : ℕ) (rest : List ℕ) → at ≤ 1000000000000000
+        → line.now ≡ codes "at " ++ (decimal at ++ 32 ∷ rest)
+        → IsSomeAnd result (λ r. (r.0 ≡ at) × (r.1.now ≡ rest)) }
 {
     let line = after(line, b"at ")?;
     let (at, line) = front_number(line)?;
@@ -289,9 +293,12 @@ fn front_time(line: &[u8]) -> Option<(u64, &[u8])>
     Some((at, line))
 }
 
-/// The event of the most frequent lines, a turn or a take. None says nothing: the line may be another event's.
-fn plain_line(line: &[u8]) -> Option<Plain>
-    ensures { IfSome result (λ plain. SpellsEvent line.now (EventItem.Event (event_in plain))) }
+/// The event of the most frequent lines, a turn or a take; None exactly where the line is neither's.
+pub fn plain_line(line: &[u8]) -> Option<Plain>
+    ensures found { IfSome result (λ plain. IsTurnOrTake plain
+        × SpellsEvent line.now (EventItem.Event (event_in plain))) }
+    ensures reads { (plain : Plain) → IsTurnOrTake plain
+        → SpellsEvent line.now (EventItem.Event (event_in plain)) → result ≡ Some plain }
 {
     let (at, line) = front_time(line)?;
     if let Some(rest) = after(line, b"turn ") {

@@ -24,7 +24,8 @@
 //! each event.
 //!
 //! An `Event` has room for 300 octets, so handing it on costs time. `Storm::choice` is `next` for callers to
-//! whom that matters: it gives an event without octets as a small [`plain::Plain`].
+//! whom that matters: it gives an event without octets as a small [`plain::Plain`]. So does
+//! [`event_line::plain_line`] with a turn's line or a take's.
 #![tactic(auto)]
 
 pub mod act_laws;

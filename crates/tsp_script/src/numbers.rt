@@ -225,7 +225,10 @@ pub(crate) fn next_number(line: &[u8]) -> Option<(u64, &[u8])>
 
 /// The number before the first space, and what follows the space; None where there is no space.
 pub(crate) fn front_number(line: &[u8]) -> Option<(u64, &[u8])>
-    ensures { IfSome result (λ r. (r.0 < 2 ^ 64) × (line.now ≡ decimal r.0 ++ 32 ∷ r.1.now)) }
+    ensures found { IfSome result (λ r. (r.0 < 2 ^ 64)
+        × (line.now ≡ decimal r.0 ++ 32 ∷ r.1.now)) }
+    ensures reads { (n : ℕ) (rest : List ℕ) → n < 2 ^ 64 → line.now ≡ decimal n ++ 32 ∷ rest
+        → IsSomeAnd result (λ r. (r.0 ≡ n) × (r.1.now ≡ rest)) }
 {
     let place = mark_at(line, b' ')?;
     let (_, rest) = line.split_at(place + 1);

@@ -6,7 +6,7 @@ use Rattle.tsp_script.proofs.event_line.event_line.Goals as goal
 
 pub returns-in-Some-clause-one : goal.returns-in-Some-clause-one
 returns-in-Some-clause-one c = λ item s.
-    let e : EventOf (event_in c.in-Some.plain) ≡ item = SpellsEvent-one c.args.line.now (EventOf (event_in c.in-Some.plain)) item c.in-Some.ensures s in
+    let e : EventOf (event_in c.in-Some.plain) ≡ item = SpellsEvent-one c.args.line.now (EventOf (event_in c.in-Some.plain)) item c.in-Some.ensures.found.1 s in
     let made = c.event.ensures in
     cc
 
