@@ -19,7 +19,7 @@ pub(crate) struct Sheet {
 }
 
 impl Sheet {
-    ghost use Rattle.tsp_world.specs.Sheets.{acts_on, spare_on};
+    ghost use Rattle.tsp_world.specs.Sheets.{acts_on};
 
     /// No lines and no room. Takes no memory.
     pub(crate) fn new(alloc: Global) -> Sheet

@@ -33,7 +33,7 @@ pub struct World {
     pub(crate) sent: Posts,
     /// The lines of the last event.
     pub(crate) lines: Vec<Line>,
-    /// The acts of the last step.
+    /// The acts of a step that is under way, each in its line.
     pub(crate) desk: Sheet,
     /// How many events were accepted.
     pub(crate) events: u64,
