@@ -3,4 +3,5 @@ pub mod HeadLemmas
 pub mod ReadyLemmas
 pub mod Replicates
 pub mod SetupLemmas
+pub mod TellLemmas
 pub mod WorldLemmas

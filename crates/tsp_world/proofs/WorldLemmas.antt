@@ -20,6 +20,7 @@ use Rattle.tsp_run.specs.Ranges.{Accepted, IsInRange}
 use Rattle.tsp_run.specs.Refusals.{scene, refusal}
 use Rattle.tsp_run.specs.Run.{run, joins, happening, steps, step_tick, event_at}
 use Rattle.tsp_run.specs.Setup.{past_of, rests}
+use Rattle.tsp_world.specs.Sheets.{acts_on}
 use Rattle.tsp_world.specs.WorldStands.{WorldStands, PlaceStands, UpBegun, UpStands, Notes, Passes, up_at, is_node, scene_of}
 use Rattle.tsp_gateway.proofs.StepLemmas.{GatewayStands_step, GatewayBegun_in_step}
 use Rattle.tsp_run.proofs.NetworkLemmas.{some_same}
@@ -117,8 +118,8 @@ PlaceStands-ended header history row step (Some node) h u = PlaceStands-acted he
 -- a world whose node, which is up, has acted by a row
 pub WorldStands-handed : (header : HeaderValue) (events : List Event) (e : Event) (row : NodeRow) (step : Step) (old new : World) (before after : Option Gateway) (acts : List Placed) →
     WorldStands header events old → IsInRange e → refusal (scene header events) e ≡ None → happening header (run header events) e ≡ Some (steps header (run header events) row step) →
-    event_at e ≡ step.at → step.node < length header.nodes → old.desk.placed.items ≡ [] → up_at old.nodes.items step.node ≡ true → slice_get old.nodes.items step.node ≡ Some before →
-    PerformsAll UpBegun UpStands row (step_tick header step) before after old.desk.placed.items acts →
+    event_at e ≡ step.at → step.node < length header.nodes → acts_on old.desk ≡ [] → up_at old.nodes.items step.node ≡ true → slice_get old.nodes.items step.node ≡ Some before →
+    PerformsAll UpBegun UpStands row (step_tick header step) before after (acts_on old.desk) acts →
     Notes step.at step.node (step_tick header step) old.header (set old.nodes.items step.node after) old.events old.sent.items acts new → WorldStands header (e ∷ events) new
 WorldStands-handed header events e row step old new before after acts w range none happens at inside idle is_up there did noted =
     let x : ℕ = step_tick header step in

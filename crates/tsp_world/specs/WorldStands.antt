@@ -1,5 +1,5 @@
 -- Which schedules a world stands for: its header, and the events that it accepted.
-use Rattle.std.specs.Prelude.{◌≡◌, ℕ, ◌+◌, ◌≤◌, Bool, true, false, List, [], ◌∷◌, ◌++◌, ◌<◌, length, Option, None, Some, slice_get, All, vec_len, vec_capacity}
+use Rattle.std.specs.Prelude.{◌≡◌, ℕ, ◌+◌, ◌≤◌, Bool, true, false, List, [], ◌∷◌, ◌++◌, ◌<◌, length, Option, None, Some, slice_get, All, vec_len}
 use Rattle.tsp_base.specs.declared.act.Placed.{Placed}
 use Rattle.tsp_base.specs.declared.event.Event.{Event}
 use Rattle.tsp_base.specs.Headers.{HeaderValue}
@@ -15,6 +15,7 @@ use Rattle.tsp_run.specs.Ranges.{IsInRange}
 use Rattle.tsp_run.specs.Refusals.{Scene, Valid, scene, refusal}
 use Rattle.tsp_run.specs.Run.{run, posts, last_at, gained, event_at, happening, steps, posts_from, told_from}
 use Rattle.tsp_run.specs.Setup.{past_of, rests}
+use Rattle.tsp_world.specs.Sheets.{acts_on}
 
 -- a place of the world's nodes has a node that is up and stands for its past, or one that hasn't booted
 abbrev pub PlaceStands : HeaderValue → List Line → ℕ → Option Gateway → Type 0
@@ -57,11 +58,10 @@ pub record WorldStands (header : HeaderValue) (events : List Event) (world : Wor
   pub nodes : (n : ℕ) (place : Option Gateway) → slice_get world.nodes.items n ≡ Some place → PlaceStands header (run header events) n place
   pub nobody : (n : ℕ) → length header.nodes ≤ n → up (dids (of n (run header events))) ≡ false
 
--- there is so much room on the desk for a step's acts, and in the lists for its lines and posts
+-- there is so much room on the desk for a step's acts, and in the list for its posts
 pub record IsReady (wanted : ℕ) (world : World) : Type 0 where
   pub desk : wanted ≤ world.desk.spare
-  pub idle : world.desk.placed.items ≡ []
-  pub lines : wanted ≤ vec_capacity world.lines
+  pub idle : acts_on world.desk ≡ []
   pub sent : wanted ≤ world.sent.spare
 
 -- the world still stands for all that it stood for
@@ -80,10 +80,9 @@ HappensBy row at node old new =
 
 -- the acts on the desk can be noted: there is room, and no limit is met
 pub record CanNote (world : World) : Type 0 where
-  pub lines : length world.desk.placed.items ≤ vec_capacity world.lines
-  pub sent : length world.desk.placed.items ≤ world.sent.spare
+  pub sent : length (acts_on world.desk) ≤ world.sent.spare
   pub few_events : world.events < 200000
-  pub few_posts : length world.sent.items + length world.desk.placed.items ≤ 1000000
+  pub few_posts : length world.sent.items + length (acts_on world.desk) ≤ 1000000
 
 -- a world with this header, these nodes, so many events and these posts has noted an event at this time: its acts as lines and as posts
 pub record Notes (at node tick : ℕ) (header : HeaderValue) (nodes : List (Option Gateway)) (events : ℕ) (sent : List Posted) (acts : List Placed) (new : World) : Type 0 where

@@ -14,6 +14,7 @@ ghost use Rattle.tsp_run.specs.Refusals.{Allowed, actor};
 ghost use Rattle.tsp_run.specs.Run.{goes_to};
 ghost use Rattle.tsp_run.specs.Setup.{node_line};
 ghost use Rattle.tsp_world.specs.NodesReady.{wanted};
+ghost use Rattle.tsp_world.specs.Sheets.{acts_on};
 ghost use Rattle.tsp_world.specs.WorldStands.{scene_of, IsReady, Happens, HappensBy, Stays, CanNote, Notes, Passes};
 
 use crate::step;
@@ -191,13 +192,13 @@ impl World {
     fn note(&mut self, node: u32, tick: u64)
         requires { CanNote self.old }
         ensures { Notes self.old.last node tick self.old.header self.old.nodes.items self.old.events
-            self.old.sent.items self.old.desk.placed.items self.new }
+            self.old.sent.items (acts_on self.old.desk) self.new }
     {
         let first = self.posted();
         self.events += 1;
-        self.lines.clear();
         let event = self.events;
-        tell(&mut self.lines, self.desk.acts(), event, node, tick, first);
-        send(&mut self.sent, self.desk.acts(), self.last, node);
+        send(&mut self.sent, self.desk.lines.as_slice(), self.last, node);
+        self.desk.exchange(&mut self.lines);
+        tell(self.lines.as_mut_slice(), event, node, tick, first);
     }
 }

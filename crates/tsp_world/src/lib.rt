@@ -25,6 +25,7 @@ mod limits;
 pub mod posts;
 mod refusing;
 mod setup;
+mod sheet;
 mod step;
 mod tell;
 pub mod way;

@@ -81,12 +81,20 @@ impl World {
         }
     }
 
-    /// The first cause for which an event is refused, if it is; `node` is the node that would act.
-    pub(crate) fn refusal(&self, e: &Event, node: Option<u32>) -> Option<EventFault>
-        requires { node ≡ actor (scene_of self.now) e.now }
+    /// The first cause for which an event is refused, if it is; `node` is the node that would act, and `room`
+    /// how many acts its step may put.
+    pub(crate) fn refusal(
+        &self,
+        e: &Event,
+        node: Option<u32>,
+        room: Option<u64>,
+    ) -> Option<EventFault>
+        requires actor { node ≡ actor (scene_of self.now) e.now }
+        requires room { room ≡ room_at (networks self.now.header) node }
+        requires few { IfSome room (λ w. w ≤ 200000) }
         ensures { result ≡ refusal (scene_of self.now) e.now }
     {
-        let full = limit(self.events, self.posted(), self.room(node));
+        let full = limit(self.events, self.posted(), room);
         let later = first_of(self.not_up(e, node), full);
         let unposted = first_of(no_datagram(self.posted(), e), later);
         let absent = first_of(no_node(self.count(), self.networks(), e), unposted);

@@ -7,24 +7,25 @@ ghost use Rattle.tsp_rules.specs.NodeRows.{PortSetup};
 ghost use Rattle.tsp_rules.specs.Guards.{is_clock_value};
 ghost use Rattle.tsp_run.specs.Networks.{room};
 ghost use Rattle.tsp_world.specs.NodesReady.{PlaceReady, CanAct, CanTake};
+ghost use Rattle.tsp_world.specs.Sheets.{acts_on};
 ghost use Rattle.tsp_world.specs.WorldStands.{UpBegun, UpStands};
 
+use crate::sheet::Sheet;
 use tsp_base::datagram::Taken;
 use tsp_base::header::NodeLine;
-use tsp_base::pad::Pad;
 use tsp_base::place::{Place, Port};
 use tsp_gateway::Gateway;
 
 /// A node looks at its timers, if it is up.
-pub(crate) fn turn(place: &mut Option<Gateway>, tick: u64, desk: &mut Pad)
+pub(crate) fn turn(place: &mut Option<Gateway>, tick: u64, desk: &mut Sheet)
     requires tick { tick ≤ 2 ^ 61 }
     requires able { CanAct desk.old.spare tick place.old }
     ensures row { PerformsAll UpBegun UpStands (answers_all NodeTurn) tick place.old place.new
-        desk.old.placed.items desk.new.placed.items }
+        (acts_on desk.old) (acts_on desk.new) }
     ensures ready { (ports : List PortSetup) → PlaceReady ports tick place.old
         → PlaceReady ports tick place.new }
     ensures few { (ports : List PortSetup) → PlaceReady ports tick place.old
-        → length desk.new.placed.items ≤ length desk.old.placed.items + room ports }
+        → length (acts_on desk.new) ≤ length (acts_on desk.old) + room ports }
 {
     if let Some(node) = place {
         node.turn(tick, desk);
@@ -38,16 +39,16 @@ pub(crate) fn take(
     port: Port,
     from: Place,
     taken: &Taken,
-    desk: &mut Pad,
+    desk: &mut Sheet,
 )
     requires tick { tick ≤ 2 ^ 61 }
     requires able { CanTake desk.old.spare tick port place.old }
     ensures row { PerformsAll UpBegun UpStands (answers_all (GotOn port from taken.now)) tick
-        place.old place.new desk.old.placed.items desk.new.placed.items }
+        place.old place.new (acts_on desk.old) (acts_on desk.new) }
     ensures ready { (ports : List PortSetup) → PlaceReady ports tick place.old
         → PlaceReady ports tick place.new }
     ensures few { (ports : List PortSetup) → PlaceReady ports tick place.old
-        → length desk.new.placed.items ≤ length desk.old.placed.items + room ports }
+        → length (acts_on desk.new) ≤ length (acts_on desk.old) + room ports }
 {
     if let Some(node) = place {
         node.take(tick, port, from, taken, desk);

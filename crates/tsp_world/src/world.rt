@@ -1,17 +1,17 @@
 //! All nodes of a schedule and all datagrams that they posted.
 ghost use Rattle.std.specs.Prelude.{◌≡◌, ◌≤◌, [], ◌∷◌, List, true, length, vec_len, IfOk, OnOk};
-ghost use Rattle.std.specs.Prelude.{OnErr, MatchResult, slice_get, None};
+ghost use Rattle.std.specs.Prelude.{OnErr, MatchResult, slice_get, None, unwrap_or};
 ghost use Rattle.tsp_base.specs.Headers.{is_whole};
 ghost use Rattle.tsp_world.specs.NodesReady.{NodesReady};
 
 use crate::posts::Posts;
 use crate::setup::configs_of;
+use crate::sheet::Sheet;
 use std::alloc::{AllocError, Global};
 use tsp_base::desk::Desk;
 use tsp_base::event::{Event, EventFault};
 use tsp_base::header::Header;
 use tsp_base::members::Members;
-use tsp_base::pad::Pad;
 use tsp_gateway::{GateConfig, Gateway};
 use tsp_networks::{all_nodes, networks_of};
 use tsp_run::line::Line;
@@ -33,8 +33,8 @@ pub struct World {
     pub(crate) sent: Posts,
     /// The lines of the last event.
     pub(crate) lines: Vec<Line>,
-    /// The acts of the last step.
-    pub(crate) desk: Pad,
+    /// The acts of a step that is under way, each in its line.
+    pub(crate) desk: Sheet,
     /// How many events were accepted.
     pub(crate) events: u64,
     /// The time of the last event, in microseconds.
@@ -77,7 +77,7 @@ impl World {
             nodes,
             sent: Posts::new(alloc),
             lines: Vec::new(alloc),
-            desk: Pad::new(alloc),
+            desk: Sheet::new(alloc),
             events: 0,
             last: 0,
         })
@@ -140,10 +140,11 @@ impl World {
             (λ f. IsRefusal (refusal (scene header events) e.now) f) }
     {
         let node = self.actor(e);
-        if let Some(fault) = self.refusal(e, node) {
+        let room = self.room(node);
+        if let Some(fault) = self.refusal(e, node, room) {
             return Err(fault);
         }
-        if self.make_room(node).is_err() {
+        if self.make_room(room).is_err() {
             return Err(EventFault::OutOfMemory);
         }
         match self.happen(e, node) {
@@ -152,21 +153,17 @@ impl World {
         }
     }
 
-    /// Makes room for the acts of this node's step, for its lines and its posts. Fails only if out of
-    /// memory, and then changes nothing that the world stands for.
-    fn make_room(&mut self, node: Option<u32>) -> Result<(), AllocError>
+    /// Makes room for so many acts of a step, each in its line, and for so many posts; None where no node
+    /// acts. Fails only if out of memory, and then changes nothing that the world stands for.
+    fn make_room(&mut self, room: Option<u64>) -> Result<(), AllocError>
         ensures stands { Stays self.old self.new }
-        ensures ready { OnOk result (IsReady (wanted self.old.header node) self.new) }
+        ensures ready { OnOk result (IsReady (unwrap_or room 0) self.new) }
         ensures same { scene_of self.new ≡ scene_of self.old }
         ensures header { self.new.header ≡ self.old.header }
     {
-        let room = match self.room(node) {
-            Some(room) => room as usize,
-            None => 0,
-        };
+        let room = room.unwrap_or(0) as usize;
         self.desk.clear();
         self.desk.reserve(room)?;
-        self.lines.reserve(room)?;
         self.sent.reserve(room)?;
         Ok(())
     }

@@ -14,6 +14,7 @@ use Rattle.tsp_run.specs.Setup.{node_line, past_of}
 use Rattle.tsp_run.proofs.NetworkLemmas.{some_same}
 use Rattle.tsp_world.specs.Configs.{config_of}
 use Rattle.tsp_world.specs.NodesReady.{NodeReady}
+use Rattle.tsp_world.specs.Sheets.{acts_on}
 use Rattle.tsp_world.specs.WorldStands.{Notes, PlaceStands}
 use Rattle.tsp_world.proofs.BootLemmas.{boots-up}
 use Rattle.tsp_world.proofs.ReadyLemmas.{NodesReady-later, NodesReady-set}
@@ -84,11 +85,9 @@ note-requires c =
     let room = room-many (ports_on c.args.node (networks world.header)) in
     let few = c.boot.ensures.room.few in
     let none = ap (λ ps. length ps) c.requires.ready.idle in
-    let lines = c.requires.ready.lines in
     let sent = c.requires.ready.sent in
     let posts = c.requires.posts in
     record {
-      lines = omega (arith, few, many, room, none, lines);
       sent = omega (arith, few, many, room, none, sent);
       few_events = c.requires.events;
       few_posts = omega (arith, few, many, room, none, posts);
@@ -104,7 +103,7 @@ returns-in-Ok-clause-happens c header events w none =
     let x = step_tick header step in
     let past : NodePast = in_node_step step x (past_of header step (run header events)) in
     let node = c.in-Ok.booted in
-    let acts = c.boot.new.desk.placed.items in
+    let acts = acts_on c.boot.new.desk in
     let nodes = set world.nodes.items c.args.node (Some node) in
     let tick_is : c.tick-tick.result ≡ x = c.tick-tick.ensures.tick ∙ ap (λ h. tick_at (node_line h c.args.node).rate c.args.at) w.header_is in
     let wall_line : c.line.result.now ≡ line = c.line.ensures.line ∙ ap (λ h. node_line h c.args.node) w.header_is in
@@ -112,10 +111,10 @@ returns-in-Ok-clause-happens c header events w none =
     let fits : SFits w64 c.wall_at-wall.result = search rules in
     let wall_back : to_z w64 (of_z w64 c.wall_at-wall.result) ≡ line.wall +ℤ pos x = to_z-of_z fits ∙ wall_is in
     let config_is : c.index-config.result.now ≡ config = configured (goal.at.returns-in-Ok-clause-happens c).After-index-config ∙ ap (λ h. config_of h c.args.node) w.header_is in
-    let booted : PerformsAll (UnbootedNode config c.args.word (line.wall +ℤ pos x)) GatewayStands boots_all x tt node world.desk.placed.items acts =
-    subst (λ t. PerformsAll (UnbootedNode config c.args.word (line.wall +ℤ pos x)) GatewayStands boots_all t tt node world.desk.placed.items acts) tick_is
-    (subst (λ z. PerformsAll (UnbootedNode config c.args.word z) GatewayStands boots_all c.tick-tick.result tt node world.desk.placed.items acts) wall_back
-    (subst (λ v. PerformsAll (UnbootedNode v c.args.word (to_z w64 (of_z w64 c.wall_at-wall.result))) GatewayStands boots_all c.tick-tick.result tt node world.desk.placed.items acts) config_is c.in-Ok.ensures.row)) in
+    let booted : PerformsAll (UnbootedNode config c.args.word (line.wall +ℤ pos x)) GatewayStands boots_all x tt node (acts_on world.desk) acts =
+    subst (λ t. PerformsAll (UnbootedNode config c.args.word (line.wall +ℤ pos x)) GatewayStands boots_all t tt node (acts_on world.desk) acts) tick_is
+    (subst (λ z. PerformsAll (UnbootedNode config c.args.word z) GatewayStands boots_all c.tick-tick.result tt node (acts_on world.desk) acts) wall_back
+    (subst (λ v. PerformsAll (UnbootedNode v c.args.word (to_z w64 (of_z w64 c.wall_at-wall.result))) GatewayStands boots_all c.tick-tick.result tt node (acts_on world.desk) acts) config_is c.in-Ok.ensures.row)) in
     let begun : UnbootedNode config c.args.word (line.wall +ℤ pos x) past tt = record { cause = refl; of = record { name = refl; may = refl; strict = refl; ports = refl } } in
     WorldStands-acted header events (Boot c.args.at c.args.node c.args.word) boots_all step world c.note.new.self nodes acts
     w (search rules) none refl refl (in_header header events world len w c.args.node c.requires.node) (search rules)

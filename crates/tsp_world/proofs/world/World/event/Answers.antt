@@ -1,11 +1,11 @@
 -- A refusal is the schedule's; what isn't refused happens.
-use Rattle.std.proofs.Common.{◌≡◌, ◌∙◌, refl, sym, inl, inr, rules}
+use Rattle.std.proofs.Common.{◌≡◌, ◌∙◌, refl, sym, subst, inl, inr, rules}
 use Rattle.tsp_base.specs.declared.event.Event.{Event}
 use Rattle.tsp_base.specs.Headers.{HeaderValue}
 use Rattle.tsp_world.specs.declared.world.World.{World}
-use Rattle.tsp_run.specs.Refusals.{scene, refusal}
+use Rattle.tsp_run.specs.Refusals.{Allowed, scene, refusal}
 use Rattle.tsp_world.specs.WorldStands.{scene_of, WorldStands}
-use Rattle.tsp_run.proofs.RefusalLemmas.{refusal-alike}
+use Rattle.tsp_run.proofs.RefusalLemmas.{allowed, refusal-alike}
 use Rattle.tsp_run.proofs.RunPremises.{runs-keep-premises}
 use Rattle.tsp_run.proofs.RunPromises.{runs-keep-promises}
 use Rattle.tsp_world.proofs.WorldLemmas.{Alike-stands, accepted}
@@ -15,6 +15,9 @@ use Rattle.std.specs.Prelude.{List, ◌∷◌}
 -- what the world refuses, its schedule refuses
 refuses : (header : HeaderValue) (events : List Event) (world : World) (e : Event) → WorldStands header events world → refusal (scene_of world) e ≡ refusal (scene header events) e
 refuses header events world e w = refusal-alike (scene_of world) (scene header events) (Alike-stands header events world (search rules) w) e
+
+pub happen-requires-clause-allowed : goal.happen-requires-clause-allowed
+happen-requires-clause-allowed c = subst (λ s. Allowed s c.args.e.now) (sym c.make_room.ensures.same) (allowed (scene_of c.args.self.now) c.args.e.now (sym c.refusal.ensures ∙ c.in_default.is))
 
 pub returns-in-Some-clause-fault : goal.returns-in-Some-clause-fault
 returns-in-Some-clause-fault c = λ header events w. inl (sym (refuses header events c.args.self.now c.args.e.now w) ∙ sym c.refusal.ensures ∙ c.in-Some.is)

@@ -7,6 +7,7 @@ use Rattle.tsp_rules.specs.NodePerforms.{PerformsAll}
 use Rattle.tsp_run.specs.Networks.{networks, ports_on}
 use Rattle.tsp_run.specs.Setup.{node_line}
 use Rattle.tsp_world.specs.NodesReady.{PlaceReady}
+use Rattle.tsp_world.specs.Sheets.{acts_on}
 use Rattle.tsp_world.specs.WorldStands.{Notes, UpBegun, UpStands}
 use Rattle.tsp_world.proofs.ReadyLemmas.{NodesReady-later, NodesReady-set, CanTake-ready, PlaceReady-acts, place_there}
 use Rattle.tsp_world.proofs.WorldLemmas.{WorldStands-handed, in_header}
@@ -33,11 +34,9 @@ note-requires c =
     let world = c.args.self.now in
     let few = c.take.ensures.few (ports_on c.args.node (networks world.header)) (ready (goal.at.note-requires c).After-index_mut-place) in
     let none = ap (λ ps. length ps) c.requires.ready.idle in
-    let lines = c.requires.ready.lines in
     let sent = c.requires.ready.sent in
     let posts = c.requires.posts in
     record {
-      lines = omega (arith, few, none, lines);
       sent = omega (arith, few, none, sent);
       few_events = c.requires.events;
       few_posts = omega (arith, few, none, posts);
@@ -49,8 +48,8 @@ returns c cause header events e w at range none up happens =
     let len : vec_len world.nodes ≡ length world.nodes.items = search rules in
     let tick_is = c.tick-tick.ensures.tick ∙ ap (λ h. tick_at (node_line h c.args.node).rate c.args.at) w.header_is in
     let row = answers_all (GotOn c.args.port c.args.from c.args.taken.now) in
-    let acts = c.take.new.desk.placed.items in
+    let acts = acts_on c.take.new.desk in
     WorldStands-handed header events e row (record { at = c.args.at; node = c.args.node; cause = cause }) world c.note.new.self c.index_mut-place.result.now c.take.new.place acts
     w range none happens at (in_header header events world len w c.args.node c.requires.node) c.requires.ready.idle up (there (goal.at.returns c).After-index_mut-place)
-    (subst (λ t. PerformsAll UpBegun UpStands row t c.index_mut-place.result.now c.take.new.place world.desk.placed.items acts) tick_is c.take.ensures.row)
+    (subst (λ t. PerformsAll UpBegun UpStands row t c.index_mut-place.result.now c.take.new.place (acts_on world.desk) acts) tick_is c.take.ensures.row)
     (subst (λ t. Notes c.args.at c.args.node t world.header (set world.nodes.items c.args.node c.take.new.place) world.events world.sent.items acts c.note.new.self) tick_is c.note.ensures)

@@ -11,6 +11,7 @@ use Rattle.tsp_base.specs.History.{Turned}
 use Rattle.tsp_run.specs.Refusals.{scene}
 use Rattle.tsp_run.proofs.RefusalLemmas.{refusal-none, up-down}
 use Rattle.tsp_world.specs.NodesReady.{PlaceReady}
+use Rattle.tsp_world.specs.Sheets.{acts_on}
 use Rattle.tsp_world.specs.WorldStands.{Notes, UpBegun, UpStands}
 use Rattle.tsp_world.proofs.ReadyLemmas.{NodesReady-later, NodesReady-set, CanAct-ready, PlaceReady-acts, place_there}
 use Rattle.tsp_world.proofs.WorldLemmas.{WorldStands-handed, Alike-stands, in_header}
@@ -37,11 +38,9 @@ note-requires c =
     let world = c.args.self.now in
     let few = c.turn.ensures.few (ports_on c.args.node (networks world.header)) (ready (goal.at.note-requires c).After-index_mut-place) in
     let none = ap (λ ps. length ps) c.requires.ready.idle in
-    let lines = c.requires.ready.lines in
     let sent = c.requires.ready.sent in
     let posts = c.requires.posts in
     record {
-      lines = omega (arith, few, none, lines);
       sent = omega (arith, few, none, sent);
       few_events = c.requires.events;
       few_posts = omega (arith, few, none, posts);
@@ -53,8 +52,8 @@ returns c header events w none =
     let len : vec_len world.nodes ≡ length world.nodes.items = search rules in
     let tick_is = c.tick-tick.ensures.tick ∙ ap (λ h. tick_at (node_line h c.args.node).rate c.args.at) w.header_is in
     let up = (Alike-stands header events world len w).up c.args.node ∙ up-down (scene header events) c.args.node (refusal-none (scene header events) (Turn c.args.at c.args.node) none).up in
-    let acts = c.turn.new.desk.placed.items in
+    let acts = acts_on c.turn.new.desk in
     WorldStands-handed header events (Turn c.args.at c.args.node) (answers_all NodeTurn) (record { at = c.args.at; node = c.args.node; cause = Turned }) world c.note.new.self c.index_mut-place.result.now c.turn.new.place acts
     w tt none refl refl (in_header header events world len w c.args.node c.requires.node) c.requires.ready.idle up (there (goal.at.returns c).After-index_mut-place)
-    (subst (λ t. PerformsAll UpBegun UpStands (answers_all NodeTurn) t c.index_mut-place.result.now c.turn.new.place world.desk.placed.items acts) tick_is c.turn.ensures.row)
+    (subst (λ t. PerformsAll UpBegun UpStands (answers_all NodeTurn) t c.index_mut-place.result.now c.turn.new.place (acts_on world.desk) acts) tick_is c.turn.ensures.row)
     (subst (λ t. Notes c.args.at c.args.node t world.header (set world.nodes.items c.args.node c.turn.new.place) world.events world.sent.items acts c.note.new.self) tick_is c.note.ensures)

@@ -1,0 +1,10 @@
+-- At the end all lines are told.
+use Rattle.std.proofs.Common.{◌≤◌, ◌∙◌, sym, arith, length}
+use Rattle.tsp_world.proofs.TellLemmas.{told_all}
+use Rattle.tsp_world.proofs.tell.tell.Goals as goal
+
+pub returns : goal.returns
+returns c =
+    let past = c.loop-line-test.false in
+    let all : length c.loop-line.lines ≤ c.loop-line.line-index = omega (arith, past) in
+    sym (told_all c.args.event c.args.node c.args.tick c.loop-line.next c.loop-line.line-index c.loop-line.lines all) ∙ c.loop-line.invariant.told
