@@ -1,4 +1,5 @@
--- The claimed lines behind a schedule: how far they have come, which line may follow, and why one may not.
+-- The claimed lines after a schedule: how far they have come, which line may follow, and why one may not. An event is
+-- passed once all its lines were read and it lacks nothing; the first one that isn't passed is the event at hand.
 use Rattle.std.specs.Prelude.{◌≡◌, ◌⊎◌, ℕ, zero, suc, ◌+◌, ◌-◌, if◌then◌else◌, List, [], ◌∷◌, ◌++◌, length, reverse, Option, None, Some}
 use Rattle.tsp_base.specs.declared.event.Event.{Event}
 use Rattle.tsp_base.specs.Headers.{HeaderValue}
@@ -9,43 +10,45 @@ use Rattle.tsp_claims.specs.Stands.{claim_of}
 use Rattle.tsp_script.specs.ActLines.{SpellsTrace}
 use Rattle.tsp_script.specs.declared.trace.Line2.{Line2}
 
--- how many lines may be claimed
+-- the most lines that may be claimed, of all events together
 abbrev pub most_lines : ℕ
 most_lines = 20000
 
--- how far claimed lines have come
+-- how far the claimed lines have come
 pub record ClaimingValue : Type 0 where
-  -- the header of their schedule
+  -- the header of the schedule
   pub header : HeaderValue
-  -- the events that were passed, the newest first, with the acts that are claimed of each
+  -- the events that were passed, the newest first, each with the acts that are claimed of it
   pub passed : List Claim
   -- the lines so far of the event at hand, in their order
   pub told : List Line2
-  -- the event at hand, and those behind it, in their order
+  -- the event at hand, and those after it, the oldest first; empty where all were passed
   pub ahead : List Event
 
--- a line is the trace's line of these values, and of no others
+-- octets are the trace's line with these values, and with no others
 abbrev pub Tells : List ℕ → Line2 → Type 0
 Tells line l = SpellsTrace line l × ((other : Line2) → SpellsTrace line other → other ≡ l)
 
--- nothing is claimed yet; of these events the newest is the first
+-- where the claims begin: of none of these events, which are given newest first, anything is claimed yet
 abbrev pub unclaimed : HeaderValue → List Event → ClaimingValue
 unclaimed header events = record { header = header; passed = []; told = []; ahead = reverse events }
 
--- what lines come to, behind those that were counted
+-- the tally of some lines with these counted too: whether there are any, how many are posts, whether one is a Took
 abbrev pub tallied : Tally → List Line2 → Tally
 tallied t [] = t
 tallied t (l ∷ rest) = tallied (counted t l.placed.act) rest
 
--- how many lines are claimed so far
+-- how many lines are claimed so far, with those of the event at hand
 abbrev pub lines_told : ClaimingValue → ℕ
 lines_told c = lines_in c.passed + length c.told
 
--- the event at hand is passed: there is one, and with its lines it lacks nothing
+-- the event at hand is passed, where there is one and it lacks nothing with its lines, else nothing comes of it; a boot
+-- needs its Boot, and octets, and a take that has lines, their Took
 abbrev pub pass_first : HeaderValue → List Claim → List Line2 → List Event → Option ClaimingValue
 pass_first header passed told [] = None
 pass_first header passed told (e ∷ rest) = if lacks e (tallied untold told) then None else Some (record { header = header; passed = claim_of e told ∷ passed; told = []; ahead = rest })
 
+-- the same, of claimed lines that have come so far
 abbrev pub pass_one : ClaimingValue → Option ClaimingValue
 pass_one c = pass_first c.header c.passed c.told c.ahead
 
@@ -54,16 +57,17 @@ abbrev pub and_then : Option ClaimingValue → (ClaimingValue → Option Claimin
 and_then None step = None
 and_then (Some c) step = step c
 
--- so many events are passed, one after the other: each is there, and with its lines lacks nothing
+-- this many events are passed, one after the other, where each is there and lacks nothing; else none
 abbrev pub passes : ℕ → ClaimingValue → Option ClaimingValue
 passes zero c = Some c
 passes (suc n) c = and_then (pass_one c) (λ d. passes n d)
 
--- the events before that of a line are passed; the event at hand has the number that is next
+-- the events before the one with this number, from 1, are passed, where that can be; the event at hand has the number
+-- after those of the passed ones. Where the event with this number was passed before, nothing changes
 abbrev pub comes_to : ClaimingValue → ℕ → Option ClaimingValue
 comes_to c event = passes (event - (length c.passed + 1)) c
 
--- all events are passed
+-- all events that are left are passed, where that can be
 abbrev pub passes_all : ClaimingValue → Option ClaimingValue
 passes_all c = passes (length c.ahead) c
 
@@ -72,17 +76,20 @@ abbrev pub FitsFirst : HeaderValue → List Claim → List Line2 → List Event 
 FitsFirst header passed told [] l = ⊥
 FitsFirst header passed told (e ∷ rest) l = FitsNext header passed e (tallied untold told) l
 
+-- the same, of claimed lines that have come so far
 abbrev pub FitsHere : ClaimingValue → Line2 → Type 0
 FitsHere c l = FitsFirst c.header c.passed c.told c.ahead l
 
--- a line fits: the events before its own lack nothing, and bring the claims here, and it fits as the next one of its event
+-- a line fits: the events before its own lack nothing, and passing them brings the claims here, where the line fits as
+-- the next one of its event
 abbrev pub FitsAt : ClaimingValue → Line2 → ClaimingValue → Type 0
 FitsAt c l here = (comes_to c l.event ≡ Some here) × FitsHere here l
 
--- a line doesn't fit: an event before its own lacks something or isn't there; or its event was passed, or isn't there, or it doesn't fit as the next line of that
+-- a line doesn't fit: an event before its own lacks something or isn't there; or its event was passed, or isn't there,
+-- or the line doesn't fit as the next one of it
 abbrev pub MisfitsAt : ClaimingValue → Line2 → Type 0
 MisfitsAt c l = (comes_to c l.event ≡ None) ⊎ ((here : ClaimingValue) × (comes_to c l.event ≡ Some here) × ¬ FitsHere here l)
 
--- one line more of the event at hand
+-- the claims with one line more of the event at hand
 abbrev pub told_more : ClaimingValue → Line2 → ClaimingValue
 told_more c l = record c { told = c.told ++ l ∷ [] }

@@ -1,4 +1,5 @@
 -- Reading the input of an audit line by line: how far the lines have come, which line may follow, and why one may not.
+-- The causes are words: those of a schedule, and after it `line` and `history`.
 use Rattle.std.specs.Prelude.{◌≡◌, ◌⊎◌, ℕ, ◌<◌, ◌≤◌, List, [], ◌∷◌, length, None, Some, codes, Option}
 use Rattle.tsp_audit.specs.declared.verdict.Failure.{Failure}
 use Rattle.tsp_audit.specs.Premised.{premises_of}
@@ -14,14 +15,14 @@ use Rattle.tsp_schedule.specs.Schedules.{Progress, Untitled, Titled, Drifted, He
 use Rattle.tsp_script.specs.ActLines.{SpellsTrace}
 use Rattle.tsp_script.specs.declared.trace.Line2.{Line2}
 
--- how far the lines have come
+-- how far the lines of an input have come
 pub data Reading : Type 0 where
-  -- the schedule, up to some line before its last
+  -- the schedule, up to some line before its last one, `end`
   Scheduling : (p : Progress) → Reading
-  -- the schedule to its last line, and claimed lines behind it
+  -- the whole schedule, and claimed lines after it, maybe none
   Claimed : (c : ClaimingValue) → Reading
 
--- how far a schedule's lines bring the reading: behind the last one nothing is claimed yet
+-- how far the lines of a schedule bring the reading: after its last one nothing is claimed yet
 abbrev pub reading_of : Progress → Reading
 reading_of Untitled = Scheduling Untitled
 reading_of (Titled version) = Scheduling (Titled version)
@@ -30,7 +31,7 @@ reading_of (Heading header) = Scheduling (Heading header)
 reading_of (Running header events) = Scheduling (Running header events)
 reading_of (Ended header events) = Claimed (unclaimed header events)
 
--- how many nodes a schedule has so far
+-- how many nodes a schedule has so far; 0 before its first one
 abbrev pub nodes_at : Progress → ℕ
 nodes_at Untitled = 0
 nodes_at (Titled version) = 0
@@ -39,36 +40,41 @@ nodes_at (Heading header) = length header.nodes
 nodes_at (Running header events) = length header.nodes
 nodes_at (Ended header events) = length header.nodes
 
--- a line may follow, and this is how far it brings the reading: a schedule's, which has no node too many, or a claimed one, which fits and is not one too many
+-- a line may follow, and this is how far it brings the reading: a line that the schedule goes on by, with at most 16
+-- nodes, or a claimed line that fits, after fewer than 20,000
 abbrev pub GoesOn : Reading → List ℕ → Reading → Type 0
 GoesOn (Scheduling p) line next = (q : Progress) × GoesOnBy refused p line q × (nodes_at q ≤ most_nodes) × (next ≡ reading_of q)
 GoesOn (Claimed c) line next = (l : Line2) × (here : ClaimingValue) × Tells line l × FitsAt c l here × (lines_told here < most_lines) × (next ≡ Claimed (told_more here l))
 
--- these lines, the newest first, bring the reading so far
+-- these lines, which are given newest first, bring the reading so far
 abbrev pub Reaches : List (List ℕ) → Reading → Type 0
 Reaches [] r = r ≡ Scheduling Untitled
 Reaches (line ∷ before) r = (q : Reading) × Reaches before q × GoesOn q line r
 
--- a line may not follow, for this cause: as a line of the schedule; or it is no line of a trace; or, as one, it doesn't fit
+-- a line may not follow, for this cause: in the schedule for that of the schedule; after it for `line` where it is no
+-- line of a trace, and for `history` where it is one that doesn't fit
 abbrev pub Refuses : Reading → List ℕ → List ℕ → Type 0
 Refuses (Scheduling p) line cause = RefusesBy refused p line cause
 Refuses (Claimed c) line cause = (((l : Line2) → SpellsTrace line l → ⊥) × (cause ≡ codes "line")) ⊎ ((l : Line2) × Tells line l × MisfitsAt c l × (cause ≡ codes "history"))
 
--- a line may not follow, since it passes a limit: its event is one too many; or it is the line of a node too many, which the header would take else; or it is a claimed line that fits and is one too many
+-- a line may not follow only since it passes a limit: its event is one more than 20,000; or it is the line of a 17th
+-- node, which the header would take; or it is a claimed line that fits, after 20,000
 abbrev pub Limits : Reading → List ℕ → Type 0
 Limits (Scheduling p) line = LimitsBy refused p line ⊎ ((q : Progress) × GoesOnBy refused p line q × (most_nodes < nodes_at q))
 Limits (Claimed c) line = (l : Line2) × (here : ClaimingValue) × Tells line l × FitsAt c l here × (most_lines ≤ lines_told here)
 
--- this is found of these claims, under the premises that the whole input keeps, and by the clocks of the header
+-- this is found of these claims: the first failure, or none, under the premises that all these events keep, with the
+-- clocks of the header
 abbrev pub Judges : HeaderValue → List Claim → Option Failure → Type 0
 Judges header claims found = (setting : Setting) → HasClocks header setting → IsFound (premises_of header claims) setting header claims found
 
--- the input may end, with these octets: the verdict, once all events are passed
+-- the input may end, and these octets are its last output: the verdict on all events, which can all be passed
 abbrev pub Ends : Reading → List ℕ → Type 0
 Ends (Scheduling p) more = ⊥
 Ends (Claimed c) more = (all : ClaimingValue) × (found : Option Failure) × (passes_all c ≡ Some all) × Judges all.header all.passed found × (more ≡ verdict_text found)
 
--- the input may not end yet, for this cause: the schedule has not ended, or one of the events that are left lacks something
+-- the input may not end yet, for this cause: the schedule has not ended; or, for `history`, one of the events that are
+-- left lacks something
 abbrev pub Lacks : Reading → List ℕ → Type 0
 Lacks (Scheduling p) cause = LacksBy p cause
 Lacks (Claimed c) cause = (passes_all c ≡ None) × (cause ≡ codes "history")

@@ -1,4 +1,4 @@
--- What is known of events and claimed lines while they are read.
+-- What is known of the events and the claimed lines while lines are read.
 use Rattle.std.specs.Prelude.{◌≡◌, ◌+◌, ◌≤◌, List, [], ◌∷◌, length, drop}
 use Rattle.tsp_audit.specs.declared.audit.Audit.{Audit}
 use Rattle.tsp_audit.specs.declared.premises.Premises.{Premises}
@@ -15,19 +15,20 @@ use Rattle.tsp_claims.specs.Fitting.{Fit, FitsNext, counted, untold}
 use Rattle.tsp_claims.specs.Stands.{ClaimsStand, claim_of}
 use Rattle.tsp_script.specs.declared.trace.Line2.{Line2}
 
--- these claims, and then those of these lines on each of the events in turn
+-- these claims, and then one more for each event, with the lines of it, as long as there are both; the events and the
+-- lists of lines are given oldest first
 abbrev pub claims_on : List Claim → List Event → List (List Line2) → List Claim
 claims_on before events [] = before
 claims_on before [] (lines ∷ told) = before
 claims_on before (e ∷ rest) (lines ∷ told) = claims_on (claim_of e lines ∷ before) rest told
 
--- the lines of each event fit after the claims before it
+-- the lines of each event fit after the claims before it, and no event that has a list of lines lacks anything
 abbrev pub FitEach : HeaderValue → List Claim → List Event → List (List Line2) → Type 0
 FitEach header before events [] = Unit {0}
 FitEach header before [] (lines ∷ told) = Unit {0}
 FitEach header before (e ∷ rest) (lines ∷ told) = Fit header before e lines × FitEach header (claim_of e lines ∷ before) rest told
 
--- lines fit as the next ones of an event, behind those that were counted; the event may lack something yet
+-- lines fit as the next ones of an event, after those that were counted; the event may still lack something
 abbrev pub FitSoFar : (Event → Tally → Line2 → Type 0) → Event → Tally → List Line2 → Type 0
 FitSoFar fits e t [] = Unit {0}
 FitSoFar fits e t (l ∷ rest) = fits e t l × FitSoFar fits e (counted t l.placed.act) rest
@@ -37,7 +38,8 @@ abbrev pub FitAtHand : HeaderValue → List Claim → List Event → List Line2 
 FitAtHand header passed [] lines = lines ≡ []
 FitAtHand header passed (e ∷ rest) lines = FitSoFar (FitsNext header passed) e untold lines
 
--- these lines of the first events were passed, and these of the next one are at hand
+-- what a reader of claimed lines holds: the first events were passed with these lines, one list for each, the next
+-- event is at hand with the pending lines, and the claims, the tally and the premises are what all that comes to
 pub record Sound (header : HeaderValue) (events : List Event) (claims : Claims) (told : List (List Line2)) (pending : List Line2) (tally : Tally) (premises : Premises) : Type 0 where
   pub header_is : IsAudited header
   pub listed : AreListed (length header.nodes) events
@@ -49,7 +51,8 @@ pub record Sound (header : HeaderValue) (events : List Event) (claims : Claims) 
   pub premises_are : premises ≡ premises_of header (claims_on [] events told)
   pub few_lines : claims.told + length pending ≤ most_lines
 
--- an audit stands for nothing yet, and these lines of the first of these events fit one after the other, and may be audited
+-- an audit that stands for no event yet may be given these events from the first on, one for each list of lines: each
+-- list fits, and there are at most 20,000 events and 20,000 lines
 pub record IsAuditable (premises : Premises) (header : HeaderValue) (events : List Event) (told : List (List Line2)) (audit : Audit) : Type 0 where
   pub stand : AuditStands premises header [] audit
   pub listed : AreListed (length header.nodes) events

@@ -1,4 +1,4 @@
--- What the events and the claimed lines that are held stand for.
+-- What the values that the treatment of an audit holds stand for, and what each of its calls makes of them.
 use Rattle.std.specs.Prelude.{◌≡◌, ℕ, ◌<◌, ◌≤◌, List, [], length, reverse, Option, None, codes}
 use Rattle.tsp_base.specs.declared.event.Event.{Event}
 use Rattle.tsp_base.specs.Headers.{HeaderValue}
@@ -19,38 +19,38 @@ use Rattle.tsp_lines.specs.declared.treatment.Stop.TheVariants.{Bad, Limit, Writ
 use Rattle.tsp_run.specs.Run.{last_at}
 use Rattle.tsp_script.specs.declared.trace.Line2.{Line2}
 
--- the events of a schedule are where a header and these, of which the newest is the first, have brought them
+-- the listing stands for a header and these events, which are given newest first
 pub record ListingStands (header : HeaderValue) (events : List Event) (listing : Listing) : Type 0 where
   pub header_is : listing.header ≡ header
   pub events_are : listing.events.items ≡ reverse events
   pub last_is : listing.last ≡ last_at events
   pub up_is : up_in listing.up.items ≡ booted events
 
--- what is held stands for how far the lines have come
+-- what is held stands for a reading that has come so far
 abbrev pub HeldStands : Reading → AuditInput → Type 0
 HeldStands (Scheduling p) (Schedule stage) = StageStands ListingStands p stage
 HeldStands (Claimed c) (ClaimsOf claiming) = claiming ≡ c
 HeldStands _ _ = ⊥
 
--- the treatment is where these lines have brought it, whichever way they are read
+-- what is held stands for these lines, whichever way they are read
 abbrev pub Stands : AuditInput → List (List ℕ) → Type 0
 Stands held lines = (r : Reading) → Reaches (reverse lines) r → HeldStands r held
 
--- a line was accepted: this is how far it brings the reading, and nothing else is
+-- a line was accepted: it brings the reading to one place, and to no other, and what is held stands for that
 pub record Advances (r : Reading) (line : List ℕ) (next : AuditInput) : Type 0 where
   pub to : Reading
   pub goes : GoesOn r line to
   pub stands_for : HeldStands to next
   pub only : (other : Reading) → GoesOn r line other → other ≡ to
 
--- a line was not accepted
+-- a line was not accepted, for this reason: it may not follow, it passes a limit, or there was no memory
 abbrev pub Halts : Reading → List ℕ → Stop → Type 0
 Halts r line (Bad cause) = Refuses r line cause
 Halts r line Limit = Limits r line
 Halts r line WriteFault = ⊥
 Halts r line OutOfMemory = Unit {0}
 
--- events were not passed: they can't be, or there was no memory
+-- events were not passed, for this reason: they can't be (`history`), or there was no memory
 abbrev pub Unpassed : Option ClaimingValue → Stop → Type 0
 Unpassed next (Bad cause) = (next ≡ None) × (cause ≡ codes "history")
 Unpassed next Limit = ⊥
@@ -61,36 +61,36 @@ Unpassed next OutOfMemory = Unit {0}
 abbrev pub Adds : ClaimingValue → Line2 → ClaimingValue → Type 0
 Adds c l now = FitsHere c l × (lines_told c < most_lines) × (now ≡ told_more c l)
 
--- a line was not added: it doesn't fit, or is one too many
+-- a line was not added: it doesn't fit (`history`), it fits after 20,000 lines (a limit), or there was no memory
 abbrev pub HaltsAdding : ClaimingValue → Line2 → Stop → Type 0
 HaltsAdding c l (Bad cause) = (¬ FitsHere c l) × (cause ≡ codes "history")
 HaltsAdding c l Limit = FitsHere c l × (most_lines ≤ lines_told c)
 HaltsAdding c l WriteFault = ⊥
 HaltsAdding c l OutOfMemory = Unit {0}
 
--- a line was added to those of its event
+-- a line was added to those of its event, once the events before that were passed
 abbrev pub TellsMore : ClaimingValue → Line2 → ClaimingValue → Type 0
 TellsMore c l now = (here : ClaimingValue) × FitsAt c l here × (lines_told here < most_lines) × (now ≡ told_more here l)
 
--- a line was not added to those of its event
+-- a line was not added to those of its event: as above, or an event before it couldn't be passed
 abbrev pub HaltsTelling : ClaimingValue → Line2 → Stop → Type 0
 HaltsTelling c l (Bad cause) = MisfitsAt c l × (cause ≡ codes "history")
 HaltsTelling c l Limit = (here : ClaimingValue) × FitsAt c l here × (most_lines ≤ lines_told here)
 HaltsTelling c l WriteFault = ⊥
 HaltsTelling c l OutOfMemory = Unit {0}
 
--- a claimed line was read
+-- a claimed line was read, and added to those of its event
 abbrev pub ClaimAdvances : ClaimingValue → List ℕ → ClaimingValue → Type 0
 ClaimAdvances c line now = (l : Line2) × Tells line l × TellsMore c l now
 
--- the schedule has come to a node too many, or there was no memory
+-- nothing is held after a line of the schedule: its header has more than 16 nodes, or there was no memory
 abbrev pub HaltsBehind : Progress → Stop → Type 0
 HaltsBehind p (Bad cause) = ⊥
 HaltsBehind p Limit = most_nodes < nodes_at p
 HaltsBehind p WriteFault = ⊥
 HaltsBehind p OutOfMemory = Unit {0}
 
--- a schedule that has come behind its header has so many nodes
+-- a schedule of which a line after the header was read has so many nodes; before that this says nothing
 abbrev pub HasNodes : Stage Listing → ℕ → Type 0
 HasNodes AtUntitled count = Unit {0}
 HasNodes (AtTitled version) count = Unit {0}
@@ -98,11 +98,11 @@ HasNodes (AtDrifted header) count = Unit {0}
 HasNodes (AtHeading header) count = Unit {0}
 HasNodes (AtRunning run) count = count ≡ length run.course.header.nodes
 
--- the verdict was handed over
+-- exactly the verdict was put into the output, and the input may end
 abbrev pub Concludes : ClaimingValue → Option (List ℕ) → List ℕ → Option (List ℕ) → List ℕ → Type 0
 Concludes c written held now keeps = (more : List ℕ) × Hands written held now keeps more × Ends (Claimed c) more
 
--- it was not: an event that is left lacks something, or nothing was handed over
+-- nothing was put into the output: an event that is left lacks something, a write failed, or there was no memory
 abbrev pub HaltsConcluding : ClaimingValue → Option (List ℕ) → List ℕ → Option (List ℕ) → List ℕ → Stop → Type 0
 HaltsConcluding c written held now keeps (Bad cause) = Hands written held now keeps [] × Lacks (Claimed c) cause
 HaltsConcluding c written held now keeps Limit = ⊥

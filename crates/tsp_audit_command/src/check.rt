@@ -21,19 +21,19 @@ use tsp_lines::treatment::{Stop, Treatment};
 use tsp_schedule::run::Run;
 use tsp_schedule::stage::Stage;
 
-/// How many nodes a schedule may have that is to be audited.
+/// The most nodes that an audited schedule may have.
 const MOST_NODES: usize = 16;
 
-/// What was read of an audit's input.
+/// What the lines read so far come to.
 #[derive(Drop)]
 pub(crate) enum AuditInput {
-    /// A schedule, up to some line before its last.
+    /// The schedule, up to some line before its last one, which is `end`.
     Schedule(Stage<Listing>),
-    /// A whole schedule, and claimed lines behind it.
+    /// The whole schedule, and the claimed lines after it so far.
     Claims(ClaimReader),
 }
 
-/// How many nodes a schedule has so far.
+/// How many nodes the header of a schedule has so far; 0 before the first one.
 fn node_count(stage: &Stage<Listing>) -> usize
     ensures count { (p : Progress) → StageStands ListingStands p stage.now → result ≡ nodes_at p }
     ensures few { HasNodes stage.now result }
@@ -47,7 +47,7 @@ fn node_count(stage: &Stage<Listing>) -> usize
     }
 }
 
-/// What is missing of a schedule.
+/// Why the input may not end within the schedule: `header` where the header lacks a line, else `no-end`.
 fn missing(stage: &Stage<Listing>) -> Cause
     ensures { (p : Progress) → StageStands ListingStands p stage.now → ¬ IsEnded p
         → Lacks (Scheduling p) result }
@@ -58,7 +58,9 @@ fn missing(stage: &Stage<Listing>) -> Cause
     }
 }
 
-/// Passes the events that are left, and hands the verdict over.
+/// Passes the events that are left, and puts the verdict into `output`. `Bad` with `history` where one of them lacks
+/// something; `WriteFault` where a write to the sink fails; else fails only if out of memory. After any of these
+/// nothing of the verdict was put.
 fn conclude<K: Sink>(claiming: ClaimReader, output: &mut Output, sink: &mut K) -> Result<(), Stop>
     ensures ends { MatchResult result
         (λ _. Concludes claiming (K.written sink.old) output.old (K.written sink.new) output.new)
@@ -78,14 +80,16 @@ fn conclude<K: Sink>(claiming: ClaimReader, output: &mut Output, sink: &mut K) -
 }
 
 impl AuditInput {
-    /// No line was read. Takes no memory.
+    /// Before the first line. Takes no memory.
     fn new() -> AuditInput
         ensures { result ≡ AuditInput.Schedule Stage.Untitled }
     {
         AuditInput::Schedule(Stage::Untitled)
     }
 
-    /// What is held after one line more, or why the line may not follow.
+    /// What the lines come to with this one more; it comes without its line feed, in at most 1,024 octets. `Bad` with
+    /// the cause where it can't follow the lines before it. `Limit` where it could but for a limit: it has node 17,
+    /// event 20,001 or claimed line 20,001. Else fails only if out of memory. After a fault nothing is held any more.
     fn next(self, alloc: Global, line: &[u8]) -> Result<AuditInput, Stop>
         ensures next { (r : Reading) → HeldStands r self
             → MatchResult result (Advances r line.now) (Halts r line.now) }
@@ -100,7 +104,7 @@ impl AuditInput {
         }
     }
 
-    /// Reads a line of the schedule.
+    /// Reads a line of the schedule, up to `end`; fails as `next` does.
     fn schedule(alloc: Global, mut stage: Stage<Listing>, line: &[u8]) -> Result<AuditInput, Stop>
         ensures next { (p : Progress) → StageStands ListingStands p stage
             → MatchResult result (Advances (Scheduling p) line.now)
@@ -113,7 +117,8 @@ impl AuditInput {
         }
     }
 
-    /// What is held behind a line that the schedule took; refused where it has a node too many.
+    /// What is held after a line that the schedule accepted. `Limit` where its header now has more than 16 nodes; else
+    /// fails only if out of memory.
     fn behind(alloc: Global, stage: Stage<Listing>) -> Result<AuditInput, Stop>
         ensures next { (p : Progress) → StageStands ListingStands p stage
             → MatchResult result (λ next. (nodes_at p ≤ most_nodes)
@@ -132,7 +137,8 @@ impl AuditInput {
         }
     }
 
-    /// What is held behind a line behind the header: with the schedule's last one the claims begin.
+    /// What is held after a line that comes after the header: an event, or `end`, with which the claims begin. Fails
+    /// only if out of memory.
     fn behind_header(alloc: Global, run: Run<Listing>) -> Result<AuditInput, Stop>
         requires { length run.course.header.nodes ≤ most_nodes }
         ensures next { (p : Progress) → RunStands ListingStands p run
@@ -149,7 +155,8 @@ impl AuditInput {
         }
     }
 
-    /// For what cause a line of more than 1,024 octets is refused, of which these are the first 8.
+    /// The cause for which a line of more than 1,024 octets is refused; `start` is its first 8 octets. In the schedule
+    /// it is that of a replay, after the schedule `line`.
     fn refuse_long(&self, start: &[u8]) -> Cause
         ensures { (r : Reading) → HeldStands r self.now → (line : List ℕ) → 1024 < length line
             → start.now ≡ take 8 line → Refuses r line result }
@@ -161,15 +168,17 @@ impl AuditInput {
     }
 }
 
-/// Takes a schedule's lines and behind them claimed ones, and hands the verdict on these over at the end.
+/// The treatment of an audit's lines: it takes those of a schedule, and then claimed ones, and puts the verdict on them
+/// into the output when the input ends.
 #[derive(Drop)]
 pub(crate) struct Check {
     alloc: Global,
+    /// What the lines so far come to.
     held: AuditInput,
 }
 
 impl Check {
-    /// No line was read. Takes no memory.
+    /// Before the first line. Takes no memory.
     pub(crate) fn new(alloc: Global) -> Check
         ensures { result.held ≡ AuditInput.Schedule Stage.Untitled }
     {

@@ -1,4 +1,5 @@
-//! The lines that are claimed of a schedule's events.
+//! The lines that are claimed of a schedule's events: each is read, must fit, and is put with its event. The front page
+//! says what fits, lacks, passed and at hand mean.
 ghost use Rattle.std.specs.Prelude.{◌≡◌, ◌↔◌, [], Some, length, IsTrue, IfOk, MatchResult, codes};
 
 use crate::copies::copy_header;
@@ -16,10 +17,11 @@ use tsp_lines::treatment::Stop;
 use tsp_script::act_reader::act_of;
 use tsp_script::trace::Line2;
 
-/// How many lines may be claimed.
+/// The most lines that may be claimed, of all events together.
 const MOST_LINES: u64 = 20_000;
 
-/// The refusal of a line, or of the input's end, that doesn't fit.
+/// The refusal with the cause `history`: of a line that doesn't fit, and of a line or the input's end before which an
+/// event lacks something.
 fn bad_history() -> Stop
     ensures { result ≡ Stop.Bad (codes "history") }
 {
@@ -27,23 +29,25 @@ fn bad_history() -> Stop
 }
 
 /// The events of a schedule, and the lines that are claimed of them so far: those of the events
-/// that were passed, and those of the event at hand.
+/// that were passed, and those of the event at hand. Each method that answers with a reader gives this
+/// one back, changed, with `Ok`; with a fault it is gone.
 #[derive(Drop)]
 pub(crate) struct ClaimReader {
+    /// Where memory comes from.
     pub(crate) alloc: Global,
-    /// The header of the schedule.
+    /// The header of the schedule, which has 1 to 16 nodes.
     pub(crate) header: Header,
-    /// All events, the oldest first.
+    /// All events of the schedule, the oldest first: at most 20,000.
     pub(crate) events: Vec<Event>,
-    /// What is claimed of the events that were passed.
+    /// The lines of the events that were passed, as a history; what the next line must fit.
     pub(crate) claims: Claims,
-    /// The lines of each event that was passed.
+    /// The same lines, event by event, the oldest first: `judge` gives them to the audit.
     pub(crate) told: Vec<EventLines>,
     /// The lines so far of the event at hand.
     pub(crate) pending: EventLines,
-    /// What they come to.
+    /// What they come to: whether there are any, how many are posts, and whether one is a `took`.
     pub(crate) tally: Tally,
-    /// What the events that were passed keep.
+    /// Which premises the events that were passed keep.
     pub(crate) premises: Premises,
 }
 
@@ -73,7 +77,8 @@ impl ClaimReader {
     ghost use Rattle.tsp_audit_command.specs.Stands.{Adds, ClaimAdvances, Halts, HaltsAdding};
     ghost use Rattle.tsp_audit_command.specs.Stands.{HaltsTelling, TellsMore, Unpassed};
 
-    /// Nothing is claimed yet of these events. Fails only if out of memory.
+    /// Before the first claimed line of these events, which come oldest first. Fails only if out of memory, and then
+    /// drops them and the header.
     pub(crate) fn begin(
         alloc: Global,
         header: Header,
@@ -101,7 +106,8 @@ impl ClaimReader {
         })
     }
 
-    /// Passes the event at hand; refused where there is none, or where it lacks something.
+    /// Passes the event at hand. `Bad` with `history` where there is none, or where it lacks something with the lines
+    /// that it has; else fails only if out of memory.
     fn pass_one(self) -> Result<ClaimReader, Stop>
         ensures { MatchResult result (λ now. pass_one self ≡ Some now) (Unpassed (pass_one self)) }
     {
@@ -135,7 +141,7 @@ impl ClaimReader {
         })
     }
 
-    /// Passes so many events.
+    /// Passes this many events, one after the other; fails where one of them does, as `pass_one` does.
     fn pass(self, count: u64) -> Result<ClaimReader, Stop>
         ensures { MatchResult result (λ now. passes count self ≡ Some now)
             (Unpassed (passes count self)) }
@@ -150,7 +156,7 @@ impl ClaimReader {
         Ok(now)
     }
 
-    /// Passes all events that are left.
+    /// Passes all events that are left; fails as `pass` does.
     pub(crate) fn pass_all(self) -> Result<ClaimReader, Stop>
         ensures { MatchResult result (λ now. passes_all self ≡ Some now)
             (Unpassed (passes_all self)) }
@@ -159,7 +165,7 @@ impl ClaimReader {
         self.pass(left as u64)
     }
 
-    /// Whether a line fits as the next one of the event at hand.
+    /// Whether a line fits as the next one of the event at hand; no line does where there is none.
     fn fits(&self, line: &Line2) -> bool
         ensures { IsTrue result ↔ FitsHere self.now line.now }
     {
@@ -169,14 +175,15 @@ impl ClaimReader {
         }
     }
 
-    /// How many lines are claimed.
+    /// How many lines are claimed so far, with those of the event at hand.
     fn lines(&self) -> u64
         ensures { result ≡ lines_told self.now }
     {
         self.claims.told() + self.pending.lines().len() as u64
     }
 
-    /// Adds a line to those of the event at hand.
+    /// Adds a line to those of the event at hand. `Bad` with `history` where it doesn't fit as the next one; `Limit`
+    /// where it does, but 20,000 lines are claimed already; else fails only if out of memory.
     fn add(self, line: Line2) -> Result<ClaimReader, Stop>
         ensures { MatchResult result (λ now. Adds self line now) (HaltsAdding self line) }
     {
@@ -204,7 +211,9 @@ impl ClaimReader {
         })
     }
 
-    /// Adds a line to those of its event, once the events before that are passed.
+    /// Passes the events before that of the line, and adds the line to those of its event. `Bad` with `history` where
+    /// one of those lacks something, where there is no event of this number, and where the line doesn't fit, as when
+    /// its event was passed before. `Limit` where it fits and is line 20,001; else fails only if out of memory.
     fn tell(self, line: Line2) -> Result<ClaimReader, Stop>
         ensures { MatchResult result (λ now. TellsMore self line now) (HaltsTelling self line) }
     {
@@ -215,7 +224,7 @@ impl ClaimReader {
         }
     }
 
-    /// Reads a claimed line, or says why it may not follow.
+    /// Reads a claimed line, without its line feed. `Bad` with `line` where it is no line of a trace; else as `tell`.
     pub(crate) fn line(self, line: &[u8]) -> Result<ClaimReader, Stop>
         ensures { MatchResult result (λ now. ClaimAdvances self line.now now)
             (Halts (Claimed self) line.now) }

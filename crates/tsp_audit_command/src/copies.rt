@@ -1,4 +1,4 @@
-//! Copies of events and headers.
+//! Copies of events and headers: a reader of lines lends them, and an audit needs them until its end.
 ghost use Rattle.std.specs.Prelude.{◌≡◌, [], IfOk};
 
 use std::alloc::{AllocError, Global};
@@ -6,7 +6,7 @@ use tsp_base::event::Event;
 use tsp_base::header::{Header, NodeLine};
 use tsp_base::octets::Octets;
 
-/// The same octets again.
+/// A copy of octets. Takes no memory.
 fn copy_octets(octets: &Octets) -> Octets
     ensures { result ≡ octets.now }
 {
@@ -16,7 +16,7 @@ fn copy_octets(octets: &Octets) -> Octets
     }
 }
 
-/// The same event again.
+/// A copy of an event. Takes no memory.
 pub(crate) fn copy_event(e: &Event) -> Event
     ensures { result ≡ e.now }
 {
@@ -50,7 +50,7 @@ pub(crate) fn copy_event(e: &Event) -> Event
     }
 }
 
-/// The same node again.
+/// A copy of a node's line of the header. Takes no memory.
 fn copy_node(line: &NodeLine) -> NodeLine
     ensures { result ≡ line.now }
 {
@@ -62,7 +62,8 @@ fn copy_node(line: &NodeLine) -> NodeLine
     }
 }
 
-/// A header with the same drift, strictness and nodes, and without networks. Fails only if out of memory.
+/// A copy of a header, without its networks: it has the drift, the nodes, and whether elections are strict. Fails only
+/// if out of memory.
 fn copy_nodes(alloc: Global, header: &Header) -> Result<Header, AllocError>
     ensures { IfOk result (λ copy. copy ≡ record header.now { nets = [] }) }
 {
@@ -75,7 +76,7 @@ fn copy_nodes(alloc: Global, header: &Header) -> Result<Header, AllocError>
     Ok(copy)
 }
 
-/// The same header again. Fails only if out of memory.
+/// A copy of a whole header. Fails only if out of memory.
 pub(crate) fn copy_header(alloc: Global, header: &Header) -> Result<Header, AllocError>
     ensures { IfOk result (λ copy. copy ≡ header.now) }
 {

@@ -5,7 +5,7 @@ use std::alloc::{AllocError, Global};
 use std::marker::Model;
 use tsp_script::trace::Line2;
 
-/// The lines that are claimed of one event, in order.
+/// The lines that are claimed of one event, in the order in which they were read.
 #[derive(Drop)]
 pub(crate) struct EventLines {
     lines: Vec<Line2>,
@@ -30,7 +30,7 @@ impl EventLines {
         }
     }
 
-    /// One line more. Fails only if out of memory; then the lines are what they were.
+    /// Puts a line behind the others. Fails only if out of memory; then the lines are what they were.
     pub(crate) fn push(&mut self, line: Line2) -> Result<(), AllocError>
         ensures ok { OnOk result (self.new ≡ self.old ++ line ∷ []) }
         ensures err { OnErr result (self.new ≡ self.old) }
@@ -41,7 +41,7 @@ impl EventLines {
         Ok(())
     }
 
-    /// The lines.
+    /// The lines, in their order.
     pub(crate) fn lines(&self) -> &[Line2]
         ensures { result.now ≡ self.now }
     {

@@ -20,7 +20,9 @@ use tsp_base::event::Event;
 use tsp_claims::audit_fault::AuditFault;
 use tsp_script::trace::Line2;
 
-/// Audits an event and its lines, which fit. Fails only if out of memory.
+/// Gives the audit one event more, with the lines that are claimed of it, which must fit. Its time is at most 10^15
+/// microseconds, its node one of the header's, and with it there are at most 20,000 events and 20,000 lines. Fails only
+/// if out of memory.
 fn audit_one(audit: &mut Audit, e: &Event, lines: &[Line2]) -> Result<(), AllocError>
     requires time { event_at e.now ≤ 1000000000000000 }
     requires node { NamesNode (length audit.old.claims.header.nodes) e.now }
@@ -39,8 +41,8 @@ fn audit_one(audit: &mut Audit, e: &Event, lines: &[Line2]) -> Result<(), AllocE
     }
 }
 
-/// Audits the first of these events, of which these lines are claimed, one after the other. Fails
-/// only if out of memory.
+/// Gives the audit as many of these events, from the first on, as there are lists of lines in `told`, each with its
+/// own list, which must fit. Fails only if out of memory.
 fn audit_all(audit: &mut Audit, events: &[Event], told: &[EventLines]) -> Result<(), AllocError>
     requires fit { (premises : Premises) × (header : HeaderValue)
         × IsAuditable premises header events.now told.now audit.old }
@@ -55,8 +57,9 @@ fn audit_all(audit: &mut Audit, events: &[Event], told: &[EventLines]) -> Result
 }
 
 impl ClaimReader {
-    /// What fails first of what is claimed of the events that were passed, under the premises that
-    /// they keep. Fails only if out of memory.
+    /// The first failure of what is claimed of the events that were passed, under the premises that they keep; None
+    /// where all parts hold. Call it after `pass_all`, so that these are all events of the schedule. Fails only if out
+    /// of memory.
     pub(crate) fn judge(self) -> Result<Option<Failure>, AllocError>
         ensures { IfOk result (λ found. Judges self.header self.passed found) }
     {

@@ -1,20 +1,46 @@
-//! The audit of a claimed history: a schedule's lines in, and behind them the lines of a trace that
-//! some program claims for it; out comes the verdict on them.
+//! The command `audit`: a schedule's lines come in, and after them the lines of a trace that some program
+//! claims for that schedule. Out comes one line, the verdict on what is claimed.
 //!
-//! [`run::check`] is the whole command. It reads all of its input, and writes one line:
+//! [`run::check`] is the whole command. It reads all of its input before it treats the first line:
 //!
-//! ```text
-//! let outcome = check(alloc, &mut source, &mut sink);
-//! // holds             no promise fails
-//! // fails, PART EVENT the least promise that fails, and the first event at which one does
-//! // bad LINE CAUSE    a line that can't follow those before it
-//! // limit LINE        a line for which there is no room
+//! ```
+//! // One node boots, and of that a program claims one line.
+//! let input = b"tsp-schedule 1\ndrift 0\nnode a 0 1000 m\nat 0 boot 0 5\nend\n1 0 0 0 boot\n";
+//! let mut source = MemorySource::new(alloc, input, &[])?;
+//! let mut sink = MemorySink::new(alloc, &[])?;
+//! assert!(matches!(check(alloc, &mut source, &mut sink), Outcome::Ok));
+//! assert_eq!(sink.written(), b"holds\n");
 //! ```
 //!
-//! Under it [`check::Check`] is the treatment of the lines, one by one: up to the schedule's `end`
-//! [`listing::Listing`] takes the events, and behind it [`claim_reader::ClaimReader`] the claimed
-//! lines, each of which must fit. At the end it passes the events that are left, and only then,
-//! with what the whole schedule keeps, hands all to the audit (`tsp_audit`).
+//! | Line written | Outcome | What it says |
+//! |---|---|---|
+//! | `holds` | `Ok` | no part fails |
+//! | `fails Dn E` | `Ok` | E is the first event up to which a part fails, n the least that fails up to it |
+//! | `bad LINE CAUSE` | `Bad` | this line, or the end of the input, can't follow the lines before it |
+//! | `limit LINE` | `Limit` | this line passes a limit: 16 nodes, 20,000 events, 20,000 claimed lines, 64 MiB of input |
+//!
+//! Lines and events are numbered from 1. A *part* is a promise that every run keeps; parts have the numbers 12 to
+//! 16, and `Verdict` of `tsp_audit` names them. With `ReadFault` nothing is written, with `WriteFault` a part of the
+//! line that isn't all of it, and with `OutOfMemory` a part of it, from its beginning, or all.
+//!
+//! Three words are used everywhere below:
+//!
+//! - A claimed line *fits* if the schedule and the lines before it allow it: it has the number, the node and the tick
+//!   of its event and a port of the node, posts are numbered from 0, and a `took` takes what the event brings.
+//! - An event *lacks* something if its lines are all there and one is missing: a boot needs its `boot`, and octets
+//!   need their `took`, as does a take that has lines.
+//! - An event is *passed* once all of its lines were read and it lacks nothing. The first event that isn't passed yet
+//!   is the event *at hand*: the next line that fits belongs to it, or to a later one, and then it is passed first.
+//!
+//! The parts of this crate are called in this order:
+//!
+//! 1. [`check::Check`] gets the lines from `tsp_lines`, one by one.
+//! 2. Up to `end`, a [`listing::Listing`] collects the schedule's events. They are refused as in a replay, but for
+//!    two things: of a take only its time is looked at, and there is room for fewer.
+//! 3. After `end`, a [`claim_reader::ClaimReader`] takes each claimed line, if it fits, and passes events.
+//! 4. At the end of the input it passes the events that are left. Only then is it known which premises the whole
+//!    schedule keeps (no datagram is forged or late, no boot has the word of another). The parts ask for them.
+//! 5. `judge` of the reader gives each event and its lines to an `Audit` of `tsp_audit`, and the verdict is written.
 #![tactic(auto)]
 
 mod check;

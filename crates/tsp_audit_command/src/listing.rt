@@ -14,18 +14,18 @@ use tsp_networks::all_nodes;
 use tsp_networks::refusals::time_of;
 use tsp_schedule::handler::EventHandler;
 
-/// The header and the events of a schedule so far, at most 20,000, none of which is refused.
+/// The header of a schedule, and its events so far: at most 20,000, none of which is refused.
 #[derive(Drop)]
 pub(crate) struct Listing {
-    /// The nodes' clocks, names and networks.
+    /// The header: the drift, whether elections are strict, and the nodes' clocks, names and networks.
     pub(crate) header: Header,
-    /// The network of all nodes, which they are on where the header names none.
+    /// One network with all nodes: theirs where the header names none.
     pub(crate) one: Vec<Members>,
-    /// Whether each node has booted.
+    /// Whether each node has booted, by its number.
     pub(crate) up: Vec<bool>,
     /// The events, the oldest first.
     pub(crate) events: Vec<Event>,
-    /// The time of the last event, in microseconds; 0 before one.
+    /// The true time of the newest event, in microseconds; 0 where there is none.
     pub(crate) last: u64,
     ghost some: { 1 ≤ length header.nodes },
     ghost whole: { is_whole header ≡ true },
@@ -37,7 +37,7 @@ pub(crate) struct Listing {
 impl Listing {
     ghost use Rattle.tsp_audit_command.specs.Stands.{ListingStands};
 
-    /// No event has happened. Takes memory for the nodes; fails only if out of memory, and then
+    /// Before the first event. Takes memory for the nodes; fails only if out of memory, and then
     /// drops the header.
     fn new(alloc: Global, header: Header) -> Result<Listing, AllocError>
         requires some { 1 ≤ length header.nodes }

@@ -14,16 +14,19 @@ use tsp_lines::limits::MOST_INPUT;
 use tsp_lines::treat::Outcome;
 use tsp_lines::treat_gathered::treat_gathered;
 
-/// Reads a schedule and behind it the lines of a trace that some program claims for it, and writes
-/// the verdict: `holds`, or `fails` with the number of a part and of an event.
+/// Reads a schedule, and after its `end` the lines of a trace that some program claims for it. Writes the verdict:
+/// `holds`, or `fails Dn E`, where E is the number, from 1, of the first event up to which a part fails, and n that of
+/// the least part that fails up to it (12 to 16, see `Verdict` of `tsp_audit`). Either is answered with `Ok`.
 ///
-/// The input is read to its end, or to the first octet past 64 MiB, before a line is refused; where
-/// a read fails nothing is written. The first line that can't follow those before it ends it with
-/// `bad LINE CAUSE`: as in a replay, or behind the schedule `line` for a line that is no trace's
-/// and `history` for one that doesn't fit; where an event lacks what it needs, LINE is that of the
-/// next line. A node past 16, an event or a claimed line past 20,000 and an input past 64 MiB end
-/// it with `limit LINE`. Where the input is a schedule and lines that fit it, the answer is `Ok`,
-/// if nothing fails and there is memory.
+/// The input is read to its end, or to the first octet past 64 MiB, before a line is treated; so where a read fails,
+/// nothing is written. The first line that can't follow those before it ends the audit with `bad LINE CAUSE`. CAUSE is
+/// that of a replay within the schedule. After it, it is `line` where the line is none of a trace, and `history` where
+/// it doesn't fit or an event before its own lacks something. Where an event lacks something at the end of the input,
+/// LINE is one more than the number of the last line. A 17th node, a 20,001st event, a 20,001st claimed line and a line
+/// past 64 MiB end the audit with `limit LINE`. The answers are `Bad` and `Limit`.
+///
+/// Where the input is a schedule and claimed lines, all of which fit and of which no event lacks anything, the answer
+/// is `Ok`, unless a read or a write fails or memory is refused: `ReadFault`, `WriteFault`, `OutOfMemory`.
 pub fn check<S: Source, K: Sink>(alloc: Global, source: &mut S, sink: &mut K) -> Outcome
     requires open { S.ended source.old ≡ false }
     ensures comes { ComesGathered auditing MOST_INPUT (S.left source.old) (S.left source.new)

@@ -13,7 +13,7 @@ use tsp_lines::output::Output;
 use tsp_lines::treatment::Stop;
 use tsp_script::numbers::{append, append_number};
 
-/// The verdict that names this failure, or that all holds where there is none, with a line feed.
+/// `fails Dn E` with the numbers of this failure's part and event, or `holds` where there is none; with a line feed.
 fn text_of(found: Option<Failure>) -> ArrayVec<u8, 1024>
     ensures { result.items ≡ verdict_text found }
 {
@@ -31,7 +31,8 @@ fn text_of(found: Option<Failure>) -> ArrayVec<u8, 1024>
     text
 }
 
-/// Hands the verdict over, and nothing of it where that fails.
+/// Puts the verdict into `output`, which writes to the sink what it has no room for. `WriteFault` where that write
+/// fails; else fails only if out of memory. After a fault nothing of the verdict was put.
 pub(crate) fn tell<K: Sink>(
     found: Option<Failure>,
     output: &mut Output,
