@@ -39,7 +39,7 @@
 //!    two things: of a take only its time is looked at, and there is room for fewer.
 //! 3. After `end`, a [`claim_reader::ClaimReader`] takes each claimed line, if it fits, and passes events.
 //! 4. At the end of the input it passes the events that are left. Only then is it known which premises the whole
-//!    schedule keeps (no datagram is forged or late, no boot has the word of another). The parts ask for them.
+//!    schedule keeps: no datagram is forged, none is late, no two boots have one word. Some parts ask for them.
 //! 5. `judge` of the reader gives each event and its lines to an `Audit` of `tsp_audit`, and the verdict is written.
 #![tactic(auto)]
 

@@ -25,8 +25,9 @@ use tsp_lines::treat_gathered::treat_gathered;
 /// LINE is one more than the number of the last line. A 17th node, a 20,001st event, a 20,001st claimed line and a line
 /// past 64 MiB end the audit with `limit LINE`. The answers are `Bad` and `Limit`.
 ///
-/// Where the input is a schedule and claimed lines, all of which fit and of which no event lacks anything, the answer
-/// is `Ok`, unless a read or a write fails or memory is refused: `ReadFault`, `WriteFault`, `OutOfMemory`.
+/// Where the input keeps these limits, and is a schedule and claimed lines that all fit, of which no event lacks
+/// anything, the answer is `Ok`, unless a read fails (`ReadFault`), a write fails (`WriteFault`), or memory is refused
+/// (`OutOfMemory`).
 pub fn check<S: Source, K: Sink>(alloc: Global, source: &mut S, sink: &mut K) -> Outcome
     requires open { S.ended source.old ≡ false }
     ensures comes { ComesGathered auditing MOST_INPUT (S.left source.old) (S.left source.new)
