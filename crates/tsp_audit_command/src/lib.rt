@@ -17,7 +17,7 @@
 //! | `holds` | `Ok` | no part fails |
 //! | `fails Dn E` | `Ok` | E is the first event up to which a part fails, n the least that fails up to it |
 //! | `bad LINE CAUSE` | `Bad` | this line, or the end of the input, can't follow the lines before it |
-//! | `limit LINE` | `Limit` | this line passes a limit: 16 nodes, 20,000 events, 20,000 claimed lines, 64 MiB of input |
+//! | `limit LINE` | `Limit` | it passes a limit: 16 nodes, 20,000 events, 20,000 claimed lines, 64 MiB of input |
 //!
 //! Lines and events are numbered from 1. A *part* is a promise that every run keeps; parts have the numbers 12 to
 //! 16, and `Verdict` of `tsp_audit` names them. With `ReadFault` nothing is written, with `WriteFault` a part of the
