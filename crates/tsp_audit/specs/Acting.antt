@@ -95,7 +95,7 @@ pub record ActsNow (l : Line) (h : List Line) : Type 0 where
   pub correct : l.did.deed ≡ Acts (Correct amount stepped shown)
   pub took : is_some (heard (dids (of (node_of l) h))) ≡ true
 
--- a send, if there is one, isn't among these
+-- whether a send isn't among these; true where there is none
 abbrev pub is_unknown : Option ℕ → List ℕ → Bool
 is_unknown None sends = true
 is_unknown (Some s) sends = not (is_in s sends)
@@ -115,7 +115,8 @@ abbrev pub with_send : Option ℕ → List ℕ → List ℕ
 with_send None sends = sends
 with_send (Some s) sends = sends ++ s ∷ []
 
--- a line takes no send again, and confirms none that wasn't taken
+-- a line takes no post of a send that a Correct has taken one of before, and is no Acked of a correction that wasn't
+-- taken
 pub record TakesWell (l : Line) (h : List Line) : Type 0 where
   pub taken : OnceAt is_numbered l h
   pub confirmed : ConfirmedAt l h

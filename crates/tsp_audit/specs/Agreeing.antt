@@ -1,4 +1,4 @@
--- What is kept from line to line of clocks that one round corrected.
+-- What is remembered from line to line of clocks that one round corrected.
 use Rattle.std.specs.Prelude.{◌≡◌, ◌<◌, ◌≤◌, ◌≤ℤ◌, ◌⊎◌, ℕ, ◌+◌, ◌-◌, ◌*◌, ℤ, pos, ◌+ℤ◌, ◌-ℤ◌, nat_abs, Bool, true, List, [], ◌∷◌, length, get_or, Option, None, Some}
 use Rattle.tsp_audit.specs.declared.round_correction.RoundCorrection.{RoundCorrection}
 use Rattle.tsp_audit.specs.declared.round_correction.NodeState.{NodeState}
@@ -18,7 +18,7 @@ use Rattle.tsp_history.specs.Histories.{deed_of}
 use Rattle.tsp_history.specs.Rounds.{trip_at}
 use Rattle.tsp_run.specs.Setup.{node_line}
 
--- each line's node is one of so many
+-- each line's node is below this number
 abbrev pub Numbered : ℕ → List Line → Type 0
 Numbered count = Everywhere (λ l before. node_of l < count)
 
@@ -26,7 +26,7 @@ Numbered count = Everywhere (λ l before. node_of l < count)
 abbrev pub TripsTell : List Line → List ℤ → Type 0
 TripsTell h trips = (l : Line) (before : List Line) → Within (l ∷ before) h → get_or trips (length before) (pos 0) ≡ trip_at l before
 
--- a Correct is a Cast
+-- a Correct is a cast, one that a master's Close sent, and these are its values
 pub record CastAs (l : Line) (h : List Line) (c : RoundCorrection) : Type 0 where
   pub close : Line
   pub cpast : List Line
@@ -38,11 +38,11 @@ pub record CastAs (l : Line) (h : List Line) (c : RoundCorrection) : Type 0 wher
   pub lives_is : c.lives ≡ lives (dids (of c.master (close ∷ cpast)))
   pub corrects_is : c.corrects ≡ all_corrects (dids (of c.master (close ∷ cpast)))
 
--- a line is no Cast
+-- a line is no cast
 abbrev pub IsNoCast : Line → List Line → Type 0
 IsNoCast l h = (m : ℕ) (close : Line) (cpast : List Line) (r : Line) (older : List Line) (err : ℤ) → Cast m close cpast l h r older err → ⊥
 
--- a Correct of node n is a Cast, and n was left alone since
+-- a Correct of node n is this cast, and n has neither booted nor corrected its clock since
 pub record LiveAs (n : ℕ) (h : List Line) (c : RoundCorrection) : Type 0 where
   pub correct : Line
   pub past : List Line
@@ -50,19 +50,20 @@ pub record LiveAs (n : ℕ) (h : List Line) (c : RoundCorrection) : Type 0 where
   pub node : node_of correct ≡ n
   pub unchanged : Unchanged n (correct ∷ past) h
 
--- a Correct of node n since which n was left alone is this Cast; none where there is no such
+-- a Correct of node n is this cast, and n has neither booted nor corrected its clock since; none where there is no
+-- such
 abbrev pub LiveIs : ℕ → List Line → Option RoundCorrection → Type 0
 LiveIs n h None = (correct : Line) (past : List Line) → node_of correct ≡ n → Unchanged n (correct ∷ past) h → IsNoCast correct past
 LiveIs n h (Some c) = LiveAs n h c
 
--- the line at this index is the act before node n's last Correct
+-- the line at this index is the act right before node n's last Correct
 pub record AfterAs (n : ℕ) (h : List Line) (index : ℕ) : Type 0 where
   pub act : Line
   pub apast : List Line
   pub index_is : index ≡ length apast
   pub after : RightAfter n act apast h
 
--- which act stands before node n's last Correct; none where there is no such
+-- which act stands right before node n's last Correct; none where there is no such
 abbrev pub AfterIs : ℕ → List Line → Option ℕ → Type 0
 AfterIs n h None = (act : Line) (apast : List Line) → RightAfter n act apast h → ⊥
 AfterIs n h (Some index) = AfterAs n h index
@@ -79,7 +80,7 @@ abbrev pub FirstIs : List Line → Option ℕ → Type 0
 FirstIs h None = h ≡ []
 FirstIs h (Some index) = BeginsAt h index
 
--- what is kept of node n is what a history comes to
+-- what is remembered of node n is what a history comes to
 pub record NodeIs (n : ℕ) (h : List Line) (s : NodeState) : Type 0 where
   pub moved_is : s.moved ≡ moved (dids (of n h))
   pub bounded : IsSumOf 4294967295 s.moved
@@ -93,11 +94,11 @@ pub record IsAt (states : List NodeState) (k : ℕ) (s : NodeState) : Type 0 whe
   pub below : k < length states
   pub is : get_or states k s ≡ s
 
--- what is kept of each node is what a history comes to
+-- what is remembered of each node is what a history comes to
 abbrev pub AllAre : List Line → List NodeState → Type 0
 AllAre h states = (n : ℕ) (s : NodeState) → IsAt states n s → NodeIs n h s
 
--- an accord of so many nodes stands for a history
+-- a tracker of this many nodes stands for a history
 pub record AccordIs (count : ℕ) (h : List Line) (a : AgreementTracker) : Type 0 where
   pub few : count ≤ 64
   pub many : length a.nodes.items ≡ count
@@ -106,7 +107,7 @@ pub record AccordIs (count : ℕ) (h : List Line) (a : AgreementTracker) : Type 
   pub last_is : FirstIs (from_act h) a.last
   pub nodes_are : AllAre h a.nodes.items
 
--- the clock of node n at a true time, by what is kept of it
+-- the clock of node n at a true time, by the sum of its corrections
 abbrev pub shown_by : HeaderValue → ℕ → ℤ → ℕ → ℤ
 shown_by header n moved at = ((node_line header n).wall +ℤ moved) +ℤ pos (tick_at (node_line header n).rate at)
 
@@ -114,7 +115,7 @@ shown_by header n moved at = ((node_line header n).wall +ℤ moved) +ℤ pos (ti
 abbrev pub PairNear : HeaderValue → ℕ → ℕ → NodeState → RoundCorrection → ℕ → NodeState → RoundCorrection → Type 0
 PairNear header t n a c k b d = pos (nat_abs (shown_by header n a.moved t -ℤ shown_by header k b.moved t)) ≤ℤ ((c.err +ℤ d.err) +ℤ pos (2 * width header.drift (t - c.at) + 2 * width header.drift (t - d.at)))
 
--- the same, as far as one Close corrected both
+-- the same, where one Close corrected both
 abbrev pub PairAgrees : HeaderValue → ℕ → ℕ → NodeState → ℕ → NodeState → Type 0
 PairAgrees header t n a k b = (c d : RoundCorrection) → a.cast ≡ Some c → b.cast ≡ Some d → c.master ≡ d.master → c.close ≡ d.close → PairNear header t n a c k b d
 
@@ -126,7 +127,7 @@ Stands c b = (c.lives ≡ b.lives) × ((c.corrects ≡ b.corrects) ⊎ (b.after 
 abbrev pub MasterNear : HeaderValue → ℕ → ℕ → NodeState → RoundCorrection → NodeState → Type 0
 MasterNear header t n a c b = pos (nat_abs (shown_by header n a.moved t -ℤ shown_by header c.master b.moved t)) ≤ℤ (c.err +ℤ pos (2 * width header.drift (t - c.at)))
 
--- the same, as far as the master was left alone
+-- the same, where the master was left alone since its Close, as `Stands` says
 abbrev pub BossAgrees : HeaderValue → ℕ → ℕ → NodeState → List NodeState → Type 0
 BossAgrees header t n a states = (c : RoundCorrection) (b : NodeState) → a.cast ≡ Some c → IsAt states c.master b → Stands c b → MasterNear header t n a c b
 
@@ -144,7 +145,7 @@ pub record AgreesBack (header : HeaderValue) (t n : ℕ) (a : NodeState) (states
 abbrev pub AllAgree : HeaderValue → ℕ → List NodeState → Type 0
 AllAgree header t states = (n : ℕ) (a : NodeState) → IsAt states n a → NodeAgrees header t n a states
 
--- the corrections of each of these nodes come to no more than clocks can show
+-- the corrections of each of these nodes come to no more than 2^32 - 1 signed amounts of 64 bits can
 abbrev pub AllBounded : List NodeState → Type 0
 AllBounded states = (n : ℕ) (a : NodeState) → IsAt states n a → IsSumOf 4294967295 a.moved
 
@@ -154,7 +155,7 @@ pub record StaysKnown (known : Bool) (time : ℕ) (line : HistoryLine) : Type 0 
   pub at : time ≡ line.at
   pub quiet : IsQuiet (deed_of line.act)
 
--- so many nodes of which nothing is known
+-- this many nodes of which nothing is known
 pub record AreBlank (count : ℕ) (states : List NodeState) : Type 0 where
   pub many : length states ≡ count
   pub blank : (k : ℕ) (s : NodeState) → IsAt states k s → (n : ℕ) → NodeIs n [] s

@@ -30,7 +30,8 @@ concerns (Some m) n = n == m
 abbrev pub Settled : Option ℕ → List Line → Type 0
 Settled meant h = (n : ℕ) (q : Port) → concerns meant n ≡ true → is_unbacked (view q (of n h)) ≡ false
 
--- whether a message of this kind may be posted by a port whose step has backed this candidate, and that is unbacked itself or isn't
+-- whether a message of this kind may be posted by a port, by whom its step has backed last, and by whether it is a
+-- candidate that hasn't backed itself
 abbrev pub post_backs : Kind → Place → Option PeerId → Bool → Bool
 post_backs Accept (Peer p) None unbacked = false
 post_backs Accept (Peer p) (Some q) unbacked = q.0 == p.0

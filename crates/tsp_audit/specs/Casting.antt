@@ -54,7 +54,7 @@ pub record Rounds (m : ℕ) (q : Port) (k : ℕ) (seen : List Seen) (world : Lis
   pub err_is : sample.err ≡ err
   pub reading : ReadingOf m q sample.place world r older
 
--- the same, as it is kept
+-- the same, as it is remembered
 pub record RoundAs (m : ℕ) (q : Port) (k : ℕ) (h : List Line) (c : RoundCorrection) : Type 0 where
   pub close : Line
   pub cpast : List Line

@@ -5,7 +5,7 @@ use Rattle.tsp_audit.specs.Parts.{Part, part_number, Keeps, AllKeep}
 use Rattle.tsp_base.specs.History.{Line}
 use Rattle.tsp_promises.specs.Setting.{Setting}
 
--- the part with this number is the least that fails of a history
+-- the part with this number fails of a history, and all lesser ones hold
 pub record FailsNow (premises : Premises) (setting : Setting) (h : List Line) (number : ℕ) : Type 0 where
   pub part : Part
   pub number_is : part_number part ≡ number

@@ -14,7 +14,8 @@ use Rattle.tsp_base.specs.Places.{Within}
 use Rattle.tsp_promises.specs.Setting.{Setting}
 use Rattle.tsp_claims.specs.ClaimedHistory.{Claim, claimed}
 
--- a history of so many lines has grown to another, at true times of a schedule, by lines of its nodes
+-- a history of this many lines has grown to another, at true times of at most 10^15 microseconds, by lines of its
+-- nodes
 pub record Grown (count : ℕ) (h new : List Line) (from : ℕ) : Type 0 where
   pub within : Within h new
   pub long : length h ≡ from

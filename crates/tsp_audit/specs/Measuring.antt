@@ -32,7 +32,7 @@ pub record RepliesAt (ns : List HistoryLine) (l : Line) (p : PeerId) (i : ℕ) :
   pub below : i < length ns
   pub replies : (noted : HistoryLine) → get_or ns i noted ≡ noted → Replies l (history_of ns) p (line_of noted) (history_of (take i ns))
 
--- one clock stands ahead of another by diff, give or take err
+-- one clock is ahead of another by diff, give or take err
 abbrev pub IsNear : ℤ → ℤ → ℤ → ℤ → Type 0
 IsNear diff err ahead own = pos (nat_abs (diff -ℤ (ahead -ℤ own))) ≤ℤ err
 

@@ -7,7 +7,8 @@ use Rattle.tsp_audit.specs.Agreeing.{AccordIs}
 use Rattle.tsp_audit.specs.Parts.{AllKept}
 use Rattle.tsp_base.specs.History.{Line}
 
--- the sends that were taken are those of a history, and where the schedule keeps all premises the accord of so many nodes stands for it
+-- the sends that were taken are those of a history, and where the schedule keeps all premises the tracker of this
+-- many nodes stands for it
 pub record NotesStand (premises : Premises) (count : ℕ) (h : List Line) (n : Notes) : Type 0 where
   pub acted : ActedIs h n.acted.items
   pub accord : AllKept premises → AccordIs count h n.accord

@@ -30,13 +30,15 @@ part_number Acting = 14
 part_number Measuring = 15
 part_number Agreeing = 16
 
--- nobody forges a peer's datagram, none lives too long, and no two boots have one word
+-- nobody forges a peer's datagram, none is taken more than `LIFE`, 30 s, after its post, and no two boots have one
+-- word
 pub record AllKept (premises : Premises) : Type 0 where
   pub honest : premises.honest ≡ true
   pub life : premises.life ≡ true
   pub words : premises.words ≡ true
 
--- corrections of one life stand apart; a follower obeys its master; no send is taken twice; what is acknowledged was taken
+-- corrections of one life are at least `GAP`, 1,000,000 ticks, apart; a follower obeys its master; no send is taken
+-- twice; what is acknowledged was taken
 pub record ActsOnce (premises : Premises) (setting : Setting) (h : List Line) : Type 0 where
   pub spaced : OnceSpaced h
   pub obeyed : premises.honest ≡ true → OnceObeyed setting h

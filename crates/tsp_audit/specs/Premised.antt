@@ -1,4 +1,4 @@
--- What a whole schedule keeps, as far as a verdict asks for it. The newest event is the first.
+-- Which premises a whole schedule keeps, of those that a verdict asks for. The newest event is the first.
 use Rattle.std.specs.Prelude.{ℕ, ◌+◌, ◌==◌, Bool, true, false, not, ◌&&◌, List, [], ◌∷◌, Option, None, Some, slice_get}
 use Rattle.std.specs.Prelude.{nat_le}
 use Rattle.std.specs.List.{list_any}
@@ -21,7 +21,8 @@ abbrev pub is_honest : List Event → Bool
 is_honest [] = true
 is_honest (e ∷ before) = not (forges e) && is_honest before
 
--- whether something comes at most LIFE of true time after a claimed post, if there is one
+-- whether something comes at most LIFE, 30,000,000 microseconds of true time, after a claimed post; true where there
+-- is none
 abbrev pub in_life : ℕ → Option Claimed → Bool
 in_life at None = true
 in_life at (Some post) = nat_le at (post.at + LIFE)
@@ -55,6 +56,6 @@ words_differ (e ∷ before) = not (repeats_word e before) && words_differ before
 abbrev pub premises_of : HeaderValue → List Claim → Premises
 premises_of header claims = record { honest = is_honest (events_of claims); life = keeps_life header claims; words = words_differ (events_of claims) }
 
--- what is kept with one event more, behind these events and these claimed posts
+-- which premises are kept with one event more, behind these events and these claimed posts
 abbrev pub kept_with : Premises → List Event → List Claimed → Event → Premises
 kept_with kept events posts e = record { honest = not (forges e) && kept.honest; life = takes_early posts e && kept.life; words = not (repeats_word e events) && kept.words }

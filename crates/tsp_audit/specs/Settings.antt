@@ -18,6 +18,6 @@ pub record HasClocks (header : HeaderValue) (setting : Setting) : Type 0 where
 abbrev pub clock_in : HeaderValue → ℕ → List Line → ℕ → ℤ
 clock_in header n h at = ((node_line header n).wall +ℤ moved (dids (of n h))) +ℤ pos (tick_at (node_line header n).rate at)
 
--- each line stands at a true time of a schedule
+-- each line stands at a true time of a schedule, at most 10^15 microseconds
 abbrev pub Timely : List Line → Type 0
 Timely = Everywhere (λ l before. l.did.step.at ≤ 1000000000000000)

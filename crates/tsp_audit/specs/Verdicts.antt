@@ -24,7 +24,7 @@ use Rattle.tsp_claims.specs.Listed.{NamesNode}
 use Rattle.tsp_claims.specs.Stands.{ClaimsStand, claim_of}
 use Rattle.tsp_script.specs.declared.trace.Line2.{Line2}
 
--- all parts hold up to each of these events, and of nothing claimed
+-- all parts hold up to each of these events, and before the first event
 abbrev pub AllHold : Premises → Setting → HeaderValue → List Claim → Type 0
 AllHold premises setting header claims = (older : List Claim) → Within older claims → AllKeep premises setting (claimed header older)
 
@@ -56,7 +56,9 @@ pub record AuditStands (premises : Premises) (header : HeaderValue) (claims : Li
   pub named : Everywhere (λ c before. NamesNode (length header.nodes) c.event) claims
   pub notes : a.failed ≡ None → NotesStand premises (length header.nodes) (claimed header claims) a.notes
 
--- what a call does with an event and the lines that are claimed of it: they fit and are taken in, and this is the verdict; or this one doesn't, or memory is wanted, and nothing changes
+-- what a call does with an event and the lines that are claimed of it: they fit and are taken in, and this is the
+-- verdict; or the line at this index doesn't fit, or the event lacks something, or memory is refused, and nothing
+-- changes
 abbrev pub Audits : Premises → HeaderValue → List Claim → Event → List Line2 → Result Verdict AuditFault → Audit → Type 0
 Audits premises header claims e lines (Ok v) new = Fit header claims e lines × AuditStands premises header (claim_of e lines ∷ claims) new ×
     ((setting : Setting) → HasClocks header setting → IsVerdict premises setting header (claim_of e lines ∷ claims) v)

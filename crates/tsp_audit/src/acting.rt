@@ -32,7 +32,8 @@ use tsp_history::posts::{has_taken, post_at};
 use tsp_history::scans::role_at;
 use tsp_history::sends::{begun_to, open_to};
 
-/// Whether a Correct stands GAP ticks after each one of its node's life, where these lines stand before it.
+/// Whether a Correct comes `GAP`, 1,000,000 ticks, or more after each one before it of its node's
+/// life, where these lines stand before it.
 fn spaces(lines: &[HistoryLine], line: &HistoryLine) -> bool
     requires { Told lines.now }
     ensures { MatchBool result (SpacedAt (line_of line.now) (history_of lines.now))
@@ -60,7 +61,7 @@ fn amount_of(kind: Kind, body: Body, target: i128) -> i128
     }
 }
 
-/// Whether a line posts a correction that moves a clock with this target by this amount.
+/// Whether a line posts a correction that moves a clock with this target by this amount, both in microseconds.
 fn moves(post: &HistoryLine, amount: i64, target: i128) -> bool
     requires { IsSmall target }
     ensures { MatchBool result (Moves (deed_of post.now.act) amount target)
@@ -74,7 +75,8 @@ fn moves(post: &HistoryLine, amount: i64, target: i128) -> bool
     }
 }
 
-/// Whether the step of a Correct brings a correction of this master, which moves the clock by this amount.
+/// Whether the step of a Correct brings a correction of this master, which moves the clock by this
+/// amount, in microseconds.
 fn obeys_master(
     header: &Header,
     lines: &[HistoryLine],
@@ -216,7 +218,7 @@ fn confirms(lines: &[HistoryLine], acted: &[u64], line: &HistoryLine) -> bool
     }
 }
 
-/// Whether a follower's Correct does as its master says, if that is asked.
+/// Whether a follower's Correct does as its master says, where `honest` asks for it; else true.
 fn obeys_if(honest: bool, header: &Header, lines: &[HistoryLine], line: &HistoryLine) -> bool
     requires few { length lines.now < 2 ^ 32 }
     requires told { Told lines.now }
@@ -232,7 +234,8 @@ fn obeys_if(honest: bool, header: &Header, lines: &[HistoryLine], line: &History
     }
 }
 
-/// Whether a line takes no send again, and confirms none that wasn't taken.
+/// Whether a line takes no post of a send that a Correct has taken one of before, and is no Acked
+/// of a correction that wasn't taken.
 fn takes_well(lines: &[HistoryLine], acted: &[u64], line: &HistoryLine, send: Option<u64>) -> bool
     requires { Told lines.now }
     ensures { ActedIs (history_of lines.now) acted.now
@@ -246,7 +249,7 @@ fn takes_well(lines: &[HistoryLine], acted: &[u64], line: &HistoryLine, send: Op
     confirms(lines, acted, line)
 }
 
-/// The same, if that is asked.
+/// Whether a line takes and confirms as `takes_well` asks, where all premises are kept; else true.
 fn takes_well_if(
     premises: Premises,
     lines: &[HistoryLine],

@@ -22,18 +22,18 @@ use tsp_base::header::Header;
 use tsp_history::line::HistoryLine;
 use tsp_history::rounds::trip_of;
 
-/// What is kept of a history to tell whether clocks agree.
+/// What is remembered of a history to decide whether clocks agree.
 #[derive(Drop)]
 pub(crate) struct AgreementTracker {
-    /// The round trip of each line, in microseconds.
+    /// The round trip of each line, in microseconds; 0 where it is no Sample.
     pub(crate) trips: Vec<i128>,
     /// The index of the newest act.
     pub(crate) last: Option<usize>,
-    /// What is kept of each node.
+    /// What is remembered of each node.
     pub(crate) nodes: Vec<NodeState>,
 }
 
-/// What is kept of so many nodes before any line.
+/// What is remembered of this many nodes before any line.
 fn blanks(alloc: Global, count: usize) -> Result<Vec<NodeState>, AllocError>
     ensures { IfOk result (λ states. AreBlank count states.items) }
 {
@@ -44,8 +44,8 @@ fn blanks(alloc: Global, count: usize) -> Result<Vec<NodeState>, AllocError>
     Ok(states)
 }
 
-/// Changes what is kept of a line's node, where these lines stand before it, with their round trips
-/// and the index of the newest act among them; `upto` are these lines and it.
+/// Changes what is remembered of a line's node, where these lines stand before it, with their round
+/// trips and the index of the newest act among them; `upto` are the lines up to and with it.
 fn note_node(
     nodes: &mut Vec<NodeState>,
     upto: &[HistoryLine],
@@ -95,8 +95,8 @@ fn newest(line: &HistoryLine, index: usize, keep: Option<usize>) -> Option<usize
     }
 }
 
-/// Whether what was known of all clocks at a time is still known after this line, which is of the same time and
-/// changes none.
+/// Whether what was known of all clocks at a true time, in microseconds, is still known after this
+/// line: it is of the same true time and changes no clock.
 fn stays_known(known: bool, time: u64, line: &HistoryLine) -> bool
     ensures { result ≡ true → StaysKnown known time line.now }
 {
@@ -109,8 +109,8 @@ fn stays_known(known: bool, time: u64, line: &HistoryLine) -> bool
     is_quiet(line)
 }
 
-/// Whether all clocks are known to agree at the time of a line that keeps that they do: if they were known to
-/// before, or the line is an act.
+/// Whether all clocks are known to agree at the time of a line, where `agrees` holds of it: they
+/// were known to before, or it is an act, at which they do.
 fn is_known(known: bool, line: &HistoryLine) -> bool
     ensures { result ≡ true → (known ≡ true) ⊎ (is_some line.now.act ≡ true) }
 {
@@ -146,8 +146,7 @@ impl AgreementTracker {
         }
     }
 
-    /// Makes room for so many lines more. Fails only if out of memory; either way the accord stands
-    /// for what it did.
+    /// Makes room for so many lines more. Fails only if out of memory; either way the tracker stands for what it did.
     pub(crate) fn make_room(&mut self, count: usize) -> Result<(), AllocError>
         ensures room { OnOk result (vec_len self.new.trips + count ≤ vec_capacity self.new.trips) }
         ensures accord { (nodes : ℕ) (h : List Line) → AccordIs nodes h self.old
@@ -184,7 +183,7 @@ impl AgreementTracker {
         self.last = newest(line, index, self.last);
     }
 
-    /// Whether the clocks of all nodes agree at a time, which may be known.
+    /// Whether the clocks of all nodes agree at a true time, in microseconds; with `known`, they are known to.
     fn agree_at(&self, header: &Header, at: u64, known: bool) -> bool
         requires few { length self.now.nodes.items ≤ 64 }
         requires known { known ≡ true → at ≤ 1000000000000000 → AllBounded self.now.nodes.items
@@ -199,8 +198,9 @@ impl AgreementTracker {
         all_agree(header, at, self.nodes.as_slice())
     }
 
-    /// Whether a line that was taken in keeps that clocks agree, where these lines stand before it. That all
-    /// clocks agree at its time may be known, and is where the answer is yes and the line is an act.
+    /// Whether a line that was taken in keeps the promise that clocks agree, where these lines
+    /// stand before it. With `known`, all clocks are known to agree at its time. Where the answer
+    /// is yes and the line is an act, they do.
     fn agrees(
         &self,
         header: &Header,
@@ -234,8 +234,8 @@ impl AgreementTracker {
     }
 
     /// Whether clocks agree in all lines, where they do in those before `from`, for which the
-    /// accord stands; there is to be room for the others. It stands for all lines after that, where
-    /// the answer is yes.
+    /// tracker stands; there is to be room for the others. It stands for all lines after that,
+    /// where the answer is yes.
     pub(crate) fn keeps_agreeing(
         &mut self,
         header: &Header,

@@ -18,7 +18,7 @@ use tsp_claims::audit_fault::AuditFault;
 use tsp_claims::claims::Claims;
 use tsp_script::trace::Line2;
 
-/// The first failure among the lines of the newest event, which begin after so many, where all
+/// The first failure among the lines of the newest event, which begin at index `from`, where all
 /// parts hold before it. The notes are those of the lines before it, and where nothing fails then
 /// those of all.
 fn look(claims: &Claims, premises: Premises, from: usize, notes: &mut Notes) -> Option<Failure>
@@ -68,11 +68,11 @@ fn find(
 pub struct Audit {
     /// What is claimed so far.
     pub(crate) claims: Claims,
-    /// What the whole schedule keeps.
+    /// Which premises the whole schedule keeps.
     pub(crate) premises: Premises,
     /// What is noted of the claimed history, as long as nothing fails.
     pub(crate) notes: Notes,
-    /// The first failure; from then on only fits are checked.
+    /// The first failure; from then on only whether lines fit is checked.
     pub(crate) failed: Option<Failure>,
 }
 
@@ -86,7 +86,8 @@ impl Audit {
     ghost use Rattle.tsp_run.specs.Run.{event_at};
     ghost use Rattle.std.specs.Prelude.{List};
 
-    /// Nothing is claimed. Fails only if out of memory, and then drops the header.
+    /// Nothing is claimed. The header has 1 to 16 nodes, and each is in a network if it names any.
+    /// Fails only if out of memory, and then drops the header.
     pub fn new(alloc: Global, header: Header, premises: Premises) -> Result<Audit, AllocError>
         requires some { 1 ≤ length header.nodes }
         requires few { length header.nodes ≤ 16 }
@@ -106,7 +107,9 @@ impl Audit {
     }
 
     /// Takes in an event and the lines that are claimed of it, and gives the verdict of the history
-    /// so far. `History` names the first line that doesn't fit, or the number of lines where the
+    /// so far. The time is at most 10^15 microseconds, the node that the event names exists, and
+    /// with this event there are at most 20,000 events and 20,000 lines. `History` has the index,
+    /// from 0, of the first line that doesn't fit; or how many there are, where all fit and the
     /// event lacks something. After either fault the audit is what it was.
     pub fn event(&mut self, e: &Event, acts: &[Line2]) -> Result<Verdict, AuditFault>
         requires time { event_at e.now ≤ 1000000000000000 }

@@ -90,7 +90,7 @@ fn holds(lines: &[HistoryLine], line: &HistoryLine) -> bool
     }
 }
 
-/// Whether a line makes a node's port a candidate; with no node any node's.
+/// Whether a line makes a port of this node a candidate; `None` means every node.
 fn stands(line: &HistoryLine, node: Option<u32>) -> bool
     ensures { result ≡ is_stand (line_of line.now) && concerns node line.now.node }
 {
@@ -102,8 +102,7 @@ fn stands(line: &HistoryLine, node: Option<u32>) -> bool
     matches!(&line.act, Some(Act::Become(Role::Candidate)))
 }
 
-/// Whether no port of the node, or with no node of any, is an unbacked candidate, where none was
-/// before `from`.
+/// Whether no port of this node is an unbacked candidate, where none was before `from`; `None` means every node.
 fn settles(lines: &[HistoryLine], from: usize, node: Option<u32>) -> bool
     requires { from ≤ length lines.now }
     ensures { Settled node (history_of (take from lines.now))

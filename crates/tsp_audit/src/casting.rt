@@ -1,4 +1,4 @@
-//! What a Correct came of, if that is a round.
+//! What a Correct came of, if that is a round. A cast is a Correct that a master's Close sent, as an ADJTIME.
 ghost use Rattle.std.specs.Prelude.{◌≡◌, ◌<◌, ◌^◌, pos, List, ◌∷◌, length, get_or, take, MatchBool, MatchOption};
 ghost use Rattle.tsp_audit.specs.Agreeing.{CastAs, IsNoCast, TripsTell};
 ghost use Rattle.tsp_audit.specs.Casting.{BegunAt, HasNoRound, IsAdjusting, RoundAs, TakesNone, TakesThen};
@@ -70,8 +70,8 @@ fn reading_of(lines: &[HistoryLine], line: &HistoryLine) -> Option<u64>
     }
 }
 
-/// What a Close at this index is kept as, where these lines stand before the first post of a send
-/// to a node: with its best sample of that node, if this has a reading.
+/// The values remembered of the Close at this index, where these lines stand before the first post
+/// of a send to a node: with its best sample of that node, if this has a reading.
 fn sampled(
     lines: &[HistoryLine],
     trips: &[i128],

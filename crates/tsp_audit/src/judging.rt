@@ -20,9 +20,9 @@ use crate::premises::Premises;
 use tsp_base::header::Header;
 use tsp_history::line::HistoryLine;
 
-/// Whether clocks agree in all lines, if that is asked, where they do in those before `from`, for
-/// which the accord stands; there is to be room for the others. It stands for all lines after that,
-/// where that is asked and the answer is yes.
+/// Whether clocks agree in all lines, where all premises are kept, else true; they do in those
+/// before `from`, for which the tracker stands, and there is to be room for the others. It stands
+/// for all lines after that, where all premises are kept and the answer is yes.
 fn keeps_agreeing_if(
     header: &Header,
     premises: Premises,

@@ -13,7 +13,7 @@ use tsp_base::role::Role;
 use tsp_history::line::HistoryLine;
 use tsp_history::scans::role_at;
 
-/// Whether the newest act is a Close, as far as a line tells it.
+/// Whether the newest act is a Close, after this line; None where this line doesn't decide it.
 fn closing_told(line: &HistoryLine) -> Option<bool>
     ensures { (before : List Line) → closing (line_of line.now ∷ before)
         ≡ told_or result (closing before) }
@@ -39,7 +39,7 @@ fn closes_last(lines: &[HistoryLine]) -> bool
     false
 }
 
-/// Whether a line asks that its port leads, where these stand before it.
+/// Whether the port of a line must be a master, where these stand before it.
 fn must_lead(lines: &[HistoryLine], line: &HistoryLine) -> bool
     ensures { result ≡ must_lead (deed_of line.now.act) (closing (history_of lines.now)) }
 {

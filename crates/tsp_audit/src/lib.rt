@@ -1,12 +1,15 @@
 //! The audit of a claimed history: whether it keeps the promises that every run keeps.
 //!
 //! An [`audit::Audit`] takes the events of a schedule in their order, each with the lines that some
-//! program claims of it, and says after each one whether all promises hold so far. What the whole
-//! schedule keeps must be known before: [`premised::keep_with`] finds that event by event.
+//! program claims of it, and says after each one whether all parts hold so far: a part is one of the
+//! promises that [`verdict::Verdict`] lists. Which premises the whole schedule keeps (honest, life and
+//! words, of [`premises::Premises`]) must be known before: [`premised::keep_with`] finds that event by
+//! event.
 //!
 //! ```text
 //! let mut premises = all_kept();
 //! for (i, event) in events.iter().enumerate() {
+//!     // posts_before(i): the claimed posts of the events before this one
 //!     premises = keep_with(premises, &events[..i], posts_before(i), event);
 //! }
 //!
@@ -14,7 +17,7 @@
 //! for (event, lines) in claimed {
 //!     match audit.event(&event, &lines)? {
 //!         Verdict::Holds => {}
-//!         Verdict::Fails(part) => ..           // the least promise that fails, by its number
+//!         Verdict::Fails(part) => ..           // the least part that fails, by its number
 //!     }
 //! }
 //! let first = audit.failure();                 // which failed first, and at which event

@@ -66,7 +66,7 @@ fn gap(ahead: i128, own: i128) -> i128
     ahead - own
 }
 
-/// Whether one clock stands ahead of another by diff, give or take err; all in microseconds.
+/// Whether one clock is ahead of another by diff, give or take err; all in microseconds.
 fn stands_ahead(diff: i64, err: i64, ahead: i128, own: i128) -> bool
     requires ahead { IsSmall ahead }
     requires own { IsSmall own }
@@ -235,7 +235,8 @@ fn keeps_measuring(header: &Header, lines: &[HistoryLine], from: usize) -> bool
     true
 }
 
-/// The same, if that is asked.
+/// Whether each measurement errs by at most half its round trip in all lines, where the premises
+/// ask for it; else true. It is so in those before `from`.
 pub(crate) fn keeps_measuring_if(
     header: &Header,
     premises: Premises,

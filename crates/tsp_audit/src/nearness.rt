@@ -28,7 +28,7 @@ pub(crate) fn is_near(a: i128, b: i128, most: i128) -> bool
     true
 }
 
-/// Two errors, in microseconds.
+/// The sum of two errors, in microseconds.
 fn errors(a: i64, b: i64) -> i128
     ensures sum { result ≡ a +ℤ b }
     ensures low { neg_ℤ (pos (2 ^ 64)) ≤ℤ result }
@@ -37,7 +37,7 @@ fn errors(a: i64, b: i64) -> i128
     i128::from(a) + i128::from(b)
 }
 
-/// Twice what two clocks may have drifted, in microseconds.
+/// Twice the sum of what each of two clocks may have drifted, in microseconds.
 fn drifts(since: u64, then: u64) -> i128
     ensures sum { result ≡ pos (2 * since + 2 * then) }
     ensures small { result ≤ℤ pos (2 ^ 70) }
@@ -47,7 +47,7 @@ fn drifts(since: u64, then: u64) -> i128
     both + both
 }
 
-/// Two errors, and twice what two clocks may have drifted since their readings, in microseconds.
+/// The sum of two errors, and of twice what each of two clocks may have drifted since its reading, in microseconds.
 fn bound(a: i64, b: i64, since: u64, then: u64) -> i128
     ensures { result ≡ (a +ℤ b) +ℤ pos (2 * since + 2 * then) }
 {
@@ -75,7 +75,7 @@ fn pair_near(
     is_near(clock, other_clock, most)
 }
 
-/// The same, as far as one Close corrected both.
+/// Whether two nodes differ by at most their errors and drift, where one Close corrected both; else true.
 fn pair_agrees(a: &NodeState, own: &Standing, b: &NodeState, other: &Standing) -> bool
     ensures { (header : HeaderValue) (at first second : ℕ) → StandsAs header at first a.now own.now
         → StandsAs header at second b.now other.now → IsSumOf 4294967295 a.now.moved
@@ -114,7 +114,8 @@ fn pairs_agree(node: usize, a: &NodeState, states: &[NodeState], stand: &[Standi
     true
 }
 
-/// Whether the master of a cast was left alone since its Close, but for a Correct that is the next act.
+/// Whether the master of a cast, a Correct that its Close sent, has neither booted nor corrected
+/// its clock since that Close, but for a Correct that is the next act.
 fn stands(c: &RoundCorrection, b: &NodeState) -> bool
     ensures { MatchBool result (Stands c.now b.now) (Stands c.now b.now → ⊥) }
 {
@@ -150,7 +151,8 @@ fn master_near(
     is_near(clock, other_clock, most)
 }
 
-/// The same, as far as the master was left alone.
+/// Whether a node and its master differ by at most the error and drift, where `stands` holds of the
+/// master; else true.
 fn master_agrees(node: usize, a: &NodeState, states: &[NodeState], stand: &[Standing]) -> bool
     requires node { node < length states.now }
     requires many { length states.now ≤ length stand.now }
@@ -189,7 +191,8 @@ fn node_agrees(node: usize, a: &NodeState, states: &[NodeState], stand: &[Standi
     pairs_agree(node, a, states, stand) && master_agrees(node, a, states, stand)
 }
 
-/// Whether each of these nodes does.
+/// Whether each of these nodes agrees with all that its Close corrected, and with its master, at a
+/// true time in microseconds.
 pub(crate) fn all_agree(header: &Header, at: u64, states: &[NodeState]) -> bool
     requires { length states.now ≤ 64 }
     ensures { at ≤ 1000000000000000 → AllBounded states.now

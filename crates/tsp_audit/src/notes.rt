@@ -11,7 +11,7 @@ use std::alloc::{AllocError, Global};
 pub(crate) struct Notes {
     /// The sends, by the numbers of the datagrams that begin them, of which Corrects have taken posts.
     pub(crate) acted: Vec<u64>,
-    /// What tells whether clocks agree; it is kept only where the schedule keeps all premises.
+    /// The tracker, which decides whether clocks agree; it takes lines in only where the schedule keeps all premises.
     pub(crate) accord: AgreementTracker,
 }
 
@@ -33,8 +33,7 @@ impl Notes {
         }
     }
 
-    /// Makes room for so many lines more. Fails only if out of memory; either way they stand for
-    /// what they did.
+    /// Makes room for so many lines more. Fails only if out of memory; either way the notes stand for what they did.
     pub(crate) fn make_room(&mut self, lines: usize) -> Result<(), AllocError>
         ensures room { OnOk result (HasRoom lines self.new) }
         ensures stand { (premises : Premises) (count : ℕ) (h : List Line)

@@ -1,4 +1,4 @@
-//! What a whole schedule keeps, event by event.
+//! Which premises a whole schedule keeps, event by event.
 ghost use Rattle.std.specs.Prelude.{◌≡◌, [], reverse};
 ghost use Rattle.std.specs.List.{list_any};
 ghost use Rattle.tsp_base.specs.Headers.{HeaderValue};
@@ -23,7 +23,8 @@ fn forges(e: &Event) -> bool
     )
 }
 
-/// Whether an event takes no claimed post that is older than `LIFE`; also one of which no line is claimed.
+/// Whether an event takes no claimed post that is older than `LIFE`, 30,000,000 microseconds; asked
+/// also where no line is claimed of the event. A take at a time before its post's counts as early.
 fn takes_early(posts: &[Claimed], e: &Event) -> bool
     ensures { result ≡ takes_early posts.now e.now }
 {
@@ -63,7 +64,7 @@ fn repeats_word(events: &[Event], e: &Event) -> bool
     }
 }
 
-/// What is kept where nothing happens.
+/// The premises that are kept where nothing happens: all.
 pub fn all_kept() -> Premises
     ensures { (header : HeaderValue) → result ≡ premises_of header [] }
 {
@@ -74,7 +75,7 @@ pub fn all_kept() -> Premises
     }
 }
 
-/// What is kept with one event more, behind these events and the posts that are claimed of them.
+/// Which premises are kept with one event more, behind these events and the posts that are claimed of them.
 pub fn keep_with(kept: Premises, events: &[Event], posts: &[Claimed], e: &Event) -> Premises
     ensures { result ≡ kept_with kept (reverse events.now) posts.now e.now }
 {

@@ -1,4 +1,4 @@
-//! What a schedule keeps, as far as a verdict asks for it.
+//! Which premises a schedule keeps, of those that a verdict asks for.
 ghost use Rattle.std.specs.Prelude.{MatchBool};
 ghost use Rattle.tsp_audit.specs.Parts.{AllKept};
 

@@ -1,4 +1,4 @@
-//! What is kept of a node whose clock a round has corrected.
+//! What is remembered of a node whose clock a round has corrected.
 
 /// A correction of a node's clock that a master's Close sent it, as long as nothing has moved the
 /// node's clock since.
@@ -18,7 +18,7 @@ pub(crate) struct RoundCorrection {
     pub(crate) err: i64,
 }
 
-/// What is kept of a node.
+/// What is remembered of a node.
 #[derive(Clone, Copy)]
 pub(crate) struct NodeState {
     /// The amounts of its corrections since its boot, in microseconds.

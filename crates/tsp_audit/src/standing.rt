@@ -1,4 +1,4 @@
-//! How clocks stand at one time.
+//! What clocks show at one time, once their corrections are slewed.
 ghost use Rattle.std.specs.Prelude.{◌≡◌, ◌≤◌, ◌-◌, ◌^◌, ◌+ℤ◌, pos, length, Some};
 ghost use Rattle.tsp_audit.specs.Standings.{AllStand, StandsAs};
 ghost use Rattle.tsp_audit.specs.declared.round_correction.RoundCorrection.{RoundCorrection as CorrectionValue};
@@ -11,12 +11,12 @@ use tsp_base::constants::SCHEDULE_END;
 use tsp_base::drift::width;
 use tsp_base::header::Header;
 
-/// How a node's clock stands at a time, but for its corrections.
+/// What a node's clock shows at a true time, but for its corrections.
 #[derive(Clone, Copy)]
 pub(crate) struct Standing {
     /// Its wall at tick 0, in microseconds.
     pub(crate) wall: i64,
-    /// Its tick.
+    /// Its tick: microseconds by its own counter.
     pub(crate) tick: u64,
     /// How far, at most, it may have drifted, in microseconds, since the reading by which a round
     /// corrected it; 0 where none has.
@@ -37,7 +37,8 @@ fn drifted(drift: u32, at: u64, reading: u64) -> u64
 }
 
 impl Standing {
-    /// What the clock shows, in microseconds, where its corrections since its last boot come to `moved`.
+    /// What the clock shows, once its corrections are slewed, where those since its last boot come
+    /// to `moved`; in microseconds.
     pub(crate) fn clock(&self, moved: i128) -> i128
         ensures sum { IsSumOf 4294967295 moved
             → result ≡ (self.now.wall +ℤ moved) +ℤ pos self.now.tick }
@@ -47,7 +48,8 @@ impl Standing {
     }
 }
 
-/// How far a node's clock may have drifted at a time since the reading by which a round corrected it.
+/// How far a node's clock may have drifted at a true time since the reading by which a round
+/// corrected it; in microseconds.
 fn drifted_of(header: &Header, at: u64, a: &NodeState) -> u64
     ensures { at ≤ 1000000000000000 → (c : CorrectionValue) → a.now.cast ≡ Some c
         → result ≡ width header.now.drift (at - c.at) }
@@ -58,7 +60,7 @@ fn drifted_of(header: &Header, at: u64, a: &NodeState) -> u64
     }
 }
 
-/// How a node's clock stands at a time.
+/// What a node's clock shows at a true time, but for its corrections.
 fn stand_of(header: &Header, at: u64, node: u32, a: &NodeState) -> Standing
     ensures { at ≤ 1000000000000000 → StandsAs header.now at node a.now result }
 {
@@ -70,7 +72,7 @@ fn stand_of(header: &Header, at: u64, node: u32, a: &NodeState) -> Standing
     }
 }
 
-/// How each of these nodes' clocks stands at a time, each under its number.
+/// What each of these nodes' clocks shows at a true time, but for its corrections, at the index of the node.
 pub(crate) fn standings(header: &Header, at: u64, states: &[NodeState]) -> [Standing; 64]
     requires { length states.now ≤ 64 }
     ensures { at ≤ 1000000000000000 → AllStand header.now at states.now result }

@@ -1,4 +1,4 @@
-//! How a line changes what is kept of its node.
+//! How a line changes what is remembered of its node.
 ghost use Rattle.std.specs.Prelude.{◌≡◌, ◌≤◌, ◌<◌, ◌^◌, ℕ, ℤ, List, [], ◌∷◌, length, true, MatchBool};
 ghost use Rattle.tsp_audit.specs.Agreeing.{FirstIs, NodeIs, TripsTell};
 ghost use Rattle.tsp_audit.specs.Changes.{IsCorrect, IsQuiet};
@@ -15,7 +15,7 @@ use tsp_history::clocks::moved_at;
 use tsp_history::counts::counts_at;
 use tsp_history::line::HistoryLine;
 
-/// What is kept of a node before any line.
+/// What is remembered of a node before any line.
 pub(crate) fn blank() -> NodeState
     ensures { (n : ℕ) → NodeIs n [] result }
 {
@@ -44,7 +44,7 @@ fn is_correct(line: &HistoryLine) -> bool
     matches!(&line.act, Some(Act::Correct { .. }))
 }
 
-/// Whether a line is neither a Boot nor a Correct, so that it changes nothing of what is kept.
+/// Whether a line is neither a Boot nor a Correct, so that it changes nothing of what is remembered.
 pub(crate) fn is_quiet(line: &HistoryLine) -> bool
     ensures { result ≡ true → IsQuiet (deed_of line.now.act) }
 {
@@ -57,7 +57,7 @@ pub(crate) fn is_quiet(line: &HistoryLine) -> bool
     true
 }
 
-/// What is kept of a node after a Correct of it, before which this is the newest act.
+/// What is remembered of a node after a Correct of it, where `last` is the index of the newest act before it.
 fn corrected(
     upto: &[HistoryLine],
     before: &[HistoryLine],
@@ -84,7 +84,7 @@ fn corrected(
     }
 }
 
-/// What is kept of a node after a Boot of it.
+/// What is remembered of a node after a Boot of it.
 fn booted(upto: &[HistoryLine], line: &HistoryLine, keep: NodeState) -> NodeState
     requires { Told upto.now }
     ensures { (before : List Line) → history_of upto.now ≡ line_of line.now ∷ before
@@ -99,8 +99,8 @@ fn booted(upto: &[HistoryLine], line: &HistoryLine, keep: NodeState) -> NodeStat
     }
 }
 
-/// What is kept of a line's node after it, where these lines stand before it, with their round
-/// trips and the index of the newest act among them; `upto` are these lines and it.
+/// What is remembered of a line's node after it, where these lines stand before it, with their
+/// round trips and the index of the newest act among them; `upto` are the lines up to and with it.
 pub(crate) fn state_after(
     upto: &[HistoryLine],
     before: &[HistoryLine],

@@ -7,10 +7,11 @@ ghost use Rattle.tsp_audit.specs.Named.{named};
 pub enum Verdict {
     /// All parts hold.
     Holds,
-    /// Up to the least event at which a part fails, the part with this number is the least that
-    /// fails: 12 that no node backs two candidates within the hold, 13 that only masters correct,
-    /// 14 that each correction acts at most once, 15 that each measurement errs by at most half its
-    /// round trip, 16 that clocks which one round corrected agree.
+    /// Some part fails. Up to the first event at which one does, this is the least part that fails,
+    /// by the number that the program prints: 12 that no node backs two candidates within the hold,
+    /// 13 that only masters correct, 14 that each correction acts at most once, 15 that each
+    /// measurement errs by at most half its round trip, 16 that clocks which one round corrected
+    /// agree.
     Fails(u32),
 }
 
@@ -19,7 +20,7 @@ pub enum Verdict {
 pub struct Failure {
     /// The number of the least part that fails.
     pub part: u32,
-    /// The number of the least event up to which one fails, from 1.
+    /// The number of the least event up to which a part fails, from 1.
     pub event: u64,
 }
 

@@ -22,7 +22,7 @@ pub record Claim : Type 0 where
   pub event : Event
   pub acts : List Placed
 
--- the events of which something, or nothing, is claimed
+-- the events of claims
 abbrev pub events_of : List Claim → List Event
 events_of claims = map (λ c. c.event) claims
 
@@ -50,11 +50,13 @@ awake up (Some a) = if up a.node then Some a else None
 abbrev pub taker : HeaderValue → List Claimed → (ℕ → Bool) → ℕ → Option Address
 taker header posts up k = awake up (reaches (networks header) (slice_get posts k))
 
+-- the step of a take of claimed post k, if somebody takes it
 abbrev pub takes_step : ℕ → ℕ → Option Address → Option Step
 takes_step at k None = None
 takes_step at k (Some a) = Some (record { at = at; node = a.node; cause = Came k })
 
--- the step in which an event lets a node act, after these claimed posts, where these nodes are up: of a take that nobody takes none
+-- the step in which an event lets a node act, after these claimed posts, where these nodes are up; none at a take
+-- where nobody takes the post
 abbrev pub step_at : HeaderValue → List Claimed → (ℕ → Bool) → Event → Option Step
 step_at header posts up (BootAt at node word) = Some (boot_step header at node word)
 step_at header posts up (Turn at node) = Some (record { at = at; node = node; cause = Turned })
@@ -100,6 +102,7 @@ abbrev pub claimed : HeaderValue → List Claim → List Line
 claimed header [] = []
 claimed header (c ∷ before) = joins_acts header (step_of header (posts_of header before) (booted (events_of before)) c.event c.acts) c.acts (claimed header before)
 
--- what a node's clock shows more than its tick: its wall, and the amounts of its claimed Corrects since its last Boot
+-- what a node's clock shows more than its tick, in microseconds: its wall, and the amounts of its claimed Corrects
+-- since its last Boot
 abbrev pub base_of : HeaderValue → List Claim → ℕ → ℤ
 base_of header claims n = (node_line header n).wall +ℤ moved (dids (of n (claimed header claims)))

@@ -22,6 +22,7 @@ use Rattle.tsp_run.specs.Networks.{networks, ports_on}
 use Rattle.tsp_run.specs.Run.{posts_by, step_tick}
 use Rattle.tsp_script.specs.declared.trace.Line2.{Line2}
 
+-- whether an act is a Took
 abbrev pub is_took : Act → Bool
 is_took (Took from taken) = true
 is_took _ = false
@@ -34,7 +35,7 @@ untold = record { begun = false; posts = 0; took = false }
 abbrev pub counted : Tally → Act → Tally
 counted t a = record { begun = true; posts = t.posts + posts_by a; took = t.took || is_took a }
 
--- a post has the number that is next; no other act has one
+-- a post has the number that is next; another act may have any
 abbrev pub NumberFits : ℕ → Act → ℕ → Type 0
 NumberFits next (Post to datagram) number = number ≡ next
 NumberFits next _ number = Unit {0}
@@ -56,7 +57,7 @@ TookFits header posts up (Turn at node) port from taken = ⊥
 TookFits header posts up (Take at k) port from taken = TakesPost (slice_get posts k) (taker header posts up k) port from taken
 TookFits header posts up (Bytes at node on_port sender octets) port from taken = (port ≡ on_port) × (from ≡ sender)
 
--- an event begins with a Boot on the first port
+-- whether an event is a boot
 abbrev pub begins_with_boot : Event → Bool
 begins_with_boot (BootAt at node word) = true
 begins_with_boot _ = false
@@ -100,7 +101,8 @@ lacks (Turn at node) t = false
 lacks (Take at k) t = t.begun && not t.took
 lacks (Bytes at node port from octets) t = not t.took
 
--- these lines fit as the next ones of an event, behind those that were counted, and then it lacks nothing; by this relation a line fits as the next one
+-- these lines fit as the next ones of an event, behind those that were counted, and then it lacks nothing; `fits`
+-- says when one line does
 abbrev pub AllFit : (Event → Tally → Line2 → Type 0) → Event → Tally → List Line2 → Type 0
 AllFit fits e t [] = lacks e t ≡ false
 AllFit fits e t (l ∷ rest) = fits e t l × AllFit fits e (counted t l.placed.act) rest

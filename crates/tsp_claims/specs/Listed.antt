@@ -21,7 +21,7 @@ is_up (Some up) = up
 abbrev pub up_in : List Bool → ℕ → Bool
 up_in ups n = is_up (slice_get ups n)
 
--- the node that an event names is one of so many; a take names none
+-- the node that an event names is below this number; a take names none
 abbrev pub NamesNode : ℕ → Event → Type 0
 NamesNode nodes (Boot at node word) = node < nodes
 NamesNode nodes (Turn at node) = node < nodes

@@ -26,7 +26,8 @@ pub record ClaimsStand (header : HeaderValue) (claims : List Claim) (c : Claims)
 abbrev pub claim_of : Event → List Line2 → Claim
 claim_of e lines = record { event = e; acts = acts_of lines }
 
--- what a call does with an event and the lines that are claimed of it: they fit, and are taken in; or this one doesn't, or memory is wanted, and nothing changes
+-- what a call does with an event and the lines that are claimed of it: they fit, and are taken in; or the line at
+-- this index doesn't fit, or the event lacks something, or memory is refused, and nothing changes
 abbrev pub TakesIn : HeaderValue → List Claim → Event → List Line2 → Result Unit AuditFault → Claims → Type 0
 TakesIn header claims e lines (Ok _) new = Fit header claims e lines × ClaimsStand header (claim_of e lines ∷ claims) new
 TakesIn header claims e lines (Err (History i)) new = Misfit header claims e lines i × ClaimsStand header claims new

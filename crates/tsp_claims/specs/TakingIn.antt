@@ -25,7 +25,7 @@ pub record Stays (old new : Claims) : Type 0 where
   pub events_are : new.events ≡ old.events
   pub told_is : new.told ≡ old.told
 
--- a step with the acts of these lines was joined
+-- a step's mark and the acts of these lines were appended to the history, and their posts to the claimed ones
 pub record Joins (step : Acting) (lines : List Line2) (old new : Claims) : Type 0 where
   pub header_is : new.header ≡ old.header
   pub up_is : new.up ≡ old.up
@@ -34,7 +34,7 @@ pub record Joins (step : Acting) (lines : List Line2) (old new : Claims) : Type 
   pub events_are : new.events ≡ old.events
   pub told_is : new.told ≡ old.told
 
--- the step of an event was joined with the acts of these lines, if there is one
+-- the step of an event, if there is one, was appended with the acts of these lines
 pub record TakesStep (e : Event) (lines : List Line2) (old new : Claims) : Type 0 where
   pub header_is : new.header ≡ old.header
   pub up_is : new.up ≡ old.up

@@ -29,7 +29,7 @@ pub(crate) struct Acting {
     pub(crate) node: u32,
     /// Why it acts.
     pub(crate) why: Why,
-    /// Its tick.
+    /// Its tick: microseconds by its own counter.
     pub(crate) tick: u64,
 }
 
@@ -58,7 +58,7 @@ impl Claims {
         &self.header.nodes()[node as usize]
     }
 
-    /// The tick of a node at a true time.
+    /// The tick of a node at a true time: microseconds by its own counter.
     fn tick(&self, node: u32, at: u64) -> u64
         requires node { node < length self.now.header.nodes }
         requires time { at ≤ 1000000000000000 }
@@ -68,7 +68,8 @@ impl Claims {
         tick_at(self.line(node).rate, at)
     }
 
-    /// Where the claimed post with this number goes; None where it goes nowhere, or isn't there.
+    /// Where the claimed post with this number goes; None where it isn't there, or its addressee
+    /// isn't a node of the network on which it is posted.
     fn address(&self, k: u64) -> Option<Address>
         ensures { result ≡ reaches (networks self.now.header) (slice_get self.now.posts.items k) }
     {
@@ -79,7 +80,7 @@ impl Claims {
         }
     }
 
-    /// Who takes the claimed post with this number: its addressee, if that is up.
+    /// Who takes the claimed post with this number: its addressee, if that has booted.
     pub(crate) fn taker(&self, k: u64) -> Option<Address>
         ensures taker { result ≡ taker self.now.header self.now.posts.items
             (up_in self.now.up.items) k }

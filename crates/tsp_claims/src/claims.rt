@@ -29,11 +29,11 @@ pub struct Claims {
     pub(crate) up: Vec<bool>,
     /// The claimed lines and the marks of their steps, the oldest first.
     pub(crate) lines: History,
-    /// The claimed posts, each under its number.
+    /// The claimed posts, each at the index that is its number, from 0.
     pub(crate) posts: Vec<Claimed>,
     /// How many events were taken in.
     pub(crate) events: u64,
-    /// How many lines were claimed of them.
+    /// How many lines are claimed of the events that were taken in.
     pub(crate) told: u64,
     ghost places: { vec_len up ≡ length header.nodes },
     ghost one_is: { one.items ≡ numbers_below (length header.nodes) ∷ [] },
@@ -53,8 +53,8 @@ impl Claims {
     ghost use Rattle.tsp_claims.specs.Stands.{ClaimsStand, TakesIn, claim_of};
     ghost use Rattle.std.specs.Prelude.{List, OnErr, OnOk, ℕ};
 
-    /// Nothing is claimed. Takes memory for the nodes; fails only if out of memory, and then drops
-    /// the header.
+    /// Nothing is claimed. The header has 1 to 16 nodes, and each is in a network if it names any.
+    /// Takes memory for the nodes; fails only if out of memory, and then drops the header.
     pub fn new(alloc: Global, header: Header) -> Result<Claims, AllocError>
         requires some { 1 ≤ length header.nodes }
         requires few { length header.nodes ≤ 16 }
@@ -75,7 +75,9 @@ impl Claims {
     }
 
     /// Takes in an event and the lines that are claimed of it: Ok exactly where they fit and memory
-    /// isn't refused. `History` names the first line that doesn't fit, or the number of lines where
+    /// isn't refused. The time is at most 10^15 microseconds, the node that the event names exists,
+    /// and with this event there are at most 20,000 events and 20,000 lines. `History` has the
+    /// index, from 0, of the first line that doesn't fit, or the number of lines where all fit but
     /// the event lacks something. After either fault the claims are what they were.
     pub fn event(&mut self, e: &Event, acts: &[Line2]) -> Result<(), AuditFault>
         requires time { event_at e.now ≤ 1000000000000000 }
@@ -96,8 +98,9 @@ impl Claims {
         Ok(())
     }
 
-    /// Takes in an event and lines that are known to fit it. Fails only if out of memory, and then
-    /// the claims are what they were.
+    /// Takes in an event and lines that fit it: the caller must know that they do, they aren't
+    /// asked. The limits are those of `event`. Fails only if out of memory, and then the claims are
+    /// what they were.
     pub fn add(&mut self, e: &Event, acts: &[Line2]) -> Result<(), AllocError>
         requires time { event_at e.now ≤ 1000000000000000 }
         requires node { NamesNode (length self.old.header.nodes) e.now }
@@ -139,7 +142,7 @@ impl Claims {
         i128::from(self.line(node).wall) + moved_at(self.lines.lines(), node)
     }
 
-    /// The claimed post with this number; None exactly where so many posts aren't claimed.
+    /// The claimed post with this number, from 0; None exactly where at most that many posts are claimed.
     pub fn post(&self, k: u64) -> Option<&Claimed>
         ensures { (header : HeaderValue) (claims : List Claim) → ClaimsStand header claims self.now
             → option_copied result ≡ slice_get (posts_of header claims) k }
@@ -179,7 +182,7 @@ impl Claims {
         self.events
     }
 
-    /// How many lines were claimed of them.
+    /// How many lines are claimed of the events that were taken in.
     pub fn told(&self) -> u64
         ensures { result ≡ self.now.told }
     {

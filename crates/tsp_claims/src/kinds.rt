@@ -28,7 +28,7 @@ pub(crate) fn is_took(act: &Act) -> bool
     }
 }
 
-/// Whether two messages are one.
+/// Whether two messages are the same.
 fn is_same_message(one: &Message, other: &Message) -> bool
     ensures { IsTrue result ↔ (one.now ≡ other.now) }
 {
@@ -38,7 +38,7 @@ fn is_same_message(one: &Message, other: &Message) -> bool
         && one.name().octets() == other.name().octets()
 }
 
-/// Whether two datagrams are one.
+/// Whether two datagrams are the same.
 fn is_same(one: &Datagram, other: &Datagram) -> bool
     ensures { IsTrue result ↔ (one.now ≡ other.now) }
 {
@@ -60,8 +60,8 @@ pub(crate) fn is_posted(act: &Act, taken: &Taken) -> bool
     }
 }
 
-/// Whether an act has its number: a post the next one, of which there were some before and some in
-/// the event, and any other act whatever number.
+/// Whether an act has its number. That of a post is how many were claimed before the event, and in
+/// the event so far; another act may have any.
 pub(crate) fn is_numbered(before: u64, posts: u64, act: &Act, number: u64) -> bool
     ensures { IsTrue result ↔ NumberFits (before + posts) act.now number }
 {

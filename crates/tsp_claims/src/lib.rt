@@ -2,18 +2,21 @@
 //! the clocks after them.
 //!
 //! [`claims::Claims`] takes the events in their order, each with all lines that are claimed of it.
-//! Lines fit where each has the event's number, node and tick, posts are numbered in turn, and what
-//! is taken is what the event brings. An event whose lines don't fit changes nothing:
+//! Lines fit where each has the event's number, node and tick and a port of that node, a boot begins
+//! with its Boot, posts are numbered in turn, and what is taken is what the event brings. An event
+//! whose lines don't fit changes nothing:
 //!
 //! ```text
 //! let mut claims = Claims::new(alloc, header)?;
 //! match claims.event(&event, &lines) {
 //!     Ok(()) => {}                             // they were taken in
-//!     Err(AuditFault::History(index)) => ..    // this line doesn't fit
+//!     Err(AuditFault::History(index)) => ..    // this line doesn't fit, or a line is lacking
 //!     Err(AuditFault::OutOfMemory) => ..
 //! }
 //! let base = claims.base(node);                // the node's clock less its tick
 //! ```
+//!
+//! The index counts from 0. It is the number of lines where all fit, but the event lacks something.
 //!
 //! A reader that gets one line at a time asks [`claims::Claims::fits`] of each, counts it in a
 //! [`tally::Tally`], and hands an event's lines to [`claims::Claims::add`] once they are all there:

@@ -108,7 +108,7 @@ impl Claims {
         Ok(())
     }
 
-    /// Joins a step with the acts of these lines.
+    /// Appends a step's mark and the acts of these lines to the history, and their posts to the claimed ones.
     fn join(&mut self, step: Acting, acts: &[Line2])
         requires room { HasRoom (length acts.now) self.old }
         requires few { length self.old.lines.lines + length acts.now + 1 ≤ self.old.told
@@ -120,8 +120,8 @@ impl Claims {
         claim(&mut self.posts, self.events, step, acts);
     }
 
-    /// Joins the step of an event at which a node acts, if one does, with the acts of these lines;
-    /// lines of a take only where there are some.
+    /// Appends the step of an event at which a node acts, if one does, with the acts of these
+    /// lines; that of a take only where there are lines.
     fn take_step(&mut self, e: &Event, step: Option<Acting>, acts: &[Line2])
         requires room { HasRoom (length acts.now) self.old }
         requires few { length self.old.lines.lines + length acts.now + 1 ≤ self.old.told

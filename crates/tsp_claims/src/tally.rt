@@ -1,4 +1,4 @@
-//! What the lines so far of one event come to: what the next line's fit depends on.
+//! What decides, of an event's lines so far, whether its next one fits.
 ghost use Rattle.std.specs.Prelude.{◌≡◌, ◌<◌, ◌^◌};
 ghost use Rattle.tsp_claims.specs.Fitting.{counted, lacks, untold};
 

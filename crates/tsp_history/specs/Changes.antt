@@ -6,7 +6,8 @@ use Rattle.tsp_history.specs.declared.change.Change.{Change}
 use Rattle.tsp_history.specs.declared.change.Change.TheVariants.{Keeps, Ends, Begins}
 use Rattle.tsp_history.specs.declared.line.HistoryLine.{HistoryLine}
 
--- the place after a deed that changes it so, and that begins one only where that is let; it was the last one before
+-- the place after a deed that changes it so, where `keep` was the place before; it begins one only where the flag
+-- `lets` allows it
 abbrev pub place_by : Change → Bool → Did → List Seen → List Seen → List Seen
 place_by Keeps lets here past keep = keep
 place_by Ends lets here past keep = []
@@ -17,7 +18,7 @@ pub record BeginsOn (noted : HistoryLine) (n : ℕ) (q : Port) : Type 0 where
   pub node : noted.node ≡ n
   pub port : noted.port.0 ≡ q.0
 
--- what is told, or else what was so before
+-- what a line decides; where it doesn't, what was so before
 abbrev pub told_or : {A : Type 0} → Option A → A → A
 told_or None keep = keep
 told_or (Some v) keep = v

@@ -4,7 +4,7 @@ use Rattle.tsp_base.specs.History.{Line, of, dids}
 use Rattle.tsp_base.specs.NodeFacts.{wall, boot_tick, moved}
 use Rattle.tsp_history.specs.declared.clocks.Clock.{Clock}
 
--- as many amounts of 64 bits add up to no more
+-- no greater in magnitude than a sum of this many signed 64-bit amounts can be
 abbrev pub IsSumOf : ℕ → ℤ → Type 0
 IsSumOf count z = (neg_ℤ (pos (count * 2 ^ 63)) ≤ℤ z) × (z ≤ℤ pos (count * 2 ^ 63))
 

@@ -43,7 +43,7 @@ pub record NoteIs (l : Line) (h : List Line) (m : Note) : Type 0 where
   pub node : NodeKnown (node_of l) (l ∷ h) m.node
   pub port : PortKnown (node_of l) l.port (l ∷ h) m.port
 
--- each of these lines tells what the lines up to it come to
+-- the note of each of these lines is what the lines up to and with it come to
 pub record Told (ns : List HistoryLine) : Type 0 where
   pub at : (i : ℕ) (n : HistoryLine) → i < length ns → get_or ns i n ≡ n → NoteIs (line_of n) (history_of (take i ns)) n.note
 
@@ -61,7 +61,8 @@ pub record LastAt (ns : List HistoryLine) (n i : ℕ) : Type 0 where
   pub node : noted.node ≡ n
   pub quiet : Quiet n (line_of noted ∷ history_of (take i ns)) (history_of ns)
 
--- what stands elsewhere tells nothing of a port; what is known of a line's own port holds of this one
+-- a line elsewhere leaves what is known of a port; after a line of its own, or a boot of its node, what is known of
+-- the line's port holds of it
 abbrev pub IsOwnLine : HistoryLine → ℕ → Port → Bool → Type 0
 IsOwnLine noted n q false = (before : List Line) (m : PortNote) → PortKnown n q before m → PortKnown n q (line_of noted ∷ before) m
 IsOwnLine noted n q true = (before : List Line) (m : PortNote) → PortKnown noted.node noted.port (line_of noted ∷ before) m → PortKnown n q (line_of noted ∷ before) m

@@ -1,4 +1,4 @@
--- Places of a history, told by numbers.
+-- Places of a history, each by a number.
 use Rattle.std.specs.Prelude.{◌≡◌, ℕ, List, [], ◌∷◌, Option, None, Some}
 use Rattle.tsp_base.specs.declared.act.Act.TheVariants.{Post}
 use Rattle.tsp_base.specs.declared.datagram.Datagram.{Datagram}
@@ -22,7 +22,7 @@ pub record PostedAt (n : ℕ) (q : Port) (h : List Line) (seen : List Seen) (k :
   pub deed : line.did.deed ≡ Acts (Post to datagram)
   pub number : posted (dids before) ≡ k
 
--- the number of the datagram that is posted at a place tells it; none tells the empty place
+-- the number of the datagram that is posted at a place; None means that there is no such place
 abbrev pub IsPlaceOf : ℕ → Port → List Line → List Seen → Option ℕ → Type 0
 IsPlaceOf n q h seen None = seen ≡ []
 IsPlaceOf n q h seen (Some k) = PostedAt n q h seen k

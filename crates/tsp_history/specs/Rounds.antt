@@ -18,7 +18,7 @@ pub record AskedAt (seen : List Seen) (t : ℤ) : Type 0 where
   pub is : seen ≡ Here request ∷ older
   pub target_is : t ≡ target (plain older) request.tick
 
--- the target at the request tells an exchange; none tells that there is none
+-- the target at the request of an exchange; None means that no exchange is open
 abbrev pub Asked : List Seen → Option ℤ → Type 0
 Asked seen None = seen ≡ []
 Asked seen (Some t) = AskedAt seen t
@@ -51,7 +51,7 @@ pub record SeenAt (ns : List HistoryLine) (n : ℕ) (q : Port) (seen : List Seen
   pub port : noted.port ≡ q
   pub is : seen ≡ Here (line_of noted).did ∷ view q (of n (history_of (take i ns)))
 
--- the index of its line tells a place; none tells the empty one
+-- the index of the line at a place; None means that there is no such place
 abbrev pub SeenBy : List HistoryLine → ℕ → Port → List Seen → Option ℕ → Type 0
 SeenBy ns n q seen None = seen ≡ []
 SeenBy ns n q seen (Some i) = SeenAt ns n q seen i

@@ -12,7 +12,7 @@ abbrev pub Spaced : ℕ → ℕ → List Line → Type 0
 Spaced n x h = (other : Line) (older : List Line) (a : ℤ) (s : Bool) (y : ℤ) → Within (other ∷ older) h → node_of other ≡ n → other.did.deed ≡ Acts (Correct a s y) →
     lives (dids (of n older)) ≡ lives (dids (of n h)) → other.did.tick + GAP ≤ x
 
--- the later one of two ticks, where the first one may be missing
+-- the greater of two ticks; the second where there is no first
 abbrev pub later_of : Option ℕ → ℕ → ℕ
 later_of None t = t
 later_of (Some e) t = if nat_lt t e then e else t
@@ -22,6 +22,7 @@ abbrev pub IsFarFrom : Option ℕ → ℕ → Bool → Type 0
 IsFarFrom None x b = b ≡ true
 IsFarFrom (Some t) x b = MatchBool b (t + GAP ≤ x) (x < t + GAP)
 
--- the Corrects of node n in its present life lie far before a tick exactly where this one does, if there is one
+-- the Corrects of node n in its present life lie GAP ticks or more before a tick exactly where this one does, if
+-- there is one
 abbrev pub SpacedBy : ℕ → List Line → Option ℕ → Type 0
 SpacedBy n h o = (x : ℕ) (b : Bool) → IsFarFrom o x b → MatchBool b (Spaced n x h) (Spaced n x h → ⊥)

@@ -17,7 +17,7 @@ use tsp_base::constants::GAP;
 /// What is known of a node's clock.
 #[derive(Clone, Copy)]
 pub struct Clock {
-    /// The wall clock at the last boot, in microseconds.
+    /// What the clock showed at the tick of the last boot, in microseconds.
     wall: i64,
     /// The tick of the last boot.
     boot_tick: u64,
@@ -38,7 +38,8 @@ impl Clock {
         }
     }
 
-    /// What it would show at tick 0 if it were never corrected, in microseconds.
+    /// What it would show at tick 0 if it were never corrected, in microseconds: what it showed at
+    /// the boot, less the boot's tick.
     fn base(&self) -> i128
         ensures base { result ≡ self.now.wall -ℤ pos self.now.boot_tick }
         ensures small { (neg_ℤ (pos (2 ^ 65)) ≤ℤ result) × (result ≤ℤ pos (2 ^ 65)) }
@@ -58,7 +59,7 @@ impl Clock {
     }
 }
 
-/// The later one of two ticks, where the first one may be missing.
+/// The greater of two ticks; the second where there is no first.
 fn later(early: Option<u64>, tick: u64) -> u64
     ensures { result ≡ later_of early tick }
 {
@@ -86,8 +87,8 @@ pub(crate) fn latest_after(line: &HistoryLine, node: u32, keep: Option<u64>) -> 
     }
 }
 
-/// Whether a correction of a node at this tick stands `GAP` ticks or more after each before it since
-/// the node's last boot.
+/// Whether a correction of a node at this tick comes `GAP`, 1,000,000 ticks, or more after each
+/// before it since the node's last boot.
 pub fn is_spaced(lines: &[HistoryLine], node: u32, tick: u64) -> bool
     requires told { Told lines.now }
     ensures { MatchBool result (Spaced node tick (history_of lines.now))

@@ -39,8 +39,8 @@ impl History {
         }
     }
 
-    /// Makes room for so many lines more. Fails only if out of memory; either way the lines are
-    /// what they were.
+    /// Makes room for this many lines more, which pushes need. Fails only if out of memory; either
+    /// way the lines are what they were.
     pub fn make_room(&mut self, count: usize) -> Result<(), AllocError>
         ensures room { OnOk result (count ≤ self.new.room) }
         ensures lines { self.new.lines ≡ self.old.lines }
@@ -49,7 +49,8 @@ impl History {
     }
 
     /// Puts a line behind the others; its note is found here. There must be room for it, by
-    /// `make_room`: a push takes no memory.
+    /// `make_room`, and fewer than 2^31 lines before it, else the contract is broken: a push takes
+    /// no memory.
     pub fn push(&mut self, line: HistoryLine)
         requires few { length self.old.lines < 2 ^ 31 }
         requires room { 1 ≤ self.old.room }

@@ -2,7 +2,7 @@
 //!
 //! A [`history::History`] takes lines one by one, the oldest first: the mark where a step begins,
 //! and each act. Beside each line it keeps what is known of the line's node and port after it
-//! ([`notes::Note`]), so that a question about the newest lines asks for no look at all of them.
+//! ([`notes::Note`]), so that a question about the newest lines needs no walk over all lines.
 //!
 //! Make room first, since a push takes no memory:
 //!
@@ -17,9 +17,10 @@
 //! let clock = target_at(&lines[..1], node, tick); // before the act
 //! ```
 //!
-//! The questions are functions over the first lines, as many as are meant: clocks in [`clocks`] and
-//! [`counts`], roles and holds in [`scans`], rounds in [`rounds`], what was posted and taken in
-//! [`posts`], and which send a message is of in [`sends`].
+//! The questions are functions over the lines up to the place that is asked about: pass
+//! `&lines[..i]` for those before line i. Clocks are in [`clocks`] and [`counts`], roles and holds in
+//! [`scans`], rounds in [`rounds`], what was posted and taken in [`posts`], and which send a message
+//! is of in [`sends`].
 #![tactic(auto)]
 
 mod change;

@@ -32,6 +32,6 @@ pub struct HistoryLine {
     pub port: Port,
     /// The act; none at the mark where a step begins.
     pub act: Option<Act>,
-    /// What is known after it. `History::push` finds it, whatever stands here: hand it `Note::new()`.
+    /// What is known after it. `History::push` finds it, whatever is here: hand it `Note::new()`.
     pub note: Note,
 }

@@ -1,4 +1,4 @@
-//! What is known after each line of a history, so that a later line asks for no scan of it.
+//! What is known after each line of a history, so that a later line needs no scan of it.
 ghost use Rattle.std.specs.Prelude.{◌≡◌, ◌<◌, ◌^◌, ◌+◌, ◌-◌, ◌≤◌, ℕ, List, [], ◌∷◌, length};
 ghost use Rattle.tsp_base.specs.History.{Line, dids};
 ghost use Rattle.tsp_base.specs.Takings.{posted};
@@ -124,7 +124,7 @@ pub(crate) fn node_at(lines: &[HistoryLine], node: u32) -> NodeNote
     }
 }
 
-/// Whether a line is one of a node's port, or a boot of the node: others tell nothing of the port.
+/// Whether a line is one of a node's port, or a boot of the node: others leave what is known of the port.
 fn is_own(line: &HistoryLine, node: u32, port: Port) -> bool
     ensures { IsOwnLine line.now node port result }
 {

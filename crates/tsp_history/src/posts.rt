@@ -54,7 +54,7 @@ pub fn post_at(lines: &[HistoryLine], number: u64) -> Option<usize>
     None
 }
 
-/// Whether a node's step has taken something, as far as a line tells it.
+/// Whether a node's step has taken something after this line; None where this line doesn't decide it.
 fn taken_told(line: &HistoryLine, node: u32) -> Option<bool>
     ensures { (before : List Line)
         → is_some (heard (dids (of node (line_of line.now ∷ before))))
@@ -84,7 +84,8 @@ pub fn has_taken(lines: &[HistoryLine], node: u32) -> bool
     false
 }
 
-/// Whether a port's step has taken something or an alarm, as far as a line tells it.
+/// Whether a port's step has taken something, or an alarm of it was handled, after this line; None
+/// where this line doesn't decide it.
 fn acting_told(line: &HistoryLine, node: u32, port: Port) -> Option<bool>
     ensures { (before : List Line) → acting (view port (of node (line_of line.now ∷ before)))
         ≡ told_or result (acting (view port (of node before))) }
@@ -105,8 +106,8 @@ fn acting_told(line: &HistoryLine, node: u32, port: Port) -> Option<bool>
     }
 }
 
-/// Whether the step that a port is in has taken something or an alarm: what it posts from here on
-/// is no repeat.
+/// Whether the step that a port is in has taken something, or an alarm of it was handled: what it
+/// posts from here on is no repeat.
 pub fn is_acting(lines: &[HistoryLine], node: u32, port: Port) -> bool
     ensures { result ≡ acting (view port (of node (history_of lines.now))) }
 {

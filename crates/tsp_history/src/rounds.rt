@@ -26,7 +26,7 @@ use tsp_base::stamp::Stamp;
 pub struct Best {
     /// The index of its line among the history's, from 0.
     pub index: usize,
-    /// How far the peer's clock stands ahead, in microseconds.
+    /// How far the peer's clock is ahead of the own one, in microseconds.
     pub diff: i64,
     /// By how much diff may be wrong, in microseconds.
     pub err: i64,
@@ -99,7 +99,7 @@ pub fn closed_at(lines: &[HistoryLine], node: u32, port: Port) -> Option<usize>
     None
 }
 
-/// What a line does to the open exchange with a peer under this counter.
+/// What a line does to the open exchange with a peer that has this counter in its request.
 fn exchange_change(line: &HistoryLine, node: u32, port: Port, p: PeerId, counter: u64) -> Change
     ensures place { (before : List Line)
         → exchange p counter (view port (of node (line_of line.now ∷ before)))
@@ -149,8 +149,8 @@ fn exchange_change(line: &HistoryLine, node: u32, port: Port, p: PeerId, counter
     }
 }
 
-/// The clock's target, in microseconds, at the last request of a node's port to a peer under this
-/// counter, as long as that exchange is open.
+/// The clock's target, in microseconds, at the last request of a node's port to a peer with this
+/// counter in the request, as long as that exchange is open; else None.
 pub fn asked_at(
     lines: &[HistoryLine],
     node: u32,
@@ -286,8 +286,8 @@ fn forgets_samples(line: &HistoryLine, node: u32, port: Port) -> bool
     }
 }
 
-/// How many lines stand before those with the samples of a node's port that count: those since its
-/// last round, its last role or its node's last life began.
+/// The index of the first line from which samples of a node's port count: the line after that at
+/// which its last round, its last role or its node's last life began, or 0.
 pub fn samples_from(lines: &[HistoryLine], node: u32, port: Port) -> usize
     ensures few { result ≤ length lines.now }
     ensures none { (p : PeerId)

@@ -38,7 +38,8 @@ pub fn role_at(lines: &[HistoryLine], node: u32, port: Port) -> Role
     port_at(lines, node, port).role
 }
 
-/// Whether a line is no Back for another candidate that is too near.
+/// Whether a line is no Back of the port for another candidate than p, or lies `HOLD`, 60,000,000
+/// ticks, or more before this tick.
 fn is_apart(line: &HistoryLine, node: u32, port: Port, tick: u64, p: PeerId) -> bool
     ensures { MatchBool result (Apart node port tick p (line_of line.now))
         (Apart node port tick p (line_of line.now) → ⊥) }

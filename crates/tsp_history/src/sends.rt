@@ -16,8 +16,8 @@ use tsp_base::act::Act;
 use tsp_base::datagram::Datagram;
 use tsp_base::place::{PeerId, Place, Port};
 
-/// What a line does to the last send of a node's port to a peer that began or, if only open ones
-/// count, to the open one. It begins one if its step acts.
+/// What a line does to the last send of a node's port to a peer that began; with `is_open`, only to
+/// the send that is open. It begins one if its step acts.
 fn send_change(line: &HistoryLine, node: u32, port: Port, p: PeerId, is_open: bool) -> Change
     ensures begun { (before : List Line) → is_open ≡ false
         → begun_to p (view port (of node (line_of line.now ∷ before)))
@@ -62,7 +62,7 @@ fn send_change(line: &HistoryLine, node: u32, port: Port, p: PeerId, is_open: bo
 }
 
 /// The number of the datagram with which the last send of a node's port to a peer began since the
-/// boot or, if only open ones count, the open one.
+/// boot; with `is_open`, only the send that is open.
 fn send_to(lines: &[HistoryLine], node: u32, port: Port, p: PeerId, is_open: bool) -> Option<u64>
     requires told { Told lines.now }
     ensures begun { is_open ≡ false → IsPlaceOf node port (history_of lines.now)
