@@ -16,6 +16,9 @@ use tsp_lines::cause::Cause;
 use tsp_lines::treatment::Stop;
 use tsp_script::event_line::{EventItem, event_line, plain_line};
 
+/// The line of a turn or a take is at most so long; a longer one isn't tried as such.
+const PLAIN: usize = 45;
+
 /// The state after the lines that follow a header.
 #[derive(Drop)]
 pub struct Run<C> {
@@ -85,10 +88,25 @@ impl<C: EventHandler> Run<C> {
             line.now self.new) (Halts C.refused (Running header events) line.now) }
         ensures kind { result ≢ Err Stop.WriteFault }
     {
-        // The most frequent events have no octets, so that they are cheap to read.
-        if let Some(plain) = plain_line(line) {
-            return self.happen(&plain.event());
+        // The most frequent events have no octets, and short lines, so that they are cheap to read.
+        if line.len() <= PLAIN {
+            if let Some(plain) = plain_line(line) {
+                return self.happen(&plain.event());
+            }
         }
+        self.any(line)
+    }
+
+    /// Reads any line where the last line wasn't read yet. Only here is there room for an event's octets, since
+    /// each call clears that room.
+    fn any(&mut self, line: &[u8]) -> Result<(), Stop>
+        requires { self.old.over ≡ false }
+        ensures next { (header : HeaderValue) (events : List Event)
+            → C.stands header events self.old.course
+            → MatchResult result (λ _. RunAdvances C.refused C.stands (Running header events)
+            line.now self.new) (Halts C.refused (Running header events) line.now) }
+        ensures kind { result ≢ Err Stop.WriteFault }
+    {
         match event_line(line) {
             Ok(EventItem::Event(e)) => self.happen(&e),
             Ok(EventItem::End) => {

@@ -84,6 +84,17 @@ impl<C: EventHandler> Stage<C> {
         if let Stage::Running(run) = self {
             return run.advance(line);
         }
+        self.go_on(alloc, line)
+    }
+
+    /// Reads the next line of a header, or the first one after it. Only here is there room for another stage,
+    /// since each call clears that room.
+    fn go_on(&mut self, alloc: Global, line: &[u8]) -> Result<(), Stop>
+        ensures next { (p : Progress) → StageStands C.stands p self.old
+            → MatchResult result (λ _. Advances C.refused C.stands p line.now self.new)
+            (Halts C.refused p line.now) }
+        ensures kind { result ≢ Err Stop.WriteFault }
+    {
         match mem::replace(self, Stage::Untitled).next(alloc, line) {
             Ok(next) => {
                 *self = next;

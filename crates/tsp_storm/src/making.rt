@@ -5,7 +5,7 @@ ghost use Rattle.std.specs.Prelude.{length};
 ghost use Rattle.tsp_base.specs.Headers.{HeaderValue};
 ghost use Rattle.tsp_base.specs.declared.event.Event.{Event};
 ghost use Rattle.tsp_script.specs.Schedules.{IsEvent};
-ghost use Rattle.tsp_script.specs.Storms.{storm_take, draw_of, as_event, IsChoice};
+ghost use Rattle.tsp_script.specs.Storms.{storm_take, draw_of, as_event, IsChoice, request_event};
 ghost use Rattle.tsp_storm.specs.Makings.{MakingStands, StopsFor};
 ghost use Rattle.tsp_storm.specs.Schedules.{header_of, events_of, event_after, next_event};
 ghost use Rattle.tsp_args.specs.Storms.{IsStorm};
@@ -90,6 +90,28 @@ fn happen(world: &mut World, words: &StormWords, e: &Event) -> Result<(), Stoppe
     }
 }
 
+/// The same for a stranger's request, which comes after those events. Only here is there room for an event's
+/// octets, since each call clears that room.
+fn happen_request(
+    world: &mut World,
+    words: &StormWords,
+    at: u64,
+    node: u32,
+    word: u64,
+) -> Result<(), Stopped>
+    requires words { IsStorm words.now }
+    requires time { at ≤ 1000000000000000 }
+    requires more { world.old.events < words.now.events }
+    requires stands { WorldStands (header_of words.now) (events_of words.now world.old.events)
+        world.old }
+    requires event { request_event at node word ≡ event_after words.now world.old.events }
+    ensures stands { OnOk result (WorldStands (header_of words.now) (events_of words.now
+        (world.old.events + 1)) world.new) }
+    ensures stops { IfErr result (λ stop. StopsFor words.now world.old.events stop) }
+{
+    happen(world, words, &request(at, node, word))
+}
+
 impl Making {
     /// A schedule without events: a node for each of the words' nodes, and none is up. Fails only
     /// if out of memory.
@@ -120,7 +142,7 @@ impl Making {
         let world = &mut self.world;
         match draw(&mut self.storm, world) {
             Choice::Plain(plain) => happen(world, words, &plain.event()),
-            Choice::Request { at, node, word } => happen(world, words, &request(at, node, word)),
+            Choice::Request { at, node, word } => happen_request(world, words, at, node, word),
             Choice::Ask(_) => unreachable!(),
         }
     }

@@ -1,6 +1,6 @@
--- An event that nothing refuses, or the last line.
+-- A turn or a take, or any line.
 use Rattle.std.proofs.Common.{◌∙◌, ap, subst, sym, refl, Ok}
-use Rattle.tsp_schedule.proofs.StageLemmas.{MatchResult-map, Advances-event, Advances-end, Halts-event}
+use Rattle.tsp_schedule.proofs.StageLemmas.{MatchResult-map, Advances-event, Halts-event}
 use Rattle.tsp_schedule.specs.declared.stage.Stage.TheVariants.{Running}
 use Rattle.tsp_script.proofs.OneEvent.{SpellsEvent-one}
 use Rattle.tsp_script.specs.declared.event_line.EventItem.TheVariants.{Event as EventOf}
@@ -15,18 +15,3 @@ returns-in-Some-clause-next g c header events w =
     MatchResult-map c.happen.result (c.happen.ensures.next header events w)
     (λ _ h. Advances-event g.C.EventHandler.refused g.C.EventHandler.stands header events c.event.result line (Running c.happen.new.self) (Ok (EventOf c.event.result)) refl (λ item s. ap (λ i. Ok i) (SpellsEvent-one line (EventOf c.event.result) item spells s)) spells h.0 (over, h.1))
     (λ stop h. Halts-event g.C.EventHandler.refused g.C.EventHandler.stands header events c.event.result line stop spells h)
-
-pub returns-in-Ok-Event-clause-next : goal.returns-in-Ok-Event-clause-next
-returns-in-Ok-Event-clause-next g c header events w =
-    let line = c.args.line.now in
-    let is = c.in-Ok-Event.is ∙ ap (λ i. Ok i) c.in-Ok-Event.field-0-is in
-    let spells = subst (λ i. SpellsEvent line i) c.in-Ok-Event.field-0-is c.in-Ok-Event.ensures.reads in
-    let over = c.happen-in-Ok-Event.ensures.over ∙ c.requires in
-    MatchResult-map c.happen-in-Ok-Event.result (c.happen-in-Ok-Event.ensures.next header events w)
-    (λ _ h. Advances-event g.C.EventHandler.refused g.C.EventHandler.stands header events c.in-Ok-Event.e line (Running c.happen-in-Ok-Event.new.self) c.event_line.result is c.event_line.ensures.one spells h.0 (over, h.1))
-    (λ stop h. Halts-event g.C.EventHandler.refused g.C.EventHandler.stands header events c.in-Ok-Event.e line stop spells h)
-
-pub returns-in-Ok-End-clause-next : goal.returns-in-Ok-End-clause-next
-returns-in-Ok-End-clause-next g c header events w =
-    Advances-end g.C.EventHandler.refused g.C.EventHandler.stands header events c.args.line.now _ c.event_line.result (c.in-Ok-End.is ∙ ap (λ i. Ok i) c.in-Ok-End.field-0-is) c.event_line.ensures.one
-    (subst (λ i. SpellsEvent c.args.line.now i) c.in-Ok-End.field-0-is c.in-Ok-End.ensures.reads) (refl, w)

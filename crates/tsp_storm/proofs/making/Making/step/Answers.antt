@@ -61,20 +61,20 @@ returns-in-Plain-clause-event c =
 pub returns-in-Plain-clause-stops : goal.returns-in-Plain-clause-stops
 returns-in-Plain-clause-stops c = stops_step c.args.words.now c.args.self.now c.happen.result c.requires.stands c.happen.ensures.stops
 
-pub happen-requires-in-Request-clause-more : goal.happen-requires-in-Request-clause-more
-happen-requires-in-Request-clause-more c = more_now c.args.words.now c.args.self.now c.requires.stands c.requires.more
+pub happen_request-requires-clause-more : goal.happen_request-requires-clause-more
+happen_request-requires-clause-more c = more_now c.args.words.now c.args.self.now c.requires.stands c.requires.more
 
-pub happen-requires-in-Request-clause-stands : goal.happen-requires-in-Request-clause-stands
-happen-requires-in-Request-clause-stands c = world_now c.args.words.now c.args.self.now c.requires.stands
+pub happen_request-requires-clause-stands : goal.happen_request-requires-clause-stands
+happen_request-requires-clause-stands c = world_now c.args.words.now c.args.self.now c.requires.stands
 
-pub happen-requires-in-Request-clause-event : goal.happen-requires-in-Request-clause-event
-happen-requires-in-Request-clause-event c =
+pub happen_request-requires-clause-event : goal.happen_request-requires-clause-event
+happen_request-requires-clause-event c =
     let s = c.args.words.now in
     let m = c.args.self.now in
     let st = c.requires.stands in
     let next = c.in-Request.ensures.next (header_of s) (events_of s m.storm.given) st.world in
     let comes = given-back (request_event c.in-Request.at c.in-Request.node c.in-Request.word) c.draw.new.storm _ next in
-    c.request.ensures.event ∙ event_now s m (request_event c.in-Request.at c.in-Request.node c.in-Request.word) c.draw.new.storm st comes
+    event_now s m (request_event c.in-Request.at c.in-Request.node c.in-Request.word) c.draw.new.storm st comes
 
 pub returns-in-Request-clause-stands : goal.returns-in-Request-clause-stands
 returns-in-Request-clause-stands c =
@@ -83,7 +83,7 @@ returns-in-Request-clause-stands c =
     let st = c.requires.stands in
     let next = c.in-Request.ensures.next (header_of s) (events_of s m.storm.given) st.world in
     let comes = given-back (request_event c.in-Request.at c.in-Request.node c.in-Request.word) c.draw.new.storm _ next in
-    on_step s m (request_event c.in-Request.at c.in-Request.node c.in-Request.word) c.draw.new.storm c.happen-in-Request.new.world c.happen-in-Request.result _ st comes (λ d. d.stands) c.happen-in-Request.ensures.stands
+    on_step s m (request_event c.in-Request.at c.in-Request.node c.in-Request.word) c.draw.new.storm c.happen_request.new.world c.happen_request.result _ st comes (λ d. d.stands) c.happen_request.ensures.stands
 
 pub returns-in-Request-clause-given : goal.returns-in-Request-clause-given
 returns-in-Request-clause-given c =
@@ -92,7 +92,7 @@ returns-in-Request-clause-given c =
     let st = c.requires.stands in
     let next = c.in-Request.ensures.next (header_of s) (events_of s m.storm.given) st.world in
     let comes = given-back (request_event c.in-Request.at c.in-Request.node c.in-Request.word) c.draw.new.storm _ next in
-    on_step s m (request_event c.in-Request.at c.in-Request.node c.in-Request.word) c.draw.new.storm c.happen-in-Request.new.world c.happen-in-Request.result _ st comes (λ d. d.given) c.happen-in-Request.ensures.stands
+    on_step s m (request_event c.in-Request.at c.in-Request.node c.in-Request.word) c.draw.new.storm c.happen_request.new.world c.happen_request.result _ st comes (λ d. d.given) c.happen_request.ensures.stands
 
 pub returns-in-Request-clause-event : goal.returns-in-Request-clause-event
 returns-in-Request-clause-event c =
@@ -101,7 +101,7 @@ returns-in-Request-clause-event c =
     let st = c.requires.stands in
     let next = c.in-Request.ensures.next (header_of s) (events_of s m.storm.given) st.world in
     let comes = given-back (request_event c.in-Request.at c.in-Request.node c.in-Request.word) c.draw.new.storm _ next in
-    on_step s m (request_event c.in-Request.at c.in-Request.node c.in-Request.word) c.draw.new.storm c.happen-in-Request.new.world c.happen-in-Request.result _ st comes (λ d. d.event) c.happen-in-Request.ensures.stands
+    on_step s m (request_event c.in-Request.at c.in-Request.node c.in-Request.word) c.draw.new.storm c.happen_request.new.world c.happen_request.result _ st comes (λ d. d.event) c.happen_request.ensures.stands
 
 pub returns-in-Request-clause-stops : goal.returns-in-Request-clause-stops
-returns-in-Request-clause-stops c = stops_step c.args.words.now c.args.self.now c.happen-in-Request.result c.requires.stands c.happen-in-Request.ensures.stops
+returns-in-Request-clause-stops c = stops_step c.args.words.now c.args.self.now c.happen_request.result c.requires.stands c.happen_request.ensures.stops
