@@ -1,6 +1,6 @@
 -- One slave after the other is asked.
 use Rattle.std.specs.Prelude.{◌≡◌, ◌+◌, ◌*◌, ◌<◌, ◌∷◌, [], ◌++◌, length, take, true, false}
-use Rattle.std.proofs.Common.{get_or, refl, sym, ◌∙◌, ap, arith}
+use Rattle.std.proofs.Common.{get_or, refl, sym, ◌∙◌, ap, arith, subst, ◌≤◌}
 use Rattle.std.proofs.lemmas.List.{take_all}
 use Rattle.tsp_base.specs.declared.place.PeerId.{PeerId}
 use Rattle.tsp_base.specs.Rows.{for_each}
@@ -12,6 +12,7 @@ use Rattle.tsp_master.specs.declared.entry.Entry.{Entry}
 use Rattle.tsp_master.specs.Slaves.{entry_of, peers_of}
 use Rattle.tsp_master.proofs.AskLemmas.{Performs_starts, filter-more, filter-past, joined-is, joined-kept, joined_of, later-few, take-more}
 use Rattle.tsp_master.proofs.ExchangeLemmas.{IsCounted-more}
+use Rattle.tsp_base.proofs.FrameLemmas.{PutsAtMost_up}
 use Rattle.tsp_master.proofs.master.Master.ask_slaves.Goals.{then-entry, else-entry}
 use Rattle.tsp_master.proofs.master.Master.ask_slaves.Goals as goal
 
@@ -75,3 +76,6 @@ returns-clause-row g c =
     let all : take n ps ≡ ps = take_all n ps (omega (arith, c.loop-place-test.false, c.len-place-end.ensures.value)) in
     Performs_reading table_at (for_each asks) (joined_of m.slaves ps) (λ past h. joined-is c.args.tick past m h.stands.master)
     (rw all at c.loop-place.invariant.row)
+
+pub returns-clause-room : goal.returns-clause-room
+returns-clause-room g c = PutsAtMost_up c.loop-place.place (length (peers_of c.args.self.now.slaves)) (subst (λ l. c.loop-place.place ≤ l) c.len-place-end.ensures.value c.loop-place.auto.place-end) c.loop-place.invariant.room

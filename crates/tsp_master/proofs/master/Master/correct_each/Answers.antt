@@ -1,6 +1,6 @@
 -- One measured peer after the other is corrected.
 use Rattle.std.specs.Prelude.{◌≡◌, ◌+◌, ◌<◌, ◌∷◌, [], ◌++◌, length, take, true, false}
-use Rattle.std.proofs.Common.{get_or, refl, sym, ◌∙◌, ap, arith, w64, to_z, of_z, to_z-of_z}
+use Rattle.std.proofs.Common.{get_or, refl, sym, ◌∙◌, ap, arith, w64, to_z, of_z, to_z-of_z, subst, ◌≤◌}
 use Rattle.std.proofs.lemmas.List.{take_all}
 use Rattle.tsp_base.specs.declared.place.PeerId.{PeerId}
 use Rattle.tsp_base.specs.Rows.{for_each}
@@ -12,6 +12,7 @@ use Rattle.tsp_master.specs.Closing.{standing_with, standings_of}
 use Rattle.tsp_master.specs.Slaves.{entry_of, peers_of}
 use Rattle.tsp_master.proofs.AskLemmas.{take-more}
 use Rattle.tsp_master.proofs.CloseLemmas.{corrects_with, later-same, standings-more, standings-past}
+use Rattle.tsp_base.proofs.FrameLemmas.{PutsAtMost_up}
 use Rattle.tsp_master.proofs.master.Master.correct_each.Goals.{then-entry, else-entry}
 use Rattle.tsp_master.proofs.master.Master.correct_each.Goals as goal
 
@@ -72,3 +73,6 @@ returns-clause-row g c =
     let all : take n ps ≡ ps = take_all n ps (omega (arith, c.loop-place-test.false, c.len-place-end.ensures.value)) in
     let back : to_z w64 (of_z w64 c.args.mean) ≡ c.args.mean = to_z-of_z c.ranges.mean in
     rw (all, back) at c.loop-place.invariant.row
+
+pub returns-clause-room : goal.returns-clause-room
+returns-clause-room g c = PutsAtMost_up c.loop-place.place (length (peers_of c.args.self.now.slaves)) (subst (λ l. c.loop-place.place ≤ l) c.len-place-end.ensures.value c.loop-place.auto.place-end) c.loop-place.invariant.room
