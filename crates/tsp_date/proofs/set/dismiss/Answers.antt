@@ -1,6 +1,6 @@
 -- One slave after the other leaves.
 use Rattle.std.specs.Prelude.{◌≡◌, ◌+◌, ◌<◌, ◌∷◌, [], ◌++◌, length, take, true, false, slice_index_or}
-use Rattle.std.proofs.Common.{get_or, refl, sym, ◌∙◌, ap, arith, length-append}
+use Rattle.std.proofs.Common.{get_or, refl, sym, ◌∙◌, ap, arith, length-append, subst, ◌≤◌}
 use Rattle.std.proofs.lemmas.List.{get_or_default, take_all}
 use Rattle.tsp_base.specs.declared.place.PeerId.{PeerId}
 use Rattle.tsp_base.specs.Rows.{for_each}
@@ -13,6 +13,7 @@ use Rattle.tsp_master.specs.Slaves.{entry_of, leaves as leaves_entry, peers_of}
 use Rattle.tsp_master.proofs.AskLemmas.{filter-more, filter-past, joined-is, joined_of, take-more}
 use Rattle.tsp_master.proofs.CloseLemmas.{later-same}
 use Rattle.tsp_date.proofs.DateLemmas.{Performs_leave, changes-others}
+use Rattle.tsp_base.proofs.FrameLemmas.{PutsAtMost_up}
 use Rattle.tsp_date.proofs.set.dismiss.Goals.{then-leave, else-leave}
 use Rattle.tsp_date.proofs.set.dismiss.Goals as goal
 
@@ -67,3 +68,6 @@ returns-clause-row g c x =
     let all : take n ps ≡ ps = take_all n ps (omega (arith, c.loop-p-test.false, ap length c.peers-p-items.ensures.value)) in
     Performs_reading table_at (for_each leaves) (joined_of m.slaves (peers_of m.slaves)) (λ past h. joined-is x past m h)
     (let r = rw all at c.loop-p.invariant.row in rw c.requires.same (r x))
+
+pub returns-clause-room : goal.returns-clause-room
+returns-clause-room g c = PutsAtMost_up c.loop-p.p-index (length c.args.station.now.peers) (subst (λ l. c.loop-p.p-index ≤ length l) c.peers-p-items.ensures.value c.loop-p.auto.p-index-end) c.loop-p.invariant.room
