@@ -5,6 +5,7 @@ use Rattle.std.proofs.lemmas.List.{take_all}
 use Rattle.tsp_base.specs.declared.place.PeerId.{PeerId}
 use Rattle.tsp_base.specs.Rows.{for_each}
 use Rattle.tsp_base.proofs.PerformsLemmas.{Performs_each_more, Performs_nothing, Performs_reading}
+use Rattle.tsp_base.proofs.FrameLemmas.{PutsAtMost_up}
 use Rattle.tsp_rules.specs.RoundRows.{asks, asks_measured, measured_at}
 use Rattle.tsp_acks.specs.Peers.{IsPeers}
 use Rattle.tsp_master.specs.declared.entry.Entry.{Entry}
@@ -12,7 +13,6 @@ use Rattle.tsp_master.specs.Closing.{measured_of}
 use Rattle.tsp_master.specs.Slaves.{entry_of, peers_of}
 use Rattle.tsp_master.proofs.AskLemmas.{Performs_probes, filter-more, filter-past, later-few, measured-is, take-more}
 use Rattle.tsp_master.proofs.ExchangeLemmas.{IsCounted-more}
-use Rattle.tsp_base.proofs.FrameLemmas.{PutsAtMost_up}
 use Rattle.tsp_master.proofs.master.Master.ask_measured.Goals.{then-entry, else-entry}
 use Rattle.tsp_master.proofs.master.Master.ask_measured.Goals as goal
 

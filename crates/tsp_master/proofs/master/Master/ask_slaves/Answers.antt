@@ -5,6 +5,7 @@ use Rattle.std.proofs.lemmas.List.{take_all}
 use Rattle.tsp_base.specs.declared.place.PeerId.{PeerId}
 use Rattle.tsp_base.specs.Rows.{for_each}
 use Rattle.tsp_base.proofs.PerformsLemmas.{Performs_each_more, Performs_nothing, Performs_reading}
+use Rattle.tsp_base.proofs.FrameLemmas.{PutsAtMost_up}
 use Rattle.tsp_rules.specs.RoundRows.{asks, asks_slaves}
 use Rattle.tsp_rules.specs.Guards.{table_at}
 use Rattle.tsp_acks.specs.Peers.{IsPeers}
@@ -12,7 +13,6 @@ use Rattle.tsp_master.specs.declared.entry.Entry.{Entry}
 use Rattle.tsp_master.specs.Slaves.{entry_of, peers_of}
 use Rattle.tsp_master.proofs.AskLemmas.{Performs_starts, filter-more, filter-past, joined-is, joined-kept, joined_of, later-few, take-more}
 use Rattle.tsp_master.proofs.ExchangeLemmas.{IsCounted-more}
-use Rattle.tsp_base.proofs.FrameLemmas.{PutsAtMost_up}
 use Rattle.tsp_master.proofs.master.Master.ask_slaves.Goals.{then-entry, else-entry}
 use Rattle.tsp_master.proofs.master.Master.ask_slaves.Goals as goal
 

@@ -3,6 +3,7 @@ use Rattle.std.proofs.Common.{◌≡◌, ◌+ℤ◌, true, false, refl, sym, ◌
 use Rattle.tsp_base.specs.declared.act.Act.TheVariants.{Abandon, Close as CloseAct}
 use Rattle.tsp_base.specs.Rows.{for_each, puts, ◌followed_by◌}
 use Rattle.tsp_base.proofs.PerformsLemmas.{Performs_else_part, Performs_from, Performs_then, Performs_then_part}
+use Rattle.tsp_base.proofs.FrameLemmas.{PutsExactly_put}
 use Rattle.tsp_rules.specs.ClockRows.{can_adjust}
 use Rattle.tsp_rules.specs.RoundRows.{abandons, close_act, closes_with, corrects, corrects_peer, mean_by, moves}
 use Rattle.tsp_rules.specs.Guards.{is_clock_value}
@@ -16,7 +17,6 @@ use Rattle.tsp_master.proofs.LeadLemmas.{Performs_idle, Performs_lead, Performs_
 use Rattle.tsp_master.proofs.RoundLemmas.{MasterStands_abandon}
 use Rattle.tsp_master.proofs.TableLemmas.{MasterStands_same, target-is}
 use Rattle.tsp_master.proofs.RoomLemmas.{once, put_then}
-use Rattle.tsp_base.proofs.FrameLemmas.{PutsExactly_put}
 use Rattle.tsp_master.proofs.master.Master.close.Goals as goal
 
 pub returns-then-not-can_adjust-clause-row : goal.returns-then-not-can_adjust-clause-row

@@ -5,6 +5,7 @@ use Rattle.std.proofs.lemmas.List.{take_all}
 use Rattle.tsp_base.specs.declared.place.PeerId.{PeerId}
 use Rattle.tsp_base.specs.Rows.{for_each}
 use Rattle.tsp_base.proofs.PerformsLemmas.{Performs_each_more, Performs_nothing}
+use Rattle.tsp_base.proofs.FrameLemmas.{PutsAtMost_up}
 use Rattle.tsp_rules.specs.RoundRows.{corrects_peer}
 use Rattle.tsp_acks.specs.Peers.{IsPeers}
 use Rattle.tsp_master.specs.declared.entry.Entry.{Entry}
@@ -12,7 +13,6 @@ use Rattle.tsp_master.specs.Closing.{standing_with, standings_of}
 use Rattle.tsp_master.specs.Slaves.{entry_of, peers_of}
 use Rattle.tsp_master.proofs.AskLemmas.{take-more}
 use Rattle.tsp_master.proofs.CloseLemmas.{corrects_with, later-same, standings-more, standings-past}
-use Rattle.tsp_base.proofs.FrameLemmas.{PutsAtMost_up}
 use Rattle.tsp_master.proofs.master.Master.correct_each.Goals.{then-entry, else-entry}
 use Rattle.tsp_master.proofs.master.Master.correct_each.Goals as goal
 
