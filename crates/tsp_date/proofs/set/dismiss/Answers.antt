@@ -5,6 +5,7 @@ use Rattle.std.proofs.lemmas.List.{get_or_default, take_all}
 use Rattle.tsp_base.specs.declared.place.PeerId.{PeerId}
 use Rattle.tsp_base.specs.Rows.{for_each}
 use Rattle.tsp_base.proofs.PerformsLemmas.{Performs_each_more, Performs_nothing, Performs_reading}
+use Rattle.tsp_base.proofs.FrameLemmas.{PutsAtMost_up}
 use Rattle.tsp_rules.specs.DateRows.{leaves, leaves_all}
 use Rattle.tsp_rules.specs.Guards.{table_at}
 use Rattle.tsp_acks.specs.Peers.{IsPeers}
@@ -13,7 +14,6 @@ use Rattle.tsp_master.specs.Slaves.{entry_of, leaves as leaves_entry, peers_of}
 use Rattle.tsp_master.proofs.AskLemmas.{filter-more, filter-past, joined-is, joined_of, take-more}
 use Rattle.tsp_master.proofs.CloseLemmas.{later-same}
 use Rattle.tsp_date.proofs.DateLemmas.{Performs_leave, changes-others}
-use Rattle.tsp_base.proofs.FrameLemmas.{PutsAtMost_up}
 use Rattle.tsp_date.proofs.set.dismiss.Goals.{then-leave, else-leave}
 use Rattle.tsp_date.proofs.set.dismiss.Goals as goal
 
