@@ -6,5 +6,6 @@ pub mod EndingLemmas
 pub mod FollowLemmas
 pub mod PeerLemmas
 pub mod PostLemmas
+pub mod PostedLemmas
 pub mod SendingLemmas
 pub mod StandsLemmas

@@ -13,7 +13,6 @@ use tsp_base::kind::Kind;
 use tsp_base::message::{Body, Message};
 use tsp_base::place::{PeerId, Place, Port};
 
-#[tactic(auto, using(crate::proofs::PostLemmas::is_plain_fits), unfolding(tsp_base::specs::Rows::posts, tsp_base::specs::Rows::posts_back))]
 impl Station {
     ghost use Rattle.tsp_acks.specs.Stands.{Stands};
 

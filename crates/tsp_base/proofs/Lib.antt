@@ -1,4 +1,5 @@
 pub mod AlarmLemmas
+pub mod FrameLemmas
 pub mod HeaderLemmas
 pub mod KindLemmas
 pub mod LeadsLemmas

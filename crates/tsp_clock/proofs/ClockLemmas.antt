@@ -1,6 +1,6 @@
 -- What keeps a clock in its range.
-use Rattle.std.specs.Prelude.{◌≡◌, ◌⊎◌, ℕ, ◌+◌, ◌-◌, ◌/◌, ◌%◌, ℤ, pos, negsuc, ◌+ℤ◌, ◌-ℤ◌, ◌≤ℤ◌, ◌<ℤ◌, Bool, true, false, if◌then◌else◌, refl}
-use Rattle.std.proofs.Common.{arith, inl, inr}
+use Rattle.std.specs.Prelude.{◌≡◌, ◌⊎◌, ℕ, ◌+◌, ◌-◌, ◌/◌, ◌%◌, ◌^◌, ◌≤◌, ℤ, pos, negsuc, ◌+ℤ◌, ◌-ℤ◌, ◌≤ℤ◌, ◌<ℤ◌, Bool, true, false, if◌then◌else◌, refl}
+use Rattle.std.proofs.Common.{arith, inl, inr, SFits, w64}
 use Rattle.std.proofs.lemmas.Int.{ints}
 use Rattle.tsp_base.specs.declared.constants.TheConstants.{SLEW}
 use Rattle.tsp_base.specs.History.{Past, plain}
@@ -72,3 +72,32 @@ Stands_adjusts amount x past v h = record {
   at_is = refl;
   ticket_is = next_ticket _ (word (plain past.seen)) (corrects (plain past.seen)) h.ticket_is;
 }
+
+-- a step shows the new target
+pub stepped_low : (t : ℤ) → is_clock_value t ≡ true → negsuc 2147483647999999 <ℤ (t -ℤ pos 0)
+stepped_low t h = let low : negsuc 2147483647999999 <ℤ t = clock_value_low t h in omega (arith, ints)
+
+pub stepped_high : (t : ℤ) (x : ℕ) → is_clock_value t ≡ true → (t -ℤ pos 0) ≤ℤ pos (2147483648000000 + x)
+stepped_high t x h = let high : t <ℤ pos 2147483648000000 = clock_value_high t h in omega (arith, ints)
+
+-- any other correction leaves what is shown
+pub shown_kept : (t left amount : ℤ) → (t +ℤ amount) -ℤ (left +ℤ amount) ≡ t -ℤ left
+shown_kept t left amount = omega (arith, ints)
+
+fits_between : (z : ℤ) → negsuc 9000000000000000000 <ℤ z → z <ℤ pos 9000000000000000000 → SFits w64 z
+fits_between (pos n) low high = record { sfits = omega (arith, ints) }
+fits_between (negsuc n) low high = record { sfits = omega (arith, ints) }
+
+-- and its rest fits its type
+pub left_fits : (t left amount : ℤ) (x : ℕ) → x ≤ 2 ^ 61 → is_clock_value (t +ℤ amount) ≡ true → negsuc 2147483647999999 <ℤ (t -ℤ left) → (t -ℤ left) ≤ℤ pos (2147483648000000 + x) → SFits w64 (left +ℤ amount)
+left_fits t left amount x early h shown_low shown_high =
+    let low : negsuc 2147483647999999 <ℤ (t +ℤ amount) = clock_value_low (t +ℤ amount) h in
+    let high : (t +ℤ amount) <ℤ pos 2147483648000000 = clock_value_high (t +ℤ amount) h in
+    fits_between (left +ℤ amount) (omega (arith, ints)) (omega (arith, ints))
+
+-- from a target to a value
+pub amount_fits : (value t : ℤ) (x : ℕ) → x ≤ 2 ^ 61 → is_clock_value value ≡ true → negsuc 2147483647999999 <ℤ t → t <ℤ pos (2147483648000000 + x) → SFits w64 (value -ℤ t)
+amount_fits value t x early h from to =
+    let low : negsuc 2147483647999999 <ℤ value = clock_value_low value h in
+    let high : value <ℤ pos 2147483648000000 = clock_value_high value h in
+    fits_between (value -ℤ t) (omega (arith, ints)) (omega (arith, ints))

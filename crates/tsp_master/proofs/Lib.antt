@@ -6,6 +6,7 @@ pub mod MasterLemmas
 pub mod PhaseLemmas
 pub mod ReplyLemmas
 pub mod RingCases
+pub mod RoomLemmas
 pub mod RoundLemmas
 pub mod SampleLemmas
 pub mod SinceLemmas

@@ -1,4 +1,5 @@
 pub mod BesideLemmas
 pub mod ChangeLemmas
+pub mod RoomLemmas
 pub mod RowCases
 pub mod SlaveLemmas

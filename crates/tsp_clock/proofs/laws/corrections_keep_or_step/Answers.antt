@@ -1,6 +1,5 @@
-use Rattle.std.proofs.Common.{◌≡◌, ◌∙◌, ap, pos, ◌-ℤ◌, ◌+ℤ◌, ◌-◌, ◌/◌}
-use Rattle.tsp_base.specs.NodeFacts.{eased}
-use Rattle.tsp_clock.specs.Clocks.{target_of, rest_of}
+use Rattle.std.proofs.Common.{pos, ◌+ℤ◌}
+use Rattle.tsp_clock.specs.Clocks.{rest_of}
 use Rattle.tsp_clock.proofs.Slewing.{eased_none, no_time, stays_by, moves_by, none_left}
 use Rattle.tsp_clock.proofs.laws.corrections_keep_or_step.Goals as goal
 

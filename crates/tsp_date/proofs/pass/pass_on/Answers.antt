@@ -8,6 +8,7 @@ use Rattle.tsp_rules.specs.DateRows.{may_pass_on, passes_on}
 use Rattle.tsp_rules.specs.SendRows.{begins_timed}
 use Rattle.tsp_rules.proofs.Emits.{Emits_posts_back}
 use Rattle.tsp_date.proofs.DateLemmas.{Performs_asks, Performs_posting}
+use Rattle.tsp_master.proofs.RoomLemmas.{twice}
 use Rattle.tsp_date.proofs.pass.pass_on.Goals as goal
 
 pub returns-then-may_pass_on-clause-row : goal.returns-then-may_pass_on-clause-row
@@ -28,3 +29,6 @@ unfolding passes_on
 returns-else-may_pass_on-clause-row g c s r t =
     Performs_else_part (may_pass_on c.args.master) (posts_back c.args.from Ack c.args.m.now.number followed_by begins_timed SetDateReq c.args.master (time_in c.args.m.now.body))
     (λ past h. c.may_pass_on.ensures past h.station h.dates ∙ c.if-may_pass_on.false) Performs_nothing
+
+pub returns-then-may_pass_on-clause-room : goal.returns-then-may_pass_on-clause-room
+returns-then-may_pass_on-clause-room g c = twice 0 0 c.post_back.ensures.room c.begin_timed.ensures.room

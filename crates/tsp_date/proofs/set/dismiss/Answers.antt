@@ -1,10 +1,11 @@
 -- One slave after the other leaves.
 use Rattle.std.specs.Prelude.{◌≡◌, ◌+◌, ◌<◌, ◌∷◌, [], ◌++◌, length, take, true, false, slice_index_or}
-use Rattle.std.proofs.Common.{get_or, refl, sym, ◌∙◌, ap, arith, length-append}
+use Rattle.std.proofs.Common.{get_or, refl, sym, ◌∙◌, ap, arith, length-append, subst, ◌≤◌}
 use Rattle.std.proofs.lemmas.List.{get_or_default, take_all}
 use Rattle.tsp_base.specs.declared.place.PeerId.{PeerId}
 use Rattle.tsp_base.specs.Rows.{for_each}
 use Rattle.tsp_base.proofs.PerformsLemmas.{Performs_each_more, Performs_nothing, Performs_reading}
+use Rattle.tsp_base.proofs.FrameLemmas.{PutsAtMost_up}
 use Rattle.tsp_rules.specs.DateRows.{leaves, leaves_all}
 use Rattle.tsp_rules.specs.Guards.{table_at}
 use Rattle.tsp_acks.specs.Peers.{IsPeers}
@@ -67,3 +68,6 @@ returns-clause-row g c x =
     let all : take n ps ≡ ps = take_all n ps (omega (arith, c.loop-p-test.false, ap length c.peers-p-items.ensures.value)) in
     Performs_reading table_at (for_each leaves) (joined_of m.slaves (peers_of m.slaves)) (λ past h. joined-is x past m h)
     (let r = rw all at c.loop-p.invariant.row in rw c.requires.same (r x))
+
+pub returns-clause-room : goal.returns-clause-room
+returns-clause-room g c = PutsAtMost_up c.loop-p.p-index (length c.args.station.now.peers) (subst (λ l. c.loop-p.p-index ≤ length l) c.peers-p-items.ensures.value c.loop-p.auto.p-index-end) c.loop-p.invariant.room

@@ -7,6 +7,7 @@ use Rattle.tsp_rules.specs.MasterRows.{sends_away}
 use Rattle.tsp_rules.specs.SendRows.{begins, has_quit, is_kind_quit}
 use Rattle.tsp_acks.specs.Openings.{is_of}
 use Rattle.tsp_master.proofs.TakeLemmas.{has_quit-is}
+use Rattle.tsp_master.proofs.RoomLemmas.{once}
 use Rattle.tsp_master.proofs.take.send_away.Goals as goal
 
 pub returns-then-not-is_quit-clause-row : goal.returns-then-not-is_quit-clause-row
@@ -18,3 +19,6 @@ pub returns-else-not-is_quit-clause-row : goal.returns-else-not-is_quit-clause-r
 unfolding sends_away
 returns-else-not-is_quit-clause-row g c =
     Performs_then_part (has_quit c.args.peer) (begins Quit c.args.peer) (λ past h. has_quit-is c.args.peer c.args.tick past c.args.station.now h.stands ∙ ap (is_of is_kind_quit) (sym c.kind.ensures) ∙ sym c.is_quit.ensures ∙ c.if-not-is_quit.false) Performs_nothing
+
+pub returns-then-not-is_quit-clause-room : goal.returns-then-not-is_quit-clause-room
+returns-then-not-is_quit-clause-room g c = once 0 0 c.begin.ensures.room

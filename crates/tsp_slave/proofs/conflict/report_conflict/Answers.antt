@@ -7,6 +7,7 @@ use Rattle.tsp_base.proofs.PerformsLemmas.{Performs_then_part, Performs_else_par
 use Rattle.tsp_rules.specs.SendRows.{begins, is_free}
 use Rattle.tsp_rules.specs.SlaveRows.{reports_conflict}
 use Rattle.tsp_slave.proofs.RowCases.{is_free-is}
+use Rattle.tsp_slave.proofs.RoomLemmas.{at_most}
 use Rattle.tsp_slave.proofs.conflict.report_conflict.Goals as goal
 
 pub returns-in-None-clause-row : goal.returns-in-None-clause-row
@@ -18,3 +19,6 @@ pub returns-in-Some-clause-row : goal.returns-in-Some-clause-row
 unfolding reports_conflict
 returns-in-Some-clause-row g c =
     Performs_else_part (is_free c.args.master) (begins Conflict c.args.master) (λ past h. is_free-is c.args.master c.args.tick past c.args.station.now h.stands ∙ ap (λ k. not (is_some k)) (sym c.kind.ensures ∙ c.in-Some.is)) Performs_nothing
+
+pub returns-in-None-clause-room : goal.returns-in-None-clause-room
+returns-in-None-clause-room g c = at_most 1 0 c.begin.ensures.room

@@ -6,6 +6,7 @@ use Rattle.tsp_base.proofs.PerformsLemmas.{Performs_then_part, Performs_else_par
 use Rattle.tsp_rules.specs.SlaveRows.{acks_repeat, is_repeated}
 use Rattle.tsp_slave.proofs.BesideLemmas.{Performs_station}
 use Rattle.tsp_slave.proofs.SlaveLemmas.{AlsoStands_posts}
+use Rattle.tsp_slave.proofs.RoomLemmas.{at_most}
 use Rattle.tsp_slave.proofs.correction.ack_repeat.Goals as goal
 
 pub returns-then-is_repeat-clause-row : goal.returns-then-is_repeat-clause-row
@@ -18,3 +19,6 @@ pub returns-else-is_repeat-clause-row : goal.returns-else-is_repeat-clause-row
 unfolding acks_repeat
 returns-else-is_repeat-clause-row g c x clock took =
     Performs_else_part (is_repeated c.args.correction.from c.args.correction.number) (posts c.args.correction.from Ack c.args.correction.number) (λ past h. let t = h.last.taken_is in cc) Performs_nothing
+
+pub returns-then-is_repeat-clause-room : goal.returns-then-is_repeat-clause-room
+returns-then-is_repeat-clause-room g c = at_most 1 0 c.post.ensures.room

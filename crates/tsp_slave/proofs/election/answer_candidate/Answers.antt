@@ -6,6 +6,7 @@ use Rattle.tsp_base.proofs.PerformsLemmas.{Performs_then, Performs_then_part, Pe
 use Rattle.tsp_rules.specs.CommonRows.{arms_elect}
 use Rattle.tsp_rules.specs.SlaveRows.{election_of}
 use Rattle.tsp_rules.specs.Guards.{may_back_at}
+use Rattle.tsp_slave.proofs.RoomLemmas.{at_most, both}
 use Rattle.tsp_slave.proofs.election.answer_candidate.Goals as goal
 
 pub returns-then-may_back-clause-row : goal.returns-then-may_back-clause-row
@@ -19,3 +20,9 @@ unfolding election_of
 returns-else-may_back-clause-row g c =
     Performs_else_part (may_back_at c.args.from) (puts (Back c.args.from) followed_by (arms_elect followed_by posts c.args.from Accept c.args.number))
     (λ past s. let h = s.hold in cc) (c.post-else-may_back.ensures.row c.args.tick)
+
+pub returns-then-may_back-clause-room : goal.returns-then-may_back-clause-room
+returns-then-may_back-clause-room g c = at_most 3 0 (both 2 1 (both 1 1 c.back.ensures.room c.arm_elect.ensures.room) c.post.ensures.room)
+
+pub returns-else-may_back-clause-room : goal.returns-else-may_back-clause-room
+returns-else-may_back-clause-room g c = at_most 1 2 c.post-else-may_back.ensures.room

@@ -7,6 +7,7 @@ use Rattle.tsp_base.proofs.PerformsLemmas.{Performs_then_part, Performs_else_par
 use Rattle.tsp_rules.specs.SlaveRows.{loosens}
 use Rattle.tsp_rules.specs.Guards.{follows_at}
 use Rattle.tsp_rules.proofs.RowsOther.{is_follow-other}
+use Rattle.tsp_slave.proofs.RoomLemmas.{at_most}
 use Rattle.tsp_slave.proofs.ring.loosen.Goals as goal
 
 pub returns-in-Follow-clause-row : goal.returns-in-Follow-clause-row
@@ -19,3 +20,6 @@ unfolding loosens
 returns-in_default-clause-row g c x =
     let h = is_follow-other _ c.in_default.not-Follow in
     Performs_else_part follows_at (puts (Become Loose)) (λ past s. rw (← s.role) h) Performs_nothing
+
+pub returns-in-Follow-clause-room : goal.returns-in-Follow-clause-room
+returns-in-Follow-clause-room g c = at_most 1 0 c.become_role.ensures.room

@@ -1,6 +1,6 @@
 -- In time it searches, since it doesn't stand; late it waits again.
 use Rattle.std.specs.Prelude.{◌≡◌, ◌&&◌, false}
-use Rattle.std.proofs.Common.{sym, ◌∙◌}
+use Rattle.std.proofs.Common.{sym, ◌∙◌, length, refl}
 use Rattle.tsp_base.specs.declared.act.Act.TheVariants.{Ring, Late}
 use Rattle.tsp_base.specs.declared.alarm.Alarm.TheVariants.{Elect}
 use Rattle.tsp_base.specs.Hold.{may_stand}
@@ -10,6 +10,7 @@ use Rattle.tsp_rules.specs.CommonRows.{arms_elect, searches, candidature_row}
 use Rattle.tsp_rules.specs.SlaveRows.{elect_rings, loosens}
 use Rattle.tsp_rules.specs.Guards.{is_in_time, may_stand_at}
 use Rattle.tsp_slave.proofs.RowCases.{may_stand-is, stays_in_time}
+use Rattle.tsp_slave.proofs.RoomLemmas.{beside_peers, both}
 use Rattle.tsp_slave.proofs.ring.miss_master.Goals as goal
 
 pub returns-then-is_in_time-clause-row : goal.returns-then-is_in_time-clause-row
@@ -26,3 +27,6 @@ unfolding elect_rings
 returns-else-is_in_time-clause-row g c =
     Performs_else_part (is_in_time Elect) (puts (Ring Elect) followed_by either_by may_stand_at candidature_row (loosens followed_by searches)) (λ past s. let a = s.alarms in cc)
     (Performs_then (c.late.ensures.row c.args.tick) c.arm_elect.ensures.row)
+
+pub returns-else-is_in_time-clause-room : goal.returns-else-is_in_time-clause-room
+returns-else-is_in_time-clause-room g c = beside_peers (length c.args.station.now.peers) 2 3 1 refl (both 1 1 c.late.ensures.room c.arm_elect.ensures.room)

@@ -1,7 +1,9 @@
 -- Each alarm has its row.
+use Rattle.std.proofs.Common.{length, refl}
 use Rattle.tsp_base.proofs.PerformsLemmas.{Performs_nothing}
 use Rattle.tsp_slave.specs.SlaveAlarms.{slave_rings}
 use Rattle.tsp_slave.proofs.RowCases.{slave_rings-other}
+use Rattle.tsp_slave.proofs.RoomLemmas.{beside_peers}
 use Rattle.tsp_slave.proofs.ring.slave_ring.Goals as goal
 
 pub returns-in-Quiet-clause-row : goal.returns-in-Quiet-clause-row
@@ -18,3 +20,6 @@ returns-in-Elect-clause-row g c = rw c.in-Elect.is c.miss_master.ensures.row
 
 pub returns-in_default-clause-row : goal.returns-in_default-clause-row
 returns-in_default-clause-row g c = rw (slave_rings-other _ c.in_default.not-Quiet c.in_default.not-Search c.in_default.not-Elect) Performs_nothing
+
+pub returns-in-Search-clause-room : goal.returns-in-Search-clause-room
+returns-in-Search-clause-room g c = beside_peers (length c.args.station.now.peers) 2 3 1 refl c.end_search.ensures.room

@@ -12,6 +12,7 @@ use Rattle.tsp_rules.specs.Guards.{role_at, is_armed}
 use Rattle.tsp_acks.proofs.FollowLemmas.{followed-Contains}
 use Rattle.tsp_rules.proofs.RowsOther.{masterack_in-other}
 use Rattle.tsp_slave.proofs.SlaveLemmas.{AlsoStands_reports_conflict, Performs_since_taken}
+use Rattle.tsp_slave.proofs.RoomLemmas.{at_most, more_room}
 use Rattle.tsp_slave.proofs.take.find_master.Goals as goal
 
 pub report_conflict-requires-clause-peer : goal.report_conflict-requires-clause-peer
@@ -47,3 +48,9 @@ pub returns-in_default-clause-row : goal.returns-in_default-clause-row
 returns-in_default-clause-row g c took e =
     Performs_reading role_at (masterack_in c.args.from) c.args.station.now.role (λ past h. let r = h.station.role in cc)
     (rw (masterack_in-other c.args.from _ c.in_default.not-Loose c.in_default.not-Follow) Performs_nothing)
+
+pub returns-then-is_some-clause-room : goal.returns-then-is_some-clause-room
+returns-then-is_some-clause-room g c = at_most 3 0 c.follow.ensures.room
+
+pub returns-then-q-from-clause-room : goal.returns-then-q-from-clause-room
+returns-then-q-from-clause-room g c = more_room 1 2 c.report_conflict.ensures.room

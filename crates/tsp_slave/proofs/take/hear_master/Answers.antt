@@ -10,6 +10,7 @@ use Rattle.tsp_acks.proofs.FollowLemmas.{followed-Contains}
 use Rattle.tsp_rules.proofs.RowsOther.{masterup_in-other}
 use Rattle.tsp_slave.proofs.BesideLemmas.{Performs_station}
 use Rattle.tsp_slave.proofs.SlaveLemmas.{AlsoStands_arms_elect, AlsoStands_reports_conflict, Performs_since_taken}
+use Rattle.tsp_slave.proofs.RoomLemmas.{at_most, both, more_room}
 use Rattle.tsp_slave.proofs.take.hear_master.Goals as goal
 
 pub report_conflict-requires-clause-peer : goal.report_conflict-requires-clause-peer
@@ -38,3 +39,12 @@ pub returns-in_default-clause-row : goal.returns-in_default-clause-row
 returns-in_default-clause-row g c took e =
     Performs_reading role_at (masterup_in c.args.from) c.args.station.now.role (λ past h. let r = h.station.role in cc)
     (rw (masterup_in-other c.args.from _ c.in_default.not-Loose c.in_default.not-Follow) Performs_nothing)
+
+pub returns-in-Loose-clause-room : goal.returns-in-Loose-clause-room
+returns-in-Loose-clause-room g c = at_most 3 0 c.follow.ensures.room
+
+pub returns-then-q-from-clause-room : goal.returns-then-q-from-clause-room
+returns-then-q-from-clause-room g c = at_most 2 1 (both 1 1 c.arm_elect.ensures.room c.tell_ticket.ensures.room)
+
+pub returns-else-q-from-clause-room : goal.returns-else-q-from-clause-room
+returns-else-q-from-clause-room g c = more_room 1 2 c.report_conflict.ensures.room

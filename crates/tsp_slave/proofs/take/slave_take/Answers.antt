@@ -10,6 +10,7 @@ use Rattle.tsp_rules.proofs.RowsOther.{slave_takes_kind-other}
 use Rattle.tsp_slave.proofs.BesideLemmas.{Performs_station}
 use Rattle.tsp_slave.proofs.RowCases.{is_correction-either, slave_takes_kind-correction}
 use Rattle.tsp_slave.proofs.SlaveLemmas.{AlsoStands_election_of, AlsoStands_acknowledges}
+use Rattle.tsp_slave.proofs.RoomLemmas.{at_most_once, more_room}
 use Rattle.tsp_slave.proofs.take.slave_take.Goals as goal
 
 pub returns-in-MasterUp-clause-row : goal.returns-in-MasterUp-clause-row
@@ -66,3 +67,18 @@ returns-in_default-clause-row g c took e =
     ap (slave_takes_kind c.args.from m) (sym c.kind.ensures)
     ∙ slave_takes_kind-other c.args.from m c.kind.result o.not-MasterUp o.not-MasterAck o.not-Election o.not-AdjTime o.not-SetTime o.not-Quit o.not-Ack in
     rw k Performs_nothing
+
+pub returns-in-MasterUp-clause-room : goal.returns-in-MasterUp-clause-room
+returns-in-MasterUp-clause-room g c = more_room 3 2 c.hear_master.ensures.room
+
+pub returns-in-MasterAck-clause-room : goal.returns-in-MasterAck-clause-room
+returns-in-MasterAck-clause-room g c = more_room 3 2 c.find_master.ensures.room
+
+pub returns-in-Election-clause-room : goal.returns-in-Election-clause-room
+returns-in-Election-clause-room g c = more_room 3 2 c.answer_candidate.ensures.room
+
+pub returns-in-AdjTime-clause-room : goal.returns-in-AdjTime-clause-room
+returns-in-AdjTime-clause-room g c = more_room 3 2 c.take_correction.ensures.room
+
+pub returns-in-Ack-clause-room : goal.returns-in-Ack-clause-room
+returns-in-Ack-clause-room g c = at_most_once c.acknowledge.result 4 c.acknowledge.ensures.room

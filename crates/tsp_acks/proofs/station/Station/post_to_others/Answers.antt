@@ -1,7 +1,8 @@
 -- All peers were gone through, and posts change nothing of the station.
-use Rattle.std.proofs.Common.{◌≡◌, ap, length, take, map, arith}
+use Rattle.std.proofs.Common.{◌≡◌, ◌≤◌, ap, subst, length, take, map, arith}
 use Rattle.std.proofs.lemmas.List.{take_all}
 use Rattle.tsp_base.specs.Rows.{posts_to_others, post_of, others}
+use Rattle.tsp_base.proofs.FrameLemmas.{PutsAtMost_up}
 use Rattle.tsp_acks.proofs.PostLemmas.{is_plain_once}
 use Rattle.tsp_acks.proofs.StandsLemmas.{Stands-posts}
 use Rattle.tsp_acks.proofs.station.Station.post_to_others.Goals as goal
@@ -19,3 +20,8 @@ returns-clause-row g c x =
           let e : posts_to_others c.args.kind c.args.number x past ≡ map (post_of c.args.kind c.args.number st.me.name) (others st.me.own st.peers) = cc in
           rw e (Stands-posts c.args.kind c.args.number st.me.name (others st.me.own st.peers) x past st (is_plain_once _ c.requires.plain) s);
     }
+
+pub returns-clause-room : goal.returns-clause-room
+returns-clause-room g c =
+    let n = c.loop-p.p-index in
+    PutsAtMost_up n (length c.args.self.now.peers) (subst (λ l. n ≤ length l) c.as_slice-p-items.ensures.value c.loop-p.auto.p-index-end) c.loop-p.invariant.room

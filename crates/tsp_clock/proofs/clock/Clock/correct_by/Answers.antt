@@ -1,8 +1,9 @@
 -- The act tells what is shown right after.
 use Rattle.std.specs.Prelude.{if◌then◌else◌}
-use Rattle.std.proofs.Common.{rules, ◌≡◌, refl, ◌∙◌, ap, ◌+ℤ◌, SFits, w64, to_z, of_z, to_z-of_z}
+use Rattle.std.proofs.Common.{rules, ◌≡◌, refl, ◌∙◌, ap, ◌+ℤ◌, SFits, w64, to_z, of_z, to_z-of_z, le_refl}
 use Rattle.tsp_base.specs.History.{plain}
 use Rattle.tsp_base.specs.NodeFacts.{target, shown}
+use Rattle.tsp_base.proofs.FrameLemmas.{PutsExactly_put}
 use Rattle.tsp_rules.specs.ClockRows.{adjusts, is_step}
 use Rattle.tsp_clock.specs.Clocks.{target_of, shown_of, adjusted}
 use Rattle.tsp_clock.proofs.ClockLemmas.{Stands_adjusts, shown_adjusted}
@@ -31,3 +32,19 @@ returns-clause-row g c =
           rw (back, stepped, shown_back, is, told) at put;
       stands = λ past h. rw clock (Stands_adjusts amount x past now h);
     }
+
+pub adjust_in_range-stepped-requires-clause-range : goal.adjust_in_range-stepped-requires-clause-range
+adjust_in_range-stepped-requires-clause-range g c =
+    let back : to_z w64 (of_z w64 c.args.amount) ≡ c.args.amount = to_z-of_z c.ranges.amount in
+    rw back c.requires.range
+
+pub shown-shown-requires-clause-later : goal.shown-shown-requires-clause-later
+shown-shown-requires-clause-later g c = rw c.adjust_in_range-stepped.ensures.clock (le_refl c.args.tick)
+
+pub returns-clause-clock : goal.returns-clause-clock
+returns-clause-clock g c =
+    let back : to_z w64 (of_z w64 c.args.amount) ≡ c.args.amount = to_z-of_z c.ranges.amount in
+    rw back at c.adjust_in_range-stepped.ensures.clock
+
+pub returns-clause-room : goal.returns-clause-room
+returns-clause-room g c = PutsExactly_put _ c.put.ensures.spare c.put.ensures.acts

@@ -2,6 +2,7 @@
 use Rattle.std.proofs.Common.{rules, ◌≡◌, ap, pos, ◌+ℤ◌, ◌-ℤ◌, SFits, w64, to_z, of_z, to_z-of_z}
 use Rattle.tsp_base.specs.History.{plain}
 use Rattle.tsp_base.specs.NodeFacts.{target}
+use Rattle.tsp_base.proofs.FrameLemmas.{PutsExactly_put}
 use Rattle.tsp_rules.specs.ClockRows.{sets}
 use Rattle.tsp_clock.specs.Clocks.{target_of}
 use Rattle.tsp_clock.proofs.ClockLemmas.{Stands_sets}
@@ -24,3 +25,16 @@ returns-clause-row g c =
           rw (back, is, t, value) at put;
       stands = λ past h. rw (rw value at clock) (Stands_sets c.args.value c.args.tick past now h);
     }
+
+pub set_in_range-amount-requires-clause-range : goal.set_in_range-amount-requires-clause-range
+set_in_range-amount-requires-clause-range g c =
+    let value : to_z w64 (of_z w64 c.args.value) ≡ c.args.value = to_z-of_z c.ranges.value in
+    rw value c.requires.range
+
+pub returns-clause-clock : goal.returns-clause-clock
+returns-clause-clock g c =
+    let value : to_z w64 (of_z w64 c.args.value) ≡ c.args.value = to_z-of_z c.ranges.value in
+    rw value at c.set_in_range-amount.ensures.clock
+
+pub returns-clause-room : goal.returns-clause-room
+returns-clause-room g c = PutsExactly_put _ c.put.ensures.spare c.put.ensures.acts

@@ -4,6 +4,7 @@ use Rattle.tsp_base.specs.SendFacts.{is_correction}
 use Rattle.tsp_sends.specs.Slots.{kind_of, sending_to}
 use Rattle.tsp_acks.specs.Openings.{is_of}
 use Rattle.tsp_master.proofs.TakeLemmas.{MasterStands_acknowledges}
+use Rattle.tsp_master.proofs.RoomLemmas.{at_most_once}
 use Rattle.tsp_master.proofs.master.Master.acknowledge.Goals as goal
 
 pub returns-clause-row : goal.returns-clause-row
@@ -18,3 +19,6 @@ returns-clause-row g c x =
         station = (c.acknowledge-ended.ensures.row x).stands past h.station;
       };
     }
+
+pub returns-clause-room : goal.returns-clause-room
+returns-clause-room g c = at_most_once c.acknowledge-ended.result c.acknowledge-ended.ensures.room

@@ -11,6 +11,7 @@ use Rattle.tsp_acks.proofs.ActingLemmas.{Performs_acting}
 use Rattle.tsp_master.specs.MasterStands.{LeadStands, ProbesStands}
 use Rattle.tsp_master.proofs.LeadLemmas.{Performs_lead_by}
 use Rattle.tsp_master.proofs.PhaseLemmas.{MasterStands_arms_probe, no_more}
+use Rattle.tsp_master.proofs.RoomLemmas.{once}
 use Rattle.tsp_master.proofs.master.Master.arm_next.Goals as goal
 
 pub returns-then-probes-lt-PROBES-clause-row : goal.returns-then-probes-lt-PROBES-clause-row
@@ -26,3 +27,6 @@ unfolding arms_next
 returns-else-probes-lt-PROBES-clause-row g c clock =
     Performs_else_part has_more (arms Probe PROBE) (λ past h. let r = h.stands.master.going h.goes in no_more _ (omega (arith, r.probes_is, c.probes.ensures, c.if-probes-lt-PROBES.false)))
     (Performs_to (λ past h. h.stands) (Performs_nothing {p = ProbesStands c.args.tick}))
+
+pub returns-then-probes-lt-PROBES-clause-room : goal.returns-then-probes-lt-PROBES-clause-room
+returns-then-probes-lt-PROBES-clause-room g c = once 0 0 c.arm.ensures.room

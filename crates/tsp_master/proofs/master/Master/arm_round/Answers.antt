@@ -8,6 +8,7 @@ use Rattle.tsp_rules.proofs.Emits.{Emits_arms, Emits_then}
 use Rattle.tsp_acks.proofs.ActingLemmas.{Performs_acting}
 use Rattle.tsp_master.proofs.LeadLemmas.{Performs_lead_by}
 use Rattle.tsp_master.proofs.PhaseLemmas.{MasterStands_begins_round}
+use Rattle.tsp_master.proofs.RoomLemmas.{twice}
 use Rattle.tsp_master.proofs.master.Master.arm_round.Goals as goal
 
 pub returns-clause-row : goal.returns-clause-row
@@ -17,3 +18,6 @@ returns-clause-row g c clock =
     (λ past h. MasterStands_begins_round c.args.tick past _ _ c.unmeasure_all.ensures.entries c.unmeasure_all.ensures.peers c.begin.ensures.nothing c.begin.ensures.asked c.begin.ensures.probes h.master)
     (λ past h k. record { stands = k; goes = refl; starts = refl })
     (Performs_then (Performs_acting c.arm.ensures.row) (Performs_acting c.arm-2.ensures.row))
+
+pub returns-clause-room : goal.returns-clause-room
+returns-clause-room g c = twice 0 0 c.arm.ensures.room c.arm-2.ensures.room

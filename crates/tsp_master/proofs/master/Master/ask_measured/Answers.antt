@@ -1,10 +1,11 @@
 -- One measured peer after the other is asked.
 use Rattle.std.specs.Prelude.{◌≡◌, ◌+◌, ◌*◌, ◌<◌, ◌∷◌, [], ◌++◌, length, take, true, false}
-use Rattle.std.proofs.Common.{get_or, refl, ◌∙◌, ap, arith}
+use Rattle.std.proofs.Common.{get_or, refl, ◌∙◌, ap, arith, subst, ◌≤◌}
 use Rattle.std.proofs.lemmas.List.{take_all}
 use Rattle.tsp_base.specs.declared.place.PeerId.{PeerId}
 use Rattle.tsp_base.specs.Rows.{for_each}
 use Rattle.tsp_base.proofs.PerformsLemmas.{Performs_each_more, Performs_nothing, Performs_reading}
+use Rattle.tsp_base.proofs.FrameLemmas.{PutsAtMost_up}
 use Rattle.tsp_rules.specs.RoundRows.{asks, asks_measured, measured_at}
 use Rattle.tsp_acks.specs.Peers.{IsPeers}
 use Rattle.tsp_master.specs.declared.entry.Entry.{Entry}
@@ -73,3 +74,6 @@ returns-clause-row g c =
     let all : take n ps ≡ ps = take_all n ps (omega (arith, c.loop-place-test.false, c.len-place-end.ensures.value)) in
     Performs_reading measured_at (for_each asks) (measured_of m.slaves ps) (λ past h. measured-is c.args.tick past m h.stands.master)
     (rw all at c.loop-place.invariant.row)
+
+pub returns-clause-room : goal.returns-clause-room
+returns-clause-room g c = PutsAtMost_up c.loop-place.place (length (peers_of c.args.self.now.slaves)) (subst (λ l. c.loop-place.place ≤ l) c.len-place-end.ensures.value c.loop-place.auto.place-end) c.loop-place.invariant.room

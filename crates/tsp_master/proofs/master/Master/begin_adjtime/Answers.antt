@@ -7,6 +7,7 @@ use Rattle.tsp_rules.specs.SendRows.{begins_adjtime, may_correct}
 use Rattle.tsp_rules.proofs.Emits.{Emits_posts_time}
 use Rattle.tsp_master.proofs.LeadLemmas.{Performs_lead}
 use Rattle.tsp_master.proofs.TableLemmas.{MasterStands_begins, may_correct-is}
+use Rattle.tsp_master.proofs.RoomLemmas.{once}
 use Rattle.tsp_master.proofs.master.Master.begin_adjtime.Goals as goal
 
 pub returns-then-may_correct-clause-row : goal.returns-then-may_correct-clause-row
@@ -21,3 +22,6 @@ pub returns-else-may_correct-clause-row : goal.returns-else-may_correct-clause-r
 unfolding begins_adjtime
 returns-else-may_correct-clause-row g c clock =
     Performs_else_part (may_correct c.args.peer c.args.number) (posts_time c.args.peer AdjTime c.args.number c.args.amount) (λ past h. may_correct-is c.args.peer c.args.number c.args.at.tick past _ _ h.master c.of.ensures ∙ sym c.may_correct.ensures ∙ c.if-may_correct.false) Performs_nothing
+
+pub returns-then-may_correct-clause-room : goal.returns-then-may_correct-clause-room
+returns-then-may_correct-clause-room g c = once 0 0 c.begin_correction.ensures.room

@@ -8,6 +8,7 @@ use Rattle.tsp_rules.specs.Guards.{target_at}
 use Rattle.tsp_rules.proofs.Emits.{Emits_posts_time}
 use Rattle.tsp_master.proofs.LeadLemmas.{Performs_lead}
 use Rattle.tsp_master.proofs.TableLemmas.{MasterStands_begins, may_set-is, may_set-none, target-is}
+use Rattle.tsp_master.proofs.RoomLemmas.{once}
 use Rattle.tsp_master.proofs.master.Master.begin_settime.Goals as goal
 
 pub returns-then-may_correct-clause-row : goal.returns-then-may_correct-clause-row
@@ -31,3 +32,6 @@ unfolding begins_settime
 returns-in-None-clause-row g c =
     Performs_else_part (may_set c.args.peer c.args.number) (reading target_at (posts_time c.args.peer SetTime c.args.number))
     (λ past h. may_set-none c.args.peer c.args.number c.args.at.tick past c.args.clock.now h.clock (sym c.in-None.ensures.range)) Performs_nothing
+
+pub returns-then-may_correct-clause-room : goal.returns-then-may_correct-clause-room
+returns-then-may_correct-clause-room g c = once 0 0 c.begin_correction.ensures.room

@@ -1,8 +1,9 @@
 -- The group, the test, and then one act after the other.
-use Rattle.std.proofs.Common.{◌≡◌, ◌+ℤ◌, true, false, refl, sym, ◌∙◌, ap, w64, to_z, of_z, to_z-of_z, SFits, rules}
+use Rattle.std.proofs.Common.{◌≡◌, ◌+ℤ◌, true, false, refl, sym, ◌∙◌, ap, w64, to_z, of_z, to_z-of_z, SFits, rules, length}
 use Rattle.tsp_base.specs.declared.act.Act.TheVariants.{Abandon, Close as CloseAct}
 use Rattle.tsp_base.specs.Rows.{for_each, puts, ◌followed_by◌}
 use Rattle.tsp_base.proofs.PerformsLemmas.{Performs_else_part, Performs_from, Performs_then, Performs_then_part}
+use Rattle.tsp_base.proofs.FrameLemmas.{PutsExactly_put}
 use Rattle.tsp_rules.specs.ClockRows.{can_adjust}
 use Rattle.tsp_rules.specs.RoundRows.{abandons, close_act, closes_with, corrects, corrects_peer, mean_by, moves}
 use Rattle.tsp_rules.specs.Guards.{is_clock_value}
@@ -15,6 +16,7 @@ use Rattle.tsp_master.proofs.CloseLemmas.{closes_same, corrects-closes, each_sam
 use Rattle.tsp_master.proofs.LeadLemmas.{Performs_idle, Performs_lead, Performs_quiet}
 use Rattle.tsp_master.proofs.RoundLemmas.{MasterStands_abandon}
 use Rattle.tsp_master.proofs.TableLemmas.{MasterStands_same, target-is}
+use Rattle.tsp_master.proofs.RoomLemmas.{once, put_then}
 use Rattle.tsp_master.proofs.master.Master.close.Goals as goal
 
 pub returns-then-not-can_adjust-clause-row : goal.returns-then-not-can_adjust-clause-row
@@ -90,3 +92,11 @@ returns-clause-corrects g c past h =
     let test = rw back at c.can_adjust.ensures in
     sym (ap (λ j. corrects (closes_with own j round x past)) (sym c.group-group.ensures.group)
     ∙ corrects-closes own k round x past true (ap (λ z. can_adjust z x past) (sym is) ∙ ap (λ t. is_clock_value (t +ℤ mean)) (target-is x past c.args.clock.now h.clock) ∙ sym test ∙ c.if-not-can_adjust.false))
+
+pub returns-then-not-can_adjust-clause-room : goal.returns-then-not-can_adjust-clause-room
+returns-then-not-can_adjust-clause-room g c = once (length (peers_of c.args.self.now.slaves)) 1 c.abandon.ensures.room
+
+pub returns-clause-room : goal.returns-clause-room
+returns-clause-room g c =
+    let each = rw (ap peers_of c.group-group.ensures.slaves) at c.correct_each.ensures.room in
+    put_then (length (peers_of c.args.self.now.slaves)) (PutsExactly_put _ c.put.ensures.spare c.put.ensures.acts) c.move_own.ensures.room each

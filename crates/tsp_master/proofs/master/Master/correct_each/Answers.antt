@@ -1,10 +1,11 @@
 -- One measured peer after the other is corrected.
 use Rattle.std.specs.Prelude.{◌≡◌, ◌+◌, ◌<◌, ◌∷◌, [], ◌++◌, length, take, true, false}
-use Rattle.std.proofs.Common.{get_or, refl, sym, ◌∙◌, ap, arith, w64, to_z, of_z, to_z-of_z}
+use Rattle.std.proofs.Common.{get_or, refl, sym, ◌∙◌, ap, arith, w64, to_z, of_z, to_z-of_z, subst, ◌≤◌}
 use Rattle.std.proofs.lemmas.List.{take_all}
 use Rattle.tsp_base.specs.declared.place.PeerId.{PeerId}
 use Rattle.tsp_base.specs.Rows.{for_each}
 use Rattle.tsp_base.proofs.PerformsLemmas.{Performs_each_more, Performs_nothing}
+use Rattle.tsp_base.proofs.FrameLemmas.{PutsAtMost_up}
 use Rattle.tsp_rules.specs.RoundRows.{corrects_peer}
 use Rattle.tsp_acks.specs.Peers.{IsPeers}
 use Rattle.tsp_master.specs.declared.entry.Entry.{Entry}
@@ -72,3 +73,6 @@ returns-clause-row g c =
     let all : take n ps ≡ ps = take_all n ps (omega (arith, c.loop-place-test.false, c.len-place-end.ensures.value)) in
     let back : to_z w64 (of_z w64 c.args.mean) ≡ c.args.mean = to_z-of_z c.ranges.mean in
     rw (all, back) at c.loop-place.invariant.row
+
+pub returns-clause-room : goal.returns-clause-room
+returns-clause-room g c = PutsAtMost_up c.loop-place.place (length (peers_of c.args.self.now.slaves)) (subst (λ l. c.loop-place.place ≤ l) c.len-place-end.ensures.value c.loop-place.auto.place-end) c.loop-place.invariant.room

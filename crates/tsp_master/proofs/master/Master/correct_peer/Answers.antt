@@ -10,6 +10,7 @@ use Rattle.tsp_master.specs.Closing.{estimate_with}
 use Rattle.tsp_master.specs.Rounds.{estimate_in, measured_with}
 use Rattle.tsp_master.proofs.CloseLemmas.{MasterStands_leaves, estimate-sample}
 use Rattle.tsp_master.proofs.LeadLemmas.{Performs_idle, Performs_lead}
+use Rattle.tsp_master.proofs.RoomLemmas.{put_once}
 use Rattle.tsp_master.proofs.master.Master.correct_peer.Goals as goal
 
 pub returns-in-None-clause-row : goal.returns-in-None-clause-row
@@ -41,3 +42,6 @@ returns-else-is_near-clause-row g c =
     let back : to_z w64 (of_z w64 diff) ≡ diff = to_z-of_z fits in
     let far : is_near diff ≡ false = rw back at (sym c.is_near.ensures ∙ c.if-is_near.false) in
     rw (is, far) c.begin_settime.ensures.row
+
+pub returns-in-None-clause-room : goal.returns-in-None-clause-room
+returns-in-None-clause-room g c = put_once 0 0 _ c.put.ensures.spare c.put.ensures.acts

@@ -3,11 +3,13 @@ use Rattle.std.proofs.Common.{sym, ◌∙◌, refl}
 use Rattle.tsp_base.specs.declared.act.Act.TheVariants.{Join}
 use Rattle.tsp_base.specs.Rows.{nothing, puts, ◌followed_by◌}
 use Rattle.tsp_base.proofs.PerformsLemmas.{Performs_then, Performs_then_part, Performs_else_part, Performs_nothing}
+use Rattle.tsp_base.proofs.FrameLemmas.{PutsExactly_put}
 use Rattle.tsp_rules.specs.MasterRows.{joins, may_join}
 use Rattle.tsp_rules.specs.SendRows.{begins_settime}
 use Rattle.tsp_rules.proofs.Emits.{Emits_puts}
 use Rattle.tsp_master.proofs.LeadLemmas.{Performs_idle, Performs_lead}
 use Rattle.tsp_master.proofs.TakeLemmas.{MasterStands_joins, may_join-is}
+use Rattle.tsp_master.proofs.RoomLemmas.{once_then}
 use Rattle.tsp_master.proofs.master.Master.join.Goals as goal
 
 pub returns-then-may_join-clause-row : goal.returns-then-may_join-clause-row
@@ -25,3 +27,6 @@ unfolding joins
 returns-else-may_join-clause-row g c =
     Performs_else_part (may_join c.args.peer c.args.number) (puts (Join c.args.peer) followed_by begins_settime c.args.peer c.args.number)
     (λ past h. may_join-is c.args.peer c.args.number c.args.at.tick past _ h.master ∙ sym c.may_join.ensures ∙ c.if-may_join.false) Performs_nothing
+
+pub returns-then-may_join-clause-room : goal.returns-then-may_join-clause-room
+returns-then-may_join-clause-room g c = once_then 0 1 (PutsExactly_put _ c.put.ensures.spare c.put.ensures.acts) c.begin_settime.ensures.room

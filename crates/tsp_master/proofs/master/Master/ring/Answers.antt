@@ -1,5 +1,5 @@
 -- Each alarm has its row.
-use Rattle.std.proofs.Common.{sym, ◌∙◌, ap}
+use Rattle.std.proofs.Common.{sym, ◌∙◌, ap, length, refl}
 use Rattle.tsp_base.specs.Alarms.{Deadlines}
 use Rattle.tsp_base.proofs.PerformsLemmas.{Performs_nothing, Performs_to}
 use Rattle.tsp_rules.specs.Guards.{is_over}
@@ -9,6 +9,8 @@ use Rattle.tsp_master.proofs.LeadLemmas.{rings_stand}
 use Rattle.tsp_master.proofs.RingCases.{master_rings-other, nothing-corrects}
 use Rattle.tsp_master.proofs.SinceLemmas.{since_correct}
 use Rattle.tsp_master.proofs.StillLemmas.{probe-corrects, round-corrects}
+use Rattle.tsp_master.proofs.RoomLemmas.{doubled}
+use Rattle.tsp_master.specs.Slaves.{peers_of}
 use Rattle.tsp_master.proofs.master.Master.ring.Goals as goal
 
 pub returns-in-Probe-clause-row : goal.returns-in-Probe-clause-row
@@ -44,3 +46,9 @@ returns-in_default-clause-corrects g c past h = rw (master_rings-other c.args.gr
 pub returns-in-Close-clause-recent : goal.returns-in-Close-clause-recent
 returns-in-Close-clause-recent g c e past h alone p s b =
     since_correct past c.args.self.now p s h.master (goes_where c.args.tick past (ap (λ (d : Deadlines). is_over d.close c.args.tick) (sym h.station.alarms) ∙ rw e at c.requires.due)) alone b
+
+pub returns-in-Probe-clause-room : goal.returns-in-Probe-clause-room
+returns-in-Probe-clause-room g c = doubled (length (peers_of c.args.self.now.slaves)) 2 4 2 refl c.ring_probe.ensures.room
+
+pub returns-in-Close-clause-room : goal.returns-in-Close-clause-room
+returns-in-Close-clause-room g c = doubled (length (peers_of c.args.self.now.slaves)) 3 4 1 refl c.ring_close.ensures.room

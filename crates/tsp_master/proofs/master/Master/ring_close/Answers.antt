@@ -1,5 +1,5 @@
 -- In time the round closes, late it is given up.
-use Rattle.std.proofs.Common.{◌≡◌, false, true, refl, sym, ◌∙◌, ap}
+use Rattle.std.proofs.Common.{◌≡◌, false, true, refl, sym, ◌∙◌, ap, length}
 use Rattle.tsp_base.specs.declared.act.Act.TheVariants.{Ring, Late, Abandon}
 use Rattle.tsp_base.specs.declared.alarm.Alarm.TheVariants.{Close}
 use Rattle.tsp_base.specs.Alarms.{Deadlines}
@@ -14,6 +14,8 @@ use Rattle.tsp_master.proofs.CloseLemmas.{goes_where, no_probe, round-is}
 use Rattle.tsp_master.specs.MasterStands.{LeadStands}
 use Rattle.tsp_master.proofs.LeadLemmas.{Performs_lead, Performs_rung}
 use Rattle.tsp_master.proofs.RoundLemmas.{MasterStands_abandon, MasterStands_late_close, MasterStands_ring_close}
+use Rattle.tsp_master.proofs.RoomLemmas.{once_then, twice}
+use Rattle.tsp_master.specs.Slaves.{peers_of}
 use Rattle.tsp_master.proofs.master.Master.ring_close.Goals as goal
 
 pub returns-then-not-is_in_time-clause-row : goal.returns-then-not-is_in_time-clause-row
@@ -58,3 +60,9 @@ returns-clause-corrects g c past h =
     rw (timely, round) (c.close.ensures.corrects _
     ((Performs_rung {Q = LeadStands} (Ring Close) m m c.args.clock.now refl (λ q. refl) (λ q k. MasterStands_ring_close x q m (no_probe x q m (ap (λ (d : Deadlines). is_over d.probe x) (sym k.station.alarms) ∙ c.requires.order) (ap (λ (d : Deadlines). is_over d.close x) (sym k.station.alarms) ∙ c.requires.due) k.master) k.master)
     (λ q k l. l) (c.ring.ensures.row x)).stands past h))
+
+pub returns-then-not-is_in_time-clause-room : goal.returns-then-not-is_in_time-clause-room
+returns-then-not-is_in_time-clause-room g c = twice (length (peers_of c.args.self.now.slaves)) 1 c.late.ensures.room c.abandon.ensures.room
+
+pub returns-clause-room : goal.returns-clause-room
+returns-clause-room g c = once_then (length (peers_of c.args.self.now.slaves)) 2 c.ring.ensures.room c.close.ensures.room

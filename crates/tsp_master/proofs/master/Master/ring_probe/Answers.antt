@@ -1,5 +1,5 @@
 -- In time the measured peers are asked again; late the round is given up.
-use Rattle.std.proofs.Common.{refl, sym, ◌∙◌, ap}
+use Rattle.std.proofs.Common.{refl, sym, ◌∙◌, ap, length}
 use Rattle.tsp_base.specs.declared.act.Act.TheVariants.{Ring, Late, Abandon}
 use Rattle.tsp_base.specs.declared.alarm.Alarm.TheVariants.{Probe}
 use Rattle.tsp_base.specs.Alarms.{Deadlines}
@@ -13,6 +13,8 @@ use Rattle.tsp_master.specs.MasterStands.{ProbesStands}
 use Rattle.tsp_master.proofs.LeadLemmas.{Performs_lead, Performs_rung}
 use Rattle.tsp_master.proofs.PhaseLemmas.{met-some, over-some, rings_early}
 use Rattle.tsp_master.proofs.RoundLemmas.{MasterStands_abandon, MasterStands_late_probe, MasterStands_ring_probe}
+use Rattle.tsp_master.proofs.RoomLemmas.{once, then_put, twice}
+use Rattle.tsp_master.specs.Slaves.{peers_of}
 use Rattle.tsp_master.proofs.master.Master.ring_probe.Goals as goal
 
 pub returns-then-not-is_in_time-clause-row : goal.returns-then-not-is_in_time-clause-row
@@ -38,3 +40,12 @@ returns-then-count_probe-clause-row g c =
     record { stands = k; goes = p.0; early = rings_early x due.0 past p low })
     (c.ring.ensures.row x))
     (Performs_then c.ask_measured.ensures.row (c.arm_next.ensures.row c.args.clock.now)))
+
+pub returns-then-not-is_in_time-clause-room : goal.returns-then-not-is_in_time-clause-room
+returns-then-not-is_in_time-clause-room g c = twice (length (peers_of c.args.self.now.slaves)) 0 c.late.ensures.room c.abandon.ensures.room
+
+pub returns-then-count_probe-clause-room : goal.returns-then-count_probe-clause-room
+returns-then-count_probe-clause-room g c = then_put (length (peers_of c.args.self.now.slaves)) c.ring.ensures.room c.ask_measured.ensures.room c.arm_next.ensures.room
+
+pub returns-else-count_probe-clause-room : goal.returns-else-count_probe-clause-room
+returns-else-count_probe-clause-room g c = once (length (peers_of c.args.self.now.slaves)) 1 c.ring.ensures.room

@@ -1,5 +1,5 @@
 -- In time a round begins; the next one is put off in any case.
-use Rattle.std.proofs.Common.{false, refl}
+use Rattle.std.proofs.Common.{false, refl, length, ◌*◌}
 use Rattle.tsp_base.specs.declared.act.Act.TheVariants.{Ring, Late}
 use Rattle.tsp_base.specs.declared.alarm.Alarm.TheVariants.{Round}
 use Rattle.tsp_base.specs.declared.constants.TheConstants.{ROUND}
@@ -11,6 +11,8 @@ use Rattle.tsp_rules.proofs.Emits.{Emits_arms}
 use Rattle.tsp_acks.proofs.ActingLemmas.{Performs_acting}
 use Rattle.tsp_master.proofs.LeadLemmas.{Performs_quiet, Performs_rung}
 use Rattle.tsp_master.proofs.TableLemmas.{MasterStands_quiet}
+use Rattle.tsp_master.proofs.RoomLemmas.{once_then, twice}
+use Rattle.tsp_master.specs.Slaves.{peers_of}
 use Rattle.tsp_master.proofs.master.Master.ring_round.Goals as goal
 
 pub returns-then-is_in_time-clause-row : goal.returns-then-is_in_time-clause-row
@@ -24,3 +26,9 @@ unfolding round_rings puts
 returns-else-is_in_time-clause-row g c =
     Performs_else_part (is_in_time Round) (puts (Ring Round) followed_by begins_or_waits false) (λ past h. let a = h.station.alarms in cc)
     (Performs_then (Performs_rung (Late Round) _ _ c.args.clock.now refl (λ past. refl) (λ past h. MasterStands_quiet (Late Round) refl c.args.tick past _ h.master) (λ past h k. k) (c.late.ensures.row c.args.tick)) (Performs_quiet _ c.args.clock.now (Emits_arms Round ROUND refl) (Performs_acting c.arm.ensures.row)))
+
+pub returns-then-is_in_time-clause-room : goal.returns-then-is_in_time-clause-room
+returns-then-is_in_time-clause-room g c = once_then (2 * length (peers_of c.args.self.now.slaves)) 3 c.ring.ensures.room c.begin_round.ensures.room
+
+pub returns-else-is_in_time-clause-room : goal.returns-else-is_in_time-clause-room
+returns-else-is_in_time-clause-room g c = twice (2 * length (peers_of c.args.self.now.slaves)) 2 c.late.ensures.room c.arm.ensures.room

@@ -1,6 +1,7 @@
 -- The exchange that the reply answers gives a sample; a reply to none gives nothing.
 use Rattle.std.proofs.Common.{◌≡◌, refl, w64, to_z, of_z, to_z-of_z, SFits, rules}
 use Rattle.tsp_master.proofs.ReplyLemmas.{Performs_missed, Performs_sample, all_stay}
+use Rattle.tsp_master.proofs.RoomLemmas.{put_once}
 use Rattle.tsp_master.proofs.master.Master.sample.Goals as goal
 
 pub returns-in-NotStarted-clause-row : goal.returns-in-NotStarted-clause-row
@@ -26,3 +27,6 @@ returns-in-Sample-clause-row g c station =
     let answered = rw (back_s, back_d, c.word.ensures, c.counter.ensures, c.ticket.ensures.value, c.reading.ensures) at r.replies in
     let put = rw (back_diff, back_err) at c.put.ensures.acts in
     Performs_sample c.args.peer c.args.reply.now d t _ _ station c.args.clock.now c.target-target.ensures.value r.apart answered r.others r.asked r.probes refl put
+
+pub returns-in-Sample-clause-room : goal.returns-in-Sample-clause-room
+returns-in-Sample-clause-room g c = put_once 0 0 _ c.put.ensures.spare c.put.ensures.acts

@@ -1,13 +1,15 @@
 -- Each kind has its row.
-use Rattle.std.proofs.Common.{◌≡◌, sym, ◌∙◌, ap, refl}
+use Rattle.std.proofs.Common.{◌≡◌, sym, ◌∙◌, ap, refl, le-add_right}
 use Rattle.tsp_base.specs.declared.kind.Kind.TheVariants.{MasterAck, SlaveUp, Election}
 use Rattle.tsp_base.specs.Rows.{nothing, posts}
 use Rattle.tsp_base.proofs.PerformsLemmas.{Performs_nothing}
+use Rattle.tsp_base.proofs.FrameLemmas.{PutsAtMost_up}
 use Rattle.tsp_rules.proofs.Emits.{Emits_posts}
 use Rattle.tsp_acks.proofs.ActingLemmas.{Performs_acting}
 use Rattle.tsp_master.specs.MasterTakes.{master_takes_here, master_takes_kind_here}
 use Rattle.tsp_master.proofs.LeadLemmas.{Performs_quiet}
 use Rattle.tsp_master.proofs.TakeLemmas.{emits_away, master_takes_kind_here-ask, master_takes_kind_here-other}
+use Rattle.tsp_master.proofs.RoomLemmas.{once}
 use Rattle.tsp_master.proofs.master.Master.take.Goals as goal
 
 pub returns-in-MasterReq-clause-row : goal.returns-in-MasterReq-clause-row
@@ -41,3 +43,9 @@ returns-in_default-clause-row g c =
     let k : master_takes_kind_here c.args.from m m.kind ≡ nothing =
     ap (master_takes_kind_here c.args.from m) (sym c.kind.ensures) ∙ master_takes_kind_here-other c.args.from m c.kind.result o.not-MasterReq o.not-Resolve o.not-SlaveUp o.not-Election in
     rw k Performs_nothing
+
+pub returns-in-MasterReq-clause-room : goal.returns-in-MasterReq-clause-room
+returns-in-MasterReq-clause-room g c = once 0 1 c.post.ensures.room
+
+pub returns-in-Election-clause-room : goal.returns-in-Election-clause-room
+returns-in-Election-clause-room g c = PutsAtMost_up 1 2 (le-add_right 1 1) c.send_away.ensures.room

@@ -1,0 +1,15 @@
+-- One post, which changes nothing of the station.
+use Rattle.tsp_base.proofs.FrameLemmas.{PutsExactly_put}
+use Rattle.tsp_acks.proofs.PostLemmas.{is_plain_fits}
+use Rattle.tsp_acks.proofs.PostedLemmas.{named, Performs_post_back}
+use Rattle.tsp_acks.proofs.station.Station.post_back.Goals as goal
+
+pub new-message-requires : goal.new-message-requires
+new-message-requires g c = is_plain_fits c.args.kind c.requires.plain
+
+pub returns-clause-row : goal.returns-clause-row
+returns-clause-row g c x =
+    Performs_post_back c.args.to c.args.kind c.args.number x c.args.port c.args.self.now c.requires.plain (named c.args.kind c.args.number c.new-message.ensures c.copy.ensures) c.put.ensures.acts
+
+pub returns-clause-room : goal.returns-clause-room
+returns-clause-room g c = PutsExactly_put _ c.put.ensures.spare c.put.ensures.acts
