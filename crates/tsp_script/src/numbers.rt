@@ -17,6 +17,7 @@ use std::str;
 const MOST_TO_EXTEND: u64 = 1_000_000_000_000_000_000;
 
 /// Writes octets as they are.
+#[inline(always)]
 pub fn append(out: &mut ArrayVec<u8, 1024>, piece: &[u8])
     requires { array_vec_len out.old + length piece.now ≤ 1024 }
     ensures { out.new.items ≡ out.old.items ++ piece.now }
@@ -26,6 +27,22 @@ pub fn append(out: &mut ArrayVec<u8, 1024>, piece: &[u8])
 
 /// Writes a number in decimal, in at most 20 octets.
 pub fn append_number(out: &mut ArrayVec<u8, 1024>, number: u64)
+    requires { array_vec_len out.old + 20 ≤ 1024 }
+    ensures text { out.new.items ≡ out.old.items ++ decimal number }
+    ensures short { array_vec_len out.new ≤ array_vec_len out.old + 20 }
+{
+    if number < 10 {
+        out.push(b'0' + number as u8);
+    } else if number < 100 {
+        out.push(b'0' + (number / 10) as u8);
+        out.push(b'0' + (number % 10) as u8);
+    } else {
+        append_digits(out, number);
+    }
+}
+
+/// The same for a number of any length.
+fn append_digits(out: &mut ArrayVec<u8, 1024>, number: u64)
     requires { array_vec_len out.old + 20 ≤ 1024 }
     ensures text { out.new.items ≡ out.old.items ++ decimal number }
     ensures short { array_vec_len out.new ≤ array_vec_len out.old + 20 }
@@ -50,7 +67,7 @@ pub fn append_next_number(out: &mut ArrayVec<u8, 1024>, number: u64)
     ensures text { out.new.items ≡ out.old.items ++ space ++ decimal number }
     ensures short { array_vec_len out.new ≤ array_vec_len out.old + 21 }
 {
-    append(out, b" ");
+    out.push(b' ');
     append_number(out, number);
 }
 
@@ -61,7 +78,7 @@ pub fn append_next_long(out: &mut ArrayVec<u8, 1024>, number: u32)
     ensures short { array_vec_len out.new ≤ array_vec_len out.old + 11 }
 {
     let mut buffer = Buffer::new();
-    append(out, b" ");
+    out.push(b' ');
     append(out, buffer.format(number).as_bytes());
 }
 
@@ -71,7 +88,7 @@ pub fn append_next_signed(out: &mut ArrayVec<u8, 1024>, number: i64)
     ensures text { out.new.items ≡ out.old.items ++ space ++ signed_decimal number }
     ensures short { array_vec_len out.new ≤ array_vec_len out.old + 21 }
 {
-    append(out, b" ");
+    out.push(b' ');
     append_signed(out, number);
 }
 
@@ -225,6 +242,55 @@ pub(crate) fn next_number(line: &[u8]) -> Option<(u64, &[u8])>
 
 /// The number before the first space, and what follows the space; None where there is no space.
 pub(crate) fn front_number(line: &[u8]) -> Option<(u64, &[u8])>
+    ensures found { IfSome result (λ r. (r.0 < 2 ^ 64)
+        × (line.now ≡ decimal r.0 ++ 32 ∷ r.1.now)) }
+    ensures reads { (n : ℕ) (rest : List ℕ) → n < 2 ^ 64 → line.now ≡ decimal n ++ 32 ∷ rest
+        → IsSomeAnd result (λ r. (r.0 ≡ n) × (r.1.now ≡ rest)) }
+{
+    match front_by_digits(line) {
+        Some(front) => Some(front),
+        None => front_by_mark(line),
+    }
+}
+
+/// The same, digit by digit. It gives None for 0 and for 20 digits too, which may be a number.
+fn front_by_digits(line: &[u8]) -> Option<(u64, &[u8])>
+    ensures { IfSome result (λ r. (r.0 < 2 ^ 64) × (line.now ≡ decimal r.0 ++ 32 ∷ r.1.now)) }
+{
+    let (first, rest) = line.split_first()?;
+    if *first <= b'0' || *first > b'9' {
+        return None;
+    }
+    digits_to_space((*first - b'0') as u64, rest)
+}
+
+/// The number whose digits are those of `front` and then these up to the first space, and what follows the
+/// space. It gives None for 20 digits too.
+fn digits_to_space(front: u64, digits: &[u8]) -> Option<(u64, &[u8])>
+    requires { 0 < front }
+    ensures { IfSome result (λ r. (r.0 < 2 ^ 64)
+        × (decimal front ++ digits.now ≡ decimal r.0 ++ 32 ∷ r.1.now)) }
+{
+    let mut number = front;
+    let mut place = 0;
+    for digit in digits {
+        if *digit < b'0' || *digit > b'9' {
+            if *digit == b' ' {
+                return Some((number, digits.split_at(place + 1).1));
+            }
+            return None;
+        }
+        if number > MOST_TO_EXTEND {
+            return None;
+        }
+        number = number * 10 + (*digit - b'0') as u64;
+        place += 1;
+    }
+    None
+}
+
+/// The same as `front_number`, of a number of any length.
+fn front_by_mark(line: &[u8]) -> Option<(u64, &[u8])>
     ensures found { IfSome result (λ r. (r.0 < 2 ^ 64)
         × (line.now ≡ decimal r.0 ++ 32 ∷ r.1.now)) }
     ensures reads { (n : ℕ) (rest : List ℕ) → n < 2 ^ 64 → line.now ≡ decimal n ++ 32 ∷ rest
