@@ -2,6 +2,8 @@
 use Rattle.std.proofs.Common.{◌≡◌, ℕ, ◌+◌, ◌-◌, ◌*◌, ◌/◌, ◌%◌, ◌<◌, ◌≤◌, List, [], ◌∷◌, ◌++◌, length, take, drop, suc, slice_index_or, arith, append_assoc, add-one, drop-cons, ap, ◌∙◌, sym, Option, Some, None}
 use Rattle.std.specs.Prelude.{decimal, IfSome, ◌^◌}
 use Rattle.std.proofs.lemmas.Fmt.{decimal_step, decimal_digit}
+use Rattle.std.proofs.lemmas.Grind.{pow_more}
+use Rattle.std.proofs.Math.Nat.{pow-le-pow_right}
 use Rattle.std.proofs.lemmas.List.{take_more, take-append-drop}
 
 -- a number of two digits
@@ -22,6 +24,13 @@ pub digits-more : (front n k : ℕ) (ds : List ℕ) → k < length ds → 0 < n 
 digits-more front n k ds h some small low high e =
     let s = decimal-digit n (slice_index_or ds k 0) some small low high in
     rw (take_more ds k 0 h) (rw e at s ∙ append_assoc (decimal front) (take k ds) (slice_index_or ds k 0 ∷ []))
+
+-- how large a number of so many digits is
+pub digits-bound : (n k d : ℕ) → n < 10 ^ (k + 1) → 48 ≤ d → d < 58 → n * 10 + (d - 48) < 10 ^ (k + 1 + 1)
+digits-bound n k d h low high = rw (pow_more 10 (k + 1)) (omega arith)
+
+pub digits-small : (n k : ℕ) → k < 17 → n < 10 ^ (k + 1) → n < 100000000000000000
+digits-small n k h s = let most : 10 ^ (k + 1) ≤ 10 ^ 17 = pow-le-pow_right {n = 10} (omega arith) {i = k + 1} {j = 17} (omega arith) in omega (arith, most)
 
 -- digits in front of a space
 pub digits-space : (front n k : ℕ) (ds : List ℕ) → k < length ds → slice_index_or ds k 0 ≡ 32 → decimal n ≡ decimal front ++ take k ds
