@@ -1,5 +1,5 @@
 -- What reads add to the octets that were gathered.
-use Rattle.std.proofs.Common.{◌≡◌, ℕ, ◌<◌, ◌≤◌, ◌+◌, inl, inr, List, [], ◌++◌, refl, sym, ap, ◌∙◌, append-nil, subst, length, length-append, arith}
+use Rattle.std.proofs.Common.{◌≡◌, ℕ, ◌<◌, ◌≤◌, ◌+◌, inl, inr, List, [], ◌++◌, sym, ap, ◌∙◌, append-nil, subst, length, length-append, arith}
 use Rattle.std.specs.Prelude.{Bool, false}
 use Rattle.std.specs.declared.option.Option.{Option}
 use Rattle.tsp_io.specs.Streams.{Gives}

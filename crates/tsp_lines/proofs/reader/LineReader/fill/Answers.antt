@@ -1,5 +1,4 @@
-use Rattle.std.proofs.Common.{◌≡◌, ◌≤◌, ◌-◌, ◌+◌, ap, arith, length}
-use Rattle.std.specs.Prelude.{slice_range}
+use Rattle.std.proofs.Common.{◌≡◌, ap, arith, length}
 use Rattle.tsp_lines.proofs.Buffers.{filled, no_octets}
 use Rattle.tsp_lines.proofs.reader.LineReader.fill.Goals as goal
 
