@@ -1,4 +1,4 @@
-use Rattle.std.proofs.Common.{◌++◌, ◌∷◌, [], ◌∙◌, ap, sym, arith, append_assoc}
+use Rattle.std.proofs.Common.{◌++◌, ◌∙◌, ap, sym, arith, append_assoc}
 use Rattle.std.proofs.lemmas.Fmt.{decimal_digit}
 use Rattle.tsp_script.proofs.Digits.{decimal_pair}
 use Rattle.tsp_script.proofs.numbers.append_number.Goals as goal
