@@ -1,5 +1,5 @@
 -- Laws of the words of commands.
-use Rattle.std.proofs.Common.{◌≡◌, ◌≢◌, ℕ, ◌≤◌, ◌<◌, ◌-◌, List, [], ◌∷◌, length, drop, slice_index_or, refl, sym, ap, ◌∙◌, arith, length-drop}
+use Rattle.std.proofs.Common.{◌≡◌, ◌≢◌, ℕ, ◌≤◌, ◌<◌, ◌-◌, List, [], ◌∷◌, length, drop, slice_index_or, refl, arith, length-drop}
 use Rattle.std.specs.Prelude.{map, codes, slice_range}
 use Rattle.std.proofs.lemmas.List.{take_all}
 use Rattle.tsp_io.specs.declared.addr.Addr.{Addr}

@@ -1,4 +1,4 @@
-use Rattle.std.proofs.Common.{◌≡◌, ◌∙◌, ap, sym, arith, Some}
+use Rattle.std.proofs.Common.{◌≡◌, ◌∙◌, arith, Some}
 use Rattle.std.specs.Prelude.{string_bytes}
 use Rattle.tsp_args.specs.declared.command.Command.TheVariants.{Ask}
 use Rattle.tsp_args.proofs.CommandLemmas.{one_word, no_words, asks}
