@@ -2,7 +2,7 @@
 use Rattle.std.proofs.Common.{◌≡◌, ℕ, ◌<◌, ◌^◌, List, ◌++◌, refl, sym, ◌∙◌, ap, arith, Bool, true, false, Option, Some, None, slice_index_or, append_assoc}
 use Rattle.std.specs.Prelude.{ℤ, decimal, codes, Contains, ◌==◌, if◌then◌else◌}
 use Rattle.tsp_base.specs.Kinds.{kind_word}
-use Rattle.tsp_base.specs.declared.act.Act.TheVariants.{Sample}
+use Rattle.tsp_base.specs.declared.act.Act.TheVariants.{Sample, Close as CloseAct}
 use Rattle.tsp_base.specs.declared.alarm.Alarm.{Alarm}
 use Rattle.tsp_base.specs.declared.alarm.Alarm.TheVariants.{Quiet, Search, Elect, Window, Probe, Close, Resolve, Round}
 use Rattle.tsp_base.specs.declared.datagram.Datagram.{Datagram}
@@ -116,3 +116,6 @@ good_case Holds text (Bad f) is e w h = absurd (w (refused_splits text f e).0)
 pub sample_of_parts : (n counter : ℕ) (diff err : ℤ) (ticket : ℕ) (p : PeerId) (other : ℕ) (near wide : ℤ) (drawn : ℕ) → n ≡ p.0 → counter ≡ other → diff ≡ near → err ≡ wide → ticket ≡ drawn
     → Sample (record { 0 = n }) counter diff err ticket ≡ Sample p other near wide drawn
 sample_of_parts n counter diff err ticket p other near wide drawn a b x y z = rw (a, b, x, y, z) refl
+
+pub close_of_parts : (count : ℕ) (lo width mean : ℤ) (other : ℕ) (least wide middle : ℤ) → count ≡ other → lo ≡ least → width ≡ wide → mean ≡ middle → CloseAct count lo width mean ≡ CloseAct other least wide middle
+close_of_parts count lo width mean other least wide middle a b x y = rw (a, b, x, y) refl
