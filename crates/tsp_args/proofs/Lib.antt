@@ -1,2 +1,3 @@
 pub mod AddrLemmas
+pub mod CommandLemmas
 pub mod PortLemmas

@@ -1,5 +1,5 @@
 -- Laws of a buffer that is read into.
-use Rattle.std.proofs.Common.{◌≡◌, ℕ, ◌≤◌, ◌+◌, ◌-◌, List, ◌++◌, refl, sym, ap, ◌∙◌, take, drop, length, arith}
+use Rattle.std.proofs.Common.{◌≡◌, ℕ, ◌≤◌, ◌+◌, ◌-◌, List, [], ◌∷◌, ◌++◌, refl, sym, ap, ◌∙◌, take, drop, length, arith}
 use Rattle.std.specs.Prelude.{slice_range}
 use Rattle.std.specs.declared.option.Option.{Option}
 use Rattle.std.proofs.lemmas.List.{take_at}
@@ -28,3 +28,14 @@ read_behind_held left rest new old front held count g h e f = (
 -- a buffer that was written back whole
 pub written_back : (len n : ℕ) (new old : List ℕ) → length new ≡ len → slice_range (take len (new ++ drop (length new) old)) 0 n ≡ take n new
 written_back len n new old h = let e : n - 0 ≡ n = omega arith in rw (take_at new (drop (length new) old) len h, e) refl
+
+-- what is held after a read of so many octets
+pub filled : (n m count at end : ℕ) (new items before held octets : List ℕ) → length new ≡ n → before ≡ items → slice_range items at end ≡ held → m ≡ end - at + count
+    → take (end - at + count) new ≡ slice_range before at end ++ octets → slice_range (take n (new ++ drop (length new) items)) 0 m ≡ held ++ octets
+filled n m count at end new items before held octets l b h e t =
+    let whole : slice_range before at end ≡ held = ap (λ xs. slice_range xs at end) b ∙ h in
+    rw e (written_back n (end - at + count) new items l ∙ (t ∙ ap (λ xs. xs ++ octets) whole))
+
+pub no_octets : (octets : List ℕ) → length octets ≡ 0 → octets ≡ []
+no_octets [] h = refl
+no_octets (x ∷ xs) h = absurd (omega arith)

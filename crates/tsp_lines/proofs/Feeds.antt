@@ -2,7 +2,7 @@
 use Rattle.std.proofs.Common.{◌≡◌, ℕ, ◌<◌, ◌≤◌, ◌+◌, ◌-◌, List, [], ◌∷◌, ◌++◌, None, Some, refl, sym, ap, ◌∙◌, take, drop, length, get_or, append_assoc, take-append-drop, length-drop, arith, eq-eqb, eqb-true, length-take-le, add_assoc, zero, suc, subst}
 use Rattle.std.specs.Prelude.{MatchOption, slice_range}
 use Rattle.std.specs.declared.option.Option.{Option}
-use Rattle.std.proofs.lemmas.List.{drop_more, drop-take, drop-drop}
+use Rattle.std.proofs.lemmas.List.{drop_more, drop-take, drop-drop, drop_all, append-nil}
 use Rattle.std.proofs.Math.Seq.{take-length}
 use Rattle.std.proofs.lemmas.List.Elements.{Contains-append_left}
 use Rattle.std.proofs.lemmas.Grind.{common_steps, get_or_default_zero}
@@ -27,6 +27,14 @@ split_feed hay k h e =
 pub first_feed : (hay : List ℕ) (r : Option ℕ) → IsFirstByte (is_byte 10) hay r → MatchOption r (NoFeed hay) (λ k. NoFeed (take k hay) × (hay ≡ close (take k hay) ++ drop (k + 1) hay))
 first_feed hay None p = rw (take-length hay) at (NoFeed-take hay (length hay) (omega arith) p)
 first_feed hay (Some k) p = (NoFeed-take hay k (omega (arith, p.0.high)) p.0.before, split_feed hay k p.0.high (eqb-true _ _ p.1))
+
+-- the first line feed is all that is left
+pub last_feed : (held : List ℕ) (place : ℕ) → length held ≤ place + 1 → held ≡ close (take place held) ++ drop (place + 1) held → held ≡ take place held ++ 10 ∷ []
+last_feed held place h e = e ∙ (ap (λ xs. close (take place held) ++ xs) (drop_all (place + 1) held h) ∙ append-nil (close (take place held)))
+
+-- how much is held at most
+pub held_length : (buf : List ℕ) (at end : ℕ) → length (slice_range buf at end) ≤ end - at
+held_length buf at end = grind (arith, common_steps)
 
 -- the part of a buffer up to a place of what is held, and the part behind that place
 pub held_line : (buf : List ℕ) (at end place : ℕ) → place < length (slice_range buf at end) → slice_range buf at (at + place) ≡ take place (slice_range buf at end)

@@ -1,13 +1,24 @@
 -- What reads add to the octets that were gathered.
-use Rattle.std.proofs.Common.{◌≡◌, ℕ, ◌<◌, ◌≤◌, ◌+◌, inl, inr, List, [], ◌++◌, refl, sym, ap, ◌∙◌, append-nil, subst, length, length-append, arith}
+use Rattle.std.proofs.Common.{◌≡◌, ℕ, ◌<◌, ◌≤◌, ◌+◌, refl, None, Some, inl, inr, List, [], ◌++◌, sym, ap, ◌∙◌, append-nil, subst, length, length-append, arith}
 use Rattle.std.specs.Prelude.{Bool, false}
 use Rattle.std.specs.declared.option.Option.{Option}
-use Rattle.tsp_io.specs.Streams.{Gives}
+use Rattle.tsp_io.specs.Streams.{Gives, IsEndWhere, Reads}
+use Rattle.tsp_io.specs.declared.source.Got.TheVariants.{Got as Gave}
+use Rattle.tsp_lines.specs.Lines.{IsOver}
 use Rattle.tsp_lines.specs.Gatherings.{Adds, Gathers, ReadsPart}
 use Rattle.tsp_lines.specs.declared.gather.Added.TheVariants.{More, End, Fault}
 use Rattle.tsp_lines.specs.declared.gather.Ungathered.{Ungathered}
 use Rattle.tsp_lines.specs.declared.gather.Ungathered.TheVariants.{ReadFault, OutOfMemory}
 use Rattle.tsp_lines.proofs.Streams.{Gives-trans}
+
+-- a read of no octets meets the input's end
+over_behind : (left rest : Option (List ℕ)) → Gives left rest [] → IsEndWhere left 0 → IsOver rest
+over_behind left None g h = tt
+over_behind None (Some x) g h = absurd (cc)
+over_behind (Some xs) (Some x) g h = let same : xs ≡ x = cc in sym same ∙ h.0 refl
+
+pub Adds-end : (most : ℕ) (left rest : Option (List ℕ)) (was ended : Bool) (count : ℕ) (buf octets : List ℕ) → Reads left rest was ended (Gave count) buf → count ≡ 0 → Adds most left rest ended octets octets End
+Adds-end most left rest was ended count buf octets r e = let q = rw e at r in (q.3, over_behind left rest q.1 q.2, q.1, refl)
 
 -- the input's end was met
 pub Gathers-end : (limit most : ℕ) (input left rest : Option (List ℕ)) (ended : Bool) (octets now : List ℕ) → Gives input left octets → length octets ≤ limit → Adds most left rest ended octets now End → Gathers limit input rest ended now

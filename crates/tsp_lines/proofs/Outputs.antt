@@ -1,5 +1,5 @@
 -- Laws of what a sink took and of what was handed to an output.
-use Rattle.std.proofs.Common.{◌≡◌, ℕ, ◌+◌, List, [], ◌++◌, None, Some, refl, sym, ap, ◌∙◌, take, drop, append_assoc, append-nil, length, length-drop, arith}
+use Rattle.std.proofs.Common.{◌≡◌, ℕ, ◌+◌, List, [], ◌++◌, None, Some, refl, sym, ap, ◌∙◌, take, drop, append_assoc, append-nil, take-append-drop, length, length-drop, arith}
 use Rattle.std.proofs.Math.Seq.{take-add}
 use Rattle.std.proofs.lemmas.List.{take_all}
 use Rattle.std.specs.Prelude.{slice_range}
@@ -35,4 +35,15 @@ Hands-trans a b c held keeps left xs ys p q = (
   p.0 ++ q.0,
   Grows-trans a b c p.0 q.0 p.1 q.1,
   sym (append_assoc held xs ys) ∙ ap (λ l. l ++ ys) p.2 ∙ append_assoc p.0 keeps ys ∙ ap (λ l. p.0 ++ l) q.2 ∙ sym (append_assoc p.0 q.0 left),
+)
+
+-- all that was held is written, or its front
+pub Hands-all : (a b : Option (List ℕ)) (held octets keeps : List ℕ) → octets ≡ held → Grows a b octets → keeps ≡ [] → Hands a held b keeps []
+Hands-all a b held octets keeps o g e = (octets, g, ap (λ l. l ++ []) (sym o) ∙ ap (λ l. octets ++ l) (sym e))
+
+pub Hands-cut : (a b : Option (List ℕ)) (held octets keeps : List ℕ) (at : ℕ) → octets ≡ held → Grows a b (take at octets) → keeps ≡ drop at octets → Hands a held b keeps []
+Hands-cut a b held octets keeps at o g e = (
+  take at octets,
+  g,
+  append-nil held ∙ sym o ∙ sym (take-append-drop at octets) ∙ ap (λ l. take at octets ++ l) (sym e),
 )

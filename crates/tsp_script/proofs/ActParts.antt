@@ -1,7 +1,8 @@
 -- What stands behind an act's word: roles, what was taken, and words without a space.
 use Rattle.std.proofs.Common.{◌≡◌, ℕ, ◌<◌, ◌^◌, List, ◌++◌, refl, sym, ◌∙◌, ap, arith, Bool, true, false, Option, Some, None, slice_index_or, append_assoc}
-use Rattle.std.specs.Prelude.{decimal, codes, Contains, ◌==◌, if◌then◌else◌}
+use Rattle.std.specs.Prelude.{ℤ, decimal, codes, Contains, ◌==◌, if◌then◌else◌}
 use Rattle.tsp_base.specs.Kinds.{kind_word}
+use Rattle.tsp_base.specs.declared.act.Act.TheVariants.{Sample, Close as CloseAct}
 use Rattle.tsp_base.specs.declared.alarm.Alarm.{Alarm}
 use Rattle.tsp_base.specs.declared.alarm.Alarm.TheVariants.{Quiet, Search, Elect, Window, Probe, Close, Resolve, Round}
 use Rattle.tsp_base.specs.declared.datagram.Datagram.{Datagram}
@@ -110,3 +111,11 @@ refused_case Holds text (Bad f) e w h = h f (refused_splits text f e).1
 pub good_case : (Holds : Taken → Type 0) (text : List ℕ) (t : Taken) → IsTaken t → text ≡ taken_text t → (first_word text ≡ codes "refused" → ⊥) → ((d : Datagram) → IsDatagram d → text ≡ message_text d → Holds (Good d)) → Holds t
 good_case Holds text (Good d) is e w h = h d is e
 good_case Holds text (Bad f) is e w h = absurd (w (refused_splits text f e).0)
+
+-- acts of equal parts
+pub sample_of_parts : (n counter : ℕ) (diff err : ℤ) (ticket : ℕ) (p : PeerId) (other : ℕ) (near wide : ℤ) (drawn : ℕ) → n ≡ p.0 → counter ≡ other → diff ≡ near → err ≡ wide → ticket ≡ drawn
+    → Sample (record { 0 = n }) counter diff err ticket ≡ Sample p other near wide drawn
+sample_of_parts n counter diff err ticket p other near wide drawn a b x y z = rw (a, b, x, y, z) refl
+
+pub close_of_parts : (count : ℕ) (lo width mean : ℤ) (other : ℕ) (least wide middle : ℤ) → count ≡ other → lo ≡ least → width ≡ wide → mean ≡ middle → CloseAct count lo width mean ≡ CloseAct other least wide middle
+close_of_parts count lo width mean other least wide middle a b x y = rw (a, b, x, y) refl

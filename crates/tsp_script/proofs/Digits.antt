@@ -1,8 +1,14 @@
 -- How a number's text grows by a digit.
-use Rattle.std.proofs.Common.{◌≡◌, ℕ, ◌+◌, ◌-◌, ◌*◌, ◌/◌, ◌%◌, ◌<◌, ◌≤◌, List, [], ◌∷◌, ◌++◌, length, take, slice_index_or, arith, append_assoc, ap, ◌∙◌, sym, Option, Some, None}
+use Rattle.std.proofs.Common.{◌≡◌, ℕ, ◌+◌, ◌-◌, ◌*◌, ◌/◌, ◌%◌, ◌<◌, ◌≤◌, List, [], ◌∷◌, ◌++◌, length, take, drop, suc, slice_index_or, arith, append_assoc, add-one, drop-cons, ap, ◌∙◌, sym, Option, Some, None}
 use Rattle.std.specs.Prelude.{decimal, IfSome, ◌^◌}
 use Rattle.std.proofs.lemmas.Fmt.{decimal_step, decimal_digit}
-use Rattle.std.proofs.lemmas.List.{take_more}
+use Rattle.std.proofs.lemmas.Grind.{pow_more}
+use Rattle.std.proofs.Math.Nat.{pow-le-pow_right}
+use Rattle.std.proofs.lemmas.List.{take_more, take-append-drop}
+
+-- a number of two digits
+pub decimal_pair : (n : ℕ) → 10 ≤ n → n < 100 → decimal n ≡ (48 + n / 10) ∷ (48 + n % 10) ∷ []
+decimal_pair n low high = rw (decimal_step n low (omega arith), decimal_digit (n / 10) (omega arith))
 
 -- a digit behind a number that isn't 0
 pub decimal-digit : (n d : ℕ) → 0 < n → n ≤ 1000000000000000000 → 48 ≤ d → d < 58 → decimal (n * 10 + (d - 48)) ≡ decimal n ++ d ∷ []
@@ -19,12 +25,32 @@ digits-more front n k ds h some small low high e =
     let s = decimal-digit n (slice_index_or ds k 0) some small low high in
     rw (take_more ds k 0 h) (rw e at s ∙ append_assoc (decimal front) (take k ds) (slice_index_or ds k 0 ∷ []))
 
+-- how large a number of so many digits is
+pub digits-bound : (n k d : ℕ) → n < 10 ^ (k + 1) → 48 ≤ d → d < 58 → n * 10 + (d - 48) < 10 ^ (k + 1 + 1)
+digits-bound n k d h low high = rw (pow_more 10 (k + 1)) (omega arith)
+
+pub digits-small : (n k : ℕ) → k < 17 → n < 10 ^ (k + 1) → n < 100000000000000000
+digits-small n k h s = let most : 10 ^ (k + 1) ≤ 10 ^ 17 = pow-le-pow_right {n = 10} (omega arith) {i = k + 1} {j = 17} (omega arith) in omega (arith, most)
+
+-- digits in front of a space
+pub digits-space : (front n k : ℕ) (ds : List ℕ) → k < length ds → slice_index_or ds k 0 ≡ 32 → decimal n ≡ decimal front ++ take k ds
+    → decimal front ++ ds ≡ decimal n ++ 32 ∷ drop (k + 1) ds
+digits-space front n k ds h e d =
+    let back : drop k ds ≡ 32 ∷ drop (suc k) ds = drop-cons ds k 0 h ∙ ap (λ x. x ∷ drop (suc k) ds) e in
+    let whole : ds ≡ take k ds ++ 32 ∷ drop (suc k) ds = sym (take-append-drop k ds) ∙ ap (λ x. take k ds ++ x) back in
+    rw add-one (ap (λ x. decimal front ++ x) whole ∙ sym (append_assoc (decimal front) (take k ds) (32 ∷ drop (suc k) ds)) ∙ ap (λ x. x ++ 32 ∷ drop (suc k) ds) (sym d))
+
+-- a first digit in front of others
+pub digit-first : (first : ℕ) (word rest : List ℕ) → word ≡ first ∷ rest → 48 ≤ first → first < 58 → word ≡ decimal (first - 48) ++ rest
+digit-first first word rest e low high =
+    let q : 48 + (first - 48) ≡ first = omega arith in
+    let s = decimal_digit (first - 48) (omega arith) in
+    e ∙ sym (rw q at (ap (λ x. x ++ rest) s))
+
 -- a first digit and those behind it
 pub digits-whole : (first n : ℕ) (word rest : List ℕ) → word ≡ first ∷ rest → 48 ≤ first → first < 58 → decimal n ≡ decimal (first - 48) ++ rest → word ≡ decimal n
 digits-whole first n word rest e low high m =
-    let q : 48 + (first - 48) ≡ first = omega arith in
-    let s = decimal_digit (first - 48) (omega arith) in
-    e ∙ sym (m ∙ (rw q at (ap (λ x. x ++ rest) s)))
+    digit-first first word rest e low high ∙ sym m
 
 -- a lone first digit 0
 pub zero-alone : (first : ℕ) (word rest : List ℕ) → word ≡ first ∷ rest → first ≡ 48 → length rest ≡ 0 → word ≡ decimal 0

@@ -10,7 +10,9 @@ use Rattle.tsp_base.specs.declared.event.Event.TheVariants.{Boot, Turn, Take, By
 use Rattle.tsp_base.specs.declared.place.Place.{Place}
 use Rattle.tsp_base.specs.declared.place.Port.{Port}
 use Rattle.tsp_base.specs.declared.place.Place.TheVariants.{Peer, Stranger}
-use Rattle.tsp_script.specs.Schedules.{event_text, port_text, IsHexOf, IsPlace, IsTrueTime, IsEvent, SpellsRest}
+use Rattle.tsp_script.specs.declared.plain.Plain.TheVariants.{Turn as PlainTurn, Take as PlainTake}
+use Rattle.tsp_script.specs.Plains.{IsNotPlain}
+use Rattle.tsp_script.specs.Schedules.{event_text, port_text, IsHexOf, IsPlace, IsTrueTime, IsEvent}
 use Rattle.tsp_script.specs.Traces.{place_text}
 use Rattle.tsp_script.specs.Words.{after_word}
 use Rattle.tsp_script.proofs.Cuts.{cut_front, no_space-decimal}
@@ -92,10 +94,16 @@ bytes_reads Holds at line hex (Bytes t node port from octets) h x a v l reads =
     let here : at ≡ t = a in
     rw here at made
 
--- every other line has numbers alone
-pub numbers_read : (at : ℕ) (verb line hex : List ℕ) (e : Event) → IsHexOf hex e → at ≡ at_of e → verb ≡ verb_of e → line ≡ rest_of e hex → (verb ≡ codes "bytes" → ⊥)
-    → SpellsRest at verb line e × ([] ≡ hex)
-numbers_read at verb line hex (Boot t node word) x a v l n = ((sym a, v, l), sym x)
-numbers_read at verb line hex (Turn t node) x a v l n = ((sym a, v, l), sym x)
-numbers_read at verb line hex (Take t datagram) x a v l n = ((sym a, v, l), sym x)
-numbers_read at verb line hex (Bytes t node port from octets) x a v l n = absurd (n v)
+-- every other line that is no turn's and no take's is a boot's
+pub boot_reads : (Holds : Event → List ℕ → Type 0) (at : ℕ) (whole verb line hex : List ℕ) (e : Event) → IsNotPlain whole → whole ≡ event_text e hex → IsEvent e → IsHexOf hex e → at ≡ at_of e
+    → verb ≡ verb_of e → line ≡ rest_of e hex → (verb ≡ codes "bytes" → ⊥)
+    → ((node word : ℕ) → node < 2 ^ 32 → word < 2 ^ 64 → verb ≡ codes "boot" → line ≡ decimal node ++ 32 ∷ decimal word → Holds (Boot at node word) [])
+    → Holds e hex
+boot_reads Holds at whole verb line hex (Boot t node word) p w h x a v l n reads =
+    let made = reads node word h.1 h.2 v l in
+    let here : at ≡ t = a in
+    let none : hex ≡ [] = x in
+    rw none (rw here at made)
+boot_reads Holds at whole verb line hex (Turn t node) p w h x a v l n reads = absurd (p (PlainTurn t node) tt (h, (hex, x, w)))
+boot_reads Holds at whole verb line hex (Take t datagram) p w h x a v l n reads = absurd (p (PlainTake t datagram) tt (h, (hex, x, w)))
+boot_reads Holds at whole verb line hex (Bytes t node port from octets) p w h x a v l n reads = absurd (n v)

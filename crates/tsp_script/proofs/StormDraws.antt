@@ -1,6 +1,9 @@
 -- What a generator draws.
 use Rattle.std.proofs.Common.{◌≡◌, ℕ, ◌+◌, ◌<◌, ◌≤◌, ◌∙◌, arith}
-use Rattle.tsp_script.specs.Storms.{StormValue, moved, drawn, asks_one, as_event, asks_or_turns, chosen, storm_draw}
+use Rattle.tsp_script.specs.Storms.{StormValue, moved, drawn, boots_next, turns_one, asks_one, as_event, asks_or_turns, chosen, storm_draw}
+
+chosen-turn : (c at posted : ℕ) (v : StormValue) → c < 4 → as_event (turns_one at v) ≡ chosen c at posted v
+chosen-turn c at posted v low = grind arith
 
 chosen-ask : (c at posted : ℕ) (v : StormValue) → 4 ≤ c → c < 7 → asks_or_turns at posted v ≡ chosen c at posted v
 chosen-ask c at posted v low high = grind arith
@@ -11,7 +14,17 @@ chosen-request c at posted v low = grind arith
 draw-chosen : (posted : ℕ) (v : StormValue) → v.nodes ≤ v.given → chosen (drawn 8 (moved (moved v))) (v.at + drawn 20001 (moved v)) posted (moved (moved v)) ≡ storm_draw posted v
 draw-chosen posted v booted = grind arith
 
--- the two ways to go on, but for a turn, once all nodes have booted
+-- a boot, while a node hasn't booted
+pub draw-boot : (posted : ℕ) (v : StormValue) → v.given < v.nodes → as_event (boots_next v) ≡ storm_draw posted v
+draw-boot posted v more = grind arith
+
+-- the three ways to go on once all nodes have booted
+pub draw-turn : (posted at step c : ℕ) (v one two : StormValue) → v.nodes ≤ v.given → one ≡ moved v → two ≡ moved one → at ≡ v.at + step → step ≡ drawn 20001 (moved v) → c ≡ drawn 8 (moved one) → c < 4
+    → as_event (turns_one at two) ≡ storm_draw posted v
+draw-turn posted at step c v one two booted first second time amount number low =
+    let same : chosen c at posted two ≡ chosen (drawn 8 (moved (moved v))) (v.at + drawn 20001 (moved v)) posted (moved (moved v)) = cc in
+    chosen-turn c at posted two low ∙ same ∙ draw-chosen posted v booted
+
 pub draw-ask : (posted at step c : ℕ) (v one two : StormValue) → v.nodes ≤ v.given → one ≡ moved v → two ≡ moved one → at ≡ v.at + step → step ≡ drawn 20001 (moved v) → c ≡ drawn 8 (moved one) → 4 ≤ c → c < 7
     → asks_or_turns at posted two ≡ storm_draw posted v
 draw-ask posted at step c v one two booted first second time amount number low high =

@@ -68,13 +68,6 @@ abbrev pub ReadsEvent : List ℕ → Result EventItem LineFault → Type 0
 ReadsEvent line (Ok item) = SpellsEvent line item
 ReadsEvent line (Err Bad) = (item : EventItem) → SpellsEvent line item → ⊥
 
--- a word and what follows it are those of this event without octets
-abbrev pub SpellsRest : ℕ → List ℕ → List ℕ → Event → Type 0
-SpellsRest at verb line (Boot t node word) = (t ≡ at) × (verb ≡ codes "boot") × (line ≡ decimal node ++ 32 ∷ decimal word)
-SpellsRest at verb line (Turn t node) = (t ≡ at) × (verb ≡ codes "turn") × (line ≡ decimal node)
-SpellsRest at verb line (Take t datagram) = (t ≡ at) × (verb ≡ codes "take") × (line ≡ decimal datagram)
-SpellsRest at verb line (Bytes t node port from octets) = ⊥
-
 -- an octet that is allowed in a node's name: a letter, a digit, a dot, a dash or an underscore
 abbrev pub is_host : ℕ → Bool
 is_host c = ((nat_le 97 c && nat_le c 122) || (nat_le 65 c && nat_le c 90)) || ((nat_le 48 c && nat_le c 57) || ((c == 46) || ((c == 45) || (c == 95))))

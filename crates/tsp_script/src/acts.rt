@@ -170,6 +170,14 @@ fn append_close(out: &mut ArrayVec<u8, 1024>, count: u32, lo: i64, width: i64, m
     append_next_signed(out, mean);
 }
 
+/// The word, between spaces, that says how a clock was corrected.
+fn way_word(stepped: bool) -> &'static [u8]
+    ensures word { result.now ≡ way_word stepped }
+    ensures short { length result.now ≤ 6 }
+{
+    if stepped { b" step " } else { b" slew " }
+}
+
 fn append_correct(out: &mut ArrayVec<u8, 1024>, amount: i64, stepped: bool, shown: i64)
     requires { array_vec_len out.old + 54 ≤ 1024 }
     ensures { out.new.items ≡ out.old.items ++ (codes "correct " ++ signed_decimal
@@ -177,7 +185,7 @@ fn append_correct(out: &mut ArrayVec<u8, 1024>, amount: i64, stepped: bool, show
 {
     append(out, b"correct ");
     append_signed(out, amount);
-    append(out, if stepped { b" step " } else { b" slew " });
+    append(out, way_word(stepped));
     append_signed(out, shown);
 }
 

@@ -7,10 +7,10 @@ ghost use Rattle.tsp_base.specs.declared.event.Event.{Event};
 ghost use Rattle.tsp_base.specs.declared.place.Place.{Place};
 ghost use Rattle.tsp_base.specs.declared.place.Port.{Port};
 ghost use Rattle.tsp_script.specs.declared.event_line.EventItem.{EventItem};
-ghost use Rattle.tsp_script.specs.Plains.{event_in, IsTurnOrTake};
+ghost use Rattle.tsp_script.specs.Plains.{event_in, IsTurnOrTake, IsNotPlain};
 ghost use Rattle.tsp_script.specs.declared.plain.Plain.{Plain};
 ghost use Rattle.tsp_script.specs.Schedules.{event_text, port_text, NamesPort, IsHexOf, IsPlace};
-ghost use Rattle.tsp_script.specs.Schedules.{IsEvent, SpellsEvent, SpellsRest, ReadsEvent};
+ghost use Rattle.tsp_script.specs.Schedules.{IsEvent, SpellsEvent, ReadsEvent};
 ghost use Rattle.tsp_script.specs.Traces.{place_text};
 
 use crate::acts::append_place;
@@ -27,6 +27,9 @@ use tsp_base::constants::SCHEDULE_END;
 use tsp_base::event::Event;
 use tsp_base::octets::Octets;
 use tsp_base::place::{PeerId, Place, Port};
+
+/// The line of a turn or a take is at most so long, in octets.
+const PLAIN: usize = 45;
 
 /// What a line after the header is.
 #[derive(Drop)]
@@ -134,28 +137,20 @@ pub(crate) fn place_of(word: &[u8]) -> Option<Place>
     Some(Place::Peer(PeerId(number)))
 }
 
-/// Reads what follows `boot`.
-fn read_boot(at: u64, line: &[u8]) -> Option<Event>
+/// Reads what follows the time of a boot. None says that the word isn't `boot`, or that no boot is written so.
+fn read_boot(at: u64, verb: &[u8], line: &[u8]) -> Option<Event>
     requires { at ≤ 1000000000000000 }
-    ensures reads { (node word : ℕ) → node < 2 ^ 32 → word < 2 ^ 64
+    ensures reads { (node word : ℕ) → node < 2 ^ 32 → word < 2 ^ 64 → verb.now ≡ codes "boot"
         → line.now ≡ decimal node ++ 32 ∷ decimal word → result ≡ Some (Event.Boot at node word) }
     ensures range { IfSome result (λ e. IsEvent e × IsHexOf [] e) }
 {
+    if !is_same(verb, b"boot") {
+        return None;
+    }
     let (node, line) = next_number(line)?;
     let node = long_of(node)?;
     let word = number_of(line)?;
     Some(Event::Boot { at, node, word })
-}
-
-/// Reads what follows `turn`.
-fn read_turn(at: u64, line: &[u8]) -> Option<Event>
-    requires { at ≤ 1000000000000000 }
-    ensures reads { (node : ℕ) → node < 2 ^ 32 → line.now ≡ decimal node
-        → result ≡ Some (Event.Turn at node) }
-    ensures range { IfSome result (λ e. IsEvent e × IsHexOf [] e) }
-{
-    let node = long_number(line)?;
-    Some(Event::Turn { at, node })
 }
 
 /// The node that a word names.
@@ -166,17 +161,6 @@ fn long_number(word: &[u8]) -> Option<u32>
 {
     let number = number_of(word)?;
     long_of(number)
-}
-
-/// Reads what follows `take`.
-fn read_take(at: u64, line: &[u8]) -> Option<Event>
-    requires { at ≤ 1000000000000000 }
-    ensures reads { (datagram : ℕ) → datagram < 2 ^ 64 → line.now ≡ decimal datagram
-        → result ≡ Some (Event.Take at datagram) }
-    ensures range { IfSome result (λ e. IsEvent e × IsHexOf [] e) }
-{
-    let datagram = number_of(line)?;
-    Some(Event::Take { at, datagram })
 }
 
 /// Reads what follows `bytes`, and gives the hexadecimal too.
@@ -226,8 +210,9 @@ fn handed_of(hex: &[u8]) -> Option<Octets>
     Octets::of(&buffer[..count])
 }
 
-/// Reads an event's line, and gives its hexadecimal too, which is empty but for `bytes`.
+/// Reads the line of a boot or of `bytes`, and gives its hexadecimal too, which is empty for a boot.
 fn read_event(line: &[u8]) -> Option<(Event, &[u8])>
+    requires { IsNotPlain line.now }
     ensures reads { (e : Event) (hex : List ℕ) → IsEvent e → IsHexOf hex e
         → line.now ≡ event_text e hex → IsSomeAnd result (λ r. (r.0 ≡ e) × (r.1.now ≡ hex)) }
     ensures range { IfSome result (λ r. IsEvent r.0 × IsHexOf r.1.now r.0
@@ -242,22 +227,8 @@ fn read_event(line: &[u8]) -> Option<(Event, &[u8])>
     if is_same(verb, b"bytes") {
         return read_bytes(at, line);
     }
-    let event = read_numbers(at, verb, line)?;
+    let event = read_boot(at, verb, line)?;
     Some((event, &[]))
-}
-
-/// Reads what follows the word of an event without octets.
-fn read_numbers(at: u64, verb: &[u8], line: &[u8]) -> Option<Event>
-    requires { at ≤ 1000000000000000 }
-    ensures reads { (e : Event) → IsEvent e → SpellsRest at verb.now line.now e → result ≡ Some e }
-    ensures range { IfSome result (λ e. IsEvent e × IsHexOf [] e) }
-{
-    match verb {
-        b"boot" => read_boot(at, line),
-        b"turn" => read_turn(at, line),
-        b"take" => read_take(at, line),
-        _ => None,
-    }
 }
 
 /// A line after the header: an event, or `end`. `Bad` exactly where it is neither.
@@ -268,9 +239,21 @@ pub fn event_line(line: &[u8]) -> Result<EventItem, LineFault>
     if is_same(line, b"end") {
         return Ok(EventItem::End);
     }
-    if let Some(plain) = plain_line(line) {
-        return Ok(EventItem::Event(plain.event()));
+    if line.len() > PLAIN {
+        return long_line(line);
     }
+    match plain_line(line) {
+        Some(plain) => Ok(EventItem::Event(plain.event())),
+        None => any_event(line),
+    }
+}
+
+/// What a line is that is longer than each turn's and each take's.
+fn long_line(line: &[u8]) -> Result<EventItem, LineFault>
+    requires { 45 < length line.now }
+    ensures reads { ReadsEvent line.now result }
+    ensures one { (item : EventItem) → SpellsEvent line.now item → result ≡ Ok item }
+{
     match common_bytes(line) {
         Some(item) => Ok(item),
         None => any_event(line),
@@ -341,9 +324,11 @@ fn front_place(line: &[u8]) -> Option<(Place, &[u8])>
     Some((Place::Peer(PeerId(number)), rest))
 }
 
-/// The event of any line. What was read is written again and compared, so that only written lines pass.
+/// The event of any line but a turn's or a take's. What was read is written again and compared, so that only
+/// written lines pass.
 fn any_event(line: &[u8]) -> Result<EventItem, LineFault>
-    requires { line.now ≢ codes "end" }
+    requires no_end { line.now ≢ codes "end" }
+    requires no_plain { IsNotPlain line.now }
     ensures reads { ReadsEvent line.now result }
     ensures one { (item : EventItem) → SpellsEvent line.now item → result ≡ Ok item }
 {

@@ -1,6 +1,6 @@
 //! The lines of a schedule's header.
 ghost use Rattle.std.specs.Prelude.{Bool, ◌≡◌, ℕ, ℤ, ◌^◌, ◌<◌, ◌≤◌, ◌+◌, ◌++◌, ◌∷◌, List, length};
-ghost use Rattle.std.specs.Prelude.{decimal, codes, nat_abs, IfSome, MatchOption, IsTrue, ◌↔◌};
+ghost use Rattle.std.specs.Prelude.{decimal, codes, nat_abs, IfSome, MatchOption, MatchBool, IsTrue, ◌↔◌};
 ghost use Rattle.std.specs.Fmt.{signed_decimal};
 ghost use Rattle.std.specs.List.{AllPass};
 ghost use Rattle.arrayvec.specs.ArrayVec.{array_vec_len};
@@ -124,6 +124,7 @@ fn node_text(node: &NodeLine) -> ArrayVec<u8, 1024>
 }
 
 /// What follows `front` in a line that begins with it; None where the line doesn't.
+#[inline(always)]
 pub(crate) fn after<'a>(line: &'a [u8], front: &[u8]) -> Option<&'a [u8]>
     ensures { MatchOption result ((rest : List ℕ) → line.now ≡ front.now ++ rest
         → ⊥) (λ r. line.now ≡ front.now ++ r.now) }
@@ -132,11 +133,25 @@ pub(crate) fn after<'a>(line: &'a [u8], front: &[u8]) -> Option<&'a [u8]>
         return None;
     }
     let (start, rest) = line.split_at(front.len());
-    if is_same(start, front) {
+    if agree(start, front) {
         Some(rest)
     } else {
         None
     }
+}
+
+/// Whether two texts of one length are the same. Where that length is a constant, this is a test for each octet.
+#[inline(always)]
+fn agree(text: &[u8], other: &[u8]) -> bool
+    requires { length text.now ≡ length other.now }
+    ensures { MatchBool result (text.now ≡ other.now) (text.now ≡ other.now → ⊥) }
+{
+    for i in 0..other.len() {
+        if text[i] != other[i] {
+            return false;
+        }
+    }
+    true
 }
 
 /// The drift of the second line.

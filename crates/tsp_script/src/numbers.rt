@@ -13,10 +13,11 @@ use arrayvec::ArrayVec;
 use itoa::Buffer;
 use std::str;
 
-/// Below this, a digit can be appended to a number without passing 64 bits.
-const MOST_TO_EXTEND: u64 = 1_000_000_000_000_000_000;
+/// So many digits behind a first one are read at a time at most: a number of 18 digits has 64 bits.
+const RUN: usize = 17;
 
 /// Writes octets as they are.
+#[inline(always)]
 pub fn append(out: &mut ArrayVec<u8, 1024>, piece: &[u8])
     requires { array_vec_len out.old + length piece.now ≤ 1024 }
     ensures { out.new.items ≡ out.old.items ++ piece.now }
@@ -26,6 +27,22 @@ pub fn append(out: &mut ArrayVec<u8, 1024>, piece: &[u8])
 
 /// Writes a number in decimal, in at most 20 octets.
 pub fn append_number(out: &mut ArrayVec<u8, 1024>, number: u64)
+    requires { array_vec_len out.old + 20 ≤ 1024 }
+    ensures text { out.new.items ≡ out.old.items ++ decimal number }
+    ensures short { array_vec_len out.new ≤ array_vec_len out.old + 20 }
+{
+    if number < 10 {
+        out.push(b'0' + number as u8);
+    } else if number < 100 {
+        out.push(b'0' + (number / 10) as u8);
+        out.push(b'0' + (number % 10) as u8);
+    } else {
+        append_digits(out, number);
+    }
+}
+
+/// The same for a number of any length.
+fn append_digits(out: &mut ArrayVec<u8, 1024>, number: u64)
     requires { array_vec_len out.old + 20 ≤ 1024 }
     ensures text { out.new.items ≡ out.old.items ++ decimal number }
     ensures short { array_vec_len out.new ≤ array_vec_len out.old + 20 }
@@ -50,7 +67,7 @@ pub fn append_next_number(out: &mut ArrayVec<u8, 1024>, number: u64)
     ensures text { out.new.items ≡ out.old.items ++ space ++ decimal number }
     ensures short { array_vec_len out.new ≤ array_vec_len out.old + 21 }
 {
-    append(out, b" ");
+    out.push(b' ');
     append_number(out, number);
 }
 
@@ -61,7 +78,7 @@ pub fn append_next_long(out: &mut ArrayVec<u8, 1024>, number: u32)
     ensures short { array_vec_len out.new ≤ array_vec_len out.old + 11 }
 {
     let mut buffer = Buffer::new();
-    append(out, b" ");
+    out.push(b' ');
     append(out, buffer.format(number).as_bytes());
 }
 
@@ -71,7 +88,7 @@ pub fn append_next_signed(out: &mut ArrayVec<u8, 1024>, number: i64)
     ensures text { out.new.items ≡ out.old.items ++ space ++ signed_decimal number }
     ensures short { array_vec_len out.new ≤ array_vec_len out.old + 21 }
 {
-    append(out, b" ");
+    out.push(b' ');
     append_signed(out, number);
 }
 
@@ -99,7 +116,7 @@ pub fn number_of(word: &[u8]) -> Option<u64>
     }
 }
 
-/// The number of a decimal text, digit by digit. It gives None for 20 digits too, which may be a number.
+/// The number of a decimal text, digit by digit. It gives None for more than 18 digits too, which may be a number.
 fn by_digits(word: &[u8]) -> Option<u64>
     ensures { IfSome result (λ n. (n < 2 ^ 64) × (word.now ≡ decimal n)) }
 {
@@ -113,19 +130,37 @@ fn by_digits(word: &[u8]) -> Option<u64>
     more_digits((*first - b'0') as u64, rest)
 }
 
-/// The number whose digits are those of `front` and then these. It gives None for 20 digits too.
+/// The number whose digits are those of `front` and then these. It gives None for more than 18 digits too.
 fn more_digits(front: u64, digits: &[u8]) -> Option<u64>
-    requires { 0 < front }
+    requires { (0 < front) × (front < 10) }
     ensures { IfSome result (λ n. (n < 2 ^ 64) × (decimal n ≡ decimal front ++ digits.now)) }
 {
-    let mut number = front;
-    for digit in digits {
-        if *digit < b'0' || *digit > b'9' || number > MOST_TO_EXTEND {
-            return None;
-        }
-        number = number * 10 + (*digit - b'0') as u64;
+    let (number, count) = digits_on(front, digits);
+    if count == digits.len() {
+        Some(number)
+    } else {
+        None
     }
-    Some(number)
+}
+
+/// The number whose digits are those of `front` and then the first of these, up to what is no digit, and how
+/// many of these they are, at most 17.
+#[inline(always)]
+fn digits_on(front: u64, digits: &[u8]) -> (u64, usize)
+    requires { (0 < front) × (front < 10) }
+    ensures number { decimal result.0 ≡ decimal front ++ take result.1 digits.now }
+    ensures count { result.1 ≤ length digits.now }
+{
+    let most = digits.len().min(RUN);
+    let mut number = front;
+    for place in 0..most {
+        let digit = digits[place];
+        if digit < b'0' || digit > b'9' {
+            return (number, place);
+        }
+        number = number * 10 + (digit as u64 - 48);
+    }
+    (number, most)
 }
 
 /// The same as `number_of`, of a word of any length.
@@ -225,6 +260,44 @@ pub(crate) fn next_number(line: &[u8]) -> Option<(u64, &[u8])>
 
 /// The number before the first space, and what follows the space; None where there is no space.
 pub(crate) fn front_number(line: &[u8]) -> Option<(u64, &[u8])>
+    ensures found { IfSome result (λ r. (r.0 < 2 ^ 64)
+        × (line.now ≡ decimal r.0 ++ 32 ∷ r.1.now)) }
+    ensures reads { (n : ℕ) (rest : List ℕ) → n < 2 ^ 64 → line.now ≡ decimal n ++ 32 ∷ rest
+        → IsSomeAnd result (λ r. (r.0 ≡ n) × (r.1.now ≡ rest)) }
+{
+    match front_by_digits(line) {
+        Some(front) => Some(front),
+        None => front_by_mark(line),
+    }
+}
+
+/// The same, digit by digit. It gives None for 0 and for more than 18 digits too, which may be a number.
+fn front_by_digits(line: &[u8]) -> Option<(u64, &[u8])>
+    ensures { IfSome result (λ r. (r.0 < 2 ^ 64) × (line.now ≡ decimal r.0 ++ 32 ∷ r.1.now)) }
+{
+    let (first, rest) = line.split_first()?;
+    if *first <= b'0' || *first > b'9' {
+        return None;
+    }
+    digits_to_space((*first - b'0') as u64, rest)
+}
+
+/// The number whose digits are those of `front` and then these up to the first space, and what follows the
+/// space. It gives None for more than 18 digits too.
+fn digits_to_space(front: u64, digits: &[u8]) -> Option<(u64, &[u8])>
+    requires { (0 < front) × (front < 10) }
+    ensures { IfSome result (λ r. (r.0 < 2 ^ 64)
+        × (decimal front ++ digits.now ≡ decimal r.0 ++ 32 ∷ r.1.now)) }
+{
+    let (number, count) = digits_on(front, digits);
+    if count == digits.len() || digits[count] != b' ' {
+        return None;
+    }
+    Some((number, digits.split_at(count + 1).1))
+}
+
+/// The same as `front_number`, of a number of any length.
+fn front_by_mark(line: &[u8]) -> Option<(u64, &[u8])>
     ensures found { IfSome result (λ r. (r.0 < 2 ^ 64)
         × (line.now ≡ decimal r.0 ++ 32 ∷ r.1.now)) }
     ensures reads { (n : ℕ) (rest : List ℕ) → n < 2 ^ 64 → line.now ≡ decimal n ++ 32 ∷ rest

@@ -39,6 +39,7 @@ pub fn cut(line: &[u8]) -> (&[u8], &[u8])
 }
 
 /// Whether two texts are the same.
+#[inline(always)]
 pub fn is_same(text: &[u8], other: &[u8]) -> bool
     ensures { MatchBool result (text.now ≡ other.now) (text.now ≡ other.now → ⊥) }
 {

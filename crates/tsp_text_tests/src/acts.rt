@@ -41,11 +41,11 @@ fn writes_roles(rt: HostRuntime) {
     writes(&rt, Act::Become(Role::Master), "become master");
     writes(&rt, Act::Back(PeerId(2)), "back 2");
     writes(&rt, Act::Backer(PeerId(3)), "backer 3");
-    writes(&rt, Act::Quit(PeerId(1)), "quit 1");
-    writes(&rt, Act::Join(PeerId(0)), "join 0");
-    writes(&rt, Act::Leave(PeerId(1)), "leave 1");
-    writes(&rt, Act::Rival(PeerId(1)), "rival 1");
-    writes(&rt, Act::Acked(PeerId(1)), "acked 1");
+    writes(&rt, Act::Quit(PeerId(0)), "quit 0");
+    writes(&rt, Act::Join(PeerId(9)), "join 9");
+    writes(&rt, Act::Leave(PeerId(10)), "leave 10");
+    writes(&rt, Act::Rival(PeerId(99)), "rival 99");
+    writes(&rt, Act::Acked(PeerId(100)), "acked 100");
     writes(&rt, Act::Gave(PeerId(3)), "gave 3");
     writes(&rt, Act::Trace(true), "trace on");
     writes(&rt, Act::Trace(false), "trace off");

@@ -175,6 +175,8 @@ fn reads_events(rt: HostRuntime) {
         "at 0 boot 0 5",
         "at 10 turn 0",
         "at 1000000000000000 take 7",
+        "at 1000000000000000 take 18446744073709551615",
+        "at 1000000000000000 bytes 4294967295 4294967295 00",
         "at 5 bytes 0 - 00",
     ] {
         assert!(rt; event_line(line.as_bytes()).is_ok(), "refused {line}");
@@ -182,6 +184,10 @@ fn reads_events(rt: HostRuntime) {
     for line in [
         "at 1000000000000001 turn 0",
         "at 1 turn 4294967296",
+        "at 1000000000000000 take 18446744073709551616",
+        "at 1000000000000000 take 018446744073709551615",
+        "at 01 turn 0",
+        "at 1 turm 0",
         "at 1 bytes 0 - 0",
         "at 1 bytes 0 - ",
         "end ",

@@ -1,7 +1,6 @@
 -- What was read so far goes on with what the next read adds.
-use Rattle.std.specs.Prelude.{◌≡◌, false, refl, Err}
+use Rattle.std.specs.Prelude.{◌≡◌, refl}
 use Rattle.std.proofs.Common.{◌∙◌, arith, sym}
-use Rattle.tsp_io.specs.Counts.{Rose}
 use Rattle.tsp_lines.specs.declared.gather.Added.TheVariants.{Fault}
 use Rattle.tsp_lines.specs.declared.gather.Ungathered.TheVariants.{ReadFault}
 use Rattle.tsp_lines.proofs.Streams.{Gives-nil}

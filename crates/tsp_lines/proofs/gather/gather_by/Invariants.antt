@@ -1,4 +1,4 @@
-use Rattle.std.proofs.Common.{◌≡◌, ◌≤◌, ◌+◌, ◌-◌, length, vec_len, false}
+use Rattle.std.proofs.Common.{◌≡◌, ◌≤◌, ◌+◌, ◌-◌, length, false}
 use Rattle.tsp_io.specs.Streams.{Gives}
 use Rattle.tsp_lines.proofs.gather.gather_by.Given as goal
 

@@ -1,7 +1,6 @@
 -- What comes of the octets that were gathered comes of the input.
 use Rattle.std.specs.Prelude.{◌≡◌, [], Some, drop, refl}
 use Rattle.std.proofs.Common.{arith}
-use Rattle.tsp_lines.specs.Outcomes.{Comes}
 use Rattle.tsp_lines.specs.declared.treat.Outcome.TheVariants.{ReadFault, OutOfMemory}
 use Rattle.tsp_lines.proofs.OneAnswer.{Comes-answers}
 use Rattle.tsp_lines.proofs.Turns.{Comes-nothing}

@@ -1,5 +1,6 @@
 use Rattle.std.proofs.Common.{◌≡◌}
 use Rattle.tsp_script.proofs.OneEvent.{SpellsEvent-one}
+use Rattle.tsp_script.proofs.Outcomes.{none_not_some}
 use Rattle.tsp_script.specs.declared.event_line.EventItem.TheVariants.{Event as EventOf}
 use Rattle.tsp_script.specs.Plains.{event_in}
 use Rattle.tsp_script.proofs.event_line.event_line.Goals as goal
@@ -10,7 +11,5 @@ returns-in-Some-clause-one c = λ item s.
     let made = c.event.ensures in
     cc
 
-pub returns-in-Some-common_bytes-clause-one : goal.returns-in-Some-common_bytes-clause-one
-returns-in-Some-common_bytes-clause-one c = λ item s.
-    let e : c.in-Some-common_bytes.item ≡ item = SpellsEvent-one c.args.line.now c.in-Some-common_bytes.item item c.in-Some-common_bytes.ensures s in
-    cc
+pub any_event-requires-clause-no_plain : goal.any_event-requires-clause-no_plain
+any_event-requires-clause-no_plain c = λ plain i s. none_not_some _ (c.in-None.ensures.reads plain i s)

@@ -1,5 +1,5 @@
 use Rattle.std.proofs.Common.{ap, ◌∙◌, Err}
-use Rattle.tsp_lines.proofs.Endings.{Ends-end, Breaks-closed}
+use Rattle.tsp_lines.proofs.Endings.{Ends-end, Ends-closed, Breaks-closed}
 use Rattle.tsp_lines.proofs.progress.Progress.finish.Goals as goal
 
 pub returns-in-Err-clause-ends : goal.returns-in-Err-clause-ends
@@ -21,3 +21,7 @@ returns-in-Err-OutOfMemory-clause-ends g c = λ lines text stands accepts. (
   c.flush.new.self,
   Breaks-closed g.T.Treatment.meaning lines c.args.self.now.number _ _ _ c.args.self.now.output c.end.new.output c.flush.new.self (c.in_default.ensures.ends lines text stands accepts) c.flush.ensures.hands,
 )
+
+pub returns-in-Ok-clause-ends : goal.returns-in-Ok-clause-ends
+returns-in-Ok-clause-ends g c = λ lines text stands accepts.
+    Ends-closed g.T.Treatment.meaning lines c.args.self.now.number _ _ _ c.args.self.now.output c.end.new.output c.flush.new.self (c.in_default.ensures.ends lines text stands accepts) c.flush.ensures.hands c.in-Ok.ensures.ok

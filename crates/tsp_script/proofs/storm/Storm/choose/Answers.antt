@@ -1,7 +1,17 @@
-use Rattle.std.proofs.Common.{◌≤◌, ◌+◌, ◌∙◌, subst, ap}
+use Rattle.std.proofs.Common.{◌≤◌, ◌<◌, ◌+◌, ◌∙◌, subst, ap}
 use Rattle.tsp_script.specs.Storms.{StormValue}
-use Rattle.tsp_script.proofs.StormDraws.{draw-ask, draw-request}
+use Rattle.tsp_script.proofs.StormDraws.{draw-boot, draw-turn, draw-ask, draw-request}
 use Rattle.tsp_script.proofs.storm.Storm.choose.Goals as goal
+
+pub returns-then-self-clause-next : goal.returns-then-self-clause-next
+returns-then-self-clause-next c =
+    let more : c.args.self.now.given < c.args.self.now.nodes = subst (λ (v : StormValue). v.given < v.nodes) c.self.view_is c.if-self.true in
+    c.boot.ensures.next ∙ draw-boot c.args.posted c.args.self.now more
+
+pub returns-then-c-lt4-clause-next : goal.returns-then-c-lt4-clause-next
+returns-then-c-lt4-clause-next c =
+    let booted : c.args.self.now.nodes ≤ c.args.self.now.given = subst (λ (v : StormValue). v.nodes ≤ v.given) c.self.view_is c.if-self.false in
+    c.turn.ensures.next ∙ draw-turn c.args.posted _ c.draw.result c.draw-c.result c.args.self.now c.draw.new.self c.draw-c.new.self booted c.draw.ensures.moves c.draw-c.ensures.moves (ap (λ (v : StormValue). v.at + c.draw.result) c.self.view_is) c.draw.ensures.value c.draw-c.ensures.value c.if-c-lt4.true
 
 pub returns-then-c-lt7-clause-next : goal.returns-then-c-lt7-clause-next
 returns-then-c-lt7-clause-next c =
