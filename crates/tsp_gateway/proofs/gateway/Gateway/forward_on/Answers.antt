@@ -22,7 +22,7 @@ returns-then-is_awake-clause-row g c x =
     let awake : is_awake_on past (port_at r) ≡ true = ap (λ (role : Role). not (is_starting_role role)) (sym s.role) ∙ sym c.is_awake.ensures ∙ c.if-is_awake.true in
     rw awake refl)
     (All_posted r (reposts m) m c.requires.kind (emits_reposts m c.requires.kind refl) there (rw (c.port_at.ensures, c.station-station.ensures) at c.repost.ensures.acts)
-    (λ past h. let s = h.first.station in rw (s.own, s.peers) refl))
+    (λ past h. let s = h.port.station in rw (s.own, s.peers) refl))
 
 pub returns-else-is_awake-clause-row : goal.returns-else-is_awake-clause-row
 unfolding reposts_on

@@ -24,6 +24,6 @@ returns-clause-row g c x =
     let name = c.copy-name.ensures in
     All_posted q (sends_loops (port_at q)) c.new-message.result kind (emits_loops (port_at q) refl) there (rw (c.port_at.ensures, c.station-station.ensures) at c.repost.ensures.acts)
     (λ past h.
-    let s = h.first.station in
+    let s = h.port.station in
     let one : c.copy-name.result ≡ past.name = name ∙ ap (λ (st : Station). st.me.name) c.station-station.ensures ∙ s.name in
     rw (c.new-message.ensures, one, s.own, s.peers) (loops_are (port_at q) past.name (others past.own past.peers)))
