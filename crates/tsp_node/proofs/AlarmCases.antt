@@ -23,11 +23,9 @@ use Rattle.tsp_rules.specs.Guards.{is_due, is_in_time, is_over, rivals_at}
 use Rattle.tsp_rules.proofs.Emits.{Alarming, Emits, Emits_arms, Emits_each, Emits_either, Emits_more, Emits_puts, Emits_reading, Emits_then, Leading, Numbering}
 use Rattle.tsp_rules.proofs.EmitsCandidate.{silent_window}
 use Rattle.tsp_rules.proofs.EmitsSlave.{emits_begins, silent_elect_rings, silent_quiet, silent_search, silent_sorts}
-use Rattle.tsp_clock.specs.Clocks.{ClockValue}
 use Rattle.tsp_slave.proofs.BesideLemmas.{beside_sorts}
 use Rattle.tsp_master.proofs.CloseLemmas.{corrects-none}
 use Rattle.tsp_master.proofs.LeadLemmas.{still_sorts}
-use Rattle.tsp_node.specs.declared.part.Part.{Part}
 use Rattle.tsp_node.specs.NodeStands.{PortUntaken, PortValue}
 use Rattle.tsp_node.specs.RoleAlarms.{is_of_slave}
 

@@ -27,7 +27,6 @@ use Rattle.tsp_sends.specs.Repeating.{RepeatsNext, is_due_send, peer_of}
 use Rattle.tsp_acks.specs.declared.station.Station.{Station}
 use Rattle.tsp_acks.specs.Stands.{Stands, StandsStill}
 use Rattle.tsp_acks.proofs.StandsLemmas.{Stands_idle}
-use Rattle.tsp_clock.specs.Clocks.{ClockValue}
 use Rattle.tsp_clock.specs.ClockStands.{ClockStands}
 use Rattle.tsp_slave.specs.Lasts.{Remembers}
 use Rattle.tsp_slave.proofs.BesideLemmas.{beside_sorts, ClockStands_by, Remembers_by}
@@ -37,7 +36,6 @@ use Rattle.tsp_master.proofs.TableLemmas.{MasterStands_quiet, quiet_sorts}
 use Rattle.tsp_date.specs.DateStands.{DatesStand}
 use Rattle.tsp_date.proofs.KeepLemmas.{DatesStand_post}
 use Rattle.tsp_resolve.specs.ResolveStands.{ResolveStands}
-use Rattle.tsp_node.specs.declared.part.Part.{Part}
 use Rattle.tsp_node.specs.Dues.{IsNoted}
 use Rattle.tsp_node.specs.NodeStands.{PortBegun, PortValue}
 

@@ -35,17 +35,15 @@ use Rattle.tsp_rules.proofs.Emits.{Emits_more}
 use Rattle.tsp_acks.specs.declared.station.Station.{Station}
 use Rattle.tsp_acks.specs.Stands.{Stands}
 use Rattle.tsp_acks.proofs.PeerLemmas.{Contains-among}
-use Rattle.tsp_clock.specs.Clocks.{ClockValue}
 use Rattle.tsp_master.specs.declared.master.Master.{Master as MasterValue}
 use Rattle.tsp_master.specs.MasterStands.{MasterStands}
 use Rattle.tsp_master.specs.MasterTakes.{master_takes_kind_here}
 use Rattle.tsp_master.proofs.TableLemmas.{MasterStands_quiet}
 use Rattle.tsp_master.proofs.TurnLemmas.{MasterStands_idle, MasterStands_unheld}
-use Rattle.tsp_node.specs.declared.part.Part.{Part}
 use Rattle.tsp_node.specs.declared.audience.Audience.{Audience}
 use Rattle.tsp_node.specs.declared.audience.Audience.TheVariants.{OfClients, OfNode, OfRoles, OfSends}
 use Rattle.tsp_node.specs.Audiences.{audience_of, heard_from, hears_by}
-use Rattle.tsp_node.specs.NodeStands.{PortStands, PortTook, PortValue, TakeStands, TookStands, TracedValue}
+use Rattle.tsp_node.specs.NodeStands.{PortStands, PortTook, PortValue}
 use Rattle.tsp_node.proofs.EmitsRoles.{calm_sorts, emits_candidate, emits_yields}
 use Rattle.tsp_node.proofs.NodeLemmas.{Performs_pass}
 

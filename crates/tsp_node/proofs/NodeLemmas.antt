@@ -42,7 +42,6 @@ use Rattle.tsp_resolve.specs.declared.resolve.Resolve.{Resolve}
 use Rattle.tsp_resolve.specs.ResolveStands.{ResolveStands, ResolvingStands}
 use Rattle.tsp_resolve.proofs.ResolveLemmas.{ResolveStands_by, unchanging}
 use Rattle.tsp_node.specs.declared.node.Node.{Node}
-use Rattle.tsp_node.specs.declared.part.Part.{Part}
 use Rattle.tsp_node.specs.Unmarking.{Unmarks}
 use Rattle.tsp_node.specs.NodeStands.{PortBegun, PortStands, PortTook, PortUntaken, PortValue, NodeStands, NodeUntaken, Begun, TakeStands, TookStands, Traced, TracedValue, port_with, traced_of}
 use Rattle.tsp_node.proofs.EmitsRoles.{role_sorts}

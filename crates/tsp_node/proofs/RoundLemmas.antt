@@ -17,14 +17,12 @@ use Rattle.tsp_base.specs.SendFacts.{correcting_of}
 use Rattle.tsp_rules.specs.RoundRows.{corrects, is_correct}
 use Rattle.tsp_rules.proofs.Emits.{AllOf, Emits, Emits_more, Emits_nothing, is_in, sort_of}
 use Rattle.tsp_rules.proofs.EmitsRounds.{emits_close_rings, emits_probe_rings, emits_round_rings, round_sorts}
-use Rattle.tsp_clock.specs.Clocks.{ClockValue}
 use Rattle.tsp_slave.specs.Lasts.{LastValue, Remembers}
 use Rattle.tsp_master.specs.MasterAlarms.{master_rings}
 use Rattle.tsp_master.specs.MasterStands.{RingStands}
 use Rattle.tsp_date.specs.DateStands.{DatesStand}
 use Rattle.tsp_date.proofs.KeepLemmas.{DatesAside_by, passes_date}
 use Rattle.tsp_resolve.proofs.ResolveLemmas.{ResolveStands_by}
-use Rattle.tsp_node.specs.declared.part.Part.{Part}
 use Rattle.tsp_node.specs.NodeStands.{PortUntaken, PortValue}
 use Rattle.tsp_node.proofs.NodeLemmas.{untaken_by, untaking_sorts}
 

@@ -1,6 +1,5 @@
 -- A peer of the port, where the quiet time is over.
-use Rattle.std.proofs.Common.{◌≡◌, true, false, refl, sym, ◌∙◌}
-use Rattle.tsp_node.specs.Audiences.{hears_by}
+use Rattle.std.proofs.Common.{sym, ◌∙◌}
 use Rattle.tsp_node.proofs.HearLemmas.{heard-peer, heard-stranger, is_stranger, unheard-peer}
 use Rattle.tsp_node.proofs.part.Part.heard.Goals as goal
 

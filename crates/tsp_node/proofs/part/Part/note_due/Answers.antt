@@ -1,8 +1,5 @@
 -- Each has its call.
-use Rattle.std.proofs.Common.{◌≡◌, refl, sym}
-use Rattle.std.specs.List.{Contains}
-use Rattle.tsp_sends.specs.Repeating.{peer_of}
-use Rattle.tsp_node.specs.Dues.{IsNoted}
+use Rattle.std.proofs.Common.{refl, sym}
 use Rattle.tsp_node.proofs.part.Part.note_due.Goals as goal
 
 pub repeat-requires : goal.repeat-requires
