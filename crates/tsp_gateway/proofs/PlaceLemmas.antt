@@ -1,11 +1,13 @@
 -- A port in its place among a node's ports.
-use Rattle.std.specs.Prelude.{◌≡◌, ◌<◌, ℕ, zero, suc, Bool, true, false, not, nat_le, nat_lt, List, [], ◌∷◌, length, map, Some, slice_get, refl}
-use Rattle.std.proofs.Common.{ap, arith, subst, sym, ◌∙◌}
+use Rattle.std.specs.Prelude.{◌≡◌, ◌<◌, ℕ, zero, suc, not, nat_le, nat_lt, List, [], ◌∷◌, length, map, Some, slice_get}
+use Rattle.std.proofs.Common.{ap, arith, get_or, subst, sym, ◌∙◌}
 use Rattle.std.proofs.Math.ListN.{set}
 use Rattle.std.proofs.lemmas.List.{length-map}
+use Rattle.tsp_acks.specs.declared.station.Station.{Station}
 use Rattle.tsp_node.specs.declared.part.Part.{Part}
 use Rattle.tsp_gateway.specs.declared.gateway.Gateway.{Gateway}
 use Rattle.tsp_gateway.specs.Rooms.{peers_at, ports_in}
+use Rattle.tsp_gateway.proofs.LiftLemmas.{part_there}
 
 -- a number of a port is a place
 pub inside : (g : Gateway) (q : ℕ) → q < length (ports_in g) → q < length g.ports.items
@@ -16,6 +18,10 @@ pub peers_there : (parts : List Part) (q : ℕ) (part : Part) → slice_get part
 peers_there [] q part e = let bad : ⊥ = cc in absurd bad
 peers_there (x ∷ parts) zero part e = let same : x ≡ part = cc in ap (λ (p : Part). length p.station.peers) same
 peers_there (x ∷ parts) (suc q) part e = peers_there parts q part e
+
+-- and how many its station has
+pub station_peers : (g : Gateway) (q : ℕ) (part : Part) (station : Station) → q < length (ports_in g) → part ≡ get_or g.ports.items q part → station ≡ part.station → peers_at q (ports_in g) ≡ length station.peers
+station_peers g q part station lt is s = peers_there g.ports.items q part (part_there g q part lt is) ∙ ap (λ (st : Station). length st.peers) (sym s)
 
 -- the peers of the ports stay where one port changed and kept its own
 pub ports_set : (parts : List Part) (q : ℕ) (old new : Part) → slice_get parts q ≡ Some old → new.station.peers ≡ old.station.peers → map (λ (p : Part). p.station.peers) (set parts q new) ≡ map (λ (p : Part). p.station.peers) parts

@@ -1,5 +1,5 @@
 -- LOOPs are posted, which changes nothing of a port.
-use Rattle.std.specs.Prelude.{◌≡◌, ℕ, Bool, true, false, List, [], ◌∷◌, ◌++◌, map, Some, slice_get, refl}
+use Rattle.std.specs.Prelude.{◌≡◌, ℕ, true, false, List, [], ◌∷◌, ◌++◌, map, Some, slice_get, refl}
 use Rattle.std.proofs.Common.{sym, subst, ap, ◌∙◌}
 use Rattle.tsp_base.specs.declared.act.Placed.{Placed}
 use Rattle.tsp_base.specs.declared.kind.Kind.TheVariants.{Loop as LoopKind}
@@ -18,7 +18,6 @@ use Rattle.tsp_rules.specs.NodeRows.{on, on_port}
 use Rattle.tsp_rules.proofs.Emits.{Sort, AllOf, Emits, Emits_puts, Posting, is_in, sort_of_kind}
 use Rattle.tsp_acks.proofs.StandsLemmas.{Stands_post}
 use Rattle.tsp_clients.proofs.ClientLemmas.{TraceStands_by}
-use Rattle.tsp_clock.specs.Clocks.{ClockValue}
 use Rattle.tsp_date.proofs.KeepLemmas.{DatesStand_by}
 use Rattle.tsp_master.proofs.TableLemmas.{MasterStands_quiet, quiet_sorts}
 use Rattle.tsp_resolve.proofs.ResolveLemmas.{ResolveStands_by}

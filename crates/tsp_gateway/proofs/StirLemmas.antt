@@ -21,7 +21,6 @@ use Rattle.tsp_rules.specs.RoundRows.{abandons, corrects, probe_rings}
 use Rattle.tsp_rules.specs.Guards.{is_due, is_in_time}
 use Rattle.tsp_rules.proofs.Emits.{Emits}
 use Rattle.tsp_rules.proofs.NodeRowLemmas.{All_then, spread_append}
-use Rattle.tsp_clients.specs.ClientStands.{TraceStands}
 use Rattle.tsp_node.specs.declared.part.Part.{Part}
 use Rattle.tsp_node.specs.NodeStands.{PortUntaken, Traced, port_with}
 use Rattle.tsp_node.proofs.TakeEmits.{silent_trace}

@@ -23,9 +23,7 @@ use Rattle.tsp_rules.proofs.NodeRowLemmas.{Bootless, on_own}
 use Rattle.tsp_rules.proofs.CalmAlarms.{calm_rings, moves_by}
 use Rattle.tsp_rules.proofs.FewActs.{is_calm, is_calm_act}
 use Rattle.tsp_rules.proofs.Asides.{on_other}
-use Rattle.tsp_clients.specs.ClientStands.{TraceStands}
 use Rattle.tsp_clients.proofs.ClientLemmas.{TraceStands_by}
-use Rattle.tsp_clock.specs.Clocks.{ClockValue}
 use Rattle.tsp_node.specs.declared.part.Part.{Part}
 use Rattle.tsp_node.specs.NodeStands.{PortBegun, PortUntaken, PortValue, Traced, port_with, traced_with}
 use Rattle.tsp_node.proofs.NodeLemmas.{Performs_traced, untaken_by}

@@ -1,6 +1,5 @@
 -- The port's own deadline, if it has one.
-use Rattle.std.proofs.Common.{◌≡◌, ap, arith, subst, sym, refl}
-use Rattle.tsp_rules.specs.Guards.{is_over}
+use Rattle.std.proofs.Common.{◌≡◌, subst, refl}
 use Rattle.tsp_node.specs.declared.part.Part.{Part}
 use Rattle.tsp_node.specs.Dues.{IsPartDue}
 use Rattle.tsp_gateway.proofs.LiftLemmas.{part_there}
