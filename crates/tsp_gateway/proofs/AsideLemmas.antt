@@ -17,7 +17,7 @@ use Rattle.tsp_date.specs.DateStands.{DatesStand}
 use Rattle.tsp_master.specs.MasterStands.{MasterStands}
 use Rattle.tsp_resolve.specs.ResolveStands.{ResolveStands}
 use Rattle.tsp_node.specs.declared.part.Part.{Part}
-use Rattle.tsp_node.specs.NodeStands.{PartStands, PortStands, PortValue, port_in}
+use Rattle.tsp_node.specs.NodeStands.{PortStands, PortValue, port_with}
 use Rattle.tsp_gateway.specs.Untold.{told}
 
 -- all that a port stands for but the clock, and which correction it remembers
@@ -104,22 +104,22 @@ moved-all-aside x past (a ∷ later) b c = by_case (is_correct a) refl c (λ f. 
   by_case true e f more = told-all-aside x (aside x past a) later b.1 (moved-aside x past a e)
   by_case false e f more = more f
 
-aside-of : (past : Past) (part : Part) (clock : ClockValue) → PartStands past (part, clock) → StandsAside past (port_in (part, clock))
+aside-of : (past : Past) (part : Part) (clock : ClockValue) → PortStands past (port_with part clock) → StandsAside past (port_with part clock)
 aside-of past part clock h = record { station = h.station; name_is = h.last.name_is; master = h.master; resolve = h.resolve; dates = h.dates }
 
 -- another port's acts leave a port alone that don't correct
-pub stands_still : (x : ℕ) (past : Past) (acts : List Act) (part : Part) (before after : ClockValue) → Bootless acts → corrects acts ≡ false → ClockStands (all_aside x past acts) after → PartStands past (part, before) →
-    PartStands (all_aside x past acts) (part, after)
+pub stands_still : (x : ℕ) (past : Past) (acts : List Act) (part : Part) (before after : ClockValue) → Bootless acts → corrects acts ≡ false → ClockStands (all_aside x past acts) after → PortStands past (port_with part before) →
+    PortStands (all_aside x past acts) (port_with part after)
 stands_still x past acts part before after b c k h =
-    let s = stands-all-aside x past acts (port_in (part, before)) b (aside-of past part before h) in
+    let s = stands-all-aside x past acts (port_with part before) b (aside-of past part before h) in
     let r = still-all-aside x past acts part.last.tick part.last.taken b c (record { tick_is = h.last.tick_is; taken_is = h.last.taken_is }) in
     record { station = s.station; last = record { tick_is = r.tick_is; taken_is = r.taken_is; name_is = s.name_is }; master = s.master; resolve = s.resolve; dates = s.dates; clock = k }
 
 -- it stands once it is told where they do
-pub stands_told : (x : ℕ) (past : Past) (acts : List Act) (part : Part) (before after : ClockValue) → Bootless acts → corrects acts ≡ true → ClockStands (all_aside x past acts) after → PartStands past (part, before) →
+pub stands_told : (x : ℕ) (past : Past) (acts : List Act) (part : Part) (before after : ClockValue) → Bootless acts → corrects acts ≡ true → ClockStands (all_aside x past acts) after → PortStands past (port_with part before) →
     PortStands (all_aside x past acts) (told x part after)
 stands_told x past acts part before after b c k h =
-    let s = stands-all-aside x past acts (port_in (part, before)) b (aside-of past part before h) in
+    let s = stands-all-aside x past acts (port_with part before) b (aside-of past part before h) in
     let r = moved-all-aside x past acts b c in
     record { station = s.station; last = record { tick_is = r.tick_is; taken_is = r.taken_is; name_is = s.name_is }; master = s.master; resolve = s.resolve; dates = s.dates; clock = k }
 

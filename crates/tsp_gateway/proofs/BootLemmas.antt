@@ -12,7 +12,7 @@ use Rattle.tsp_acks.specs.Stands.{IsPortOf}
 use Rattle.tsp_clock.specs.ClockStands.{ClockStands}
 use Rattle.tsp_node.specs.declared.part.Part.{Part}
 use Rattle.tsp_node.specs.Configs.{IsPortSetup}
-use Rattle.tsp_node.specs.NodeStands.{PartStands}
+use Rattle.tsp_node.specs.NodeStands.{PortStands, port_with}
 use Rattle.tsp_gateway.specs.declared.gateway.Gateway.{Gateway}
 use Rattle.tsp_gateway.specs.GateConfigs.{ArePorts, GateConfigValue, UnbootedNode, peers_of_ports}
 use Rattle.tsp_gateway.specs.GatewayStands.{GatewayStands, port_at}
@@ -57,7 +57,7 @@ booted c word x wall past g fresh flag clock u = record {
         strict = sym u.of.strict;
         peers_are = ap (λ (ps : List PortSetup). (slice_index_or ps q no_port).peers) (sym u.of.ports);
       } in
-      subst (λ (p : Past). PartStands p (part, g.clock)) (sym (boot-on (port_at q) x past)) ((fresh.each q part is).1 (on_port (port_at q) past) wall g.clock of u.cause (clock (on_port (port_at q) past) u.cause));
+      subst (λ (p : Past). PortStands p (port_with part g.clock)) (sym (boot-on (port_at q) x past)) ((fresh.each q part is).1 (on_port (port_at q) past) wall g.clock of u.cause (clock (on_port (port_at q) past) u.cause));
 }
 
 -- its ports have the peers that they were set up with

@@ -21,7 +21,7 @@ use Rattle.tsp_rules.specs.SendRows.{due_send, due_sends, repeats_send}
 use Rattle.tsp_sends.specs.Repeating.{IsEarliest, is_due_send}
 use Rattle.tsp_node.specs.declared.part.Part.{Part}
 use Rattle.tsp_node.specs.Dues.{IsPartDue}
-use Rattle.tsp_node.specs.NodeStands.{PartStands}
+use Rattle.tsp_node.specs.NodeStands.{PortStands, port_with}
 use Rattle.tsp_node.proofs.DueLemmas.{IsEarliest-open}
 use Rattle.tsp_clock.specs.Clocks.{ClockValue}
 use Rattle.tsp_gateway.specs.declared.gateway.Gateway.{Gateway}
@@ -92,7 +92,7 @@ unfolding alarms_on
 no_alarms_on q x past e = no_alarms q ALL x past e
 
 -- the turn of a port where the earliest deadline hasn't come
-no_turn : (q : Port) (x : ℕ) (past : NodePast) (part : Part) (clock : ClockValue) (due : Option ℕ) → PartStands (on_port q past) (part, clock) → IsPartDue part due → is_over due x ≡ false → turns_on q x past ≡ []
+no_turn : (q : Port) (x : ℕ) (past : NodePast) (part : Part) (clock : ClockValue) (due : Option ℕ) → PortStands (on_port q past) (port_with part clock) → IsPartDue part due → is_over due x ≡ false → turns_on q x past ≡ []
 unfolding turns_on on due_sends reading ◌and_then◌
 no_turn q x past part clock due h d e =
     let both = neither_over (least_deadline part.station.alarms) d.sends x (rw d.due_is at e) in

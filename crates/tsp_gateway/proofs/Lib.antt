@@ -7,6 +7,7 @@ pub mod IdleLemmas
 pub mod JudgeLemmas
 pub mod LiftLemmas
 pub mod LoopLemmas
+pub mod PlaceLemmas
 pub mod PostLemmas
 pub mod RoomLemmas
 pub mod StirLemmas

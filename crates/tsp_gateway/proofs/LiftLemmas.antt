@@ -12,7 +12,6 @@ use Rattle.tsp_base.specs.History.{Past, dids, plain}
 use Rattle.tsp_base.specs.NodeFacts.{tracing}
 use Rattle.tsp_base.specs.Performs.{Performs}
 use Rattle.tsp_base.specs.Rows.{Row, grown, placed}
-use Rattle.tsp_base.proofs.PerformsLemmas.{Performs_beside}
 use Rattle.tsp_base.proofs.Views.{plain_view}
 use Rattle.tsp_rules.specs.NodePerforms.{PerformsAll}
 use Rattle.tsp_rules.specs.NodeRows.{NodePast, NodeRow, abandons_on, for_ports, on, on_port, reading_all, spread, stirring, ◌and_then◌}
@@ -25,7 +24,8 @@ use Rattle.tsp_clients.proofs.ClientLemmas.{TraceStands_by}
 use Rattle.tsp_clock.specs.Clocks.{ClockValue}
 use Rattle.tsp_clock.specs.ClockStands.{ClockStands}
 use Rattle.tsp_node.specs.declared.part.Part.{Part}
-use Rattle.tsp_node.specs.NodeStands.{PartStands, PortStands, TakeStands}
+use Rattle.tsp_node.specs.NodeStands.{PortStands, PortValue, TakeStands, TracedValue, port_with, traced_with}
+use Rattle.tsp_node.proofs.NodeLemmas.{Performs_traced}
 use Rattle.tsp_node.proofs.TakeEmits.{bootless, silent_trace}
 use Rattle.tsp_gateway.specs.declared.gateway.Gateway.{Gateway}
 use Rattle.tsp_gateway.specs.GatewayStands.{GatewayStands, port_at}
@@ -63,8 +63,8 @@ pub apart : (q r : ℕ) → q ≢ r → ((port_at q).0 == (port_at r).0) ≡ fal
 apart q r n = ne_eqb q r n
 
 -- what a port of a node stands for, with the trace
-pub take_stands : (q : ℕ) (past : NodePast) (g : Gateway) (part : Part) → slice_get g.ports.items q ≡ Some part → GatewayStands past g → TakeStands (on_port (port_at q) past) ((part, g.clock), g.tracing)
-take_stands q past g part was h = record { first = h.ports q part was; second = ap tracing (plain_view (port_at q) past.lines) ∙ h.traces }
+pub take_stands : (q : ℕ) (past : NodePast) (g : Gateway) (part : Part) → slice_get g.ports.items q ≡ Some part → GatewayStands past g → TakeStands (on_port (port_at q) past) (traced_with part g.clock g.tracing)
+take_stands q past g part was h = record { port = h.ports q part was; trace = ap tracing (plain_view (port_at q) past.lines) ∙ h.traces }
 
 -- what all ports see alike of a port's acts
 same-plain : (q r x : ℕ) (past : NodePast) (acts : List Act) → plain (grown x (on_port (port_at q) past) acts).seen ≡ plain (on_port (port_at r) (spread x past (placed (port_at q) acts))).seen
@@ -76,8 +76,8 @@ traces-on : (q x : ℕ) (past : NodePast) (acts : List Act) (flag : Bool) → Tr
 traces-on q x past acts flag h =
     ap tracing (sym (plain_view (port_at q) (spread x past (placed (port_at q) acts)).lines)) ∙ ap (λ (p : Past). tracing (plain p.seen)) (on_own (port_at q) x past acts) ∙ h
 
-own-on : (q x : ℕ) (past : NodePast) (acts : List Act) (both : Part × ClockValue) → PartStands (grown x (on_port (port_at q) past) acts) both → PartStands (on_port (port_at q) (spread x past (placed (port_at q) acts))) both
-own-on q x past acts both h = subst (λ (p : Past). PartStands p both) (sym (on_own (port_at q) x past acts)) h
+own-on : (q x : ℕ) (past : NodePast) (acts : List Act) (state : PortValue) → PortStands (grown x (on_port (port_at q) past) acts) state → PortStands (on_port (port_at q) (spread x past (placed (port_at q) acts))) state
+own-on q x past acts state h = subst (λ (p : Past). PortStands p state) (sym (on_own (port_at q) x past acts)) h
 
 clock-on : (q r x : ℕ) (past : NodePast) (acts : List Act) (clock : ClockValue) → q ≢ r → Bootless acts → ClockStands (grown x (on_port (port_at q) past) acts) clock → ClockStands (all_aside x (on_port (port_at r) past) acts) clock
 clock-on q r x past acts clock n b h =
@@ -86,43 +86,43 @@ clock-on q r x past acts clock n b h =
 
 -- a node stands after acts of a port that don't correct
 stands-on : (q x : ℕ) (past : NodePast) (acts : List Act) (g h : Gateway) (part : Part) → Bootless acts → corrects acts ≡ false → h.ports.items ≡ set g.ports.items q part → GatewayStands past g →
-    TakeStands (grown x (on_port (port_at q) past) acts) ((part, h.clock), h.tracing) → GatewayStands (spread x past (placed (port_at q) acts)) h
+    TakeStands (grown x (on_port (port_at q) past) acts) (traced_with part h.clock h.tracing) → GatewayStands (spread x past (placed (port_at q) acts)) h
 stands-on q x past acts g h part b c is s t = record {
   many = ap (λ (ps : List Part). length ps) is ∙ length-set g.ports.items q part ∙ s.many;
-  traces = traces-on q x past acts h.tracing t.second;
+  traces = traces-on q x past acts h.tracing t.trace;
   ports = λ r p there. elim (set_cases g.ports.items q r part p (subst (λ (ps : List Part). slice_get ps r ≡ Some p) is there)) [
-    | inl same ↦ subst (λ k. PartStands (on_port (port_at k) (spread x past (placed (port_at q) acts))) (p, h.clock)) same.0
-        (subst (λ (k : Part). PartStands (on_port (port_at q) (spread x past (placed (port_at q) acts))) (k, h.clock)) same.1 (own-on q x past acts (part, h.clock) t.first))
-    | inr other ↦ subst (λ (k : Past). PartStands k (p, h.clock)) (sym (on_other (port_at q) (port_at r) x past acts (apart q r other.0) b))
-        (stands_still x (on_port (port_at r) past) acts p g.clock h.clock b c (clock-on q r x past acts h.clock other.0 b t.first.clock) (s.ports r p other.1))
+    | inl same ↦ subst (λ k. PortStands (on_port (port_at k) (spread x past (placed (port_at q) acts))) (port_with p h.clock)) same.0
+        (subst (λ (k : Part). PortStands (on_port (port_at q) (spread x past (placed (port_at q) acts))) (port_with k h.clock)) same.1 (own-on q x past acts (port_with part h.clock) t.port))
+    | inr other ↦ subst (λ (k : Past). PortStands k (port_with p h.clock)) (sym (on_other (port_at q) (port_at r) x past acts (apart q r other.0) b))
+        (stands_still x (on_port (port_at r) past) acts p g.clock h.clock b c (clock-on q r x past acts h.clock other.0 b t.port.clock) (s.ports r p other.1))
   ];
 }
 
 -- it stands once the other ports are told after acts that do
 untold-on : (q x : ℕ) (past : NodePast) (acts : List Act) (g h : Gateway) (part : Part) → Bootless acts → corrects acts ≡ true → h.ports.items ≡ set g.ports.items q part → GatewayStands past g →
-    TakeStands (grown x (on_port (port_at q) past) acts) ((part, h.clock), h.tracing) → Untold q x (spread x past (placed (port_at q) acts)) h
+    TakeStands (grown x (on_port (port_at q) past) acts) (traced_with part h.clock h.tracing) → Untold q x (spread x past (placed (port_at q) acts)) h
 untold-on q x past acts g h part b c is s t = record {
   many = ap (λ (ps : List Part). length ps) is ∙ length-set g.ports.items q part ∙ s.many;
-  traces = traces-on q x past acts h.tracing t.second;
+  traces = traces-on q x past acts h.tracing t.trace;
   here = λ p there. elim (set_cases g.ports.items q q part p (subst (λ (ps : List Part). slice_get ps q ≡ Some p) is there)) [
-    | inl same ↦ subst (λ (k : Part). PartStands (on_port (port_at q) (spread x past (placed (port_at q) acts))) (k, h.clock)) same.1 (own-on q x past acts (part, h.clock) t.first)
+    | inl same ↦ subst (λ (k : Part). PortStands (on_port (port_at q) (spread x past (placed (port_at q) acts))) (port_with k h.clock)) same.1 (own-on q x past acts (port_with part h.clock) t.port)
     | inr other ↦ absurd (other.0 refl)
   ];
   others = λ r p there n. elim (set_cases g.ports.items q r part p (subst (λ (ps : List Part). slice_get ps r ≡ Some p) is there)) [
     | inl same ↦ absurd (n (sym same.0))
     | inr other ↦ subst (λ (k : Past). PortStands k (told x p h.clock)) (sym (on_other (port_at q) (port_at r) x past acts (apart q r other.0) b))
-        (stands_told x (on_port (port_at r) past) acts p g.clock h.clock b c (clock-on q r x past acts h.clock other.0 b t.first.clock) (s.ports r p other.1))
+        (stands_told x (on_port (port_at r) past) acts p g.clock h.clock b c (clock-on q r x past acts h.clock other.0 b t.port.clock) (s.ports r p other.1))
   ];
 }
 
 -- a port's call that doesn't correct
-pub All_on : {W : NodePast → Gateway → Type 0} {P Q : Past → (Part × ClockValue) × Bool → Type 0} {row : Row} {x q : ℕ} {g h : Gateway} {before after : Part} {old new : List Placed} → Emits bootless row →
+pub All_on : {W : NodePast → Gateway → Type 0} {P Q : Past → TracedValue → Type 0} {row : Row} {x q : ℕ} {g h : Gateway} {old new : List Placed} (before after : Part) → Emits bootless row →
     ((past : NodePast) → W past g → corrects (row x (on_port (port_at q) past)) ≡ false) → h.ports.items ≡ set g.ports.items q after → ((past : NodePast) → W past g → GatewayStands past g) →
-    ((past : NodePast) → W past g → P (on_port (port_at q) past) ((before, g.clock), g.tracing)) →
-    ((past : Past) → Q past ((after, h.clock), h.tracing) → TakeStands past ((after, h.clock), h.tracing)) →
-    Performs P Q row x (port_at q) ((before, g.clock), g.tracing) ((after, h.clock), h.tracing) old new → PerformsAll W GatewayStands (on (port_at q) row) x g h old new
+    ((past : NodePast) → W past g → P (on_port (port_at q) past) (traced_with before g.clock g.tracing)) →
+    ((past : Past) → Q past (traced_with after h.clock h.tracing) → TakeStands past (traced_with after h.clock h.tracing)) →
+    Performs P Q row x (port_at q) (traced_with before g.clock g.tracing) (traced_with after h.clock h.tracing) old new → PerformsAll W GatewayStands (on (port_at q) row) x g h old new
 unfolding on
-All_on {row = row} {x = x} {q = q} {g = g} {h = h} {after = after} e still is stands from to d = record {
+All_on {row = row} {x = x} {q = q} {g = g} {h = h} before after e still is stands from to d = record {
   acts = λ past w. d.acts (on_port (port_at q) past) (from past w);
   stands = λ past w.
       let acts = row x (on_port (port_at q) past) in
@@ -130,13 +130,13 @@ All_on {row = row} {x = x} {q = q} {g = g} {h = h} {after = after} e still is st
 }
 
 -- a port's call that does
-pub All_moved : {W : NodePast → Gateway → Type 0} {P Q : Past → (Part × ClockValue) × Bool → Type 0} {row : Row} {x q : ℕ} {g h : Gateway} {before after : Part} {old new : List Placed} → Emits bootless row →
+pub All_moved : {W : NodePast → Gateway → Type 0} {P Q : Past → TracedValue → Type 0} {row : Row} {x q : ℕ} {g h : Gateway} {old new : List Placed} (before after : Part) → Emits bootless row →
     ((past : NodePast) → W past g → corrects (row x (on_port (port_at q) past)) ≡ true) → h.ports.items ≡ set g.ports.items q after → ((past : NodePast) → W past g → GatewayStands past g) →
-    ((past : NodePast) → W past g → P (on_port (port_at q) past) ((before, g.clock), g.tracing)) →
-    ((past : Past) → Q past ((after, h.clock), h.tracing) → TakeStands past ((after, h.clock), h.tracing)) →
-    Performs P Q row x (port_at q) ((before, g.clock), g.tracing) ((after, h.clock), h.tracing) old new → PerformsAll W (Untold q x) (on (port_at q) row) x g h old new
+    ((past : NodePast) → W past g → P (on_port (port_at q) past) (traced_with before g.clock g.tracing)) →
+    ((past : Past) → Q past (traced_with after h.clock h.tracing) → TakeStands past (traced_with after h.clock h.tracing)) →
+    Performs P Q row x (port_at q) (traced_with before g.clock g.tracing) (traced_with after h.clock h.tracing) old new → PerformsAll W (Untold q x) (on (port_at q) row) x g h old new
 unfolding on
-All_moved {row = row} {x = x} {q = q} {g = g} {h = h} {after = after} e moves is stands from to d = record {
+All_moved {row = row} {x = x} {q = q} {g = g} {h = h} before after e moves is stands from to d = record {
   acts = λ past w. d.acts (on_port (port_at q) past) (from past w);
   stands = λ past w.
       let acts = row x (on_port (port_at q) past) in
@@ -189,11 +189,11 @@ part_there g q part lt is =
     slice_get-get_or g.ports.items q part inside ∙ ap (λ p. Some p) (sym is)
 
 -- a port's call that leaves clock and trace alone
-pub All_here : {row : Row} {x q : ℕ} {g h : Gateway} {before after : Part} {old new : List Placed} → Emits still_sorts row → slice_get g.ports.items q ≡ Some before → h.ports.items ≡ set g.ports.items q after → h.tracing ≡ g.tracing →
-    Performs PartStands PartStands row x (port_at q) (before, g.clock) (after, h.clock) old new → PerformsAll GatewayStands GatewayStands (on (port_at q) row) x g h old new
-All_here {row} {x} {q} {g} {h} {before} {after} {old} {new} e was is same d =
-    All_on {W = GatewayStands} {P = TakeStands} {Q = TakeStands} (bootless_silent (silent_still e)) (λ past w. still_by e x (on_port (port_at q) past)) is (λ past w. w) (λ past w. take_stands q past g before was w) (λ past t. t)
-    (subst (λ t. Performs TakeStands TakeStands row x (port_at q) ((before, g.clock), g.tracing) ((after, h.clock), t) old new) (sym same) (Performs_beside g.tracing (TraceStands_by row (Emits_more silent_trace refl (silent_still e))) d))
+pub All_here : {row : Row} {x q : ℕ} {g h : Gateway} {before : Part} {old new : List Placed} (after : Part) → Emits still_sorts row → slice_get g.ports.items q ≡ Some before → h.ports.items ≡ set g.ports.items q after → h.tracing ≡ g.tracing →
+    Performs PortStands PortStands row x (port_at q) (port_with before g.clock) (port_with after h.clock) old new → PerformsAll GatewayStands GatewayStands (on (port_at q) row) x g h old new
+All_here {row} {x} {q} {g} {h} {before} {old} {new} after e was is same d =
+    All_on {W = GatewayStands} {P = TakeStands} {Q = TakeStands} before after (bootless_silent (silent_still e)) (λ past w. still_by e x (on_port (port_at q) past)) is (λ past w. w) (λ past w. take_stands q past g before was w) (λ past t. t)
+    (subst (λ t. Performs TakeStands TakeStands row x (port_at q) (traced_with before g.clock g.tracing) (traced_with after h.clock t) old new) (sym same) (Performs_traced g.tracing (TraceStands_by row (Emits_more silent_trace refl (silent_still e))) d))
 
 -- the same part in its place
 pub set_same : {X : Type 0} (xs : List X) (i : ℕ) (x : X) → slice_get xs i ≡ Some x → set xs i x ≡ xs
@@ -226,10 +226,10 @@ part_of g q lt = there-is g.ports.items q (subst (λ n. q < n) (length-map g.por
 
 -- acts of a port that change nothing of it
 pub All_idle : {row : Row} {x q : ℕ} {g : Gateway} {old new : List Placed} → q < length (ports_in g) → Emits bootless row → ((y : ℕ) (past : Past) → corrects (row y past) ≡ false) →
-    ((part : Part) → slice_get g.ports.items q ≡ Some part → Performs TakeStands TakeStands row x (port_at q) ((part, g.clock), g.tracing) ((part, g.clock), g.tracing) old new) → PerformsAll GatewayStands GatewayStands (on (port_at q) row) x g g old new
+    ((part : Part) → slice_get g.ports.items q ≡ Some part → Performs TakeStands TakeStands row x (port_at q) (traced_with part g.clock g.tracing) (traced_with part g.clock g.tracing) old new) → PerformsAll GatewayStands GatewayStands (on (port_at q) row) x g g old new
 All_idle {row} {x} {q} {g} lt e still d =
     let one = part_of g q lt in
-    All_on {W = GatewayStands} {P = TakeStands} {Q = TakeStands} e (λ past w. still x (on_port (port_at q) past)) (sym (set_same g.ports.items q one.0 one.1)) (λ past w. w) (λ past w. take_stands q past g one.0 one.1 w) (λ past t. t) (d one.0 one.1)
+    All_on {W = GatewayStands} {P = TakeStands} {Q = TakeStands} one.0 one.0 e (λ past w. still x (on_port (port_at q) past)) (sym (set_same g.ports.items q one.0 one.1)) (λ past w. w) (λ past w. take_stands q past g one.0 one.1 w) (λ past t. t) (d one.0 one.1)
 
 -- what holds of each number below n, and of n
 pub one_more : (P : ℕ → Type 0) (n : ℕ) → ((k : ℕ) → k < n → P k) → P n → (k : ℕ) → k < n + 1 → P k

@@ -1,5 +1,5 @@
 -- LOOPs are posted, which changes nothing of a port.
-use Rattle.std.specs.Prelude.{◌≡◌, ℕ, Bool, true, false, List, [], ◌∷◌, ◌++◌, map, Some, slice_get, refl}
+use Rattle.std.specs.Prelude.{◌≡◌, ℕ, true, false, List, [], ◌∷◌, ◌++◌, map, Some, slice_get, refl}
 use Rattle.std.proofs.Common.{sym, subst, ap, ◌∙◌}
 use Rattle.tsp_base.specs.declared.act.Placed.{Placed}
 use Rattle.tsp_base.specs.declared.kind.Kind.TheVariants.{Loop as LoopKind}
@@ -18,13 +18,12 @@ use Rattle.tsp_rules.specs.NodeRows.{on, on_port}
 use Rattle.tsp_rules.proofs.Emits.{Sort, AllOf, Emits, Emits_puts, Posting, is_in, sort_of_kind}
 use Rattle.tsp_acks.proofs.StandsLemmas.{Stands_post}
 use Rattle.tsp_clients.proofs.ClientLemmas.{TraceStands_by}
-use Rattle.tsp_clock.specs.Clocks.{ClockValue}
 use Rattle.tsp_date.proofs.KeepLemmas.{DatesStand_by}
 use Rattle.tsp_master.proofs.TableLemmas.{MasterStands_quiet, quiet_sorts}
 use Rattle.tsp_resolve.proofs.ResolveLemmas.{ResolveStands_by}
 use Rattle.tsp_slave.proofs.BesideLemmas.{ClockStands_by, Remembers_by}
 use Rattle.tsp_node.specs.declared.part.Part.{Part}
-use Rattle.tsp_node.specs.NodeStands.{TakeStands}
+use Rattle.tsp_node.specs.NodeStands.{TakeStands, TracedValue, traced_with}
 use Rattle.tsp_gateway.specs.declared.gateway.Gateway.{Gateway}
 use Rattle.tsp_gateway.specs.GatewayStands.{GatewayStands, port_at}
 use Rattle.tsp_gateway.proofs.LiftLemmas.{All_on, bootless_silent, set_same, silent_still, still_by, still_sorts, take_stands}
@@ -36,23 +35,23 @@ sort-loop m sorts k e = rw k e
 emits-post : {sorts : List Sort} (p : PeerId) (m : MessageValue) → m.kind ≡ LoopKind → is_in Posting sorts ≡ true → Emits sorts (puts (repost m p))
 emits-post {sorts} p m k i = Emits_puts (repost m p) (sort-loop m sorts k i)
 
-one-post : (p : PeerId) (m : MessageValue) (x : ℕ) (past : Past) (state : (Part × ClockValue) × Bool) → m.kind ≡ LoopKind → TakeStands past state → TakeStands (grown x past (repost m p ∷ [])) state
+one-post : (p : PeerId) (m : MessageValue) (x : ℕ) (past : Past) (state : TracedValue) → m.kind ≡ LoopKind → TakeStands past state → TakeStands (grown x past (repost m p ∷ [])) state
 unfolding puts
 one-post p m x past state k h =
     let numbered : is_numbered m.kind ≡ false = rw k refl in
     record {
-      first = record {
-        station = Stands_post (Peer p) m x past state.0.0.station numbered h.first.station;
-        last = Remembers_by (puts (repost m p)) (emits-post p m k refl) x past state.0.0.last h.first.last;
-        master = MasterStands_quiet (repost m p) (sort-loop m quiet_sorts k refl) x past state.0.0.master h.first.master;
-        resolve = ResolveStands_by (puts (repost m p)) (emits-post p m k refl) x past state.0.0.resolve h.first.resolve;
-        dates = DatesStand_by (puts (repost m p)) (emits-post p m k refl) x past state.0.0.dates h.first.dates;
-        clock = ClockStands_by (puts (repost m p)) (emits-post p m k refl) x past state.0.1 h.first.clock;
+      port = record {
+        station = Stands_post (Peer p) m x past state.port.station numbered h.port.station;
+        last = Remembers_by (puts (repost m p)) (emits-post p m k refl) x past state.port.last h.port.last;
+        master = MasterStands_quiet (repost m p) (sort-loop m quiet_sorts k refl) x past state.port.master h.port.master;
+        resolve = ResolveStands_by (puts (repost m p)) (emits-post p m k refl) x past state.port.resolve h.port.resolve;
+        dates = DatesStand_by (puts (repost m p)) (emits-post p m k refl) x past state.port.dates h.port.dates;
+        clock = ClockStands_by (puts (repost m p)) (emits-post p m k refl) x past state.port.clock h.port.clock;
       };
-      second = TraceStands_by (puts (repost m p)) (emits-post p m k refl) x past state.1 h.second;
+      trace = TraceStands_by (puts (repost m p)) (emits-post p m k refl) x past state.tracing h.trace;
     }
 
-all-posts : (ps : List PeerId) (m : MessageValue) (x : ℕ) (past : Past) (state : (Part × ClockValue) × Bool) → m.kind ≡ LoopKind → TakeStands past state → TakeStands (grown x past (map (repost m) ps)) state
+all-posts : (ps : List PeerId) (m : MessageValue) (x : ℕ) (past : Past) (state : TracedValue) → m.kind ≡ LoopKind → TakeStands past state → TakeStands (grown x past (map (repost m) ps)) state
 all-posts [] m x past state k h = h
 all-posts (p ∷ later) m x past state k h = all-posts later m x (grown x past (repost m p ∷ [])) state k (one-post p m x past state k h)
 
@@ -75,12 +74,12 @@ emits_reposts {sorts} m k e = record { only = λ x past. reposts-sorts sorts m (
 -- a LOOP to each other peer of a port
 pub All_posted : {x : ℕ} {g : Gateway} {part : Part} {old new : List Placed} (q : ℕ) (row : Row) (m : MessageValue) → m.kind ≡ LoopKind → Emits still_sorts row → slice_get g.ports.items q ≡ Some part →
     new ≡ old ++ placed (port_at q) (map (repost m) (others part.station.me.own part.station.peers)) →
-    ((past : Past) → TakeStands past ((part, g.clock), g.tracing) → map (repost m) (others part.station.me.own part.station.peers) ≡ row x past) → PerformsAll GatewayStands GatewayStands (on (port_at q) row) x g g old new
+    ((past : Past) → TakeStands past (traced_with part g.clock g.tracing) → map (repost m) (others part.station.me.own part.station.peers) ≡ row x past) → PerformsAll GatewayStands GatewayStands (on (port_at q) row) x g g old new
 All_posted {x} {g} {part} {old} {new} q row m k e was put same =
-    All_on {W = GatewayStands} {P = TakeStands} {Q = TakeStands} {before = part} (bootless_silent (silent_still e)) (λ past w. still_by e x (on_port (port_at q) past)) (sym (set_same g.ports.items q part was)) (λ past w. w) (λ past w. take_stands q past g part was w) (λ past t. t)
+    All_on {W = GatewayStands} {P = TakeStands} {Q = TakeStands} part part (bootless_silent (silent_still e)) (λ past w. still_by e x (on_port (port_at q) past)) (sym (set_same g.ports.items q part was)) (λ past w. w) (λ past w. take_stands q past g part was w) (λ past t. t)
     (record {
       acts = λ past h. put ∙ ap (λ acts. old ++ placed (port_at q) acts) (same past h);
-      stands = λ past h. subst (λ acts. TakeStands (grown x past acts) ((part, g.clock), g.tracing)) (same past h) (all-posts (others part.station.me.own part.station.peers) m x past ((part, g.clock), g.tracing) k h);
+      stands = λ past h. subst (λ acts. TakeStands (grown x past acts) (traced_with part g.clock g.tracing)) (same past h) (all-posts (others part.station.me.own part.station.peers) m x past (traced_with part g.clock g.tracing) k h);
     })
 
 -- a node's own LOOP, posted as it is

@@ -9,12 +9,12 @@ use Rattle.tsp_rules.specs.NodeRows.{NodePast, in_node_step, on_port}
 use Rattle.tsp_clock.specs.Clocks.{ClockValue}
 use Rattle.tsp_master.proofs.TurnLemmas.{MasterStands_in_step, MasterStands_step}
 use Rattle.tsp_node.specs.declared.part.Part.{Part}
-use Rattle.tsp_node.specs.NodeStands.{PartStands}
+use Rattle.tsp_node.specs.NodeStands.{PortStands, port_with}
 use Rattle.tsp_node.proofs.RivalKeeps.{ResolveStands_in_step, ResolveStands_step}
 use Rattle.tsp_gateway.specs.declared.gateway.Gateway.{Gateway}
 use Rattle.tsp_gateway.specs.GatewayStands.{GatewayBegun, GatewayStands, port_at}
 
-part-step : (step : Step) (past : Past) (part : Part) (clock : ClockValue) → PartStands past (part, clock) → PartStands (record past { step = step }) (part, clock)
+part-step : (step : Step) (past : Past) (part : Part) (clock : ClockValue) → PortStands past (port_with part clock) → PortStands (record past { step = step }) (port_with part clock)
 part-step step past part clock p = record {
   station = record { own = p.station.own; name = p.station.name; may = p.station.may; strict = p.station.strict; peers = p.station.peers; word = p.station.word; role = p.station.role; alarms = p.station.alarms; hold = p.station.hold; sends = p.station.sends; begun = p.station.begun; backers = p.station.backers };
   last = record { tick_is = p.last.tick_is; taken_is = p.last.taken_is; name_is = p.last.name_is };
@@ -28,7 +28,7 @@ part-step step past part clock p = record {
 pub GatewayStands_step : (step : Step) (past : NodePast) (g : Gateway) → GatewayStands past g → GatewayStands (record past { step = step }) g
 GatewayStands_step step past g h = record { many = h.many; traces = h.traces; ports = λ q part is. part-step step (on_port (port_at q) past) part g.clock (h.ports q part is) }
 
-part-in-step : (step : Step) (x : ℕ) (past : Past) (part : Part) (clock : ClockValue) → PartStands past (part, clock) → PartStands (in_step step x past) (part, clock)
+part-in-step : (step : Step) (x : ℕ) (past : Past) (part : Part) (clock : ClockValue) → PortStands past (port_with part clock) → PortStands (in_step step x past) (port_with part clock)
 part-in-step step x past part clock p = record {
   station = record { own = p.station.own; name = p.station.name; may = p.station.may; strict = p.station.strict; peers = p.station.peers; word = p.station.word; role = p.station.role; alarms = p.station.alarms; hold = p.station.hold; sends = p.station.sends; begun = p.station.begun; backers = p.station.backers };
   last = record { tick_is = p.last.tick_is; taken_is = p.last.taken_is; name_is = p.last.name_is };
@@ -52,7 +52,7 @@ GatewayBegun_in_step step x past g h = record {
   stands = record {
     many = h.many;
     traces = h.traces;
-    ports = λ q part is. subst (λ (p : Past). PartStands p (part, g.clock)) (sym (mark_on q step x past)) (part-in-step step x (on_port (port_at q) past) part g.clock (h.ports q part is));
+    ports = λ q part is. subst (λ (p : Past). PortStands p (port_with part g.clock)) (sym (mark_on q step x past)) (part-in-step step x (on_port (port_at q) past) part g.clock (h.ports q part is));
   };
   turns = record {
     untaken = λ r. ap (λ (p : Past). taken p.seen) (mark_on r.0 step x past);

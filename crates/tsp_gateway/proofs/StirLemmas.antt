@@ -9,7 +9,7 @@ use Rattle.tsp_base.specs.declared.alarm.Alarm.TheVariants.{Probe}
 use Rattle.tsp_base.specs.declared.place.Port.{Port}
 use Rattle.tsp_base.specs.History.{Acts, Did, Past, Seen, is_shared, seen_as, view}
 use Rattle.tsp_base.specs.Joins.{line_of}
-use Rattle.tsp_base.specs.Performs.{Beside, Performs}
+use Rattle.tsp_base.specs.Performs.{Performs}
 use Rattle.tsp_base.specs.PortFacts.{acting, taken}
 use Rattle.tsp_base.specs.RoundFacts.{is_going}
 use Rattle.tsp_base.specs.Rows.{Row, either_by, nothing, puts, ◌followed_by◌}
@@ -21,9 +21,8 @@ use Rattle.tsp_rules.specs.RoundRows.{abandons, corrects, probe_rings}
 use Rattle.tsp_rules.specs.Guards.{is_due, is_in_time}
 use Rattle.tsp_rules.proofs.Emits.{Emits}
 use Rattle.tsp_rules.proofs.NodeRowLemmas.{All_then, spread_append}
-use Rattle.tsp_clients.specs.ClientStands.{TraceStands}
 use Rattle.tsp_node.specs.declared.part.Part.{Part}
-use Rattle.tsp_node.specs.NodeStands.{PartUntaken}
+use Rattle.tsp_node.specs.NodeStands.{PortUntaken, Traced, port_with}
 use Rattle.tsp_node.proofs.TakeEmits.{silent_trace}
 use Rattle.tsp_gateway.specs.declared.gateway.Gateway.{Gateway}
 use Rattle.tsp_gateway.specs.GatewayStands.{GatewayStands, GatewayTurning, TurnsFrom, port_at}
@@ -63,7 +62,7 @@ stirred-turned {row} q k x ports past e lt h = by_case (corrects (row x (on_port
   by_case false = subst (λ acts. TurnsFrom k (spread x past acts)) (sym (append-nil (on (port_at q) row x past))) (turned q k k x past e lt (omega arith) h)
 
 -- a port in its turn, which has taken nothing
-pub untaken_there : (j q : ℕ) (past : NodePast) (g : Gateway) (part : Part) → slice_get g.ports.items q ≡ Some part → GatewayTurning j past g → PartUntaken (on_port (port_at q) past) (part, g.clock)
+pub untaken_there : (j q : ℕ) (past : NodePast) (g : Gateway) (part : Part) → slice_get g.ports.items q ≡ Some part → GatewayTurning j past g → PortUntaken (on_port (port_at q) past) (port_with part g.clock)
 untaken_there j q past g part was w = record { stands = w.stands.ports q part was; untaken = w.turns.untaken (port_at q) }
 
 turning-stirred : {x : ℕ} {g h : Gateway} {old new : List Placed} (q : ℕ) (row : Row) → Emits silent_trace row → PerformsAll (GatewayTurning (q + 1)) GatewayStands (λ y past. stirring (port_at q) (upset_ports false (port_at q) y past) row y past) x g h old new →
@@ -74,25 +73,25 @@ turning-stirred {x} q row e d = record {
 }
 
 -- a port's alarm that corrects
-pub All_upset : {x q : ℕ} {g h i : Gateway} {before after : Part} {old mid new : List Placed} (row : Row) → Emits silent_trace row → ((past : NodePast) → GatewayTurning (q + 1) past g → corrects (row x (on_port (port_at q) past)) ≡ true) →
-    slice_get g.ports.items q ≡ Some before → h.ports.items ≡ set g.ports.items q after → h.tracing ≡ g.tracing → Performs PartUntaken PartUntaken row x (port_at q) (before, g.clock) (after, h.clock) old mid →
+pub All_upset : {x q : ℕ} {g h i : Gateway} {before : Part} {old mid new : List Placed} (after : Part) (row : Row) → Emits silent_trace row → ((past : NodePast) → GatewayTurning (q + 1) past g → corrects (row x (on_port (port_at q) past)) ≡ true) →
+    slice_get g.ports.items q ≡ Some before → h.ports.items ≡ set g.ports.items q after → h.tracing ≡ g.tracing → Performs PortUntaken PortUntaken row x (port_at q) (port_with before g.clock) (port_with after h.clock) old mid →
     PerformsAll (Untold q x) GatewayStands (reading_all (upset_ports false (port_at q)) (for_ports abandons_on)) x h i mid new →
     PerformsAll (GatewayTurning (q + 1)) (GatewayTurning (q + 1)) (λ y past. stirring (port_at q) (upset_ports false (port_at q) y past) row y past) x g i old new
-All_upset {x} {q} {g} {h} {i} {before} row e moves was is same d upset =
+All_upset {x} {q} {g} {h} {i} {before} after row e moves was is same d upset =
     turning-stirred q row e (All_stirred {W = GatewayTurning (q + 1)} q row false moves
-    (All_moved {W = GatewayTurning (q + 1)} {P = Beside PartUntaken TraceStands} {Q = Beside PartUntaken TraceStands} (bootless_silent e) moves is (λ past w. w.stands)
-    (λ past w. record { first = untaken_there (q + 1) q past g before was w; second = (take_stands q past g before was w.stands).second })
-    (λ past t. record { first = t.first.stands; second = t.second }) (trace_beside g h e same d)) upset)
+    (All_moved {W = GatewayTurning (q + 1)} {P = Traced PortUntaken} {Q = Traced PortUntaken} before after (bootless_silent e) moves is (λ past w. w.stands)
+    (λ past w. record { port = untaken_there (q + 1) q past g before was w; trace = (take_stands q past g before was w.stands).trace })
+    (λ past t. record { port = t.port.stands; trace = t.trace }) (trace_beside g h before after e same d)) upset)
 
 -- a port's alarm that might have
-pub All_calm : {x q : ℕ} {g h : Gateway} {before after : Part} {old new : List Placed} (row : Row) → Emits silent_trace row → ((past : NodePast) → GatewayTurning (q + 1) past g → corrects (row x (on_port (port_at q) past)) ≡ false) →
-    slice_get g.ports.items q ≡ Some before → h.ports.items ≡ set g.ports.items q after → h.tracing ≡ g.tracing → Performs PartUntaken PartUntaken row x (port_at q) (before, g.clock) (after, h.clock) old new →
+pub All_calm : {x q : ℕ} {g h : Gateway} {before : Part} {old new : List Placed} (after : Part) (row : Row) → Emits silent_trace row → ((past : NodePast) → GatewayTurning (q + 1) past g → corrects (row x (on_port (port_at q) past)) ≡ false) →
+    slice_get g.ports.items q ≡ Some before → h.ports.items ≡ set g.ports.items q after → h.tracing ≡ g.tracing → Performs PortUntaken PortUntaken row x (port_at q) (port_with before g.clock) (port_with after h.clock) old new →
     PerformsAll (GatewayTurning (q + 1)) (GatewayTurning (q + 1)) (λ y past. stirring (port_at q) (upset_ports false (port_at q) y past) row y past) x g h old new
-All_calm {x} {q} {g} {h} {before} row e still was is same d =
+All_calm {x} {q} {g} {h} {before} after row e still was is same d =
     turning-stirred q row e (All_unstirred {W = GatewayTurning (q + 1)} q row false still
-    (All_on {W = GatewayTurning (q + 1)} {P = Beside PartUntaken TraceStands} {Q = Beside PartUntaken TraceStands} (bootless_silent e) still is (λ past w. w.stands)
-    (λ past w. record { first = untaken_there (q + 1) q past g before was w; second = (take_stands q past g before was w.stands).second })
-    (λ past t. record { first = t.first.stands; second = t.second }) (trace_beside g h e same d)))
+    (All_on {W = GatewayTurning (q + 1)} {P = Traced PortUntaken} {Q = Traced PortUntaken} before after (bootless_silent e) still is (λ past w. w.stands)
+    (λ past w. record { port = untaken_there (q + 1) q past g before was w; trace = (take_stands q past g before was w.stands).trace })
+    (λ past t. record { port = t.port.stands; trace = t.trace }) (trace_beside g h before after e same d)))
 
 -- a Probe rings where it is due and in time
 pub probe_rung : (x : ℕ) (past : Past) → has_rung (rings true false Probe x past) ≡ (is_due Probe x past && is_in_time Probe x past)

@@ -6,7 +6,7 @@ use Rattle.tsp_base.specs.declared.place.PeerId.{PeerId}
 use Rattle.tsp_rules.specs.NodeRows.{NodePast, on_port}
 use Rattle.tsp_clock.specs.Clocks.{ClockValue}
 use Rattle.tsp_node.specs.declared.part.Part.{Part}
-use Rattle.tsp_node.specs.NodeStands.{PartStands, PortStands, PortValue, port_in}
+use Rattle.tsp_node.specs.NodeStands.{PortStands, PortValue, port_with}
 use Rattle.tsp_gateway.specs.declared.gateway.Gateway.{Gateway}
 use Rattle.tsp_gateway.specs.GatewayStands.{GatewayStands, port_at}
 use Rattle.tsp_gateway.specs.Rooms.{ports_in}
@@ -24,7 +24,7 @@ pub record IsTold (x : ℕ) (olds : List Part) (k : ℕ) (part : Part) : Type 0 
   pub dates : part.dates ≡ was.dates
 
 -- its value is what was to be told
-told_value : (x : ℕ) (olds : List Part) (k : ℕ) (part : Part) (clock : ClockValue) (t : IsTold x olds k part) → told x t.was clock ≡ port_in (part, clock)
+told_value : (x : ℕ) (olds : List Part) (k : ℕ) (part : Part) (clock : ClockValue) (t : IsTold x olds k part) → told x t.was clock ≡ port_with part clock
 told_value x olds k part clock t = rw (t.station, t.last, t.master, t.resolve, t.dates) refl
 
 -- reading a list after another place was written
@@ -43,16 +43,16 @@ all_told q x past g h each own many clock flag u = record {
   traces = u.traces ∙ sym flag;
   ports = λ r part is. by_case r part is (r == q) refl;
 } where
-  by_case : (r : ℕ) (part : Part) → slice_get h.ports.items r ≡ Some part → (b : Bool) → (r == q) ≡ b → PartStands (on_port (port_at r) past) (part, h.clock)
+  by_case : (r : ℕ) (part : Part) → slice_get h.ports.items r ≡ Some part → (b : Bool) → (r == q) ≡ b → PortStands (on_port (port_at r) past) (port_with part h.clock)
   by_case r part is true e =
       let same = eqb-true r q e in
       let here : slice_get g.ports.items q ≡ Some part = sym own ∙ subst (λ k. slice_get h.ports.items k ≡ Some part) same is in
-      subst (λ k. PartStands (on_port (port_at k) past) (part, h.clock)) (sym same) (subst (λ (c : ClockValue). PartStands (on_port (port_at q) past) (part, c)) (sym clock) (u.here part here))
+      subst (λ k. PortStands (on_port (port_at k) past) (port_with part h.clock)) (sym same) (subst (λ (c : ClockValue). PortStands (on_port (port_at q) past) (port_with part c)) (sym clock) (u.here part here))
   by_case r part is false e =
       let other : r ≢ q = λ same. true≢false (sym (eq-eqb r q same) ∙ e) in
       let t = each r other part is in
-      let value : PortStands (on_port (port_at r) past) (port_in (part, g.clock)) = subst (λ (v : PortValue). PortStands (on_port (port_at r) past) v) (told_value x g.ports.items r part g.clock t) (u.others r t.was t.there other) in
-      subst (λ (c : ClockValue). PartStands (on_port (port_at r) past) (part, c)) (sym clock) value
+      let value : PortStands (on_port (port_at r) past) (port_with part g.clock) = subst (λ (v : PortValue). PortStands (on_port (port_at r) past) v) (told_value x g.ports.items r part g.clock t) (u.others r t.was t.there other) in
+      subst (λ (c : ClockValue). PortStands (on_port (port_at r) past) (port_with part c)) (sym clock) value
 
 -- the peers of a port that was written
 pub set_peers : (parts : List Part) (i : ℕ) (part was : Part) → slice_get parts i ≡ Some was → part.station.peers ≡ was.station.peers → map (λ (p : Part). p.station.peers) (set parts i part) ≡ map (λ (p : Part). p.station.peers) parts

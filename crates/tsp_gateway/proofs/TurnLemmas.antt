@@ -9,10 +9,9 @@ use Rattle.tsp_base.specs.declared.alarm.Alarm.{Alarm}
 use Rattle.tsp_base.specs.declared.alarm.Alarm.TheVariants.{Close, Probe, Round}
 use Rattle.tsp_base.specs.declared.place.Port.{Port}
 use Rattle.tsp_base.specs.History.{Past, view}
-use Rattle.tsp_base.specs.Performs.{Beside, Performs}
+use Rattle.tsp_base.specs.Performs.{Performs}
 use Rattle.tsp_base.specs.PortFacts.{acting, taken}
 use Rattle.tsp_base.specs.Rows.{Row, grown, placed}
-use Rattle.tsp_base.proofs.PerformsLemmas.{Performs_beside}
 use Rattle.tsp_base.proofs.ViewPlaces.{port-same}
 use Rattle.tsp_rules.specs.Answers.{rings}
 use Rattle.tsp_rules.specs.GateRows.{alarm_on}
@@ -24,12 +23,10 @@ use Rattle.tsp_rules.proofs.NodeRowLemmas.{Bootless, on_own}
 use Rattle.tsp_rules.proofs.CalmAlarms.{calm_rings, moves_by}
 use Rattle.tsp_rules.proofs.FewActs.{is_calm, is_calm_act}
 use Rattle.tsp_rules.proofs.Asides.{on_other}
-use Rattle.tsp_clients.specs.ClientStands.{TraceStands}
 use Rattle.tsp_clients.proofs.ClientLemmas.{TraceStands_by}
-use Rattle.tsp_clock.specs.Clocks.{ClockValue}
 use Rattle.tsp_node.specs.declared.part.Part.{Part}
-use Rattle.tsp_node.specs.NodeStands.{PartBegun, PartUntaken}
-use Rattle.tsp_node.proofs.NodeLemmas.{untaken_by}
+use Rattle.tsp_node.specs.NodeStands.{PortBegun, PortUntaken, PortValue, Traced, port_with, traced_with}
+use Rattle.tsp_node.proofs.NodeLemmas.{Performs_traced, untaken_by}
 use Rattle.tsp_node.proofs.TakeEmits.{silent_trace}
 use Rattle.tsp_gateway.specs.declared.gateway.Gateway.{Gateway}
 use Rattle.tsp_gateway.specs.GatewayStands.{GatewayStands, GatewayTurning, TurnsFrom, port_at}
@@ -91,25 +88,25 @@ pub All_turning : {row : Row} {x : ℕ} {g h : Gateway} {old new : List Placed} 
     PerformsAll (GatewayTurning j) (GatewayTurning k) (on (port_at q) row) x g h old new
 All_turning {x = x} q j k e lt le d = record { acts = d.acts; stands = λ past w. record { stands = d.stands past w; turns = turned q j k x past e lt le w.turns } }
 
-pub trace_beside : {P Q : Past → Part × ClockValue → Type 0} {row : Row} {x q : ℕ} {before after : Part} {old new : List Placed} (g h : Gateway) → Emits silent_trace row → h.tracing ≡ g.tracing → Performs P Q row x (port_at q) (before, g.clock) (after, h.clock) old new →
-    Performs (Beside P TraceStands) (Beside Q TraceStands) row x (port_at q) ((before, g.clock), g.tracing) ((after, h.clock), h.tracing) old new
-trace_beside {P} {Q} {row} {x} {q} {before} {after} {old} {new} g h e same d =
-    subst (λ t. Performs (Beside P TraceStands) (Beside Q TraceStands) row x (port_at q) ((before, g.clock), g.tracing) ((after, h.clock), t) old new) (sym same) (Performs_beside g.tracing (TraceStands_by row (Emits_more silent_trace refl e)) d)
+pub trace_beside : {P Q : Past → PortValue → Type 0} {row : Row} {x q : ℕ} {old new : List Placed} (g h : Gateway) (before after : Part) → Emits silent_trace row → h.tracing ≡ g.tracing → Performs P Q row x (port_at q) (port_with before g.clock) (port_with after h.clock) old new →
+    Performs (Traced P) (Traced Q) row x (port_at q) (traced_with before g.clock g.tracing) (traced_with after h.clock h.tracing) old new
+trace_beside {P} {Q} {row} {x} {q} {old} {new} g h before after e same d =
+    subst (λ t. Performs (Traced P) (Traced Q) row x (port_at q) (traced_with before g.clock g.tracing) (traced_with after h.clock t) old new) (sym same) (Performs_traced g.tracing (TraceStands_by row (Emits_more silent_trace refl e)) d)
 
 -- a port's due sends
-pub All_sent : {x q : ℕ} {g h : Gateway} {before after : Part} {old new : List Placed} (row : Row) → Emits silent_trace row → ((y : ℕ) (past : Past) → corrects (row y past) ≡ false) → slice_get g.ports.items q ≡ Some before → h.ports.items ≡ set g.ports.items q after →
-    h.tracing ≡ g.tracing → Performs PartBegun PartBegun row x (port_at q) (before, g.clock) (after, h.clock) old new → PerformsAll (GatewayTurning q) (GatewayTurning (q + 1)) (on (port_at q) row) x g h old new
-All_sent {x} {q} {g} {h} {before} row e still was is same d =
+pub All_sent : {x q : ℕ} {g h : Gateway} {before : Part} {old new : List Placed} (after : Part) (row : Row) → Emits silent_trace row → ((y : ℕ) (past : Past) → corrects (row y past) ≡ false) → slice_get g.ports.items q ≡ Some before → h.ports.items ≡ set g.ports.items q after →
+    h.tracing ≡ g.tracing → Performs PortBegun PortBegun row x (port_at q) (port_with before g.clock) (port_with after h.clock) old new → PerformsAll (GatewayTurning q) (GatewayTurning (q + 1)) (on (port_at q) row) x g h old new
+All_sent {x} {q} {g} {h} {before} after row e still was is same d =
     All_turning q q (q + 1) e (omega arith) (omega arith)
-    (All_on {W = GatewayTurning q} {P = Beside PartBegun TraceStands} {Q = Beside PartBegun TraceStands} (bootless_silent e) (λ past w. still x (on_port (port_at q) past)) is (λ past w. w.stands)
-    (λ past w. let t = take_stands q past g before was w.stands in record { first = record { stands = t.first; untaken = w.turns.untaken (port_at q); still = w.turns.still (port_at q) (omega arith) }; second = t.second })
-    (λ past t. record { first = t.first.stands; second = t.second }) (trace_beside g h e same d))
+    (All_on {W = GatewayTurning q} {P = Traced PortBegun} {Q = Traced PortBegun} before after (bootless_silent e) (λ past w. still x (on_port (port_at q) past)) is (λ past w. w.stands)
+    (λ past w. let t = take_stands q past g before was w.stands in record { port = record { stands = t.port; untaken = w.turns.untaken (port_at q); still = w.turns.still (port_at q) (omega arith) }; trace = t.trace })
+    (λ past t. record { port = t.port.stands; trace = t.trace }) (trace_beside g h before after e same d))
 
 -- a port's alarm that doesn't correct
-pub All_rung : {x q : ℕ} {g h : Gateway} {before after : Part} {old new : List Placed} (row : Row) → Emits silent_trace row → ((y : ℕ) (past : Past) → corrects (row y past) ≡ false) → slice_get g.ports.items q ≡ Some before → h.ports.items ≡ set g.ports.items q after →
-    h.tracing ≡ g.tracing → Performs PartUntaken PartUntaken row x (port_at q) (before, g.clock) (after, h.clock) old new → PerformsAll (GatewayTurning (q + 1)) (GatewayTurning (q + 1)) (on (port_at q) row) x g h old new
-All_rung {x} {q} {g} {h} {before} row e still was is same d =
+pub All_rung : {x q : ℕ} {g h : Gateway} {before : Part} {old new : List Placed} (after : Part) (row : Row) → Emits silent_trace row → ((y : ℕ) (past : Past) → corrects (row y past) ≡ false) → slice_get g.ports.items q ≡ Some before → h.ports.items ≡ set g.ports.items q after →
+    h.tracing ≡ g.tracing → Performs PortUntaken PortUntaken row x (port_at q) (port_with before g.clock) (port_with after h.clock) old new → PerformsAll (GatewayTurning (q + 1)) (GatewayTurning (q + 1)) (on (port_at q) row) x g h old new
+All_rung {x} {q} {g} {h} {before} after row e still was is same d =
     All_turning q (q + 1) (q + 1) e (omega arith) (omega arith)
-    (All_on {W = GatewayTurning (q + 1)} {P = Beside PartUntaken TraceStands} {Q = Beside PartUntaken TraceStands} (bootless_silent e) (λ past w. still x (on_port (port_at q) past)) is (λ past w. w.stands)
-    (λ past w. let t = take_stands q past g before was w.stands in record { first = record { stands = t.first; untaken = w.turns.untaken (port_at q) }; second = t.second })
-    (λ past t. record { first = t.first.stands; second = t.second }) (trace_beside g h e same d))
+    (All_on {W = GatewayTurning (q + 1)} {P = Traced PortUntaken} {Q = Traced PortUntaken} before after (bootless_silent e) (λ past w. still x (on_port (port_at q) past)) is (λ past w. w.stands)
+    (λ past w. let t = take_stands q past g before was w.stands in record { port = record { stands = t.port; untaken = w.turns.untaken (port_at q) }; trace = t.trace })
+    (λ past t. record { port = t.port.stands; trace = t.trace }) (trace_beside g h before after e same d))

@@ -7,7 +7,7 @@ use Rattle.tsp_base.specs.PortFacts.{acting, taken}
 use Rattle.tsp_rules.specs.NodeRows.{NodePast, on_port}
 use Rattle.tsp_clock.specs.Clocks.{ClockValue}
 use Rattle.tsp_node.specs.declared.part.Part.{Part}
-use Rattle.tsp_node.specs.NodeStands.{PartStands}
+use Rattle.tsp_node.specs.NodeStands.{PortStands, port_with}
 use Rattle.tsp_gateway.specs.declared.gateway.Gateway.{Gateway}
 
 -- the port of this number
@@ -16,7 +16,7 @@ port_at q = record { 0 = q }
 
 -- each port's state, with the node's clock, has exactly the facts of that port's past
 abbrev pub PortsStand : NodePast → ClockValue → List Part → Type 0
-PortsStand past clock parts = (q : ℕ) (part : Part) → slice_get parts q ≡ Some part → PartStands (on_port (port_at q) past) (part, clock)
+PortsStand past clock parts = (q : ℕ) (part : Part) → slice_get parts q ≡ Some part → PortStands (on_port (port_at q) past) (port_with part clock)
 
 -- a node stands for this past, between its steps
 pub record GatewayStands (past : NodePast) (g : Gateway) : Type 0 where

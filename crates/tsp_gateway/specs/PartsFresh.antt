@@ -9,7 +9,7 @@ use Rattle.tsp_acks.specs.Stands.{IsPortOf}
 use Rattle.tsp_clock.specs.Clocks.{ClockValue}
 use Rattle.tsp_clock.specs.ClockStands.{ClockStands}
 use Rattle.tsp_node.specs.declared.part.Part.{Part}
-use Rattle.tsp_node.specs.NodeStands.{PartStands}
+use Rattle.tsp_node.specs.NodeStands.{PortStands, port_with}
 use Rattle.tsp_gateway.specs.GateConfigs.{GateConfigValue}
 
 -- who the node is on a port after a boot with this word
@@ -19,7 +19,7 @@ me_on c word s = record { own = s.own; name = c.name; word = word; may = c.may; 
 -- a port of a node that has just booted at this tick
 abbrev pub IsFresh : GateConfigValue → ℕ → ℕ → PortSetup → Part → Type 0
 IsFresh c word x s part = (part.station.peers ≡ s.peers) × ((past : Past) (wall : ℤ) (clock : ClockValue) → IsPortOf (me_on c word s) s.peers past → past.step.cause ≡ Booted word wall →
-    ClockStands (grown x past (Boot ∷ [])) clock → PartStands (grown x past (Boot ∷ [])) (part, clock))
+    ClockStands (grown x past (Boot ∷ [])) clock → PortStands (grown x past (Boot ∷ [])) (port_with part clock))
 
 -- all ports of a node that has just booted at this tick
 pub record AreFresh (c : GateConfigValue) (word x : ℕ) (parts : List Part) : Type 0 where

@@ -7,19 +7,19 @@ use Rattle.tsp_rules.specs.GateRows.{other_ports, ports_from}
 use Rattle.tsp_rules.specs.NodeRows.{NodePast, on_port}
 use Rattle.tsp_clock.specs.Clocks.{ClockValue}
 use Rattle.tsp_node.specs.declared.part.Part.{Part}
-use Rattle.tsp_node.specs.NodeStands.{PartStands, PortStands, PortValue, port_in}
+use Rattle.tsp_node.specs.NodeStands.{PortStands, PortValue, port_with}
 use Rattle.tsp_gateway.specs.declared.gateway.Gateway.{Gateway}
 use Rattle.tsp_gateway.specs.GatewayStands.{port_at}
 
 -- a port's state once it has noted a correction at this tick
 abbrev pub told : ℕ → Part → ClockValue → PortValue
-told x part clock = record (port_in (part, clock)) { last = record { tick = Some x; taken = None; name = part.last.name } }
+told x part clock = record (port_with part clock) { last = record { tick = Some x; taken = None; name = part.last.name } }
 
 -- port q stands for its past, and each other port does so once it has noted the correction
 pub record Untold (q x : ℕ) (past : NodePast) (g : Gateway) : Type 0 where
   pub many : length g.ports.items ≡ length past.ports
   pub traces : tracing (dids past.lines) ≡ g.tracing
-  pub here : (part : Part) → slice_get g.ports.items q ≡ Some part → PartStands (on_port (port_at q) past) (part, g.clock)
+  pub here : (part : Part) → slice_get g.ports.items q ≡ Some part → PortStands (on_port (port_at q) past) (port_with part g.clock)
   pub others : (r : ℕ) (part : Part) → slice_get g.ports.items r ≡ Some part → r ≢ q → PortStands (on_port (port_at r) past) (told x part g.clock)
 
 -- the ports whose rounds a correction ends: the others, or all

@@ -23,17 +23,15 @@ use Rattle.tsp_rules.specs.Guards.{is_due, is_in_time, is_over, rivals_at}
 use Rattle.tsp_rules.proofs.Emits.{Alarming, Emits, Emits_arms, Emits_each, Emits_either, Emits_more, Emits_puts, Emits_reading, Emits_then, Leading, Numbering}
 use Rattle.tsp_rules.proofs.EmitsCandidate.{silent_window}
 use Rattle.tsp_rules.proofs.EmitsSlave.{emits_begins, silent_elect_rings, silent_quiet, silent_search, silent_sorts}
-use Rattle.tsp_clock.specs.Clocks.{ClockValue}
 use Rattle.tsp_slave.proofs.BesideLemmas.{beside_sorts}
 use Rattle.tsp_master.proofs.CloseLemmas.{corrects-none}
 use Rattle.tsp_master.proofs.LeadLemmas.{still_sorts}
-use Rattle.tsp_node.specs.declared.part.Part.{Part}
-use Rattle.tsp_node.specs.NodeStands.{PartUntaken}
+use Rattle.tsp_node.specs.NodeStands.{PortUntaken, PortValue}
 use Rattle.tsp_node.specs.RoleAlarms.{is_of_slave}
 
 -- whether an alarm is due, as the station has it
-due_is : (alarm : Alarm) (x : ℕ) (past : Past) (both : Part × ClockValue) → PartUntaken past both → is_due alarm x past ≡ is_over (deadline both.0.station.alarms alarm) x
-due_is alarm x past both h = ap (λ ds. is_over (deadline ds alarm) x) (sym h.stands.station.alarms)
+due_is : (alarm : Alarm) (x : ℕ) (past : Past) (state : PortValue) → PortUntaken past state → is_due alarm x past ≡ is_over (deadline state.station.alarms alarm) x
+due_is alarm x past state h = ap (λ ds. is_over (deadline ds alarm) x) (sym h.stands.station.alarms)
 
 -- one that isn't due does nothing
 not_due : (own wait : Bool) (alarm : Alarm) (x : ℕ) (past : Past) → is_due alarm x past ≡ false → rings own wait alarm x past ≡ nothing x past
@@ -45,19 +43,19 @@ now_due : (own wait : Bool) (alarm : Alarm) (x : ℕ) (past : Past) → is_due a
 unfolding rings either_by
 now_due own wait alarm x past d = rw d refl
 
-pub Performs_not_due : {x : ℕ} {port : Port} {old : List Placed} (own wait : Bool) (alarm : Alarm) (before : Part × ClockValue) → is_over (deadline before.0.station.alarms alarm) x ≡ false → Performs PartUntaken PartUntaken (rings own wait alarm) x port before before old old
+pub Performs_not_due : {x : ℕ} {port : Port} {old : List Placed} (own wait : Bool) (alarm : Alarm) (before : PortValue) → is_over (deadline before.station.alarms alarm) x ≡ false → Performs PortUntaken PortUntaken (rings own wait alarm) x port before before old old
 Performs_not_due {x = x} own wait alarm before e = Performs_same (rings own wait alarm) (λ past h. sym (not_due own wait alarm x past (due_is alarm x past before h ∙ e))) Performs_nothing
 
-pub corrects_not_due : (x : ℕ) (own wait : Bool) (alarm : Alarm) (before : Part × ClockValue) → is_over (deadline before.0.station.alarms alarm) x ≡ false → (past : Past) → PartUntaken past before → false ≡ corrects (rings own wait alarm x past)
+pub corrects_not_due : (x : ℕ) (own wait : Bool) (alarm : Alarm) (before : PortValue) → is_over (deadline before.station.alarms alarm) x ≡ false → (past : Past) → PortUntaken past before → false ≡ corrects (rings own wait alarm x past)
 unfolding nothing
 corrects_not_due x own wait alarm before e past h = ap corrects (sym (not_due own wait alarm x past (due_is alarm x past before h ∙ e)))
 
-pub Performs_now_due : {x : ℕ} {port : Port} {after : Part × ClockValue} {old new : List Placed} (own wait : Bool) (alarm : Alarm) (before : Part × ClockValue) → is_over (deadline before.0.station.alarms alarm) x ≡ true →
-    Performs PartUntaken PartUntaken (alarm_rings own wait alarm) x port before after old new → Performs PartUntaken PartUntaken (rings own wait alarm) x port before after old new
+pub Performs_now_due : {x : ℕ} {port : Port} {after : PortValue} {old new : List Placed} (own wait : Bool) (alarm : Alarm) (before : PortValue) → is_over (deadline before.station.alarms alarm) x ≡ true →
+    Performs PortUntaken PortUntaken (alarm_rings own wait alarm) x port before after old new → Performs PortUntaken PortUntaken (rings own wait alarm) x port before after old new
 Performs_now_due {x = x} own wait alarm before e d = Performs_same (rings own wait alarm) (λ past h. sym (now_due own wait alarm x past (due_is alarm x past before h ∙ e))) d
 
-pub corrects_now_due : (x : ℕ) (own wait : Bool) (alarm : Alarm) (before : Part × ClockValue) → is_over (deadline before.0.station.alarms alarm) x ≡ true → (b : Bool) →
-    ((past : Past) → PartUntaken past before → b ≡ corrects (alarm_rings own wait alarm x past)) → (past : Past) → PartUntaken past before → b ≡ corrects (rings own wait alarm x past)
+pub corrects_now_due : (x : ℕ) (own wait : Bool) (alarm : Alarm) (before : PortValue) → is_over (deadline before.station.alarms alarm) x ≡ true → (b : Bool) →
+    ((past : Past) → PortUntaken past before → b ≡ corrects (alarm_rings own wait alarm x past)) → (past : Past) → PortUntaken past before → b ≡ corrects (rings own wait alarm x past)
 corrects_now_due x own wait alarm before e b k past h = k past h ∙ ap corrects (sym (now_due own wait alarm x past (due_is alarm x past before h ∙ e)))
 
 -- an alarm that is no candidate's and no master's

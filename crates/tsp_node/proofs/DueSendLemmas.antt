@@ -19,14 +19,14 @@ use Rattle.tsp_base.proofs.PerformsLemmas.{Keeps_either, Keeps_nothing, Performs
 use Rattle.tsp_rules.specs.SendRows.{bare_send, due_send, gives_up, is_send_due, is_spent, leaves_after, open_at, repeats, repeats_bare_send, repeats_send}
 use Rattle.tsp_rules.specs.Guards.{is_slave_at}
 use Rattle.tsp_rules.proofs.Emits.{Emits, Emits_puts, is_in, sort_of_kind}
+use Rattle.tsp_sends.specs.declared.due.Due.{Due}
 use Rattle.tsp_sends.specs.declared.due.Due.TheVariants.{Again, Gave}
 use Rattle.tsp_sends.specs.declared.slot.Slot.{Slot}
 use Rattle.tsp_sends.specs.Slots.{sending_to}
-use Rattle.tsp_sends.specs.Repeating.{RepeatsNext, is_due_send}
+use Rattle.tsp_sends.specs.Repeating.{RepeatsNext, is_due_send, peer_of}
 use Rattle.tsp_acks.specs.declared.station.Station.{Station}
 use Rattle.tsp_acks.specs.Stands.{Stands, StandsStill}
 use Rattle.tsp_acks.proofs.StandsLemmas.{Stands_idle}
-use Rattle.tsp_clock.specs.Clocks.{ClockValue}
 use Rattle.tsp_clock.specs.ClockStands.{ClockStands}
 use Rattle.tsp_slave.specs.Lasts.{Remembers}
 use Rattle.tsp_slave.proofs.BesideLemmas.{beside_sorts, ClockStands_by, Remembers_by}
@@ -36,8 +36,8 @@ use Rattle.tsp_master.proofs.TableLemmas.{MasterStands_quiet, quiet_sorts}
 use Rattle.tsp_date.specs.DateStands.{DatesStand}
 use Rattle.tsp_date.proofs.KeepLemmas.{DatesStand_post}
 use Rattle.tsp_resolve.specs.ResolveStands.{ResolveStands}
-use Rattle.tsp_node.specs.declared.part.Part.{Part}
-use Rattle.tsp_node.specs.NodeStands.{PartBegun, PortBegun, PortValue, port_in}
+use Rattle.tsp_node.specs.Dues.{IsNoted}
+use Rattle.tsp_node.specs.NodeStands.{PortBegun, PortValue}
 
 -- what stands beside a master when a step begins
 record Rest (past : Past) (v : PortValue) : Type 0 where
@@ -123,9 +123,15 @@ posts-beside Quit = refl
 posts-beside SetDateReq = refl
 posts-beside _ = refl
 
--- the same as over all that the port keeps
-of_port : {row : Row} {x : ℕ} {port : Port} {before after : Part × ClockValue} {old new : List Placed} → Performs PortBegun PortBegun row x port (port_in before) (port_in after) old new → Performs PartBegun PartBegun row x port before after old new
-of_port d = record { acts = d.acts; stands = d.stands }
+-- a state after a call, told field by field
+Performs_fields : {row : Row} {x : ℕ} {port : Port} {before after : PortValue} {old new : List Placed} →
+    Performs PortBegun PortBegun row x port before (record { station = after.station; last = after.last; master = after.master; resolve = after.resolve; dates = after.dates; clock = after.clock }) old new → Performs PortBegun PortBegun row x port before after old new
+Performs_fields d = record {
+  acts = d.acts;
+  stands = λ past h.
+      let s = d.stands past h in
+      record { stands = record { station = s.stands.station; last = s.stands.last; master = s.stands.master; resolve = s.stands.resolve; dates = s.stands.dates; clock = s.stands.clock }; untaken = s.untaken; still = s.still };
+}
 
 -- a send is given up
 gave_first : {x : ℕ} {port : Port} (q : PeerId) (before : PortValue) (station : Station) {old new : List Placed} → Performs StandsStill StandsStill (puts (GaveAct q)) x port before.station station old new →
@@ -175,40 +181,47 @@ due_repeats q s is due fresh d =
     (Performs_then_part (is_send_due s) nothing (λ past h. due) (Performs_else_part (is_spent s) (gives_up q s.message.kind) (λ past h. fresh) d))
 
 -- a send is given up, and a slave that didn't acknowledge a correction leaves
-pub Performs_gave : {x : ℕ} {port : Port} {before after : Part × ClockValue} {old mid new : List Placed} (last : Option PeerId) (q : PeerId) (k : Kind) → RepeatsNext last x before.0.station.sends after.0.station.sends (Some (Gave q k)) →
-    after.0.last ≡ before.0.last → after.0.resolve ≡ before.0.resolve → after.0.dates ≡ before.0.dates → after.1 ≡ before.1 → Performs StandsStill StandsStill (bare_send q) x port before.0.station after.0.station old mid →
-    Performs MasterStands MasterStands (leaves_after q k) x port before.0.master after.0.master mid new → Performs PartBegun PartBegun (due_send q) x port before after old new
+pub Performs_gave : {x : ℕ} {port : Port} {before after : PortValue} {old mid new : List Placed} (last : Option PeerId) (q : PeerId) (k : Kind) → RepeatsNext last x before.station.sends after.station.sends (Some (Gave q k)) →
+    after.last ≡ before.last → after.resolve ≡ before.resolve → after.dates ≡ before.dates → after.clock ≡ before.clock → Performs StandsStill StandsStill (bare_send q) x port before.station after.station old mid →
+    Performs MasterStands MasterStands (leaves_after q k) x port before.master after.master mid new → Performs PortBegun PortBegun (due_send q) x port before after old new
 Performs_gave {x = x} {port = port} {before = before} {after = after} {old = old} {mid = mid} {new = new} last q k t e u v f bare leave =
-    let g = given_of last x before.0.station.sends after.0.station.sends q k t in
+    let g = given_of last x before.station.sends after.station.sends q k t in
     let gave = Performs_same (puts (GaveAct q)) (λ past h. bare_gives q g.s x past (sym (h.stands.sends q) ∙ g.sending) g.due g.spent) bare in
-    let whole = Performs_then (gave_first q (port_in before) after.0.station gave) (leaves_next q k (record (port_in before) { station = after.0.station }) after.0.master leave) in
-    of_port (due_gives q g.s k g.sending g.due g.spent g.kind (rw (e, u, v, f) whole))
+    let whole = Performs_then (gave_first q before after.station gave) (leaves_next q k (record before { station = after.station }) after.master leave) in
+    Performs_fields (due_gives q g.s k g.sending g.due g.spent g.kind (rw (e, u, v, f) whole))
 
 -- a send is posted again
-pub Performs_again : {x : ℕ} {port : Port} {before after : Part × ClockValue} {old new : List Placed} (last : Option PeerId) (q : PeerId) (m : MessageValue) → RepeatsNext last x before.0.station.sends after.0.station.sends (Some (Again q m)) →
-    after.0.last ≡ before.0.last → after.0.resolve ≡ before.0.resolve → after.0.dates ≡ before.0.dates → after.1 ≡ before.1 → Performs StandsStill StandsStill (bare_send q) x port before.0.station after.0.station old new →
-    ((past : Past) → acting past.seen ≡ false → MasterStands past before.0.master → MasterStands (grown x past (Post (Peer q) (Message m) ∷ [])) after.0.master) → Performs PartBegun PartBegun (due_send q) x port before after old new
+pub Performs_again : {x : ℕ} {port : Port} {before after : PortValue} {old new : List Placed} (last : Option PeerId) (q : PeerId) (m : MessageValue) → RepeatsNext last x before.station.sends after.station.sends (Some (Again q m)) →
+    after.last ≡ before.last → after.resolve ≡ before.resolve → after.dates ≡ before.dates → after.clock ≡ before.clock → Performs StandsStill StandsStill (bare_send q) x port before.station after.station old new →
+    ((past : Past) → acting past.seen ≡ false → MasterStands past before.master → MasterStands (grown x past (Post (Peer q) (Message m) ∷ [])) after.master) → Performs PortBegun PortBegun (due_send q) x port before after old new
 unfolding repeats puts
 Performs_again {x = x} {before = before} {after = after} last q m t e u v f bare master =
-    let g = again_of last x before.0.station.sends after.0.station.sends q m t in
+    let g = again_of last x before.station.sends after.station.sends q m t in
     let again = rw g.message at (Performs_same (repeats q g.s.message) (λ past h. bare_repeats q g.s x past (sym (h.stands.sends q) ∙ g.sending) g.due g.fresh) bare) in
     let put : Emits beside_sorts (puts (Post (Peer q) (Message m))) = Emits_puts (Post (Peer q) (Message m)) (posts-beside m.kind) in
-    of_port (due_repeats q g.s g.sending g.due g.fresh (rw g.message (record {
+    due_repeats q g.s g.sending g.due g.fresh (rw g.message (record {
       acts = λ past h. again.acts past (record { stands = h.stands.station; still = h.still });
       stands = λ past h.
           let s = again.stands past (record { stands = h.stands.station; still = h.still }) in
           record {
-            stands = record { station = s.stands; last = rw e (Remembers_by (puts (Post (Peer q) (Message m))) put x past before.0.last h.stands.last); master = master past h.still h.stands.master; resolve = rw u (record { many = h.stands.resolve.many; rivals = h.stands.resolve.rivals; empty = h.stands.resolve.empty }); dates = rw v (DatesStand_post (Peer q) m x past before.0.dates (and-false (is_set_date_request m.kind) (acting past.seen) h.still) h.stands.dates); clock = rw f (ClockStands_by (puts (Post (Peer q) (Message m))) put x past before.1 h.stands.clock) };
+            stands = record { station = s.stands; last = rw e (Remembers_by (puts (Post (Peer q) (Message m))) put x past before.last h.stands.last); master = master past h.still h.stands.master; resolve = rw u (record { many = h.stands.resolve.many; rivals = h.stands.resolve.rivals; empty = h.stands.resolve.empty }); dates = rw v (DatesStand_post (Peer q) m x past before.dates (and-false (is_set_date_request m.kind) (acting past.seen) h.still) h.stands.dates); clock = rw f (ClockStands_by (puts (Post (Peer q) (Message m))) put x past before.clock h.stands.clock) };
             untaken = h.untaken;
             still = s.still;
           };
-    })))
+    }))
+
+-- a due send, whatever became of it
+pub Performs_noted : {x : ℕ} {port : Port} {before after : PortValue} {old mid new : List Placed} (last : Option PeerId) (due : Due) → RepeatsNext last x before.station.sends after.station.sends (Some due) →
+    after.last ≡ before.last → after.resolve ≡ before.resolve → after.dates ≡ before.dates → after.clock ≡ before.clock → Performs StandsStill StandsStill (bare_send (peer_of due)) x port before.station after.station old mid →
+    IsNoted due x port before.master after.master mid new → Performs PortBegun PortBegun (due_send (peer_of due)) x port before after old new
+Performs_noted last (Again q m) t e u v f bare noted = Performs_again last q m t e u v f (rw noted.0 bare) noted.1
+Performs_noted last (Gave q k) t e u v f bare noted = Performs_gave last q k t e u v f bare noted
 
 -- nothing is done for a send that isn't due
-pub Performs_waits : {x : ℕ} {port : Port} {both : Part × ClockValue} {old : List Placed} (q : PeerId) → is_due_send x (sending_to both.0.station.sends q) ≡ false → Performs PartBegun PartBegun (due_send q) x port both both old old
+pub Performs_waits : {x : ℕ} {port : Port} {state : PortValue} {old : List Placed} (q : PeerId) → is_due_send x (sending_to state.station.sends q) ≡ false → Performs PortBegun PortBegun (due_send q) x port state state old old
 unfolding due_send repeats_send
-Performs_waits {x = x} {port = port} {both = both} {old = old} q late = Performs_reading (open_at q) (repeats_send q) (sending_to both.0.station.sends q) (λ past h. sym (h.stands.station.sends q)) (by_send (sending_to both.0.station.sends q) late) where
-  by_send : (o : Option Sending) → is_due_send x o ≡ false → Performs PartBegun PartBegun (repeats_send q o) x port both both old old
+Performs_waits {x = x} {port = port} {state = state} {old = old} q late = Performs_reading (open_at q) (repeats_send q) (sending_to state.station.sends q) (λ past h. sym (h.stands.station.sends q)) (by_send (sending_to state.station.sends q) late) where
+  by_send : (o : Option Sending) → is_due_send x o ≡ false → Performs PortBegun PortBegun (repeats_send q o) x port state state old old
   by_send None e = Performs_nothing
   by_send (Some s) e = Performs_else_part (is_send_due s) _ (λ past h. e) Performs_nothing
 

@@ -1,6 +1,7 @@
 -- What a port does with a message.
-use Rattle.std.specs.Prelude.{◌≡◌, ◌≢◌, ℕ, ◌==◌, ◌&&◌, not, Bool, true, false, if◌then◌else◌, List, [], ◌∷◌, Option, None, Some, refl}
-use Rattle.std.proofs.Common.{◌∙◌, ap, sym}
+use Rattle.std.specs.Prelude.{◌≡◌, ◌≢◌, ℕ, ◌==◌, ◌&&◌, not, Bool, true, false, if◌then◌else◌, List, [], ◌∷◌, ◌++◌, Option, None, Some, refl}
+use Rattle.std.specs.List.{Contains}
+use Rattle.std.proofs.Common.{◌∙◌, ap, subst, sym}
 use Rattle.std.proofs.lemmas.Bool.{false≢true}
 use Rattle.tsp_base.specs.declared.act.Act.TheVariants.{Acked, Backer}
 use Rattle.tsp_base.specs.declared.act.Placed.{Placed}
@@ -17,7 +18,7 @@ use Rattle.tsp_base.specs.Messages.{MessageValue}
 use Rattle.tsp_base.specs.Peers.{is_among}
 use Rattle.tsp_base.specs.Performs.{Performs}
 use Rattle.tsp_base.specs.PortFacts.{Received, role}
-use Rattle.tsp_base.specs.Rows.{Row, either_by, grown, nothing, posts, puts, reading, ◌followed_by◌}
+use Rattle.tsp_base.specs.Rows.{Row, either_by, grown, nothing, placed, posts, puts, reading, ◌followed_by◌}
 use Rattle.tsp_base.specs.SendFacts.{Sending, corrects_in, is_correction, is_date_request, open_send}
 use Rattle.tsp_base.specs.Stamps.{ReplyValue}
 use Rattle.tsp_base.proofs.PerformsLemmas.{Performs_else_part, Performs_reading, Performs_then_part}
@@ -33,18 +34,18 @@ use Rattle.tsp_rules.specs.Guards.{is_follow, is_heard, is_master, is_starting_r
 use Rattle.tsp_rules.proofs.Emits.{Emits_more}
 use Rattle.tsp_acks.specs.declared.station.Station.{Station}
 use Rattle.tsp_acks.specs.Stands.{Stands}
-use Rattle.tsp_clock.specs.Clocks.{ClockValue}
+use Rattle.tsp_acks.proofs.PeerLemmas.{Contains-among}
 use Rattle.tsp_master.specs.declared.master.Master.{Master as MasterValue}
 use Rattle.tsp_master.specs.MasterStands.{MasterStands}
 use Rattle.tsp_master.specs.MasterTakes.{master_takes_kind_here}
 use Rattle.tsp_master.proofs.TableLemmas.{MasterStands_quiet}
 use Rattle.tsp_master.proofs.TurnLemmas.{MasterStands_idle, MasterStands_unheld}
-use Rattle.tsp_node.specs.declared.part.Part.{Part}
-use Rattle.tsp_node.specs.declared.audience.Audience.TheVariants.{OfClients, OfNode, OfRoles}
-use Rattle.tsp_node.specs.Audiences.{audience_of}
-use Rattle.tsp_node.specs.NodeStands.{PartStands, PartTook, TakeStands, TookStands}
+use Rattle.tsp_node.specs.declared.audience.Audience.{Audience}
+use Rattle.tsp_node.specs.declared.audience.Audience.TheVariants.{OfClients, OfNode, OfRoles, OfSends}
+use Rattle.tsp_node.specs.Audiences.{audience_of, heard_from, hears_by}
+use Rattle.tsp_node.specs.NodeStands.{PortStands, PortTook, PortValue}
 use Rattle.tsp_node.proofs.EmitsRoles.{calm_sorts, emits_candidate, emits_yields}
-use Rattle.tsp_node.proofs.NodeLemmas.{Performs_pass, took_pass}
+use Rattle.tsp_node.proofs.NodeLemmas.{Performs_pass}
 
 pub is_stranger : (from : Place) → ((p : PeerId) → from ≡ Peer p → ⊥) → from ≡ Stranger
 is_stranger (Peer p) n = absurd (n p refl)
@@ -54,10 +55,6 @@ is_stranger Stranger n = refl
 abbrev pub leaves_by : Bool → Kind → Role → Bool
 leaves_by steer kind r = not steer && (is_correction kind && is_follow r)
 
--- whether a station of these peers and this role hears p
-abbrev pub hears_by : Station → PeerId → Bool
-hears_by station p = is_among p station.peers && not (is_starting_role station.role)
-
 -- the row's tests, as the station has them
 is_left-at : (steer : Bool) (kind : Kind) (x : ℕ) (past : Past) (station : Station) → Stands past station → is_left steer kind x past ≡ leaves_by steer kind station.role
 is_left-at steer kind x past station s = ap (leaves_by steer kind) (sym s.role)
@@ -66,33 +63,95 @@ is_heard-at : (p : PeerId) (x : ℕ) (past : Past) (station : Station) → Stand
 is_heard-at p x past station s = rw (s.peers, s.role) refl
 
 -- a correction that is left is passed over
-pub Performs_left : {r : Received} {x : ℕ} {port : Port} {state : (Part × ClockValue) × Bool} {old : List Placed} (steer : Bool) (k : Kind) (row : Row) → leaves_by steer k state.0.0.station.role ≡ true → Performs (TookStands r) TakeStands (either_by (is_left steer k) nothing row) x port state state old old
-Performs_left {x = x} {state = state} steer k row e = Performs_then_part (is_left steer k) row (λ past h. is_left-at steer k x past state.0.0.station h.first.stands.station ∙ e) took_pass
+pub Performs_left : {r : Received} {x : ℕ} {port : Port} {state : PortValue} {old : List Placed} (steer : Bool) (k : Kind) (row : Row) → leaves_by steer k state.station.role ≡ true → Performs (PortTook r) PortStands (either_by (is_left steer k) nothing row) x port state state old old
+Performs_left {x = x} {state = state} steer k row e = Performs_then_part (is_left steer k) row (λ past h. is_left-at steer k x past state.station h.stands.station ∙ e) Performs_pass
 
 -- what isn't left is handled
-pub Performs_kept : {r : Received} {x : ℕ} {port : Port} {before after : (Part × ClockValue) × Bool} {old new : List Placed} (steer : Bool) (k : Kind) {row : Row} → leaves_by steer k before.0.0.station.role ≡ false → Performs (TookStands r) TakeStands row x port before after old new →
-    Performs (TookStands r) TakeStands (either_by (is_left steer k) nothing row) x port before after old new
-Performs_kept {x = x} {before = before} steer k e d = Performs_else_part (is_left steer k) nothing (λ past h. is_left-at steer k x past before.0.0.station h.first.stands.station ∙ e) d
+pub Performs_kept : {r : Received} {x : ℕ} {port : Port} {before after : PortValue} {old new : List Placed} (steer : Bool) (k : Kind) {row : Row} → leaves_by steer k before.station.role ≡ false → Performs (PortTook r) PortStands row x port before after old new →
+    Performs (PortTook r) PortStands (either_by (is_left steer k) nothing row) x port before after old new
+Performs_kept {x = x} {before = before} steer k e d = Performs_else_part (is_left steer k) nothing (λ past h. is_left-at steer k x past before.station h.stands.station ∙ e) d
 
--- strangers are passed over, and so is who isn't heard
-pub Performs_stranger : {r : Received} {x : ℕ} {port : Port} {both : Part × ClockValue} {old : List Placed} (row : PeerId → Row) → Performs (PartTook r) PartStands (from_peer Stranger row) x port both both old old
-unfolding from_peer
-Performs_stranger row = Performs_pass
+-- only a follower leaves anything
+pub leaves_none : (steer : Bool) (k : Kind) (r : Role) → is_follow r ≡ false → leaves_by steer k r ≡ false
+leaves_none true k r e = refl
+leaves_none false k r e = rw e (none (is_correction k)) where
+  none : (b : Bool) → (b && false) ≡ false
+  none true = refl
+  none false = refl
 
-pub Performs_unheard : {r : Received} {x : ℕ} {port : Port} {both : Part × ClockValue} {old : List Placed} (p : PeerId) (row : PeerId → Row) → hears_by both.0.station p ≡ false → Performs (PartTook r) PartStands (from_peer (Peer p) row) x port both both old old
+-- and that only of what is for the roles
+pub kept_unless : (k : Kind) (a : Audience) → audience_of k ≡ a → a ≢ OfRoles → is_correction k ≡ false
+kept_unless AdjTime a e n = absurd (n (sym e))
+kept_unless SetTime a e n = absurd (n (sym e))
+kept_unless _ a e n = refl
+
+never_left : (steer : Bool) (k : Kind) (x : ℕ) (past : Past) → is_correction k ≡ false → is_left steer k x past ≡ false
+never_left true k x past e = refl
+never_left false k x past e = rw e refl
+
+pub Performs_never_left : {S T : Type 0} {p : Past → S → Type 0} {q : Past → T → Type 0} {x : ℕ} {port : Port} {before : S} {after : T} {old new : List Placed} (steer : Bool) (k : Kind) {row : Row} → is_correction k ≡ false → Performs p q row x port before after old new →
+    Performs p q (either_by (is_left steer k) nothing row) x port before after old new
+Performs_never_left {x = x} steer k e d = Performs_else_part (is_left steer k) nothing (λ past h. never_left steer k x past e) d
+
+-- nothing is done in either case
+pub Performs_either_way : {S T : Type 0} {p : Past → S → Type 0} {q : Past → T → Type 0} {x : ℕ} {port : Port} {before : S} {after : T} {old new : List Placed} (test : ℕ → Past → Bool) (r s : Row) → Performs p q r x port before after old new → Performs p q s x port before after old new →
+    Performs p q (either_by test r s) x port before after old new
+unfolding either_by
+Performs_either_way {q = q} {x = x} {port = port} {after = after} {old = old} {new = new} test r s d e = record {
+  acts = λ past h. elim (test x past) as (λ b. new ≡ old ++ placed port (if b then r x past else s x past)) [ true ↦ d.acts past h | false ↦ e.acts past h ];
+  stands = λ past h. elim (test x past) as (λ b. q (grown x past (if b then r x past else s x past)) after) [ true ↦ d.stands past h | false ↦ e.stands past h ];
+}
+
+-- whom a port heeds, by who sent it
+pub heard-stranger : (station : Station) (from : Place) → from ≡ Stranger → heard_from station from ≡ None
+heard-stranger station from is = rw is refl
+
+pub heard-peer : (station : Station) (from : Place) (p : PeerId) → from ≡ Peer p → hears_by station p ≡ true → heard_from station from ≡ Some p
+heard-peer station from p is h = rw (is, h) refl
+
+pub unheard-peer : (station : Station) (from : Place) (p : PeerId) → from ≡ Peer p → hears_by station p ≡ false → heard_from station from ≡ None
+unheard-peer station from p is h = rw (is, h) refl
+
+-- who isn't heard is passed over
+not_heard : (station : Station) (p : PeerId) → heard_from station (Peer p) ≡ None → hears_by station p ≡ false
+not_heard station p e = by_test (hears_by station p) refl e where
+  by_test : (b : Bool) → hears_by station p ≡ b → (if b then Some p else None) ≡ None → hears_by station p ≡ false
+  by_test true h e = let bad : ⊥ = cc in absurd bad
+  by_test false h e = h
+
+pub Performs_unheard : {r : Received} {x : ℕ} {port : Port} {state : PortValue} {old : List Placed} (from : Place) (row : PeerId → Row) → heard_from state.station from ≡ None → Performs (PortTook r) PortStands (from_peer from row) x port state state old old
 unfolding from_peer
-Performs_unheard {x = x} {both = both} p row e = Performs_else_part (is_heard p) (row p) (λ past h. is_heard-at p x past both.0.station h.stands.station ∙ e) Performs_pass
+Performs_unheard {x = x} {state = state} (Peer p) row e = Performs_else_part (is_heard p) (row p) (λ past h. is_heard-at p x past state.station h.stands.station ∙ not_heard state.station p e) Performs_pass
+Performs_unheard Stranger row e = Performs_pass
 
 -- who is heard is handled
-pub Performs_heard_by : {r : Received} {x : ℕ} {port : Port} {before after : Part × ClockValue} {old new : List Placed} (p : PeerId) (row : PeerId → Row) → hears_by before.0.station p ≡ true →
-    Performs (PartTook r) PartStands (row p) x port before after old new → Performs (PartTook r) PartStands (from_peer (Peer p) row) x port before after old new
+pub is_from : (station : Station) (from : Place) (p : PeerId) → heard_from station from ≡ Some p → from ≡ Peer p
+is_from station (Peer q) p e = by_test (hears_by station q) e where
+  by_test : (b : Bool) → (if b then Some q else None) ≡ Some p → Peer q ≡ Peer p
+  by_test true e = cc
+  by_test false e = let bad : ⊥ = cc in absurd bad
+is_from station Stranger p e = let bad : ⊥ = cc in absurd bad
+
+pub is_hearing : (station : Station) (from : Place) (p : PeerId) → heard_from station from ≡ Some p → hears_by station p ≡ true
+is_hearing station (Peer q) p e = by_test (hears_by station q) refl e where
+  by_test : (b : Bool) → hears_by station q ≡ b → (if b then Some q else None) ≡ Some p → hears_by station p ≡ true
+  by_test true h e = let same : q ≡ p = cc in subst (λ k. hears_by station k ≡ true) same h
+  by_test false h e = let bad : ⊥ = cc in absurd bad
+is_hearing station Stranger p e = let bad : ⊥ = cc in absurd bad
+
+pub Performs_heard_at : {r : Received} {x : ℕ} {port : Port} {before after : PortValue} {old new : List Placed} (p : PeerId) (row : PeerId → Row) → hears_by before.station p ≡ true →
+    Performs (PortTook r) PortStands (row p) x port before after old new → Performs (PortTook r) PortStands (from_peer (Peer p) row) x port before after old new
 unfolding from_peer
-Performs_heard_by {x = x} {before = before} p row e d = Performs_then_part (is_heard p) nothing (λ past h. is_heard-at p x past before.0.station h.stands.station ∙ e) d
+Performs_heard_at {x = x} {before = before} p row e d = Performs_then_part (is_heard p) nothing (λ past h. is_heard-at p x past before.station h.stands.station ∙ e) d
+
+pub Performs_heard_by : {r : Received} {x : ℕ} {port : Port} {before after : PortValue} {old new : List Placed} (from : Place) (p : PeerId) (row : PeerId → Row) → heard_from before.station from ≡ Some p →
+    Performs (PortTook r) PortStands (row p) x port before after old new → Performs (PortTook r) PortStands (from_peer from row) x port before after old new
+Performs_heard_by {before = before} from p row e d = rw (is_from before.station from p e) (Performs_heard_at p row (is_hearing before.station from p e) d)
 
 -- by the role that the port has
-pub Performs_by_role : {r : Received} {x : ℕ} {port : Port} {before after : Part × ClockValue} {old new : List Placed} (rows : Role → Row) →
-    Performs (PartTook r) PartStands (rows before.0.station.role) x port before after old new → Performs (PartTook r) PartStands (reading role_at rows) x port before after old new
-Performs_by_role {before = before} rows d = Performs_reading role_at rows before.0.station.role (λ past k. sym k.stands.station.role) d
+pub Performs_by_role : {r : Received} {x : ℕ} {port : Port} {before after : PortValue} {old new : List Placed} (rows : Role → Row) →
+    Performs (PortTook r) PortStands (rows before.station.role) x port before after old new → Performs (PortTook r) PortStands (reading role_at rows) x port before after old new
+Performs_by_role {before = before} rows d = Performs_reading role_at rows before.station.role (λ past k. sym k.stands.station.role) d
 
 -- an ACK is handled alike by every role that hears
 pub says_ack : (p : PeerId) (m : MessageValue) (r : Role) → m.kind ≡ Ack → is_starting_role r ≡ false → says_in p m r ≡ acknowledges p m.number
@@ -126,19 +185,22 @@ master_takes-other p m SlaveUp a q u c t = refl
 master_takes-other p m Election a q u c t = refl
 master_takes-other p m _ a q u c t = refl
 
--- the role of a peer that is heard
-pub heard_role : (station : Station) (p : PeerId) → hears_by station p ≡ true → is_starting_role station.role ≡ false
-heard_role station p h = by_test (is_among p station.peers) (is_starting_role station.role) refl h where
+-- the role of a port that hears a peer
+pub heard_role : (station : Station) (from : Place) (p : PeerId) → heard_from station from ≡ Some p → is_starting_role station.role ≡ false
+heard_role station from p e = by_test (is_among p station.peers) (is_starting_role station.role) refl (is_hearing station from p e) where
   by_test : (a s : Bool) → is_starting_role station.role ≡ s → (a && not s) ≡ true → is_starting_role station.role ≡ false
   by_test true true e h = absurd (false≢true h)
   by_test true false e h = e
   by_test false s e h = absurd (false≢true h)
 
-pub heard_peer : (station : Station) (p : PeerId) → hears_by station p ≡ true → is_among p station.peers ≡ true
-heard_peer station p h = by_test (is_among p station.peers) refl h where
+pub heard_peer : (station : Station) (from : Place) (p : PeerId) → heard_from station from ≡ Some p → Contains station.peers p
+heard_peer station from p e = Contains-among p station.peers (by_test (is_among p station.peers) refl (is_hearing station from p e)) where
   by_test : (a : Bool) → is_among p station.peers ≡ a → (a && not (is_starting_role station.role)) ≡ true → is_among p station.peers ≡ true
   by_test true e h = e
   by_test false e h = absurd (false≢true h)
+
+pub heard_awake : (station : Station) (from : Place) (p : PeerId) → heard_from station from ≡ Some p → station.role ≢ Starting
+heard_awake station from p e s = false≢true (sym (heard_role station from p e) ∙ ap is_starting_role s)
 
 -- a candidate's send that is answered doesn't correct
 not-correcting : (number : ℕ) (s : Option Sending) → answers_election number s ≡ true → corrects_in s ≡ false
@@ -188,8 +250,8 @@ replies_none p reply Master e = absurd (false≢true (sym e))
 replies_none p reply _ e = refl
 
 -- what a role does, as the one that the port has
-pub Performs_role : {t : Received} {x : ℕ} {port : Port} {before after : Part × ClockValue} {old new : List Placed} (p : PeerId) (m : MessageValue) (is r : Role) → is ≡ r → Performs (PartTook t) PartStands (says_in p m r) x port before after old new →
-    Performs (PartTook t) PartStands (says_in p m is) x port before after old new
+pub Performs_role : {t : Received} {x : ℕ} {port : Port} {before after : PortValue} {old new : List Placed} (p : PeerId) (m : MessageValue) (is r : Role) → is ≡ r → Performs (PortTook t) PortStands (says_in p m r) x port before after old new →
+    Performs (PortTook t) PortStands (says_in p m is) x port before after old new
 Performs_role p m is r e d = rw e d
 
 -- Who answers a message, as the rows have it
@@ -206,6 +268,7 @@ audience_node charge from m SetDate e = let bad : ⊥ = cc in absurd bad
 audience_node charge from m DateReq e = let bad : ⊥ = cc in absurd bad
 audience_node charge from m SetDateReq e = let bad : ⊥ = cc in absurd bad
 audience_node charge from m DateAck e = let bad : ⊥ = cc in absurd bad
+audience_node charge from m Ack e = let bad : ⊥ = cc in absurd bad
 audience_node charge from m _ e = let bad : ⊥ = cc in absurd bad
 
 pub audience_roles : (charge : Bool) (from : Place) (m : MessageValue) (k : Kind) → audience_of k ≡ OfRoles → handles_kind charge from m k ≡ from_peer from (peer_says m)
@@ -221,7 +284,31 @@ audience_roles charge from m DateReq e = let bad : ⊥ = cc in absurd bad
 audience_roles charge from m SetDateReq e = let bad : ⊥ = cc in absurd bad
 audience_roles charge from m DateAck e = let bad : ⊥ = cc in absurd bad
 audience_roles charge from m Loop e = let bad : ⊥ = cc in absurd bad
+audience_roles charge from m Ack e = let bad : ⊥ = cc in absurd bad
 audience_roles charge from m _ e = refl
+
+-- an ACK is for the sends
+pub audience_sends : (k : Kind) → audience_of k ≡ OfSends → k ≡ Ack
+audience_sends Ack e = refl
+audience_sends Msite e = let bad : ⊥ = cc in absurd bad
+audience_sends MsiteReq e = let bad : ⊥ = cc in absurd bad
+audience_sends TraceOn e = let bad : ⊥ = cc in absurd bad
+audience_sends TraceOff e = let bad : ⊥ = cc in absurd bad
+audience_sends Test e = let bad : ⊥ = cc in absurd bad
+audience_sends Date e = let bad : ⊥ = cc in absurd bad
+audience_sends SetDate e = let bad : ⊥ = cc in absurd bad
+audience_sends DateReq e = let bad : ⊥ = cc in absurd bad
+audience_sends SetDateReq e = let bad : ⊥ = cc in absurd bad
+audience_sends DateAck e = let bad : ⊥ = cc in absurd bad
+audience_sends Loop e = let bad : ⊥ = cc in absurd bad
+audience_sends _ e = let bad : ⊥ = cc in absurd bad
+
+pub handles_ack : (charge : Bool) (from : Place) (m : MessageValue) → m.kind ≡ Ack → handles_kind charge from m m.kind ≡ from_peer from (peer_says m)
+unfolding handles_kind
+handles_ack charge from m e = rw e refl
+
+pub roles_other : (k : Kind) → audience_of k ≡ OfRoles → k ≢ Ack
+roles_other k e f = let same : OfSends ≡ OfRoles = sym (ap audience_of f) ∙ e in let bad : ⊥ = cc in bad
 
 pub roles_date : (k : Kind) → audience_of k ≡ OfRoles → is_date_request k ≡ false
 roles_date Date e = refl
@@ -243,6 +330,7 @@ audience_test DateReq e a b c d = let bad : ⊥ = cc in absurd bad
 audience_test SetDateReq e a b c d = let bad : ⊥ = cc in absurd bad
 audience_test DateAck e a b c d = let bad : ⊥ = cc in absurd bad
 audience_test Loop e a b c d = let bad : ⊥ = cc in absurd bad
+audience_test Ack e a b c d = let bad : ⊥ = cc in absurd bad
 audience_test _ e a b c d = let bad : ⊥ = cc in absurd bad
 
 -- a master's rows, and the clients', by the kind

@@ -17,12 +17,12 @@ use Rattle.tsp_base.specs.Performs.{Performs, Keeps}
 use Rattle.tsp_base.specs.PortFacts.{Received, acting, acting_after, role, said, taken, taken_after}
 use Rattle.tsp_base.specs.Rows.{Row, nothing, puts, grown}
 use Rattle.tsp_base.specs.Stamps.{ReplyValue}
-use Rattle.tsp_base.proofs.PerformsLemmas.{Performs_beside, Performs_from, Performs_nothing}
+use Rattle.tsp_base.proofs.PerformsLemmas.{Performs_from, Performs_nothing}
 use Rattle.tsp_rules.specs.Guards.{is_master}
 use Rattle.tsp_rules.proofs.Emits.{Sort, Booting, Asking, Correcting, Numbering, Posting, Leading, Following, Changing, Backing, Counting, Rounding, Alarming, Tabling, Rivalling, Acking, Giving, Sampling, Closing, Moving, Tracing, Emits, Emits_more, Keeps_by, is_in, sort_of}
 use Rattle.tsp_acks.specs.declared.station.Station.{Station}
 use Rattle.tsp_acks.specs.Stands.{Stands, StandsActing}
-use Rattle.tsp_clients.specs.ClientStands.{NamingStands, TracingStands}
+use Rattle.tsp_clients.specs.ClientStands.{NamingStands, TraceStands, TracingStands}
 use Rattle.tsp_clients.proofs.ClientLemmas.{TraceStands_by}
 use Rattle.tsp_acks.proofs.StandsLemmas.{Stands_idle, Stands_stamp}
 use Rattle.tsp_clock.specs.Clocks.{ClockValue}
@@ -42,43 +42,42 @@ use Rattle.tsp_resolve.specs.declared.resolve.Resolve.{Resolve}
 use Rattle.tsp_resolve.specs.ResolveStands.{ResolveStands, ResolvingStands}
 use Rattle.tsp_resolve.proofs.ResolveLemmas.{ResolveStands_by, unchanging}
 use Rattle.tsp_node.specs.declared.node.Node.{Node}
-use Rattle.tsp_node.specs.declared.part.Part.{Part}
 use Rattle.tsp_node.specs.Unmarking.{Unmarks}
-use Rattle.tsp_node.specs.NodeStands.{PortStands, PartStands, PartBegun, PartTook, PartUntaken, NodeStands, NodeUntaken, Begun, TakeStands, TookStands, all_of}
+use Rattle.tsp_node.specs.NodeStands.{PortBegun, PortStands, PortTook, PortUntaken, PortValue, NodeStands, NodeUntaken, Begun, TakeStands, TookStands, Traced, TracedValue, port_with, traced_of}
 use Rattle.tsp_node.proofs.EmitsRoles.{role_sorts}
 use Rattle.tsp_node.proofs.TakeEmits.{silent_trace}
 use Rattle.tsp_rules.proofs.EmitsClients.{date_sorts}
 use Rattle.tsp_node.proofs.RivalKeeps.{ResolveStands_parted}
 
 -- a call that changes nothing but the station, the master and the rivals
-pub Performs_station : {row : Row} {x : ℕ} {port : Port} {before after : Part × ClockValue} {old new : List Placed} → after.0.last ≡ before.0.last → after.1 ≡ before.1 → after.0.dates ≡ before.0.dates → Emits beside_sorts row → Keeps DatesStand row →
-    ((past : Past) → PartStands past before → Stands (grown x past (row x past)) after.0.station → MasterStands (grown x past (row x past)) after.0.master) →
-    ((past : Past) → PartStands past before → Stands (grown x past (row x past)) after.0.station → ResolveStands (grown x past (row x past)) after.0.resolve) →
-    Performs Stands Stands row x port before.0.station after.0.station old new → Performs PartStands PartStands row x port before after old new
+pub Performs_station : {row : Row} {x : ℕ} {port : Port} {before after : PortValue} {old new : List Placed} → after.last ≡ before.last → after.clock ≡ before.clock → after.dates ≡ before.dates → Emits beside_sorts row → Keeps DatesStand row →
+    ((past : Past) → PortStands past before → Stands (grown x past (row x past)) after.station → MasterStands (grown x past (row x past)) after.master) →
+    ((past : Past) → PortStands past before → Stands (grown x past (row x past)) after.station → ResolveStands (grown x past (row x past)) after.resolve) →
+    Performs Stands Stands row x port before.station after.station old new → Performs PortStands PortStands row x port before after old new
 Performs_station {row = row} {x = x} {before = before} e f g k keep master resolve d = record {
   acts = λ past h. d.acts past h.station;
   stands = λ past h.
       let s = d.stands past h.station in
       record {
         station = s;
-        last = rw e (Remembers_by row k x past before.0.last h.last);
+        last = rw e (Remembers_by row k x past before.last h.last);
         master = master past h s;
         resolve = resolve past h s;
-        dates = rw g (keep x past before.0.dates h.dates);
-        clock = rw f (ClockStands_by row k x past before.1 h.clock);
+        dates = rw g (keep x past before.dates h.dates);
+        clock = rw f (ClockStands_by row k x past before.clock h.clock);
       };
 }
 
 -- the slaves are forgotten where a port led and leads no more, and so are the rivals
-pub slaves_part : (row : Row) → Emits role_sorts row → (x : ℕ) (past : Past) (before after : Part × ClockValue) → Clears (is_master before.0.station.role && not (is_master after.0.station.role)) before.0.master after.0.master →
-    PartStands past before → Stands (grown x past (row x past)) after.0.station → MasterStands (grown x past (row x past)) after.0.master
+pub slaves_part : (row : Row) → Emits role_sorts row → (x : ℕ) (past : Past) (before after : PortValue) → Clears (is_master before.station.role && not (is_master after.station.role)) before.master after.master →
+    PortStands past before → Stands (grown x past (row x past)) after.station → MasterStands (grown x past (row x past)) after.master
 slaves_part row e x past before after clears h s =
-    MasterStands_parted row (Emits_more role_sorts refl e) x past before.0.master after.0.master before.0.station.role after.0.station.role (sym h.station.role) (sym s.role) clears h.master
+    MasterStands_parted row (Emits_more role_sorts refl e) x past before.master after.master before.station.role after.station.role (sym h.station.role) (sym s.role) clears h.master
 
-pub rivals_part : (row : Row) → Emits role_sorts row → (x : ℕ) (past : Past) (before after : Part × ClockValue) → Unmarks (is_master before.0.station.role && not (is_master after.0.station.role)) before.0.resolve after.0.resolve →
-    PartStands past before → Stands (grown x past (row x past)) after.0.station → ResolveStands (grown x past (row x past)) after.0.resolve
+pub rivals_part : (row : Row) → Emits role_sorts row → (x : ℕ) (past : Past) (before after : PortValue) → Unmarks (is_master before.station.role && not (is_master after.station.role)) before.resolve after.resolve →
+    PortStands past before → Stands (grown x past (row x past)) after.station → ResolveStands (grown x past (row x past)) after.resolve
 rivals_part row e x past before after unmarks h s =
-    ResolveStands_parted row e x past before.0.resolve after.0.resolve before.0.station.role after.0.station.role (sym h.station.role) (sym s.role) unmarks h.resolve
+    ResolveStands_parted row e x past before.resolve after.resolve before.station.role after.station.role (sym h.station.role) (sym s.role) unmarks h.resolve
 
 -- all sorts but Took
 abbrev pub untaking_sorts : List Sort
@@ -96,8 +95,8 @@ pub untaken_by : (row : Row) → Emits untaking_sorts row → (x : ℕ) (past : 
 untaken_by row e x past h = Keeps_by untaking_sorts IsUntaken row untaken_act e x past tt h
 
 -- a call in a step that has taken nothing yet
-pub Performs_untaken : {row : Row} {x : ℕ} {port : Port} {before after : Part × ClockValue} {old new : List Placed} → Emits untaking_sorts row →
-    Performs PartStands PartStands row x port before after old new → Performs PartUntaken PartUntaken row x port before after old new
+pub Performs_untaken : {row : Row} {x : ℕ} {port : Port} {before after : PortValue} {old new : List Placed} → Emits untaking_sorts row →
+    Performs PortStands PortStands row x port before after old new → Performs PortUntaken PortUntaken row x port before after old new
 Performs_untaken {row = row} {x = x} e d = record {
   acts = λ past h. d.acts past h.stands;
   stands = λ past h. record { stands = d.stands past h.stands; untaken = untaken_by row e x past h.untaken };
@@ -105,67 +104,67 @@ Performs_untaken {row = row} {x = x} e d = record {
 
 -- a call on a port is one on its node
 pub node_untaken : {row : Row} {x : ℕ} {port : Port} {before after : Node} {old new : List Placed} → after.tracing ≡ before.tracing → Emits silent_trace row →
-    Performs PartUntaken PartUntaken row x port (before.part, before.clock) (after.part, after.clock) old new → Performs NodeUntaken NodeUntaken row x port before after old new
+    Performs PortUntaken PortUntaken row x port (port_with before.part before.clock) (port_with after.part after.clock) old new → Performs NodeUntaken NodeUntaken row x port before after old new
 node_untaken {row = row} {x = x} {before = before} e k d = record {
-  acts = λ past h. d.acts past h.first;
-  stands = λ past h. record { first = d.stands past h.first; second = rw e (TraceStands_by row (Emits_more silent_trace refl k) x past before.tracing h.second) };
+  acts = λ past h. d.acts past h.port;
+  stands = λ past h. record { port = d.stands past h.port; trace = rw e (TraceStands_by row (Emits_more silent_trace refl k) x past before.tracing h.trace) };
 }
 
 pub node_stands : {row : Row} {x : ℕ} {port : Port} {before after : Node} {old new : List Placed} → after.tracing ≡ before.tracing → Emits silent_trace row →
-    Performs PartStands PartStands row x port (before.part, before.clock) (after.part, after.clock) old new → Performs NodeStands NodeStands row x port before after old new
+    Performs PortStands PortStands row x port (port_with before.part before.clock) (port_with after.part after.clock) old new → Performs NodeStands NodeStands row x port before after old new
 node_stands {row = row} {x = x} {before = before} e k d = record {
-  acts = λ past h. d.acts past h.first;
-  stands = λ past h. record { first = d.stands past h.first; second = rw e (TraceStands_by row (Emits_more silent_trace refl k) x past before.tracing h.second) };
+  acts = λ past h. d.acts past h.port;
+  stands = λ past h. record { port = d.stands past h.port; trace = rw e (TraceStands_by row (Emits_more silent_trace refl k) x past before.tracing h.trace) };
 }
 
 -- so is the first call of a step on a port
 pub node_begun : {row : Row} {x : ℕ} {port : Port} {before after : Node} {old new : List Placed} → after.tracing ≡ before.tracing → Emits silent_trace row →
-    Performs PartBegun PartBegun row x port (before.part, before.clock) (after.part, after.clock) old new → Performs Begun NodeUntaken row x port before after old new
+    Performs PortBegun PortBegun row x port (port_with before.part before.clock) (port_with after.part after.clock) old new → Performs Begun NodeUntaken row x port before after old new
 node_begun {row = row} {x = x} {before = before} e k d = record {
-  acts = λ past h. d.acts past h.first;
+  acts = λ past h. d.acts past h.port;
   stands = λ past h.
-      let s = d.stands past h.first in
-      record { first = record { stands = s.stands; untaken = s.untaken }; second = rw e (TraceStands_by row (Emits_more silent_trace refl k) x past before.tracing h.second) };
+      let s = d.stands past h.port in
+      record { port = record { stands = s.stands; untaken = s.untaken }; trace = rw e (TraceStands_by row (Emits_more silent_trace refl k) x past before.tracing h.trace) };
 }
 
 -- and so is a port's taking
-pub node_takes : {row : Row} {x : ℕ} {port : Port} {before after : Node} {old new : List Placed} → Performs TakeStands TakeStands row x port (all_of before) (all_of after) old new → Performs NodeUntaken NodeStands row x port before after old new
-node_takes d = record { acts = λ past h. d.acts past (record { first = h.first.stands; second = h.second }); stands = λ past h. d.stands past (record { first = h.first.stands; second = h.second }) }
+pub node_takes : {row : Row} {x : ℕ} {port : Port} {before after : Node} {old new : List Placed} → Performs TakeStands TakeStands row x port (traced_of before) (traced_of after) old new → Performs NodeUntaken NodeStands row x port before after old new
+node_takes d = record { acts = λ past h. d.acts past (record { port = h.port.stands; trace = h.trace }); stands = λ past h. d.stands past (record { port = h.port.stands; trace = h.trace }) }
 
 -- a node that has taken nothing stands
 pub node_rests : {x : ℕ} {port : Port} {node : Node} {old : List Placed} → Performs NodeUntaken NodeStands nothing x port node node old old
 unfolding nothing
-node_rests {old = old} = record { acts = λ past h. sym (append-nil old); stands = λ past h. record { first = h.first.stands; second = h.second } }
+node_rests {old = old} = record { acts = λ past h. sym (append-nil old); stands = λ past h. record { port = h.port.stands; trace = h.trace } }
 
 -- a datagram is taken
-pub PartTook_took : (from : Place) (t : Taken) (x : ℕ) (past : Past) (both : Part × ClockValue) → PartStands past both → PartTook (record { from = from; taken = t }) (grown x past (Took from t ∷ [])) both
+pub PortTook_took : (from : Place) (t : Taken) (x : ℕ) (past : Past) (state : PortValue) → PortStands past state → PortTook (record { from = from; taken = t }) (grown x past (Took from t ∷ [])) state
 unfolding puts
-PartTook_took from t x past both h = record {
+PortTook_took from t x past state h = record {
   stands = record {
-    station = Stands_idle (Took from t) refl x past both.0.station h.station;
+    station = Stands_idle (Took from t) refl x past state.station h.station;
     last = record { tick_is = h.last.tick_is; taken_is = h.last.taken_is; name_is = h.last.name_is };
-    master = MasterStands_quiet (Took from t) refl x past both.0.master h.master;
+    master = MasterStands_quiet (Took from t) refl x past state.master h.master;
     resolve = record { many = h.resolve.many; rivals = h.resolve.rivals; empty = h.resolve.empty };
-    dates = DatesStand_act (Took from t) refl x past both.0.dates h.dates;
+    dates = DatesStand_act (Took from t) refl x past state.dates h.dates;
     clock = record { offset_is = h.clock.offset_is; rest_is = h.clock.rest_is; at_is = h.clock.at_is; ticket_is = h.clock.ticket_is };
   };
   took = refl;
 }
 
 -- what a port does where something was taken
-pub Performs_took : {r : Received} {row : Row} {x : ℕ} {port : Port} {before after : Part × ClockValue} {old new : List Placed} → Performs PartStands PartStands row x port before after old new → Performs (PartTook r) PartStands row x port before after old new
-Performs_took d = Performs_from {p = PartStands} (λ past h. h.stands) d
+pub Performs_took : {r : Received} {row : Row} {x : ℕ} {port : Port} {before after : PortValue} {old new : List Placed} → Performs PortStands PortStands row x port before after old new → Performs (PortTook r) PortStands row x port before after old new
+Performs_took d = Performs_from {p = PortStands} (λ past h. h.stands) d
 
 -- the dates are left alone by what passes none on
-pub dates_aside : {r : Received} (row : Row) (x : ℕ) (past : Past) (both : Part × ClockValue) → Keeps DatesAside row → passes_date (said (Some r)) ≡ false → PartTook r past both → DatesStand (grown x past (row x past)) both.0.dates
-dates_aside row x past both keep none h = (keep x past both.0.dates (record { stands = h.stands.dates; none = ap (λ t. passes_date (said t)) h.took ∙ none })).stands
+pub dates_aside : {r : Received} (row : Row) (x : ℕ) (past : Past) (state : PortValue) → Keeps DatesAside row → passes_date (said (Some r)) ≡ false → PortTook r past state → DatesStand (grown x past (row x past)) state.dates
+dates_aside row x past state keep none h = (keep x past state.dates (record { stands = h.stands.dates; none = ap (λ t. passes_date (said t)) h.took ∙ none })).stands
 
 -- what changes but a port's station, what it remembers and the clock, by what was taken
-pub Performs_heard : {r : Received} {row : Row} {x : ℕ} {port : Port} {before after : Part × ClockValue} {old new : List Placed} → after.0.dates ≡ before.0.dates → Keeps DatesAside row → passes_date (said (Some r)) ≡ false →
-    ((past : Past) → PartStands past before → Stands (grown x past (row x past)) after.0.station → MasterStands (grown x past (row x past)) after.0.master) →
-    ((past : Past) → PartStands past before → Stands (grown x past (row x past)) after.0.station → ResolveStands (grown x past (row x past)) after.0.resolve) →
-    ((took : Option Received) → took ≡ Some r → Performs SlaveStands SlaveStands row x port (record { station = before.0.station; last = before.0.last; clock = before.1; took = took }) (record { station = after.0.station; last = after.0.last; clock = after.1; took = took }) old new) →
-    Performs (PartTook r) PartStands row x port before after old new
+pub Performs_heard : {r : Received} {row : Row} {x : ℕ} {port : Port} {before after : PortValue} {old new : List Placed} → after.dates ≡ before.dates → Keeps DatesAside row → passes_date (said (Some r)) ≡ false →
+    ((past : Past) → PortStands past before → Stands (grown x past (row x past)) after.station → MasterStands (grown x past (row x past)) after.master) →
+    ((past : Past) → PortStands past before → Stands (grown x past (row x past)) after.station → ResolveStands (grown x past (row x past)) after.resolve) →
+    ((took : Option Received) → took ≡ Some r → Performs SlaveStands SlaveStands row x port (record { station = before.station; last = before.last; clock = before.clock; took = took }) (record { station = after.station; last = after.last; clock = after.clock; took = took }) old new) →
+    Performs (PortTook r) PortStands row x port before after old new
 Performs_heard {r = r} {row = row} {x = x} {before = before} same keep none master resolve d = record {
   acts = λ past h. (d (Some r) refl).acts past (record { station = h.stands.station; last = h.stands.last; clock = h.stands.clock; took = h.took });
   stands = λ past h.
@@ -194,54 +193,54 @@ acted (Here d ∷ before) r e = acted-deed d.deed (taken before) (acting before)
 acted (Elsewhere d ∷ before) r e = acted before r e
 
 -- what a master makes of what was taken
-pub Performs_led : {r : Received} {row : Row} {x : ℕ} {port : Port} {before after : Part × ClockValue} {old new : List Placed} → after.0.last ≡ before.0.last → after.0.resolve ≡ before.0.resolve → after.0.dates ≡ before.0.dates →
+pub Performs_led : {r : Received} {row : Row} {x : ℕ} {port : Port} {before after : PortValue} {old new : List Placed} → after.last ≡ before.last → after.resolve ≡ before.resolve → after.dates ≡ before.dates →
     Emits beside_sorts row → Emits unchanging row → Keeps DatesStand row →
-    Performs LeadStands LeadStands row x port (record { master = before.0.master; station = before.0.station; clock = before.1 }) (record { master = after.0.master; station = after.0.station; clock = after.1 }) old new → Performs (PartTook r) PartStands row x port before after old new
+    Performs LeadStands LeadStands row x port (record { master = before.master; station = before.station; clock = before.clock }) (record { master = after.master; station = after.station; clock = after.clock }) old new → Performs (PortTook r) PortStands row x port before after old new
 Performs_led {r = r} {row = row} {x = x} {before = before} e f g k u keep d = record {
   acts = λ past h. d.acts past (lead past h);
   stands = λ past h.
       let s = d.stands past (lead past h) in
       record {
         station = s.station;
-        last = rw e (Remembers_by row k x past before.0.last h.stands.last);
+        last = rw e (Remembers_by row k x past before.last h.stands.last);
         master = s.master;
-        resolve = rw f (ResolveStands_by row u x past before.0.resolve h.stands.resolve);
-        dates = rw g (keep x past before.0.dates h.stands.dates);
+        resolve = rw f (ResolveStands_by row u x past before.resolve h.stands.resolve);
+        dates = rw g (keep x past before.dates h.stands.dates);
         clock = s.clock;
       };
 } where
-  lead : (past : Past) → PartTook r past before → LeadStands past (record { master = before.0.master; station = before.0.station; clock = before.1 })
+  lead : (past : Past) → PortTook r past before → LeadStands past (record { master = before.master; station = before.station; clock = before.clock })
   lead past h = record { master = h.stands.master; station = h.stands.station; acted = acted past.seen r h.took; clock = h.stands.clock }
 
 -- what is done about rivals
-pub Performs_resolved : {row : Row} {x : ℕ} {port : Port} {before after : Part × ClockValue} {old new : List Placed} → after.0.last ≡ before.0.last → after.0.master ≡ before.0.master → after.0.dates ≡ before.0.dates → after.1 ≡ before.1 →
+pub Performs_resolved : {row : Row} {x : ℕ} {port : Port} {before after : PortValue} {old new : List Placed} → after.last ≡ before.last → after.master ≡ before.master → after.dates ≡ before.dates → after.clock ≡ before.clock →
     Emits beside_sorts row → Emits quiet_sorts row → Keeps DatesStand row →
-    Performs ResolvingStands ResolvingStands row x port (record { resolve = before.0.resolve; station = before.0.station }) (record { resolve = after.0.resolve; station = after.0.station }) old new → Performs PartStands PartStands row x port before after old new
+    Performs ResolvingStands ResolvingStands row x port (record { resolve = before.resolve; station = before.station }) (record { resolve = after.resolve; station = after.station }) old new → Performs PortStands PortStands row x port before after old new
 Performs_resolved {row = row} {x = x} {before = before} e m g f k q keep d = record {
   acts = λ past h. d.acts past (record { resolve = h.resolve; station = h.station });
   stands = λ past h.
       let s = d.stands past (record { resolve = h.resolve; station = h.station }) in
       record {
         station = s.station;
-        last = rw e (Remembers_by row k x past before.0.last h.last);
-        master = rw m (Keeps_by quiet_sorts MasterStands row MasterStands_quiet q x past before.0.master h.master);
+        last = rw e (Remembers_by row k x past before.last h.last);
+        master = rw m (Keeps_by quiet_sorts MasterStands row MasterStands_quiet q x past before.master h.master);
         resolve = s.resolve;
-        dates = rw g (keep x past before.0.dates h.dates);
-        clock = rw f (ClockStands_by row k x past before.1 h.clock);
+        dates = rw g (keep x past before.dates h.dates);
+        clock = rw f (ClockStands_by row k x past before.clock h.clock);
       };
 }
 
 -- nothing is done with what was taken
-pub Performs_pass : {r : Received} {x : ℕ} {port : Port} {both : Part × ClockValue} {old : List Placed} → Performs (PartTook r) PartStands nothing x port both both old old
+pub Performs_pass : {r : Received} {x : ℕ} {port : Port} {state : PortValue} {old : List Placed} → Performs (PortTook r) PortStands nothing x port state state old old
 Performs_pass = Performs_took Performs_nothing
 
 -- the answer to a stamp request is posted
-pub PartStands_stamp : (to : Place) (r : ReplyValue) (x : ℕ) (past : Past) (both : Part × ClockValue) → PartStands past both → PartStands (grown x past (Post to (StampOf (Reply r)) ∷ [])) both
+pub PortStands_stamp : (to : Place) (r : ReplyValue) (x : ℕ) (past : Past) (state : PortValue) → PortStands past state → PortStands (grown x past (Post to (StampOf (Reply r)) ∷ [])) state
 unfolding puts
-PartStands_stamp to r x past both h = record {
-  station = Stands_stamp to (Reply r) x past both.0.station h.station;
+PortStands_stamp to r x past state h = record {
+  station = Stands_stamp to (Reply r) x past state.station h.station;
   last = record { tick_is = h.last.tick_is; taken_is = h.last.taken_is; name_is = h.last.name_is };
-  master = MasterStands_quiet (Post to (StampOf (Reply r))) refl x past both.0.master h.master;
+  master = MasterStands_quiet (Post to (StampOf (Reply r))) refl x past state.master h.master;
   resolve = record { many = h.resolve.many; rivals = h.resolve.rivals; empty = h.resolve.empty };
   dates = record { peers = h.dates.peers; last = h.dates.last; asked = h.dates.asked };
   clock = record { offset_is = h.clock.offset_is; rest_is = h.clock.rest_is; at_is = h.clock.at_is; ticket_is = h.clock.ticket_is };
@@ -267,8 +266,8 @@ abandoned x past l k r d s m = record {
 }
 
 -- nothing was done
-pub same_part : {x : ℕ} {port : Port} {before after : Part × ClockValue} {old : List Placed} → after.0.last ≡ before.0.last → after.1 ≡ before.1 → after.0.resolve ≡ before.0.resolve → after.0.dates ≡ before.0.dates → after.0.station ≡ before.0.station →
-    after.0.master ≡ before.0.master → Performs PartStands PartStands nothing x port before after old old
+pub same_part : {x : ℕ} {port : Port} {before after : PortValue} {old : List Placed} → after.last ≡ before.last → after.clock ≡ before.clock → after.resolve ≡ before.resolve → after.dates ≡ before.dates → after.station ≡ before.station →
+    after.master ≡ before.master → Performs PortStands PortStands nothing x port before after old old
 unfolding nothing
 same_part {old = old} l k r d s m = record {
   acts = λ past h. sym (append-nil old);
@@ -276,30 +275,30 @@ same_part {old = old} l k r d s m = record {
 }
 
 -- the role of a port that doesn't lead
-pub no_lead : {past : Past} (both : Part × ClockValue) (r : Role) → (r ≡ MasterRole → ⊥) → both.0.station.role ≡ r → PartStands past both → role past.seen ≡ MasterRole → ⊥
-no_lead both r n e h f = n (sym e ∙ h.station.role ∙ f)
+pub no_lead : {past : Past} (state : PortValue) (r : Role) → (r ≡ MasterRole → ⊥) → state.station.role ≡ r → PortStands past state → role past.seen ≡ MasterRole → ⊥
+no_lead state r n e h f = n (sym e ∙ h.station.role ∙ f)
 
 -- an answer ends a send
-pub Performs_acknowledged : {r : Received} {row : Row} {x : ℕ} {port : Port} {before after : Part × ClockValue} {old new : List Placed} → after.0.last ≡ before.0.last → after.0.resolve ≡ before.0.resolve → after.0.dates ≡ before.0.dates → after.1 ≡ before.1 →
+pub Performs_acknowledged : {r : Received} {row : Row} {x : ℕ} {port : Port} {before after : PortValue} {old new : List Placed} → after.last ≡ before.last → after.resolve ≡ before.resolve → after.dates ≡ before.dates → after.clock ≡ before.clock →
     Emits (Acking ∷ []) row →
-    Performs OwnStands OwnStands row x port (record { master = before.0.master; station = before.0.station }) (record { master = after.0.master; station = after.0.station }) old new → Performs (PartTook r) PartStands row x port before after old new
+    Performs OwnStands OwnStands row x port (record { master = before.master; station = before.station }) (record { master = after.master; station = after.station }) old new → Performs (PortTook r) PortStands row x port before after old new
 Performs_acknowledged {row = row} {x = x} {before = before} e u g f k d = record {
   acts = λ past h. d.acts past (record { master = h.stands.master; station = h.stands.station });
   stands = λ past h.
       let s = d.stands past (record { master = h.stands.master; station = h.stands.station }) in
       record {
         station = s.station;
-        last = rw e (Remembers_by row (Emits_more (Acking ∷ []) refl k) x past before.0.last h.stands.last);
+        last = rw e (Remembers_by row (Emits_more (Acking ∷ []) refl k) x past before.last h.stands.last);
         master = s.master;
-        resolve = rw u (ResolveStands_by row (Emits_more (Acking ∷ []) refl k) x past before.0.resolve h.stands.resolve);
-        dates = rw g (DatesStand_by row (Emits_more (Acking ∷ []) refl k) x past before.0.dates h.stands.dates);
-        clock = rw f (ClockStands_by row (Emits_more (Acking ∷ []) refl k) x past before.1 h.stands.clock);
+        resolve = rw u (ResolveStands_by row (Emits_more (Acking ∷ []) refl k) x past before.resolve h.stands.resolve);
+        dates = rw g (DatesStand_by row (Emits_more (Acking ∷ []) refl k) x past before.dates h.stands.dates);
+        clock = rw f (ClockStands_by row (Emits_more (Acking ∷ []) refl k) x past before.clock h.stands.clock);
       };
 }
 
 -- a port answers a client, which changes nothing but the trace
-pub Performs_named_by : {r : Received} {row : Row} {x : ℕ} {port : Port} {before after : Part × ClockValue} {old new : List Placed} → after.0.master ≡ before.0.master → after.0.resolve ≡ before.0.resolve → after.0.dates ≡ before.0.dates → after.1 ≡ before.1 → Emits (Posting ∷ []) row →
-    Performs NamingStands NamingStands row x port (record { station = before.0.station; last = before.0.last }) (record { station = after.0.station; last = after.0.last }) old new → Performs (PartTook r) PartStands row x port before after old new
+pub Performs_named_by : {r : Received} {row : Row} {x : ℕ} {port : Port} {before after : PortValue} {old new : List Placed} → after.master ≡ before.master → after.resolve ≡ before.resolve → after.dates ≡ before.dates → after.clock ≡ before.clock → Emits (Posting ∷ []) row →
+    Performs NamingStands NamingStands row x port (record { station = before.station; last = before.last }) (record { station = after.station; last = after.last }) old new → Performs (PortTook r) PortStands row x port before after old new
 Performs_named_by {row = row} {x = x} {before = before} m u v f k d = record {
   acts = λ past h. d.acts past (record { station = h.stands.station; last = h.stands.last });
   stands = λ past h.
@@ -307,59 +306,59 @@ Performs_named_by {row = row} {x = x} {before = before} m u v f k d = record {
       record {
         station = s.station;
         last = s.last;
-        master = rw m (Keeps_by quiet_sorts MasterStands row MasterStands_quiet (Emits_more (Posting ∷ []) refl k) x past before.0.master h.stands.master);
-        resolve = rw u (ResolveStands_by row (Emits_more (Posting ∷ []) refl k) x past before.0.resolve h.stands.resolve);
-        dates = rw v (DatesStand_by row (Emits_more (Posting ∷ []) refl k) x past before.0.dates h.stands.dates);
-        clock = rw f (ClockStands_by row (Emits_more (Posting ∷ []) refl k) x past before.1 h.stands.clock);
+        master = rw m (Keeps_by quiet_sorts MasterStands row MasterStands_quiet (Emits_more (Posting ∷ []) refl k) x past before.master h.stands.master);
+        resolve = rw u (ResolveStands_by row (Emits_more (Posting ∷ []) refl k) x past before.resolve h.stands.resolve);
+        dates = rw v (DatesStand_by row (Emits_more (Posting ∷ []) refl k) x past before.dates h.stands.dates);
+        clock = rw f (ClockStands_by row (Emits_more (Posting ∷ []) refl k) x past before.clock h.stands.clock);
       };
 }
 
-pub Performs_turned_by : {r : Received} {row : Row} {x : ℕ} {port : Port} {before after : Part × ClockValue} {was is : Bool} {old new : List Placed} → after.0.last ≡ before.0.last → after.0.master ≡ before.0.master → after.0.resolve ≡ before.0.resolve → after.0.dates ≡ before.0.dates →
-    after.1 ≡ before.1 → Emits (Tracing ∷ Posting ∷ []) row →
-    Performs TracingStands TracingStands row x port (record { station = before.0.station; on = was }) (record { station = after.0.station; on = is }) old new → Performs (TookStands r) TakeStands row x port (before, was) (after, is) old new
+pub Performs_turned_by : {r : Received} {row : Row} {x : ℕ} {port : Port} {before after : PortValue} {was is : Bool} {old new : List Placed} → after.last ≡ before.last → after.master ≡ before.master → after.resolve ≡ before.resolve → after.dates ≡ before.dates →
+    after.clock ≡ before.clock → Emits (Tracing ∷ Posting ∷ []) row →
+    Performs TracingStands TracingStands row x port (record { station = before.station; on = was }) (record { station = after.station; on = is }) old new → Performs (TookStands r) TakeStands row x port (record { port = before; tracing = was }) (record { port = after; tracing = is }) old new
 Performs_turned_by {row = row} {x = x} {before = before} l m u v f k d = record {
-  acts = λ past h. d.acts past (record { station = h.first.stands.station; trace = h.second });
+  acts = λ past h. d.acts past (record { station = h.port.stands.station; trace = h.trace });
   stands = λ past h.
-      let s = d.stands past (record { station = h.first.stands.station; trace = h.second }) in
+      let s = d.stands past (record { station = h.port.stands.station; trace = h.trace }) in
       record {
-        first = record {
+        port = record {
           station = s.station;
-          last = rw l (Remembers_by row (Emits_more (Tracing ∷ Posting ∷ []) refl k) x past before.0.last h.first.stands.last);
-          master = rw m (Keeps_by quiet_sorts MasterStands row MasterStands_quiet (Emits_more (Tracing ∷ Posting ∷ []) refl k) x past before.0.master h.first.stands.master);
-          resolve = rw u (ResolveStands_by row (Emits_more (Tracing ∷ Posting ∷ []) refl k) x past before.0.resolve h.first.stands.resolve);
-          dates = rw v (DatesStand_by row (Emits_more (Tracing ∷ Posting ∷ []) refl k) x past before.0.dates h.first.stands.dates);
-          clock = rw f (ClockStands_by row (Emits_more (Tracing ∷ Posting ∷ []) refl k) x past before.1 h.first.stands.clock);
+          last = rw l (Remembers_by row (Emits_more (Tracing ∷ Posting ∷ []) refl k) x past before.last h.port.stands.last);
+          master = rw m (Keeps_by quiet_sorts MasterStands row MasterStands_quiet (Emits_more (Tracing ∷ Posting ∷ []) refl k) x past before.master h.port.stands.master);
+          resolve = rw u (ResolveStands_by row (Emits_more (Tracing ∷ Posting ∷ []) refl k) x past before.resolve h.port.stands.resolve);
+          dates = rw v (DatesStand_by row (Emits_more (Tracing ∷ Posting ∷ []) refl k) x past before.dates h.port.stands.dates);
+          clock = rw f (ClockStands_by row (Emits_more (Tracing ∷ Posting ∷ []) refl k) x past before.clock h.port.stands.clock);
         };
-        second = s.trace;
+        trace = s.trace;
       };
 }
 
 -- a call of a station in a step that has acted, and what it makes of the master and the rivals
-pub Performs_acting_by : {r : Received} {row : Row} {x : ℕ} {port : Port} {before after : Part × ClockValue} {old new : List Placed} → after.0.last ≡ before.0.last → after.1 ≡ before.1 → after.0.dates ≡ before.0.dates → Emits beside_sorts row → Keeps DatesStand row →
-    ((past : Past) → PartStands past before → Stands (grown x past (row x past)) after.0.station → MasterStands (grown x past (row x past)) after.0.master) →
-    ((past : Past) → PartStands past before → Stands (grown x past (row x past)) after.0.station → ResolveStands (grown x past (row x past)) after.0.resolve) →
-    Performs StandsActing StandsActing row x port before.0.station after.0.station old new → Performs (PartTook r) PartStands row x port before after old new
+pub Performs_acting_by : {r : Received} {row : Row} {x : ℕ} {port : Port} {before after : PortValue} {old new : List Placed} → after.last ≡ before.last → after.clock ≡ before.clock → after.dates ≡ before.dates → Emits beside_sorts row → Keeps DatesStand row →
+    ((past : Past) → PortStands past before → Stands (grown x past (row x past)) after.station → MasterStands (grown x past (row x past)) after.master) →
+    ((past : Past) → PortStands past before → Stands (grown x past (row x past)) after.station → ResolveStands (grown x past (row x past)) after.resolve) →
+    Performs StandsActing StandsActing row x port before.station after.station old new → Performs (PortTook r) PortStands row x port before after old new
 Performs_acting_by {r = r} {row = row} {x = x} {before = before} e f g k keep master resolve d = record {
   acts = λ past h. d.acts past (record { stands = h.stands.station; acted = acted past.seen r h.took });
   stands = λ past h.
       let s = (d.stands past (record { stands = h.stands.station; acted = acted past.seen r h.took })).stands in
       record {
         station = s;
-        last = rw e (Remembers_by row k x past before.0.last h.stands.last);
+        last = rw e (Remembers_by row k x past before.last h.stands.last);
         master = master past h.stands s;
         resolve = resolve past h.stands s;
-        dates = rw g (keep x past before.0.dates h.stands.dates);
-        clock = rw f (ClockStands_by row k x past before.1 h.stands.clock);
+        dates = rw g (keep x past before.dates h.stands.dates);
+        clock = rw f (ClockStands_by row k x past before.clock h.stands.clock);
       };
 }
 
 -- a date is set, passed on or answered
-pub Performs_dated : {r : Received} {row : Row} {x : ℕ} {port : Port} {before after : Part × ClockValue} {old new : List Placed} (corrected : Bool) → after.0.last ≡ moved_where corrected x before.0.last → after.0.resolve ≡ before.0.resolve → Emits date_sorts row →
+pub Performs_dated : {r : Received} {row : Row} {x : ℕ} {port : Port} {before after : PortValue} {old new : List Placed} (corrected : Bool) → after.last ≡ moved_where corrected x before.last → after.resolve ≡ before.resolve → Emits date_sorts row →
     ((took : Option Received) → took ≡ Some r →
     Performs DateStands DateStands row x port
-    (record { dates = before.0.dates; master = before.0.master; station = before.0.station; last = before.0.last; clock = before.1; took = took })
-    (record { dates = after.0.dates; master = after.0.master; station = after.0.station; last = moved_where corrected x before.0.last; clock = after.1; took = took }) old new) →
-    Performs (PartTook r) PartStands row x port before after old new
+    (record { dates = before.dates; master = before.master; station = before.station; last = before.last; clock = before.clock; took = took })
+    (record { dates = after.dates; master = after.master; station = after.station; last = moved_where corrected x before.last; clock = after.clock; took = took }) old new) →
+    Performs (PortTook r) PortStands row x port before after old new
 Performs_dated {r = r} {row = row} {x = x} {before = before} corrected e f k d = record {
   acts = λ past h. (d (Some r) refl).acts past (dated past h);
   stands = λ past h.
@@ -368,20 +367,25 @@ Performs_dated {r = r} {row = row} {x = x} {before = before} corrected e f k d =
         station = s.station;
         last = rw e s.last;
         master = s.master;
-        resolve = rw f (ResolveStands_by row (Emits_more date_sorts refl k) x past before.0.resolve h.stands.resolve);
+        resolve = rw f (ResolveStands_by row (Emits_more date_sorts refl k) x past before.resolve h.stands.resolve);
         dates = s.dates;
         clock = s.clock;
       };
 } where
-  dated : (past : Past) → PartTook r past before → DateStands past (record { dates = before.0.dates; master = before.0.master; station = before.0.station; last = before.0.last; clock = before.1; took = Some r })
+  dated : (past : Past) → PortTook r past before → DateStands past (record { dates = before.dates; master = before.master; station = before.station; last = before.last; clock = before.clock; took = Some r })
   dated past h = record { dates = h.stands.dates; master = h.stands.master; station = h.stands.station; last = h.stands.last; clock = h.stands.clock; took = h.took }
 
+-- a call on a port that leaves the trace alone
+pub Performs_traced : {fits then_fits : Past → PortValue → Type 0} {row : Row} {x : ℕ} {port : Port} {before after : PortValue} {old new : List Placed} (flag : Bool) → Keeps TraceStands row → Performs fits then_fits row x port before after old new →
+    Performs (Traced fits) (Traced then_fits) row x port (record { port = before; tracing = flag }) (record { port = after; tracing = flag }) old new
+Performs_traced {x = x} flag k d = record { acts = λ past h. d.acts past h.port; stands = λ past h. record { port = d.stands past h.port; trace = k x past flag h.trace } }
+
 -- nothing is done with what was taken, and the trace stays
-pub took_pass : {r : Received} {x : ℕ} {port : Port} {state : (Part × ClockValue) × Bool} {old : List Placed} → Performs (TookStands r) TakeStands nothing x port state state old old
+pub took_pass : {r : Received} {x : ℕ} {port : Port} {state : TracedValue} {old : List Placed} → Performs (TookStands r) TakeStands nothing x port state state old old
 unfolding nothing
-took_pass {old = old} = record { acts = λ past h. sym (append-nil old); stands = λ past h. record { first = h.first.stands; second = h.second } }
+took_pass {old = old} = record { acts = λ past h. sym (append-nil old); stands = λ past h. record { port = h.port.stands; trace = h.trace } }
 
 -- a call that leaves the trace alone
-pub took_beside : {r : Received} {row : Row} {x : ℕ} {port : Port} {before after : Part × ClockValue} {old new : List Placed} (flag : Bool) → Emits silent_trace row → Performs (PartTook r) PartStands row x port before after old new →
-    Performs (TookStands r) TakeStands row x port (before, flag) (after, flag) old new
-took_beside {row = row} flag k d = Performs_beside flag (TraceStands_by row (Emits_more silent_trace refl k)) d
+pub took_beside : {r : Received} {row : Row} {x : ℕ} {port : Port} {before after : PortValue} {old new : List Placed} (flag : Bool) → Emits silent_trace row → Performs (PortTook r) PortStands row x port before after old new →
+    Performs (TookStands r) TakeStands row x port (record { port = before; tracing = flag }) (record { port = after; tracing = flag }) old new
+took_beside {row = row} flag k d = Performs_traced flag (TraceStands_by row (Emits_more silent_trace refl k)) d

@@ -17,15 +17,13 @@ use Rattle.tsp_base.specs.SendFacts.{correcting_of}
 use Rattle.tsp_rules.specs.RoundRows.{corrects, is_correct}
 use Rattle.tsp_rules.proofs.Emits.{AllOf, Emits, Emits_more, Emits_nothing, is_in, sort_of}
 use Rattle.tsp_rules.proofs.EmitsRounds.{emits_close_rings, emits_probe_rings, emits_round_rings, round_sorts}
-use Rattle.tsp_clock.specs.Clocks.{ClockValue}
 use Rattle.tsp_slave.specs.Lasts.{LastValue, Remembers}
 use Rattle.tsp_master.specs.MasterAlarms.{master_rings}
 use Rattle.tsp_master.specs.MasterStands.{RingStands}
 use Rattle.tsp_date.specs.DateStands.{DatesStand}
 use Rattle.tsp_date.proofs.KeepLemmas.{DatesAside_by, passes_date}
 use Rattle.tsp_resolve.proofs.ResolveLemmas.{ResolveStands_by}
-use Rattle.tsp_node.specs.declared.part.Part.{Part}
-use Rattle.tsp_node.specs.NodeStands.{PartUntaken}
+use Rattle.tsp_node.specs.NodeStands.{PortUntaken, PortValue}
 use Rattle.tsp_node.proofs.NodeLemmas.{untaken_by, untaking_sorts}
 
 -- what is remembered after a correction that took no message
@@ -64,24 +62,24 @@ emits_master own Round = emits_round_rings false
 emits_master own _ = Emits_nothing
 
 -- rounds pass no date on
-dates_round : (own : Bool) (alarm : Alarm) (x : ℕ) (past : Past) (both : Part × ClockValue) → PartUntaken past both → DatesStand (grown x past (master_rings own alarm x past)) both.0.dates
-dates_round own alarm x past both h =
-    (DatesAside_by (master_rings own alarm) (Emits_more round_sorts refl (emits_master own alarm)) x past both.0.dates (record { stands = h.stands.dates; none = ap (λ t. passes_date (said t)) h.untaken })).stands
+dates_round : (own : Bool) (alarm : Alarm) (x : ℕ) (past : Past) (state : PortValue) → PortUntaken past state → DatesStand (grown x past (master_rings own alarm x past)) state.dates
+dates_round own alarm x past state h =
+    (DatesAside_by (master_rings own alarm) (Emits_more round_sorts refl (emits_master own alarm)) x past state.dates (record { stands = h.stands.dates; none = ap (λ t. passes_date (said t)) h.untaken })).stands
 
 -- a round's alarm, after which a correction is remembered
-pub Performs_round : {x : ℕ} {port : Port} {before after : Part × ClockValue} {old new : List Placed} (own : Bool) (alarm : Alarm) (corrected : Bool) →
-    Performs RingStands RingStands (master_rings own alarm) x port (record { master = before.0.master; station = before.0.station; clock = before.1 }) (record { master = after.0.master; station = after.0.station; clock = after.1 }) old new →
-    ((past : Past) → RingStands past (record { master = before.0.master; station = before.0.station; clock = before.1 }) → corrected ≡ corrects (master_rings own alarm x past)) →
-    after.0.last ≡ (if corrected then moved_at x before.0.last else before.0.last) → after.0.resolve ≡ before.0.resolve → after.0.dates ≡ before.0.dates → Performs PartUntaken PartUntaken (master_rings own alarm) x port before after old new
+pub Performs_round : {x : ℕ} {port : Port} {before after : PortValue} {old new : List Placed} (own : Bool) (alarm : Alarm) (corrected : Bool) →
+    Performs RingStands RingStands (master_rings own alarm) x port (record { master = before.master; station = before.station; clock = before.clock }) (record { master = after.master; station = after.station; clock = after.clock }) old new →
+    ((past : Past) → RingStands past (record { master = before.master; station = before.station; clock = before.clock }) → corrected ≡ corrects (master_rings own alarm x past)) →
+    after.last ≡ (if corrected then moved_at x before.last else before.last) → after.resolve ≡ before.resolve → after.dates ≡ before.dates → Performs PortUntaken PortUntaken (master_rings own alarm) x port before after old new
 Performs_round {x = x} {before = before} {after = after} own alarm corrected d c e f g = record {
   acts = λ past h. d.acts past (ring past h);
   stands = λ past h.
       let s = d.stands past (ring past h) in
-      let r = remembers-acts (master_rings own alarm x past) ((emits_master own alarm).only x past) x past before.0.last h.untaken h.stands.last in
+      let r = remembers-acts (master_rings own alarm x past) ((emits_master own alarm).only x past) x past before.last h.untaken h.stands.last in
       record {
-        stands = record { station = s.station; last = rw e (rw (← c past (ring past h)) at r); master = s.master; resolve = rw f (ResolveStands_by (master_rings own alarm) (Emits_more round_sorts refl (emits_master own alarm)) x past before.0.resolve h.stands.resolve); dates = rw g (dates_round own alarm x past before h); clock = s.clock };
+        stands = record { station = s.station; last = rw e (rw (← c past (ring past h)) at r); master = s.master; resolve = rw f (ResolveStands_by (master_rings own alarm) (Emits_more round_sorts refl (emits_master own alarm)) x past before.resolve h.stands.resolve); dates = rw g (dates_round own alarm x past before h); clock = s.clock };
         untaken = untaken_by (master_rings own alarm) (Emits_more round_sorts {all = untaking_sorts} refl (emits_master own alarm)) x past h.untaken;
       };
 } where
-  ring : (past : Past) → PartUntaken past before → RingStands past (record { master = before.0.master; station = before.0.station; clock = before.1 })
+  ring : (past : Past) → PortUntaken past before → RingStands past (record { master = before.master; station = before.station; clock = before.clock })
   ring past h = record { master = h.stands.master; station = h.stands.station; clock = h.stands.clock }

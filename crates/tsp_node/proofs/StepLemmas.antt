@@ -17,9 +17,9 @@ Stands_in_step step x past s h = record { own = h.own; name = h.name; may = h.ma
 
 pub NodeStands_step : (step : Step) (past : Past) (node : Node) → NodeStands past node → NodeStands (record past { step = step }) node
 NodeStands_step step past node h =
-    let p = h.first in
+    let p = h.port in
     record {
-      first = record {
+      port = record {
         station = Stands_step step past node.part.station p.station;
         last = record { tick_is = p.last.tick_is; taken_is = p.last.taken_is; name_is = p.last.name_is };
         master = MasterStands_step step past node.part.master p.master;
@@ -27,14 +27,14 @@ NodeStands_step step past node h =
         dates = record { peers = p.dates.peers; last = p.dates.last; asked = p.dates.asked };
         clock = record { offset_is = p.clock.offset_is; rest_is = p.clock.rest_is; at_is = p.clock.at_is; ticket_is = p.clock.ticket_is };
       };
-      second = h.second;
+      trace = h.trace;
     }
 
 pub Begun_in_step : (step : Step) (x : ℕ) (past : Past) (node : Node) → NodeStands past node → Begun (in_step step x past) node
 Begun_in_step step x past node h =
-    let p = h.first in
+    let p = h.port in
     record {
-      first = record {
+      port = record {
         stands = record {
           station = Stands_in_step step x past node.part.station p.station;
           last = record { tick_is = p.last.tick_is; taken_is = p.last.taken_is; name_is = p.last.name_is };
@@ -46,5 +46,5 @@ Begun_in_step step x past node h =
         untaken = refl;
         still = refl;
       };
-      second = h.second;
+      trace = h.trace;
     }

@@ -7,7 +7,7 @@ use Rattle.tsp_base.specs.declared.datagram.Datagram.TheVariants.{Message, Stamp
 use Rattle.tsp_base.specs.declared.datagram.Taken.{Taken}
 use Rattle.tsp_base.specs.declared.datagram.Taken.TheVariants.{Bad, Good}
 use Rattle.tsp_base.specs.declared.kind.Kind.{Kind}
-use Rattle.tsp_base.specs.declared.kind.Kind.TheVariants.{Date, DateAck, DateReq, Loop, Msite, MsiteReq, SetDate, SetDateReq, Test, TraceOff, TraceOn}
+use Rattle.tsp_base.specs.declared.kind.Kind.TheVariants.{Ack, Date, DateAck, DateReq, Loop, Msite, MsiteReq, SetDate, SetDateReq, Test, TraceOff, TraceOn}
 use Rattle.tsp_base.specs.declared.place.PeerId.{PeerId}
 use Rattle.tsp_base.specs.declared.place.Place.{Place}
 use Rattle.tsp_base.specs.declared.place.Place.TheVariants.{Peer, Stranger}
@@ -101,6 +101,7 @@ emits_dates charge from m TraceOn e = let bad : ⊥ = cc in absurd bad
 emits_dates charge from m TraceOff e = let bad : ⊥ = cc in absurd bad
 emits_dates charge from m Test e = let bad : ⊥ = cc in absurd bad
 emits_dates charge from m Loop e = let bad : ⊥ = cc in absurd bad
+emits_dates charge from m Ack e = let bad : ⊥ = cc in absurd bad
 emits_dates charge from m _ e = let bad : ⊥ = cc in absurd bad
 
 -- every kind of message

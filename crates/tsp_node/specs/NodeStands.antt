@@ -3,7 +3,6 @@ use Rattle.std.specs.Prelude.{◌≡◌, ℕ, ◌-◌, ◌^◌, ℤ, Bool, false
 use Rattle.tsp_base.specs.declared.act.Act.TheVariants.{Correct}
 use Rattle.tsp_base.specs.declared.place.PeerId.{PeerId}
 use Rattle.tsp_base.specs.History.{Acts, Booted, Elsewhere, Past, Step}
-use Rattle.tsp_base.specs.Performs.{Beside}
 use Rattle.tsp_base.specs.PortFacts.{Received, acting, taken}
 use Rattle.tsp_acks.specs.declared.station.Station.{Station}
 use Rattle.tsp_acks.specs.Stands.{Stands}
@@ -55,53 +54,50 @@ pub record PortTook (r : Received) (past : Past) (v : PortValue) : Type 0 where
   pub stands : PortStands past v
   pub took : taken past.seen ≡ Some r
 
--- a port's state and its node's clock, together
-abbrev pub port_in : Part × ClockValue → PortValue
-port_in both = record { station = both.0.station; last = both.0.last; master = both.0.master; resolve = both.0.resolve; dates = both.0.dates; clock = both.1 }
-
--- a port's state and its node's clock have exactly the facts of the port's past
-abbrev pub PartStands : Past → Part × ClockValue → Type 0
-PartStands past both = PortStands past (port_in both)
-
--- a port whose step has taken nothing yet
-abbrev pub PartUntaken : Past → Part × ClockValue → Type 0
-PartUntaken past both = PortUntaken past (port_in both)
-
--- a port whose step has just begun: no alarm was handled and nothing taken
-abbrev pub PartBegun : Past → Part × ClockValue → Type 0
-PartBegun past both = PortBegun past (port_in both)
-
--- a port whose step has taken this
-abbrev pub PartTook : Received → Past → Part × ClockValue → Type 0
-PartTook r past both = PortTook r past (port_in both)
+-- a port's state, with its node's clock
+abbrev pub port_with : Part → ClockValue → PortValue
+port_with part clock = record { station = part.station; last = part.last; master = part.master; resolve = part.resolve; dates = part.dates; clock = clock }
 
 -- a port's past after a correction on another port of its node, in this step and at this tick
 abbrev pub corrected_elsewhere : Step → ℕ → ℤ → Bool → ℤ → Past → Past
 corrected_elsewhere step x amount stepped shown past = record past { seen = Elsewhere (record { step = step; tick = x; deed = Acts (Correct amount stepped shown) }) ∷ past.seen }
 
--- a port with its node's clock, and whether the trace is on
-abbrev pub TakeStands : Past → (Part × ClockValue) × Bool → Type 0
-TakeStands = Beside PartStands TraceStands
+-- a port with its node's clock, and whether the node's trace is on
+pub record TracedValue : Type 0 where
+  pub port : PortValue
+  pub tracing : Bool
+
+abbrev pub traced_with : Part → ClockValue → Bool → TracedValue
+traced_with part clock tracing = record { port = port_with part clock; tracing = tracing }
+
+-- the port is as its past has it in this way, and the trace is on where the past says so
+pub record Traced (fits : Past → PortValue → Type 0) (past : Past) (v : TracedValue) : Type 0 where
+  pub port : fits past v.port
+  pub trace : TraceStands past v.tracing
+
+-- both have exactly the facts of the past
+abbrev pub TakeStands : Past → TracedValue → Type 0
+TakeStands = Traced PortStands
 
 -- the same where this was taken
-abbrev pub TookStands : Received → Past → (Part × ClockValue) × Bool → Type 0
-TookStands r = Beside (PartTook r) TraceStands
+abbrev pub TookStands : Received → Past → TracedValue → Type 0
+TookStands r = Traced (PortTook r)
 
 -- a node's port with its clock, and whether the trace is on
-abbrev pub all_of : Node → (Part × ClockValue) × Bool
-all_of node = ((node.part, node.clock), node.tracing)
+abbrev pub traced_of : Node → TracedValue
+traced_of node = traced_with node.part node.clock node.tracing
 
 -- a node stands for this past, between its steps
 abbrev pub NodeStands : Past → Node → Type 0
-NodeStands past node = Beside PartStands TraceStands past (all_of node)
+NodeStands past node = Traced PortStands past (traced_of node)
 
 -- the same in a step that has taken nothing yet
 abbrev pub NodeUntaken : Past → Node → Type 0
-NodeUntaken past node = Beside PartUntaken TraceStands past (all_of node)
+NodeUntaken past node = Traced PortUntaken past (traced_of node)
 
 -- a node whose step has just begun
 abbrev pub Begun : Past → Node → Type 0
-Begun past node = Beside PartBegun TraceStands past (all_of node)
+Begun past node = Traced PortBegun past (traced_of node)
 
 -- a node with this configuration boots in this step, with this word and at this wall clock
 pub record Unbooted (config : ConfigValue) (word : ℕ) (wall : ℤ) (past : Past) (node : Unit {0}) : Type 0 where

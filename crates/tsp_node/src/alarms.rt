@@ -23,7 +23,7 @@ use tsp_candidate::ring::candidate_ring;
 use tsp_clock::clock::Clock;
 
 impl Part {
-    ghost use Rattle.tsp_node.specs.NodeStands.{PartUntaken};
+    ghost use Rattle.tsp_node.specs.NodeStands.{PortUntaken, port_with};
 
     /// Handles one alarm where it is due, and says whether that corrected the clock. `group_mean` says
     /// whether a Close moves the node's clock by the group's mean; where it is false, the Close uses the mean
@@ -43,9 +43,10 @@ impl Part {
         requires later { clock.old.at ≤ tick }
         requires order { alarm ≡ Close → is_over self.old.station.alarms.probe tick ≡ false }
         requires room { 2 * length self.old.station.peers + 16 ≤ D.spare desk.old }
-        ensures row { Performs PartUntaken PartUntaken (rings group_mean wait alarm) tick port
-            (self.old, clock.old) (self.new, clock.new) (D.acts desk.old) (D.acts desk.new) }
-        ensures corrects { (past : Past) → PartUntaken past (self.old, clock.old)
+        ensures row { Performs PortUntaken PortUntaken (rings group_mean wait alarm) tick port
+            (port_with self.old clock.old) (port_with self.new clock.new) (D.acts desk.old)
+            (D.acts desk.new) }
+        ensures corrects { (past : Past) → PortUntaken past (port_with self.old clock.old)
             → result ≡ corrects (rings group_mean wait alarm tick past) }
         ensures over { alarm ≡ Probe → is_over self.new.station.alarms.probe tick ≡ false }
         ensures clock { clock.new.at ≤ tick }
@@ -78,10 +79,11 @@ impl Part {
         requires order { alarm ≡ Close
             → is_over self.old.station.alarms.probe terms.at.tick ≡ false }
         requires room { 2 * length self.old.station.peers + 4 ≤ D.spare desk.old }
-        ensures row { Performs PartUntaken PartUntaken
+        ensures row { Performs PortUntaken PortUntaken
             (alarm_rings terms.group_mean terms.wait alarm) terms.at.tick terms.at.port
-            (self.old, clock.old) (self.new, clock.new) (D.acts desk.old) (D.acts desk.new) }
-        ensures corrects { (past : Past) → PartUntaken past (self.old, clock.old)
+            (port_with self.old clock.old) (port_with self.new clock.new) (D.acts desk.old)
+            (D.acts desk.new) }
+        ensures corrects { (past : Past) → PortUntaken past (port_with self.old clock.old)
             → result ≡ corrects (alarm_rings terms.group_mean terms.wait alarm terms.at.tick past) }
         ensures over { alarm ≡ Probe → is_over self.new.station.alarms.probe terms.at.tick ≡ false }
         ensures clock { clock.new.at ≤ terms.at.tick }
@@ -133,9 +135,10 @@ impl Part {
         requires due { is_over (deadline self.old.station.alarms alarm) tick ≡ true }
         requires order { alarm ≡ Close → is_over self.old.station.alarms.probe tick ≡ false }
         requires room { 2 * length self.old.station.peers + 4 ≤ D.spare desk.old }
-        ensures row { Performs PartUntaken PartUntaken (master_rings group_mean alarm) tick port
-            (self.old, clock.old) (self.new, clock.new) (D.acts desk.old) (D.acts desk.new) }
-        ensures corrects { (past : Past) → PartUntaken past (self.old, clock.old)
+        ensures row { Performs PortUntaken PortUntaken (master_rings group_mean alarm) tick port
+            (port_with self.old clock.old) (port_with self.new clock.new) (D.acts desk.old)
+            (D.acts desk.new) }
+        ensures corrects { (past : Past) → PortUntaken past (port_with self.old clock.old)
             → result ≡ corrects (master_rings group_mean alarm tick past) }
         ensures over { alarm ≡ Probe → is_over self.new.station.alarms.probe tick ≡ false }
         ensures clock { clock.new.at ≤ tick }
@@ -159,8 +162,9 @@ impl Part {
         requires tick { IsTick tick }
         requires room { length self.old.station.peers + 4 ≤ D.spare desk.old }
         ensures row { (own wait : Bool) (clock : ClockValue)
-            → Performs PartUntaken PartUntaken (alarm_rings own wait alarm) tick port
-            (self.old, clock) (self.new, clock) (D.acts desk.old) (D.acts desk.new) }
+            → Performs PortUntaken PortUntaken (alarm_rings own wait alarm) tick port
+            (port_with self.old clock) (port_with self.new clock) (D.acts desk.old)
+            (D.acts desk.new) }
         ensures peers { self.new.station.peers ≡ self.old.station.peers }
         ensures room { PutsAtMost (length self.old.station.peers + 4) (D.spare desk.old)
             (D.spare desk.new) (D.acts desk.old) (D.acts desk.new) }

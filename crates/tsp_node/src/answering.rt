@@ -10,7 +10,7 @@ ghost use Rattle.tsp_rules.specs.CommonRows.{tests};
 ghost use Rattle.tsp_clock.specs.Clocks.{ClockValue};
 ghost use Rattle.tsp_node.specs.declared.audience.Audience.TheVariants.{OfClients};
 ghost use Rattle.tsp_node.specs.Audiences.{audience_of};
-ghost use Rattle.tsp_node.specs.NodeStands.{PartStands, PartTook, TakeStands, TookStands};
+ghost use Rattle.tsp_node.specs.NodeStands.{PortStands, PortTook, TakeStands, TookStands, port_with, traced_with};
 
 use crate::part::Part;
 use tsp_base::desk::Desk;
@@ -37,10 +37,9 @@ impl Part {
         requires audience { audience_of m.now.kind ≡ OfClients }
         ensures row { (charge : Bool) (clock : ClockValue)
             → Performs (TookStands (record { from = from; taken = Good (MessageOf m.now) }))
-            TakeStands (handles_kind charge from m.now m.now.kind) tick port (
-              (self.old, clock),
-              tracing.old,
-            ) ((self.new, clock), tracing.new) (D.acts desk.old) (D.acts desk.new) }
+            TakeStands (handles_kind charge from m.now m.now.kind) tick port
+            (traced_with self.old clock tracing.old) (traced_with self.new clock tracing.new)
+            (D.acts desk.old) (D.acts desk.new) }
         ensures peers { self.new.station.peers ≡ self.old.station.peers }
         ensures room { PutsAtMost (length self.old.station.peers + 4) (D.spare desk.old)
             (D.spare desk.new) (D.acts desk.old) (D.acts desk.new) }
@@ -60,8 +59,9 @@ impl Part {
         requires room { length self.old.station.peers + 4 ≤ D.spare desk.old }
         requires tick { IsTick tick }
         ensures row { (r : Received) (clock : ClockValue)
-            → Performs (PartTook r) PartStands (tests from number) tick port (self.old, clock)
-            (self.new, clock) (D.acts desk.old) (D.acts desk.new) }
+            → Performs (PortTook r) PortStands (tests from number) tick port
+            (port_with self.old clock) (port_with self.new clock) (D.acts desk.old)
+            (D.acts desk.new) }
         ensures peers { self.new.station.peers ≡ self.old.station.peers }
         ensures room { PutsAtMost (length self.old.station.peers + 4) (D.spare desk.old)
             (D.spare desk.new) (D.acts desk.old) (D.acts desk.new) }

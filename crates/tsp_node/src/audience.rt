@@ -14,6 +14,8 @@ pub(crate) enum Audience {
     OfNode,
     /// A peer's message to the port's role.
     OfRoles,
+    /// A peer's answer to an open send, whatever the port's role: an ACK.
+    OfSends,
 }
 
 ghost use Rattle.tsp_node.specs.Audiences.{audience_of};
@@ -30,6 +32,7 @@ pub(crate) fn audience_of(kind: Kind) -> Audience
             Audience::OfDates
         }
         Kind::Loop => Audience::OfNode,
+        Kind::Ack => Audience::OfSends,
         _ => Audience::OfRoles,
     }
 }

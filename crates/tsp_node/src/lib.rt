@@ -26,8 +26,8 @@
 //! may correct its node's clock and set its date.
 //!
 //! A datagram's way: `Part::take` puts Took; `handle` ignores what seems to come from the port itself; `hear`
-//! sends a message by its kind to those who answer it: clients' questions, dates, or the port's role. Each
-//! role's crate has the rest (`tsp_slave`, `tsp_candidate`, `tsp_master`).
+//! sends a message by its kind to those who answer it: clients' questions, dates, open sends, or the port's role,
+//! for which `hear_peer` calls the role's crate (`tsp_slave`, `tsp_candidate`, `tsp_master`).
 #![tactic(auto)]
 
 mod alarms;
@@ -41,6 +41,7 @@ mod part;
 mod readings;
 mod reply;
 mod ringing;
+mod roles;
 mod sends;
 mod stepping;
 mod taking;

@@ -53,7 +53,7 @@ pub struct Part {
 
 impl Part {
     ghost use Rattle.tsp_master.specs.Clearing.{Clears};
-    ghost use Rattle.tsp_node.specs.NodeStands.{PartStands, corrected_elsewhere};
+    ghost use Rattle.tsp_node.specs.NodeStands.{PortStands, corrected_elsewhere, port_with};
     ghost use Rattle.tsp_node.specs.Unmarking.{Unmarks};
 
     /// A port of a node that boots at this tick. Fails only if out of memory.
@@ -63,7 +63,7 @@ impl Part {
         ensures stands { IfOk result (λ part. (past : Past) (wall : ℤ) (clock : ClockValue)
             → IsPortOf me peers.now past → past.step.cause ≡ Booted me.word wall
             → ClockStands (grown tick past (Boot ∷ [])) clock
-            → PartStands (grown tick past (Boot ∷ [])) (part, clock)) }
+            → PortStands (grown tick past (Boot ∷ [])) (port_with part clock)) }
     {
         let station = Station::new(alloc, me, peers, tick)?;
         let master = Master::new(alloc, peers)?;
@@ -84,8 +84,9 @@ impl Part {
         requires room { 2 ≤ D.spare desk.old }
         requires tick { IsTick tick }
         ensures row { (clock : ClockValue)
-            → Performs PartStands PartStands (puts (Become Starting) followed_by arms Quiet QUIET)
-            tick port (self.old, clock) (self.new, clock) (D.acts desk.old) (D.acts desk.new) }
+            → Performs PortStands PortStands (puts (Become Starting) followed_by arms Quiet QUIET)
+            tick port (port_with self.old clock) (port_with self.new clock) (D.acts desk.old)
+            (D.acts desk.new) }
         ensures peers { self.new.station.peers ≡ self.old.station.peers }
         ensures room { PutsExactly 2 (D.spare desk.old) (D.spare desk.new) (D.acts desk.old)
             (D.acts desk.new) }
@@ -99,10 +100,10 @@ impl Part {
     /// Notes that another port of the node has corrected its clock at this tick.
     pub fn moved(&mut self, tick: u64)
         ensures stands { (past : Past) (step : Step) (amount shown : ℤ) (stepped : Bool)
-            (before after : ClockValue) → PartStands past (self.old, before)
+            (before after : ClockValue) → PortStands past (port_with self.old before)
             → ClockStands (corrected_elsewhere step tick amount stepped shown past) after
-            → PartStands (corrected_elsewhere step tick amount stepped shown past)
-            (self.new, after) }
+            → PortStands (corrected_elsewhere step tick amount stepped shown past)
+            (port_with self.new after) }
         ensures station { self.new.station ≡ self.old.station }
         ensures last { self.new.last ≡ record {
           tick = Some tick;
@@ -120,8 +121,8 @@ impl Part {
     pub fn abandon<D: Desk>(&mut self, port: Port, desk: &mut D)
         requires room { 1 ≤ D.spare desk.old }
         ensures row { (x : ℕ) (clock : ClockValue)
-            → Performs PartStands PartStands abandons_going x port (self.old, clock)
-            (self.new, clock) (D.acts desk.old) (D.acts desk.new) }
+            → Performs PortStands PortStands abandons_going x port (port_with self.old clock)
+            (port_with self.new clock) (D.acts desk.old) (D.acts desk.new) }
         ensures peers { self.new.station.peers ≡ self.old.station.peers }
         ensures room { PutsAtMost 1 (D.spare desk.old) (D.spare desk.new) (D.acts desk.old)
             (D.acts desk.new) }
@@ -136,8 +137,9 @@ impl Part {
     pub fn loosen<D: Desk>(&mut self, tick: u64, port: Port, desk: &mut D)
         requires room { 2 ≤ D.spare desk.old }
         requires tick { IsTick tick }
-        ensures row { (clock : ClockValue) → Performs PartStands PartStands loosens_master tick port
-            (self.old, clock) (self.new, clock) (D.acts desk.old) (D.acts desk.new) }
+        ensures row { (clock : ClockValue) → Performs PortStands PortStands loosens_master tick port
+            (port_with self.old clock) (port_with self.new clock) (D.acts desk.old)
+            (D.acts desk.new) }
         ensures peers { self.new.station.peers ≡ self.old.station.peers }
         ensures room { PutsAtMost 2 (D.spare desk.old) (D.spare desk.new) (D.acts desk.old)
             (D.acts desk.new) }

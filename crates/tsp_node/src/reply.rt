@@ -6,7 +6,7 @@ ghost use Rattle.tsp_rules.specs.CommonRows.{replies};
 ghost use Rattle.tsp_rules.specs.Guards.{is_clock_value};
 ghost use Rattle.tsp_clock.specs.Clocks.{target_of};
 ghost use Rattle.tsp_node.specs.declared.part.Part.{Part};
-ghost use Rattle.tsp_node.specs.NodeStands.{PartStands};
+ghost use Rattle.tsp_node.specs.NodeStands.{PortStands, port_with};
 
 use tsp_base::act::Act;
 use tsp_base::datagram::Datagram;
@@ -28,8 +28,9 @@ pub(crate) fn reply<D: Desk>(
     requires room { 1 ≤ D.spare desk.old }
     requires tick { IsTick tick }
     requires later { clock.now.at ≤ tick }
-    ensures row { (part : Part) → Performs PartStands PartStands (replies from word counter) tick
-        port (part, clock.now) (part, clock.now) (D.acts desk.old) (D.acts desk.new) }
+    ensures row { (part : Part) → Performs PortStands PortStands (replies from word counter) tick
+        port (port_with part clock.now) (port_with part clock.now) (D.acts desk.old)
+        (D.acts desk.new) }
     ensures room { PutsAtMost 1 (D.spare desk.old) (D.spare desk.new) (D.acts desk.old)
         (D.acts desk.new) }
 {

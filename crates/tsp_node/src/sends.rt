@@ -23,7 +23,8 @@ use tsp_base::place::{PeerId, Port};
 use tsp_sends::Due;
 
 impl Part {
-    ghost use Rattle.tsp_node.specs.NodeStands.{PartBegun};
+    ghost use Rattle.tsp_node.specs.NodeStands.{PortBegun, port_with};
+    ghost use Rattle.tsp_node.specs.Dues.{IsNoted};
 
     /// Repeats every due send, in the order of the peers: each is posted again or given up, and a slave that
     /// didn't acknowledge a correction leaves. A step does this first.
@@ -31,8 +32,8 @@ impl Part {
         requires tick { IsTick tick }
         requires room { 2 * length self.old.station.peers + 16 ≤ D.spare desk.old }
         ensures row { (clock : ClockValue)
-            → Performs PartBegun PartBegun due_sends tick port (self.old, clock) (self.new, clock)
-            (D.acts desk.old) (D.acts desk.new) }
+            → Performs PortBegun PortBegun due_sends tick port (port_with self.old clock)
+            (port_with self.new clock) (D.acts desk.old) (D.acts desk.new) }
         ensures peers { self.new.station.peers ≡ self.old.station.peers }
         ensures room { PutsAtMost (2 * length self.old.station.peers) (D.spare desk.old)
             (D.spare desk.new) (D.acts desk.old) (D.acts desk.new) }
@@ -62,23 +63,35 @@ impl Part {
         ensures sends { RepeatsNext after tick self.old.station.sends self.new.station.sends
             result }
         ensures row { IfSome result (λ due. (clock : ClockValue)
-            → Performs PartBegun PartBegun (due_send (peer_of due)) tick port (self.old, clock)
-            (self.new, clock) (D.acts desk.old) (D.acts desk.new)) }
+            → Performs PortBegun PortBegun (due_send (peer_of due)) tick port
+            (port_with self.old clock) (port_with self.new clock) (D.acts desk.old)
+            (D.acts desk.new)) }
         ensures same { IfNone result ((self.new ≡ self.old) × (desk.new ≡ desk.old)) }
         ensures peers { self.new.station.peers ≡ self.old.station.peers }
         ensures room { PutsAtMost 2 (D.spare desk.old) (D.spare desk.new) (D.acts desk.old)
             (D.acts desk.new) }
     {
         let due = self.station.repeat_next(after, tick, port, desk)?;
+        self.note_due(&due, tick, port, desk);
+        Some(due)
+    }
+
+    /// Notes what became of a due send.
+    fn note_due<D: Desk>(&mut self, due: &Due, tick: u64, port: Port, desk: &mut D)
+        requires room { 1 ≤ D.spare desk.old }
+        requires peer { Contains self.old.station.peers (peer_of due.now) }
+        ensures noted { IsNoted due.now tick port self.old.master self.new.master
+            (D.acts desk.old) (D.acts desk.new) }
+        ensures station { self.new.station ≡ self.old.station }
+        ensures last { self.new.last ≡ self.old.last }
+        ensures resolve { self.new.resolve ≡ self.old.resolve }
+        ensures dates { self.new.dates ≡ self.old.dates }
+        ensures room { PutsAtMost 1 (D.spare desk.old) (D.spare desk.new) (D.acts desk.old)
+            (D.acts desk.new) }
+    {
         match due {
-            Due::Again(p, message) => {
-                self.repeat(p, message.kind(), tick);
-                Some(Due::Again(p, message))
-            }
-            Due::Gave(p, kind) => {
-                self.give_up(p, kind, port, desk);
-                Some(Due::Gave(p, kind))
-            }
+            Due::Again(p, message) => self.repeat(*p, message.kind(), tick),
+            Due::Gave(p, kind) => self.give_up(*p, *kind, port, desk),
         }
     }
 

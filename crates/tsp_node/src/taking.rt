@@ -7,7 +7,7 @@ ghost use Rattle.tsp_base.specs.Rows.{either_by, nothing};
 ghost use Rattle.tsp_rules.specs.Answers.{takes, handles};
 ghost use Rattle.tsp_rules.specs.RoundRows.{corrects};
 ghost use Rattle.tsp_rules.specs.Guards.{is_own};
-ghost use Rattle.tsp_node.specs.NodeStands.{TakeStands, TookStands};
+ghost use Rattle.tsp_node.specs.NodeStands.{TakeStands, TookStands, traced_with};
 
 use crate::part::Part;
 use crate::reply::reply;
@@ -40,9 +40,10 @@ impl Part {
         requires tick { IsTick tick }
         requires later { clock.old.at ≤ tick }
         ensures row { Performs TakeStands TakeStands (takes steer charge from taken.now) tick port
-            ((self.old, clock.old), tracing.old) ((self.new, clock.new), tracing.new)
-            (D.acts desk.old) (D.acts desk.new) }
-        ensures corrects { (past : Past) → TakeStands past ((self.old, clock.old), tracing.old)
+            (traced_with self.old clock.old tracing.old)
+            (traced_with self.new clock.new tracing.new) (D.acts desk.old) (D.acts desk.new) }
+        ensures corrects { (past : Past)
+            → TakeStands past (traced_with self.old clock.old tracing.old)
             → result ≡ corrects (takes steer charge from taken.now tick past) }
         ensures peers { self.new.station.peers ≡ self.old.station.peers }
         ensures clock { clock.new.at ≤ tick }
@@ -78,8 +79,8 @@ impl Part {
         requires later { clock.old.at ≤ terms.at.tick }
         ensures row { Performs (TookStands (record { from = from; taken = taken.now })) TakeStands
             (either_by (is_own from) nothing (handles terms.steer terms.charge from taken.now))
-            terms.at.tick terms.at.port ((self.old, clock.old), tracing.old) ((self.new, clock.new), tracing.new)
-            (D.acts desk.old) (D.acts desk.new) }
+            terms.at.tick terms.at.port (traced_with self.old clock.old tracing.old)
+            (traced_with self.new clock.new tracing.new) (D.acts desk.old) (D.acts desk.new) }
         ensures peers { self.new.station.peers ≡ self.old.station.peers }
         ensures clock { clock.new.at ≤ terms.at.tick }
         ensures room { PutsAtMost (2 * length self.old.station.peers + 10) (D.spare desk.old)

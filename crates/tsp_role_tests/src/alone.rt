@@ -168,13 +168,25 @@ fn has_booted(node: &Node, acts: &[Placed]) -> bool {
         && !node.tracing()
 }
 
-/// The index of the first row that goes wrong after a boot, and whether the boot and the last role are right.
+/// The index of the first row that goes wrong right after a boot, and whether the boot and the last role are right.
+fn holds(node: &mut Node, pad: &mut Pad) -> Result<(Option<usize>, bool), Fail>
+    requires { clock_at node.old ≤ 0 }
+{
+    let is_right = has_booted(node, pad.acts());
+    let wrong = first_wrong(node, pad, &ROWS)?;
+    Ok((wrong, is_right && node.role() == Role::Loose))
+}
+
+/// The same of a new node, whose acts are put on this pad.
+fn tried_on(alloc: Global, pad: &mut Pad) -> Result<(Option<usize>, bool), Fail> {
+    let mut node = booted(alloc, pad)?;
+    holds(&mut node, pad)
+}
+
+/// The same on a new pad.
 fn tried(alloc: Global) -> Result<(Option<usize>, bool), Fail> {
     let mut pad = Pad::new(alloc);
-    let mut node = booted(alloc, &mut pad)?;
-    let is_right = has_booted(&node, pad.acts());
-    let wrong = first_wrong(&mut node, &mut pad, &ROWS)?;
-    Ok((wrong, is_right && node.role() == Role::Loose))
+    tried_on(alloc, &mut pad)
 }
 
 #[test]

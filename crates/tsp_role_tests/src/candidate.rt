@@ -82,7 +82,7 @@ fn goes(node: &mut Node, tick: u32, step: Step) -> Result<(), AllocError> {
 
 /// Goes through steps one after the other. The index of the first row whose texts aren't those of its step's
 /// acts.
-fn first_wrong(node: &mut Node, rows: &[Row]) -> Result<Option<usize>, AllocError> {
+fn first_wrong(node: &mut Node, rows: &[Row]) -> Result<Option<usize>, Fail> {
     for (i, (tick, step, acts)) in rows.iter().enumerate() {
         goes(node, *tick, *step)?;
         if !are_told(node.pad.acts(), acts) {
@@ -95,151 +95,177 @@ fn first_wrong(node: &mut Node, rows: &[Row]) -> Result<Option<usize>, AllocErro
 /// Goes through steps at a new node, where elections aren't strict.
 fn tried(alloc: Global, rows: &[Row]) -> Result<Option<usize>, Fail> {
     let mut node = node(alloc, false)?;
-    Ok(first_wrong(&mut node, rows)?)
+    first_wrong(&mut node, rows)
 }
+
+/// A candidate that is accepted: an ACCEPT of another number counts for nothing.
+const ACCEPTED: [Row; 3] = [
+    STANDS,
+    (400_000_001, Hears(Kind::Accept, 32_774), &[]),
+    (
+        400_000_002,
+        Hears(Kind::Accept, 32_775),
+        &["acked 1", "backer 1"],
+    ),
+];
 
 #[test]
 fn counts_who_accepts(rt: HostRuntime) -> Result<(), Fail> {
-    let rows: [Row; 3] = [
-        STANDS,
-        (400_000_001, Hears(Kind::Accept, 32_774), &[]),
-        (
-            400_000_002,
-            Hears(Kind::Accept, 32_775),
-            &["acked 1", "backer 1"],
-        ),
-    ];
-    assert_eq!(rt; tried(rt.alloc(), &rows)?, None);
+    assert_eq!(rt; tried(rt.alloc(), &ACCEPTED)?, None);
     Ok(())
 }
+
+/// A candidate that nobody refuses.
+const LEADS: [Row; 3] = [
+    STANDS,
+    (
+        400_000_001,
+        Hears(Kind::Election, 40_000),
+        &["post 0 1 refuse 40000 a"],
+    ),
+    (
+        406_000_000,
+        Rings,
+        &[
+            "ring window",
+            "become master",
+            "arm round 646000000",
+            "post 0 1 masterup 0 a",
+        ],
+    ),
+];
 
 #[test]
 fn leads_where_nobody_refuses(rt: HostRuntime) -> Result<(), Fail> {
-    let rows: [Row; 3] = [
-        STANDS,
-        (
-            400_000_001,
-            Hears(Kind::Election, 40_000),
-            &["post 0 1 refuse 40000 a"],
-        ),
-        (
-            406_000_000,
-            Rings,
-            &[
-                "ring window",
-                "become master",
-                "arm round 646000000",
-                "post 0 1 masterup 0 a",
-            ],
-        ),
-    ];
-    assert_eq!(rt; tried(rt.alloc(), &rows)?, None);
+    assert_eq!(rt; tried(rt.alloc(), &LEADS)?, None);
     Ok(())
 }
+
+/// A candidate that is refused.
+const REFUSED: [Row; 3] = [
+    STANDS,
+    (400_000_001, Hears(Kind::Refuse, 32_776), &[]),
+    (
+        400_000_002,
+        Hears(Kind::Refuse, 32_775),
+        &["acked 1", "become loose", "arm elect 700000009"],
+    ),
+];
 
 #[test]
 fn gives_way_at_a_refusal(rt: HostRuntime) -> Result<(), Fail> {
-    let rows: [Row; 3] = [
-        STANDS,
-        (400_000_001, Hears(Kind::Refuse, 32_776), &[]),
-        (
-            400_000_002,
-            Hears(Kind::Refuse, 32_775),
-            &["acked 1", "become loose", "arm elect 700000009"],
-        ),
-    ];
-    assert_eq!(rt; tried(rt.alloc(), &rows)?, None);
+    assert_eq!(rt; tried(rt.alloc(), &REFUSED)?, None);
     Ok(())
 }
 
+/// A candidate that is too late, and stands again.
+const LATE: [Row; 3] = [
+    STANDS,
+    (
+        406_000_001,
+        Rings,
+        &["late window", "become loose", "arm elect 706000008"],
+    ),
+    (
+        706_000_008,
+        Stands,
+        &[
+            "become candidate",
+            "back 2",
+            "arm window 711000008",
+            "post 0 1 election 32776 a",
+        ],
+    ),
+];
+
 #[test]
 fn gives_way_when_late(rt: HostRuntime) -> Result<(), Fail> {
-    let rows: [Row; 3] = [
-        STANDS,
-        (
-            406_000_001,
-            Rings,
-            &["late window", "become loose", "arm elect 706000008"],
-        ),
-        (
-            706_000_008,
-            Stands,
-            &[
-                "become candidate",
-                "back 2",
-                "arm window 711000008",
-                "post 0 1 election 32776 a",
-            ],
-        ),
-    ];
-    assert_eq!(rt; tried(rt.alloc(), &rows)?, None);
+    assert_eq!(rt; tried(rt.alloc(), &LATE)?, None);
     Ok(())
+}
+
+/// A candidate that finds a master.
+const FOLLOWS: [Row; 3] = [
+    STANDS,
+    (400_000_001, Hears(Kind::Ack, 32_775), &[]),
+    (
+        400_000_002,
+        Hears(Kind::MasterUp, 0),
+        &[
+            "become follow 1",
+            "arm elect 700000009",
+            "post 0 1 slaveup 7 a",
+        ],
+    ),
+];
+
+/// Goes through these steps. What goes wrong, and whether the node then knows its master's name.
+fn followed(node: &mut Node) -> Result<(Option<usize>, bool), Fail> {
+    let wrong = first_wrong(node, &FOLLOWS)?;
+    Ok((wrong, node.last.name().octets() == b"b".as_slice()))
+}
+
+/// The same at a new node.
+fn tried_following(alloc: Global) -> Result<(Option<usize>, bool), Fail> {
+    let mut node = node(alloc, false)?;
+    followed(&mut node)
 }
 
 #[test]
 fn follows_a_master(rt: HostRuntime) -> Result<(), Fail> {
-    let mut node = node(rt.alloc(), false)?;
-    let rows: [Row; 3] = [
-        STANDS,
-        (400_000_001, Hears(Kind::Ack, 32_775), &[]),
-        (
-            400_000_002,
-            Hears(Kind::MasterUp, 0),
-            &[
-                "become follow 1",
-                "arm elect 700000009",
-                "post 0 1 slaveup 7 a",
-            ],
-        ),
-    ];
-    assert_eq!(rt; first_wrong(&mut node, &rows)?, None);
-    assert!(rt; node.last.name().octets() == b"b".as_slice());
+    assert_eq!(rt; tried_following(rt.alloc())?, (None, true));
     Ok(())
 }
 
-/// Goes through steps at a new node, where elections are strict. What it is after them comes second.
-fn tried_strictly(alloc: Global, rows: &[Row]) -> Result<(Option<usize>, Role), Fail> {
-    let mut node = node(alloc, true)?;
-    let wrong = first_wrong(&mut node, rows)?;
-    Ok((wrong, node.station.role))
+/// One of two isn't a majority, and two of two are one.
+const STRICT: [Row; 5] = [
+    STANDS,
+    (
+        405_000_000,
+        Rings,
+        &["ring window", "become loose", "arm elect 705000007"],
+    ),
+    (
+        706_000_000,
+        Stands,
+        &[
+            "become candidate",
+            "back 2",
+            "arm window 711000000",
+            "post 0 1 election 32776 a",
+        ],
+    ),
+    (
+        706_000_001,
+        Hears(Kind::Accept, 32_776),
+        &["acked 1", "backer 1"],
+    ),
+    (
+        711_000_000,
+        Rings,
+        &[
+            "ring window",
+            "become master",
+            "arm round 951000000",
+            "post 0 1 masterup 0 a",
+        ],
+    ),
+];
+
+/// Goes through these steps. What goes wrong, and whether the node is master then.
+fn won(node: &mut Node) -> Result<(Option<usize>, bool), Fail> {
+    let wrong = first_wrong(node, &STRICT)?;
+    Ok((wrong, node.station.role == Role::Master))
 }
 
-/// One of two isn't a majority, and two of two are one.
+/// The same at a new node, where elections are strict.
+fn tried_strictly(alloc: Global) -> Result<(Option<usize>, bool), Fail> {
+    let mut node = node(alloc, true)?;
+    won(&mut node)
+}
+
 #[test]
 fn wins_strictly_with_more_than_half(rt: HostRuntime) -> Result<(), Fail> {
-    let rows: [Row; 5] = [
-        STANDS,
-        (
-            405_000_000,
-            Rings,
-            &["ring window", "become loose", "arm elect 705000007"],
-        ),
-        (
-            706_000_000,
-            Stands,
-            &[
-                "become candidate",
-                "back 2",
-                "arm window 711000000",
-                "post 0 1 election 32776 a",
-            ],
-        ),
-        (
-            706_000_001,
-            Hears(Kind::Accept, 32_776),
-            &["acked 1", "backer 1"],
-        ),
-        (
-            711_000_000,
-            Rings,
-            &[
-                "ring window",
-                "become master",
-                "arm round 951000000",
-                "post 0 1 masterup 0 a",
-            ],
-        ),
-    ];
-    assert_eq!(rt; tried_strictly(rt.alloc(), &rows)?, (None, Role::Master));
+    assert_eq!(rt; tried_strictly(rt.alloc())?, (None, true));
     Ok(())
 }

@@ -80,11 +80,7 @@ fn goes(node: &mut Node, tracing: &mut bool, step: Step) -> Result<(), AllocErro
 
 /// Goes through steps one after the other. The index of the first row whose texts aren't those of its step's
 /// acts.
-fn first_wrong(
-    node: &mut Node,
-    tracing: &mut bool,
-    rows: &[Row],
-) -> Result<Option<usize>, AllocError> {
+fn first_wrong(node: &mut Node, tracing: &mut bool, rows: &[Row]) -> Result<Option<usize>, Fail> {
     for (i, (step, acts)) in rows.iter().enumerate() {
         goes(node, tracing, *step)?;
         if !are_told(node.pad.acts(), acts) {
@@ -97,69 +93,78 @@ fn first_wrong(
 /// Goes through steps at a new node whose trace is off.
 fn tried(alloc: Global, rows: &[Row]) -> Result<Option<usize>, Fail> {
     let mut node = node(alloc)?;
-    Ok(first_wrong(&mut node, &mut false, rows)?)
+    first_wrong(&mut node, &mut false, rows)
 }
+
+/// A port that knows no master, one that follows, and one that leads.
+const NAMES: [Row; 7] = [
+    (Names(1), &["post 0 - ack 1 %"]),
+    (
+        Follows,
+        &[
+            "become follow 1",
+            "arm elect 380000007",
+            "post 0 1 slaveup 7 a",
+        ],
+    ),
+    (Names(2), &["post 0 - ack 2 b"]),
+    (Says(3), &[]),
+    (Leads, &["become master"]),
+    (Names(4), &["post 0 - ack 4 a"]),
+    (Says(5), &["post 0 - ack 5 a"]),
+];
 
 #[test]
 fn names_the_master(rt: HostRuntime) -> Result<(), Fail> {
-    let rows: [Row; 7] = [
-        (Names(1), &["post 0 - ack 1 %"]),
-        (
-            Follows,
-            &[
-                "become follow 1",
-                "arm elect 380000007",
-                "post 0 1 slaveup 7 a",
-            ],
-        ),
-        (Names(2), &["post 0 - ack 2 b"]),
-        (Says(3), &[]),
-        (Leads, &["become master"]),
-        (Names(4), &["post 0 - ack 4 a"]),
-        (Says(5), &["post 0 - ack 5 a"]),
-    ];
-    assert_eq!(rt; tried(rt.alloc(), &rows)?, None);
+    assert_eq!(rt; tried(rt.alloc(), &NAMES)?, None);
     Ok(())
 }
 
-/// Goes through two lists of steps at a new node whose trace is off. What goes wrong in each, and whether the trace is
-/// on after it.
-fn turned(alloc: Global, first: &[Row], last: &[Row]) -> Result<[(Option<usize>, bool); 2], Fail> {
-    let mut node = node(alloc)?;
+const ON: [Row; 1] = [(Traces(true, 6), &["trace on", "post 0 - ack 6 a"])];
+
+const OFF: [Row; 1] = [(Traces(false, 7), &["trace off", "post 0 - ack 7 a"])];
+
+/// Turns a node's trace on and off. What goes wrong at each, and whether the trace is on after it.
+fn turned(node: &mut Node) -> Result<[(Option<usize>, bool); 2], Fail> {
     let mut tracing = false;
-    let wrong = first_wrong(&mut node, &mut tracing, first)?;
+    let first = first_wrong(node, &mut tracing, &ON)?;
     let is_on = tracing;
-    let wrong_last = first_wrong(&mut node, &mut tracing, last)?;
-    Ok([(wrong, is_on), (wrong_last, tracing)])
+    let last = first_wrong(node, &mut tracing, &OFF)?;
+    Ok([(first, is_on), (last, tracing)])
+}
+
+/// The same at a new node.
+fn tried_turning(alloc: Global) -> Result<[(Option<usize>, bool); 2], Fail> {
+    let mut node = node(alloc)?;
+    turned(&mut node)
 }
 
 #[test]
 fn turns_the_trace(rt: HostRuntime) -> Result<(), Fail> {
-    let on: [Row; 1] = [(Traces(true, 6), &["trace on", "post 0 - ack 6 a"])];
-    let off: [Row; 1] = [(Traces(false, 7), &["trace off", "post 0 - ack 7 a"])];
-    let turned = turned(rt.alloc(), &on, &off)?;
+    let turned = tried_turning(rt.alloc())?;
     assert_eq!(rt; turned, [(None, true), (None, false)]);
     Ok(())
 }
 
 /// It may stand for election 300 seconds after its boot.
+const STANDS: [Row; 4] = [
+    (Tests(79_000_000, 1), &[]),
+    (Loosens, &["become loose"]),
+    (Tests(299_999_999, 2), &["post 0 - ack 2 a"]),
+    (
+        Tests(300_000_000, 3),
+        &[
+            "post 0 - ack 3 a",
+            "become candidate",
+            "back 0",
+            "arm window 305000000",
+            "post 0 1 election 32775 a",
+        ],
+    ),
+];
+
 #[test]
 fn stands_when_it_is_asked_to(rt: HostRuntime) -> Result<(), Fail> {
-    let rows: [Row; 4] = [
-        (Tests(79_000_000, 1), &[]),
-        (Loosens, &["become loose"]),
-        (Tests(299_999_999, 2), &["post 0 - ack 2 a"]),
-        (
-            Tests(300_000_000, 3),
-            &[
-                "post 0 - ack 3 a",
-                "become candidate",
-                "back 0",
-                "arm window 305000000",
-                "post 0 1 election 32775 a",
-            ],
-        ),
-    ];
-    assert_eq!(rt; tried(rt.alloc(), &rows)?, None);
+    assert_eq!(rt; tried(rt.alloc(), &STANDS)?, None);
     Ok(())
 }

@@ -78,145 +78,193 @@ fn tried_all(items: &[i64], span: i64) -> Group {
     best
 }
 
-#[test]
-fn takes_the_largest_group(rt: HostRuntime) -> Result<(), Fail> {
-    let rows: [(&[i64], u64, Group, i64, &[i64]); 8] = [
-        (
-            &[0, 5_000, 9_000, 500_000],
-            20_000,
-            Group {
-                lo: 0,
-                width: 9_000,
-                count: 3,
-                sum: 14_000,
-            },
-            4_666,
-            &[4_666, -334, -4_334, -495_334],
-        ),
-        (
-            &[0, -30_000],
-            20_000,
-            Group {
-                lo: 0,
-                width: 0,
-                count: 1,
-                sum: 0,
-            },
-            0,
-            &[0, 30_000],
-        ),
-        (
-            &[0, -1],
-            20_000,
-            Group {
-                lo: -1,
-                width: 1,
-                count: 2,
-                sum: -1,
-            },
-            -1,
-            &[-1, 0],
-        ),
-        (
-            &[0, 20_000],
-            20_000,
-            Group {
-                lo: 0,
-                width: 20_000,
-                count: 2,
-                sum: 20_000,
-            },
-            10_000,
-            &[10_000, -10_000],
-        ),
-        (
-            &[0, 20_001],
-            20_000,
-            Group {
-                lo: 0,
-                width: 0,
-                count: 1,
-                sum: 0,
-            },
-            0,
-            &[0, -20_001],
-        ),
-        (
-            &[5, 5, 5],
-            0,
-            Group {
-                lo: 5,
-                width: 0,
-                count: 3,
-                sum: 15,
-            },
-            5,
-            &[0, 0, 0],
-        ),
-        (
-            &[-3, 3],
-            5,
-            Group {
-                lo: -3,
-                width: 0,
-                count: 1,
-                sum: -3,
-            },
-            -3,
-            &[0, -6],
-        ),
-        (
-            &[7, 4, 1, -9, -4],
-            3,
-            Group {
-                lo: 1,
-                width: 3,
-                count: 2,
-                sum: 5,
-            },
-            2,
-            &[-5, -2, 1, 11, 6],
-        ),
-    ];
-    for (items, span, group, middle, corrections) in rows {
-        let mut values = listed(rt.alloc(), items)?;
-        assert_eq!(rt; values.len(), items.len());
-        assert!(rt; 0 < values.len() && span <= 1 << 31);
-        let got = largest(&mut values, span);
-        assert_eq!(rt; got, group, "of {items:?}");
-        assert_eq!(rt; mean(&got), middle, "of {items:?}");
-        assert!(rt;
-            values.looks() <= 2 * items.len() as u64,
-            "looks at {items:?}"
-        );
-        for (item, amount) in items.iter().zip(corrections) {
-            assert_eq!(rt; near_correction(middle, *item), Some(*amount), "of {item}");
+/// Values and a span; their largest group, its mean, and the correction of each value.
+type Row = (&'static [i64], u32, Group, i64, &'static [i64]);
+
+const ROWS: [Row; 8] = [
+    (
+        &[0, 5_000, 9_000, 500_000],
+        20_000,
+        Group {
+            lo: 0,
+            width: 9_000,
+            count: 3,
+            sum: 14_000,
+        },
+        4_666,
+        &[4_666, -334, -4_334, -495_334],
+    ),
+    (
+        &[0, -30_000],
+        20_000,
+        Group {
+            lo: 0,
+            width: 0,
+            count: 1,
+            sum: 0,
+        },
+        0,
+        &[0, 30_000],
+    ),
+    (
+        &[0, -1],
+        20_000,
+        Group {
+            lo: -1,
+            width: 1,
+            count: 2,
+            sum: -1,
+        },
+        -1,
+        &[-1, 0],
+    ),
+    (
+        &[0, 20_000],
+        20_000,
+        Group {
+            lo: 0,
+            width: 20_000,
+            count: 2,
+            sum: 20_000,
+        },
+        10_000,
+        &[10_000, -10_000],
+    ),
+    (
+        &[0, 20_001],
+        20_000,
+        Group {
+            lo: 0,
+            width: 0,
+            count: 1,
+            sum: 0,
+        },
+        0,
+        &[0, -20_001],
+    ),
+    (
+        &[5, 5, 5],
+        0,
+        Group {
+            lo: 5,
+            width: 0,
+            count: 3,
+            sum: 15,
+        },
+        5,
+        &[0, 0, 0],
+    ),
+    (
+        &[-3, 3],
+        5,
+        Group {
+            lo: -3,
+            width: 0,
+            count: 1,
+            sum: -3,
+        },
+        -3,
+        &[0, -6],
+    ),
+    (
+        &[7, 4, 1, -9, -4],
+        3,
+        Group {
+            lo: 1,
+            width: 3,
+            count: 2,
+            sum: 5,
+        },
+        2,
+        &[-5, -2, 1, 11, 6],
+    ),
+];
+
+/// Whether each value has this correction.
+fn are_corrected(items: &[i64], middle: i64, corrections: &[i64]) -> bool {
+    for (item, amount) in items.iter().zip(corrections) {
+        if near_correction(middle, *item) != Some(*amount) {
+            return false;
         }
     }
+    items.len() == corrections.len()
+}
+
+/// The largest group of these values and its mean. None where there aren't so many of them, or none, or the sweep
+/// looked too often.
+fn group_of(values: &mut Values, count: usize, span: u32) -> Option<(Group, i64)> {
+    if values.len() != count || count == 0 || count >= 100 || span > 1 << 31 {
+        return None;
+    }
+    let group = largest(values, span as u64);
+    if values.looks() > 2 * count as u64 {
+        return None;
+    }
+    Some((group, mean(&group)))
+}
+
+/// The same of these values, at most 99.
+fn swept(alloc: Global, items: &[i64], span: u32) -> Result<Option<(Group, i64)>, AllocError> {
+    if items.len() >= 100 {
+        return Ok(None);
+    }
+    let mut values = listed(alloc, items)?;
+    Ok(group_of(&mut values, items.len(), span))
+}
+
+/// The index of the first row whose group isn't found.
+fn first_wrong(alloc: Global, rows: &[Row]) -> Result<Option<usize>, AllocError> {
+    for (i, (items, span, group, middle, corrections)) in rows.iter().enumerate() {
+        let found = swept(alloc, items, *span)?;
+        if found != Some((*group, *middle)) || !are_corrected(items, *middle, corrections) {
+            return Ok(Some(i));
+        }
+    }
+    Ok(None)
+}
+
+#[test]
+fn takes_the_largest_group(rt: HostRuntime) -> Result<(), Fail> {
+    assert_eq!(rt; first_wrong(rt.alloc(), &ROWS)?, None);
     Ok(())
+}
+
+/// The next number of a row that looks like chance.
+fn next_of(seed: u64) -> u64 {
+    seed.wrapping_mul(6_364_136_223_846_793_005)
+        .wrapping_add(1_442_695_040_888_963_407)
+}
+
+/// So many small numbers, and the last of their row.
+fn small_numbers(alloc: Global, seed: u64, count: u32) -> Result<(Vec<i64>, u64), AllocError> {
+    let mut items = Vec::new(alloc);
+    let mut last = seed;
+    for _ in 0..count {
+        last = next_of(last);
+        items.push((last >> 60) as i64 - 8)?;
+    }
+    Ok((items, last))
+}
+
+/// Whether the sweep and the program that tries all find the same group.
+fn agree(alloc: Global, items: &[i64], span: u32) -> Result<bool, AllocError> {
+    let found = swept(alloc, items, span)?;
+    Ok(found.map(|(group, _)| group) == Some(tried_all(items, i64::from(span))))
+}
+
+/// Whether they agree on the row that begins here, and where the next row begins.
+fn agree_on(alloc: Global, seed: u64, round: u32) -> Result<(bool, u64), AllocError> {
+    let (items, last) = small_numbers(alloc, seed, 1 + round % 13)?;
+    Ok((agree(alloc, &items, round % 7)?, last))
 }
 
 #[test]
 fn agrees_with_the_program_that_tries_all(rt: HostRuntime) -> Result<(), Fail> {
     let mut seed = 1u64;
-    for round in 0..400u64 {
-        let mut items = Vec::new(rt.alloc());
-        for _ in 0..1 + round % 13 {
-            seed = seed
-                .wrapping_mul(6_364_136_223_846_793_005)
-                .wrapping_add(1_442_695_040_888_963_407);
-            items.push((seed >> 60) as i64 - 8)?;
-        }
-        let span = round % 7;
-        assert!(rt; items.len() < 100);
-        let mut values = listed(rt.alloc(), &items)?;
-        assert!(rt; 0 < values.len());
-        let got = largest(&mut values, span);
-        assert_eq!(rt;
-            got,
-            tried_all(&items, span as i64),
-            "of {items:?} within {span}"
-        );
+    for round in 0..400u32 {
+        let (is_same, last) = agree_on(rt.alloc(), seed, round)?;
+        seed = last;
+        assert!(rt; is_same, "of row {round}");
     }
     Ok(())
 }

@@ -61,11 +61,7 @@ fn goes(node: &mut Node, resolve: &mut Resolve, step: Step) -> Result<(), AllocE
 
 /// Goes through steps one after the other. The index of the first row whose texts aren't those of its step's
 /// acts.
-fn first_wrong(
-    node: &mut Node,
-    resolve: &mut Resolve,
-    rows: &[Row],
-) -> Result<Option<usize>, AllocError>
+fn first_wrong(node: &mut Node, resolve: &mut Resolve, rows: &[Row]) -> Result<Option<usize>, Fail>
     requires many { length resolve.old.marks ≡ length node.old.station.peers }
 {
     for (i, (step, acts)) in rows.iter().enumerate() {
@@ -77,11 +73,16 @@ fn first_wrong(
     Ok(None)
 }
 
+/// Lets a new node, which knows of no rivals, go through steps.
+fn tried_at(alloc: Global, node: &mut Node, rows: &[Row]) -> Result<Option<usize>, Fail> {
+    let mut resolve = Resolve::new(alloc, node.station.peers())?;
+    first_wrong(node, &mut resolve, rows)
+}
+
 /// Lets peer 2 of three go through steps.
 fn tried(alloc: Global, rows: &[Row]) -> Result<Option<usize>, Fail> {
     let mut node = Node::new(alloc, PeerId(2), &[PeerId(1), PeerId(2), PeerId(4)])?;
-    let mut resolve = Resolve::new(alloc, node.station.peers())?;
-    Ok(first_wrong(&mut node, &mut resolve, rows)?)
+    tried_at(alloc, &mut node, rows)
 }
 
 /// What the node asks the others at tick 100.
@@ -94,29 +95,33 @@ const STARTS: Row = (
     ],
 );
 
+/// A rival that answers once is sent away.
+const RIVAL: [Row; 6] = [
+    (Leads, &["become master"]),
+    STARTS,
+    (Starts(200), &[]),
+    (Answers, &["rival 1"]),
+    (Answers, &[]),
+    (Rings(6_000_100), &["ring resolve", "post 0 1 quit 32775 a"]),
+];
+
 #[test]
 fn sends_a_rival_away(rt: HostRuntime) -> Result<(), Fail> {
-    let rows: [Row; 6] = [
-        (Leads, &["become master"]),
-        STARTS,
-        (Starts(200), &[]),
-        (Answers, &["rival 1"]),
-        (Answers, &[]),
-        (Rings(6_000_100), &["ring resolve", "post 0 1 quit 32775 a"]),
-    ];
-    assert_eq!(rt; tried(rt.alloc(), &rows)?, None);
+    assert_eq!(rt; tried(rt.alloc(), &RIVAL)?, None);
     Ok(())
 }
 
+/// A rival that is forgotten is sent nothing.
+const FORGOTTEN: [Row; 5] = [
+    (Leads, &["become master"]),
+    STARTS,
+    (Answers, &["rival 1"]),
+    (Forgets, &[]),
+    (Rings(5_000_100), &["ring resolve"]),
+];
+
 #[test]
 fn forgets_its_rivals(rt: HostRuntime) -> Result<(), Fail> {
-    let rows: [Row; 5] = [
-        (Leads, &["become master"]),
-        STARTS,
-        (Answers, &["rival 1"]),
-        (Forgets, &[]),
-        (Rings(5_000_100), &["ring resolve"]),
-    ];
-    assert_eq!(rt; tried(rt.alloc(), &rows)?, None);
+    assert_eq!(rt; tried(rt.alloc(), &FORGOTTEN)?, None);
     Ok(())
 }

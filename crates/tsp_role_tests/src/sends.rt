@@ -36,46 +36,82 @@ fn loss_of(due: Option<Due>) -> Option<(u32, Kind)> {
     }
 }
 
-#[test]
-fn the_tree_finds_the_first_due_place(rt: HostRuntime) {
-    let mut tree = Tree::new(rt.alloc(), 5).expect(&rt, "memory");
+/// Whether a tree of five places finds the first due place from each of three on, and its least deadline, and how
+/// often it looked.
+fn finds_first_due(tree: &mut Tree) -> bool
+    requires { length tree.old.deadlines ≡ 5 }
+{
     tree.put(0, Some(9));
     tree.put(2, Some(4));
     tree.put(3, Some(4));
     for (from, place) in [(0, Some(2)), (3, Some(3)), (4, None)] {
-        assert_eq!(rt; tree.first_due(from, 8), place, "from {from}");
+        if tree.first_due(from, 8) != place {
+            return false;
+        }
     }
-    assert_eq!(rt; tree.least(), Some(4));
-    assert!(rt; tree.looks() <= 6 * 8);
+    tree.least() == Some(4) && tree.looks() <= 6 * 8
 }
 
 #[test]
-fn sends_are_repeated_and_given_up(rt: HostRuntime) {
-    let peers = [PeerId(1), PeerId(5), PeerId(9)];
-    let mut sends = Sends::new(rt.alloc(), &peers).expect(&rt, "memory");
-    begin(&mut sends, &peers, 1, 9, 0);
-    assert!(rt; !sends.ack(PeerId(5), 8));
-    assert!(rt; sends.ack(PeerId(5), 9));
-    begin(&mut sends, &peers, 0, 7, 100);
-    begin(&mut sends, &peers, 2, 8, 0);
-    assert_eq!(rt; sends.least(), Some(1_000_000));
-    assert_eq!(rt; sends.kind(PeerId(9)), Some(Kind::Conflict));
-    assert_eq!(rt; sends.kind(PeerId(5)), None);
+fn the_tree_finds_the_first_due_place(rt: HostRuntime) -> Result<(), AllocError> {
+    let mut tree = Tree::new(rt.alloc(), 5)?;
+    assert!(rt; finds_first_due(&mut tree));
+    Ok(())
+}
+
+/// Whether an ACK of another number leaves a send alone, and one of its number ends it.
+fn ends_one(sends: &mut Sends, peers: &[PeerId]) -> bool
+    requires peers { peers_of sends.old ≡ peers.now }
+    requires three { length peers.now ≡ 3 }
+    ensures peers { peers_of sends.new ≡ peers.now }
+{
+    begin(sends, peers, 1, 9, 0);
+    !sends.ack(PeerId(5), 8) && sends.ack(PeerId(5), 9)
+}
+
+/// Whether two sends are repeated when they are due.
+fn repeats_two(sends: &mut Sends, peers: &[PeerId]) -> bool
+    requires peers { peers_of sends.old ≡ peers.now }
+    requires three { length peers.now ≡ 3 }
+{
+    begin(sends, peers, 0, 7, 100);
+    begin(sends, peers, 2, 8, 0);
+    let is_begun = sends.least() == Some(1_000_000)
+        && sends.kind(PeerId(9)) == Some(Kind::Conflict)
+        && sends.kind(PeerId(5)).is_none();
     for (after, tick, again) in [
         (None, 1_000_099, Some((9, 8))),
         (None, 2_000_000, Some((1, 7))),
         (Some(PeerId(1)), 2_000_000, Some((9, 8))),
         (None, 2_000_000, None),
     ] {
-        assert_eq!(rt; repeat_of(sends.due(after, tick)), again, "at {tick}");
+        if repeat_of(sends.due(after, tick)) != again {
+            return false;
+        }
     }
-    // The send to peer 9 was posted three times, and the one to peer 1 began too long ago.
+    is_begun
+}
+
+/// Whether both are given up: the send to peer 9 was posted three times, and the one to peer 1 began too long ago.
+fn gives_up_two(sends: &mut Sends) -> bool {
     for (after, tick, peer) in [(Some(PeerId(1)), 3_000_000, 9), (None, 4_000_101, 1)] {
-        assert_eq!(rt;
-            loss_of(sends.due(after, tick)),
-            Some((peer, Kind::Conflict))
-        );
+        if loss_of(sends.due(after, tick)) != Some((peer, Kind::Conflict)) {
+            return false;
+        }
     }
-    assert_eq!(rt; sends.least(), None);
+    sends.least().is_none()
+}
+
+#[test]
+fn sends_are_repeated_and_given_up(rt: HostRuntime) -> Result<(), AllocError> {
+    let peers = [PeerId(1), PeerId(5), PeerId(9)];
+    let mut sends = Sends::new(rt.alloc(), &peers)?;
+    let steps = [
+        ends_one(&mut sends, &peers),
+        repeats_two(&mut sends, &peers),
+        gives_up_two(&mut sends),
+    ];
     sends.clear();
+    assert_eq!(rt; steps, [true, true, true]);
+    Ok(())
 }

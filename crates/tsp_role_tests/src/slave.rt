@@ -93,7 +93,7 @@ fn takes(node: &mut Node, tick: u64, place: usize, m: &Message) -> Result<(), Al
 
 /// Lets the port take messages one after the other. The index of the first row whose texts aren't those of
 /// the acts, or whose tick is before that of the row before it.
-fn first_wrong(node: &mut Node, rows: &[Row]) -> Result<Option<usize>, AllocError>
+fn first_wrong(node: &mut Node, rows: &[Row]) -> Result<Option<usize>, Fail>
     requires { node.old.clock.at ≤ 0 }
 {
     let mut before = 0;
@@ -113,129 +113,170 @@ fn first_wrong(node: &mut Node, rows: &[Row]) -> Result<Option<usize>, AllocErro
     Ok(None)
 }
 
+/// Whether the node has just begun to search for a master.
+fn searches(node: &Node) -> bool {
+    are_told(
+        node.pad.acts(),
+        &[
+            "ring quiet",
+            "become loose",
+            "arm search 85000000",
+            "post 0 1 masterreq 0 a",
+            "post 0 2 masterreq 0 a",
+        ],
+    )
+}
+
+/// Whether the port remembers a correction at this tick, and that its master is called `b`.
+fn remembers(node: &Node, tick: u64) -> bool {
+    node.last.tick() == Some(tick) && node.last.name().octets() == b"b".as_slice()
+}
+
+/// What a follower takes whose clock is corrected.
+const CORRECTIONS: [Row; 6] = [
+    (
+        81_000_000,
+        MASTER,
+        Plain(Kind::MasterUp, 0),
+        &FOLLOWS,
+        81_000_000,
+    ),
+    (
+        82_000_000,
+        MASTER,
+        Timed(Kind::AdjTime, 7, 10_000),
+        &[
+            "correct 10000 slew 82000000",
+            "arm elect 382000007",
+            "post 0 1 ack 7 a",
+        ],
+        82_000_000,
+    ),
+    (
+        82_500_000,
+        MASTER,
+        Timed(Kind::AdjTime, 7, 10_000),
+        &["post 0 1 ack 7 a"],
+        82_502_500,
+    ),
+    (
+        82_999_999,
+        MASTER,
+        Timed(Kind::AdjTime, 8, 1),
+        &[],
+        83_004_998,
+    ),
+    (
+        83_000_000,
+        MASTER,
+        Timed(Kind::AdjTime, 8, 1),
+        &[
+            "correct 1 slew 83005000",
+            "arm elect 383000007",
+            "post 0 1 ack 8 a",
+        ],
+        83_005_000,
+    ),
+    (
+        84_000_000,
+        MASTER,
+        Timed(Kind::SetTime, 9, 100_000_000),
+        &[
+            "correct 15989999 step 100000000",
+            "arm elect 384000007",
+            "post 0 1 ack 9 a",
+        ],
+        100_000_000,
+    ),
+];
+
+/// Lets a port be corrected, and then its node by another port. Whether it searched before, what goes wrong,
+/// and whether it follows its master and remembers both.
+fn corrected(node: &mut Node) -> Result<(bool, Option<usize>, [bool; 2]), Fail>
+    requires { node.old.clock.at ≤ 0 }
+{
+    let searched = searches(node);
+    let wrong = first_wrong(node, &CORRECTIONS)?;
+    let first = remembers(node, 84_000_000) && node.station.role == Role::Follow(PeerId(1));
+    node.last.moved(84_000_001);
+    Ok((searched, wrong, [first, remembers(node, 84_000_001)]))
+}
+
+/// The same at a new node.
+fn tried_correcting(alloc: Global) -> Result<(bool, Option<usize>, [bool; 2]), Fail> {
+    let mut node = node(alloc)?;
+    corrected(&mut node)
+}
+
 #[test]
 fn corrects_once(rt: HostRuntime) -> Result<(), Fail> {
-    let mut node = node(rt.alloc())?;
-    let quiet = [
-        "ring quiet",
-        "become loose",
-        "arm search 85000000",
-        "post 0 1 masterreq 0 a",
-        "post 0 2 masterreq 0 a",
-    ];
-    assert!(rt; are_told(node.pad.acts(), &quiet));
-    let rows: [Row; 6] = [
-        (
-            81_000_000,
-            MASTER,
-            Plain(Kind::MasterUp, 0),
-            &FOLLOWS,
-            81_000_000,
-        ),
-        (
-            82_000_000,
-            MASTER,
-            Timed(Kind::AdjTime, 7, 10_000),
-            &[
-                "correct 10000 slew 82000000",
-                "arm elect 382000007",
-                "post 0 1 ack 7 a",
-            ],
-            82_000_000,
-        ),
-        (
-            82_500_000,
-            MASTER,
-            Timed(Kind::AdjTime, 7, 10_000),
-            &["post 0 1 ack 7 a"],
-            82_502_500,
-        ),
-        (
-            82_999_999,
-            MASTER,
-            Timed(Kind::AdjTime, 8, 1),
-            &[],
-            83_004_998,
-        ),
-        (
-            83_000_000,
-            MASTER,
-            Timed(Kind::AdjTime, 8, 1),
-            &[
-                "correct 1 slew 83005000",
-                "arm elect 383000007",
-                "post 0 1 ack 8 a",
-            ],
-            83_005_000,
-        ),
-        (
-            84_000_000,
-            MASTER,
-            Timed(Kind::SetTime, 9, 100_000_000),
-            &[
-                "correct 15989999 step 100000000",
-                "arm elect 384000007",
-                "post 0 1 ack 9 a",
-            ],
-            100_000_000,
-        ),
-    ];
-    assert_eq!(rt; first_wrong(&mut node, &rows)?, None);
-    assert!(rt; node.station.role == Role::Follow(PeerId(1)));
-    assert!(rt;
-        node.last.tick() == Some(84_000_000) && node.last.name().octets() == b"b".as_slice()
-    );
-    node.last.moved(84_000_001);
-    assert!(rt; node.last.tick() == Some(84_000_001));
+    assert_eq!(rt; tried_correcting(rt.alloc())?, (true, None, [true, true]));
     Ok(())
+}
+
+/// What a follower takes from a peer that is no master of its own.
+const REPORTS: [Row; 6] = [
+    (
+        81_000_000,
+        MASTER,
+        Plain(Kind::MasterUp, 0),
+        &FOLLOWS,
+        81_000_000,
+    ),
+    // A CONFLICT begins to the master, and no second one while it is open.
+    (
+        82_000_000,
+        OTHER,
+        Plain(Kind::MasterAck, 0),
+        &["post 0 1 conflict 32775 a"],
+        82_000_000,
+    ),
+    (82_000_001, OTHER, Plain(Kind::MasterUp, 0), &[], 82_000_001),
+    (
+        82_000_002,
+        MASTER,
+        Plain(Kind::Ack, 32_775),
+        &["acked 1"],
+        82_000_002,
+    ),
+    (
+        82_000_003,
+        OTHER,
+        Plain(Kind::MasterUp, 0),
+        &["post 0 1 conflict 32776 a"],
+        82_000_003,
+    ),
+    // A QUIT is noted and acknowledged, and a follower stays with its master.
+    (
+        83_000_000,
+        OTHER,
+        Plain(Kind::Quit, 40_000),
+        &["quit 2", "post 0 2 ack 40000 a"],
+        83_000_000,
+    ),
+];
+
+/// Lets a follower take them. What goes wrong, and whether it still follows its master, called `b`.
+fn reported(node: &mut Node) -> Result<(Option<usize>, bool), Fail>
+    requires { node.old.clock.at ≤ 0 }
+{
+    let wrong = first_wrong(node, &REPORTS)?;
+    let follows = node.station.role == Role::Follow(PeerId(1));
+    Ok((
+        wrong,
+        follows && node.last.name().octets() == b"b".as_slice(),
+    ))
+}
+
+/// The same at a new node.
+fn tried_reporting(alloc: Global) -> Result<(Option<usize>, bool), Fail> {
+    let mut node = node(alloc)?;
+    reported(&mut node)
 }
 
 #[test]
 fn reports_another_master_and_takes_a_quit(rt: HostRuntime) -> Result<(), Fail> {
-    let mut node = node(rt.alloc())?;
-    let rows: [Row; 6] = [
-        (
-            81_000_000,
-            MASTER,
-            Plain(Kind::MasterUp, 0),
-            &FOLLOWS,
-            81_000_000,
-        ),
-        // A CONFLICT begins to the master, and no second one while it is open.
-        (
-            82_000_000,
-            OTHER,
-            Plain(Kind::MasterAck, 0),
-            &["post 0 1 conflict 32775 a"],
-            82_000_000,
-        ),
-        (82_000_001, OTHER, Plain(Kind::MasterUp, 0), &[], 82_000_001),
-        (
-            82_000_002,
-            MASTER,
-            Plain(Kind::Ack, 32_775),
-            &["acked 1"],
-            82_000_002,
-        ),
-        (
-            82_000_003,
-            OTHER,
-            Plain(Kind::MasterUp, 0),
-            &["post 0 1 conflict 32776 a"],
-            82_000_003,
-        ),
-        // A QUIT is noted and acknowledged, and a follower stays with its master.
-        (
-            83_000_000,
-            OTHER,
-            Plain(Kind::Quit, 40_000),
-            &["quit 2", "post 0 2 ack 40000 a"],
-            83_000_000,
-        ),
-    ];
-    assert_eq!(rt; first_wrong(&mut node, &rows)?, None);
-    assert!(rt; node.station.role == Role::Follow(PeerId(1)));
-    assert!(rt; node.last.name().octets() == b"b".as_slice());
+    assert_eq!(rt; tried_reporting(rt.alloc())?, (None, true));
     Ok(())
 }
 
@@ -248,44 +289,69 @@ const BACKS: Row = (
     81_000_000,
 );
 
+/// Lets a port back a candidate. What goes wrong, and when it waits no longer for it.
+fn backed(node: &mut Node) -> Result<(Option<usize>, Option<u64>), Fail>
+    requires { node.old.clock.at ≤ 0 }
+{
+    let wrong = first_wrong(node, &[BACKS])?;
+    Ok((wrong, node.station.alarms.at(Alarm::Elect)))
+}
+
+/// The same at a new node.
+fn tried_backing(alloc: Global) -> Result<(Option<usize>, Option<u64>), Fail> {
+    let mut node = node(alloc)?;
+    backed(&mut node)
+}
+
 #[test]
 fn waits_for_whom_it_backs(rt: HostRuntime) -> Result<(), Fail> {
-    let mut node = node(rt.alloc())?;
-    let rows: [Row; 1] = [BACKS];
-    assert_eq!(rt; first_wrong(&mut node, &rows)?, None);
-    assert!(rt; node.station.alarms.at(Alarm::Elect) == Some(381_000_007));
+    assert_eq!(rt; tried_backing(rt.alloc())?, (None, Some(381_000_007)));
     Ok(())
+}
+
+/// What a port takes from two candidates.
+const CANDIDATES: [Row; 4] = [
+    BACKS,
+    (
+        140_999_999,
+        MASTER,
+        Plain(Kind::Election, 50_000),
+        &["post 0 1 refuse 50000 a"],
+        140_999_999,
+    ),
+    (
+        140_999_999,
+        MASTER,
+        Plain(Kind::Ack, 50_000),
+        &[],
+        140_999_999,
+    ),
+    (
+        141_000_000,
+        MASTER,
+        Plain(Kind::Election, 50_001),
+        &["back 1", "arm elect 441000007", "post 0 1 accept 50001 a"],
+        141_000_000,
+    ),
+];
+
+/// Lets a port take them. What goes wrong, and whether it is Loose then and may back no other.
+fn held(node: &mut Node) -> Result<(Option<usize>, bool), Fail>
+    requires { node.old.clock.at ≤ 0 }
+{
+    let wrong = first_wrong(node, &CANDIDATES)?;
+    let may = node.station.hold.may_back(141_000_000, PeerId(2));
+    Ok((wrong, node.station.role == Role::Loose && !may))
+}
+
+/// The same at a new node.
+fn tried_holding(alloc: Global) -> Result<(Option<usize>, bool), Fail> {
+    let mut node = node(alloc)?;
+    held(&mut node)
 }
 
 #[test]
 fn backs_one_candidate(rt: HostRuntime) -> Result<(), Fail> {
-    let mut node = node(rt.alloc())?;
-    let rows: [Row; 4] = [
-        BACKS,
-        (
-            140_999_999,
-            MASTER,
-            Plain(Kind::Election, 50_000),
-            &["post 0 1 refuse 50000 a"],
-            140_999_999,
-        ),
-        (
-            140_999_999,
-            MASTER,
-            Plain(Kind::Ack, 50_000),
-            &[],
-            140_999_999,
-        ),
-        (
-            141_000_000,
-            MASTER,
-            Plain(Kind::Election, 50_001),
-            &["back 1", "arm elect 441000007", "post 0 1 accept 50001 a"],
-            141_000_000,
-        ),
-    ];
-    assert_eq!(rt; first_wrong(&mut node, &rows)?, None);
-    assert!(rt; node.station.role == Role::Loose);
-    assert!(rt; !node.station.hold.may_back(141_000_000, PeerId(2)));
+    assert_eq!(rt; tried_holding(rt.alloc())?, (None, true));
     Ok(())
 }

@@ -1,109 +1,188 @@
 //! A station, through each of its calls.
-ghost use Rattle.std.specs.Prelude.{◌≡◌, length, IfOk};
 
+use crate::acts::are_told;
+use crate::node::{Node, PORT};
+use crate::station::Step::{
+    Acknowledged, Answered, Asks, Corrects, Dated, Dates, Repeats, Stands, Warns,
+};
 use std::alloc::{AllocError, Global};
 use std::test::Fail;
-use tsp_acks::me::Me;
-use tsp_acks::station::Station;
-use tsp_base::alarm::Alarm;
 use tsp_base::at::At;
 use tsp_base::desk::Desk;
 use tsp_base::kind::Kind;
 use tsp_base::micros::Micros;
-use tsp_base::name::Name;
-use tsp_base::pad::Pad;
-use tsp_base::place::{PeerId, Place, Port};
+use tsp_base::place::PeerId;
 use tsp_base::role::Role;
-use tsp_sends::Due;
 
-/// A station of peer 2 of three, which booted at tick 5 with the word 7.
-fn station(alloc: Global) -> Result<Station, AllocError>
-    ensures { IfOk result (λ s. length s.peers ≡ 3) }
-{
-    let me = Me {
-        own: PeerId(2),
-        name: Name::empty(),
-        word: 7,
-        may: true,
-        strict: false,
-    };
-    Station::new(alloc, me, &[PeerId(1), PeerId(2), PeerId(4)], 5)
+/// What a station is told to do, or that it hears.
+#[derive(Clone, Copy)]
+enum Step {
+    /// It becomes a candidate.
+    Stands,
+    /// It begins ELECTIONs at this tick.
+    Asks(u32),
+    /// It begins a CONFLICT to its first peer at this tick.
+    Warns(u32),
+    /// It begins a SETDATEREQ of this time to its first peer, at tick 100.
+    Dates(i64),
+    /// It begins an ADJTIME of this time to its first peer, with the number 7, at tick 100.
+    Corrects(i64),
+    /// It hears an ACK of this peer and number.
+    Acknowledged(u32, u16),
+    /// It hears another answer of this peer and number, an ACCEPT say.
+    Answered(u32, u16),
+    /// It hears a DATEACK of this peer and number.
+    Dated(u32, u16),
+    /// It repeats, at this tick, the first due send to a peer after this one.
+    Repeats(Option<u32>, u32),
 }
 
-#[test]
-fn sends_until_answered(rt: HostRuntime) -> Result<(), Fail> {
-    let mut pad = Pad::new(rt.alloc());
-    pad.reserve(20)?;
-    let mut station = station(rt.alloc())?;
-    let port = Port(0);
-    station.become_role(Role::Candidate, port, &mut pad);
-    assert_eq!(rt; station.next_number(), 32_775);
-    // Two ELECTIONs begin, numbered 32775 and 32776, and then a CONFLICT in place of the first.
-    station.begin_to_others(Kind::Election, 100, port, &mut pad);
-    assert_eq!(rt; pad.acts().len(), 3);
-    let first = station.peers()[0];
-    station.begin(Kind::Conflict, first, 200, port, &mut pad);
-    assert_eq!(rt; station.next_number(), 32_778);
-    assert!(rt; station.sends.least() == Some(1_000_100));
-    // An ACK doesn't answer an ELECTION, and an ACCEPT no CONFLICT.
-    assert!(rt; !station.acknowledge(PeerId(4), 32_776, port, &mut pad));
-    assert!(rt; !station.answered(PeerId(1), 32_777, port, &mut pad));
-    assert!(rt; !station.answered(PeerId(4), 32_775, port, &mut pad));
-    assert_eq!(rt; pad.acts().len(), 4);
-    // Both are due a second after they began, and are posted again.
-    assert!(rt;
-        is_again(
-            station.repeat_next(None, 1_000_199, port, &mut pad),
-            PeerId(4)
-        )
-    );
-    assert!(rt;
-        station
-            .repeat_next(Some(PeerId(4)), 1_000_199, port, &mut pad)
-            .is_none()
-    );
-    assert!(rt;
-        is_again(
-            station.repeat_next(None, 1_000_200, port, &mut pad),
-            PeerId(1)
-        )
-    );
-    assert_eq!(rt; pad.acts().len(), 6);
-    assert!(rt; station.answered(PeerId(4), 32_776, port, &mut pad));
-    assert!(rt; station.acknowledge(PeerId(1), 32_777, port, &mut pad));
-    assert_eq!(rt; pad.acts().len(), 8);
-    assert!(rt; station.sends.least().is_none());
+/// A step, its acts as texts of a trace, the number of the next send, and when the next repeat is due.
+type Row = (Step, &'static [&'static str], u16, Option<u64>);
+
+/// Peer 2 of three.
+fn node(alloc: Global) -> Result<Node, Fail> {
+    Node::new(alloc, PeerId(2), &[PeerId(1), PeerId(2), PeerId(4)])
+}
+
+/// Begins a send to the first peer.
+fn begins(node: &mut Node, step: Step) -> Result<(), AllocError> {
+    node.pad.reserve(1)?;
+    let Some(first) = node.peer_at(0) else {
+        return Ok(());
+    };
+    let (station, pad) = (&mut node.station, &mut node.pad);
+    match step {
+        Warns(tick) => station.begin(Kind::Conflict, first, tick as u64, PORT, pad),
+        Dates(time) => {
+            if let Some(time) = Micros::of(time) {
+                station.begin_timed(Kind::SetDateReq, first, time, 100, PORT, pad);
+            }
+        }
+        Corrects(time) => {
+            if let Some(time) = Micros::of(time) {
+                let at = At {
+                    tick: 100,
+                    port: PORT,
+                };
+                station.begin_correction(Kind::AdjTime, first, 7, time, at, pad);
+            }
+        }
+        _ => {}
+    }
     Ok(())
 }
 
-/// Whether a send to this peer was posted again.
-fn is_again(due: Option<Due>, p: PeerId) -> bool {
-    match due {
-        Some(Due::Again(q, _)) => q.0 == p.0,
-        _ => false,
-    }
+/// Lets the station go through a step, and says whether it did anything by its own answer.
+fn goes(node: &mut Node, step: Step) -> Result<bool, AllocError> {
+    node.pad.clear();
+    node.pad.reserve(node.station.peers().len() + 2)?;
+    let (station, pad) = (&mut node.station, &mut node.pad);
+    Ok(match step {
+        Stands => {
+            station.become_role(Role::Candidate, PORT, pad);
+            true
+        }
+        Asks(tick) => {
+            station.begin_to_others(Kind::Election, tick as u64, PORT, pad);
+            true
+        }
+        Acknowledged(peer, number) => station.acknowledge(PeerId(peer), number, PORT, pad),
+        Answered(peer, number) => station.answered(PeerId(peer), number, PORT, pad),
+        Dated(peer, number) => station.dated(PeerId(peer), number, PORT, pad),
+        Repeats(after, tick) => station
+            .repeat_next(after.map(PeerId), tick as u64, PORT, pad)
+            .is_some(),
+        _ => {
+            begins(node, step)?;
+            true
+        }
+    })
 }
+
+/// Goes through steps one after the other. The index of the first row that goes wrong.
+fn first_wrong(node: &mut Node, rows: &[Row]) -> Result<Option<usize>, Fail> {
+    for (i, (step, acts, next, least)) in rows.iter().enumerate() {
+        let did = goes(node, *step)?;
+        let is_told = are_told(node.pad.acts(), acts) && did != acts.is_empty();
+        let is_next = node.station.next_number() == *next && node.station.sends.least() == *least;
+        if !is_told || !is_next {
+            return Ok(Some(i));
+        }
+    }
+    Ok(None)
+}
+
+/// Goes through steps at a new node.
+fn tried(alloc: Global, rows: &[Row]) -> Result<Option<usize>, Fail> {
+    let mut node = node(alloc)?;
+    first_wrong(&mut node, rows)
+}
+
+/// Two ELECTIONs begin, and then a CONFLICT in place of the first. An ACK doesn't answer an ELECTION, and an
+/// ACCEPT no CONFLICT. Both sends are due a second after they began, and are posted again.
+const SENDS: [Row; 11] = [
+    (Stands, &["become candidate"], 32_775, None),
+    (
+        Asks(100),
+        &["post 0 1 election 32775 a", "post 0 4 election 32776 a"],
+        32_777,
+        Some(1_000_100),
+    ),
+    (
+        Warns(200),
+        &["post 0 1 conflict 32777 a"],
+        32_778,
+        Some(1_000_100),
+    ),
+    (Acknowledged(4, 32_776), &[], 32_778, Some(1_000_100)),
+    (Answered(1, 32_777), &[], 32_778, Some(1_000_100)),
+    (Answered(4, 32_775), &[], 32_778, Some(1_000_100)),
+    (
+        Repeats(None, 1_000_199),
+        &["post 0 4 election 32776 a"],
+        32_778,
+        Some(1_000_200),
+    ),
+    (Repeats(Some(4), 1_000_199), &[], 32_778, Some(1_000_200)),
+    (
+        Repeats(None, 1_000_200),
+        &["post 0 1 conflict 32777 a"],
+        32_778,
+        Some(2_000_100),
+    ),
+    (Answered(4, 32_776), &["acked 4"], 32_778, Some(2_000_200)),
+    (Acknowledged(1, 32_777), &["acked 1"], 32_778, None),
+];
+
+#[test]
+fn sends_until_answered(rt: HostRuntime) -> Result<(), Fail> {
+    assert_eq!(rt; tried(rt.alloc(), &SENDS)?, None);
+    Ok(())
+}
+
+/// An ACK doesn't answer a date, and a DATEACK no correction.
+const TIMES: [Row; 6] = [
+    (
+        Dates(-7),
+        &["post 0 1 setdatereq 32775 -7 a"],
+        32_776,
+        Some(1_000_100),
+    ),
+    (Acknowledged(1, 32_775), &[], 32_776, Some(1_000_100)),
+    (Dated(1, 32_775), &["acked 1"], 32_776, None),
+    (
+        Corrects(-7),
+        &["post 0 1 adjtime 7 -7 a"],
+        32_776,
+        Some(1_000_100),
+    ),
+    (Dated(1, 7), &[], 32_776, Some(1_000_100)),
+    (Acknowledged(1, 7), &["acked 1"], 32_776, None),
+];
 
 #[test]
 fn answers_that_end_a_date_and_a_correction(rt: HostRuntime) -> Result<(), Fail> {
-    let mut pad = Pad::new(rt.alloc());
-    pad.reserve(20)?;
-    let mut station = station(rt.alloc())?;
-    let port = Port(0);
-    let Some(time) = Micros::of(-7) else {
-        panic!(rt; "the time is in range");
-    };
-    // An ACK doesn't answer a date, and a DATEACK no correction.
-    let p = station.peers()[0];
-    station.begin_timed(Kind::SetDateReq, p, time, 100, port, &mut pad);
-    assert_eq!(rt; station.next_number(), 32_776);
-    assert!(rt; !station.acknowledge(p, 32_775, port, &mut pad));
-    assert!(rt; station.dated(p, 32_775, port, &mut pad));
-    let p = station.peers()[0];
-    station.begin_correction(Kind::AdjTime, p, 7, time, At { tick: 100, port }, &mut pad);
-    assert_eq!(rt; station.next_number(), 32_776);
-    assert!(rt; !station.dated(p, 7, port, &mut pad));
-    assert!(rt; station.acknowledge(p, 7, port, &mut pad));
-    assert_eq!(rt; pad.acts().len(), 4);
+    assert_eq!(rt; tried(rt.alloc(), &TIMES)?, None);
     Ok(())
 }

@@ -6,7 +6,8 @@ use Rattle.tsp_base.specs.NodeFacts.{ticket, target}
 use Rattle.tsp_base.proofs.PerformsLemmas.{Performs_nothing, Performs_then_part, Performs_else_part}
 use Rattle.tsp_rules.specs.CommonRows.{replies, posts_reply}
 use Rattle.tsp_rules.specs.Guards.{is_in_range}
-use Rattle.tsp_node.proofs.NodeLemmas.{PartStands_stamp}
+use Rattle.tsp_node.specs.NodeStands.{port_with}
+use Rattle.tsp_node.proofs.NodeLemmas.{PortStands_stamp}
 use Rattle.tsp_node.proofs.reply.reply.Goals as goal
 
 pub returns-in-Some-clause-row : goal.returns-in-Some-clause-row
@@ -17,7 +18,7 @@ returns-in-Some-clause-row g c part =
       acts = λ past h.
           let e : c.in-Some.stamp ≡ Reply (record { ticket = ticket (plain past.seen); word = c.args.word; counter = c.args.counter; reading = target (plain past.seen) c.args.tick }) = c.in-Some.ensures.there.1 ∙ (rw (h.clock.ticket_is, h.clock.offset_is) refl) in
           rw e at c.put.ensures.acts;
-      stands = λ past h. PartStands_stamp c.args.from _ c.args.tick past (part, c.args.clock.now) h;
+      stands = λ past h. PortStands_stamp c.args.from _ c.args.tick past (port_with part c.args.clock.now) h;
     })
 
 pub returns-in-None-clause-row : goal.returns-in-None-clause-row

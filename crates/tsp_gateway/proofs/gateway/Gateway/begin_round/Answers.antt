@@ -1,11 +1,12 @@
 -- What the port does is what the node does.
-use Rattle.std.proofs.Common.{true, refl, sym}
+use Rattle.std.proofs.Common.{true, refl, sym, arith}
 use Rattle.tsp_base.specs.declared.alarm.Alarm.TheVariants.{Round}
 use Rattle.tsp_rules.specs.Answers.{rings}
 use Rattle.tsp_rules.specs.GateRows.{alarm_on, begins_round_on, waits}
 use Rattle.tsp_node.proofs.TakeEmits.{emits_rings}
 use Rattle.tsp_gateway.specs.GatewayStands.{port_at}
 use Rattle.tsp_gateway.proofs.LiftLemmas.{All_reading, part_there}
+use Rattle.tsp_gateway.proofs.PlaceLemmas.{peers_there, ports_set}
 use Rattle.tsp_gateway.proofs.TurnLemmas.{All_rung, rings_still}
 use Rattle.tsp_gateway.proofs.gateway.Gateway.begin_round.Goals as goal
 
@@ -15,4 +16,16 @@ returns-clause-row g c =
     let wait = c.any_other-wait.result in
     let there = part_there c.args.self.now c.args.q c.index_mut.result.now c.requires.port c.index_mut.ensures.value in
     All_reading (waits (port_at c.args.q)) (begins_round_on (port_at c.args.q)) wait (λ past h. sym (c.any_other-wait.ensures past h.stands))
-    (All_rung (rings true wait Round) (emits_rings true wait Round) (rings_still true wait Round refl) there refl refl (rw c.port_at.ensures at c.ring.ensures.row))
+    (All_rung c.ring.new.self (rings true wait Round) (emits_rings true wait Round) (rings_still true wait Round refl) there refl refl (rw c.port_at.ensures at c.ring.ensures.row))
+
+pub ring-requires-clause-room : goal.ring-requires-clause-room
+ring-requires-clause-room g c = let many = peers_there c.args.self.now.ports.items c.args.q c.index_mut.result.now (part_there c.args.self.now c.args.q c.index_mut.result.now c.requires.port c.index_mut.ensures.value) in omega (arith, many, c.requires.room)
+
+pub returns-clause-ports : goal.returns-clause-ports
+returns-clause-ports g c = ports_set c.args.self.now.ports.items c.args.q c.index_mut.result.now c.ring.new.self (part_there c.args.self.now c.args.q c.index_mut.result.now c.requires.port c.index_mut.ensures.value) c.ring.ensures.peers
+
+pub returns-clause-room : goal.returns-clause-room
+returns-clause-room g c =
+    let many = peers_there c.args.self.now.ports.items c.args.q c.index_mut.result.now (part_there c.args.self.now c.args.q c.index_mut.result.now c.requires.port c.index_mut.ensures.value) in
+    let room = c.ring.ensures.room in
+    record { spare = omega (arith, many, room.spare); few = omega (arith, many, room.few) }

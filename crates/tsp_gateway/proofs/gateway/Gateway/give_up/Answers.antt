@@ -10,6 +10,7 @@ use Rattle.tsp_rules.specs.GateRows.{loosens_master}
 use Rattle.tsp_rules.specs.Guards.{delay_at, is_master_at}
 use Rattle.tsp_rules.proofs.Emits.{Emits, Emits_arms, Emits_either, Emits_nothing, Emits_puts, Emits_reading, Emits_then}
 use Rattle.tsp_gateway.proofs.LiftLemmas.{All_here, part_there, still_sorts}
+use Rattle.tsp_gateway.proofs.PlaceLemmas.{ports_set}
 use Rattle.tsp_gateway.proofs.gateway.Gateway.give_up.Goals as goal
 
 emits-loosens : Emits still_sorts loosens_master
@@ -19,4 +20,7 @@ emits-loosens = Emits_either is_master_at _ nothing (Emits_then (puts (Become Lo
 pub returns-clause-row : goal.returns-clause-row
 returns-clause-row g c =
     let there = part_there c.args.self.now c.args.q c.index_mut.result.now c.requires.port c.index_mut.ensures.value in
-    All_here emits-loosens there refl refl (rw c.port_at.ensures at (c.loosen.ensures.row c.args.self.now.clock))
+    All_here c.loosen.new.self emits-loosens there refl refl (rw c.port_at.ensures at (c.loosen.ensures.row c.args.self.now.clock))
+
+pub returns-clause-ports : goal.returns-clause-ports
+returns-clause-ports g c = ports_set c.args.self.now.ports.items c.args.q c.index_mut.result.now c.loosen.new.self (part_there c.args.self.now c.args.q c.index_mut.result.now c.requires.port c.index_mut.ensures.value) c.loosen.ensures.peers

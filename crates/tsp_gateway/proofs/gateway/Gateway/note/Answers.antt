@@ -3,8 +3,8 @@ use Rattle.std.proofs.Common.{refl}
 use Rattle.tsp_base.specs.declared.act.Act.TheVariants.{Took}
 use Rattle.tsp_base.specs.Rows.{puts}
 use Rattle.tsp_rules.proofs.Emits.{Emits_puts}
-use Rattle.tsp_node.specs.NodeStands.{TakeStands}
-use Rattle.tsp_node.proofs.NodeLemmas.{PartTook_took, Performs_put}
+use Rattle.tsp_node.specs.NodeStands.{TakeStands, port_with}
+use Rattle.tsp_node.proofs.NodeLemmas.{PortTook_took, Performs_put}
 use Rattle.tsp_gateway.proofs.LiftLemmas.{All_idle}
 use Rattle.tsp_gateway.proofs.gateway.Gateway.note.Goals as goal
 
@@ -15,4 +15,4 @@ returns-clause-row g c =
     let taken = c.args.taken.now in
     All_idle c.requires.port (Emits_puts (Took from taken) refl) (λ x past. refl)
     (λ part there. Performs_put {p = TakeStands} {q = TakeStands} (Took from taken) (rw (c.port_at.ensures, c.copy.ensures) at c.put.ensures.acts)
-    (λ past h. record { first = (PartTook_took from taken c.args.tick past (part, c.args.self.now.clock) h.first).stands; second = h.second }))
+    (λ past h. record { port = (PortTook_took from taken c.args.tick past (port_with part c.args.self.now.clock) h.port).stands; trace = h.trace }))

@@ -1,5 +1,5 @@
 -- A post to each other peer.
-use Rattle.std.proofs.Common.{◌≡◌, ◌∙◌, ap, refl}
+use Rattle.std.proofs.Common.{◌≡◌, ◌∙◌, ap, arith, refl}
 use Rattle.tsp_base.specs.declared.kind.Kind.TheVariants.{Loop}
 use Rattle.tsp_base.specs.Kinds.{carries_hops, carries_time}
 use Rattle.tsp_base.specs.Messages.{MessageValue, body_fits}
@@ -8,6 +8,7 @@ use Rattle.tsp_rules.specs.GateRows.{sends_loops}
 use Rattle.tsp_acks.specs.declared.station.Station.{Station}
 use Rattle.tsp_gateway.specs.GatewayStands.{port_at}
 use Rattle.tsp_gateway.proofs.LiftLemmas.{part_there}
+use Rattle.tsp_gateway.proofs.PlaceLemmas.{station_peers}
 use Rattle.tsp_gateway.proofs.PostLemmas.{All_posted, emits_loops, loops_are}
 use Rattle.tsp_gateway.proofs.gateway.Gateway.send_loops.Goals as goal
 
@@ -24,6 +25,15 @@ returns-clause-row g c x =
     let name = c.copy-name.ensures in
     All_posted q (sends_loops (port_at q)) c.new-message.result kind (emits_loops (port_at q) refl) there (rw (c.port_at.ensures, c.station-station.ensures) at c.repost.ensures.acts)
     (λ past h.
-    let s = h.first.station in
+    let s = h.port.station in
     let one : c.copy-name.result ≡ past.name = name ∙ ap (λ (st : Station). st.me.name) c.station-station.ensures ∙ s.name in
     rw (c.new-message.ensures, one, s.own, s.peers) (loops_are (port_at q) past.name (others past.own past.peers)))
+
+pub repost-requires : goal.repost-requires
+repost-requires g c = let many = station_peers c.args.self.now c.args.q c.index.result.now c.station-station.result.now c.requires.port c.index.ensures c.station-station.ensures in omega (arith, many, c.requires.room)
+
+pub returns-clause-room : goal.returns-clause-room
+returns-clause-room g c =
+    let many = station_peers c.args.self.now c.args.q c.index.result.now c.station-station.result.now c.requires.port c.index.ensures c.station-station.ensures in
+    let room = c.repost.ensures.room in
+    record { spare = omega (arith, many, room.spare); few = omega (arith, many, room.few) }

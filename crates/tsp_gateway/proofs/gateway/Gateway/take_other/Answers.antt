@@ -1,10 +1,11 @@
 -- What the port does is what the node does.
-use Rattle.std.proofs.Common.{true, refl}
+use Rattle.std.proofs.Common.{true, refl, arith}
 use Rattle.tsp_node.specs.NodeStands.{TakeStands}
 use Rattle.tsp_node.proofs.TakeEmits.{emits_takes}
 use Rattle.tsp_rules.specs.NodeRows.{on_port}
 use Rattle.tsp_gateway.specs.GatewayStands.{GatewayStands, port_at}
 use Rattle.tsp_gateway.proofs.LiftLemmas.{All_on, part_there, take_stands}
+use Rattle.tsp_gateway.proofs.PlaceLemmas.{peers_there, ports_set}
 use Rattle.tsp_gateway.proofs.TakeLemmas.{other_still}
 use Rattle.tsp_gateway.proofs.gateway.Gateway.take_other.Goals as goal
 
@@ -14,5 +15,17 @@ returns-clause-row g c =
     let from = c.args.from in
     let taken = c.args.taken.now in
     let there = part_there c.args.self.now q c.index_mut.result.now c.requires.port c.index_mut.ensures.value in
-    All_on {W = GatewayStands} {P = TakeStands} {Q = TakeStands} (emits_takes true true from taken) (λ past w. other_still from taken c.requires.other c.args.tick (on_port (port_at q) past)) refl (λ past w. w)
+    All_on {W = GatewayStands} {P = TakeStands} {Q = TakeStands} c.index_mut.result.now c.take.new.self (emits_takes true true from taken) (λ past w. other_still from taken c.requires.other c.args.tick (on_port (port_at q) past)) refl (λ past w. w)
     (λ past w. take_stands q past c.args.self.now c.index_mut.result.now there w) (λ past t. t) (rw c.port_at.ensures at c.take.ensures.row)
+
+pub take-requires-clause-room : goal.take-requires-clause-room
+take-requires-clause-room g c = let many = peers_there c.args.self.now.ports.items c.args.q c.index_mut.result.now (part_there c.args.self.now c.args.q c.index_mut.result.now c.requires.port c.index_mut.ensures.value) in omega (arith, many, c.requires.room)
+
+pub returns-clause-ports : goal.returns-clause-ports
+returns-clause-ports g c = ports_set c.args.self.now.ports.items c.args.q c.index_mut.result.now c.take.new.self (part_there c.args.self.now c.args.q c.index_mut.result.now c.requires.port c.index_mut.ensures.value) c.take.ensures.peers
+
+pub returns-clause-room : goal.returns-clause-room
+returns-clause-room g c =
+    let many = peers_there c.args.self.now.ports.items c.args.q c.index_mut.result.now (part_there c.args.self.now c.args.q c.index_mut.result.now c.requires.port c.index_mut.ensures.value) in
+    let room = c.take.ensures.room in
+    record { spare = omega (arith, many, room.spare); few = omega (arith, many, room.few) }

@@ -1,5 +1,6 @@
 -- The boot, and then how its life begins.
-use Rattle.std.proofs.Common.{◌≡◌, refl, w64, to_z, of_z, to_z-of_z}
+use Rattle.std.proofs.Common.{◌≡◌, ◌∙◌, ap, arith, length, refl, w64, to_z, of_z, to_z-of_z}
+use Rattle.std.proofs.lemmas.List.{length-append}
 use Rattle.tsp_base.specs.declared.act.Act.TheVariants.{Become, Boot}
 use Rattle.tsp_base.specs.declared.alarm.Alarm.TheVariants.{Quiet}
 use Rattle.tsp_base.specs.declared.constants.TheConstants.{QUIET}
@@ -18,4 +19,12 @@ returns-clause-row g c =
     let back : to_z w64 (of_z w64 c.args.wall) ≡ c.args.wall = to_z-of_z c.ranges.wall in
     let emits : Emits silent_trace (puts (Become Starting) followed_by arms Quiet QUIET) = Emits_then (puts (Become Starting)) (arms Quiet QUIET) (Emits_puts (Become Starting) refl) (Emits_arms Quiet QUIET refl) in
     Performs_then (Performs_put Boot c.put.ensures.acts (λ past h. c.in_ok-node.ensures.stands past (rw back h)))
-    (node_stands refl emits (c.begin.ensures.row c.in_ok-node.node.clock))
+    (node_stands {before = c.in_ok-node.node} refl emits (c.begin.ensures.row c.in_ok-node.node.clock))
+
+pub returns-clause-ok : goal.returns-clause-ok
+returns-clause-ok g c = let ok = c.in_ok-node.ensures.ok in let back : to_z w64 (of_z w64 c.args.wall) ≡ c.args.wall = to_z-of_z c.ranges.wall in (ok.0, rw (← back) ok.1, c.begin.ensures.peers ∙ ok.2, ok.3)
+
+pub returns-clause-room : goal.returns-clause-room
+returns-clause-room g c =
+    let one = ap length c.put.ensures.acts ∙ length-append (g.D.Desk.acts c.args.desk.now) _ in
+    record { spare = omega (arith, c.put.ensures.spare, c.begin.ensures.room.spare); few = omega (arith, one, c.begin.ensures.room.count) }

@@ -12,8 +12,8 @@ returns-clause-stands c past h =
     let back : to_z w64 (of_z w64 c.args.wall) ≡ c.args.wall = to_z-of_z c.ranges.wall in
     let me = c.me.ensures in
     record {
-      first = c.in-Ok-new.ensures.stands past c.args.wall _
+      port = c.in-Ok-new.ensures.stands past c.args.wall _
           (rw (c.me.ensures, c.peers.ensures) (record { own = sym h.of.own; name = sym h.of.name; may = sym h.of.may; strict = sym h.of.strict; peers_are = sym h.of.peers }))
           (rw c.me.ensures h.cause) (c.in-Ok.ensures.stands past (rw back h.cause));
-      second = TraceStands_boot c.args.tick past;
+      trace = TraceStands_boot c.args.tick past;
     }

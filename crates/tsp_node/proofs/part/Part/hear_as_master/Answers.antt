@@ -11,7 +11,7 @@ use Rattle.tsp_master.specs.MasterTakes.{master_takes_here}
 use Rattle.tsp_resolve.proofs.ResolveLemmas.{Performs_resolving}
 use Rattle.tsp_node.proofs.DatesKeeps.{DatesStand_master}
 use Rattle.tsp_node.proofs.EmitsRows.{emits_conflict, emits_finds, emits_master_still, emits_master_takes, emits_resolves}
-use Rattle.tsp_node.proofs.HearLemmas.{master_conflict, master_masterack, master_masterup, master_quit, master_takes-other}
+use Rattle.tsp_node.proofs.HearLemmas.{master_conflict, master_masterack, master_masterup, master_quit, master_takes-other, roles_other}
 use Rattle.tsp_node.proofs.NodeLemmas.{Performs_led, Performs_resolved, Performs_took}
 use Rattle.tsp_node.proofs.part.Part.hear_as_master.Goals as goal
 
@@ -48,5 +48,5 @@ returns-in_default-clause-row g c =
     let m = c.args.m.now in
     let other = c.in_default in
     let take = c.take.ensures.row in
-    rw (master_takes-other p m m.kind c.requires.other (λ e. other.not-Quit (c.kind.ensures ∙ e)) (λ e. other.not-MasterUp (c.kind.ensures ∙ e)) (λ e. other.not-Conflict (c.kind.ensures ∙ e)) (λ e. other.not-MasterAck (c.kind.ensures ∙ e)))
+    rw (master_takes-other p m m.kind (roles_other m.kind c.requires.audience) (λ e. other.not-Quit (c.kind.ensures ∙ e)) (λ e. other.not-MasterUp (c.kind.ensures ∙ e)) (λ e. other.not-Conflict (c.kind.ensures ∙ e)) (λ e. other.not-MasterAck (c.kind.ensures ∙ e)))
     (Performs_led refl refl refl (emits_master_takes p m) (emits_master_still p m) (DatesStand_master p m) take)

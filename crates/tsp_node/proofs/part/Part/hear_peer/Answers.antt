@@ -1,49 +1,85 @@
--- Who is heard is handled by the role, an ACK by every role alike.
-use Rattle.std.proofs.Common.{◌≡◌, true, false, refl, sym, ◌∙◌}
-use Rattle.tsp_base.specs.declared.kind.Kind.TheVariants.{Ack}
-use Rattle.tsp_rules.specs.Answers.{peer_says, says_in}
-use Rattle.tsp_acks.proofs.PeerLemmas.{Contains-among}
-use Rattle.tsp_node.proofs.EmitsRoles.{acking}
-use Rattle.tsp_node.proofs.HearLemmas.{heard_peer, heard_role, hears_by, is_stranger, Performs_by_role, Performs_heard_by, Performs_stranger, Performs_unheard, says_ack}
-use Rattle.tsp_node.proofs.NodeLemmas.{Performs_acknowledged}
+-- Who is heard is handled by the role.
+use Rattle.std.proofs.Common.{◌≡◌, ◌∷◌, ◌∙◌, true, false, refl, sym, ap}
+use Rattle.tsp_base.specs.declared.role.Role.TheVariants.{Candidate, Master}
+use Rattle.tsp_base.specs.Rows.{nothing}
+use Rattle.tsp_rules.specs.Answers.{from_peer, is_left, peer_says, says_in}
+use Rattle.tsp_rules.specs.CandidateRows.{candidate_takes}
+use Rattle.tsp_rules.specs.SlaveRows.{slave_takes}
+use Rattle.tsp_rules.specs.Guards.{is_follow}
+use Rattle.tsp_rules.proofs.Emits.{Acking, Counting, Emits_more}
+use Rattle.tsp_date.proofs.KeepLemmas.{DatesAside_by}
+use Rattle.tsp_master.proofs.TurnLemmas.{MasterStands_idle}
+use Rattle.tsp_resolve.proofs.ResolveLemmas.{ResolveStands_idle, rivalless}
+use Rattle.tsp_node.specs.NodeStands.{port_with}
+use Rattle.tsp_node.proofs.DatesKeeps.{DatesAside_slave}
+use Rattle.tsp_node.proofs.EmitsRoles.{calm_sorts, emits_answers, emits_slave, role_sorts}
+use Rattle.tsp_node.proofs.HearLemmas.{candidate_keeps, heard_awake, heard_peer, is_from, is_hearing, leaves_by, leaves_none, Performs_by_role, Performs_either_way, Performs_heard_at, Performs_kept, Performs_left, Performs_role, Performs_unheard, roles_date, roles_other, says_slave}
+use Rattle.tsp_node.proofs.NodeLemmas.{Performs_heard, Performs_pass, no_lead}
 use Rattle.tsp_node.proofs.part.Part.hear_peer.Goals as goal
 
 pub returns-in_default-clause-row : goal.returns-in_default-clause-row
-returns-in_default-clause-row g c = rw (is_stranger c.args.from c.in_default.not-Peer) (Performs_stranger (peer_says c.args.m.now))
+returns-in_default-clause-row g c =
+    let from = c.args.from in
+    let m = c.args.m.now in
+    Performs_either_way (is_left c.args.terms.steer m.kind) nothing (from_peer from (peer_says m)) Performs_pass (Performs_unheard from (peer_says m) (sym c.in_default.ensures))
 
-pub returns-then-not-hears-clause-row : goal.returns-then-not-hears-clause-row
-returns-then-not-hears-clause-row g c =
-    let heard : hears_by c.args.self.now.station c.in-Peer.p ≡ false = cc in
-    rw c.in-Peer.is (Performs_unheard c.in-Peer.p (peer_says c.args.m.now) heard)
+pub candidate_take-requires-clause-peer : goal.candidate_take-requires-clause-peer
+candidate_take-requires-clause-peer g c = heard_peer c.args.self.now.station c.args.from c.in-Some.p (sym c.in-Some.ensures)
 
-pub acknowledge-requires-clause-peer : goal.acknowledge-requires-clause-peer
-acknowledge-requires-clause-peer g c =
-    let heard : hears_by c.args.self.now.station c.in-Peer.p ≡ true = cc in
-    Contains-among c.in-Peer.p c.args.self.now.station.peers (heard_peer c.args.self.now.station c.in-Peer.p heard)
+pub hear_as_master-requires-clause-peer : goal.hear_as_master-requires-clause-peer
+hear_as_master-requires-clause-peer g c = heard_peer c.args.self.now.station c.args.from c.in-Some.p (sym c.in-Some.ensures)
 
-pub hear_by_role-requires-clause-peer : goal.hear_by_role-requires-clause-peer
-hear_by_role-requires-clause-peer g c =
-    let heard : hears_by c.args.self.now.station c.in-Peer.p ≡ true = cc in
-    Contains-among c.in-Peer.p c.args.self.now.station.peers (heard_peer c.args.self.now.station c.in-Peer.p heard)
+pub slave_take-requires-clause-peer : goal.slave_take-requires-clause-peer
+slave_take-requires-clause-peer g c = heard_peer c.args.self.now.station c.args.from c.in-Some.p (sym c.in-Some.ensures)
 
-pub hear_by_role-requires-clause-other : goal.hear_by_role-requires-clause-other
-hear_by_role-requires-clause-other g c = λ e. c.in_default-kind.not-Ack (c.kind.ensures ∙ e)
-
-pub returns-in-Ack-clause-row : goal.returns-in-Ack-clause-row
-unfolding peer_says
-returns-in-Ack-clause-row g c =
+pub returns-in-Candidate-clause-row : goal.returns-in-Candidate-clause-row
+unfolding peer_says says_in
+returns-in-Candidate-clause-row g c =
+    let x = c.args.terms.at.tick in
+    let from = c.args.from in
+    let m = c.args.m.now in
     let st = c.args.self.now.station in
-    let m = c.args.m.now in
-    let p = c.in-Peer.p in
-    let heard : hears_by st p ≡ true = cc in
-    let ack : m.kind ≡ Ack = sym c.kind.ensures ∙ c.in-Ack.is in
-    let row = rw c.number.ensures at (c.acknowledge.ensures.row c.args.tick) in
-    rw c.in-Peer.is (Performs_heard_by p (peer_says m) heard (Performs_by_role (says_in p m) (rw (says_ack p m st.role ack (heard_role st p heard)) (Performs_acknowledged refl refl refl refl (acking p m.number) row))))
+    let p = c.in-Some.p in
+    let here = port_with c.args.self.now c.args.clock.now in
+    let heard = sym c.in-Some.ensures in
+    let emits = emits_answers p m in
+    rw (is_from st from p heard) (Performs_kept c.args.terms.steer m.kind (leaves_none c.args.terms.steer m.kind st.role (ap is_follow c.in-Candidate.is)) (Performs_heard_at p (peer_says m) (is_hearing st from p heard)
+    (Performs_by_role (says_in p m) (Performs_role p m st.role Candidate c.in-Candidate.is (Performs_heard refl (DatesAside_by (candidate_takes p m) (Emits_more (Acking ∷ Counting ∷ calm_sorts) refl emits)) (roles_date m.kind c.requires.audience)
+    (λ past h s. candidate_keeps p m (roles_other m.kind c.requires.audience) x past c.args.self.now.master (no_lead here Candidate (λ e. let bad : ⊥ = cc in bad) c.in-Candidate.is h) h.master)
+    (λ past h s. ResolveStands_idle x past (candidate_takes p m x past) c.args.self.now.resolve ((Emits_more (Acking ∷ Counting ∷ calm_sorts) {all = rivalless} refl emits).only x past) (no_lead here Candidate (λ e. let bad : ⊥ = cc in bad) c.in-Candidate.is h) h.resolve)
+    c.candidate_take.ensures.row)))))
 
-pub returns-in_default-kind-clause-row : goal.returns-in_default-kind-clause-row
-unfolding peer_says
-returns-in_default-kind-clause-row g c =
+pub returns-in-Master-clause-row : goal.returns-in-Master-clause-row
+unfolding peer_says says_in
+returns-in-Master-clause-row g c =
+    let from = c.args.from in
     let m = c.args.m.now in
-    let p = c.in-Peer.p in
-    let heard : hears_by c.args.self.now.station p ≡ true = cc in
-    rw c.in-Peer.is (Performs_heard_by p (peer_says m) heard (Performs_by_role (says_in p m) c.hear_by_role.ensures.row))
+    let st = c.args.self.now.station in
+    let p = c.in-Some.p in
+    let heard = sym c.in-Some.ensures in
+    rw (is_from st from p heard) (Performs_kept c.args.terms.steer m.kind (leaves_none c.args.terms.steer m.kind st.role (ap is_follow c.in-Master.is)) (Performs_heard_at p (peer_says m) (is_hearing st from p heard)
+    (Performs_by_role (says_in p m) (Performs_role p m st.role Master c.in-Master.is c.hear_as_master.ensures.row))))
+
+pub returns-then-not-leaves-clause-row : goal.returns-then-not-leaves-clause-row
+unfolding peer_says
+returns-then-not-leaves-clause-row g c =
+    let x = c.args.terms.at.tick in
+    let from = c.args.from in
+    let m = c.args.m.now in
+    let st = c.args.self.now.station in
+    let p = c.in-Some.p in
+    let heard = sym c.in-Some.ensures in
+    let other = c.in_default-role in
+    let emits = emits_slave p m (roles_other m.kind c.requires.audience) in
+    let left : leaves_by c.args.terms.steer m.kind st.role ≡ false = let k = c.kind.ensures in cc in
+    rw (is_from st from p heard) (Performs_kept c.args.terms.steer m.kind left (Performs_heard_at p (peer_says m) (is_hearing st from p heard)
+    (Performs_by_role (says_in p m) (rw (says_slave p m st.role (heard_awake st from p heard) other.not-Candidate other.not-Master) (Performs_heard refl (DatesAside_slave p m) (roles_date m.kind c.requires.audience)
+    (λ past h s. MasterStands_idle (slave_takes p m) (Emits_more role_sorts refl emits) x past c.args.self.now.master (λ e. other.not-Master (h.station.role ∙ e)) h.master)
+    (λ past h s. ResolveStands_idle x past (slave_takes p m x past) c.args.self.now.resolve ((Emits_more role_sorts {all = rivalless} refl emits).only x past) (λ e. other.not-Master (h.station.role ∙ e)) h.resolve)
+    c.slave_take.ensures.row)))))
+
+pub returns-else-not-leaves-clause-row : goal.returns-else-not-leaves-clause-row
+returns-else-not-leaves-clause-row g c =
+    let m = c.args.m.now in
+    let left : leaves_by c.args.terms.steer m.kind c.args.self.now.station.role ≡ true = let k = c.kind.ensures in cc in
+    Performs_left c.args.terms.steer m.kind (from_peer c.args.from (peer_says m)) left

@@ -13,6 +13,7 @@ use Rattle.tsp_rules.proofs.Emits.{Alarming, Changing, Emits, Emits_arms, Emits_
 use Rattle.tsp_date.proofs.KeepLemmas.{DatesStand_by}
 use Rattle.tsp_master.specs.Clearing.{Clears}
 use Rattle.tsp_node.specs.Unmarking.{Unmarks}
+use Rattle.tsp_node.specs.NodeStands.{port_with}
 use Rattle.tsp_node.proofs.NodeLemmas.{Performs_station, rivals_part, same_part, slaves_part}
 use Rattle.tsp_node.proofs.part.Part.loosen.Goals as goal
 
@@ -29,9 +30,9 @@ returns-then-leads-clause-row g c clock =
     let clears : Clears (is_master old.station.role && not (is_master new.station.role)) old.master new.master = rw (led, c.part_from.ensures.station) c.part_from.ensures.slaves in
     let unmarks : Unmarks (is_master old.station.role && not (is_master new.station.role)) old.resolve new.resolve = rw (led, c.part_from.ensures.station) c.part_from.ensures.rivals in
     Performs_then_part is_master_at nothing (λ past h. ap is_master (sym h.station.role) ∙ led)
-    (Performs_station {after = (new, clock)} c.part_from.ensures.last refl c.part_from.ensures.dates (Emits_more (Changing ∷ Alarming ∷ []) refl changes_role) (DatesStand_by yields (Emits_more (Changing ∷ Alarming ∷ []) refl changes_role))
-    (λ past h s. slaves_part yields (Emits_more (Changing ∷ Alarming ∷ []) refl changes_role) c.args.tick past (old, clock) (new, clock) clears h s)
-    (λ past h s. rivals_part yields (Emits_more (Changing ∷ Alarming ∷ []) refl changes_role) c.args.tick past (old, clock) (new, clock) unmarks h s)
+    (Performs_station {after = port_with new clock} c.part_from.ensures.last refl c.part_from.ensures.dates (Emits_more (Changing ∷ Alarming ∷ []) refl changes_role) (DatesStand_by yields (Emits_more (Changing ∷ Alarming ∷ []) refl changes_role))
+    (λ past h s. slaves_part yields (Emits_more (Changing ∷ Alarming ∷ []) refl changes_role) c.args.tick past (port_with old clock) (port_with new clock) clears h s)
+    (λ past h s. rivals_part yields (Emits_more (Changing ∷ Alarming ∷ []) refl changes_role) c.args.tick past (port_with old clock) (port_with new clock) unmarks h s)
     (rw (← c.part_from.ensures.station) at (Performs_then (c.become_role.ensures.row c.args.tick) c.arm_elect.ensures.row)))
 
 pub returns-else-leads-clause-row : goal.returns-else-leads-clause-row

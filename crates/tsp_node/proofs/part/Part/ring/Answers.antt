@@ -2,25 +2,26 @@
 use Rattle.std.proofs.Common.{◌≡◌, true, false}
 use Rattle.tsp_base.specs.Alarms.{deadline}
 use Rattle.tsp_rules.specs.Guards.{is_over}
+use Rattle.tsp_node.specs.NodeStands.{port_with}
 use Rattle.tsp_node.proofs.AlarmCases.{Performs_not_due, Performs_now_due, corrects_not_due, corrects_now_due}
 use Rattle.tsp_node.proofs.part.Part.ring.Goals as goal
 
 pub returns-then-not-is_due-clause-row : goal.returns-then-not-is_due-clause-row
 returns-then-not-is_due-clause-row g c =
     let late : is_over (deadline c.args.self.now.station.alarms c.args.alarm) c.args.tick ≡ false = cc in
-    Performs_not_due c.args.group_mean c.args.wait c.args.alarm (c.args.self.now, c.args.clock.now) late
+    Performs_not_due c.args.group_mean c.args.wait c.args.alarm (port_with c.args.self.now c.args.clock.now) late
 
 pub returns-then-not-is_due-clause-corrects : goal.returns-then-not-is_due-clause-corrects
 returns-then-not-is_due-clause-corrects g c =
     let late : is_over (deadline c.args.self.now.station.alarms c.args.alarm) c.args.tick ≡ false = cc in
-    corrects_not_due c.args.tick c.args.group_mean c.args.wait c.args.alarm (c.args.self.now, c.args.clock.now) late
+    corrects_not_due c.args.tick c.args.group_mean c.args.wait c.args.alarm (port_with c.args.self.now c.args.clock.now) late
 
 pub returns-clause-row : goal.returns-clause-row
 returns-clause-row g c =
     let due : is_over (deadline c.args.self.now.station.alarms c.args.alarm) c.args.tick ≡ true = cc in
-    Performs_now_due c.args.group_mean c.args.wait c.args.alarm (c.args.self.now, c.args.clock.now) due c.ring_due.ensures.row
+    Performs_now_due c.args.group_mean c.args.wait c.args.alarm (port_with c.args.self.now c.args.clock.now) due c.ring_due.ensures.row
 
 pub returns-clause-corrects : goal.returns-clause-corrects
 returns-clause-corrects g c =
     let due : is_over (deadline c.args.self.now.station.alarms c.args.alarm) c.args.tick ≡ true = cc in
-    corrects_now_due c.args.tick c.args.group_mean c.args.wait c.args.alarm (c.args.self.now, c.args.clock.now) due _ c.ring_due.ensures.corrects
+    corrects_now_due c.args.tick c.args.group_mean c.args.wait c.args.alarm (port_with c.args.self.now c.args.clock.now) due _ c.ring_due.ensures.corrects

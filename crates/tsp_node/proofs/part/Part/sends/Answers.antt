@@ -9,7 +9,7 @@ use Rattle.tsp_sends.specs.Repeating.{peer_of}
 use Rattle.tsp_acks.proofs.BeyondLemmas.{Splits, Splits-peer, Splits-fewer, beyond, beyond-none, for_each-beyond, for_each-idle, for_each-none}
 use Rattle.tsp_acks.proofs.DueLemmas.{none_before}
 use Rattle.tsp_node.specs.declared.part.Part.{Part}
-use Rattle.tsp_node.specs.NodeStands.{PartBegun}
+use Rattle.tsp_node.specs.NodeStands.{PortBegun, port_with}
 use Rattle.tsp_node.proofs.DueSendLemmas.{Performs_waits}
 use Rattle.tsp_node.proofs.part.Part.sends.Goals as goal
 
@@ -28,11 +28,11 @@ loop-preserved g c =
     let same = c.repeat_next.ensures.peers in
     let after : Part = c.repeat_next.new.self in
     record {
-      row = λ clock last new d. c.loop.invariant.row clock last new (for_each-beyond PartBegun PartBegun PartBegun due_send c.args.tick c.args.port (c.loop.self, clock) (after, clock) (last, clock) (g.D.Desk.acts c.loop.desk) (g.D.Desk.acts c.repeat_next.new.desk) new
+      row = λ clock last new d. c.loop.invariant.row clock last new (for_each-beyond PortBegun PortBegun PortBegun due_send c.args.tick c.args.port (port_with c.loop.self clock) (port_with after clock) (port_with last clock) (g.D.Desk.acts c.loop.desk) (g.D.Desk.acts c.repeat_next.new.desk) new
           c.loop.after p st.peers s
           (λ q later below. Performs_waits q (none_before c.loop.after c.args.tick st.sends after.station.sends c.in-Some.due c.in-Some.ensures.sends q later below))
           (c.in-Some.ensures.row clock)
-          (subst (λ qs. Performs PartBegun PartBegun (for_each due_send (beyond (Some p) qs)) c.args.tick c.args.port (after, clock) (last, clock) (g.D.Desk.acts c.repeat_next.new.desk) new) same (rw c.peer.ensures at d)));
+          (subst (λ qs. Performs PortBegun PortBegun (for_each due_send (beyond (Some p) qs)) c.args.tick c.args.port (port_with after clock) (port_with last clock) (g.D.Desk.acts c.repeat_next.new.desk) new) same (rw c.peer.ensures at d)));
       left = rw (c.peer.ensures, same) (omega (arith, Splits-fewer c.loop.after p st.peers s, c.loop.invariant.left));
       peers = same ∙ c.loop.invariant.peers;
       room = record { spare = omega (arith, c.loop.invariant.room.spare, c.repeat_next.ensures.room.spare); few = omega (arith, c.loop.invariant.room.few, c.repeat_next.ensures.room.few) };
@@ -45,7 +45,7 @@ returns-in_default-clause-row g c clock =
     let none = c.in_default.ensures.sends in
     Performs_reading peers_at (for_each due_send) c.args.self.now.station.peers (λ past h. sym h.stands.station.peers)
     (rw (c.in_default.ensures.same.0, c.in_default.ensures.same.1) (c.loop.invariant.row clock c.loop.self (g.D.Desk.acts c.loop.desk)
-    (for_each-idle PartBegun due_send c.args.tick c.args.port (c.loop.self, clock) (g.D.Desk.acts c.loop.desk) c.loop.after st.peers
+    (for_each-idle PortBegun due_send c.args.tick c.args.port (port_with c.loop.self clock) (g.D.Desk.acts c.loop.desk) c.loop.after st.peers
     (λ q later. Performs_waits q (none.0 q later)))))
 
 pub returns-clause-row : goal.returns-clause-row
@@ -54,4 +54,4 @@ returns-clause-row g c clock =
     let st = c.loop.self.station in
     let none : length (beyond c.loop.after st.peers) ≡ zero = omega (arith, c.loop.invariant.left, ap length c.loop.invariant.peers, ap length c.peers-end.ensures.value) in
     Performs_reading peers_at (for_each due_send) c.args.self.now.station.peers (λ past h. sym h.stands.station.peers)
-    (c.loop.invariant.row clock c.loop.self (g.D.Desk.acts c.loop.desk) (for_each-none PartBegun due_send c.args.tick c.args.port (c.loop.self, clock) (g.D.Desk.acts c.loop.desk) (beyond c.loop.after st.peers) none))
+    (c.loop.invariant.row clock c.loop.self (g.D.Desk.acts c.loop.desk) (for_each-none PortBegun due_send c.args.tick c.args.port (port_with c.loop.self clock) (g.D.Desk.acts c.loop.desk) (beyond c.loop.after st.peers) none))

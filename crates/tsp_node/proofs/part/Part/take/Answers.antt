@@ -5,8 +5,8 @@ use Rattle.tsp_base.specs.declared.act.Act.TheVariants.{Took}
 use Rattle.tsp_base.specs.Performs.{Performs}
 use Rattle.tsp_base.proofs.PerformsLemmas.{Performs_then}
 use Rattle.tsp_rules.specs.Answers.{takes}
-use Rattle.tsp_node.specs.NodeStands.{TakeStands, TookStands}
-use Rattle.tsp_node.proofs.NodeLemmas.{Performs_put, PartTook_took}
+use Rattle.tsp_node.specs.NodeStands.{TakeStands, TookStands, port_with, traced_with}
+use Rattle.tsp_node.proofs.NodeLemmas.{Performs_put, PortTook_took}
 use Rattle.tsp_node.proofs.TakeEmits.{emits_takes}
 use Rattle.tsp_node.proofs.TicketLemmas.{put_few, ticket_tells}
 use Rattle.tsp_node.proofs.part.Part.take.Goals as goal
@@ -18,16 +18,16 @@ returns-clause-row g c =
     let taken = c.args.taken.now in
     Performs_then
     (Performs_put {p = TakeStands} {q = TookStands (record { from = from; taken = taken })} (Took from taken) (rw c.copy.ensures at c.put.ensures.acts)
-    (λ past h. record { first = PartTook_took from taken c.args.tick past (c.args.self.now, c.args.clock.now) h.first; second = h.second }))
+    (λ past h. record { port = PortTook_took from taken c.args.tick past (port_with c.args.self.now c.args.clock.now) h.port; trace = h.trace }))
     c.handle.ensures.row
 
 pub returns-clause-corrects : goal.returns-clause-corrects
 returns-clause-corrects g c past h =
-    let row : Performs TakeStands TakeStands (takes c.args.steer c.args.charge c.args.from c.args.taken.now) c.args.tick c.args.port ((c.args.self.now, c.args.clock.now), c.args.tracing.now)
-    ((c.handle.new.self, c.handle.new.clock), c.handle.new.tracing) (g.D.Desk.acts c.args.desk.now) (g.D.Desk.acts c.handle.new.desk) = returns-clause-row g c in
+    let row : Performs TakeStands TakeStands (takes c.args.steer c.args.charge c.args.from c.args.taken.now) c.args.tick c.args.port (traced_with c.args.self.now c.args.clock.now c.args.tracing.now)
+    (traced_with c.handle.new.self c.handle.new.clock c.handle.new.tracing) (g.D.Desk.acts c.args.desk.now) (g.D.Desk.acts c.handle.new.desk) = returns-clause-row g c in
     let one = ap length c.put.ensures.acts ∙ length-append (g.D.Desk.acts c.args.desk.now) _ in
     let put = put_few (2 * length c.args.self.now.station.peers + 16) c.args.port (g.D.Desk.acts c.args.desk.now) (g.D.Desk.acts c.handle.new.desk) _ (row.acts past h) (omega (arith, one, c.handle.ensures.room.few)) in
     let few = c.peers-peers.ensures.valid.few in
     let tells = ticket_tells (takes c.args.steer c.args.charge c.args.from c.args.taken.now c.args.tick past) ((emits_takes c.args.steer c.args.charge c.args.from c.args.taken.now).only c.args.tick past) (omega (arith, put, few)) c.args.tick past
-    c.args.clock.now c.handle.new.clock h.first.clock (row.stands past h).first.clock in
+    c.args.clock.now c.handle.new.clock h.port.clock (row.stands past h).port.clock in
     rw (c.ticket.ensures.value, c.ticket-ticket.ensures.value) tells

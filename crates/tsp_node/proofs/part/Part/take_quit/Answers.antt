@@ -6,6 +6,7 @@ use Rattle.tsp_rules.proofs.Emits.{Emits_more}
 use Rattle.tsp_date.proofs.KeepLemmas.{DatesAside_by}
 use Rattle.tsp_master.specs.Clearing.{Clears}
 use Rattle.tsp_node.specs.Unmarking.{Unmarks}
+use Rattle.tsp_node.specs.NodeStands.{port_with}
 use Rattle.tsp_node.proofs.EmitsRoles.{calm_sorts, emits_quits}
 use Rattle.tsp_node.proofs.HearLemmas.{roles_date}
 use Rattle.tsp_node.proofs.NodeLemmas.{Performs_heard, rivals_part, slaves_part}
@@ -23,6 +24,6 @@ returns-clause-row g c =
     let unmarks : Unmarks (is_master c.args.self.now.station.role && not (is_master new.station.role)) c.args.self.now.resolve new.resolve = rw (led, c.part_from.ensures.station) c.part_from.ensures.rivals in
     let row = rw (← c.part_from.ensures.station, ← c.part_from.ensures.last) at c.take_quit.ensures.row in
     Performs_heard c.part_from.ensures.dates (DatesAside_by (quits p m.number) (Emits_more calm_sorts refl emits)) (roles_date m.kind c.requires.audience)
-    (λ past h s. slaves_part (quits p m.number) (Emits_more calm_sorts refl emits) x past (c.args.self.now, c.args.clock.now) (new, c.args.clock.now) clears h s)
-    (λ past h s. rivals_part (quits p m.number) (Emits_more calm_sorts refl emits) x past (c.args.self.now, c.args.clock.now) (new, c.args.clock.now) unmarks h s)
+    (λ past h s. slaves_part (quits p m.number) (Emits_more calm_sorts refl emits) x past (port_with c.args.self.now c.args.clock.now) (port_with new c.args.clock.now) clears h s)
+    (λ past h s. rivals_part (quits p m.number) (Emits_more calm_sorts refl emits) x past (port_with c.args.self.now c.args.clock.now) (port_with new c.args.clock.now) unmarks h s)
     (λ took is. row took (rw is refl))

@@ -1,6 +1,7 @@
 -- What the station does, and what the slaves and the rivals become.
 use Rattle.std.proofs.Common.{refl}
 use Rattle.tsp_rules.specs.CommonRows.{tests}
+use Rattle.tsp_node.specs.NodeStands.{port_with}
 use Rattle.tsp_node.proofs.DatesKeeps.{DatesStand_tests}
 use Rattle.tsp_node.proofs.EmitsRows.{emits_tests_beside, emits_tests_here}
 use Rattle.tsp_node.proofs.NodeLemmas.{Performs_acting_by, rivals_part, slaves_part}
@@ -12,7 +13,7 @@ returns-clause-row g c r clock =
     let number = c.args.number in
     let row = rw (← c.part_from.ensures.station) at c.take_test.ensures.row in
     let emits = emits_tests_here from number in
-    Performs_acting_by {after = (c.part_from.new.self, clock)} c.part_from.ensures.last refl c.part_from.ensures.dates (emits_tests_beside from number) (DatesStand_tests from number)
-    (λ past h s. slaves_part (tests from number) emits c.args.tick past (c.args.self.now, clock) (c.part_from.new.self, clock) (rw (c.leads-led.ensures, ← c.part_from.ensures.station) at c.part_from.ensures.slaves) h s)
-    (λ past h s. rivals_part (tests from number) emits c.args.tick past (c.args.self.now, clock) (c.part_from.new.self, clock) (rw (c.leads-led.ensures, ← c.part_from.ensures.station) at c.part_from.ensures.rivals) h s)
+    Performs_acting_by {after = port_with c.part_from.new.self clock} c.part_from.ensures.last refl c.part_from.ensures.dates (emits_tests_beside from number) (DatesStand_tests from number)
+    (λ past h s. slaves_part (tests from number) emits c.args.tick past (port_with c.args.self.now clock) (port_with c.part_from.new.self clock) (rw (c.leads-led.ensures, ← c.part_from.ensures.station) at c.part_from.ensures.slaves) h s)
+    (λ past h s. rivals_part (tests from number) emits c.args.tick past (port_with c.args.self.now clock) (port_with c.part_from.new.self clock) (rw (c.leads-led.ensures, ← c.part_from.ensures.station) at c.part_from.ensures.rivals) h s)
     row
