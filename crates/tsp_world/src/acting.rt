@@ -144,8 +144,22 @@ impl World {
         self.lines.clear();
     }
 
-    /// Notes the acts on the desk, which a node put at an event. The event's time was noted before.
+    /// Notes an event, at which a node put the acts on the desk, if it put any. The event's time was noted before.
     fn note(&mut self, node: u32, tick: u64)
+        requires { CanNote self.old }
+        ensures { Notes self.old.last node tick self.old.header self.old.nodes.items self.old.events
+            self.old.sent.items (acts_on self.old.desk) self.new }
+    {
+        if self.desk.lines.is_empty() {
+            self.events += 1;
+            self.lines.clear();
+        } else {
+            self.note_acts(node, tick);
+        }
+    }
+
+    /// The same where there are acts.
+    fn note_acts(&mut self, node: u32, tick: u64)
         requires { CanNote self.old }
         ensures { Notes self.old.last node tick self.old.header self.old.nodes.items self.old.events
             self.old.sent.items (acts_on self.old.desk) self.new }

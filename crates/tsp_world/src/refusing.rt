@@ -37,7 +37,10 @@ impl World {
         ensures room { result ≡ room (ports_on node (networks self.now.header)) }
         ensures few { result ≤ 200000 }
     {
-        room_of(self.networks(), node)
+        match self.rooms.get(node as usize) {
+            Some(kept) => *kept,
+            None => room_of(self.networks(), node),
+        }
     }
 
     /// The first cause for which a boot is refused at a node, whose step may put so many acts.

@@ -2,10 +2,12 @@
 ghost use Rattle.std.specs.Prelude.{◌≡◌, ◌≤◌, [], ◌∷◌, List, true, length, vec_len, IfOk, OnOk};
 ghost use Rattle.std.specs.Prelude.{OnErr, MatchResult, slice_get, None};
 ghost use Rattle.tsp_base.specs.Headers.{is_whole};
+ghost use Rattle.tsp_run.specs.Networks.{networks};
+ghost use Rattle.tsp_world.specs.Configs.{AreRooms};
 ghost use Rattle.tsp_world.specs.NodesReady.{NodesReady};
 
 use crate::posts::Posts;
-use crate::setup::configs_of;
+use crate::setup::{configs_of, rooms_of};
 use crate::sheet::Sheet;
 use std::alloc::{AllocError, Global};
 use tsp_base::desk::Desk;
@@ -27,6 +29,8 @@ pub struct World {
     pub(crate) one: Vec<Members>,
     /// The configuration of each node.
     pub(crate) configs: Vec<GateConfig>,
+    /// How many acts a step of each node may put.
+    pub(crate) rooms: Vec<u64>,
     /// The nodes that are up, each in its place.
     pub(crate) nodes: Vec<Option<Gateway>>,
     /// The datagrams that were posted, each under its number.
@@ -40,6 +44,7 @@ pub struct World {
     /// The time of the last event, in microseconds.
     pub(crate) last: u64,
     ghost places: { vec_len nodes ≡ length header.nodes },
+    ghost rooms_are: { AreRooms (networks header) rooms.items },
     ghost few_events: { events ≤ 200000 },
     ghost few_posts: { length sent.items ≤ 1000000 },
     ghost ready: { NodesReady header one.items nodes.items configs.items last },
@@ -65,6 +70,8 @@ impl World {
     {
         let one = all_nodes(alloc, header.nodes().len() as u32)?;
         let configs = configs_of(alloc, &header, networks_of(&header, one.as_slice()))?;
+        let nets = networks_of(&header, one.as_slice());
+        let rooms = rooms_of(alloc, header.nodes().len() as u32, nets)?;
         let mut nodes = Vec::new(alloc);
         for _ in header.nodes() {
             nodes.push(None)?;
@@ -74,6 +81,7 @@ impl World {
             header,
             one,
             configs,
+            rooms,
             nodes,
             sent: Posts::new(alloc),
             lines: Vec::new(alloc),
