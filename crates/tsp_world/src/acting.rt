@@ -1,22 +1,17 @@
 //! What an event of a world does that nothing refuses: one of its nodes acts, or none.
-ghost use Rattle.std.specs.Prelude.{◌≡◌, ℕ, ◌≤◌, ◌<◌, ◌+◌, ◌^◌, length, vec_len, slice_get, Some, OnOk, OnErr};
+ghost use Rattle.std.specs.Prelude.{◌≡◌, ◌≤◌, ◌<◌, ◌+◌, ◌^◌, length, vec_len, slice_get, Some, OnOk, OnErr};
 ghost use Rattle.tsp_base.specs.declared.event.Event.{Event};
 ghost use Rattle.tsp_base.specs.declared.datagram.Taken.{Taken};
 ghost use Rattle.tsp_base.specs.declared.place.Place.{Place};
 ghost use Rattle.tsp_base.specs.Headers.{Keeps};
 ghost use Rattle.tsp_base.specs.Ticks.{tick_at};
-ghost use Rattle.tsp_codec.specs.Numbers.{octet_at};
-ghost use Rattle.tsp_codec.specs.Taken.{taken_of};
 ghost use Rattle.tsp_rules.specs.GateRows.{GotOn, answers_all};
-ghost use Rattle.tsp_run.specs.declared.posted.Posted.{Posted};
 ghost use Rattle.tsp_run.specs.Networks.{networks, ports_on, room};
-ghost use Rattle.tsp_run.specs.Refusals.{Allowed, actor};
+ghost use Rattle.tsp_run.specs.Refusals.{Allowed};
 ghost use Rattle.tsp_run.specs.Run.{goes_to};
 ghost use Rattle.tsp_run.specs.Setup.{node_line};
-ghost use Rattle.tsp_world.specs.NodesReady.{wanted};
 ghost use Rattle.tsp_world.specs.Sheets.{acts_on};
 ghost use Rattle.tsp_world.specs.WorldStands.{scene_of, IsReady, Happens, HappensBy, Stays, CanNote, Notes, Passes};
-
 use crate::step;
 use crate::tell::{send, tell};
 use crate::world::World;
