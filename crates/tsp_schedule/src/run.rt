@@ -1,9 +1,9 @@
 //! The part of a schedule after its header.
-ghost use Rattle.std.specs.Prelude.{◌≡◌, ◌≢◌, ◌≤◌, ◌<◌, ℕ, List, [], ◌∷◌, length, true, false};
+ghost use Rattle.std.specs.Prelude.{◌≡◌, ◌≢◌, ◌≤◌, ◌<◌, ℕ, List, [], length, true, false};
 ghost use Rattle.std.specs.Prelude.{IfOk, MatchOption, MatchResult, None, Err};
-ghost use Rattle.tsp_base.specs.Headers.{HeaderValue, is_whole};
+ghost use Rattle.tsp_base.specs.Headers.{is_whole};
 ghost use Rattle.tsp_base.specs.declared.event.Event.{Event};
-ghost use Rattle.tsp_schedule.specs.Schedules.{IsEnded, Lacks, Progress, Refuses, Running};
+ghost use Rattle.tsp_schedule.specs.Schedules.{IsEnded, Lacks, Progress, Refuses};
 ghost use Rattle.tsp_schedule.specs.Stages.{Halts, ReadsOn, RunAdvances, RunStands, Treats};
 ghost use Rattle.tsp_script.specs.Plains.{event_in};
 ghost use Rattle.tsp_script.specs.Schedules.{IsEvent};
