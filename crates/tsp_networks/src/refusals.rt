@@ -65,16 +65,25 @@ fn unknown_place(nodes: u32, from: Place) -> Option<EventFault>
     }
 }
 
-/// `NoNode` where the node doesn't have this port.
-fn lacks_port(nodes: u32, nets: &[Members], n: u32, port: Port) -> Option<EventFault>
+/// `NoNode` exactly where no node has this number, or it doesn't have this port on these networks, or the sender
+/// isn't a node. It has the number of the first of these that is wrong (for a port, of its node), and how many nodes
+/// there are.
+pub fn absent(
+    nodes: u32,
+    nets: &[Members],
+    node: u32,
+    port: Port,
+    from: Place,
+) -> Option<EventFault>
     requires { length nets.now ≤ 64 }
-    ensures { (s : Scene) → s.nodes ≡ nodes → s.networks ≡ nets.now → result ≡ lacks_port s n port }
+    ensures { (s : Scene) → s.nodes ≡ nodes → s.networks ≡ nets.now → result
+        ≡ first_of (unknown nodes node) (first_of (lacks_port s node port)
+        (unknown_place nodes from)) }
 {
-    if (port.0 as usize) < port_count(nets, n) {
-        None
-    } else {
-        Some(EventFault::NoNode(n, nodes))
+    if node >= nodes || (port.0 as usize) >= port_count(nets, node) {
+        return Some(EventFault::NoNode(node, nodes));
     }
+    unknown_place(nodes, from)
 }
 
 /// `NoNode` exactly where an event names a node that doesn't exist, a port that its node doesn't have on
@@ -93,13 +102,7 @@ pub fn no_node(nodes: u32, nets: &[Members], e: &Event) -> Option<EventFault>
             port,
             from,
             ..
-        } => {
-            let later = first_of(
-                lacks_port(nodes, nets, *node, *port),
-                unknown_place(nodes, *from),
-            );
-            first_of(unknown(nodes, *node), later)
-        }
+        } => absent(nodes, nets, *node, *port, *from),
     }
 }
 

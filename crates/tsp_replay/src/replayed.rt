@@ -4,6 +4,7 @@ use std::alloc::{AllocError, Global};
 use tsp_base::event::{Event, EventFault};
 use tsp_base::header::Header;
 use tsp_schedule::handler::EventHandler;
+use tsp_script::plain::Plain;
 use tsp_world::world::World;
 
 /// The world of a replay.
@@ -30,5 +31,13 @@ impl EventHandler for Replayed {
 
     fn event(&mut self, e: &Event) -> Result<(), EventFault> {
         self.world.event(e)
+    }
+
+    fn plain(&mut self, plain: &Plain) -> Result<(), EventFault> {
+        match plain {
+            Plain::Boot { at, node, word } => self.world.boot(*at, *node, *word),
+            Plain::Turn { at, node } => self.world.turn(*at, *node),
+            Plain::Take { at, datagram } => self.world.take(*at, *datagram),
+        }
     }
 }

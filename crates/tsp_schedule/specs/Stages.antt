@@ -1,5 +1,6 @@
 -- What a stage of the reading of a schedule stands for.
-use Rattle.std.specs.Prelude.{◌≡◌, ◌⊎◌, ℕ, true, false, List, [], reverse, Some, codes}
+use Rattle.std.specs.Prelude.{◌≡◌, ◌⊎◌, ℕ, true, false, List, [], ◌∷◌, reverse, None, Some, codes, MatchResult}
+use Rattle.std.specs.declared.result.Result.{Result}
 use Rattle.tsp_base.specs.declared.event.Event.{Event}
 use Rattle.tsp_base.specs.declared.event.EventFault.{EventFault}
 use Rattle.tsp_base.specs.declared.event.EventFault.TheVariants.{TimeBack, NoNode, NoDatagram, NotUp, Limit as NoRoom, OutOfMemory as NoMemory}
@@ -86,3 +87,13 @@ StopsFor (NotUp a) (Bad cause) = IsCause (NotUp a) cause
 StopsFor (NoRoom a b) Limit = Unit {0}
 StopsFor NoMemory OutOfMemory = Unit {0}
 StopsFor _ _ = ⊥
+
+-- a line after the header was read where the last line wasn't read yet: it was accepted, or refused
+abbrev pub ReadsOn : {C : Type 0} → Refusing → (HeaderValue → List Event → C → Type 0) → Run C → List ℕ → Run C → Result (Unit {0}) Stop → Type 0
+ReadsOn refused stands old line new result = (header : HeaderValue) (events : List Event) → stands header events old.course →
+    MatchResult result (λ _. RunAdvances refused stands (Running header events) line new) (Halts refused (Running header events) line)
+
+-- an event was treated: it happened, or was refused
+abbrev pub Treats : {C : Type 0} → Refusing → (HeaderValue → List Event → C → Type 0) → Run C → Event → Run C → Result (Unit {0}) Stop → Type 0
+Treats refused stands old e new result = (header : HeaderValue) (events : List Event) → stands header events old.course →
+    MatchResult result (λ _. (refused header events e ≡ None) × stands header (e ∷ events) new.course) (HaltsEvent refused header events e)

@@ -4,11 +4,13 @@ ghost use Rattle.tsp_base.specs.Headers.{HeaderValue, is_whole};
 ghost use Rattle.tsp_base.specs.declared.event.Event.{Event};
 ghost use Rattle.tsp_schedule.specs.Refusing.{Refusing};
 ghost use Rattle.tsp_run.specs.Refusals.{IsRefusal};
+ghost use Rattle.tsp_script.specs.Plains.{event_in};
 ghost use Rattle.tsp_script.specs.Schedules.{IsEvent};
 
 use std::alloc::{AllocError, Global};
 use tsp_base::event::{Event, EventFault};
 use tsp_base::header::Header;
+use tsp_script::plain::Plain;
 
 /// A handler of a schedule's events. It gets the header once, and then one event after the other.
 pub trait EventHandler: Drop {
@@ -33,4 +35,17 @@ pub trait EventHandler: Drop {
         ensures fault { (header : HeaderValue) (events : List Event) → stands header events self.old
             → MatchResult result (λ _. refused header events e.now ≡ None)
             (λ f. IsRefusal (refused header events e.now) f) };
+
+    /// Does as `event` does with an event without octets. A handler of its own for these needs no room for octets.
+    fn plain(&mut self, plain: &Plain) -> Result<(), EventFault>
+        requires { IsEvent (event_in plain.now) }
+        ensures happens { (header : HeaderValue) (events : List Event)
+            → stands header events self.old
+            → OnOk result (stands header (event_in plain.now ∷ events) self.new) }
+        ensures fault { (header : HeaderValue) (events : List Event) → stands header events self.old
+            → MatchResult result (λ _. refused header events (event_in plain.now) ≡ None)
+            (λ f. IsRefusal (refused header events (event_in plain.now)) f) }
+    {
+        self.event(&plain.event())
+    }
 }

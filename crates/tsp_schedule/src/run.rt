@@ -1,10 +1,11 @@
 //! The part of a schedule after its header.
-ghost use Rattle.std.specs.Prelude.{◌≡◌, ◌≢◌, ◌≤◌, ◌<◌, ℕ, List, [], ◌∷◌, length, true, false};
+ghost use Rattle.std.specs.Prelude.{◌≡◌, ◌≢◌, ◌≤◌, ◌<◌, ℕ, List, [], length, true, false};
 ghost use Rattle.std.specs.Prelude.{IfOk, MatchOption, MatchResult, None, Err};
-ghost use Rattle.tsp_base.specs.Headers.{HeaderValue, is_whole};
+ghost use Rattle.tsp_base.specs.Headers.{is_whole};
 ghost use Rattle.tsp_base.specs.declared.event.Event.{Event};
-ghost use Rattle.tsp_schedule.specs.Schedules.{IsEnded, Lacks, Progress, Refuses, Running};
-ghost use Rattle.tsp_schedule.specs.Stages.{Halts, HaltsEvent, RunAdvances, RunStands};
+ghost use Rattle.tsp_schedule.specs.Schedules.{IsEnded, Lacks, Progress, Refuses};
+ghost use Rattle.tsp_schedule.specs.Stages.{Halts, ReadsOn, RunAdvances, RunStands, Treats};
+ghost use Rattle.tsp_script.specs.Plains.{event_in};
 ghost use Rattle.tsp_script.specs.Schedules.{IsEvent};
 
 use crate::faults::stop_of;
@@ -15,6 +16,7 @@ use tsp_base::header::Header;
 use tsp_lines::cause::Cause;
 use tsp_lines::treatment::Stop;
 use tsp_script::event_line::{EventItem, event_line, plain_line};
+use tsp_script::plain::Plain;
 
 /// The line of a turn or a take is at most so long; a longer one isn't tried as such.
 const PLAIN: usize = 45;
@@ -82,16 +84,13 @@ impl<C: EventHandler> Run<C> {
     /// Reads a line where the last line wasn't read yet.
     fn go_on(&mut self, line: &[u8]) -> Result<(), Stop>
         requires { self.old.over ≡ false }
-        ensures next { (header : HeaderValue) (events : List Event)
-            → C.stands header events self.old.course
-            → MatchResult result (λ _. RunAdvances C.refused C.stands (Running header events)
-            line.now self.new) (Halts C.refused (Running header events) line.now) }
+        ensures next { ReadsOn C.refused C.stands self.old line.now self.new result }
         ensures kind { result ≢ Err Stop.WriteFault }
     {
         // The most frequent events have no octets, and short lines, so that they are cheap to read.
         if line.len() <= PLAIN {
             if let Some(plain) = plain_line(line) {
-                return self.happen(&plain.event());
+                return self.happen_plain(&plain);
             }
         }
         self.any(line)
@@ -101,10 +100,7 @@ impl<C: EventHandler> Run<C> {
     /// each call clears that room.
     fn any(&mut self, line: &[u8]) -> Result<(), Stop>
         requires { self.old.over ≡ false }
-        ensures next { (header : HeaderValue) (events : List Event)
-            → C.stands header events self.old.course
-            → MatchResult result (λ _. RunAdvances C.refused C.stands (Running header events)
-            line.now self.new) (Halts C.refused (Running header events) line.now) }
+        ensures next { ReadsOn C.refused C.stands self.old line.now self.new result }
         ensures kind { result ≢ Err Stop.WriteFault }
     {
         match event_line(line) {
@@ -120,15 +116,23 @@ impl<C: EventHandler> Run<C> {
     /// Lets an event happen.
     fn happen(&mut self, e: &Event) -> Result<(), Stop>
         requires { IsEvent e.now }
-        ensures next { (header : HeaderValue) (events : List Event)
-            → C.stands header events self.old.course
-            → MatchResult result (λ _. (C.refused header events e.now ≡ None)
-            × C.stands header (e.now ∷ events) self.new.course) (HaltsEvent C.refused header events
-            e.now) }
+        ensures next { Treats C.refused C.stands self.old e.now self.new result }
         ensures over { self.new.over ≡ self.old.over }
         ensures kind { result ≢ Err Stop.WriteFault }
     {
         match self.course.event(e) {
+            Ok(()) => Ok(()),
+            Err(fault) => Err(stop_of(fault)),
+        }
+    }
+    /// Lets an event without octets happen.
+    fn happen_plain(&mut self, plain: &Plain) -> Result<(), Stop>
+        requires { IsEvent (event_in plain.now) }
+        ensures next { Treats C.refused C.stands self.old (event_in plain.now) self.new result }
+        ensures over { self.new.over ≡ self.old.over }
+        ensures kind { result ≢ Err Stop.WriteFault }
+    {
+        match self.course.plain(plain) {
             Ok(()) => Ok(()),
             Err(fault) => Err(stop_of(fault)),
         }

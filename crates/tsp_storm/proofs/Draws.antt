@@ -147,6 +147,10 @@ next-chosen header events v posted (Asked k) w same is other = absurd (other k r
 pub given-back : (e : Event) (w : StormValue) (r : Event × StormValue) → (Gives e, w) ≡ as_event r → (e, w) ≡ r
 given-back e w (f, x) is = let event : Gives e ≡ Gives f = ap (λ (d : Draw × StormValue). d.0) is in let storm : w ≡ x = ap (λ (d : Draw × StormValue). d.1) is in let same : e ≡ f = cc in cc
 
+-- a draw that gives what comes next gives its event
+pub given-next : (d : Draw) (w : StormValue) (r : Event × StormValue) → (d, w) ≡ as_event r → (d ≡ Gives r.0) × ((r.0, w) ≡ r)
+given-next d w (f, x) is = (ap (λ (p : Draw × StormValue). p.0) is, ap (λ (p : Draw × StormValue). (f, p.1)) is)
+
 -- a question is no event
 pub asks-none : (k : ℕ) (w : StormValue) (r : Event × StormValue) → (Ask k, w) ≡ as_event r → ⊥
 asks-none k w (f, x) is = let event : Ask k ≡ Gives f = ap (λ (d : Draw × StormValue). d.0) is in cc

@@ -8,3 +8,4 @@ pub mod Ups
 mod BootWords
 pub mod StormKeeps
 mod Tame
+pub mod Requests

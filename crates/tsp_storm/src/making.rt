@@ -1,22 +1,28 @@
-//! A schedule in the making: the generator, and the world that its events happen in. An event with octets is
-//! made only when it happens, since it is long.
+//! A schedule in the making: the generator, and the world that its events happen in. No `Event` is made, since it
+//! is long, and a stranger's request is handed over as what is read from its octets.
 ghost use Rattle.std.specs.Prelude.{◌≡◌, ◌<◌, ◌≤◌, ◌+◌, ◌∷◌, List, None, Some, IfOk, IfErr, OnOk};
-ghost use Rattle.std.specs.Prelude.{length};
+ghost use Rattle.std.specs.Prelude.{length, MatchResult};
 ghost use Rattle.tsp_base.specs.Headers.{HeaderValue};
 ghost use Rattle.tsp_base.specs.declared.event.Event.{Event};
-ghost use Rattle.tsp_script.specs.Schedules.{IsEvent};
+ghost use Rattle.tsp_run.specs.Run.{event_at};
+ghost use Rattle.tsp_script.specs.declared.storm.Draw.{Draw};
+ghost use Rattle.tsp_script.specs.Plains.{event_in};
 ghost use Rattle.tsp_script.specs.Storms.{storm_take, draw_of, as_event, IsChoice, request_event};
 ghost use Rattle.tsp_storm.specs.Makings.{MakingStands, StopsFor};
 ghost use Rattle.tsp_storm.specs.Schedules.{header_of, events_of, event_after, next_event};
 ghost use Rattle.tsp_args.specs.Storms.{IsStorm};
-ghost use Rattle.tsp_world.specs.WorldStands.{WorldStands};
+ghost use Rattle.tsp_world.specs.WorldStands.{WorldStands, Occurs, Declines};
 
 use crate::header::begin;
 use std::alloc::{AllocError, Global};
 use tsp_args::storm::StormWords;
-use tsp_base::event::{Event, EventFault};
+use tsp_base::datagram::{Datagram, Taken};
+use tsp_base::event::EventFault;
+use tsp_base::place::{Place, Port};
+use tsp_base::stamp::Stamp;
 use tsp_run::line::Line;
-use tsp_script::storm::{Choice, Storm, request};
+use tsp_script::plain::Plain;
+use tsp_script::storm::{Choice, Storm};
 use tsp_world::world::World;
 
 /// Why no event more was made.
@@ -67,20 +73,58 @@ fn answer(storm: &mut Storm, posted: u64, k: u64, time: u64) -> Choice
     storm.choice(posted, Some(time))
 }
 
-/// Lets the event happen that comes after those of the world: `Limit` exactly where there is no room for it, with
-/// its number, from 1 on.
-fn happen(world: &mut World, words: &StormWords, e: &Event) -> Result<(), Stopped>
+/// Lets an event without octets happen.
+fn occur_plain(world: &mut World, plain: &Plain) -> Result<(), EventFault>
+    requires { event_at (event_in plain.now) ≤ 1000000000000000 }
+    ensures { MatchResult result (λ _. Occurs (event_in plain.now) world.old world.new)
+        (Declines (event_in plain.now) world.old world.new) }
+{
+    match plain {
+        Plain::Boot { at, node, word } => world.boot(*at, *node, *word),
+        Plain::Turn { at, node } => world.turn(*at, *node),
+        Plain::Take { at, datagram } => world.take(*at, *datagram),
+    }
+}
+
+/// Lets a stranger's request happen, as it is read from its octets. Only here is there room for a datagram, since
+/// each call clears that room.
+fn occur_request(world: &mut World, at: u64, node: u32, word: u64) -> Result<(), EventFault>
+    requires { at ≤ 1000000000000000 }
+    ensures { MatchResult result (λ _. Occurs (request_event at node word) world.old world.new)
+        (Declines (request_event at node word) world.old world.new) }
+{
+    let request = Taken::Good(Datagram::Stamp(Stamp::Request { word, counter: 0 }));
+    world.hand(at, node, Port(0), Place::Stranger, &request)
+}
+
+/// Lets an event happen that was chosen, which isn't a question.
+fn occur(world: &mut World, choice: &Choice) -> Result<(), EventFault>
+    requires range { IsChoice (length world.old.sent.items) choice.now }
+    requires given { (e : Event) × (draw_of choice.now ≡ Draw.Event e) }
+    ensures { (e : Event) → draw_of choice.now ≡ Draw.Event e
+        → MatchResult result (λ _. Occurs e world.old world.new) (Declines e world.old world.new) }
+{
+    match choice {
+        Choice::Plain(plain) => occur_plain(world, plain),
+        Choice::Request { at, node, word } => occur_request(world, *at, *node, *word),
+        Choice::Ask(_) => unreachable!(),
+    }
+}
+
+/// Lets the chosen event happen, which comes after those of the world: `Limit` exactly where there is no room for
+/// it, with its number, from 1 on.
+fn happen(world: &mut World, words: &StormWords, choice: &Choice) -> Result<(), Stopped>
     requires words { IsStorm words.now }
     requires more { world.old.events < words.now.events }
     requires stands { WorldStands (header_of words.now) (events_of words.now world.old.events)
         world.old }
-    requires event { e.now ≡ event_after words.now world.old.events }
-    requires range { IsEvent e.now }
+    requires event { draw_of choice.now ≡ Draw.Event (event_after words.now world.old.events) }
+    requires range { IsChoice (length world.old.sent.items) choice.now }
     ensures stands { OnOk result (WorldStands (header_of words.now) (events_of words.now
         (world.old.events + 1)) world.new) }
     ensures stops { IfErr result (λ stop. StopsFor words.now world.old.events stop) }
 {
-    match world.event(e) {
+    match occur(world, choice) {
         Ok(()) => Ok(()),
         Err(fault) => match fault {
             EventFault::Limit(events, _) => Err(Stopped::Limit(events + 1)),
@@ -88,28 +132,6 @@ fn happen(world: &mut World, words: &StormWords, e: &Event) -> Result<(), Stoppe
             _ => unreachable!(),
         },
     }
-}
-
-/// The same for a stranger's request, which comes after those events. Only here is there room for an event's
-/// octets, since each call clears that room.
-fn happen_request(
-    world: &mut World,
-    words: &StormWords,
-    at: u64,
-    node: u32,
-    word: u64,
-) -> Result<(), Stopped>
-    requires words { IsStorm words.now }
-    requires time { at ≤ 1000000000000000 }
-    requires more { world.old.events < words.now.events }
-    requires stands { WorldStands (header_of words.now) (events_of words.now world.old.events)
-        world.old }
-    requires event { request_event at node word ≡ event_after words.now world.old.events }
-    ensures stands { OnOk result (WorldStands (header_of words.now) (events_of words.now
-        (world.old.events + 1)) world.new) }
-    ensures stops { IfErr result (λ stop. StopsFor words.now world.old.events stop) }
-{
-    happen(world, words, &request(at, node, word))
 }
 
 impl Making {
@@ -140,11 +162,8 @@ impl Making {
         ensures stops { IfErr result (λ stop. StopsFor words.now self.old.storm.given stop) }
     {
         let world = &mut self.world;
-        match draw(&mut self.storm, world) {
-            Choice::Plain(plain) => happen(world, words, &plain.event()),
-            Choice::Request { at, node, word } => happen_request(world, words, at, node, word),
-            Choice::Ask(_) => unreachable!(),
-        }
+        let choice = draw(&mut self.storm, world);
+        happen(world, words, &choice)
     }
 
     /// The lines of the last event's acts.

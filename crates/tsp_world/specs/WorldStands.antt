@@ -2,6 +2,7 @@
 use Rattle.std.specs.Prelude.{◌≡◌, ℕ, ◌+◌, ◌≤◌, Bool, true, false, List, [], ◌∷◌, ◌++◌, ◌<◌, length, Option, None, Some, slice_get, All, vec_len}
 use Rattle.tsp_base.specs.declared.act.Placed.{Placed}
 use Rattle.tsp_base.specs.declared.event.Event.{Event}
+use Rattle.tsp_base.specs.declared.event.EventFault.{EventFault}
 use Rattle.tsp_base.specs.Headers.{HeaderValue}
 use Rattle.tsp_base.specs.History.{Cause, Line, of, dids}
 use Rattle.tsp_base.specs.NodeFacts.{up}
@@ -12,7 +13,7 @@ use Rattle.tsp_run.specs.declared.posted.Posted.{Posted}
 use Rattle.tsp_world.specs.declared.world.World.{World}
 use Rattle.tsp_run.specs.Networks.{networks}
 use Rattle.tsp_run.specs.Ranges.{IsInRange}
-use Rattle.tsp_run.specs.Refusals.{Scene, Valid, scene, refusal}
+use Rattle.tsp_run.specs.Refusals.{Scene, Valid, scene, refusal, IsRefusal}
 use Rattle.tsp_run.specs.Run.{run, posts, last_at, gained, event_at, happening, steps, posts_from, told_from}
 use Rattle.tsp_run.specs.Setup.{past_of, rests}
 use Rattle.tsp_world.specs.Sheets.{acts_on}
@@ -71,6 +72,14 @@ Stays old new = (header : HeaderValue) (events : List Event) → WorldStands hea
 -- an event has happened
 abbrev pub Happens : Event → World → World → Type 0
 Happens e old new = (header : HeaderValue) (events : List Event) → WorldStands header events old → refusal (scene header events) e ≡ None → WorldStands header (e ∷ events) new
+
+-- nothing refuses an event, and it has happened
+abbrev pub Occurs : Event → World → World → Type 0
+Occurs e old new = (header : HeaderValue) (events : List Event) → WorldStands header events old → (refusal (scene header events) e ≡ None) × WorldStands header (e ∷ events) new
+
+-- an event has not happened, for its cause or if out of memory
+abbrev pub Declines : Event → World → World → EventFault → Type 0
+Declines e old new fault = (header : HeaderValue) (events : List Event) → WorldStands header events old → IsRefusal (refusal (scene header events) e) fault × WorldStands header events new
 
 -- a step of a node that is up has happened by this row, whatever event it was and for whatever cause
 abbrev pub HappensBy : NodeRow → ℕ → ℕ → World → World → Type 0

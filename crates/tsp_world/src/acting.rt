@@ -1,22 +1,17 @@
-//! The events of a world: each makes one of its nodes act, or none.
-ghost use Rattle.std.specs.Prelude.{◌≡◌, ℕ, ◌≤◌, ◌<◌, ◌+◌, ◌^◌, length, vec_len, slice_get, Some, OnOk, OnErr};
+//! What an event of a world does that nothing refuses: one of its nodes acts, or none.
+ghost use Rattle.std.specs.Prelude.{◌≡◌, ◌≤◌, ◌<◌, ◌+◌, ◌^◌, length, vec_len, slice_get, Some, OnOk, OnErr};
 ghost use Rattle.tsp_base.specs.declared.event.Event.{Event};
 ghost use Rattle.tsp_base.specs.declared.datagram.Taken.{Taken};
 ghost use Rattle.tsp_base.specs.declared.place.Place.{Place};
 ghost use Rattle.tsp_base.specs.Headers.{Keeps};
 ghost use Rattle.tsp_base.specs.Ticks.{tick_at};
-ghost use Rattle.tsp_codec.specs.Numbers.{octet_at};
-ghost use Rattle.tsp_codec.specs.Taken.{taken_of};
 ghost use Rattle.tsp_rules.specs.GateRows.{GotOn, answers_all};
-ghost use Rattle.tsp_run.specs.declared.posted.Posted.{Posted};
 ghost use Rattle.tsp_run.specs.Networks.{networks, ports_on, room};
-ghost use Rattle.tsp_run.specs.Refusals.{Allowed, actor};
+ghost use Rattle.tsp_run.specs.Refusals.{Allowed};
 ghost use Rattle.tsp_run.specs.Run.{goes_to};
 ghost use Rattle.tsp_run.specs.Setup.{node_line};
-ghost use Rattle.tsp_world.specs.NodesReady.{wanted};
 ghost use Rattle.tsp_world.specs.Sheets.{acts_on};
 ghost use Rattle.tsp_world.specs.WorldStands.{scene_of, IsReady, Happens, HappensBy, Stays, CanNote, Notes, Passes};
-
 use crate::step;
 use crate::tell::{send, tell};
 use crate::world::World;
@@ -25,11 +20,9 @@ use tsp_base::datagram::Taken;
 use tsp_base::drift::tick_at;
 use tsp_base::header::NodeLine;
 use tsp_base::place::{PeerId, Place, Port};
-use tsp_codec::read;
 use tsp_gateway::Gateway;
 use tsp_node::BootFault;
 use tsp_run::address::Address;
-use tsp_run::arrival::Arrival;
 
 impl World {
     /// The line of a node in the header.
@@ -52,7 +45,7 @@ impl World {
     }
 
     /// A node boots. Fails only if out of memory, and then changes nothing that the world stands for.
-    pub(crate) fn boot(&mut self, at: u64, node: u32, word: u64) -> Result<(), AllocError>
+    pub(crate) fn start(&mut self, at: u64, node: u32, word: u64) -> Result<(), AllocError>
         requires ready { IsReady (room (ports_on node (networks self.old.header))) self.old }
         requires time { at ≤ 1000000000000000 }
         requires order { self.old.last ≤ at }
@@ -80,7 +73,7 @@ impl World {
     }
 
     /// A node looks at its timers.
-    pub(crate) fn turn(&mut self, at: u64, node: u32)
+    pub(crate) fn look(&mut self, at: u64, node: u32)
         requires ready { IsReady (room (ports_on node (networks self.old.header))) self.old }
         requires time { at ≤ 1000000000000000 }
         requires order { self.old.last ≤ at }
@@ -97,69 +90,27 @@ impl World {
         self.note(node, tick);
     }
 
-    /// A posted datagram reaches its addressee, or nobody where it has none.
-    pub(crate) fn take(&mut self, at: u64, k: u64)
-        requires ready { IsReady (wanted self.old.header (actor (scene_of self.old) (Event.Take at k)))
+    /// A posted datagram reaches its addressee at this address. What is written for a datagram always reads as the
+    /// same datagram, so nothing needs to be written or read.
+    pub(crate) fn deliver(&mut self, at: u64, k: u64, address: Address)
+        requires ready { IsReady (room (ports_on address.node (networks self.old.header)))
             self.old }
         requires time { at ≤ 1000000000000000 }
-        requires order { self.old.last ≤ at }
+        requires goes { goes_to (networks self.old.header) (slice_get self.old.sent.items k) ≡ Some
+            address }
         requires allowed { Allowed (scene_of self.old) (Event.Take at k) }
         ensures { Happens (Event.Take at k) self.old self.new }
-    {
-        match self.address(k) {
-            Some(address) => {
-                let arrival = self.arrival(k, address);
-                self.hand(at, address.node, address.port, arrival.from, &arrival.taken)
-            }
-            None => self.pass(at),
-        }
-    }
-
-    /// The datagram with this number, as it reaches this address. What is written for a datagram always reads as
-    /// the same datagram, so nothing needs to be written or read.
-    fn arrival(&self, k: u64, address: Address) -> Arrival
-        requires { goes_to (networks self.now.header) (slice_get self.now.sent.items k) ≡ Some
-            address }
-        ensures { (p : Posted) → slice_get self.now.sent.items k ≡ Some p
-            → result ≡ record {
-              node = address.node;
-              port = address.port;
-              from = Place.Peer
-                  (record { 0 = p.from });
-              taken = Taken.Good p.datagram;
-            } }
     {
         let Some(way) = self.sent.way(k) else {
             unreachable!()
         };
-        Arrival {
-            node: address.node,
-            port: address.port,
-            from: Place::Peer(PeerId(way.from)),
-            taken: Taken::Good(self.sent.datagram(k)),
-        }
-    }
-
-    /// Octets reach a node on a port.
-    pub(crate) fn bytes(&mut self, at: u64, node: u32, port: Port, from: Place, octets: &[u8])
-        requires ready { IsReady (room (ports_on node (networks self.old.header))) self.old }
-        requires time { at ≤ 1000000000000000 }
-        requires order { self.old.last ≤ at }
-        requires node { node < vec_len self.old.nodes }
-        requires events { self.old.events < 200000 }
-        requires posts { length self.old.sent.items + room
-            (ports_on node (networks self.old.header)) ≤ 1000000 }
-        requires port { port.0 < length (ports_on node (networks self.old.header)) }
-        ensures happens { HappensBy (answers_all (GotOn port from (taken_of octets.now))) at node
-            self.old self.new }
-        ensures range { (i : ℕ) → octet_at octets.now i < 256 }
-    {
-        let taken = read(octets);
-        self.hand(at, node, port, from, &taken);
+        let from = Place::Peer(PeerId(way.from));
+        let taken = Taken::Good(self.sent.datagram(k));
+        self.receive(at, address.node, address.port, from, &taken);
     }
 
     /// A node takes on a port what was read of octets.
-    fn hand(&mut self, at: u64, node: u32, port: Port, from: Place, taken: &Taken)
+    pub(crate) fn receive(&mut self, at: u64, node: u32, port: Port, from: Place, taken: &Taken)
         requires ready { IsReady (room (ports_on node (networks self.old.header))) self.old }
         requires time { at ≤ 1000000000000000 }
         requires order { self.old.last ≤ at }
@@ -178,7 +129,7 @@ impl World {
     }
 
     /// Notes an event at which no node acts.
-    fn pass(&mut self, at: u64)
+    pub(crate) fn pass(&mut self, at: u64)
         requires order { self.old.last ≤ at }
         requires events { self.old.events < 200000 }
         ensures { Passes at self.old self.new }
@@ -188,8 +139,22 @@ impl World {
         self.lines.clear();
     }
 
-    /// Notes the acts on the desk, which a node put at an event. The event's time was noted before.
+    /// Notes an event, at which a node put the acts on the desk, if it put any. The event's time was noted before.
     fn note(&mut self, node: u32, tick: u64)
+        requires { CanNote self.old }
+        ensures { Notes self.old.last node tick self.old.header self.old.nodes.items self.old.events
+            self.old.sent.items (acts_on self.old.desk) self.new }
+    {
+        if self.desk.lines.is_empty() {
+            self.events += 1;
+            self.lines.clear();
+        } else {
+            self.note_acts(node, tick);
+        }
+    }
+
+    /// The same where there are acts.
+    fn note_acts(&mut self, node: u32, tick: u64)
         requires { CanNote self.old }
         ensures { Notes self.old.last node tick self.old.header self.old.nodes.items self.old.events
             self.old.sent.items (acts_on self.old.desk) self.new }

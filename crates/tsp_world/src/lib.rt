@@ -20,6 +20,7 @@
 #![tactic(auto)]
 
 mod acting;
+mod events;
 mod head;
 mod limits;
 pub mod posts;

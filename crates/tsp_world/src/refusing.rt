@@ -1,33 +1,19 @@
 //! Why a world refuses an event.
-ghost use Rattle.std.specs.Prelude.{◌≡◌, ◌≤◌, length, vec_len, slice_get, IfSome};
-ghost use Rattle.tsp_run.specs.Networks.{networks};
-ghost use Rattle.tsp_run.specs.Refusals.{refusal, no_datagram, not_up, down, actor, room_at};
+ghost use Rattle.std.specs.Prelude.{◌≡◌, ◌≤◌, ℕ, List, None, Some, length, vec_len, slice_get};
+ghost use Rattle.tsp_base.specs.declared.event.Event.{Event};
+ghost use Rattle.tsp_run.specs.Networks.{networks, ports_on, room};
+ghost use Rattle.tsp_run.specs.Refusals.{refusal, down_at, first_of, limit};
 ghost use Rattle.tsp_run.specs.Run.{goes_to};
 ghost use Rattle.tsp_world.specs.WorldStands.{scene_of, up_at};
 
 use crate::limits::limit;
 use crate::world::World;
-use tsp_base::event::{Event, EventFault};
+use tsp_base::event::EventFault;
 use tsp_base::members::Members;
-use tsp_networks::refusals::{down_at, first_of, no_node, time_back, time_of};
-use tsp_networks::{address_of, networks_of, room_of};
+use tsp_base::place::{Place, Port};
+use tsp_networks::refusals::absent;
+use tsp_networks::{networks_of, room_of};
 use tsp_run::address::Address;
-
-/// `NoDatagram` where the event takes a datagram that was never posted.
-fn no_datagram(posted: u64, e: &Event) -> Option<EventFault>
-    ensures { result ≡ no_datagram posted e.now }
-{
-    match e {
-        Event::Take { datagram, .. } => {
-            if *datagram < posted {
-                None
-            } else {
-                Some(EventFault::NoDatagram(*datagram, posted))
-            }
-        }
-        _ => None,
-    }
-}
 
 impl World {
     /// The number of nodes.
@@ -46,59 +32,102 @@ impl World {
         networks_of(&self.header, self.one.as_slice())
     }
 
-    /// Where the datagram with this number goes: to a port of its addressee; None where it goes nowhere.
-    pub(crate) fn address(&self, k: u64) -> Option<Address>
-        ensures { result ≡ goes_to (networks self.now.header) (slice_get self.now.sent.items k) }
+    /// How many acts a step of this node may put.
+    pub(crate) fn room(&self, node: u32) -> u64
+        ensures room { result ≡ room (ports_on node (networks self.now.header)) }
+        ensures few { result ≤ 200000 }
     {
-        let way = self.sent.way(k)?;
-        address_of(self.networks(), way.from, way.port, way.to)
-    }
-
-    /// The node that would act at an event: that of the event, or the addressee of its datagram; None where the
-    /// datagram goes nowhere.
-    pub(crate) fn actor(&self, e: &Event) -> Option<u32>
-        ensures { result ≡ actor (scene_of self.now) e.now }
-    {
-        match e {
-            Event::Boot { node, .. } => Some(*node),
-            Event::Turn { node, .. } => Some(*node),
-            Event::Take { datagram, .. } => {
-                let address = self.address(*datagram)?;
-                Some(address.node)
-            }
-            Event::Bytes { node, .. } => Some(*node),
+        match self.rooms.get(node as usize) {
+            Some(kept) => *kept,
+            None => room_of(self.networks(), node),
         }
     }
 
-    /// How many acts a step of this node may put; None where no node acts.
-    pub(crate) fn room(&self, node: Option<u32>) -> Option<u64>
-        ensures room { result ≡ room_at (networks self.now.header) node }
-        ensures few { IfSome result (λ w. w ≤ 200000) }
+    /// The first cause for which a boot is refused at a node, whose step may put so many acts.
+    pub(crate) fn bars_boot(&self, at: u64, node: u32, wanted: u64) -> Option<EventFault>
+        requires wanted { wanted ≡ room (ports_on node (networks self.now.header)) }
+        requires few { wanted ≤ 200000 }
+        ensures { (word : ℕ) → result ≡ refusal (scene_of self.now) (Event.Boot at node word) }
     {
-        match node {
-            Some(n) => Some(room_of(self.networks(), n)),
-            None => None,
+        if at < self.last {
+            return Some(EventFault::TimeBack(at, self.last));
         }
+        if node >= self.count() {
+            return Some(EventFault::NoNode(node, self.count()));
+        }
+        limit(self.events, self.posted(), Some(wanted))
     }
 
-    /// The first cause for which an event is refused, if it is; `node` is the node that would act, and `room`
-    /// how many acts its step may put.
-    pub(crate) fn refusal(
+    /// The same of a turn.
+    pub(crate) fn bars_turn(&self, at: u64, node: u32, wanted: u64) -> Option<EventFault>
+        requires wanted { wanted ≡ room (ports_on node (networks self.now.header)) }
+        requires few { wanted ≤ 200000 }
+        ensures { result ≡ refusal (scene_of self.now) (Event.Turn at node) }
+    {
+        if at < self.last {
+            return Some(EventFault::TimeBack(at, self.last));
+        }
+        if node >= self.count() {
+            return Some(EventFault::NoNode(node, self.count()));
+        }
+        self.bars_step(node, wanted)
+    }
+
+    /// The same of octets from somebody, on a port.
+    pub(crate) fn bars_bytes(
         &self,
-        e: &Event,
-        node: Option<u32>,
-        room: Option<u64>,
+        at: u64,
+        node: u32,
+        port: Port,
+        from: Place,
+        wanted: u64,
     ) -> Option<EventFault>
-        requires actor { node ≡ actor (scene_of self.now) e.now }
-        requires room { room ≡ room_at (networks self.now.header) node }
-        requires few { IfSome room (λ w. w ≤ 200000) }
-        ensures { result ≡ refusal (scene_of self.now) e.now }
+        requires wanted { wanted ≡ room (ports_on node (networks self.now.header)) }
+        requires few { wanted ≤ 200000 }
+        ensures { (octets : List ℕ) → result
+            ≡ refusal (scene_of self.now) (Event.Bytes at node port from octets) }
     {
-        let full = limit(self.events, self.posted(), room);
-        let later = first_of(self.not_up(e, node), full);
-        let unposted = first_of(no_datagram(self.posted(), e), later);
-        let absent = first_of(no_node(self.count(), self.networks(), e), unposted);
-        first_of(time_back(time_of(e), self.last), absent)
+        if at < self.last {
+            return Some(EventFault::TimeBack(at, self.last));
+        }
+        match absent(self.count(), self.networks(), node, port, from) {
+            Some(fault) => Some(fault),
+            None => self.bars_step(node, wanted),
+        }
+    }
+
+    /// The same of the take of a datagram that goes to this address.
+    pub(crate) fn bars_take(
+        &self,
+        at: u64,
+        k: u64,
+        address: Address,
+        wanted: u64,
+    ) -> Option<EventFault>
+        requires goes { goes_to (networks self.now.header) (slice_get self.now.sent.items k) ≡ Some
+            address }
+        requires wanted { wanted ≡ room (ports_on address.node (networks self.now.header)) }
+        requires few { wanted ≤ 200000 }
+        ensures { result ≡ refusal (scene_of self.now) (Event.Take at k) }
+    {
+        if at < self.last {
+            return Some(EventFault::TimeBack(at, self.last));
+        }
+        self.bars_step(address.node, wanted)
+    }
+
+    /// The same of the take of a datagram that goes nowhere, or that was never posted.
+    pub(crate) fn bars_pass(&self, at: u64, k: u64) -> Option<EventFault>
+        requires { goes_to (networks self.now.header) (slice_get self.now.sent.items k) ≡ None }
+        ensures { result ≡ refusal (scene_of self.now) (Event.Take at k) }
+    {
+        if at < self.last {
+            return Some(EventFault::TimeBack(at, self.last));
+        }
+        if k >= self.posted() {
+            return Some(EventFault::NoDatagram(k, self.posted()));
+        }
+        limit(self.events, self.posted(), None)
     }
 
     /// Whether a node has booted.
@@ -108,26 +137,15 @@ impl World {
         matches!(self.nodes.get(n as usize), Some(Some(_)))
     }
 
-    /// `NotUp` where the node that would act hasn't booted; a boot is never refused so.
-    fn not_up(&self, e: &Event, node: Option<u32>) -> Option<EventFault>
-        requires { node ≡ actor (scene_of self.now) e.now }
-        ensures { result ≡ not_up (scene_of self.now) e.now }
+    /// `NotUp` where a node hasn't booted, else `Limit` where there is no room for its step.
+    fn bars_step(&self, node: u32, wanted: u64) -> Option<EventFault>
+        requires few { wanted ≤ 200000 }
+        ensures { result ≡ first_of (down_at (up_at self.now.nodes.items node) node)
+            (limit self.now.events (length self.now.sent.items) (Some wanted)) }
     {
-        match e {
-            Event::Boot { .. } => None,
-            Event::Turn { .. } => self.down(node),
-            Event::Take { .. } => self.down(node),
-            Event::Bytes { .. } => self.down(node),
+        if !self.is_up(node) {
+            return Some(EventFault::NotUp(node));
         }
-    }
-
-    /// `NotUp` where this node hasn't booted.
-    fn down(&self, node: Option<u32>) -> Option<EventFault>
-        ensures { result ≡ down (up_at self.now.nodes.items) node }
-    {
-        match node {
-            Some(n) => down_at(self.is_up(n), n),
-            None => None,
-        }
+        limit(self.events, self.posted(), Some(wanted))
     }
 }

@@ -1,11 +1,13 @@
 //! All nodes of a schedule and all datagrams that they posted.
 ghost use Rattle.std.specs.Prelude.{◌≡◌, ◌≤◌, [], ◌∷◌, List, true, length, vec_len, IfOk, OnOk};
-ghost use Rattle.std.specs.Prelude.{OnErr, MatchResult, slice_get, None, unwrap_or};
+ghost use Rattle.std.specs.Prelude.{OnErr, MatchResult, slice_get, None};
 ghost use Rattle.tsp_base.specs.Headers.{is_whole};
+ghost use Rattle.tsp_run.specs.Networks.{networks};
+ghost use Rattle.tsp_world.specs.Configs.{AreRooms};
 ghost use Rattle.tsp_world.specs.NodesReady.{NodesReady};
 
 use crate::posts::Posts;
-use crate::setup::configs_of;
+use crate::setup::{configs_of, rooms_of};
 use crate::sheet::Sheet;
 use std::alloc::{AllocError, Global};
 use tsp_base::desk::Desk;
@@ -27,6 +29,8 @@ pub struct World {
     pub(crate) one: Vec<Members>,
     /// The configuration of each node.
     pub(crate) configs: Vec<GateConfig>,
+    /// How many acts a step of each node may put.
+    pub(crate) rooms: Vec<u64>,
     /// The nodes that are up, each in its place.
     pub(crate) nodes: Vec<Option<Gateway>>,
     /// The datagrams that were posted, each under its number.
@@ -40,6 +44,7 @@ pub struct World {
     /// The time of the last event, in microseconds.
     pub(crate) last: u64,
     ghost places: { vec_len nodes ≡ length header.nodes },
+    ghost rooms_are: { AreRooms (networks header) rooms.items },
     ghost few_events: { events ≤ 200000 },
     ghost few_posts: { length sent.items ≤ 1000000 },
     ghost ready: { NodesReady header one.items nodes.items configs.items last },
@@ -51,11 +56,11 @@ impl World {
     ghost use Rattle.tsp_base.specs.declared.event.Event.{Event};
     ghost use Rattle.tsp_run.specs.Premised.{KeptByText};
     ghost use Rattle.tsp_run.specs.Promises.{Promises};
-    ghost use Rattle.tsp_run.specs.Refusals.{refusal, scene, actor, Allowed, IsRefusal};
+    ghost use Rattle.tsp_run.specs.Refusals.{refusal, scene, IsRefusal};
     ghost use Rattle.tsp_run.specs.Run.{event_at, posted_time, run};
     ghost use Rattle.tsp_run.specs.Setting.{SetBy};
-    ghost use Rattle.tsp_world.specs.NodesReady.{wanted};
-    ghost use Rattle.tsp_world.specs.WorldStands.{WorldStands, scene_of, IsReady, Happens, Stays};
+    ghost use Rattle.tsp_world.specs.WorldStands.{WorldStands, scene_of, IsReady, Stays};
+    ghost use Rattle.tsp_world.specs.WorldStands.{Occurs, Declines};
 
     /// A world before its first event. Fails only if out of memory, and then drops the header.
     pub fn new(alloc: Global, header: Header) -> Result<World, AllocError>
@@ -65,6 +70,8 @@ impl World {
     {
         let one = all_nodes(alloc, header.nodes().len() as u32)?;
         let configs = configs_of(alloc, &header, networks_of(&header, one.as_slice()))?;
+        let nets = networks_of(&header, one.as_slice());
+        let rooms = rooms_of(alloc, header.nodes().len() as u32, nets)?;
         let mut nodes = Vec::new(alloc);
         for _ in header.nodes() {
             nodes.push(None)?;
@@ -74,6 +81,7 @@ impl World {
             header,
             one,
             configs,
+            rooms,
             nodes,
             sent: Posts::new(alloc),
             lines: Vec::new(alloc),
@@ -139,65 +147,41 @@ impl World {
             → MatchResult result (λ _. refusal (scene header events) e.now ≡ None)
             (λ f. IsRefusal (refusal (scene header events) e.now) f) }
     {
-        let node = self.actor(e);
-        let room = self.room(node);
-        if let Some(fault) = self.refusal(e, node, room) {
-            return Err(fault);
-        }
-        if self.make_room(room).is_err() {
-            return Err(EventFault::OutOfMemory);
-        }
-        match self.happen(e, node) {
-            Ok(()) => Ok(()),
-            Err(_) => Err(EventFault::OutOfMemory),
-        }
+        self.occur(e)
     }
 
-    /// Makes room for so many acts of a step, each in its line, and for so many posts; None where no node
-    /// acts. Fails only if out of memory, and then changes nothing that the world stands for.
-    fn make_room(&mut self, room: Option<u64>) -> Result<(), AllocError>
-        ensures stands { Stays self.old self.new }
-        ensures ready { OnOk result (IsReady (unwrap_or room 0) self.new) }
-        ensures same { scene_of self.new ≡ scene_of self.old }
-        ensures header { self.new.header ≡ self.old.header }
-    {
-        let room = room.unwrap_or(0) as usize;
-        self.desk.clear();
-        self.desk.reserve(room)?;
-        self.sent.reserve(room)?;
-        Ok(())
-    }
-
-    /// Lets an event happen that nothing refuses, and at which this node acts. Fails only if out of
-    /// memory for a boot, and then changes nothing that the world stands for.
-    fn happen(&mut self, e: &Event, node: Option<u32>) -> Result<(), AllocError>
-        requires ready { IsReady (wanted self.old.header node) self.old }
-        requires time { event_at e.now ≤ 1000000000000000 }
-        requires allowed { Allowed (scene_of self.old) e.now }
-        requires actor { node ≡ actor (scene_of self.old) e.now }
-        ensures happens { OnOk result (Happens e.now self.old self.new) }
-        ensures kept { OnErr result (Stays self.old self.new) }
+    /// Lets an event happen, or gives the first cause for which it can't.
+    fn occur(&mut self, e: &Event) -> Result<(), EventFault>
+        requires { event_at e.now ≤ 1000000000000000 }
+        ensures { MatchResult result (λ _. Occurs e.now self.old self.new)
+            (Declines e.now self.old self.new) }
     {
         match e {
             Event::Boot { at, node, word } => self.boot(*at, *node, *word),
-            Event::Turn { at, node } => {
-                self.turn(*at, *node);
-                Ok(())
-            }
-            Event::Take { at, datagram } => {
-                self.take(*at, *datagram);
-                Ok(())
-            }
+            Event::Turn { at, node } => self.turn(*at, *node),
+            Event::Take { at, datagram } => self.take(*at, *datagram),
             Event::Bytes {
                 at,
                 node,
                 port,
                 from,
                 octets,
-            } => {
-                self.bytes(*at, *node, *port, *from, octets.octets());
-                Ok(())
-            }
+            } => self.bytes(*at, *node, *port, *from, octets.octets()),
         }
+    }
+
+    /// Makes room for so many acts of a step, each in its line, and for so many posts. Fails only if out of
+    /// memory, and then changes nothing that the world stands for.
+    pub(crate) fn make_room(&mut self, wanted: u64) -> Result<(), AllocError>
+        ensures stands { Stays self.old self.new }
+        ensures ready { OnOk result (IsReady wanted self.new) }
+        ensures same { scene_of self.new ≡ scene_of self.old }
+        ensures header { self.new.header ≡ self.old.header }
+    {
+        let wanted = wanted as usize;
+        self.desk.clear();
+        self.desk.reserve(wanted)?;
+        self.sent.reserve(wanted)?;
+        Ok(())
     }
 }

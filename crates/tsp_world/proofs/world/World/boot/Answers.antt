@@ -1,128 +1,30 @@
--- The node boots by its row, and takes its place. It is set up so that only memory can be wanting.
-use Rattle.std.proofs.Common.{◌≡◌, ◌<◌, ◌∙◌, ap, refl, subst, sym, arith, Some, rules, vec_len, length, pos, ◌+ℤ◌, SFits, w64, to_z, of_z, to_z-of_z, inl, inr, ◌++◌, get_or}
-use Rattle.std.proofs.Math.ListN.{set}
+-- A boot is refused, or it happens after room was made for it, or memory lacks.
 use Rattle.tsp_base.specs.declared.event.Event.TheVariants.{Boot}
-use Rattle.tsp_base.specs.Ticks.{tick_at}
-use Rattle.tsp_gateway.specs.GateConfigs.{ArePorts, GateBootsNot, GateConfigValue, UnbootedNode, peers_of_ports}
-use Rattle.tsp_gateway.specs.GatewayStands.{GatewayStands}
-use Rattle.tsp_rules.specs.GateRows.{boots_all}
-use Rattle.tsp_rules.specs.NodePerforms.{PerformsAll}
-use Rattle.tsp_rules.specs.NodeRows.{NodePast, in_node_step}
-use Rattle.tsp_run.specs.Networks.{networks, ports_on}
-use Rattle.tsp_run.specs.Run.{boot_step, run, joins, steps, step_tick}
-use Rattle.tsp_run.specs.Setup.{node_line, past_of}
-use Rattle.tsp_run.proofs.NetworkLemmas.{some_same}
-use Rattle.tsp_world.specs.Configs.{config_of}
-use Rattle.tsp_world.specs.NodesReady.{NodeReady}
-use Rattle.tsp_world.specs.Sheets.{acts_on}
-use Rattle.tsp_world.specs.WorldStands.{Notes, PlaceStands}
-use Rattle.tsp_world.proofs.BootLemmas.{boots-up}
-use Rattle.tsp_world.proofs.ReadyLemmas.{NodesReady-later, NodesReady-set}
-use Rattle.tsp_gateway.proofs.LiftLemmas.{set_cases}
-use Rattle.tsp_world.proofs.SetupLemmas.{can_boot, get_or-configs_below, length-configs_below, room-many, some_port}
-use Rattle.tsp_world.proofs.WorldLemmas.{WorldStands-acted, PlaceStands-acted, in_header}
+use Rattle.std.proofs.Common.{refl}
+use Rattle.tsp_world.proofs.Occurrences.{declined, lacks_memory, may, occurred}
 use Rattle.tsp_world.proofs.world.World.boot.Goals as goal
-use Rattle.tsp_world.proofs.world.World.boot.Goals.{After-index-config}
 
-pub index-config-requires : goal.index-config-requires
-index-config-requires c =
-    let world = c.args.self.now in
-    let len : vec_len world.configs ≡ length world.configs.items = search rules in
-    let same = ap (λ v. length v) world.ready.configs_are ∙ length-configs_below world.header (length world.header.nodes) in
-    let inside = c.requires.node in
-    let count = world.places in
-    omega (arith, len, same, inside, count)
+pub returns-in-Some : goal.returns-in-Some
+returns-in-Some c = declined (Boot c.args.at c.args.node c.args.word) c.args.self.now c.bars_boot.result c.in-Some.fault (c.bars_boot.ensures c.args.word) c.in-Some.is
 
-in_place : (c : After-index-config) → c.args.node < length c.args.self.now.header.nodes
-in_place c = subst (λ k. c.args.node < k) c.args.self.now.places c.requires.node
+pub returns-then-is_err : goal.returns-then-is_err
+returns-then-is_err c = lacks_memory (Boot c.args.at c.args.node c.args.word) c.args.self.now c.make_room.new.self c.bars_boot.result (c.bars_boot.ensures c.args.word) c.in_default.is c.make_room.ensures.stands
 
-configured : (c : After-index-config) → c.index-config.result.now ≡ config_of c.args.self.now.header c.args.node
-configured c =
-    let world = c.args.self.now in
-    c.index-config.ensures ∙ ap (λ v. get_or v c.args.node c.index-config.result.now) world.ready.configs_are
-    ∙ get_or-configs_below world.header (length world.header.nodes) c.args.node c.index-config.result.now (in_place c)
+pub start-requires-clause-order : goal.start-requires-clause-order
+start-requires-clause-order c = (may (Boot c.args.at c.args.node c.args.word) c.args.self.now c.make_room.new.self c.bars_boot.result (c.bars_boot.ensures c.args.word) c.in_default.is c.make_room.ensures.same).time
 
-ports_are : (c : After-index-config) → c.index-config.result.now.ports ≡ ports_on c.args.node (networks c.args.self.now.header)
-ports_are c = ap (λ (v : GateConfigValue). v.ports) (configured c)
+pub start-requires-clause-node : goal.start-requires-clause-node
+start-requires-clause-node c = (may (Boot c.args.at c.args.node c.args.word) c.args.self.now c.make_room.new.self c.bars_boot.result (c.bars_boot.ensures c.args.word) c.in_default.is c.make_room.ensures.same).node
 
-pub boot-requires-clause-ports : goal.boot-requires-clause-ports
-boot-requires-clause-ports c =
-    let world = c.args.self.now in
-    let at = (goal.at.boot-requires-clause-ports c).After-index-config in
-    let many = ap (λ ps. length ps) (ports_are at) in
-    let some = some_port world.header world.ready.whole c.args.node (in_place at) in
-    omega (arith, many, some)
+pub start-requires-clause-events : goal.start-requires-clause-events
+start-requires-clause-events c = (may (Boot c.args.at c.args.node c.args.word) c.args.self.now c.make_room.new.self c.bars_boot.result (c.bars_boot.ensures c.args.word) c.in_default.is c.make_room.ensures.same).events
 
-pub boot-requires-clause-room : goal.boot-requires-clause-room
-boot-requires-clause-room c =
-    let world = c.args.self.now in
-    let many = ap (λ ps. length ps) (ports_are (goal.at.boot-requires-clause-room c).After-index-config) in
-    let room = room-many (ports_on c.args.node (networks world.header)) in
-    let spare = c.requires.ready.desk in
-    omega (arith, many, room, spare)
+pub start-requires-clause-posts : goal.start-requires-clause-posts
+start-requires-clause-posts c = (may (Boot c.args.at c.args.node c.args.word) c.args.self.now c.make_room.new.self c.bars_boot.result (c.bars_boot.ensures c.args.word) c.in_default.is c.make_room.ensures.same).posts c.args.node refl
 
-pub unreachable-requires : goal.unreachable-requires
-unreachable-requires c =
-    let world = c.args.self.now in
-    let at = (goal.at.unreachable-requires c).After-index-config in
-    let not : ArePorts c.index-config.result.now.ports → ⊥ = subst (λ f. GateBootsNot c.index-config.result.now (to_z w64 (of_z w64 c.wall_at-wall.result)) f) c.in-Err-Peers.field-0-is c.in-Err-Peers.ensures.err in
-    not (subst ArePorts (sym (ports_are at)) (can_boot world.header world.ready.header_is c.args.node))
+pub returns-in-Ok : goal.returns-in-Ok
+returns-in-Ok c = occurred (Boot c.args.at c.args.node c.args.word) c.args.self.now c.make_room.new.self c.start.new.self c.bars_boot.result (c.bars_boot.ensures c.args.word) c.in_default.is c.make_room.ensures.stands c.in-Ok.ensures.happens
 
-pub invariant_of-self-clause-ready : goal.invariant_of-self-clause-ready
-invariant_of-self-clause-ready c =
-    let world = c.args.self.now in
-    let ports = ports_on c.args.node (networks world.header) in
-    let x = tick_at (node_line world.header c.args.node).rate c.args.at in
-    let ok = c.in-Ok.ensures.ok in
-    let clock = ok.3 ∙ c.tick-tick.ensures.tick in
-    let booted : NodeReady ports x c.in-Ok.booted = (ok.2 ∙ ap peers_of_ports (ports_are (goal.at.invariant_of-self-clause-ready c).After-index-config), omega (arith, clock)) in
-    NodesReady-set c.args.node (Some c.in-Ok.booted) (NodesReady-later c.requires.order world.ready) (λ node is. subst (λ n. NodeReady ports x n) (some_same is) booted)
-
-pub note-requires : goal.note-requires
-note-requires c =
-    let world = c.args.self.now in
-    let many = ap (λ ps. length ps) (ports_are (goal.at.note-requires c).After-index-config) in
-    let room = room-many (ports_on c.args.node (networks world.header)) in
-    let few = c.boot.ensures.room.few in
-    let none = ap (λ ps. length ps) c.requires.ready.idle in
-    let sent = c.requires.ready.sent in
-    let posts = c.requires.posts in
-    record {
-      sent = omega (arith, few, many, room, none, sent);
-      few_events = c.requires.events;
-      few_posts = omega (arith, few, many, room, none, posts);
-    }
-
-pub returns-in-Ok-clause-happens : goal.returns-in-Ok-clause-happens
-returns-in-Ok-clause-happens c header events w none =
-    let world = c.args.self.now in
-    let len : vec_len world.nodes ≡ length world.nodes.items = search rules in
-    let line = node_line header c.args.node in
-    let config = config_of header c.args.node in
-    let step = boot_step header c.args.at c.args.node c.args.word in
-    let x = step_tick header step in
-    let past : NodePast = in_node_step step x (past_of header step (run header events)) in
-    let node = c.in-Ok.booted in
-    let acts = acts_on c.boot.new.desk in
-    let nodes = set world.nodes.items c.args.node (Some node) in
-    let tick_is : c.tick-tick.result ≡ x = c.tick-tick.ensures.tick ∙ ap (λ h. tick_at (node_line h c.args.node).rate c.args.at) w.header_is in
-    let wall_line : c.line.result.now ≡ line = c.line.ensures.line ∙ ap (λ h. node_line h c.args.node) w.header_is in
-    let wall_is : c.wall_at-wall.result ≡ line.wall +ℤ pos x = c.wall_at-wall.ensures.wall ∙ rw (wall_line, tick_is) refl in
-    let fits : SFits w64 c.wall_at-wall.result = search rules in
-    let wall_back : to_z w64 (of_z w64 c.wall_at-wall.result) ≡ line.wall +ℤ pos x = to_z-of_z fits ∙ wall_is in
-    let config_is : c.index-config.result.now ≡ config = configured (goal.at.returns-in-Ok-clause-happens c).After-index-config ∙ ap (λ h. config_of h c.args.node) w.header_is in
-    let booted : PerformsAll (UnbootedNode config c.args.word (line.wall +ℤ pos x)) GatewayStands boots_all x tt node (acts_on world.desk) acts =
-    subst (λ t. PerformsAll (UnbootedNode config c.args.word (line.wall +ℤ pos x)) GatewayStands boots_all t tt node (acts_on world.desk) acts) tick_is
-    (subst (λ z. PerformsAll (UnbootedNode config c.args.word z) GatewayStands boots_all c.tick-tick.result tt node (acts_on world.desk) acts) wall_back
-    (subst (λ v. PerformsAll (UnbootedNode v c.args.word (to_z w64 (of_z w64 c.wall_at-wall.result))) GatewayStands boots_all c.tick-tick.result tt node (acts_on world.desk) acts) config_is c.in-Ok.ensures.row)) in
-    let begun : UnbootedNode config c.args.word (line.wall +ℤ pos x) past tt = record { cause = refl; of = record { name = refl; may = refl; strict = refl; ports = refl } } in
-    WorldStands-acted header events (Boot c.args.at c.args.node c.args.word) boots_all step world c.note.new.self nodes acts
-    w (search rules) none refl refl (in_header header events world len w c.args.node c.requires.node) (search rules)
-    (booted.acts past begun ∙ ap (λ ps. ps ++ boots_all x past) c.requires.ready.idle)
-    (subst (λ t. Notes c.args.at c.args.node t world.header nodes world.events world.sent.items acts c.note.new.self) tick_is c.note.ensures)
-    (λ place is. elim (set_cases world.nodes.items c.args.node c.args.node (Some node) place is) [
-      | inl h ↦ subst (λ p. PlaceStands header (joins (Some (steps header (run header events) boots_all step)) (run header events)) c.args.node p) h.1
-          (PlaceStands-acted header (run header events) boots_all step node (booted.stands past begun) (boots-up x past))
-      | inr h ↦ absurd (h.0 refl)
-    ])
-    (λ n place other is. elim (set_cases world.nodes.items c.args.node n (Some node) place is) [ inl h ↦ absurd (other (sym h.0)) | inr h ↦ h.1 ])
+pub returns-in-Err : goal.returns-in-Err
+returns-in-Err c = lacks_memory (Boot c.args.at c.args.node c.args.word) c.args.self.now c.start.new.self c.bars_boot.result (c.bars_boot.ensures c.args.word) c.in_default.is
+    (λ header events w. c.in-Err.ensures.kept header events (c.make_room.ensures.stands header events w))

@@ -3,6 +3,7 @@ use Rattle.std.proofs.Common.{◌≡◌, ◌∙◌, ap, refl, sym, subst, rules,
 use Rattle.tsp_run.specs.Networks.{numbers_below}
 use Rattle.std.proofs.lemmas.List.Elements.{All-nil}
 use Rattle.tsp_run.specs.Ranges.{IsInRange}
+use Rattle.tsp_world.specs.Configs.{AreRooms}
 use Rattle.tsp_world.specs.WorldStands.{PlaceStands}
 use Rattle.tsp_world.proofs.Replicates.{slice_get-replicate}
 use Rattle.tsp_world.proofs.world.World.new.Goals as goal
@@ -17,6 +18,9 @@ invariant_of-result-clause-ready c = record {
       let none = slice_get-replicate c.loop.index n None place (subst (λ ps. slice_get ps n ≡ Some place) c.loop.invariant.none is) in
       let bad : ⊥ = cc in absurd bad;
 }
+
+pub invariant_of-result-clause-rooms_are : goal.invariant_of-result-clause-rooms_are
+invariant_of-result-clause-rooms_are c = subst (λ nets. AreRooms nets c.in_ok-rooms.rooms.items) c.networks_of-nets.ensures.networks c.in_ok-rooms.ensures
 
 pub returns : goal.returns
 returns c = record {

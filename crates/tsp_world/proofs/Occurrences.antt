@@ -1,0 +1,57 @@
+-- An event that nothing refuses occurs, or it lacks memory.
+use Rattle.std.specs.Prelude.{◌≡◌, List, ◌∷◌, Option, None, Some, MatchResult, OnOk, OnErr, refl}
+use Rattle.std.proofs.Common.{sym, ◌∙◌, subst, inl, inr, rules}
+use Rattle.std.specs.declared.result.Result.{Result}
+use Rattle.std.specs.declared.result.Result.TheVariants.{Ok, Err}
+use Rattle.tsp_base.specs.declared.event.Event.{Event}
+use Rattle.tsp_base.specs.declared.event.EventFault.{EventFault}
+use Rattle.tsp_base.specs.declared.event.EventFault.TheVariants.{OutOfMemory}
+use Rattle.tsp_base.specs.Headers.{HeaderValue}
+use Rattle.tsp_run.specs.Refusals.{Allowed, IsRefusal, scene, refusal}
+use Rattle.tsp_run.proofs.RefusalLemmas.{allowed, refusal-alike}
+use Rattle.tsp_world.specs.declared.world.World.{World}
+use Rattle.tsp_world.specs.WorldStands.{Declines, Happens, Occurs, Stays, WorldStands, scene_of}
+use Rattle.tsp_world.proofs.WorldLemmas.{Alike-stands}
+
+-- what the world refuses, its schedule refuses
+pub refuses : (header : HeaderValue) (events : List Event) (world : World) (e : Event) → WorldStands header events world → refusal (scene_of world) e ≡ refusal (scene header events) e
+refuses header events world e w = refusal-alike (scene_of world) (scene header events) (Alike-stands header events world (search rules) w) e
+
+-- where nothing refuses an event its facts hold, also when room was made for it
+pub may : (e : Event) (old ready : World) (cause : Option EventFault) → cause ≡ refusal (scene_of old) e → cause ≡ None → scene_of ready ≡ scene_of old → Allowed (scene_of ready) e
+may e old ready cause refused is same = subst (λ s. Allowed s e) (sym same) (allowed (scene_of old) e (sym refused ∙ is))
+
+-- an event is refused, and nothing has changed
+pub declined : (e : Event) (world : World) (cause : Option EventFault) (fault : EventFault) → cause ≡ refusal (scene_of world) e → cause ≡ Some fault → Declines e world world fault
+declined e world cause fault refused is header events w = (inl (sym (refuses header events world e w) ∙ sym refused ∙ is), w)
+
+-- out of memory
+pub lacks_memory : (e : Event) (old new : World) (cause : Option EventFault) → cause ≡ refusal (scene_of old) e → cause ≡ None → Stays old new → Declines e old new OutOfMemory
+lacks_memory e old new cause refused is stays header events w = (inr (sym (refuses header events old e w) ∙ sym refused ∙ is, refl), stays header events w)
+
+-- an event happened after room was made for it
+pub occurred : (e : Event) (old ready new : World) (cause : Option EventFault) → cause ≡ refusal (scene_of old) e → cause ≡ None → Stays old ready → Happens e ready new → Occurs e old new
+occurred e old ready new cause refused is stays happens header events w =
+    let none = sym (refuses header events old e w) ∙ sym refused ∙ is in
+    (none, happens header events (stays header events w) none)
+
+-- what came of an event
+abbrev Comes : Event → World → World → Result (Unit {0}) EventFault → Type 0
+Comes e old new r = MatchResult r (λ _. Occurs e old new) (Declines e old new)
+
+pub comes-stands : (e : Event) (old new : World) (r : Result (Unit {0}) EventFault) → Comes e old new r → (header : HeaderValue) (events : List Event) → WorldStands header events old → OnOk r (WorldStands header (e ∷ events) new)
+comes-stands e old new (Ok u) is header events w = (is header events w).1
+comes-stands e old new (Err f) is header events w = tt
+
+pub comes-kept : (e : Event) (old new : World) (r : Result (Unit {0}) EventFault) → Comes e old new r → (header : HeaderValue) (events : List Event) → WorldStands header events old → OnErr r (WorldStands header events new)
+comes-kept e old new (Ok u) is header events w = tt
+comes-kept e old new (Err f) is header events w = (is header events w).1
+
+pub comes-fault : (e : Event) (old new : World) (r : Result (Unit {0}) EventFault) → Comes e old new r → (header : HeaderValue) (events : List Event) → WorldStands header events old →
+    MatchResult r (λ _. refusal (scene header events) e ≡ None) (λ f. IsRefusal (refusal (scene header events) e) f)
+comes-fault e old new (Ok u) is header events w = (is header events w).0
+comes-fault e old new (Err f) is header events w = (is header events w).0
+
+pub comes-so : (e : Event) (old new : World) (r : Result (Unit {0}) EventFault) (P : Type 0) → Comes e old new r → (header : HeaderValue) (events : List Event) → WorldStands header events old → (WorldStands header (e ∷ events) new → P) → OnOk r P
+comes-so e old new (Ok u) P is header events w f = f (is header events w).1
+comes-so e old new (Err x) P is header events w f = tt

@@ -1,0 +1,59 @@
+-- The node's timers are looked at by its row.
+use Rattle.std.proofs.Common.{◌≡◌, ◌∙◌, ap, refl, subst, arith, Some, rules, vec_len, length, slice_get}
+use Rattle.std.proofs.Math.ListN.{set}
+use Rattle.tsp_base.specs.Ticks.{tick_at}
+use Rattle.tsp_rules.specs.GateRows.{NodeTurn, answers_all}
+use Rattle.tsp_rules.specs.NodePerforms.{PerformsAll}
+use Rattle.tsp_run.specs.Networks.{networks, ports_on}
+use Rattle.tsp_run.specs.Setup.{node_line}
+use Rattle.tsp_base.specs.declared.event.Event.TheVariants.{Turn}
+use Rattle.tsp_base.specs.History.{Turned}
+use Rattle.tsp_run.specs.Refusals.{scene}
+use Rattle.tsp_run.proofs.RefusalLemmas.{refusal-none, up-down}
+use Rattle.tsp_world.specs.NodesReady.{PlaceReady}
+use Rattle.tsp_world.specs.Sheets.{acts_on}
+use Rattle.tsp_world.specs.WorldStands.{Notes, UpBegun, UpStands}
+use Rattle.tsp_world.proofs.ReadyLemmas.{NodesReady-later, NodesReady-set, CanAct-ready, PlaceReady-acts, place_there}
+use Rattle.tsp_world.proofs.WorldLemmas.{WorldStands-handed, Alike-stands, in_header}
+use Rattle.tsp_world.proofs.world.World.look.Goals as goal
+use Rattle.tsp_world.proofs.world.World.look.Goals.{After-index_mut-place}
+
+there : (c : After-index_mut-place) → slice_get c.args.self.now.nodes.items c.args.node ≡ Some c.index_mut-place.result.now
+there c = place_there c.args.self.now c.args.node c.index_mut-place.result.now c.requires.node (search rules) c.index_mut-place.ensures.value
+
+ready : (c : After-index_mut-place) → PlaceReady (ports_on c.args.node (networks c.args.self.now.header)) c.tick-tick.result c.index_mut-place.result.now
+ready c = PlaceReady-acts c.args.self.now c.args.node c.args.at c.tick-tick.result c.index_mut-place.result.now c.requires.order c.tick-tick.ensures.tick (there c)
+
+pub turn-requires-clause-able : goal.turn-requires-clause-able
+turn-requires-clause-able c = CanAct-ready (ports_on c.args.node (networks c.args.self.now.header)) c.tick-tick.result c.args.self.now.desk.spare c.index_mut-place.result.now (ready (goal.at.turn-requires-clause-able c).After-index_mut-place)
+    c.requires.ready.desk
+
+pub invariant_of-self-clause-ready : goal.invariant_of-self-clause-ready
+invariant_of-self-clause-ready c = NodesReady-set c.args.node c.turn.new.place (NodesReady-later c.requires.order c.args.self.now.ready)
+    (subst (λ t. PlaceReady (ports_on c.args.node (networks c.args.self.now.header)) t c.turn.new.place) c.tick-tick.ensures.tick
+    (c.turn.ensures.ready (ports_on c.args.node (networks c.args.self.now.header)) (ready (goal.at.invariant_of-self-clause-ready c).After-index_mut-place)))
+
+pub note-requires : goal.note-requires
+note-requires c =
+    let world = c.args.self.now in
+    let few = c.turn.ensures.few (ports_on c.args.node (networks world.header)) (ready (goal.at.note-requires c).After-index_mut-place) in
+    let none = ap (λ ps. length ps) c.requires.ready.idle in
+    let sent = c.requires.ready.sent in
+    let posts = c.requires.posts in
+    record {
+      sent = omega (arith, few, none, sent);
+      few_events = c.requires.events;
+      few_posts = omega (arith, few, none, posts);
+    }
+
+pub returns : goal.returns
+returns c header events w none =
+    let world = c.args.self.now in
+    let len : vec_len world.nodes ≡ length world.nodes.items = search rules in
+    let tick_is = c.tick-tick.ensures.tick ∙ ap (λ h. tick_at (node_line h c.args.node).rate c.args.at) w.header_is in
+    let up = (Alike-stands header events world len w).up c.args.node ∙ up-down (scene header events) c.args.node (refusal-none (scene header events) (Turn c.args.at c.args.node) none).up in
+    let acts = acts_on c.turn.new.desk in
+    WorldStands-handed header events (Turn c.args.at c.args.node) (answers_all NodeTurn) (record { at = c.args.at; node = c.args.node; cause = Turned }) world c.note.new.self c.index_mut-place.result.now c.turn.new.place acts
+    w tt none refl refl (in_header header events world len w c.args.node c.requires.node) c.requires.ready.idle up (there (goal.at.returns c).After-index_mut-place)
+    (subst (λ t. PerformsAll UpBegun UpStands (answers_all NodeTurn) t c.index_mut-place.result.now c.turn.new.place (acts_on world.desk) acts) tick_is c.turn.ensures.row)
+    (subst (λ t. Notes c.args.at c.args.node t world.header (set world.nodes.items c.args.node c.turn.new.place) world.events world.sent.items acts c.note.new.self) tick_is c.note.ensures)
