@@ -1,11 +1,9 @@
 -- Whether clocks are near each other, as it is computed.
 use Rattle.std.specs.Prelude.{◌≡◌, ◌+◌, ◌*◌, ◌≤ℤ◌, ◌<◌, ◌≤◌, ℕ, ℤ, pos, ◌+ℤ◌, ◌-ℤ◌, nat_abs, Bool, true, false, Option, Some, List, length, MatchBool}
-use Rattle.std.proofs.Common.{arith, rules, refl, subst, subst₂, sym, ◌⊎◌, inl, inr}
+use Rattle.std.proofs.Common.{ap, arith, rules, subst, subst₂, sym, ◌⊎◌, inl, inr}
 use Rattle.std.proofs.lemmas.Bool.{cases_lt}
 use Rattle.std.proofs.lemmas.Int.{ints}
 use Rattle.tsp_base.specs.Headers.{HeaderValue}
-use Rattle.tsp_audit.specs.Standings.{StandsAs}
-use Rattle.tsp_audit.specs.declared.standing.Standing.{Standing}
 use Rattle.tsp_audit.specs.Agreeing.{AgreesBack, AllAgree, BossAgrees, IsAt, NodeAgrees, PairAgrees, PairNear, shown_by}
 use Rattle.tsp_audit.specs.declared.round_correction.NodeState.{NodeState}
 use Rattle.tsp_audit.specs.declared.round_correction.RoundCorrection.{RoundCorrection}
@@ -20,10 +18,8 @@ bound-same a e b f s t u v ae bf su tv = omega (arith, ints, ae, bf, su, tv)
 pub lone-same : (a e : ℤ) (s u : ℕ) → a ≡ e → s ≡ u → (a +ℤ pos 0) +ℤ pos (2 * s + 2 * 0) ≡ e +ℤ pos (2 * u)
 lone-same a e s u ae su = omega (arith, ints, ae, su)
 
--- a clock that stands so shows its wall, its corrections and its tick
-pub stands-shown : (header : HeaderValue) (t n : ℕ) (a : NodeState) (s : Standing) (m : ℤ) → StandsAs header t n a s → (s.wall +ℤ m) +ℤ pos s.tick ≡ shown_by header n m t
-stands-shown header t n a s m is =
-    subst₂ (λ (w : ℤ) (k : ℕ). (s.wall +ℤ m) +ℤ pos s.tick ≡ (w +ℤ m) +ℤ pos k) is.wall_is is.tick_is refl
+pub sums-same : (a b x y : ℤ) (m n : ℕ) → a ≡ b → x ≡ y → m ≡ n → (a +ℤ x) +ℤ pos m ≡ (b +ℤ y) +ℤ pos n
+sums-same a b x y m n ab xy mn = subst₂ (λ (w z : ℤ). (a +ℤ x) +ℤ pos m ≡ (w +ℤ z) +ℤ pos n) ab xy (ap (λ (k : ℕ). (a +ℤ x) +ℤ pos k) mn)
 
 some-same : (o : Option RoundCorrection) (c d : RoundCorrection) → o ≡ Some c → o ≡ Some d → c ≡ d
 some-same o c d is was = search (rules, is, was)

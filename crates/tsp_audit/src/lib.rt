@@ -43,6 +43,7 @@ pub mod premised;
 pub mod premises;
 mod resting;
 mod round_correction;
+mod shown;
 mod standing;
 mod states;
 pub mod verdict;

@@ -9,7 +9,8 @@ ghost use Rattle.tsp_base.specs.Headers.{HeaderValue};
 ghost use Rattle.tsp_history.specs.Clocks.{IsSumOf, IsTrip};
 
 use crate::round_correction::{NodeState, RoundCorrection};
-use crate::standing::{Standing, standings};
+use crate::shown::Standing;
+use crate::standing::standings;
 use tsp_base::header::Header;
 
 /// Whether two clocks, or two times, differ by at most so many microseconds.
@@ -54,25 +55,17 @@ fn bound(a: i64, b: i64, since: u64, then: u64) -> i128
     errors(a, b) + drifts(since, then)
 }
 
-/// Whether two nodes that one Close corrected differ by at most their errors and drift.
-fn pair_near(
-    a: &NodeState,
-    c: &RoundCorrection,
-    own: &Standing,
-    b: &NodeState,
-    d: &RoundCorrection,
-    other: &Standing,
-) -> bool
-    ensures { (header : HeaderValue) (at first second : ℕ) → StandsAs header at first a.now own.now
-        → StandsAs header at second b.now other.now → a.now.cast ≡ Some c.now
-        → b.now.cast ≡ Some d.now → IsSumOf 4294967295 a.now.moved → IsSumOf 4294967295 b.now.moved
-        → MatchBool result (PairNear header at first a.now c.now second b.now d.now)
-        (PairNear header at first a.now c.now second b.now d.now → ⊥) }
+/// Whether two nodes that one Close corrected, and whose clocks stand so, differ by at most their errors and drift.
+fn pair_near(c: &RoundCorrection, own: &Standing, d: &RoundCorrection, other: &Standing) -> bool
+    ensures { (header : HeaderValue) (at first second : ℕ) (a b : NodeValue)
+        → StandsAs header at first a own.now → StandsAs header at second b other.now
+        → a.cast ≡ Some c.now → b.cast ≡ Some d.now → IsSumOf 4294967295 a.moved
+        → IsSumOf 4294967295 b.moved
+        → MatchBool result (PairNear header at first a c.now second b d.now)
+        (PairNear header at first a c.now second b d.now → ⊥) }
 {
     let most = bound(c.err, d.err, own.drift, other.drift);
-    let clock = own.clock(a.moved);
-    let other_clock = other.clock(b.moved);
-    is_near(clock, other_clock, most)
+    is_near(own.clock, other.clock, most)
 }
 
 /// Whether two nodes differ by at most their errors and drift, where one Close corrected both; else true.
@@ -86,7 +79,7 @@ fn pair_agrees(a: &NodeState, own: &Standing, b: &NodeState, other: &Standing) -
     match (&a.cast, &b.cast) {
         (Some(c), Some(d)) => {
             if c.master == d.master && c.close == d.close {
-                pair_near(a, c, own, b, d, other)
+                pair_near(c, own, d, other)
             } else {
                 true
             }
@@ -131,24 +124,16 @@ fn stands(c: &RoundCorrection, b: &NodeState) -> bool
     }
 }
 
-/// Whether a node and its master differ by at most the error and drift.
-fn master_near(
-    a: &NodeState,
-    c: &RoundCorrection,
-    own: &Standing,
-    b: &NodeState,
-    other: &Standing,
-) -> bool
-    ensures { (header : HeaderValue) (at node : ℕ) → StandsAs header at node a.now own.now
-        → StandsAs header at c.now.master b.now other.now → a.now.cast ≡ Some c.now
-        → IsSumOf 4294967295 a.now.moved → IsSumOf 4294967295 b.now.moved
-        → MatchBool result (MasterNear header at node a.now c.now b.now)
-        (MasterNear header at node a.now c.now b.now → ⊥) }
+/// Whether a node and its master, whose clocks stand so, differ by at most the error and drift.
+fn master_near(c: &RoundCorrection, own: &Standing, other: &Standing) -> bool
+    ensures { (header : HeaderValue) (at node : ℕ) (a b : NodeValue)
+        → StandsAs header at node a own.now → StandsAs header at c.now.master b other.now
+        → a.cast ≡ Some c.now → IsSumOf 4294967295 a.moved → IsSumOf 4294967295 b.moved
+        → MatchBool result (MasterNear header at node a c.now b)
+        (MasterNear header at node a c.now b → ⊥) }
 {
     let most = bound(c.err, 0, own.drift, 0);
-    let clock = own.clock(a.moved);
-    let other_clock = other.clock(b.moved);
-    is_near(clock, other_clock, most)
+    is_near(own.clock, other.clock, most)
 }
 
 /// Whether a node and its master differ by at most the error and drift, where `stands` holds of the
@@ -170,7 +155,7 @@ fn master_agrees(node: usize, a: &NodeState, states: &[NodeState], stand: &[Stan
     }
     let b = &states[master];
     if stands(c, b) {
-        master_near(a, c, &stand[node], b, &stand[master])
+        master_near(c, &stand[node], &stand[master])
     } else {
         true
     }
