@@ -45,7 +45,6 @@
 
 mod check;
 mod claim_reader;
-mod copies;
 mod event_lines;
 mod judging;
 pub mod laws;
