@@ -1,14 +1,18 @@
-use Rattle.std.proofs.Common.{◌≡◌, ◌∙◌, rules, to_z, of_z}
-use Rattle.std.specs.Int.{w64, w128}
-use Rattle.tsp_audit.proofs.NearLemmas.{lone-same, near-told}
+use Rattle.std.proofs.Common.{◌≡◌, ◌≤ℤ◌, ◌∙◌, ◌+ℤ◌, ◌-ℤ◌, ◌-◌, ap, rules, subst, to_z, of_z, ℤ, MatchBool}
+use Rattle.std.specs.Int.{w128}
+use Rattle.tsp_audit.specs.Agreeing.{shown_by}
+use Rattle.tsp_audit.specs.Standings.{reach_at}
+use Rattle.tsp_audit.proofs.NearLemmas.{span-told}
+use Rattle.tsp_base.specs.Ticks.{width}
 use Rattle.tsp_audit.proofs.nearness.master_near.Goals as goal
 
 pub returns : goal.returns
-returns c header at node a b own other ac fsum ssum =
-    let e = c.args.c.now.err in
-    let same-e : to_z w64 (of_z w64 e) ≡ e = search rules in
-    let same-u : to_z w128 (of_z w128 c.args.own.now.clock) ≡ c.args.own.now.clock = search rules in
-    let same-v : to_z w128 (of_z w128 c.args.other.now.clock) ≡ c.args.other.now.clock = search rules in
-    let same-w : to_z w128 (of_z w128 c.bound-most.result) ≡ c.bound-most.result = search rules in
-    let w = same-w ∙ (c.bound-most.ensures ∙ lone-same _ e _ _ same-e (own.drift_is c.args.c.now ac)) in
-    near-told c.is_near.result _ _ _ _ _ _ (same-u ∙ own.clock_is fsum) (same-v ∙ other.clock_is ssum) w c.is_near.ensures
+returns c a b x ac header at node own other fsum ssum =
+    let low : ℤ = to_z w128 (of_z w128 c.args.own.now.low) in
+    let high : ℤ = to_z w128 (of_z w128 c.args.own.now.high) in
+    let same-low : low ≡ c.args.own.now.low = search rules in
+    let same-high : high ≡ c.args.own.now.high = search rules in
+    let same : to_z w128 (of_z w128 c.args.other.now.clock) ≡ c.args.other.now.clock = search rules in
+    span-told c.is_met.result (shown_by header node a.moved at) (shown_by header x.master b.moved at) x.err _ _ (width header.drift (at - x.at))
+    (same-low ∙ (own.low_is x ac ∙ ap (λ (z : ℤ). z -ℤ reach_at header at x) (own.clock_is fsum))) (same-high ∙ (own.high_is x ac ∙ ap (λ (z : ℤ). z +ℤ reach_at header at x) (own.clock_is fsum)))
+    (subst (λ (z : ℤ). MatchBool c.is_met.result ((low ≤ℤ z) × (z ≤ℤ high)) ((low ≤ℤ z) × (z ≤ℤ high) → ⊥)) (same ∙ other.clock_is ssum) c.is_met.ensures)
