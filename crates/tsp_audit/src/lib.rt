@@ -25,6 +25,9 @@
 //!
 //! After the first failure the verdict stays; lines are still checked for fit. An event whose lines
 //! don't fit is refused, and the audit is what it was.
+//!
+//! Claims that were taken in before are judged by [`audit::Audit::of`], which doesn't ask again whether
+//! their lines fit. It needs to know how many lines of the history stand up to the end of each event.
 #![tactic(auto)]
 
 mod acting;
