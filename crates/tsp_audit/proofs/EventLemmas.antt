@@ -58,14 +58,14 @@ step-time header posts up (Turn at node) soon = soon
 step-time header posts up (Take at k) soon = taken-time at k (taker header posts up k) soon
 step-time header posts up (Bytes at node port from octets) soon = soon
 
+-- a history is a place of what it grows to by a step
+pub joins-within : (header : HeaderValue) (o : Option Step) (acts : List Placed) (h : List Line) → Within h (joins_acts header o acts h)
+joins-within header None acts h = Within-all h
+joins-within header (Some step) acts h =
+    Within-tail (line_of step (step_tick header step) first_port Begins) h (joined step (step_tick header step) acts (line_of step (step_tick header step) first_port Begins ∷ h)) (joined-within step (step_tick header step) acts (line_of step (step_tick header step) first_port Begins ∷ h))
+
 grown-by : (count : ℕ) (header : HeaderValue) (o : Option Step) (acts : List Placed) (h : List Line) → Timely (joins_acts header o acts h) → Numbered count (joins_acts header o acts h) → Grown count h (joins_acts header o acts h) (length h)
-grown-by count header None acts h timely numbered = record { within = Within-all h; long = refl; timely = timely; numbered = numbered }
-grown-by count header (Some step) acts h timely numbered = record {
-  within = Within-tail (line_of step (step_tick header step) first_port Begins) h (joined step (step_tick header step) acts (line_of step (step_tick header step) first_port Begins ∷ h)) (joined-within step (step_tick header step) acts (line_of step (step_tick header step) first_port Begins ∷ h));
-  long = refl;
-  timely = timely;
-  numbered = numbered;
-}
+grown-by count header o acts h timely numbered = record { within = joins-within header o acts h; long = refl; timely = timely; numbered = numbered }
 
 longer-by : (header : HeaderValue) (o : Option Step) (acts : List Placed) (h : List Line) → length (joins_acts header o acts h) ≤ length h + (length acts + 1)
 longer-by header None acts h = omega arith

@@ -93,7 +93,7 @@ if-kept false K P Q k m old = λ g. m (old k) (g k)
 pub history-length : (ns : List HistoryLine) → length (history_of ns) ≡ length ns
 history-length ns = omega (arith, length-noted [] ns)
 
-same-length : (s t : List Line) → Within s t → length s ≡ length t → s ≡ t
+pub same-length : (s t : List Line) → Within s t → length s ≡ length t → s ≡ t
 same-length s [] w e = w
 same-length s (l ∷ t) (inl e) long = e
 same-length s (l ∷ t) (inr w) long = let bad : ⊥ = omega (arith, Within-length s t w, long) in absurd bad

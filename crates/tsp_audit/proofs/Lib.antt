@@ -16,3 +16,4 @@ pub mod SampleLemmas
 pub mod SendPlaces
 pub mod StateLemmas
 pub mod TakeLemmas
+pub mod ThroughLemmas

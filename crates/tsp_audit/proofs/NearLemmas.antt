@@ -1,29 +1,28 @@
 -- Whether clocks are near each other, as it is computed.
 use Rattle.std.specs.Prelude.{◌≡◌, ◌+◌, ◌*◌, ◌≤ℤ◌, ◌<◌, ◌≤◌, ℕ, ℤ, pos, ◌+ℤ◌, ◌-ℤ◌, nat_abs, Bool, true, false, Option, Some, List, length, MatchBool}
-use Rattle.std.proofs.Common.{arith, rules, refl, subst, subst₂, sym, ◌⊎◌, inl, inr}
+use Rattle.std.proofs.Common.{ap, refl, ◌∙◌, arith, rules, subst, subst₂, sym, ◌⊎◌, inl, inr}
 use Rattle.std.proofs.lemmas.Bool.{cases_lt}
 use Rattle.std.proofs.lemmas.Int.{ints}
+use Rattle.tsp_audit.proofs.AccordSteps.{state-at}
 use Rattle.tsp_base.specs.Headers.{HeaderValue}
-use Rattle.tsp_audit.specs.Standings.{StandsAs}
-use Rattle.tsp_audit.specs.declared.standing.Standing.{Standing}
-use Rattle.tsp_audit.specs.Agreeing.{AgreesBack, AllAgree, BossAgrees, IsAt, NodeAgrees, PairAgrees, PairNear, shown_by}
+use Rattle.tsp_audit.specs.Agreeing.{AgreesBack, AllAgree, BossAgrees, IsAt, MasterNear, NodeAgrees, PairAgrees, PairNear, Stands, shown_by}
 use Rattle.tsp_audit.specs.declared.round_correction.NodeState.{NodeState}
 use Rattle.tsp_audit.specs.declared.round_correction.RoundCorrection.{RoundCorrection}
 
-pub near-told : (b : Bool) (u v most x y w : ℤ) → u ≡ x → v ≡ y → most ≡ w → MatchBool b (pos (nat_abs (u -ℤ v)) ≤ℤ most) (pos (nat_abs (u -ℤ v)) ≤ℤ most → ⊥) → MatchBool b (pos (nat_abs (x -ℤ y)) ≤ℤ w) (pos (nat_abs (x -ℤ y)) ≤ℤ w → ⊥)
-near-told b u v most x y w ux vy mw m =
-    subst₂ (λ (i j : ℤ). MatchBool b (pos (nat_abs (i -ℤ j)) ≤ℤ w) (pos (nat_abs (i -ℤ j)) ≤ℤ w → ⊥)) ux vy (subst (λ (k : ℤ). MatchBool b (pos (nat_abs (u -ℤ v)) ≤ℤ k) (pos (nat_abs (u -ℤ v)) ≤ℤ k → ⊥)) mw m)
+-- two clocks are near each other exactly where the spans of what they may be wrong by meet
+pub spans-told : (r : Bool) (x y e f xl xh yl yh : ℤ) (u v : ℕ) → xl ≡ x -ℤ (e +ℤ pos (2 * u)) → xh ≡ x +ℤ (e +ℤ pos (2 * u)) → yl ≡ y -ℤ (f +ℤ pos (2 * v)) → yh ≡ y +ℤ (f +ℤ pos (2 * v)) →
+    MatchBool r ((xl ≤ℤ yh) × (yl ≤ℤ xh)) ((xl ≤ℤ yh) × (yl ≤ℤ xh) → ⊥) → MatchBool r (pos (nat_abs (x -ℤ y)) ≤ℤ ((e +ℤ f) +ℤ pos (2 * u + 2 * v))) (pos (nat_abs (x -ℤ y)) ≤ℤ ((e +ℤ f) +ℤ pos (2 * u + 2 * v)) → ⊥)
+spans-told true x y e f xl xh yl yh u v a b c d m = let s = m.0 in let t = m.1 in omega (arith, ints, a, b, c, d, s, t)
+spans-told false x y e f xl xh yl yh u v a b c d m = λ near. m (omega (arith, ints, a, b, c, d, near), omega (arith, ints, a, b, c, d, near))
 
-pub bound-same : (a e b f : ℤ) (s t u v : ℕ) → a ≡ e → b ≡ f → s ≡ u → t ≡ v → (a +ℤ b) +ℤ pos (2 * s + 2 * t) ≡ (e +ℤ f) +ℤ pos (2 * u + 2 * v)
-bound-same a e b f s t u v ae bf su tv = omega (arith, ints, ae, bf, su, tv)
+-- a clock is near another exactly where that is within the span of what the first may be wrong by
+pub span-told : (r : Bool) (x y e xl xh : ℤ) (u : ℕ) → xl ≡ x -ℤ (e +ℤ pos (2 * u)) → xh ≡ x +ℤ (e +ℤ pos (2 * u)) →
+    MatchBool r ((xl ≤ℤ y) × (y ≤ℤ xh)) ((xl ≤ℤ y) × (y ≤ℤ xh) → ⊥) → MatchBool r (pos (nat_abs (x -ℤ y)) ≤ℤ (e +ℤ pos (2 * u))) (pos (nat_abs (x -ℤ y)) ≤ℤ (e +ℤ pos (2 * u)) → ⊥)
+span-told true x y e xl xh u a b m = let s = m.0 in let t = m.1 in omega (arith, ints, a, b, s, t)
+span-told false x y e xl xh u a b m = λ near. m (omega (arith, ints, a, b, near), omega (arith, ints, a, b, near))
 
-pub lone-same : (a e : ℤ) (s u : ℕ) → a ≡ e → s ≡ u → (a +ℤ pos 0) +ℤ pos (2 * s + 2 * 0) ≡ e +ℤ pos (2 * u)
-lone-same a e s u ae su = omega (arith, ints, ae, su)
-
--- a clock that stands so shows its wall, its corrections and its tick
-pub stands-shown : (header : HeaderValue) (t n : ℕ) (a : NodeState) (s : Standing) (m : ℤ) → StandsAs header t n a s → (s.wall +ℤ m) +ℤ pos s.tick ≡ shown_by header n m t
-stands-shown header t n a s m is =
-    subst₂ (λ (w : ℤ) (k : ℕ). (s.wall +ℤ m) +ℤ pos s.tick ≡ (w +ℤ m) +ℤ pos k) is.wall_is is.tick_is refl
+pub sums-same : (a b x y : ℤ) (m n : ℕ) → a ≡ b → x ≡ y → m ≡ n → (a +ℤ x) +ℤ pos m ≡ (b +ℤ y) +ℤ pos n
+sums-same a b x y m n ab xy mn = subst₂ (λ (w z : ℤ). (a +ℤ x) +ℤ pos m ≡ (w +ℤ z) +ℤ pos n) ab xy (ap (λ (k : ℕ). (a +ℤ x) +ℤ pos k) mn)
 
 some-same : (o : Option RoundCorrection) (c d : RoundCorrection) → o ≡ Some c → o ≡ Some d → c ≡ d
 some-same o c d is was = search (rules, is, was)
@@ -33,6 +32,18 @@ pub pair-told : (header : HeaderValue) (t n k : ℕ) (a b : NodeState) (c d : Ro
     MatchBool r (PairNear header t n a c k b d) (PairNear header t n a c k b d → ⊥) → MatchBool r (PairAgrees header t n a k b) (PairAgrees header t n a k b → ⊥)
 pair-told header t n k a b c d true ac bd masters closes near = λ e f ae bf ms cs. subst₂ (λ (x y : RoundCorrection). PairNear header t n a x k b y) (some-same a.cast c e ac ae) (some-same b.cast d f bd bf) near
 pair-told header t n k a b c d false ac bd masters closes far = λ agrees. far (agrees c d ac bd masters closes)
+
+same-state : (states : List NodeState) (k : ℕ) (b f : NodeState) → IsAt states k b → IsAt states k f → b ≡ f
+same-state states k b f bat fat = sym bat.is ∙ state-at states k k b f fat refl
+
+-- a node agrees with its master exactly where they are near, if that was left alone
+pub boss-told : (header : HeaderValue) (t n : ℕ) (a : NodeState) (states : List NodeState) (c : RoundCorrection) (b : NodeState) (r : Bool) → a.cast ≡ Some c → IsAt states c.master b → Stands c b →
+    MatchBool r (MasterNear header t n a c b) (MasterNear header t n a c b → ⊥) → MatchBool r (BossAgrees header t n a states) (BossAgrees header t n a states → ⊥)
+boss-told header t n a states c b true ac bat st near = λ e f ae fat left.
+    (let ce : c ≡ e = some-same a.cast c e ac ae in
+    let bf : b ≡ f = same-state states c.master b f bat (subst (λ (x : RoundCorrection). IsAt states x.master f) (sym ce) fat) in
+    subst₂ (λ (x : RoundCorrection) (y : NodeState). MasterNear header t n a x y) ce bf near)
+boss-told header t n a states c b false ac bat st far = λ agrees. far (agrees c b ac bat st)
 
 near-turned : (x y m w : ℤ) → pos (nat_abs (x -ℤ y)) ≤ℤ m → m ≡ w → pos (nat_abs (y -ℤ x)) ≤ℤ w
 near-turned x y m w near same = omega (arith, ints, near, same)

@@ -1,6 +1,6 @@
 -- The history of some lines, and of those before them.
 use Rattle.std.specs.Prelude.{◌≡◌, ◌<◌, ◌+◌, ℕ, List, [], ◌∷◌, length}
-use Rattle.std.proofs.Common.{sym, ap, subst, ◌∙◌, take, drop, get_or, arith}
+use Rattle.std.proofs.Common.{sym, ap, subst, ◌∙◌, take, drop, get_or}
 use Rattle.std.proofs.lemmas.List.{take-append-drop}
 use Rattle.tsp_promises.specs.Everywhere.{Everywhere}
 use Rattle.tsp_base.specs.History.{Line}

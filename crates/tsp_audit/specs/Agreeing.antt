@@ -136,6 +136,10 @@ pub record NodeAgrees (header : HeaderValue) (t n : ℕ) (a : NodeState) (states
   pub pairs : (k : ℕ) (b : NodeState) → IsAt states k b → PairAgrees header t n a k b
   pub master : BossAgrees header t n a states
 
+-- a node agrees with each up to itself that the same Close corrected
+abbrev pub PairsAgree : HeaderValue → ℕ → ℕ → NodeState → List NodeState → Type 0
+PairsAgree header t n a states = (k : ℕ) (b : NodeState) → k ≤ n → IsAt states k b → PairAgrees header t n a k b
+
 -- a node agrees with each up to itself that the same Close corrected, and with its master
 pub record AgreesBack (header : HeaderValue) (t n : ℕ) (a : NodeState) (states : List NodeState) : Type 0 where
   pub pairs : (k : ℕ) (b : NodeState) → k ≤ n → IsAt states k b → PairAgrees header t n a k b

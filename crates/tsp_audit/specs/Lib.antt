@@ -3,6 +3,7 @@ pub mod Agreeing
 pub mod Backing
 pub mod Casting
 pub mod Changes
+pub mod Ends
 pub mod Judged
 pub mod Leading
 pub mod Looking
@@ -13,5 +14,6 @@ pub mod Parts
 pub mod Premised
 pub mod Resting
 pub mod Settings
+pub mod SmallEvents
 pub mod Standings
 pub mod Verdicts

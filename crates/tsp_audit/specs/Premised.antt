@@ -5,7 +5,7 @@ use Rattle.std.specs.List.{list_any}
 use Rattle.tsp_audit.specs.declared.premises.Premises.{Premises}
 use Rattle.tsp_base.specs.declared.constants.TheConstants.{LIFE}
 use Rattle.tsp_base.specs.declared.event.Event.{Event}
-use Rattle.tsp_base.specs.declared.event.Event.TheVariants.{Boot, Turn, Take, Bytes}
+use Rattle.tsp_base.specs.declared.event.Event.TheVariants.{Boot, Take, Bytes}
 use Rattle.tsp_base.specs.declared.place.Place.TheVariants.{Peer}
 use Rattle.tsp_base.specs.Headers.{HeaderValue}
 use Rattle.tsp_claims.specs.declared.claimed.Claimed.{Claimed}

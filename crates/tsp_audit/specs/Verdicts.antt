@@ -3,6 +3,7 @@ use Rattle.std.specs.Prelude.{◌≡◌, ℕ, ◌+◌, List, ◌∷◌, length, 
 use Rattle.std.specs.declared.result.Result.{Result}
 use Rattle.std.specs.declared.result.Result.TheVariants.{Ok, Err}
 use Rattle.tsp_audit.specs.declared.audit.Audit.{Audit}
+use Rattle.tsp_audit.specs.declared.notes.Notes.{Notes}
 use Rattle.tsp_audit.specs.declared.premises.Premises.{Premises}
 use Rattle.tsp_audit.specs.declared.verdict.Failure.{Failure}
 use Rattle.tsp_audit.specs.declared.verdict.Verdict.{Verdict}
@@ -41,6 +42,12 @@ pub record FailsFirst (premises : Premises) (setting : Setting) (header : Header
 abbrev pub IsFound : Premises → Setting → HeaderValue → List Claim → Option Failure → Type 0
 IsFound premises setting header claims None = AllHold premises setting header claims
 IsFound premises setting header claims (Some f) = FailsFirst premises setting header claims f.part f.event
+
+-- this is found of all events: no part fails up to any, and these are the notes of all lines then; or this part fails
+-- first
+pub record Looked (premises : Premises) (header : HeaderValue) (told : List Claim) (notes : Notes) (found : Option Failure) : Type 0 where
+  pub found_is : (setting : Setting) → HasClocks header setting → IsFound premises setting header told found
+  pub notes_are : found ≡ None → NotesStand premises (length header.nodes) (claimed header told) notes
 
 -- a verdict on these claims, under the premises that the whole schedule keeps
 abbrev pub IsVerdict : Premises → Setting → HeaderValue → List Claim → Verdict → Type 0

@@ -1,13 +1,14 @@
 //! The audit of a claimed history, event by event.
 ghost use Rattle.std.specs.Prelude.{◌≡◌, ◌≤◌, ◌<◌, ◌+◌, ◌-◌, List, [], true, None, length, vec_len, vec_capacity, IfOk};
-ghost use Rattle.tsp_audit.specs.Looking.{Finds, Grown, Looks};
+ghost use Rattle.tsp_audit.specs.Ends.{AreDated, EndsAt};
+ghost use Rattle.tsp_audit.specs.Looking.{Finds, Grown};
 ghost use Rattle.tsp_audit.specs.Notes.{HasRoom, NotesStand};
 ghost use Rattle.tsp_base.specs.Headers.{HeaderValue, is_whole};
 ghost use Rattle.tsp_base.specs.History.{Line};
 ghost use Rattle.tsp_claims.specs.ClaimedHistory.{Claim, claimed};
 ghost use Rattle.tsp_claims.specs.Stands.{ClaimsStand};
 
-use crate::judging::judge;
+use crate::looking::{look, look_through};
 use crate::notes::Notes;
 use crate::premises::Premises;
 use crate::verdict::{Failure, Verdict, verdict_of};
@@ -17,30 +18,6 @@ use tsp_base::header::Header;
 use tsp_claims::audit_fault::AuditFault;
 use tsp_claims::claims::Claims;
 use tsp_script::trace::Line2;
-
-/// The first failure among the lines of the newest event, which begin at index `from`, where all
-/// parts hold before it. The notes are those of the lines before it, and where nothing fails then
-/// those of all.
-fn look(claims: &Claims, premises: Premises, from: usize, notes: &mut Notes) -> Option<Failure>
-    ensures { (header : HeaderValue) (new : List Claim) (h : List Line)
-        → ClaimsStand header new claims.now
-        → Grown (length header.nodes) h (claimed header new) from
-        → HasRoom (length (claimed header new) - from) notes.old
-        → NotesStand premises (length header.nodes) h notes.old
-        → Looks premises header new h notes.new result }
-{
-    let lines = claims.lines();
-    if lines.len() < from {
-        return None;
-    }
-    match judge(claims.header(), premises, lines, from, notes) {
-        None => None,
-        Some(part) => Some(Failure {
-            part,
-            event: claims.events(),
-        }),
-    }
-}
 
 /// The first failure, which is the earlier one if there is one.
 fn find(
@@ -59,7 +36,14 @@ fn find(
 {
     match failed {
         Some(failure) => Some(failure),
-        None => look(claims, premises, from, notes),
+        None => look(
+            claims.header(),
+            claims.lines(),
+            premises,
+            from,
+            claims.events(),
+            notes,
+        ),
     }
 }
 
@@ -104,6 +88,30 @@ impl Audit {
             }),
             Err(refused) => Err(refused),
         }
+    }
+
+    /// The audit of claims that were taken in before, which are judged here; whether their lines fit
+    /// isn't asked again. `ends` has, for each event, the oldest first, how many lines of the history
+    /// stand up to its end. Fails only if out of memory, and then drops the claims.
+    pub fn of(
+        alloc: Global,
+        claims: Claims,
+        ends: &[u32],
+        premises: Premises,
+    ) -> Result<Audit, AllocError>
+        requires few { length claims.header.nodes ≤ 16 }
+        ensures { (header : HeaderValue) (told : List Claim) → ClaimsStand header told claims
+            → AreDated (length header.nodes) told → EndsAt header told ends.now
+            → IfOk result (λ audit. AuditStands premises header told audit) }
+    {
+        let mut notes = Notes::new(alloc, claims.header().nodes().len())?;
+        let failed = look_through(&claims, ends, premises, &mut notes)?;
+        Ok(Audit {
+            claims,
+            premises,
+            notes,
+            failed,
+        })
     }
 
     /// Takes in an event and the lines that are claimed of it, and gives the verdict of the history

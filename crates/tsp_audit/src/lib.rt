@@ -25,6 +25,9 @@
 //!
 //! After the first failure the verdict stays; lines are still checked for fit. An event whose lines
 //! don't fit is refused, and the audit is what it was.
+//!
+//! Claims that were taken in before are judged by [`audit::Audit::of`], which doesn't ask again whether
+//! their lines fit. It needs to know how many lines of the history stand up to the end of each event.
 #![tactic(auto)]
 
 mod acting;
@@ -36,6 +39,7 @@ mod casting;
 mod clock;
 mod judging;
 mod leading;
+mod looking;
 mod measuring;
 mod nearness;
 mod notes;
@@ -43,6 +47,8 @@ pub mod premised;
 pub mod premises;
 mod resting;
 mod round_correction;
+mod shown;
+pub mod small_event;
 mod standing;
 mod states;
 pub mod verdict;

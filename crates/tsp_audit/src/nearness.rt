@@ -1,23 +1,23 @@
 //! Whether clocks that one round corrected agree.
-ghost use Rattle.std.specs.Prelude.{◌≡◌, ◌≤◌, ◌<◌, ◌^◌, ◌+◌, ◌-◌, ◌*◌, ◌≤ℤ◌, ◌+ℤ◌, ◌-ℤ◌, pos};
-ghost use Rattle.std.specs.Prelude.{neg_ℤ, nat_abs, ℕ, length, get_or, Some, MatchBool};
-ghost use Rattle.tsp_audit.specs.Agreeing.{AllAgree, AllBounded, BossAgrees, IsAt, MasterNear};
-ghost use Rattle.tsp_audit.specs.Agreeing.{AgreesBack, PairAgrees, PairNear, Stands};
-ghost use Rattle.tsp_audit.specs.Standings.{AllStand, StandsAs};
+ghost use Rattle.std.specs.Prelude.{◌≡◌, ◌≤◌, ◌<◌, ◌≤ℤ◌, ◌-ℤ◌, pos, nat_abs, ℕ, length, Some};
+ghost use Rattle.tsp_audit.specs.Agreeing.{AgreesBack, AllAgree, AllBounded, BossAgrees, MasterNear};
+ghost use Rattle.tsp_audit.specs.Agreeing.{PairAgrees, PairNear, PairsAgree, Stands};
+ghost use Rattle.tsp_audit.specs.Standings.{IsWhether, OfNode, OfPair, StandsAs};
 ghost use Rattle.tsp_audit.specs.declared.round_correction.NodeState.{NodeState as NodeValue};
+ghost use Rattle.tsp_audit.specs.declared.round_correction.RoundCorrection.{RoundCorrection as CorrectionValue};
 ghost use Rattle.tsp_base.specs.Headers.{HeaderValue};
 ghost use Rattle.tsp_history.specs.Clocks.{IsSumOf, IsTrip};
 
 use crate::round_correction::{NodeState, RoundCorrection};
-use crate::standing::{Standing, standings};
+use crate::shown::Standing;
+use crate::standing::standings;
 use tsp_base::header::Header;
 
 /// Whether two clocks, or two times, differ by at most so many microseconds.
 pub(crate) fn is_near(a: i128, b: i128, most: i128) -> bool
     requires first { IsTrip a }
     requires second { IsTrip b }
-    ensures { MatchBool result (pos (nat_abs (a -ℤ b)) ≤ℤ most) (pos (nat_abs (a -ℤ b)) ≤ℤ most
-        → ⊥) }
+    ensures { IsWhether result (pos (nat_abs (a -ℤ b)) ≤ℤ most) }
 {
     if a - b > most {
         return false;
@@ -28,65 +28,37 @@ pub(crate) fn is_near(a: i128, b: i128, most: i128) -> bool
     true
 }
 
-/// The sum of two errors, in microseconds.
-fn errors(a: i64, b: i64) -> i128
-    ensures sum { result ≡ a +ℤ b }
-    ensures low { neg_ℤ (pos (2 ^ 64)) ≤ℤ result }
-    ensures high { result ≤ℤ pos (2 ^ 64) }
+/// Whether of two spans each begins no later than the other ends.
+fn is_met(low: i128, high: i128, other_low: i128, other_high: i128) -> bool
+    ensures { IsWhether result ((low ≤ℤ other_high) × (other_low ≤ℤ high)) }
 {
-    i128::from(a) + i128::from(b)
+    if low > other_high {
+        return false;
+    }
+    if other_low > high {
+        return false;
+    }
+    true
 }
 
-/// Twice the sum of what each of two clocks may have drifted, in microseconds.
-fn drifts(since: u64, then: u64) -> i128
-    ensures sum { result ≡ pos (2 * since + 2 * then) }
-    ensures small { result ≤ℤ pos (2 ^ 70) }
-    ensures some { pos 0 ≤ℤ result }
+/// Whether two nodes that one Close corrected, and whose clocks stand so, differ by at most their errors and drift.
+fn pair_near(own: &Standing, other: &Standing) -> bool
+    ensures { (a b : NodeValue) (c d : CorrectionValue) → a.cast ≡ Some c → b.cast ≡ Some d
+        → OfPair a own.now b other.now
+        (λ header at first second. IsWhether result (PairNear header at first a c second b d)) }
 {
-    let both = i128::from(since) + i128::from(then);
-    both + both
-}
-
-/// The sum of two errors, and of twice what each of two clocks may have drifted since its reading, in microseconds.
-fn bound(a: i64, b: i64, since: u64, then: u64) -> i128
-    ensures { result ≡ (a +ℤ b) +ℤ pos (2 * since + 2 * then) }
-{
-    errors(a, b) + drifts(since, then)
-}
-
-/// Whether two nodes that one Close corrected differ by at most their errors and drift.
-fn pair_near(
-    a: &NodeState,
-    c: &RoundCorrection,
-    own: &Standing,
-    b: &NodeState,
-    d: &RoundCorrection,
-    other: &Standing,
-) -> bool
-    ensures { (header : HeaderValue) (at first second : ℕ) → StandsAs header at first a.now own.now
-        → StandsAs header at second b.now other.now → a.now.cast ≡ Some c.now
-        → b.now.cast ≡ Some d.now → IsSumOf 4294967295 a.now.moved → IsSumOf 4294967295 b.now.moved
-        → MatchBool result (PairNear header at first a.now c.now second b.now d.now)
-        (PairNear header at first a.now c.now second b.now d.now → ⊥) }
-{
-    let most = bound(c.err, d.err, own.drift, other.drift);
-    let clock = own.clock(a.moved);
-    let other_clock = other.clock(b.moved);
-    is_near(clock, other_clock, most)
+    is_met(own.low, own.high, other.low, other.high)
 }
 
 /// Whether two nodes differ by at most their errors and drift, where one Close corrected both; else true.
 fn pair_agrees(a: &NodeState, own: &Standing, b: &NodeState, other: &Standing) -> bool
-    ensures { (header : HeaderValue) (at first second : ℕ) → StandsAs header at first a.now own.now
-        → StandsAs header at second b.now other.now → IsSumOf 4294967295 a.now.moved
-        → IsSumOf 4294967295 b.now.moved
-        → MatchBool result (PairAgrees header at first a.now second b.now)
-        (PairAgrees header at first a.now second b.now → ⊥) }
+    ensures { OfPair a.now own.now b.now other.now
+        (λ header at first second. IsWhether result (PairAgrees header at first a.now second b.now)) }
 {
     match (&a.cast, &b.cast) {
         (Some(c), Some(d)) => {
             if c.master == d.master && c.close == d.close {
-                pair_near(a, c, own, b, d, other)
+                pair_near(own, other)
             } else {
                 true
             }
@@ -100,11 +72,8 @@ fn pair_agrees(a: &NodeState, own: &Standing, b: &NodeState, other: &Standing) -
 fn pairs_agree(node: usize, a: &NodeState, states: &[NodeState], stand: &[Standing]) -> bool
     requires node { node < length states.now }
     requires many { length states.now ≤ length stand.now }
-    ensures { (header : HeaderValue) (at : ℕ) → AllStand header at states.now stand.now
-        → IsAt states.now node a.now → AllBounded states.now
-        → MatchBool result ((k : ℕ) (b : NodeValue) → k ≤ node → IsAt states.now k b
-        → PairAgrees header at node a.now k b) (((k : ℕ) (b : NodeValue) → k ≤ node
-        → IsAt states.now k b → PairAgrees header at node a.now k b) → ⊥) }
+    ensures { OfNode states.now stand.now node a.now
+        (λ header at. IsWhether result (PairsAgree header at node a.now states.now)) }
 {
     for k in 0..node + 1 {
         if !pair_agrees(a, &stand[node], &states[k], &stand[k]) {
@@ -117,7 +86,7 @@ fn pairs_agree(node: usize, a: &NodeState, states: &[NodeState], stand: &[Standi
 /// Whether the master of a cast, a Correct that its Close sent, has neither booted nor corrected
 /// its clock since that Close, but for a Correct that is the next act.
 fn stands(c: &RoundCorrection, b: &NodeState) -> bool
-    ensures { MatchBool result (Stands c.now b.now) (Stands c.now b.now → ⊥) }
+    ensures { IsWhether result (Stands c.now b.now) }
 {
     if c.lives != b.lives {
         return false;
@@ -131,24 +100,14 @@ fn stands(c: &RoundCorrection, b: &NodeState) -> bool
     }
 }
 
-/// Whether a node and its master differ by at most the error and drift.
-fn master_near(
-    a: &NodeState,
-    c: &RoundCorrection,
-    own: &Standing,
-    b: &NodeState,
-    other: &Standing,
-) -> bool
-    ensures { (header : HeaderValue) (at node : ℕ) → StandsAs header at node a.now own.now
-        → StandsAs header at c.now.master b.now other.now → a.now.cast ≡ Some c.now
-        → IsSumOf 4294967295 a.now.moved → IsSumOf 4294967295 b.now.moved
-        → MatchBool result (MasterNear header at node a.now c.now b.now)
-        (MasterNear header at node a.now c.now b.now → ⊥) }
+/// Whether a node and its master, whose clocks stand so, differ by at most the error and drift.
+fn master_near(own: &Standing, other: &Standing) -> bool
+    ensures { (a b : NodeValue) (c : CorrectionValue) → a.cast ≡ Some c → (header : HeaderValue)
+        (at node : ℕ) → StandsAs header at node a own.now → StandsAs header at c.master b other.now
+        → IsSumOf 4294967295 a.moved → IsSumOf 4294967295 b.moved
+        → IsWhether result (MasterNear header at node a c b) }
 {
-    let most = bound(c.err, 0, own.drift, 0);
-    let clock = own.clock(a.moved);
-    let other_clock = other.clock(b.moved);
-    is_near(clock, other_clock, most)
+    is_met(own.low, own.high, other.clock, other.clock)
 }
 
 /// Whether a node and its master differ by at most the error and drift, where `stands` holds of the
@@ -156,10 +115,8 @@ fn master_near(
 fn master_agrees(node: usize, a: &NodeState, states: &[NodeState], stand: &[Standing]) -> bool
     requires node { node < length states.now }
     requires many { length states.now ≤ length stand.now }
-    ensures { (header : HeaderValue) (at : ℕ) → AllStand header at states.now stand.now
-        → IsAt states.now node a.now → AllBounded states.now
-        → MatchBool result (BossAgrees header at node a.now states.now)
-        (BossAgrees header at node a.now states.now → ⊥) }
+    ensures { OfNode states.now stand.now node a.now
+        (λ header at. IsWhether result (BossAgrees header at node a.now states.now)) }
 {
     let Some(c) = &a.cast else {
         return true;
@@ -170,7 +127,7 @@ fn master_agrees(node: usize, a: &NodeState, states: &[NodeState], stand: &[Stan
     }
     let b = &states[master];
     if stands(c, b) {
-        master_near(a, c, &stand[node], b, &stand[master])
+        master_near(&stand[node], &stand[master])
     } else {
         true
     }
@@ -180,10 +137,8 @@ fn master_agrees(node: usize, a: &NodeState, states: &[NodeState], stand: &[Stan
 fn node_agrees(node: usize, a: &NodeState, states: &[NodeState], stand: &[Standing]) -> bool
     requires node { node < length states.now }
     requires many { length states.now ≤ length stand.now }
-    ensures { (header : HeaderValue) (at : ℕ) → AllStand header at states.now stand.now
-        → IsAt states.now node a.now → AllBounded states.now
-        → MatchBool result (AgreesBack header at node a.now states.now)
-        (AgreesBack header at node a.now states.now → ⊥) }
+    ensures { OfNode states.now stand.now node a.now
+        (λ header at. IsWhether result (AgreesBack header at node a.now states.now)) }
 {
     if a.cast.is_none() {
         return true;
@@ -196,8 +151,7 @@ fn node_agrees(node: usize, a: &NodeState, states: &[NodeState], stand: &[Standi
 pub(crate) fn all_agree(header: &Header, at: u64, states: &[NodeState]) -> bool
     requires { length states.now ≤ 64 }
     ensures { at ≤ 1000000000000000 → AllBounded states.now
-        → MatchBool result (AllAgree header.now at states.now) (AllAgree header.now at states.now
-        → ⊥) }
+        → IsWhether result (AllAgree header.now at states.now) }
 {
     let stand = standings(header, at, states);
     for n in 0..states.len() {

@@ -5,6 +5,7 @@ ghost use Rattle.tsp_base.specs.Headers.{HeaderValue};
 ghost use Rattle.tsp_audit.specs.Premised.{boots_with, forges, kept_with, premises_of, repeats_word, takes_early};
 
 use crate::premises::Premises;
+use crate::small_event::SmallEvent;
 use tsp_base::constants::LIFE;
 use tsp_base::event::Event;
 use tsp_base::place::Place;
@@ -37,25 +38,15 @@ fn takes_early(posts: &[Claimed], e: &Event) -> bool
     }
 }
 
-/// Whether an event is a boot with this word.
-fn boots_with(e: &Event, word: u64) -> bool
-    ensures { result ≡ boots_with word e.now }
-{
-    match e {
-        Event::Boot { word: other, .. } => *other == word,
-        _ => false,
-    }
-}
-
 /// Whether one of these events is a boot with this word.
-fn is_booted_with(events: &[Event], word: u64) -> bool
+fn is_booted_with(events: &[SmallEvent], word: u64) -> bool
     ensures { result ≡ list_any (boots_with word) events.now }
 {
-    events.iter().any(|e| boots_with(e, word))
+    events.iter().any(|e| e.boots_with(word))
 }
 
 /// Whether an event is a boot with the word of a boot among these.
-fn repeats_word(events: &[Event], e: &Event) -> bool
+fn repeats_word(events: &[SmallEvent], e: &Event) -> bool
     ensures { result ≡ repeats_word e.now (reverse events.now) }
 {
     match e {
@@ -76,7 +67,7 @@ pub fn all_kept() -> Premises
 }
 
 /// Which premises are kept with one event more, behind these events and the posts that are claimed of them.
-pub fn keep_with(kept: Premises, events: &[Event], posts: &[Claimed], e: &Event) -> Premises
+pub fn keep_with(kept: Premises, events: &[SmallEvent], posts: &[Claimed], e: &Event) -> Premises
     ensures { result ≡ kept_with kept (reverse events.now) posts.now e.now }
 {
     Premises {

@@ -1,27 +1,15 @@
 //! What clocks show at one time, once their corrections are slewed.
-ghost use Rattle.std.specs.Prelude.{◌≡◌, ◌≤◌, ◌-◌, ◌^◌, ◌+ℤ◌, pos, length, Some};
-ghost use Rattle.tsp_audit.specs.Standings.{AllStand, StandsAs};
+ghost use Rattle.std.specs.Prelude.{◌≡◌, ◌≤◌, ◌-◌, ◌*◌, ◌^◌, ◌+ℤ◌, ◌≤ℤ◌, neg_ℤ, pos, length, Some};
+ghost use Rattle.tsp_audit.specs.Standings.{AllStand, StandsAs, reach_at};
 ghost use Rattle.tsp_audit.specs.declared.round_correction.RoundCorrection.{RoundCorrection as CorrectionValue};
 ghost use Rattle.tsp_base.specs.Ticks.{width};
-ghost use Rattle.tsp_history.specs.Clocks.{IsSmall, IsSumOf};
 
 use crate::clock::{add, bounded, clock_of, tick_of};
 use crate::round_correction::NodeState;
+use crate::shown::Standing;
 use tsp_base::constants::SCHEDULE_END;
 use tsp_base::drift::width;
 use tsp_base::header::Header;
-
-/// What a node's clock shows at a true time, but for its corrections.
-#[derive(Clone, Copy)]
-pub(crate) struct Standing {
-    /// Its wall at tick 0, in microseconds.
-    pub(crate) wall: i64,
-    /// Its tick: microseconds by its own counter.
-    pub(crate) tick: u64,
-    /// How far, at most, it may have drifted, in microseconds, since the reading by which a round
-    /// corrected it; 0 where none has.
-    pub(crate) drift: u64,
-}
 
 /// How far, at most, a clock may have drifted since a reading, in microseconds.
 fn drifted(drift: u32, at: u64, reading: u64) -> u64
@@ -36,51 +24,53 @@ fn drifted(drift: u32, at: u64, reading: u64) -> u64
     }
 }
 
-impl Standing {
-    /// What the clock shows, once its corrections are slewed, where those since its last boot come
-    /// to `moved`; in microseconds.
-    pub(crate) fn clock(&self, moved: i128) -> i128
-        ensures sum { IsSumOf 4294967295 moved
-            → result ≡ (self.now.wall +ℤ moved) +ℤ pos self.now.tick }
-        ensures small { IsSmall result }
-    {
-        add(self.wall, bounded(moved), self.tick)
-    }
+/// An error, and twice a drift, in microseconds.
+fn reach(err: i64, drift: u64) -> i128
+    ensures reach { result ≡ err +ℤ pos (2 * drift) }
+    ensures low { neg_ℤ (pos (2 ^ 70)) ≤ℤ result }
+    ensures high { result ≤ℤ pos (2 ^ 70) }
+{
+    let drift = i128::from(drift);
+    i128::from(err) + (drift + drift)
 }
 
-/// How far a node's clock may have drifted at a true time since the reading by which a round
-/// corrected it; in microseconds.
-fn drifted_of(header: &Header, at: u64, a: &NodeState) -> u64
-    ensures { at ≤ 1000000000000000 → (c : CorrectionValue) → a.now.cast ≡ Some c
-        → result ≡ width header.now.drift (at - c.at) }
+/// By how much a node's clock may be wrong at a true time: the error of the reading by which a round
+/// corrected it, and twice its drift since; in microseconds, and 0 where no round has.
+fn reach_of(header: &Header, at: u64, a: &NodeState) -> i128
+    ensures reach { at ≤ 1000000000000000 → (c : CorrectionValue) → a.now.cast ≡ Some c
+        → result ≡ reach_at header.now at c }
+    ensures low { neg_ℤ (pos (2 ^ 70)) ≤ℤ result }
+    ensures high { result ≤ℤ pos (2 ^ 70) }
 {
     match &a.cast {
-        Some(c) => drifted(header.drift(), at, c.at),
+        Some(c) => reach(c.err, drifted(header.drift(), at, c.at)),
         None => 0,
     }
 }
 
-/// What a node's clock shows at a true time, but for its corrections.
+/// What a node's clock shows at a true time.
 fn stand_of(header: &Header, at: u64, node: u32, a: &NodeState) -> Standing
     ensures { at ≤ 1000000000000000 → StandsAs header.now at node a.now result }
 {
     let (rate, wall) = clock_of(header, node);
+    let clock = add(wall, bounded(a.moved), tick_of(rate, at));
+    let reach = reach_of(header, at, a);
     Standing {
-        wall,
-        tick: tick_of(rate, at),
-        drift: drifted_of(header, at, a),
+        clock,
+        low: clock - reach,
+        high: clock + reach,
     }
 }
 
-/// What each of these nodes' clocks shows at a true time, but for its corrections, at the index of the node.
+/// What each of these nodes' clocks shows at a true time, at the index of the node.
 pub(crate) fn standings(header: &Header, at: u64, states: &[NodeState]) -> [Standing; 64]
     requires { length states.now ≤ 64 }
     ensures { at ≤ 1000000000000000 → AllStand header.now at states.now result }
 {
     let mut stand = [Standing {
-        wall: 0,
-        tick: 0,
-        drift: 0,
+        clock: 0,
+        low: 0,
+        high: 0,
     }; 64];
     for node in 0..states.len() {
         stand[node] = stand_of(header, at, node as u32, &states[node]);

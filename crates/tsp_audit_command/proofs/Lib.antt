@@ -2,7 +2,6 @@ pub mod ClaimLemmas
 pub mod Completes
 pub mod Definites
 pub mod FitLemmas
-pub mod JudgeLemmas
 pub mod PassLemmas
 pub mod Reverses
 pub mod SoundLemmas

@@ -1,22 +1,23 @@
 -- What is known of events and claimed lines, one step on.
 use Rattle.std.specs.Prelude.{◌≡◌, ℕ, ◌+◌, ◌<◌, ◌^◌, false, List, [], ◌∷◌, ◌++◌, length, drop, take, reverse, Some}
-use Rattle.std.proofs.Common.{◌∙◌, ap, sym, refl, subst, arith, append-nil, get_or}
-use Rattle.std.proofs.lemmas.List.{drop_more, length-append, length-map}
+use Rattle.std.proofs.Common.{◌∙◌, ap, sym, refl, subst, arith, get_or}
+use Rattle.std.proofs.lemmas.List.{drop_more, length-append, length-map, reverse-append}
 use Rattle.std.proofs.lemmas.Option.{slice_get_within, get_or_from_slice_get, slice_get_read}
 use Rattle.std.specs.List.{slice_get}
 use Rattle.tsp_audit.specs.declared.premises.Premises.{Premises}
+use Rattle.tsp_audit.specs.Ends.{AreDated, EndsAt}
 use Rattle.tsp_audit.specs.Premised.{kept_with, premises_of}
 use Rattle.tsp_base.specs.declared.event.Event.{Event}
 use Rattle.tsp_base.specs.Headers.{HeaderValue}
 use Rattle.tsp_audit_command.specs.ClaimReaders.{ClaimingValue, FitsFirst, most_lines, pass_first, tallied}
-use Rattle.tsp_audit_command.specs.Listings.{AreListed, IsAudited}
-use Rattle.tsp_audit_command.specs.Sound.{FitAtHand, FitEach, Sound, claims_on}
-use Rattle.tsp_audit_command.proofs.ClaimLemmas.{claims_on-events, claims_on-length, claims_on-more, FitEach-more}
+use Rattle.tsp_audit_command.specs.Listings.{AreListed, IsAudited, IsListed}
+use Rattle.tsp_audit_command.specs.Sound.{FitAtHand, Sound, claims_on, first_end}
+use Rattle.tsp_audit_command.proofs.ClaimLemmas.{EndsAt-more, EndsAt-none, claims_on-more, passed-more}
 use Rattle.tsp_audit_command.proofs.FitLemmas.{AllFit-so-far, FitSoFar-more, tallied-more, tallied-posts}
 use Rattle.tsp_audit_command.proofs.PassLemmas.{pass-whole}
 use Rattle.tsp_claims.specs.declared.claims.Claims.{Claims}
 use Rattle.tsp_claims.specs.declared.tally.Tally.{Tally}
-use Rattle.tsp_claims.specs.ClaimedHistory.{Claim, events_of, lines_in, posts_of}
+use Rattle.tsp_claims.specs.ClaimedHistory.{Claim, claimed, events_of, lines_in, posts_of}
 use Rattle.tsp_claims.specs.Fitting.{Fit, FitsNext, counted, lacks, untold}
 use Rattle.tsp_claims.specs.Stands.{ClaimsStand, claim_of}
 use Rattle.tsp_script.specs.declared.trace.Line2.{Line2}
@@ -40,54 +41,69 @@ FitAtHand-more header passed [] lines l h f = absurd f
 FitAtHand-more header passed (e ∷ rest) lines l h f = FitSoFar-more (FitsNext header passed) e untold lines l h f
 
 -- nothing is claimed yet
-pub Sound-begun : (header : HeaderValue) (events : List Event) (claims : Claims) (told : List (List Line2)) (pending : List Line2) (tally : Tally) (premises : Premises) → IsAudited header → AreListed (length header.nodes) events → ClaimsStand header [] claims →
-    told ≡ [] → pending ≡ [] → tally ≡ untold → premises ≡ premises_of header [] → Sound header events claims told pending tally premises
-Sound-begun header events claims told pending tally premises audited listed stand told_is pending_is tally_is premises_are =
-    let none : claims_on [] events told ≡ [] = ap (λ t. claims_on [] events t) told_is in
-    let no_told = ap (λ t. length t) told_is in
-    let no_pending = ap (λ t. length t) pending_is in
+pub Sound-begun : (header : HeaderValue) (events : List Event) (claims : Claims) (ends : List ℕ) (pending : List Line2) (tally : Tally) (premises : Premises) → IsAudited header → AreListed (length header.nodes) events → ClaimsStand header [] claims →
+    ends ≡ [] → pending ≡ [] → tally ≡ untold → premises ≡ premises_of header [] → Sound header events claims ends pending tally premises
+Sound-begun header events claims ends pending tally premises audited listed stand ends_are pending_is tally_is premises_are =
+    let none : claims_on events ends claims ≡ [] = ap (λ (t : List ℕ). claims_on events t claims) ends_are in
+    let no_ends = ap (λ (t : List ℕ). length t) ends_are in
+    let no_pending = ap (λ (t : List Line2). length t) pending_is in
     let counted_none = stand.told in
     record {
       header_is = audited;
       listed = listed;
-      within = omega (arith, no_told);
+      within = omega (arith, no_ends);
       stand = subst (λ cs. ClaimsStand header cs claims) (sym none) stand;
-      fit = subst (λ t. FitEach header [] events t) (sym told_is) tt;
-      at_hand = subst (λ ls. FitAtHand header (claims_on [] events told) (drop (length told) events) ls) (sym pending_is) (FitAtHand-none header (claims_on [] events told) (drop (length told) events));
+      dated = subst (λ cs. AreDated (length header.nodes) cs) (sym none) tt;
+      ends_at = subst (λ cs. EndsAt header cs ends) (sym none) (subst (λ t. EndsAt header [] t) (sym ends_are) (EndsAt-none header));
+      last_end = ap (λ (t : List ℕ). first_end (reverse t)) ends_are ∙ ap (λ (cs : List Claim). length (claimed header cs)) (sym none);
+      events_are = ap (λ (cs : List Claim). events_of cs) none ∙ ap (λ (t : List ℕ). reverse (take (length t) events)) (sym ends_are);
+      at_hand = subst (λ ls. FitAtHand header (claims_on events ends claims) (drop (length ends) events) ls) (sym pending_is) (FitAtHand-none header (claims_on events ends claims) (drop (length ends) events));
       tally_is = tally_is ∙ ap (λ ls. tallied untold ls) (sym pending_is);
       premises_are = premises_are ∙ ap (λ cs. premises_of header cs) (sym none);
       few_lines = omega (arith, counted_none, no_pending);
     }
 
-module _ (header : HeaderValue) (events : List Event) (claims : Claims) (told : List (List Line2)) (pending : List Line2) (tally : Tally) (premises : Premises) (s : Sound header events claims told pending tally premises) where
-  -- as many events were taken in as were passed
-  pub passed-count : claims.events ≡ length told
-  passed-count = let long = claims_on-length [] events told s.within in s.stand.count ∙ omega (arith, long)
+pub view-begun : (header : HeaderValue) (events : List Event) (claims : Claims) (ends : List ℕ) (pending : List Line2) → ClaimsStand header [] claims → ends ≡ [] → pending ≡ [] →
+    ◌≡◌ {A = ClaimingValue} (record { header = claims.header; passed = claims_on events ends claims; told = pending; ahead = drop (length ends) events }) (record { header = header; passed = []; told = []; ahead = events })
+view-begun header events claims ends pending stand ends_are pending_is =
+    let value : HeaderValue → List Claim → List Line2 → List Event → ClaimingValue = λ h cs ls es. record { header = h; passed = cs; told = ls; ahead = es } in
+    ap (λ (h : HeaderValue). value h (claims_on events ends claims) pending (drop (length ends) events)) stand.header_is
+    ∙ (ap (λ (t : List ℕ). value header (claims_on events t claims) pending (drop (length t) events)) ends_are ∙ ap (λ (ls : List Line2). value header [] ls events) pending_is)
 
-  pub few-passed : length told < length events → claims.events < 20000
+module _ (header : HeaderValue) (events : List Event) (claims : Claims) (ends : List ℕ) (pending : List Line2) (tally : Tally) (premises : Premises) (s : Sound header events claims ends pending tally premises) where
+  -- as many events were taken in as were passed
+  pub passed-count : claims.events ≡ length ends
+  passed-count = s.stand.count ∙ sym s.ends_at.many
+
+  pub few-passed : length ends < length events → claims.events < 20000
   few-passed l = let few = s.listed.0 in omega (arith, passed-count, few, l)
 
   -- lines claim few posts
   pub few-posts : tally.posts < 2 ^ 32
   few-posts = let many = tallied-posts untold pending in let is = ap (λ (t : Tally). t.posts) s.tally_is in let few = s.few_lines in omega (arith, many, is, few)
 
-  module _ (e : Event) (at : slice_get events (length told) ≡ Some e) where
+  module _ (e : Event) (at : slice_get events (length ends) ≡ Some e) where
     -- its lines fit, where it lacks nothing
-    pub at-fit : lacks e tally ≡ false → Fit header (claims_on [] events told) e pending
-    at-fit none = AllFit-so-far (FitsNext header (claims_on [] events told)) e untold pending
-        (subst (λ es. FitAtHand header (claims_on [] events told) es pending) (ahead-at events (length told) e at) s.at_hand)
+    pub at-fit : lacks e tally ≡ false → Fit header (claims_on events ends claims) e pending
+    at-fit none = AllFit-so-far (FitsNext header (claims_on events ends claims)) e untold pending
+        (subst (λ es. FitAtHand header (claims_on events ends claims) es pending) (ahead-at events (length ends) e at) s.at_hand)
         (subst (λ t. lacks e t ≡ false) s.tally_is none)
 
+    at-listed : IsListed (length header.nodes) e
+    at-listed = subst (λ x. IsListed (length header.nodes) x) (get_or_from_slice_get events (length ends) e e at) (s.listed.1 (length ends) e (slice_get_within events (length ends) e at))
+
     -- it is passed
-    pub Sound-passed : lacks e tally ≡ false → (now : Claims) (more : List (List Line2)) (left : List Line2) (fresh : Tally) (kept : Premises) → ClaimsStand header (claim_of e pending ∷ claims_on [] events told) now →
-        more ≡ told ++ pending ∷ [] → left ≡ [] → fresh ≡ untold → kept ≡ kept_with premises (reverse (take (length told) events)) (posts_of header (claims_on [] events told)) e → Sound header events now more left fresh kept
-    Sound-passed none now more left fresh kept stand more_is left_is fresh_is kept_is =
-        let passed = claims_on [] events told in
-        let ahead = ahead-at events (length told) e at in
-        let claims_are : claims_on [] events more ≡ (claim_of e pending ∷ passed) = ap (λ t. claims_on [] events t) more_is ∙ claims_on-more [] events told e (drop (length told + 1) events) pending ahead in
-        let within = slice_get_within events (length told) e at in
-        let long : length more ≡ length told + 1 = ap (λ t. length t) more_is ∙ length-append told (pending ∷ []) in
-        let events_are : events_of passed ≡ reverse (take (length told) events) = claims_on-events [] events told s.within ∙ append-nil (reverse (take (length told) events)) in
+    pub claims-passed : lacks e tally ≡ false → (now : Claims) (more : List ℕ) (n : ℕ) → ClaimsStand header (claim_of e pending ∷ claims_on events ends claims) now → more ≡ ends ++ n ∷ [] → claims_on events more now ≡ (claim_of e pending ∷ claims_on events ends claims)
+    claims-passed none now more n stand more_is = claims_on-more header events claims now ends more e pending n at s.stand stand s.last_end (at-fit none) more_is
+
+    pub Sound-passed : lacks e tally ≡ false → (now : Claims) (more : List ℕ) (n : ℕ) (left : List Line2) (fresh : Tally) (kept : Premises) → ClaimsStand header (claim_of e pending ∷ claims_on events ends claims) now →
+        more ≡ ends ++ n ∷ [] → n ≡ length (claimed header (claim_of e pending ∷ claims_on events ends claims)) → left ≡ [] → fresh ≡ untold →
+        kept ≡ kept_with premises (reverse (take (length ends) events)) (posts_of header (claims_on events ends claims)) e → Sound header events now more left fresh kept
+    Sound-passed none now more n left fresh kept stand more_is n_is left_is fresh_is kept_is =
+        let passed = claims_on events ends claims in
+        let claims_are : claims_on events more now ≡ (claim_of e pending ∷ passed) = claims-passed none now more n stand more_is in
+        let within = slice_get_within events (length ends) e at in
+        let long : length more ≡ length ends + 1 = ap (λ (t : List ℕ). length t) more_is ∙ length-append ends (n ∷ []) in
         let before = s.stand.told in
         let after = stand.told in
         let acts = length-map pending (λ (l : Line2). l.placed) in
@@ -97,40 +113,47 @@ module _ (header : HeaderValue) (events : List Event) (claims : Claims) (told : 
           listed = s.listed;
           within = omega (arith, long, within);
           stand = subst (λ cs. ClaimsStand header cs now) (sym claims_are) stand;
-          fit = subst (λ t. FitEach header [] events t) (sym more_is) (FitEach-more header [] events told e (drop (length told + 1) events) pending ahead s.fit (at-fit none));
-          at_hand = subst (λ ls. FitAtHand header (claims_on [] events more) (drop (length more) events) ls) (sym left_is) (FitAtHand-none header (claims_on [] events more) (drop (length more) events));
+          dated = subst (λ cs. AreDated (length header.nodes) cs) (sym claims_are) (at-listed, s.dated);
+          ends_at = subst (λ cs. EndsAt header cs more) (sym claims_are) (subst (λ t. EndsAt header (claim_of e pending ∷ passed) t) (sym more_is) (EndsAt-more header passed ends (claim_of e pending) n s.ends_at n_is));
+          last_end = ap (λ (t : List ℕ). first_end (reverse t)) more_is ∙ (ap (λ (t : List ℕ). first_end t) (reverse-append ends (n ∷ [])) ∙ (n_is ∙ ap (λ (cs : List Claim). length (claimed header cs)) (sym claims_are)));
+          events_are = ap (λ (cs : List Claim). events_of cs) claims_are ∙ (ap (λ (es : List Event). e ∷ es) s.events_are ∙ (sym (passed-more events (length ends) e at) ∙ ap (λ k. reverse (take k events)) (sym long)));
+          at_hand = subst (λ ls. FitAtHand header (claims_on events more now) (drop (length more) events) ls) (sym left_is) (FitAtHand-none header (claims_on events more now) (drop (length more) events));
           tally_is = fresh_is ∙ ap (λ ls. tallied untold ls) (sym left_is);
-          premises_are = kept_is ∙ (ap (λ es. kept_with premises es (posts_of header passed) e) (sym events_are) ∙ (ap (λ p. kept_with p (events_of passed) (posts_of header passed) e) s.premises_are ∙ ap (λ cs. premises_of header cs) (sym claims_are)));
-          few_lines = let none_left = ap (λ ls. length ls) left_is in omega (arith, before, after, acts, lines, none_left);
+          premises_are = kept_is ∙ (ap (λ es. kept_with premises es (posts_of header passed) e) (sym s.events_are) ∙ (ap (λ p. kept_with p (events_of passed) (posts_of header passed) e) s.premises_are ∙ ap (λ cs. premises_of header cs) (sym claims_are)));
+          few_lines = let none_left = ap (λ (ls : List Line2). length ls) left_is in omega (arith, before, after, acts, lines, none_left);
         }
 
     -- and this is how far the lines have come
-    pub view-passed : lacks e tally ≡ false → (more : List (List Line2)) (left : List Line2) → more ≡ told ++ pending ∷ [] → left ≡ [] →
-        pass_first header (claims_on [] events told) pending (drop (length told) events) ≡ Some (record { header = header; passed = claims_on [] events more; told = left; ahead = drop (length more) events })
-    view-passed none more left more_is left_is =
-        let passed = claims_on [] events told in
-        let ahead = ahead-at events (length told) e at in
-        let rest = drop (length told + 1) events in
-        let claims_are : claims_on [] events more ≡ (claim_of e pending ∷ passed) = ap (λ t. claims_on [] events t) more_is ∙ claims_on-more [] events told e rest pending ahead in
-        let long : length more ≡ length told + 1 = ap (λ t. length t) more_is ∙ length-append told (pending ∷ []) in
-        let value : List Claim → List Line2 → List Event → ClaimingValue = λ cs ls es. record { header = header; passed = cs; told = ls; ahead = es } in
+    pub view-passed : lacks e tally ≡ false → (now : Claims) (more : List ℕ) (n : ℕ) (left : List Line2) → ClaimsStand header (claim_of e pending ∷ claims_on events ends claims) now → more ≡ ends ++ n ∷ [] → left ≡ [] →
+        pass_first header (claims_on events ends claims) pending (drop (length ends) events) ≡ Some (record { header = now.header; passed = claims_on events more now; told = left; ahead = drop (length more) events })
+    view-passed none now more n left stand more_is left_is =
+        let passed = claims_on events ends claims in
+        let ahead = ahead-at events (length ends) e at in
+        let rest = drop (length ends + 1) events in
+        let claims_are : claims_on events more now ≡ (claim_of e pending ∷ passed) = claims-passed none now more n stand more_is in
+        let long : length more ≡ length ends + 1 = ap (λ (t : List ℕ). length t) more_is ∙ length-append ends (n ∷ []) in
+        let value : HeaderValue → List Claim → List Line2 → List Event → ClaimingValue = λ h cs ls es. record { header = h; passed = cs; told = ls; ahead = es } in
         ap (λ es. pass_first header passed pending es) ahead
         ∙ (pass-whole header passed pending e rest (subst (λ t. lacks e t ≡ false) s.tally_is none)
-        ∙ ap (λ c. Some c) (ap (λ cs. value cs [] rest) (sym claims_are) ∙ (ap (λ ls. value (claims_on [] events more) ls rest) (sym left_is) ∙ ap (λ n. value (claims_on [] events more) left (drop n events)) (sym long))))
+        ∙ ap (λ c. Some c) (ap (λ h. value h (claim_of e pending ∷ passed) [] rest) (sym stand.header_is) ∙ (ap (λ cs. value now.header cs [] rest) (sym claims_are)
+        ∙ (ap (λ ls. value now.header (claims_on events more now) ls rest) (sym left_is) ∙ ap (λ n. value now.header (claims_on events more now) left (drop n events)) (sym long)))))
 
   -- a line is added
-  pub Sound-added : (l : Line2) (more : List Line2) (counting : Tally) → FitsFirst header (claims_on [] events told) pending (drop (length told) events) l → lines_in (claims_on [] events told) + length pending < most_lines →
-      more ≡ pending ++ l ∷ [] → counting ≡ counted tally l.placed.act → Sound header events claims told more counting premises
+  pub Sound-added : (l : Line2) (more : List Line2) (counting : Tally) → FitsFirst header (claims_on events ends claims) pending (drop (length ends) events) l → lines_in (claims_on events ends claims) + length pending < most_lines →
+      more ≡ pending ++ l ∷ [] → counting ≡ counted tally l.placed.act → Sound header events claims ends more counting premises
   Sound-added l more counting fits room more_is counting_is =
-      let long : length more ≡ length pending + 1 = ap (λ t. length t) more_is ∙ length-append pending (l ∷ []) in
+      let long : length more ≡ length pending + 1 = ap (λ (t : List Line2). length t) more_is ∙ length-append pending (l ∷ []) in
       let told_is = s.stand.told in
       record {
         header_is = s.header_is;
         listed = s.listed;
         within = s.within;
         stand = s.stand;
-        fit = s.fit;
-        at_hand = subst (λ ls. FitAtHand header (claims_on [] events told) (drop (length told) events) ls) (sym more_is) (FitAtHand-more header (claims_on [] events told) (drop (length told) events) pending l s.at_hand fits);
+        dated = s.dated;
+        ends_at = s.ends_at;
+        last_end = s.last_end;
+        events_are = s.events_are;
+        at_hand = subst (λ ls. FitAtHand header (claims_on events ends claims) (drop (length ends) events) ls) (sym more_is) (FitAtHand-more header (claims_on events ends claims) (drop (length ends) events) pending l s.at_hand fits);
         tally_is = counting_is ∙ (ap (λ t. counted t l.placed.act) s.tally_is ∙ (sym (tallied-more untold pending l) ∙ ap (λ ls. tallied untold ls) (sym more_is)));
         premises_are = s.premises_are;
         few_lines = omega (arith, long, told_is, room);

@@ -1,32 +1,48 @@
 -- What is known of the events and the claimed lines while lines are read.
-use Rattle.std.specs.Prelude.{◌≡◌, ◌+◌, ◌≤◌, List, [], ◌∷◌, length, drop}
-use Rattle.tsp_audit.specs.declared.audit.Audit.{Audit}
+use Rattle.std.specs.Prelude.{◌≡◌, ℕ, ◌+◌, ◌-◌, ◌≤◌, List, [], ◌∷◌, ◌++◌, length, drop, take, reverse}
 use Rattle.tsp_audit.specs.declared.premises.Premises.{Premises}
+use Rattle.tsp_audit.specs.Ends.{AreDated, EndsAt}
 use Rattle.tsp_audit.specs.Premised.{premises_of}
-use Rattle.tsp_audit.specs.Verdicts.{AuditStands}
+use Rattle.tsp_base.specs.declared.act.Placed.{Placed}
 use Rattle.tsp_base.specs.declared.event.Event.{Event}
+use Rattle.tsp_base.specs.declared.place.Port.{Port}
 use Rattle.tsp_base.specs.Headers.{HeaderValue}
+use Rattle.tsp_base.specs.History.{Acts, Begins, Deed, Line}
 use Rattle.tsp_audit_command.specs.ClaimReaders.{most_lines, tallied}
 use Rattle.tsp_audit_command.specs.Listings.{AreListed, IsAudited}
 use Rattle.tsp_claims.specs.declared.claims.Claims.{Claims}
 use Rattle.tsp_claims.specs.declared.tally.Tally.{Tally}
-use Rattle.tsp_claims.specs.ClaimedHistory.{Claim, lines_in}
-use Rattle.tsp_claims.specs.Fitting.{Fit, FitsNext, counted, untold}
-use Rattle.tsp_claims.specs.Stands.{ClaimsStand, claim_of}
+use Rattle.tsp_claims.specs.ClaimedHistory.{Claim, claimed, events_of}
+use Rattle.tsp_claims.specs.Fitting.{FitsNext, counted, untold}
+use Rattle.tsp_claims.specs.Stands.{ClaimsStand}
+use Rattle.tsp_history.specs.Histories.{history_of}
 use Rattle.tsp_script.specs.declared.trace.Line2.{Line2}
 
--- these claims, and then one more for each event, with the lines of it, as long as there are both; the events and the
--- lists of lines are given oldest first
-abbrev pub claims_on : List Claim → List Event → List (List Line2) → List Claim
-claims_on before events [] = before
-claims_on before [] (lines ∷ told) = before
-claims_on before (e ∷ rest) (lines ∷ told) = claims_on (claim_of e lines ∷ before) rest told
+-- the act of a line of a history, on its port; none of a mark
+abbrev pub placed_by : Port → Deed → List Placed
+placed_by port Begins = []
+placed_by port (Acts act) = record { port = port; act = act } ∷ []
 
--- the lines of each event fit after the claims before it, and no event that has a list of lines lacks anything
-abbrev pub FitEach : HeaderValue → List Claim → List Event → List (List Line2) → Type 0
-FitEach header before events [] = Unit {0}
-FitEach header before [] (lines ∷ told) = Unit {0}
-FitEach header before (e ∷ rest) (lines ∷ told) = Fit header before e lines × FitEach header (claim_of e lines ∷ before) rest told
+-- the acts of lines, in their order; the lines are given newest first
+abbrev pub acts_in : List Line → List Placed
+acts_in [] = []
+acts_in (l ∷ before) = acts_in before ++ placed_by l.port l.did.deed
+
+-- the first of some numbers; 0 where there is none
+abbrev pub first_end : List ℕ → ℕ
+first_end [] = 0
+first_end (n ∷ before) = n
+
+-- what a history claims of these events, of each of which the lines stand up to such a number; all are given newest first
+abbrev pub claims_by : List Event → List ℕ → List Line → List Claim
+claims_by [] ends history = []
+claims_by (e ∷ events) [] history = []
+claims_by (e ∷ events) (n ∷ ends) history =
+    record { event = e; acts = acts_in (take (length history - first_end ends) history) } ∷ claims_by events ends (drop (length history - first_end ends) history)
+
+-- what is claimed of the first events, by where the lines of each end; both are given oldest first
+abbrev pub claims_on : List Event → List ℕ → Claims → List Claim
+claims_on events ends claims = claims_by (reverse (take (length ends) events)) (reverse ends) (history_of claims.lines.lines)
 
 -- lines fit as the next ones of an event, after those that were counted; the event may still lack something
 abbrev pub FitSoFar : (Event → Tally → Line2 → Type 0) → Event → Tally → List Line2 → Type 0
@@ -38,24 +54,18 @@ abbrev pub FitAtHand : HeaderValue → List Claim → List Event → List Line2 
 FitAtHand header passed [] lines = lines ≡ []
 FitAtHand header passed (e ∷ rest) lines = FitSoFar (FitsNext header passed) e untold lines
 
--- what a reader of claimed lines holds: the first events were passed with these lines, one list for each, the next
--- event is at hand with the pending lines, and the claims, the tally and the premises are what all that comes to
-pub record Sound (header : HeaderValue) (events : List Event) (claims : Claims) (told : List (List Line2)) (pending : List Line2) (tally : Tally) (premises : Premises) : Type 0 where
+-- what a reader of claimed lines holds: the first events were passed, and their lines end there in the history; the
+-- next event is at hand with the pending lines, and the claims, the tally and the premises are what all that comes to
+pub record Sound (header : HeaderValue) (events : List Event) (claims : Claims) (ends : List ℕ) (pending : List Line2) (tally : Tally) (premises : Premises) : Type 0 where
   pub header_is : IsAudited header
   pub listed : AreListed (length header.nodes) events
-  pub within : length told ≤ length events
-  pub stand : ClaimsStand header (claims_on [] events told) claims
-  pub fit : FitEach header [] events told
-  pub at_hand : FitAtHand header (claims_on [] events told) (drop (length told) events) pending
+  pub within : length ends ≤ length events
+  pub stand : ClaimsStand header (claims_on events ends claims) claims
+  pub dated : AreDated (length header.nodes) (claims_on events ends claims)
+  pub ends_at : EndsAt header (claims_on events ends claims) ends
+  pub last_end : first_end (reverse ends) ≡ length (claimed header (claims_on events ends claims))
+  pub events_are : events_of (claims_on events ends claims) ≡ reverse (take (length ends) events)
+  pub at_hand : FitAtHand header (claims_on events ends claims) (drop (length ends) events) pending
   pub tally_is : tally ≡ tallied untold pending
-  pub premises_are : premises ≡ premises_of header (claims_on [] events told)
+  pub premises_are : premises ≡ premises_of header (claims_on events ends claims)
   pub few_lines : claims.told + length pending ≤ most_lines
-
--- an audit that stands for no event yet may be given these events from the first on, one for each list of lines: each
--- list fits, and there are at most 20,000 events and 20,000 lines
-pub record IsAuditable (premises : Premises) (header : HeaderValue) (events : List Event) (told : List (List Line2)) (audit : Audit) : Type 0 where
-  pub stand : AuditStands premises header [] audit
-  pub listed : AreListed (length header.nodes) events
-  pub within : length told ≤ length events
-  pub fit : FitEach header [] events told
-  pub few_lines : lines_in (claims_on [] events told) ≤ most_lines

@@ -2,13 +2,12 @@
 //! says what fits, lacks, passed and at hand mean.
 ghost use Rattle.std.specs.Prelude.{◌≡◌, ◌↔◌, [], Some, length, IsTrue, IfOk, MatchResult, codes};
 
-use crate::copies::copy_header;
 use crate::event_lines::EventLines;
 use std::alloc::{AllocError, Global};
 use std::marker::Model;
 use tsp_audit::premised::{all_kept, keep_with};
 use tsp_audit::premises::Premises;
-use tsp_base::event::Event;
+use tsp_audit::small_event::SmallEvent;
 use tsp_base::header::Header;
 use tsp_claims::claims::Claims;
 use tsp_claims::tally::Tally;
@@ -35,14 +34,13 @@ fn bad_history() -> Stop
 pub(crate) struct ClaimReader {
     /// Where memory comes from.
     pub(crate) alloc: Global,
-    /// The header of the schedule, which has 1 to 16 nodes.
-    pub(crate) header: Header,
     /// All events of the schedule, the oldest first: at most 20,000.
-    pub(crate) events: Vec<Event>,
-    /// The lines of the events that were passed, as a history; what the next line must fit.
+    pub(crate) events: Vec<SmallEvent>,
+    /// The header of the schedule, which has 1 to 16 nodes, and the lines of the events that were passed, as a
+    /// history; what the next line must fit, and what is judged.
     pub(crate) claims: Claims,
-    /// The same lines, event by event, the oldest first: `judge` gives them to the audit.
-    pub(crate) told: Vec<EventLines>,
+    /// For each event that was passed, the oldest first, how many lines of the history stand up to its end.
+    pub(crate) ends: Vec<u32>,
     /// The lines so far of the event at hand.
     pub(crate) pending: EventLines,
     /// What they come to: whether there are any, how many are posts, and whether one is a `took`.
@@ -59,15 +57,14 @@ impl Model for ClaimReader {
     ghost Value = { ClaimingValue };
 
     ghost view = { λ c. record {
-      header = c.header;
-      passed = claims_on [] c.events.items
-          c.told.items;
+      header = c.claims.header;
+      passed = claims_on c.events.items c.ends.items c.claims;
       told = c.pending;
-      ahead = drop (length c.told.items) c.events.items;
+      ahead = drop (length c.ends.items) c.events.items;
     } };
 
-    ghost invariant = { λ c. Sound c.header c.events.items c.claims c.told.items c.pending c.tally
-        c.premises };
+    ghost invariant = { λ c. Sound c.claims.header c.events.items c.claims c.ends.items c.pending
+        c.tally c.premises };
 }
 
 impl ClaimReader {
@@ -82,7 +79,7 @@ impl ClaimReader {
     pub(crate) fn begin(
         alloc: Global,
         header: Header,
-        events: Vec<Event>,
+        events: Vec<SmallEvent>,
     ) -> Result<ClaimReader, AllocError>
         requires header { IsAudited header }
         requires listed { AreListed (length header.nodes) events.items }
@@ -93,13 +90,12 @@ impl ClaimReader {
           ahead = events.items;
         }) }
     {
-        let claims = Claims::new(alloc, copy_header(alloc, &header)?)?;
+        let claims = Claims::new(alloc, header)?;
         Ok(ClaimReader {
             alloc,
-            header,
             events,
             claims,
-            told: Vec::new(alloc),
+            ends: Vec::new(alloc),
             pending: EventLines::new(alloc),
             tally: Tally::new(),
             premises: all_kept(),
@@ -112,30 +108,31 @@ impl ClaimReader {
         ensures { MatchResult result (λ now. pass_one self ≡ Some now) (Unpassed (pass_one self)) }
     {
         let events = self.events;
-        let pending = self.pending;
         let mut claims = self.claims;
-        let mut told = self.told;
-        let at = told.len();
-        let Some(e) = events.get(at) else {
-            return Err(bad_history());
+        let mut ends = self.ends;
+        let mut pending = self.pending;
+        let at = ends.len();
+        let e = match events.get(at) {
+            Some(e) => e.event(),
+            None => return Err(bad_history()),
         };
-        if self.tally.lacks(e) {
+        if self.tally.lacks(&e) {
             return Err(bad_history());
         }
-        let premises = keep_with(self.premises, &events[..at], claims.posts(), e);
-        if claims.add(e, pending.lines()).is_err() {
+        let premises = keep_with(self.premises, &events[..at], claims.posts(), &e);
+        if claims.add(&e, pending.lines()).is_err() {
             return Err(Stop::OutOfMemory);
         }
-        if told.push(pending).is_err() {
+        if ends.push(claims.lines().len() as u32).is_err() {
             return Err(Stop::OutOfMemory);
         }
+        pending.clear();
         Ok(ClaimReader {
             alloc: self.alloc,
-            header: self.header,
             events,
             claims,
-            told,
-            pending: EventLines::new(self.alloc),
+            ends,
+            pending,
             tally: Tally::new(),
             premises,
         })
@@ -161,7 +158,7 @@ impl ClaimReader {
         ensures { MatchResult result (λ now. passes_all self ≡ Some now)
             (Unpassed (passes_all self)) }
     {
-        let left = self.events.len() - self.told.len();
+        let left = self.events.len() - self.ends.len();
         self.pass(left as u64)
     }
 
@@ -169,8 +166,8 @@ impl ClaimReader {
     fn fits(&self, line: &Line2) -> bool
         ensures { IsTrue result ↔ FitsHere self.now line.now }
     {
-        match self.events.get(self.told.len()) {
-            Some(e) => self.claims.fits(e, self.tally, line),
+        match self.events.get(self.ends.len()) {
+            Some(e) => self.claims.fits(&e.event(), self.tally, line),
             None => false,
         }
     }
@@ -201,10 +198,9 @@ impl ClaimReader {
         }
         Ok(ClaimReader {
             alloc: self.alloc,
-            header: self.header,
             events: self.events,
             claims: self.claims,
-            told: self.told,
+            ends: self.ends,
             pending,
             tally,
             premises: self.premises,

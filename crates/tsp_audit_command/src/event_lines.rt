@@ -35,10 +35,15 @@ impl EventLines {
         ensures ok { OnOk result (self.new ≡ self.old ++ line ∷ []) }
         ensures err { OnErr result (self.new ≡ self.old) }
     {
-        // Most events have a line or two, so no room is made for more.
-        self.lines.reserve_exact(1)?;
-        self.lines.push_reserved(line);
+        self.lines.push(line)?;
         Ok(())
+    }
+
+    /// Takes all lines out; the room that they had stays.
+    pub(crate) fn clear(&mut self)
+        ensures { self.new ≡ [] }
+    {
+        self.lines.clear();
     }
 
     /// The lines, in their order.

@@ -40,12 +40,12 @@
 //! 3. After `end`, a [`claim_reader::ClaimReader`] takes each claimed line, if it fits, and passes events.
 //! 4. At the end of the input it passes the events that are left. Only then is it known which premises the whole
 //!    schedule keeps: no datagram is forged, none is late, no two boots have one word. Some parts ask for them.
-//! 5. `judge` of the reader gives each event and its lines to an `Audit` of `tsp_audit`, and the verdict is written.
+//! 5. `judge` of the reader hands the history that it has to an `Audit` of `tsp_audit`, which judges it event by event,
+//!    and the verdict is written. Whether a line fits is asked once, when it is read.
 #![tactic(auto)]
 
 mod check;
 mod claim_reader;
-mod copies;
 mod event_lines;
 mod judging;
 pub mod laws;

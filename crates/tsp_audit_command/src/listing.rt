@@ -4,8 +4,8 @@ ghost use Rattle.tsp_base.specs.Headers.{is_whole};
 ghost use Rattle.tsp_audit_command.specs.Listings.{AreListed, AreListed-prop as is-prop};
 ghost use Rattle.tsp_run.specs.Networks.{numbers_below};
 
-use crate::copies::copy_event;
 use std::alloc::{AllocError, Global};
+use tsp_audit::small_event::SmallEvent;
 use tsp_base::event::{Event, EventFault};
 use tsp_base::header::Header;
 use tsp_base::members::Members;
@@ -17,6 +17,8 @@ use tsp_schedule::handler::EventHandler;
 /// The header of a schedule, and its events so far: at most 20,000, none of which is refused.
 #[derive(Drop)]
 pub(crate) struct Listing {
+    /// Where memory comes from.
+    pub(crate) alloc: Global,
     /// The header: the drift, whether elections are strict, and the nodes' clocks, names and networks.
     pub(crate) header: Header,
     /// One network with all nodes: theirs where the header names none.
@@ -24,7 +26,7 @@ pub(crate) struct Listing {
     /// Whether each node has booted, by its number.
     pub(crate) up: Vec<bool>,
     /// The events, the oldest first.
-    pub(crate) events: Vec<Event>,
+    pub(crate) events: Vec<SmallEvent>,
     /// The true time of the newest event, in microseconds; 0 where there is none.
     pub(crate) last: u64,
     ghost some: { 1 ≤ length header.nodes },
@@ -47,6 +49,7 @@ impl Listing {
         let one = all_nodes(alloc, header.nodes().len() as u32)?;
         let up = none_booted(alloc, header.nodes().len())?;
         Ok(Listing {
+            alloc,
             header,
             one,
             up,
@@ -72,7 +75,10 @@ impl EventHandler for Listing {
         if let Some(fault) = self.refusal(e) {
             return Err(fault);
         }
-        if self.events.push(copy_event(e)).is_err() {
+        let Ok(event) = SmallEvent::of(self.alloc, e) else {
+            return Err(EventFault::OutOfMemory);
+        };
+        if self.events.push(event).is_err() {
             return Err(EventFault::OutOfMemory);
         }
         wake(&mut self.up, e);

@@ -1,4 +1,4 @@
-use Rattle.std.proofs.Common.{◌≡◌, sym, subst, false, Bool, MatchBool}
+use Rattle.std.proofs.Common.{sym, subst, Bool, MatchBool}
 use Rattle.tsp_audit.specs.Agreeing.{AgreesBack}
 use Rattle.tsp_audit.proofs.NearLemmas.{agrees-then}
 use Rattle.tsp_audit.proofs.nearness.node_agrees.Goals as goal

@@ -1,24 +1,18 @@
-use Rattle.std.proofs.Common.{◌≡◌, ◌∙◌, sym, ap, subst, rules, to_z, of_z, ℤ}
-use Rattle.std.specs.Int.{w64, w128}
+use Rattle.std.proofs.Common.{◌≡◌, ◌∙◌, ◌+ℤ◌, ◌-ℤ◌, ◌-◌, ap, rules, to_z, of_z, ℤ}
+use Rattle.std.specs.Int.{w128}
 use Rattle.tsp_audit.specs.Agreeing.{shown_by}
-use Rattle.tsp_audit.proofs.NearLemmas.{bound-same, near-told, stands-shown}
-use Rattle.tsp_history.specs.Clocks.{IsSumOf}
+use Rattle.tsp_audit.specs.Standings.{reach_at}
+use Rattle.tsp_audit.proofs.NearLemmas.{spans-told}
+use Rattle.tsp_base.specs.Ticks.{width}
 use Rattle.tsp_audit.proofs.nearness.pair_near.Goals as goal
 
 pub returns : goal.returns
-returns c header at first second own other ac bd fsum ssum =
-    let a = c.args.a.now.moved in
-    let b = c.args.b.now.moved in
-    let e = c.args.c.now.err in
-    let f = c.args.d.now.err in
-    let same-a : to_z w128 (of_z w128 a) ≡ a = search rules in
-    let same-b : to_z w128 (of_z w128 b) ≡ b = search rules in
-    let same-e : to_z w64 (of_z w64 e) ≡ e = search rules in
-    let same-f : to_z w64 (of_z w64 f) ≡ f = search rules in
-    let same-u : to_z w128 (of_z w128 c.clock-clock.result) ≡ c.clock-clock.result = search rules in
-    let same-v : to_z w128 (of_z w128 c.clock-other_clock.result) ≡ c.clock-other_clock.result = search rules in
-    let same-w : to_z w128 (of_z w128 c.bound-most.result) ≡ c.bound-most.result = search rules in
-    let u = same-u ∙ (c.clock-clock.ensures.sum (subst (λ (z : ℤ). IsSumOf 4294967295 z) (sym same-a) fsum) ∙ (stands-shown header at first c.args.a.now c.args.own.now _ own ∙ ap (λ (z : ℤ). shown_by header first z at) same-a)) in
-    let v = same-v ∙ (c.clock-other_clock.ensures.sum (subst (λ (z : ℤ). IsSumOf 4294967295 z) (sym same-b) ssum) ∙ (stands-shown header at second c.args.b.now c.args.other.now _ other ∙ ap (λ (z : ℤ). shown_by header second z at) same-b)) in
-    let w = same-w ∙ (c.bound-most.ensures ∙ bound-same _ e _ f _ _ _ _ same-e same-f (own.drift_is c.args.c.now ac) (other.drift_is c.args.d.now bd)) in
-    near-told c.is_near.result _ _ _ _ _ _ u v w c.is_near.ensures
+returns c a b x y ac bd header at first second own other fsum ssum =
+    let same-al : to_z w128 (of_z w128 c.args.own.now.low) ≡ c.args.own.now.low = search rules in
+    let same-ah : to_z w128 (of_z w128 c.args.own.now.high) ≡ c.args.own.now.high = search rules in
+    let same-bl : to_z w128 (of_z w128 c.args.other.now.low) ≡ c.args.other.now.low = search rules in
+    let same-bh : to_z w128 (of_z w128 c.args.other.now.high) ≡ c.args.other.now.high = search rules in
+    spans-told c.is_met.result (shown_by header first a.moved at) (shown_by header second b.moved at) x.err y.err _ _ _ _ (width header.drift (at - x.at)) (width header.drift (at - y.at))
+    (same-al ∙ (own.low_is x ac ∙ ap (λ (z : ℤ). z -ℤ reach_at header at x) (own.clock_is fsum))) (same-ah ∙ (own.high_is x ac ∙ ap (λ (z : ℤ). z +ℤ reach_at header at x) (own.clock_is fsum)))
+    (same-bl ∙ (other.low_is y bd ∙ ap (λ (z : ℤ). z -ℤ reach_at header at y) (other.clock_is ssum))) (same-bh ∙ (other.high_is y bd ∙ ap (λ (z : ℤ). z +ℤ reach_at header at y) (other.clock_is ssum)))
+    c.is_met.ensures

@@ -3,7 +3,7 @@ use Rattle.std.proofs.lemmas.Bool.{cases_lt}
 use Rattle.std.proofs.lemmas.List.{get_or-set_other, get_or-set_same, length-set}
 use Rattle.tsp_audit.specs.Standings.{StandsAs}
 use Rattle.tsp_audit.specs.declared.round_correction.NodeState.{NodeState}
-use Rattle.tsp_audit.specs.declared.standing.Standing.{Standing}
+use Rattle.tsp_audit.specs.declared.shown.Standing.{Standing}
 use Rattle.tsp_audit.proofs.AccordSteps.{state-at}
 use Rattle.tsp_audit.proofs.standing.standings.Goals as goal
 

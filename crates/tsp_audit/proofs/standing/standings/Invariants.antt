@@ -3,7 +3,7 @@ use Rattle.std.proofs.Common.{◌≤◌, ◌<◌, ℕ, length, get_or}
 use Rattle.tsp_audit.specs.Agreeing.{IsAt}
 use Rattle.tsp_audit.specs.Standings.{StandsAs}
 use Rattle.tsp_audit.specs.declared.round_correction.NodeState.{NodeState}
-use Rattle.tsp_audit.specs.declared.standing.Standing.{Standing}
+use Rattle.tsp_audit.specs.declared.shown.Standing.{Standing}
 use Rattle.tsp_audit.proofs.standing.standings.Given as goal
 
 abbrev pub invariant-loop-node : goal.invariant-loop-node

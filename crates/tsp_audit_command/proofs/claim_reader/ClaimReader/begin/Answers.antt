@@ -1,12 +1,15 @@
 -- Nothing is claimed yet.
-use Rattle.std.proofs.Common.{subst}
-use Rattle.std.specs.Prelude.{[]}
-use Rattle.tsp_claims.specs.Stands.{ClaimsStand}
-use Rattle.tsp_audit_command.proofs.SoundLemmas.{Sound-begun}
+use Rattle.std.proofs.Common.{subst, sym}
+use Rattle.tsp_audit_command.specs.Sound.{Sound}
+use Rattle.tsp_audit_command.proofs.SoundLemmas.{Sound-begun, view-begun}
 use Rattle.tsp_audit_command.proofs.claim_reader.ClaimReader.begin.Goals as goal
 
 pub invariant_of-result : goal.invariant_of-result
 invariant_of-result c =
-    Sound-begun c.args.header c.args.events.items c.in_ok-claims.claims _ _ _ _ c.requires.header c.requires.listed
-    (subst (λ h. ClaimsStand h [] c.in_ok-claims.claims) c.in_ok-copy_header.ensures c.in_ok-claims.ensures)
-    c.new-2.ensures.items c.new-3.ensures c.new-4.ensures (c.all_kept.ensures c.args.header)
+    let stand = c.in_ok-claims.ensures in
+    subst (λ h. Sound h c.args.events.items c.in_ok-claims.claims c.new-2.result.items c.new-3.result c.new-4.result c.all_kept.result) (sym stand.header_is)
+    (Sound-begun c.args.header c.args.events.items c.in_ok-claims.claims c.new-2.result.items c.new-3.result c.new-4.result c.all_kept.result c.requires.header c.requires.listed stand
+    c.new-2.ensures.items c.new-3.ensures c.new-4.ensures (c.all_kept.ensures c.args.header))
+
+pub returns : goal.returns
+returns c = view-begun c.args.header c.args.events.items c.in_ok-claims.claims _ _ c.in_ok-claims.ensures c.new-2.ensures.items c.new-3.ensures

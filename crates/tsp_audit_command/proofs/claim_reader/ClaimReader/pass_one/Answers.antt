@@ -1,12 +1,14 @@
 -- The event at hand lacks nothing, and is passed.
 use Rattle.std.proofs.Common.{◌≡◌, ◌∙◌, ap, sym, subst, rules}
-use Rattle.std.specs.Prelude.{length, take, reverse, [], ◌∷◌, ◌++◌, Some, false, OnOk}
+use Rattle.std.specs.Prelude.{List, length, take, reverse, [], ◌∷◌, ◌++◌, Some, false, OnOk}
 use Rattle.std.specs.List.{slice_get}
 use Rattle.std.proofs.lemmas.Option.{slice_get_within}
 use Rattle.tsp_audit.specs.Premised.{kept_with}
+use Rattle.tsp_audit.proofs.JudgeLemmas.{history-length}
+use Rattle.tsp_base.specs.History.{Line}
 use Rattle.tsp_audit_command.specs.ClaimReaders.{pass_one}
-use Rattle.tsp_audit_command.specs.Sound.{claims_on}
-use Rattle.tsp_claims.specs.ClaimedHistory.{posts_of}
+use Rattle.tsp_audit_command.specs.Sound.{Sound, claims_on}
+use Rattle.tsp_claims.specs.ClaimedHistory.{claimed, posts_of}
 use Rattle.tsp_claims.specs.Fitting.{Fit, lacks}
 use Rattle.tsp_claims.specs.Stands.{ClaimsStand, claim_of}
 use Rattle.tsp_audit_command.proofs.SoundLemmas.{Sound-passed, at-fit, few-passed, got-at, view-passed}
@@ -15,45 +17,56 @@ use Rattle.tsp_audit_command.proofs.claim_reader.ClaimReader.pass_one.Goals as g
 pub add-requires-clause-events : goal.add-requires-clause-events
 add-requires-clause-events c =
     let i = c.self.inside in
-    let at : slice_get i.events.items (length i.told.items) ≡ Some c.in-Some.e.now = got-at c.deref.result.now i.events.items c.len-at.result (length i.told.items) c.in-Some.e.now c.deref.ensures.value (search rules) c.in-Some.ensures.lookup.3.0 c.in-Some.ensures.lookup.1 in
-    few-passed i.header i.events.items i.claims i.told.items i.pending i.tally i.premises c.self.invariant (slice_get_within i.events.items (length i.told.items) c.in-Some.e.now at)
+    let at : slice_get i.events.items (length i.ends.items) ≡ Some c.in-Some.e.now = got-at c.deref.result.now i.events.items c.len-at.result (length i.ends.items) c.in-Some.e.now c.deref.ensures.value (search rules) c.in-Some.ensures.lookup.3.0 c.in-Some.ensures.lookup.1 in
+    few-passed i.claims.header i.events.items i.claims i.ends.items i.pending i.tally i.premises c.self.invariant (slice_get_within i.events.items (length i.ends.items) c.in-Some.e.now at)
 
 pub add-requires-clause-fit : goal.add-requires-clause-fit
 add-requires-clause-fit c =
     let i = c.self.inside in
-    let passed = claims_on [] i.events.items i.told.items in
-    let at : slice_get i.events.items (length i.told.items) ≡ Some c.in-Some.e.now = got-at c.deref.result.now i.events.items c.len-at.result (length i.told.items) c.in-Some.e.now c.deref.ensures.value (search rules) c.in-Some.ensures.lookup.3.0 c.in-Some.ensures.lookup.1 in
-    let none : lacks c.in-Some.e.now i.tally ≡ false = sym c.lacks.ensures ∙ c.if-lacks.false in (
-      i.header,
+    let e = c.event-e.result in
+    let passed = claims_on i.events.items i.ends.items i.claims in
+    let read : slice_get i.events.items (length i.ends.items) ≡ Some c.in-Some.e.now = got-at c.deref.result.now i.events.items c.len-at.result (length i.ends.items) c.in-Some.e.now c.deref.ensures.value (search rules) c.in-Some.ensures.lookup.3.0 c.in-Some.ensures.lookup.1 in
+    let at : slice_get i.events.items (length i.ends.items) ≡ Some e = subst (λ x. slice_get i.events.items (length i.ends.items) ≡ Some x) (sym c.event-e.ensures) read in
+    let none : lacks e i.tally ≡ false = sym c.lacks.ensures ∙ c.if-lacks.false in (
+      i.claims.header,
       passed,
       c.self.invariant.stand,
-      subst (λ ls. Fit i.header passed c.in-Some.e.now ls) (sym c.lines.ensures) (at-fit i.header i.events.items i.claims i.told.items i.pending i.tally i.premises c.self.invariant c.in-Some.e.now at none),
+      subst (λ ls. Fit i.claims.header passed e ls) (sym c.lines.ensures) (at-fit i.claims.header i.events.items i.claims i.ends.items i.pending i.tally i.premises c.self.invariant e at none),
     )
 
 pub invariant_of-result : goal.invariant_of-result
 invariant_of-result c =
     let i = c.self.inside in
-    let e = c.in-Some.e.now in
-    let passed = claims_on [] i.events.items i.told.items in
-    let at : slice_get i.events.items (length i.told.items) ≡ Some e = got-at c.deref.result.now i.events.items c.len-at.result (length i.told.items) e c.deref.ensures.value (search rules) c.in-Some.ensures.lookup.3.0 c.in-Some.ensures.lookup.1 in
+    let e = c.event-e.result in
+    let passed = claims_on i.events.items i.ends.items i.claims in
+    let read : slice_get i.events.items (length i.ends.items) ≡ Some c.in-Some.e.now = got-at c.deref.result.now i.events.items c.len-at.result (length i.ends.items) c.in-Some.e.now c.deref.ensures.value (search rules) c.in-Some.ensures.lookup.3.0 c.in-Some.ensures.lookup.1 in
+    let at : slice_get i.events.items (length i.ends.items) ≡ Some e = subst (λ x. slice_get i.events.items (length i.ends.items) ≡ Some x) (sym c.event-e.ensures) read in
     let none : lacks e i.tally ≡ false = sym c.lacks.ensures ∙ c.if-lacks.false in
-    let took : OnOk c.add.result (ClaimsStand i.header (claim_of e c.lines.result.now ∷ passed) c.add.new.self) = c.add.ensures.taken i.header passed c.self.invariant.stand in
-    let stand : ClaimsStand i.header (claim_of e c.lines.result.now ∷ passed) c.add.new.self = search rules in
-    let more_is : c.push.new.self.items ≡ i.told.items ++ i.pending ∷ [] = search rules in
-    let kept_is : c.keep_with-premises.result ≡ kept_with i.premises (reverse (take (length i.told.items) i.events.items)) (posts_of i.header passed) e =
+    let took : OnOk c.add.result (ClaimsStand i.claims.header (claim_of e c.lines.result.now ∷ passed) c.add.new.self) = c.add.ensures.taken i.claims.header passed c.self.invariant.stand in
+    let given : ClaimsStand i.claims.header (claim_of e c.lines.result.now ∷ passed) c.add.new.self = search rules in
+    let stand : ClaimsStand i.claims.header (claim_of e i.pending ∷ passed) c.add.new.self = subst (λ ls. ClaimsStand i.claims.header (claim_of e ls ∷ passed) c.add.new.self) c.lines.ensures given in
+    let more_is : c.push.new.self.items ≡ i.ends.items ++ (length c.lines-2.result.now) ∷ [] = search rules in
+    let n_is : length c.lines-2.result.now ≡ length (claimed i.claims.header (claim_of e i.pending ∷ passed)) =
+    sym (history-length c.lines-2.result.now) ∙ ap (λ (h : List Line). length h) (c.lines-2.ensures.lines i.claims.header (claim_of e i.pending ∷ passed) stand) in
+    let kept_is : c.keep_with-premises.result ≡ kept_with i.premises (reverse (take (length i.ends.items) i.events.items)) (posts_of i.claims.header passed) e =
     (let k : c.keep_with-premises.result ≡ kept_with i.premises (reverse (take c.len-at.result c.deref-2.result.now)) c.posts.result.now e = c.keep_with-premises.ensures in
-    let len : c.len-at.result ≡ length i.told.items = search rules in
+    let len : c.len-at.result ≡ length i.ends.items = search rules in
     k ∙ (ap (λ n. kept_with i.premises (reverse (take n c.deref-2.result.now)) c.posts.result.now e) len
-    ∙ (ap (λ es. kept_with i.premises (reverse (take (length i.told.items) es)) c.posts.result.now e) c.deref-2.ensures.value
-    ∙ ap (λ ps. kept_with i.premises (reverse (take (length i.told.items) i.events.items)) ps e) (c.posts.ensures i.header passed c.self.invariant.stand)))) in
-    Sound-passed i.header i.events.items i.claims i.told.items i.pending i.tally i.premises c.self.invariant e at none c.add.new.self c.push.new.self.items _ _ _
-    (subst (λ ls. ClaimsStand i.header (claim_of e ls ∷ passed) c.add.new.self) c.lines.ensures stand) more_is c.new.ensures c.new-2.ensures kept_is
+    ∙ (ap (λ es. kept_with i.premises (reverse (take (length i.ends.items) es)) c.posts.result.now e) c.deref-2.ensures.value
+    ∙ ap (λ ps. kept_with i.premises (reverse (take (length i.ends.items) i.events.items)) ps e) (c.posts.ensures i.claims.header passed c.self.invariant.stand)))) in
+    subst (λ h. Sound h i.events.items c.add.new.self c.push.new.self.items c.clear.new.self c.new.result c.keep_with-premises.result) (sym stand.header_is)
+    (Sound-passed i.claims.header i.events.items i.claims i.ends.items i.pending i.tally i.premises c.self.invariant e at none c.add.new.self c.push.new.self.items (length c.lines-2.result.now) _ _ _ stand more_is n_is c.clear.ensures c.new.ensures kept_is)
 
 pub returns : goal.returns
 returns c =
     let i = c.self.inside in
-    let e = c.in-Some.e.now in
-    let at : slice_get i.events.items (length i.told.items) ≡ Some e = got-at c.deref.result.now i.events.items c.len-at.result (length i.told.items) e c.deref.ensures.value (search rules) c.in-Some.ensures.lookup.3.0 c.in-Some.ensures.lookup.1 in
+    let e = c.event-e.result in
+    let passed = claims_on i.events.items i.ends.items i.claims in
+    let read : slice_get i.events.items (length i.ends.items) ≡ Some c.in-Some.e.now = got-at c.deref.result.now i.events.items c.len-at.result (length i.ends.items) c.in-Some.e.now c.deref.ensures.value (search rules) c.in-Some.ensures.lookup.3.0 c.in-Some.ensures.lookup.1 in
+    let at : slice_get i.events.items (length i.ends.items) ≡ Some e = subst (λ x. slice_get i.events.items (length i.ends.items) ≡ Some x) (sym c.event-e.ensures) read in
     let none : lacks e i.tally ≡ false = sym c.lacks.ensures ∙ c.if-lacks.false in
-    let more_is : c.push.new.self.items ≡ i.told.items ++ i.pending ∷ [] = search rules in
-    ap (λ v. pass_one v) (sym c.self.view_is) ∙ view-passed i.header i.events.items i.claims i.told.items i.pending i.tally i.premises c.self.invariant e at none c.push.new.self.items _ more_is c.new.ensures
+    let took : OnOk c.add.result (ClaimsStand i.claims.header (claim_of e c.lines.result.now ∷ passed) c.add.new.self) = c.add.ensures.taken i.claims.header passed c.self.invariant.stand in
+    let given : ClaimsStand i.claims.header (claim_of e c.lines.result.now ∷ passed) c.add.new.self = search rules in
+    let stand : ClaimsStand i.claims.header (claim_of e i.pending ∷ passed) c.add.new.self = subst (λ ls. ClaimsStand i.claims.header (claim_of e ls ∷ passed) c.add.new.self) c.lines.ensures given in
+    let more_is : c.push.new.self.items ≡ i.ends.items ++ (length c.lines-2.result.now) ∷ [] = search rules in
+    ap (λ v. pass_one v) (sym c.self.view_is) ∙ view-passed i.claims.header i.events.items i.claims i.ends.items i.pending i.tally i.premises c.self.invariant e at none c.add.new.self c.push.new.self.items (length c.lines-2.result.now) _ stand more_is c.clear.ensures

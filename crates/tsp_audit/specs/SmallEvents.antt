@@ -1,0 +1,10 @@
+-- Events that are held, each in little room.
+use Rattle.tsp_audit.specs.declared.small_event.Held.{Held}
+use Rattle.tsp_audit.specs.declared.small_event.Held.TheVariants.{Boxed, Plain}
+use Rattle.tsp_base.specs.declared.event.Event.{Event}
+use Rattle.tsp_script.specs.Plains.{event_in}
+
+-- the event that is held so
+abbrev pub event_of : Held → Event
+event_of (Plain e) = event_in e
+event_of (Boxed e) = e.value
