@@ -22,7 +22,7 @@ returns-in-Err-clause-turns g c s at =
     let w = waits_is s.past.ports s.outside _ _ _ _ _ _ _ _ _ _ _ _ _ _ _ _ _ _ at.tells c.tick-first.ensures.takes c.tick-first.ensures.last c.recv-received.ensures.receives ok c.recv-received.ensures.same.0 c.recv-received.ensures.counted c.tick-tick.ensures.takes c.tick-tick.ensures.last in
     let row = subst (λ (ps : List Placed). PerformsAll GatewayBegun GatewayStands (answers_all (given_by (setups_in c.args.node.now) c.recv-received.result c.recv-received.new.buf)) c.tick-tick.result c.args.node.now c.step.new.node [] ps) (sym c.acts-acts.ensures) c.step.ensures.row in
     let steps = steps_is s _ _ c.args.course.now _ _ _ _ _ _ _ _ _ _ _ _ at.stands at.turns_is at.posts_is w row (c.tracing-before.ensures.past s.past at.stands) c.tracing.ensures.past c.is_shown-shown.ensures in
-    ends_is s _ c.args.course.now _ _ _ _ _ _ _ _ _ _ _ _ _ _ _ c.in-Err.end at.written_is w steps c.finish.ensures.same.0 c.finish.ensures.same.1 c.in-Err.ensures.err
+    ends_is s _ c.args.course.now _ _ _ _ _ _ _ _ _ _ _ _ _ _ _ c.in-Err.end at.written_is w steps c.finish.ensures.only.arrivals c.finish.ensures.only.calls c.in-Err.ensures.err
 
 pub returns-clause-turns : goal.returns-clause-turns
 returns-clause-turns g c s at =
@@ -31,14 +31,14 @@ returns-clause-turns g c s at =
     let row = subst (λ (ps : List Placed). PerformsAll GatewayBegun GatewayStands (answers_all (given_by (setups_in c.args.node.now) c.recv-received.result c.recv-received.new.buf)) c.tick-tick.result c.args.node.now c.step.new.node [] ps) (sym c.acts-acts.ensures) c.step.ensures.row in
     let steps = steps_is s _ _ c.args.course.now _ _ _ _ _ _ _ _ _ _ _ _ at.stands at.turns_is at.posts_is w row (c.tracing-before.ensures.past s.past at.stands) c.tracing.ensures.past c.is_shown-shown.ensures in
     let sent = c.in_default.ensures.ok in
-    turned_is s _ c.args.course.now _ _ _ _ _ _ _ _ _ _ _ _ _ _ _ _ _ at.turns_is at.posts_is at.written_is w steps c.finish.ensures.same.0 c.finish.ensures.same.1 sent.0 sent.1 refl
+    turned_is s _ c.args.course.now _ _ _ _ _ _ _ _ _ _ _ _ _ _ _ _ _ at.turns_is at.posts_is at.written_is w steps c.finish.ensures.only.arrivals c.finish.ensures.only.calls sent.0 sent.1 refl
     (ap (λ n. c.args.course.now.posts + n) c.posts_in.ensures.count)
 
 pub returns-clause-lives : goal.returns-clause-lives
 returns-clause-lives g c = lives_on _ _ _ _ _ c.requires.lives c.step.ensures.row
 
 pub returns-in-Err-clause-waits : goal.returns-in-Err-clause-waits
-returns-in-Err-clause-waits g c s at = turn_noted s _ _ c.in-Err.end (wait_noted s _ c.due.result c.tick-first.result c.wait_until.result _ _ at.stands c.due.ensures.past (first_reading s.outside _ _ _ _ _ _ _ at.tells c.tick-first.ensures.takes) c.wait_until.ensures (Notes_same _ _ _ _ c.finish.ensures.same.3 c.recv-received.ensures.waits))
+returns-in-Err-clause-waits g c s at = turn_noted s _ _ c.in-Err.end (wait_noted s _ c.due.result c.tick-first.result c.wait_until.result _ _ at.stands c.due.ensures.past (first_reading s.outside _ _ _ _ _ _ _ at.tells c.tick-first.ensures.takes) c.wait_until.ensures (Notes_same _ _ _ _ c.finish.ensures.only.waits c.recv-received.ensures.waits))
 
 pub returns-clause-waits : goal.returns-clause-waits
-returns-clause-waits g c s at = wait_noted s _ c.due.result c.tick-first.result c.wait_until.result _ _ at.stands c.due.ensures.past (first_reading s.outside _ _ _ _ _ _ _ at.tells c.tick-first.ensures.takes) c.wait_until.ensures (Notes_same _ _ _ _ c.finish.ensures.same.3 c.recv-received.ensures.waits)
+returns-clause-waits g c s at = wait_noted s _ c.due.result c.tick-first.result c.wait_until.result _ _ at.stands c.due.ensures.past (first_reading s.outside _ _ _ _ _ _ _ at.tells c.tick-first.ensures.takes) c.wait_until.ensures (Notes_same _ _ _ _ c.finish.ensures.only.waits c.recv-received.ensures.waits)
