@@ -8,7 +8,7 @@ use Rattle.tsp_daemon.specs.declared.end.ServeEnd.TheVariants.{Done, LinkFault, 
 use Rattle.tsp_daemon.specs.Ends.{IsAt, Serves, ServesUntil}
 use Rattle.tsp_daemon.specs.Sessions.{Session, read_once}
 use Rattle.tsp_daemon.proofs.SessionFits.{session_kept}
-use Rattle.tsp_daemon.proofs.SessionLemmas.{reading_taken}
+use Rattle.tsp_query.proofs.AskLemmas.{reading_taken}
 use Rattle.tsp_gateway.specs.declared.gateway.Gateway.{Gateway}
 use Rattle.tsp_gateway.specs.GatewayStands.{GatewayStands}
 use Rattle.tsp_io.specs.Clocks.{TakesReading}
