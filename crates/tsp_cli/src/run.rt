@@ -138,7 +138,7 @@ fn run_command<S: Source, K: Sink, L: Link, T: Ticker>(
         Command::Pack => Status::of(pack(alloc, source, sink)),
         Command::Icmp => Status::of(average(alloc, source, sink)),
         Command::Serve(words) => run_daemon(words, sink, link, ticker, alloc),
-        Command::Ask(daemon, query) => run_query(*daemon, query, sink, link, ticker),
+        Command::Ask(daemon, query) => run_query(sink, link, ticker, *daemon, query),
         Command::Storm(words) => run_storm(alloc, words, sink),
         Command::Audit => Status::of(check(alloc, source, sink)),
     }
@@ -169,11 +169,11 @@ fn run_daemon<K: Sink, L: Link, T: Ticker>(
 
 /// Asks a daemon, and gives the status of its end.
 fn run_query<K: Sink, L: Link, T: Ticker>(
-    daemon: Addr,
-    query: &Query,
     sink: &mut K,
     link: &mut L,
     ticker: &mut T,
+    daemon: Addr,
+    query: &Query,
 ) -> Status
     ensures runs { RunsQuery daemon query.now
         (observed K.Sink L.Link T.Ticker sink.old link.old ticker.old)

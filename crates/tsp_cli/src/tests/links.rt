@@ -1,11 +1,10 @@
 //! Runs of the program over a link and a ticker in memory: daemons, and questions to one.
-use crate::run::run;
 use crate::status::Status;
-use crate::tests::words_of;
+use crate::tests::run_unread;
 use std::alloc::{AllocError, Global};
 use std::process::Abort;
 use tsp_base::place::{PeerId, Place};
-use tsp_io::memory::{MemorySink, MemorySource};
+use tsp_io::memory::MemorySink;
 use tsp_io::memory_link::MemoryLink;
 use tsp_io::memory_ticker::MemoryTicker;
 
@@ -50,7 +49,7 @@ enum Wall {
 /// The words, the calls of the link and the writes that fail, the datagram that comes with its
 /// sender, and the wall clock. A run gives its status, its text, how many sends were tried, and how
 /// many readings are left.
-#[derive(Drop)]
+#[derive(Clone, Copy)]
 struct Row {
     words: &'static [&'static str],
     calls: &'static [u32],
@@ -83,137 +82,163 @@ fn is_sent(link: &MemoryLink, tried: usize, comes: &[u8]) -> bool {
     link.tried() == tried
 }
 
+/// Whether the run over these ends as the row says, with its text.
+fn tells(
+    alloc: Global,
+    row: &Row,
+    sink: &mut MemorySink,
+    link: &mut MemoryLink,
+    ticker: &mut MemoryTicker,
+) -> Result<bool, AllocError> {
+    let status = run_unread(alloc, row.words, sink, link, ticker)?;
+    Ok(status == row.status && sink.written() == row.text.as_bytes())
+}
+
+/// The same, with a sink whose writes fail as the row says.
+fn is_told(
+    alloc: Global,
+    row: &Row,
+    link: &mut MemoryLink,
+    ticker: &mut MemoryTicker,
+) -> Result<bool, AllocError> {
+    let mut sink = MemorySink::new(alloc, row.writes)?;
+    tells(alloc, row, &mut sink, link, ticker)
+}
+
+/// Whether it also leaves so many readings of this ticker.
+fn leaves(
+    alloc: Global,
+    row: &Row,
+    link: &mut MemoryLink,
+    ticker: &mut MemoryTicker,
+) -> Result<bool, AllocError> {
+    Ok(is_told(alloc, row, link, ticker)? && ticker.left() == row.left)
+}
+
+/// The same, with the row's wall clock.
+fn is_timed(alloc: Global, row: &Row, link: &mut MemoryLink) -> Result<bool, AllocError> {
+    let mut ticker = ticker_at(alloc, row.wall)?;
+    leaves(alloc, row, link, &mut ticker)
+}
+
+/// Whether the run over this link comes to what the row says.
+fn goes(alloc: Global, row: &Row, link: &mut MemoryLink) -> Result<bool, AllocError> {
+    link.arrive(row.from, row.comes)?;
+    Ok(is_timed(alloc, row, link)? && is_sent(link, row.tried, row.comes))
+}
+
 /// Whether the run comes to what the row says; the source, whose first read would fail, isn't read.
 fn is_right(alloc: Global, row: &Row) -> Result<bool, AllocError> {
-    let words = words_of(alloc, row.words)?;
-    let mut source = MemorySource::new(alloc, b"", &[0])?;
-    let mut sink = MemorySink::new(alloc, row.writes)?;
     let mut link = MemoryLink::new(alloc, row.calls)?;
-    link.arrive(row.from, row.comes)?;
-    let mut ticker = ticker_at(alloc, row.wall)?;
-    let words = words.as_slice();
-    let status = run(alloc, words, &mut source, &mut sink, &mut link, &mut ticker);
-    let text = sink.written() == row.text.as_bytes();
-    let sent = is_sent(&link, row.tried, row.comes);
-    Ok(status == row.status && text && sent && ticker.left() == row.left)
+    goes(alloc, row, &mut link)
 }
 
-/// A daemon to which a stranger sends this, where these calls and writes fail.
-fn daemon(
-    words: &'static [&'static str],
-    comes: &'static [u8],
-    calls: &'static [u32],
-    writes: &'static [u32],
-    status: Status,
-    text: &'static str,
-    tried: usize,
-    left: usize,
-) -> Row {
-    Row {
-        words,
-        calls,
-        writes,
-        from: Place::Stranger,
-        comes,
-        wall: Wall::Usual,
-        status,
-        text,
-        tried,
-        left,
-    }
-}
+/// A daemon of one turn that answers a stranger's request and shows nothing.
+const DAEMON: Row = Row {
+    words: ONE,
+    calls: &[],
+    writes: &[],
+    from: Place::Stranger,
+    comes: REQUEST,
+    wall: Wall::Usual,
+    status: Status::Ok,
+    text: "",
+    tried: 1,
+    left: 0,
+};
 
-/// A daemon whose wall clock is out of its range.
-fn untimely(wall: Wall, writes: &'static [u32], status: Status, text: &'static str) -> Row {
-    Row {
-        words: ONE,
-        calls: &[],
-        writes,
-        from: Place::Stranger,
-        comes: REQUEST,
-        wall,
-        status,
-        text,
-        tried: 0,
-        left: 2,
-    }
-}
+/// One whose trace is turned on.
+const SHOWING: Row = Row {
+    comes: TRACE_ON,
+    text: SHOWN,
+    ..DAEMON
+};
 
-/// A question that an acknowledgment answers from the daemon, where these calls fail.
-fn question(
-    words: &'static [&'static str],
-    calls: &'static [u32],
-    status: Status,
-    text: &'static str,
-    tried: usize,
-    left: usize,
-) -> Row {
-    Row {
-        words,
-        calls,
-        writes: &[],
-        from: Place::Peer(PeerId(0)),
-        comes: ACK,
-        wall: Wall::Usual,
-        status,
-        text,
-        tried,
-        left,
-    }
-}
+/// One whose wall clock is out of its range.
+const UNTIMELY: Row = Row {
+    wall: Wall::Late,
+    status: Status::Bad,
+    text: "bad wall\n",
+    tried: 0,
+    left: 2,
+    ..DAEMON
+};
+
+/// A date that is passed on.
+const DATE: Row = Row {
+    words: &["date", "127.0.0.1:525", "0"],
+    from: Place::Peer(PeerId(0)),
+    comes: ACK,
+    text: "date forwarded\n",
+    ..DAEMON
+};
 
 /// A request is answered and nothing shown; a step that turns the trace on is shown. A send that
 /// fails is a lost datagram. A bind or a receive that fails ends the daemon, and so does a write,
-/// after what was written.
-#[test]
-fn daemons_run(rt: HostRuntime) {
-    for row in [
-        daemon(ONE, REQUEST, &[], &[], Status::Ok, "", 1, 0),
-        daemon(ONE, REQUEST, &[2], &[], Status::Ok, "", 1, 0),
-        daemon(ONE, TRACE_ON, &[], &[], Status::Ok, SHOWN, 1, 0),
-        daemon(ONE, TRACE_ON, &[2], &[], Status::Ok, SHOWN, 1, 0),
-        daemon(ONE, REQUEST, &[0], &[], Status::LinkFault, "", 0, 3),
-        daemon(ONE, REQUEST, &[1], &[], Status::LinkFault, "", 0, 1),
-        daemon(TWO, REQUEST, &[3], &[], Status::LinkFault, "", 1, 0),
-        daemon(ONE, TRACE_ON, &[], &[1], Status::WriteFault, FIRST, 1, 0),
-    ] {
-        assert!(rt; is_right(rt.alloc(), &row) == Ok(true), "{}", row.text);
-    }
-}
+/// after what was written. A wall clock lies strictly between -2^31 and 2^31 seconds. A date goes out and
+/// is passed on. A storm touches neither link nor ticker.
+const ROWS: &[Row] = &[
+    DAEMON,
+    Row {
+        calls: &[2],
+        ..DAEMON
+    },
+    SHOWING,
+    Row {
+        calls: &[2],
+        ..SHOWING
+    },
+    Row {
+        calls: &[0],
+        status: Status::LinkFault,
+        tried: 0,
+        left: 3,
+        ..DAEMON
+    },
+    Row {
+        calls: &[1],
+        status: Status::LinkFault,
+        tried: 0,
+        left: 1,
+        ..DAEMON
+    },
+    Row {
+        words: TWO,
+        calls: &[3],
+        status: Status::LinkFault,
+        ..DAEMON
+    },
+    Row {
+        writes: &[1],
+        status: Status::WriteFault,
+        text: FIRST,
+        ..SHOWING
+    },
+    Row {
+        wall: Wall::Early,
+        ..UNTIMELY
+    },
+    UNTIMELY,
+    Row {
+        writes: &[0],
+        status: Status::WriteFault,
+        text: "",
+        ..UNTIMELY
+    },
+    DATE,
+    Row {
+        words: &["storm", "1", "1", "1"],
+        text: "events 1 posted 0 took 0 corrects 0 masters 0\n",
+        tried: 0,
+        left: 3,
+        ..DATE
+    },
+];
 
-/// A wall clock lies strictly between -2^31 and 2^31 seconds.
+/// Daemons, questions and a storm end as their rows say.
 #[test]
-fn walls_are_in_range(rt: HostRuntime) {
-    for row in [
-        untimely(Wall::Early, &[], Status::Bad, "bad wall\n"),
-        untimely(Wall::Late, &[], Status::Bad, "bad wall\n"),
-        untimely(Wall::Late, &[0], Status::WriteFault, ""),
-    ] {
-        assert!(rt; is_right(rt.alloc(), &row) == Ok(true), "{}", row.text);
-    }
-}
-
-/// A date goes out and is passed on. A storm touches neither link nor ticker.
-#[test]
-fn dates_and_storms_run(rt: HostRuntime) {
-    for row in [
-        question(
-            &["date", "127.0.0.1:525", "0"],
-            &[],
-            Status::Ok,
-            "date forwarded\n",
-            1,
-            0,
-        ),
-        question(
-            &["storm", "1", "1", "1"],
-            &[],
-            Status::Ok,
-            "events 1 posted 0 took 0 corrects 0 masters 0\n",
-            0,
-            3,
-        ),
-    ] {
-        assert!(rt; is_right(rt.alloc(), &row) == Ok(true), "{}", row.text);
+fn runs_end(rt: HostRuntime) {
+    for row in ROWS {
+        assert!(rt; is_right(rt.alloc(), row) == Ok(true), "{}", row.text);
     }
 }
