@@ -1,5 +1,5 @@
 //! The lines of a traced step.
-ghost use Rattle.std.specs.Prelude.{◌≡◌, ◌≤◌, ◌<◌, ◌+◌, ◌^◌, ◌||◌, length, IfErr, Err, OnOk};
+ghost use Rattle.std.specs.Prelude.{◌≡◌, ◌<◌, ◌+◌, ◌^◌, ◌||◌, length, IfErr, Err, OnOk};
 ghost use Rattle.tsp_io.specs.Streams.{Grows};
 ghost use Rattle.tsp_query.specs.Faults.{Counts};
 ghost use Rattle.tsp_daemon.specs.Ends.{TellsUntil};

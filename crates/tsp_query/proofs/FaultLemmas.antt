@@ -1,5 +1,5 @@
 -- Laws of what calls do to counts of faults.
-use Rattle.std.specs.Prelude.{◌≡◌, ◌≤◌, ℕ, refl}
+use Rattle.std.specs.Prelude.{◌≡◌, ℕ}
 use Rattle.std.proofs.Common.{◌∙◌, arith}
 use Rattle.tsp_io.specs.declared.link.Link.{Ghosts as LinkOf}
 use Rattle.tsp_query.specs.Faults.{Counts, LinkCounts}
