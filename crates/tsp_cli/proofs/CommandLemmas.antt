@@ -1,11 +1,13 @@
 -- From what the words ask for, and from how a daemon or a question ends, to how the program does.
-use Rattle.std.specs.Prelude.{◌≡◌, ◌⊎◌, ℕ, ℤ, true, false, List, [], Option, None, Some, IfSome, MatchOption}
+use Rattle.std.specs.Prelude.{◌≡◌, ◌≢◌, ◌⊎◌, ◌≤◌, ℕ, ℤ, true, false, List, [], Option, None, Some, IfSome, MatchOption}
 use Rattle.std.proofs.Common.{sym, ◌∙◌, inl, inr, subst, refl, ap, arith}
 use Rattle.tsp_query.specs.declared.exit.QueryExit.{QueryExit}
 use Rattle.tsp_query.specs.declared.exit.QueryExit.TheVariants.{Answered, NoAnswer as Unanswered, LinkFault as NotAsked, WriteFault as Untold, OutOfMemory as Unasked}
 use Rattle.tsp_query.specs.Asks.{AsksAs}
 use Rattle.tsp_io.specs.declared.addr.Addr.{Addr}
 use Rattle.tsp_io.specs.Counts.{Rose}
+use Rattle.tsp_io.specs.declared.link.Link.{Ghosts as LinkOf}
+use Rattle.tsp_query.specs.Faults.{Counts}
 use Rattle.tsp_lines.proofs.Outputs.{Grows-nil}
 use Rattle.tsp_query.proofs.AskLemmas.{of_some}
 use Rattle.tsp_query.specs.Ends.{Outside}
@@ -25,7 +27,7 @@ use Rattle.tsp_args.specs.declared.serve.ServeWords.{ServeWords}
 use Rattle.tsp_args.specs.declared.storm.StormWords.{StormWords}
 use Rattle.tsp_cli.specs.declared.status.Status.{Status}
 use Rattle.tsp_cli.specs.declared.status.Status.TheVariants.{Ok, Usage, ReadFault, WriteFault, LinkFault, NoAnswer, OutOfMemory}
-use Rattle.tsp_cli.specs.Commands.{Now, Does, IsAsk, IsQuestion, Untouched, RunsDaemon, RunsQuery, RunsStorm}
+use Rattle.tsp_cli.specs.Commands.{Now, Does, IsAsk, IsQuestion, LinkFaults, Untouched, RunsDaemon, RunsQuery, RunsStorm}
 use Rattle.tsp_cli.specs.Headline.{PrintsHistory, PrintsSoFar}
 use Rattle.tsp_cli.specs.Lines.{Says}
 use Rattle.tsp_cli.specs.Statuses.{status_of_served, status_of_asking, status_of_storm}
@@ -225,6 +227,21 @@ Replay_prints d old new status e does ok =
 pub Replay_so_far : (d : Command) (old new : Now) (status : Status) → d ≡ Replay → Does d old new status → PrintsSoFar old.left old.told.written new.told.written status
 Replay_so_far d old new status e does = EndsAs-so-far _ new.left _ _ status (does_as d Replay old new status e does).ends
 
--- the link's fault is that of a bind or a receive, or of a question's send
-pub link_fault : (words : List (List ℕ)) (d : Command) (links links_now sends sends_now : ℕ) → IsCommand d × (words ≡ words_of d) → Rose links links_now ⊎ (IsAsk d × Rose sends sends_now) → Rose links links_now ⊎ (IsQuestion words × Rose sends sends_now)
-link_fault words d links links_now sends sends_now read h = elim h [ inl r ↦ inl r | inr r ↦ inr ((d, r.0, read.0, read.1), r.1) ]
+-- the link of a command is that of the words that ask for it
+pub words_link : {L : Type 0} (links : LinkOf L) (before now : L) (fault : Type 0) (words : List (List ℕ)) (d : Command) → IsCommand d × (words ≡ words_of d) → LinkFaults links before now fault (IsAsk d) → LinkFaults links before now fault (IsQuestion words)
+words_link links before now fault words d read c = record {
+  later = c.later;
+  cause = λ e. elim (c.cause e) [ inl r ↦ inl r | inr r ↦ inr ((d, r.0, read.0, read.1), r.1) ];
+  still = c.still;
+}
+
+-- the words of a wrong use are no read and no link
+pub said_unread : (written now : Option (List ℕ)) (status : Status) → Says usage_line Usage written now status → status ≡ ReadFault → ⊥
+said_unread written now status says e = elim says [ inl done ↦ (let is = done.0 in cc) | inr cut ↦ elim cut.0 [ inl fault ↦ cc | inr memory ↦ cc ] ]
+
+pub said_unlinked : (written now : Option (List ℕ)) (status : Status) → Says usage_line Usage written now status → status ≡ LinkFault → ⊥
+said_unlinked written now status says e = elim says [ inl done ↦ (let is = done.0 in cc) | inr cut ↦ elim cut.0 [ inl fault ↦ cc | inr memory ↦ cc ] ]
+
+-- the count of failed writes, where such words are written
+pub said_counts : (status : Status) (before now : ℕ) → before ≤ now → (status ≡ WriteFault → (Usage ≡ WriteFault) ⊎ Rose before now) → (status ≢ WriteFault → now ≡ before) → Counts before now (status ≡ WriteFault)
+said_counts status before now later write still = record { later = later; cause = λ e. elim (write e) [ inl wrong ↦ cc | inr r ↦ r ]; still = still }

@@ -1,7 +1,9 @@
 -- From what a treatment comes to, to how a command's run ends.
-use Rattle.std.specs.Prelude.{◌≡◌, ◌⊎◌, ℕ, ◌≤◌, List, length, Option, Some, Bool, true}
-use Rattle.std.proofs.Common.{sym, inl, inr, subst, refl, ap}
+use Rattle.std.specs.Prelude.{◌≡◌, ◌≢◌, ◌⊎◌, ℕ, ◌≤◌, List, length, Option, Some, Bool, true, false}
+use Rattle.std.proofs.Common.{sym, ◌∙◌, inl, inr, subst, refl, ap, arith}
 use Rattle.tsp_io.specs.Counts.{Rose}
+use Rattle.tsp_io.specs.declared.link.Link.{Ghosts as LinkOf}
+use Rattle.tsp_query.specs.Faults.{Counts, LinkCounts}
 use Rattle.tsp_lines.specs.declared.limits.TheConstants.{MOST_INPUT}
 use Rattle.tsp_lines.specs.declared.treat.Outcome.{Outcome}
 use Rattle.tsp_lines.specs.declared.treat.Outcome.TheVariants.{Ok as Done, Bad as Refused, ReadFault as NotRead, WriteFault as NotWritten, Limit as Limited, OutOfMemory as NoMemory}
@@ -10,7 +12,8 @@ use Rattle.tsp_lines.specs.Meanings.{Meaning}
 use Rattle.tsp_lines.specs.Outcomes.{Comes, KeepsUp}
 use Rattle.tsp_lines.proofs.OneAnswer.{Agrees-outcome}
 use Rattle.tsp_cli.specs.declared.status.Status.{Status}
-use Rattle.tsp_cli.specs.declared.status.Status.TheVariants.{Ok, Usage, LinkFault, OutOfMemory}
+use Rattle.tsp_cli.specs.declared.status.Status.TheVariants.{Ok, Usage, ReadFault, WriteFault, LinkFault, OutOfMemory}
+use Rattle.tsp_cli.specs.Commands.{LinkFaults}
 use Rattle.tsp_cli.specs.Lines.{LineCommand, meaning_of, IsTextOf, EndsAs, AgreesAs, Runs}
 use Rattle.tsp_cli.specs.Statuses.{status_of}
 
@@ -76,3 +79,55 @@ status_used NotRead e = cc
 status_used NotWritten e = cc
 status_used Limited e = cc
 status_used NoMemory e = cc
+
+status_read : (o : Outcome) → status_of o ≡ ReadFault → o ≡ NotRead
+status_read Done e = cc
+status_read Refused e = cc
+status_read NotRead e = refl
+status_read NotWritten e = cc
+status_read Limited e = cc
+status_read NoMemory e = cc
+
+status_written : (o : Outcome) → status_of o ≡ WriteFault → o ≡ NotWritten
+status_written Done e = cc
+status_written Refused e = cc
+status_written NotRead e = cc
+status_written NotWritten e = refl
+status_written Limited e = cc
+status_written NoMemory e = cc
+
+-- the count of failed reads of a treatment is its command's
+pub read_counts : (o : Outcome) (status : Status) (before now : ℕ) (ended : Bool) → status ≡ status_of o → before ≤ now → (o ≡ NotRead → Rose before now × (ended ≡ false)) → (o ≢ NotRead → now ≡ before) → Counts before now (status ≡ ReadFault)
+read_counts o status before now ended is later read still = record {
+  later = later;
+  cause = λ e. (read (status_read o (sym is ∙ e))).0;
+  still = λ h. still (λ e. h (is ∙ ap (λ (x : Outcome). status_of x) e));
+}
+
+-- after a failed read the end wasn't read
+pub read_open : (o : Outcome) (status : Status) (before now : ℕ) (ended : Bool) → status ≡ status_of o → (o ≡ NotRead → Rose before now × (ended ≡ false)) → status ≡ ReadFault → ended ≡ false
+read_open o status before now ended is read e = (read (status_read o (sym is ∙ e))).1
+
+-- the count of failed writes of a treatment is its command's
+pub write_counts : (o : Outcome) (status : Status) (before now : ℕ) → status ≡ status_of o → before ≤ now → (o ≡ NotWritten → Rose before now) → (o ≢ NotWritten → now ≡ before) → Counts before now (status ≡ WriteFault)
+write_counts o status before now is later write still = record {
+  later = later;
+  cause = λ e. write (status_written o (sym is ∙ e));
+  still = λ h. still (λ e. h (is ∙ ap (λ (x : Outcome). status_of x) e));
+}
+
+-- a link that isn't used
+pub unused_link : {L : Type 0} (links : LinkOf L) (link : L) (fault question : Type 0) → ¬ fault → LinkFaults links link link fault question
+unused_link links link fault question never = record { later = (omega arith, omega arith); cause = λ e. absurd (never e); still = λ h. refl }
+
+-- the link of a daemon, whose failed sends are no fault
+pub daemon_link : {L : Type 0} (links : LinkOf L) (before now : L) (fault question : Type 0) → Counts (links.faults before) (links.faults now) fault → links.send_faults before ≤ links.send_faults now → LinkFaults links before now fault question
+daemon_link links before now fault question c sends = record { later = (c.later, sends); cause = λ e. inl (c.cause e); still = c.still }
+
+-- the link of a question
+pub question_link : {L : Type 0} (links : LinkOf L) (before now : L) (fault question : Type 0) → question → LinkCounts links before now fault → LinkFaults links before now fault question
+question_link links before now fault question asks c = record {
+  later = c.later;
+  cause = λ e. elim (c.cause e) [ inl r ↦ inl r | inr r ↦ inr (asks, r) ];
+  still = λ h. (c.still h).0;
+}

@@ -1,21 +1,24 @@
 -- What comes of each command of the program.
 use Rattle.std.specs.Prelude.{◌≡◌, ◌≢◌, ◌⊎◌, ◌≤◌, ℕ, ℤ, Bool, true, List, length, Option, Some}
 use Rattle.tsp_query.specs.declared.exit.QueryExit.{QueryExit}
-use Rattle.tsp_query.specs.Asks.{AsksAs}
+use Rattle.tsp_query.specs.Asks.{AsksIfTold}
 use Rattle.tsp_audit_command.specs.Meaning.{IsAuditText, auditing}
 use Rattle.tsp_io.specs.Counts.{Rose}
 use Rattle.tsp_io.specs.declared.addr.Addr.{Addr}
+use Rattle.tsp_io.specs.declared.link.Link.{Ghosts as LinkOf}
+use Rattle.tsp_io.specs.declared.sink.Sink.{Ghosts as SinkOf}
+use Rattle.tsp_io.specs.declared.source.Source.{Ghosts as SourceOf}
+use Rattle.tsp_io.specs.declared.ticker.Ticker.{Ghosts as TickerOf}
 use Rattle.tsp_lines.specs.declared.limits.TheConstants.{MOST_INPUT}
 use Rattle.tsp_lines.specs.declared.treat.Outcome.{Outcome}
 use Rattle.tsp_lines.specs.Answers.{Answers, IsAnswer as IsAnswerTo}
 use Rattle.tsp_lines.specs.Gatherings.{ComesGathered, IsGathered}
-use Rattle.tsp_query.specs.Ends.{Outside}
-use Rattle.tsp_query.specs.Outside.{Observed, Knows}
+use Rattle.tsp_query.specs.Outside.{Observed, observed}
 use Rattle.tsp_rules.specs.Guards.{is_clock_value}
 use Rattle.tsp_storm.specs.declared.run.StormEnd.{StormEnd}
 use Rattle.tsp_storm.specs.Answers.{IsAnswer, Agrees, HasRoom, StormsAs}
 use Rattle.tsp_daemon.specs.declared.exit.DaemonExit.{DaemonExit}
-use Rattle.tsp_daemon.specs.Serving.{ServesAs}
+use Rattle.tsp_daemon.specs.Serving.{ServesIfTold}
 use Rattle.tsp_args.specs.Commands.{words_of, IsCommand}
 use Rattle.tsp_args.specs.declared.command.Command.{Command}
 use Rattle.tsp_args.specs.declared.command.Command.TheVariants.{Replay, Show, Pack, Serve, Ask, Storm, Icmp, Audit}
@@ -39,6 +42,18 @@ pub record Now : Type 0 where
   pub links : ℕ
   pub sends : ℕ
 
+-- what they hold at a moment
+abbrev pub now_of : {S K L T : Type 0} → SourceOf S → SinkOf K → LinkOf L → TickerOf T → S → K → L → T → Now
+now_of sources sinks links tickers source sink link ticker = record {
+  left = sources.left source;
+  ended = sources.ended source;
+  told = observed sinks links tickers sink link ticker;
+  reads = sources.faults source;
+  writes = sinks.faults sink;
+  links = links.faults link;
+  sends = links.send_faults link;
+}
+
 -- what comes of a command that reads lines
 abbrev pub RunsLines : LineCommand → Now → Now → Status → Type 0
 RunsLines c old new status = Runs c old.left new.left old.told.written new.told.written new.ended old.reads new.reads old.writes new.writes status
@@ -49,7 +64,7 @@ pub record RunsDaemon (s : ServeWords) (old new : Observed) (links links_now wri
   pub served : DaemonExit
   pub status_is : status ≡ status_of_served served
   -- if the outside is told: what was sent and written, and what came of the wall clock
-  pub serves : (o : Outside) (wall : ℤ) (word : ℕ) (written : List ℕ) → Knows o wall word written old → ServesAs s o wall word written old new served
+  pub serves : ServesIfTold s old new served
   -- if the wall clock is told and in its range, and no count rose but that of failed sends: the status is Ok, or
   -- OutOfMemory
   pub complete : (wall : ℤ) → old.wall ≡ Some wall → is_clock_value wall ≡ true → ¬ Rose links links_now → ¬ Rose writes writes_now → (status ≡ Ok) ⊎ (status ≡ OutOfMemory)
@@ -61,7 +76,7 @@ pub record RunsQuery (daemon : Addr) (q : Query) (old new : Observed) (links lin
   pub asking : QueryExit
   pub status_is : status ≡ status_of_asking asking
   -- if the outside is told: the one datagram that was sent, the answer among what came, and its line
-  pub asks : (o : Outside) (wall : ℤ) (word : ℕ) (written : List ℕ) → Knows o wall word written old → AsksAs daemon q o wall word written old new sends sends_now asking
+  pub asks : AsksIfTold daemon q old new sends sends_now asking
   -- if no count rose: the status is Ok, NoAnswer or OutOfMemory
   pub complete : ¬ Rose links links_now → ¬ Rose sends sends_now → ¬ Rose writes writes_now → (status ≡ Ok) ⊎ (status ≡ NoAnswer) ⊎ (status ≡ OutOfMemory)
 
@@ -129,3 +144,11 @@ IsAsk _ = ⊥
 -- the words are those of a question to a daemon
 abbrev pub IsQuestion : List (List ℕ) → Type 0
 IsQuestion words = (c : Command) × IsAsk c × IsCommand c × (words ≡ words_of c)
+
+-- how a link's counts of faults are left: neither falls, this fault comes only if that of failed binds and receives rose
+-- or, in a question, that of failed sends; and that of failed binds and receives is unchanged where this fault doesn't
+-- come
+pub record LinkFaults {L : Type 0} (links : LinkOf L) (before now : L) (fault question : Type 0) : Type 0 where
+  pub later : (links.faults before ≤ links.faults now) × (links.send_faults before ≤ links.send_faults now)
+  pub cause : fault → Rose (links.faults before) (links.faults now) ⊎ (question × Rose (links.send_faults before) (links.send_faults now))
+  pub still : ¬ fault → links.faults now ≡ links.faults before

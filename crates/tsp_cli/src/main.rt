@@ -6,14 +6,6 @@
 
 mod help;
 mod laws;
-#[cfg(test)]
-mod limit_tests;
-#[cfg(test)]
-mod link_tests;
-#[cfg(test)]
-mod net_tests;
-#[cfg(test)]
-mod port_tests;
 mod run;
 mod status;
 #[cfg(test)]

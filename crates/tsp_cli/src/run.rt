@@ -5,8 +5,10 @@ ghost use Rattle.tsp_args.specs.Commands.{IsCommand, IsNoCommand, words_of};
 ghost use Rattle.tsp_args.specs.Serves.{IsServe};
 ghost use Rattle.tsp_args.specs.Storms.{IsStorm};
 ghost use Rattle.tsp_args.specs.declared.command.Command.{Command};
+ghost use Rattle.tsp_query.specs.Faults.{Counts, LinkCounts};
+ghost use Rattle.tsp_query.specs.Outside.{observed};
 ghost use Rattle.tsp_cli.specs.Commands.{Does, DoesOrNot, RunsDaemon, RunsQuery, RunsStorm};
-ghost use Rattle.tsp_cli.specs.Commands.{Untouched, IsAsk, IsQuestion};
+ghost use Rattle.tsp_cli.specs.Commands.{now_of, Untouched, IsAsk, IsQuestion, LinkFaults};
 ghost use Rattle.tsp_cli.specs.Headline.{PrintsHistory, PrintsSoFar};
 ghost use Rattle.tsp_cli.specs.Lines.{Says};
 ghost use Rattle.tsp_cli.specs.Usage.{usage_line};
@@ -75,48 +77,9 @@ pub fn run<S: Source, K: Sink, L: Link, T: Ticker>(
     requires open { S.ended source.old ≡ false }
     ensures does { (command : Command) → IsCommand command
         → map string_bytes words.now ≡ words_of command
-        → DoesOrNot command (record {
-          left = S.left source.old;
-          ended = S.ended source.old;
-          told = record {
-            arrivals = L.arrivals link.old;
-            tried = L.tried link.old;
-            calls = L.calls link.old;
-            readings = T.readings ticker.old;
-            last = T.last ticker.old;
-            wall = T.wall_is ticker.old;
-            word = T.word_is ticker.old;
-            written = K.written sink.old;
-            binds = L.binds link.old;
-            waits = L.waits link.old;
-            left_at_wall = T.left_at_wall ticker.old;
-          };
-          reads = S.faults source.old;
-          writes = K.faults sink.old;
-          links = L.faults link.old;
-          sends = L.send_faults link.old;
-        })
-        (record {
-          left = S.left source.new;
-          ended = S.ended source.new;
-          told = record {
-            arrivals = L.arrivals link.new;
-            tried = L.tried link.new;
-            calls = L.calls link.new;
-            readings = T.readings ticker.new;
-            last = T.last ticker.new;
-            wall = T.wall_is ticker.new;
-            word = T.word_is ticker.new;
-            written = K.written sink.new;
-            binds = L.binds link.new;
-            waits = L.waits link.new;
-            left_at_wall = T.left_at_wall ticker.new;
-          };
-          reads = S.faults source.new;
-          writes = K.faults sink.new;
-          links = L.faults link.new;
-          sends = L.send_faults link.new;
-        }) result }
+        → DoesOrNot command
+        (now_of S.Source K.Sink L.Link T.Ticker source.old sink.old link.old ticker.old)
+        (now_of S.Source K.Sink L.Link T.Ticker source.new sink.new link.new ticker.new) result }
     ensures headline { map string_bytes words.now ≡ codes "replay" ∷ [] → result ≡ Status.Ok
         → PrintsHistory (S.left source.old) (S.left source.new) (K.written sink.old)
         (K.written sink.new) }
@@ -129,19 +92,13 @@ pub fn run<S: Source, K: Sink, L: Link, T: Ticker>(
     ensures untouched { (command : Command) → IsCommand command
         → map string_bytes words.now ≡ words_of command
         → Untouched command source.old source.new link.old link.new ticker.old ticker.new }
-    ensures link { result ≡ Status.LinkFault → Rose (L.faults link.old) (L.faults link.new)
-        ⊎ (IsQuestion (map string_bytes words.now)
-        × Rose (L.send_faults link.old) (L.send_faults link.new)) }
-    ensures later { (S.faults source.old ≤ S.faults source.new)
-        × (K.faults sink.old ≤ K.faults sink.new) × (L.faults link.old ≤ L.faults link.new)
-        × (L.send_faults link.old ≤ L.send_faults link.new)
-        × (T.last ticker.old ≤ T.last ticker.new) }
-    ensures read { result ≡ Status.ReadFault → Rose (S.faults source.old) (S.faults source.new)
-        × (S.ended source.new ≡ false) }
-    ensures write { result ≡ Status.WriteFault → Rose (K.faults sink.old) (K.faults sink.new) }
-    ensures still { (result ≢ Status.ReadFault → S.faults source.new ≡ S.faults source.old)
-        × (result ≢ Status.WriteFault → K.faults sink.new ≡ K.faults sink.old)
-        × (result ≢ Status.LinkFault → L.faults link.new ≡ L.faults link.old) }
+    ensures link { LinkFaults L.Link link.old link.new (result ≡ Status.LinkFault)
+        (IsQuestion (map string_bytes words.now)) }
+    ensures read { Counts (S.faults source.old) (S.faults source.new)
+        (result ≡ Status.ReadFault) }
+    ensures unended { result ≡ Status.ReadFault → S.ended source.new ≡ false }
+    ensures write { Counts (K.faults sink.old) (K.faults sink.new) (result ≡ Status.WriteFault) }
+    ensures last { T.last ticker.old ≤ T.last ticker.new }
 {
     match command_of(alloc, words) {
         Ok(Some(command)) => run_command(alloc, &command, source, sink, link, ticker),
@@ -159,73 +116,29 @@ fn run_command<S: Source, K: Sink, L: Link, T: Ticker>(
     link: &mut L,
     ticker: &mut T,
 ) -> Status
-    requires open { S.ended source.old ≡ false }
     requires command { IsCommand command.now }
-    ensures does { Does command.now (record {
-      left = S.left source.old;
-      ended = S.ended source.old;
-      told = record {
-        arrivals = L.arrivals link.old;
-        tried = L.tried link.old;
-        calls = L.calls link.old;
-        readings = T.readings ticker.old;
-        last = T.last ticker.old;
-        wall = T.wall_is ticker.old;
-        word = T.word_is ticker.old;
-        written = K.written sink.old;
-        binds = L.binds link.old;
-        waits = L.waits link.old;
-        left_at_wall = T.left_at_wall ticker.old;
-      };
-      reads = S.faults source.old;
-      writes = K.faults sink.old;
-      links = L.faults link.old;
-      sends = L.send_faults link.old;
-    })
-        (record {
-          left = S.left source.new;
-          ended = S.ended source.new;
-          told = record {
-            arrivals = L.arrivals link.new;
-            tried = L.tried link.new;
-            calls = L.calls link.new;
-            readings = T.readings ticker.new;
-            last = T.last ticker.new;
-            wall = T.wall_is ticker.new;
-            word = T.word_is ticker.new;
-            written = K.written sink.new;
-            binds = L.binds link.new;
-            waits = L.waits link.new;
-            left_at_wall = T.left_at_wall ticker.new;
-          };
-          reads = S.faults source.new;
-          writes = K.faults sink.new;
-          links = L.faults link.new;
-          sends = L.send_faults link.new;
-        }) result }
+    requires open { S.ended source.old ≡ false }
+    ensures does { Does command.now
+        (now_of S.Source K.Sink L.Link T.Ticker source.old sink.old link.old ticker.old)
+        (now_of S.Source K.Sink L.Link T.Ticker source.new sink.new link.new ticker.new) result }
     ensures used { result ≢ Status.Usage }
     ensures untouched { Untouched command.now source.old source.new link.old link.new ticker.old
         ticker.new }
-    ensures link { result ≡ Status.LinkFault → Rose (L.faults link.old) (L.faults link.new)
-        ⊎ (IsAsk command.now × Rose (L.send_faults link.old) (L.send_faults link.new)) }
-    ensures later { (S.faults source.old ≤ S.faults source.new)
-        × (K.faults sink.old ≤ K.faults sink.new) × (L.faults link.old ≤ L.faults link.new)
-        × (L.send_faults link.old ≤ L.send_faults link.new)
-        × (T.last ticker.old ≤ T.last ticker.new) }
-    ensures read { result ≡ Status.ReadFault → Rose (S.faults source.old) (S.faults source.new)
-        × (S.ended source.new ≡ false) }
-    ensures write { result ≡ Status.WriteFault → Rose (K.faults sink.old) (K.faults sink.new) }
-    ensures still { (result ≢ Status.ReadFault → S.faults source.new ≡ S.faults source.old)
-        × (result ≢ Status.WriteFault → K.faults sink.new ≡ K.faults sink.old)
-        × (result ≢ Status.LinkFault → L.faults link.new ≡ L.faults link.old) }
+    ensures link { LinkFaults L.Link link.old link.new (result ≡ Status.LinkFault)
+        (IsAsk command.now) }
+    ensures read { Counts (S.faults source.old) (S.faults source.new)
+        (result ≡ Status.ReadFault) }
+    ensures unended { result ≡ Status.ReadFault → S.ended source.new ≡ false }
+    ensures write { Counts (K.faults sink.old) (K.faults sink.new) (result ≡ Status.WriteFault) }
+    ensures last { T.last ticker.old ≤ T.last ticker.new }
 {
     match command {
         Command::Replay => Status::of(replay(alloc, source, sink)),
         Command::Show => Status::of(show(alloc, source, sink)),
         Command::Pack => Status::of(pack(alloc, source, sink)),
         Command::Icmp => Status::of(average(alloc, source, sink)),
-        Command::Serve(words) => run_daemon(alloc, words, sink, link, ticker),
-        Command::Ask(daemon, query) => run_query(*daemon, query, sink, link, ticker),
+        Command::Serve(words) => run_daemon(words, sink, link, ticker, alloc),
+        Command::Ask(daemon, query) => run_query(sink, link, ticker, *daemon, query),
         Command::Storm(words) => run_storm(alloc, words, sink),
         Command::Audit => Status::of(check(alloc, source, sink)),
     }
@@ -233,49 +146,22 @@ fn run_command<S: Source, K: Sink, L: Link, T: Ticker>(
 
 /// Runs a daemon, and gives the status of its end.
 fn run_daemon<K: Sink, L: Link, T: Ticker>(
-    alloc: Global,
     words: &ServeWords,
     sink: &mut K,
     link: &mut L,
     ticker: &mut T,
+    alloc: Global,
 ) -> Status
     requires { IsServe words.now }
-    ensures runs { RunsDaemon words.now (record {
-      arrivals = L.arrivals link.old;
-      tried = L.tried link.old;
-      calls = L.calls link.old;
-      readings = T.readings ticker.old;
-      last = T.last ticker.old;
-      wall = T.wall_is ticker.old;
-      word = T.word_is ticker.old;
-      written = K.written sink.old;
-      binds = L.binds link.old;
-      waits = L.waits link.old;
-      left_at_wall = T.left_at_wall ticker.old;
-    })
-        (record {
-          arrivals = L.arrivals link.new;
-          tried = L.tried link.new;
-          calls = L.calls link.new;
-          readings = T.readings ticker.new;
-          last = T.last ticker.new;
-          wall = T.wall_is ticker.new;
-          word = T.word_is ticker.new;
-          written = K.written sink.new;
-          binds = L.binds link.new;
-          waits = L.waits link.new;
-          left_at_wall = T.left_at_wall ticker.new;
-        })
+    ensures runs { RunsDaemon words.now
+        (observed K.Sink L.Link T.Ticker sink.old link.old ticker.old)
+        (observed K.Sink L.Link T.Ticker sink.new link.new ticker.new)
         (L.faults link.old) (L.faults link.new) (K.faults sink.old) (K.faults sink.new) result }
     ensures used { result ≢ Status.Usage }
-    ensures link { result ≡ Status.LinkFault → Rose (L.faults link.old) (L.faults link.new) }
-    ensures later { (K.faults sink.old ≤ K.faults sink.new)
-        × (L.faults link.old ≤ L.faults link.new)
-        × (L.send_faults link.old ≤ L.send_faults link.new)
+    ensures link { Counts (L.faults link.old) (L.faults link.new) (result ≡ Status.LinkFault) }
+    ensures write { Counts (K.faults sink.old) (K.faults sink.new) (result ≡ Status.WriteFault) }
+    ensures later { (L.send_faults link.old ≤ L.send_faults link.new)
         × (T.last ticker.old ≤ T.last ticker.new) }
-    ensures write { result ≡ Status.WriteFault → Rose (K.faults sink.old) (K.faults sink.new) }
-    ensures still { (result ≢ Status.WriteFault → K.faults sink.new ≡ K.faults sink.old)
-        × (result ≢ Status.LinkFault → L.faults link.new ≡ L.faults link.old) }
     ensures unread { result ≢ Status.ReadFault }
 {
     Status::of_served(serve_words(alloc, words, sink, link, ticker))
@@ -283,50 +169,21 @@ fn run_daemon<K: Sink, L: Link, T: Ticker>(
 
 /// Asks a daemon, and gives the status of its end.
 fn run_query<K: Sink, L: Link, T: Ticker>(
-    daemon: Addr,
-    query: &Query,
     sink: &mut K,
     link: &mut L,
     ticker: &mut T,
+    daemon: Addr,
+    query: &Query,
 ) -> Status
-    ensures runs { RunsQuery daemon query.now (record {
-      arrivals = L.arrivals link.old;
-      tried = L.tried link.old;
-      calls = L.calls link.old;
-      readings = T.readings ticker.old;
-      last = T.last ticker.old;
-      wall = T.wall_is ticker.old;
-      word = T.word_is ticker.old;
-      written = K.written sink.old;
-      binds = L.binds link.old;
-      waits = L.waits link.old;
-      left_at_wall = T.left_at_wall ticker.old;
-    })
-        (record {
-          arrivals = L.arrivals link.new;
-          tried = L.tried link.new;
-          calls = L.calls link.new;
-          readings = T.readings ticker.new;
-          last = T.last ticker.new;
-          wall = T.wall_is ticker.new;
-          word = T.word_is ticker.new;
-          written = K.written sink.new;
-          binds = L.binds link.new;
-          waits = L.waits link.new;
-          left_at_wall = T.left_at_wall ticker.new;
-        })
+    ensures runs { RunsQuery daemon query.now
+        (observed K.Sink L.Link T.Ticker sink.old link.old ticker.old)
+        (observed K.Sink L.Link T.Ticker sink.new link.new ticker.new)
         (L.faults link.old) (L.faults link.new) (L.send_faults link.old) (L.send_faults link.new)
         (K.faults sink.old) (K.faults sink.new) result }
     ensures used { result ≢ Status.Usage }
-    ensures link { result ≡ Status.LinkFault → Rose (L.faults link.old) (L.faults link.new)
-        ⊎ Rose (L.send_faults link.old) (L.send_faults link.new) }
-    ensures later { (K.faults sink.old ≤ K.faults sink.new)
-        × (L.faults link.old ≤ L.faults link.new)
-        × (L.send_faults link.old ≤ L.send_faults link.new)
-        × (T.last ticker.old ≤ T.last ticker.new) }
-    ensures write { result ≡ Status.WriteFault → Rose (K.faults sink.old) (K.faults sink.new) }
-    ensures still { (result ≢ Status.WriteFault → K.faults sink.new ≡ K.faults sink.old)
-        × (result ≢ Status.LinkFault → L.faults link.new ≡ L.faults link.old) }
+    ensures faults { LinkCounts L.Link link.old link.new (result ≡ Status.LinkFault) }
+    ensures write { Counts (K.faults sink.old) (K.faults sink.new) (result ≡ Status.WriteFault) }
+    ensures last { T.last ticker.old ≤ T.last ticker.new }
     ensures unread { result ≢ Status.ReadFault }
 {
     Status::of_asking(ask(daemon, query, sink, link, ticker))
@@ -337,9 +194,7 @@ fn run_storm<K: Sink>(alloc: Global, words: &StormWords, sink: &mut K) -> Status
     requires { IsStorm words.now }
     ensures runs { RunsStorm words.now (K.written sink.old) (K.written sink.new) (K.faults sink.old)
         (K.faults sink.new) result }
-    ensures later { K.faults sink.old ≤ K.faults sink.new }
-    ensures write { result ≡ Status.WriteFault → Rose (K.faults sink.old) (K.faults sink.new) }
-    ensures still { result ≢ Status.WriteFault → K.faults sink.new ≡ K.faults sink.old }
+    ensures write { Counts (K.faults sink.old) (K.faults sink.new) (result ≡ Status.WriteFault) }
     ensures unread { result ≢ Status.ReadFault }
     ensures unlinked { result ≢ Status.LinkFault }
     ensures used { result ≢ Status.Usage }

@@ -1,6 +1,11 @@
 //! Runs of the program over memory, whose traces and refusals were worked out by hand.
 ghost use Rattle.std.specs.Prelude.{◌≡◌, false};
 
+mod limits;
+mod links;
+mod networks;
+mod ports;
+
 use crate::run::run;
 use crate::status::Status;
 use std::alloc::{AllocError, Global};
@@ -126,7 +131,7 @@ const HELD: &str = "\
 ";
 
 /// The words, an input, the reads and writes that fail, and what comes of it.
-#[derive(Drop)]
+#[derive(Clone, Copy)]
 struct Row {
     words: &'static [&'static str],
     input: &'static str,
@@ -136,23 +141,8 @@ struct Row {
     written: &'static str,
 }
 
-/// A run of a command that reads lines: its link and its ticker aren't touched.
-fn run_lines<S: Source>(
-    alloc: Global,
-    words: &[String],
-    source: &mut S,
-    sink: &mut MemorySink,
-) -> Result<Status, AllocError>
-    requires { S.ended source.old ≡ false }
-{
-    let mut link = MemoryLink::new(alloc, &[0])?;
-    let mut ticker = MemoryTicker::new(alloc, &[0], 0, 0)?;
-    let status = run(alloc, words, source, sink, &mut link, &mut ticker);
-    Ok(status)
-}
-
 /// The words as the program gets them.
-pub(crate) fn words_of(alloc: Global, texts: &[&str]) -> Result<Vec<String>, AllocError> {
+fn words_of(alloc: Global, texts: &[&str]) -> Result<Vec<String>, AllocError> {
     let mut words = Vec::new(alloc);
     for text in texts {
         words.push(String::from_str(alloc, text)?)?;
@@ -160,22 +150,121 @@ pub(crate) fn words_of(alloc: Global, texts: &[&str]) -> Result<Vec<String>, All
     Ok(words)
 }
 
-/// How a replay of this input ends, and what it writes.
-pub(crate) fn replayed(alloc: Global, input: &[u8]) -> Result<(Status, MemorySink), AllocError> {
-    let words = words_of(alloc, &["replay"])?;
-    let mut source = MemorySource::new(alloc, input, &[])?;
-    let mut sink = MemorySink::new(alloc, &[])?;
-    let status = run_lines(alloc, words.as_slice(), &mut source, &mut sink)?;
-    Ok((status, sink))
+/// How a run with these words ends.
+fn run_words<S: Source>(
+    alloc: Global,
+    texts: &[&str],
+    source: &mut S,
+    sink: &mut MemorySink,
+    link: &mut MemoryLink,
+    ticker: &mut MemoryTicker,
+) -> Result<Status, AllocError>
+    requires { S.ended source.old ≡ false }
+{
+    let words = words_of(alloc, texts)?;
+    Ok(run(alloc, words.as_slice(), source, sink, link, ticker))
+}
+
+/// How a run ends that doesn't read its source, whose first read would fail.
+fn run_unread(
+    alloc: Global,
+    texts: &[&str],
+    sink: &mut MemorySink,
+    link: &mut MemoryLink,
+    ticker: &mut MemoryTicker,
+) -> Result<Status, AllocError> {
+    let mut source = MemorySource::new(alloc, b"", &[0])?;
+    run_words(alloc, texts, &mut source, sink, link, ticker)
+}
+
+/// How a run ends that doesn't touch its link, whose first call would fail.
+fn run_unlinked<S: Source>(
+    alloc: Global,
+    texts: &[&str],
+    source: &mut S,
+    sink: &mut MemorySink,
+    ticker: &mut MemoryTicker,
+) -> Result<Status, AllocError>
+    requires { S.ended source.old ≡ false }
+{
+    let mut link = MemoryLink::new(alloc, &[0])?;
+    run_words(alloc, texts, source, sink, &mut link, ticker)
+}
+
+/// How a run of a command that reads lines ends: its link and its ticker aren't touched.
+fn run_lines<S: Source>(
+    alloc: Global,
+    texts: &[&str],
+    source: &mut S,
+    sink: &mut MemorySink,
+) -> Result<Status, AllocError>
+    requires { S.ended source.old ≡ false }
+{
+    let mut ticker = MemoryTicker::new(alloc, &[0], 0, 0)?;
+    run_unlinked(alloc, texts, source, sink, &mut ticker)
+}
+
+/// Whether the run over this source and this sink comes to what the row says.
+fn has_written<S: Source>(
+    alloc: Global,
+    row: &Row,
+    source: &mut S,
+    sink: &mut MemorySink,
+) -> Result<bool, AllocError>
+    requires { S.ended source.old ≡ false }
+{
+    let status = run_lines(alloc, row.words, source, sink)?;
+    Ok(status == row.status && sink.written() == row.written.as_bytes())
+}
+
+/// Whether the run over this source comes to what the row says.
+fn writes<S: Source>(alloc: Global, row: &Row, source: &mut S) -> Result<bool, AllocError>
+    requires { S.ended source.old ≡ false }
+{
+    let mut sink = MemorySink::new(alloc, row.writes)?;
+    has_written(alloc, row, source, &mut sink)
 }
 
 /// Whether the run comes to what the row says.
 fn comes(alloc: Global, row: &Row) -> Result<bool, AllocError> {
-    let words = words_of(alloc, row.words)?;
     let mut source = MemorySource::new(alloc, row.input.as_bytes(), row.reads)?;
-    let mut sink = MemorySink::new(alloc, row.writes)?;
-    let status = run_lines(alloc, words.as_slice(), &mut source, &mut sink)?;
-    Ok(status == row.status && sink.written() == row.written.as_bytes())
+    writes(alloc, row, &mut source)
+}
+
+/// The same as `replay_ends`, of a source.
+fn ends<S: Source>(
+    alloc: Global,
+    source: &mut S,
+    status: Status,
+    last: &str,
+) -> Result<bool, AllocError>
+    requires { S.ended source.old ≡ false }
+{
+    let mut sink = MemorySink::new(alloc, &[])?;
+    let came = run_lines(alloc, &["replay"], source, &mut sink)?;
+    Ok(came == status && sink.written().ends_with(last.as_bytes()))
+}
+
+/// Whether a replay of this input ends with this status, and writes this.
+fn replay_writes(
+    alloc: Global,
+    input: &str,
+    status: Status,
+    written: &'static str,
+) -> Result<bool, AllocError> {
+    let mut source = MemorySource::new(alloc, input.as_bytes(), &[])?;
+    writes(alloc, &plain(&["replay"], "", status, written), &mut source)
+}
+
+/// Whether a replay of this input ends with this status, and what it writes with these words.
+fn replay_ends(
+    alloc: Global,
+    input: &[u8],
+    status: Status,
+    last: &str,
+) -> Result<bool, AllocError> {
+    let mut source = MemorySource::new(alloc, input, &[])?;
+    ends(alloc, &mut source, status, last)
 }
 
 /// A row of one word, where no read and no write fails.
@@ -195,44 +284,47 @@ fn plain(
     }
 }
 
-/// A replay ends with the status and the trace that were worked out.
+/// Replays, with the status and the trace that were worked out.
+const REPLAYS: &[(&str, Status, &str)] = &[
+    ("", Status::Bad, "bad 1 header\n"),
+    (ANSWERS, Status::Ok, TRACE),
+    (
+        "tsp-schedule 1\ndrift 0\nnode a 0 1000 m\nat 0 boot 0 5\nat 10 take 0\nend\n",
+        Status::Bad,
+        "1 0 0 0 boot\n1 0 0 0 become starting\n1 0 0 0 arm quiet 80000000\nbad 5 no-datagram 0 0\n",
+    ),
+    (
+        "tsp-schedule 1\ndrift 0\nnode a 0 0 m\nat 5 boot 0 1\nat 4 turn 0\n",
+        Status::Bad,
+        "1 0 0 5 boot\n1 0 0 5 become starting\n1 0 0 5 arm quiet 80000005\nbad 5 time-back 4 5\n",
+    ),
+    (
+        "tsp-schedule 1\ndrift 0\nnode a 0 0 m\nat 5 boot 0 1\nat 5 turn 1\n",
+        Status::Bad,
+        "1 0 0 5 boot\n1 0 0 5 become starting\n1 0 0 5 arm quiet 80000005\nbad 5 no-node 1 1\n",
+    ),
+    (
+        "tsp-schedule 1\ndrift 0\nnode a 0 0 m\nat 5 turn 0\n",
+        Status::Bad,
+        "bad 4 not-up 0\n",
+    ),
+    (
+        "tsp-schedule 1\ndrift 0\nnode a 0 0 m\nend\nend\n",
+        Status::Bad,
+        "bad 5 after-end\n",
+    ),
+    (
+        "tsp-schedule 1\ndrift 0\nnode a 0 0 m\n",
+        Status::Bad,
+        "bad 4 no-end\n",
+    ),
+];
+
+/// A replay ends with its status and its trace.
 #[test]
 fn replays(rt: HostRuntime) {
-    for (input, status, written) in [
-        ("", Status::Bad, "bad 1 header\n"),
-        (ANSWERS, Status::Ok, TRACE),
-        (
-            "tsp-schedule 1\ndrift 0\nnode a 0 1000 m\nat 0 boot 0 5\nat 10 take 0\nend\n",
-            Status::Bad,
-            "1 0 0 0 boot\n1 0 0 0 become starting\n1 0 0 0 arm quiet 80000000\nbad 5 no-datagram 0 0\n",
-        ),
-        (
-            "tsp-schedule 1\ndrift 0\nnode a 0 0 m\nat 5 boot 0 1\nat 4 turn 0\n",
-            Status::Bad,
-            "1 0 0 5 boot\n1 0 0 5 become starting\n1 0 0 5 arm quiet 80000005\nbad 5 time-back 4 5\n",
-        ),
-        (
-            "tsp-schedule 1\ndrift 0\nnode a 0 0 m\nat 5 boot 0 1\nat 5 turn 1\n",
-            Status::Bad,
-            "1 0 0 5 boot\n1 0 0 5 become starting\n1 0 0 5 arm quiet 80000005\nbad 5 no-node 1 1\n",
-        ),
-        (
-            "tsp-schedule 1\ndrift 0\nnode a 0 0 m\nat 5 turn 0\n",
-            Status::Bad,
-            "bad 4 not-up 0\n",
-        ),
-        (
-            "tsp-schedule 1\ndrift 0\nnode a 0 0 m\nend\nend\n",
-            Status::Bad,
-            "bad 5 after-end\n",
-        ),
-        (
-            "tsp-schedule 1\ndrift 0\nnode a 0 0 m\n",
-            Status::Bad,
-            "bad 4 no-end\n",
-        ),
-    ] {
-        let row = plain(&["replay"], input, status, written);
+    for (input, status, written) in REPLAYS {
+        let row = plain(&["replay"], input, *status, written);
         assert!(rt; comes(rt.alloc(), &row) == Ok(true), "{written}");
     }
 }
@@ -303,33 +395,43 @@ fn other_runs_end(rt: HostRuntime) {
 #[test]
 fn a_failed_read_ends_the_replay(rt: HostRuntime) -> Result<(), AllocError> {
     let alloc = rt.alloc();
-    let words = words_of(alloc, &["replay"])?;
     let mut source = MemorySource::new(alloc, ANSWERS.as_bytes(), &[1])?.in_pieces(66);
-    let mut sink = MemorySink::new(alloc, &[])?;
-    let status = run_lines(alloc, words.as_slice(), &mut source, &mut sink)?;
-    let written = "1 0 0 0 boot\n1 0 0 0 become starting\n1 0 0 0 arm quiet 80000000\n";
-    assert!(rt; status == Status::ReadFault && sink.written() == written.as_bytes());
+    let row = plain(
+        &["replay"],
+        "",
+        Status::ReadFault,
+        "1 0 0 0 boot\n1 0 0 0 become starting\n1 0 0 0 arm quiet 80000000\n",
+    );
+    assert!(rt; writes(alloc, &row, &mut source)?);
     Ok(())
+}
+
+/// A schedule whose fourth line begins so and has 1,100 octets.
+fn long_line(alloc: Global, start: &str) -> Result<String, AllocError> {
+    let mut input = String::from_str(alloc, "tsp-schedule 1\ndrift 0\nnode a 0 1000 m\n")?;
+    input.push_str(start)?;
+    for _ in start.len()..1100 {
+        input.push('a')?;
+    }
+    input.push('\n')?;
+    Ok(input)
+}
+
+/// Whether a line of 1,100 octets that begins so is refused with these words.
+fn is_refused(alloc: Global, start: &str, written: &'static str) -> Result<bool, AllocError> {
+    let input = long_line(alloc, start)?;
+    replay_writes(alloc, input.as_str(), Status::Bad, written)
 }
 
 /// A line of 1,100 octets after a node's line is refused where it ends.
 #[test]
-fn long_lines_are_refused(rt: HostRuntime) -> Result<(), AllocError> {
-    let alloc = rt.alloc();
+fn long_lines_are_refused(rt: HostRuntime) {
     for (start, written) in [
         ("node ", "bad 4 header\n"),
         ("net ", "bad 4 header\n"),
         ("nodes", "bad 4 line\n"),
         ("nets", "bad 4 line\n"),
     ] {
-        let mut input = String::from_str(alloc, "tsp-schedule 1\ndrift 0\nnode a 0 1000 m\n")?;
-        input.push_str(start)?;
-        for _ in start.len()..1100 {
-            input.push('a')?;
-        }
-        input.push('\n')?;
-        let (status, sink) = replayed(alloc, input.as_bytes())?;
-        assert!(rt; status == Status::Bad && sink.written() == written.as_bytes());
+        assert!(rt; is_refused(rt.alloc(), start, written) == Ok(true));
     }
-    Ok(())
 }

@@ -5,16 +5,4 @@
 #![tactic(auto)]
 
 #[cfg(test)]
-mod failing_daemons;
-#[cfg(test)]
-mod failing_replays;
-#[cfg(test)]
-mod handlers;
-#[cfg(test)]
-mod icmp;
-#[cfg(test)]
-mod queries;
-#[cfg(test)]
-mod questions;
-#[cfg(test)]
-mod records;
+mod tests;

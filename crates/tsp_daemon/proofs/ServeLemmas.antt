@@ -8,7 +8,7 @@ use Rattle.tsp_daemon.specs.declared.end.ServeEnd.TheVariants.{Done, LinkFault, 
 use Rattle.tsp_daemon.specs.Ends.{IsAt, Serves, ServesUntil}
 use Rattle.tsp_daemon.specs.Sessions.{Session, read_once}
 use Rattle.tsp_daemon.proofs.SessionFits.{session_kept}
-use Rattle.tsp_daemon.proofs.SessionLemmas.{reading_taken}
+use Rattle.tsp_query.proofs.AskLemmas.{reading_taken}
 use Rattle.tsp_gateway.specs.declared.gateway.Gateway.{Gateway}
 use Rattle.tsp_gateway.specs.GatewayStands.{GatewayStands}
 use Rattle.tsp_io.specs.Clocks.{TakesReading}
@@ -20,6 +20,7 @@ use Rattle.tsp_rules.specs.Guards.{is_clock_value}
 use Rattle.tsp_args.specs.Serves.{IsServe}
 use Rattle.tsp_args.specs.declared.serve.ServeWords.{ServeWords}
 use Rattle.tsp_daemon.specs.declared.exit.DaemonExit.{DaemonExit}
+use Rattle.tsp_daemon.specs.declared.exit.DaemonExit.TheVariants.{BadWall, LinkFault as Faulty, WriteFault as Unwritten}
 use Rattle.tsp_daemon.specs.Nodes.{first_past}
 use Rattle.tsp_daemon.specs.Serving.{served_of, first_session, IsServed}
 
@@ -79,3 +80,22 @@ IsServed_serves s o wall wall' word word' tick written node arrivals tried calls
       noted = all.5;
       kept = λ setting set. session_kept s o wall word written words setting set all.0 (serves_few s.turns all.0 (first_session s o wall word written) _ _ _ _ _ _ end all.2) all.3;
     }
+
+-- a daemon ends by its link, or by a write, only where its session does; and then its wall clock isn't out of its range
+pub served_linked : (end : ServeEnd) → served_of end ≡ Faulty → end ≡ LinkFault
+served_linked Done e = cc
+served_linked LinkFault e = refl
+served_linked WriteFault e = cc
+served_linked OutOfMemory e = cc
+
+pub served_written : (end : ServeEnd) → served_of end ≡ Unwritten → end ≡ WriteFault
+served_written Done e = cc
+served_written LinkFault e = cc
+served_written WriteFault e = refl
+served_written OutOfMemory e = cc
+
+pub served_in_time : (end : ServeEnd) → served_of end ≡ BadWall → ⊥
+served_in_time Done e = cc
+served_in_time LinkFault e = cc
+served_in_time WriteFault e = cc
+served_in_time OutOfMemory e = cc

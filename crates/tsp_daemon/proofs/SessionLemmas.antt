@@ -18,6 +18,7 @@ use Rattle.tsp_io.specs.Links.{Arrival, Tried, Receives, TakesDatagram, TakesNot
 use Rattle.tsp_io.specs.Streams.{Grows}
 use Rattle.tsp_io.specs.declared.link.Recv.{Recv}
 use Rattle.tsp_io.specs.declared.link.Recv.TheVariants.{Datagram, Nothing, Failed}
+use Rattle.tsp_query.proofs.AskLemmas.{reading_taken}
 use Rattle.tsp_query.specs.Arrivals.{next_arrival, rest_of}
 use Rattle.tsp_query.specs.Clocks.{reading}
 use Rattle.tsp_query.specs.Ends.{Outside, Tells}
@@ -31,11 +32,6 @@ use Rattle.tsp_daemon.specs.Ends.{given_by, TriesAll, FinishesUntil, Lives, IsAt
 use Rattle.tsp_daemon.specs.Posts.{sends_of, shown_lines, AreKnown}
 use Rattle.tsp_daemon.specs.Sessions.{Session, port_from, given_of, unheard, waited, tick_of, given_in, cause_of, begun, acts_in, past_after, shown, turned, after_turns, Rises}
 use Rattle.tsp_daemon.proofs.StrangerLemmas.{is_strange_on, known_any, known_steps}
-
--- a told reading is the next
-pub reading_taken : (xs : List ℕ) (readings rest : Option (List ℕ)) (last tick : ℕ) → readings ≡ Some xs → TakesReading readings rest last tick → (rest ≡ Some (rest_of xs)) × (tick ≡ reading last xs 0)
-reading_taken [] readings rest last tick is takes = subst (λ r. TakesReading r rest last tick) is takes
-reading_taken (x ∷ xs) readings rest last tick is takes = subst (λ r. TakesReading r rest last tick) is takes
 
 -- a told arrival is the next, and the node is given it
 received_is : (ports : List PortSetup) (arriving : List Arrival) (arrivals rest : Option (List Arrival)) (stranger now : Bool) (r : Recv) (buf : List ℕ) → arrivals ≡ Some arriving → (r ≡ Failed → ⊥) → Receives arrivals rest stranger now r buf →
@@ -207,3 +203,10 @@ rises_more i s node next course after arrivals now_arrivals tried now_tried call
     let before = old.tells.last_is in
     let then = new.tells.last_is in
     subst (λ n. Rises n s) one (r, omega (arith, before, then, later))
+
+-- sends and lines don't end by the link's receives
+pub finish_unlinked : (sends : List Tried) (text : List ℕ) (tried more : Option (List Tried)) (written now : Option (List ℕ)) (end : ServeEnd) → FinishesUntil sends text tried more written now end → end ≡ LinkFault → ⊥
+finish_unlinked sends text tried more written now Done f e = f.1
+finish_unlinked sends text tried more written now LinkFault f e = f.1
+finish_unlinked sends text tried more written now WriteFault f e = cc
+finish_unlinked sends text tried more written now OutOfMemory f e = cc

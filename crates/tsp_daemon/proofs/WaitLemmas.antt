@@ -14,7 +14,7 @@ use Rattle.tsp_daemon.specs.declared.end.ServeEnd.TheVariants.{Done, LinkFault, 
 use Rattle.tsp_daemon.specs.Ends.{EndsTurn, IsReceived}
 use Rattle.tsp_daemon.specs.Sessions.{Session, after_turns, read_once}
 use Rattle.tsp_daemon.specs.Waits.{NotesTurn, NotesWait, NotesWaits, wait_until}
-use Rattle.tsp_daemon.proofs.SessionLemmas.{reading_taken}
+use Rattle.tsp_query.proofs.AskLemmas.{reading_taken}
 
 -- the first reading of a turn
 pub first_reading : (o : Outside) (arrivals : Option (List Arrival)) (tried : Option (List Tried)) (calls : Option ℕ) (readings between : Option (List ℕ)) (last first : ℕ) →

@@ -6,6 +6,7 @@ use Rattle.tsp_gateway.specs.declared.gateway.Gateway.{Gateway}
 use Rattle.tsp_gateway.specs.GatewayStands.{GatewayStands}
 use Rattle.tsp_io.specs.Links.{Arrival, Tried}
 use Rattle.tsp_io.specs.Streams.{Grows}
+use Rattle.tsp_io.specs.declared.link.Link.{Ghosts as LinkOf}
 use Rattle.tsp_io.specs.declared.link.Recv.{Recv}
 use Rattle.tsp_io.specs.declared.link.Recv.TheVariants.{Datagram}
 use Rattle.tsp_query.specs.Ends.{Outside, Tells}
@@ -35,6 +36,16 @@ TriesAll sends tried more = more ≡ option_map (λ ts. ts ++ sends) tried
 -- of these sends the first ones were tried, maybe none or all
 abbrev pub TriesSome : List Tried → Option (List Tried) → Option (List Tried) → Type 0
 TriesSome sends tried more = (part : List Tried) × (rest : List Tried) × (sends ≡ part ++ rest) × TriesAll part tried more
+
+-- a call that only sends leaves the rest of its link as it was, and the count of failed sends doesn't fall
+pub record OnlySends {L : Type 0} (links : LinkOf L) (before now : L) : Type 0 where
+  pub arrivals : links.arrivals now ≡ links.arrivals before
+  pub calls : links.calls now ≡ links.calls before
+  pub stranger : links.stranger now ≡ links.stranger before
+  pub binds : links.binds now ≡ links.binds before
+  pub waits : links.waits now ≡ links.waits before
+  pub faults : links.faults now ≡ links.faults before
+  pub sends : links.send_faults before ≤ links.send_faults now
 
 -- of this text the beginning was written, maybe nothing or all
 abbrev pub WritesSome : List ℕ → Option (List ℕ) → Option (List ℕ) → Type 0

@@ -9,7 +9,7 @@ use Rattle.tsp_daemon.specs.Ends.{IsReceived, ServesUntil}
 use Rattle.tsp_daemon.specs.Kept.{HistoryKept, SetByWords}
 use Rattle.tsp_daemon.specs.Sessions.{Session, after_turns, read_once}
 use Rattle.tsp_query.specs.Ends.{Outside, Tells}
-use Rattle.tsp_query.specs.Outside.{Observed, bound, Says}
+use Rattle.tsp_query.specs.Outside.{Observed, Knows, bound, Says}
 use Rattle.tsp_rules.specs.Guards.{is_clock_value}
 use Rattle.tsp_args.specs.declared.serve.ServeWords.{ServeWords}
 use Rattle.tsp_daemon.specs.declared.exit.DaemonExit.{DaemonExit}
@@ -78,6 +78,10 @@ abbrev pub BoundServes : ServeWords → Outside → ℤ → ℕ → List ℕ →
 BoundServes s o wall word written waits now served =
     IsRefused (read_once o) written waits now served ⊎ HasBadWall o wall written waits now served ⊎ IsServed s o wall word written waits now served
 
+-- the same, if all of the outside is told at its beginning
+abbrev pub BoundServesIfTold : ServeWords → Observed → Observed → DaemonExit → Type 0
+BoundServesIfTold s before now served = (o : Outside) (wall : ℤ) (word : ℕ) (written : List ℕ) → Knows o wall word written before → BoundServes s o wall word written before.waits now served
+
 -- the bind failed: no tick was read, and nothing was sent or written
 pub record IsUnbound (o : Outside) (written : List ℕ) (waits : Option (List ℕ)) (now : Observed) (served : DaemonExit) : Type 0 where
   pub cause : served ≡ LinkFault
@@ -95,3 +99,7 @@ abbrev pub ServesAs : ServeWords → Outside → ℤ → ℕ → List ℕ → Ob
 ServesAs s o wall word written before now served =
     ((now.binds ≡ before.binds) × (now.left_at_wall ≡ before.left_at_wall) × ServesUnbound o written before.waits now served)
     ⊎ (Notes before.binds now.binds (serving_binding s) × (now.left_at_wall ≡ Some (Some (read_once o).readings)) × BoundServes s (bound o) wall word written before.waits now served)
+
+-- the same, if all of the outside is told at its beginning
+abbrev pub ServesIfTold : ServeWords → Observed → Observed → DaemonExit → Type 0
+ServesIfTold s before now served = (o : Outside) (wall : ℤ) (word : ℕ) (written : List ℕ) → Knows o wall word written before → ServesAs s o wall word written before now served

@@ -1,12 +1,11 @@
 //! The daemon as a command.
-ghost use Rattle.std.specs.Prelude.{◌≡◌, ◌≢◌, ◌≤◌, ℕ, ℤ, List, length, codes, Some, false, IfSome};
-ghost use Rattle.tsp_io.specs.Counts.{Rose};
-ghost use Rattle.tsp_query.specs.Arrivals.{rest_of};
-ghost use Rattle.tsp_query.specs.Ends.{Outside};
-ghost use Rattle.tsp_query.specs.Outside.{Knows, Says};
+ghost use Rattle.std.specs.Prelude.{◌≡◌, ◌≢◌, ◌≤◌, false, IfSome};
+ghost use Rattle.tsp_query.specs.Faults.{Counts};
+ghost use Rattle.tsp_query.specs.Outside.{observed, Says};
+ghost use Rattle.tsp_query.specs.Told.{ReadsWall};
 ghost use Rattle.tsp_rules.specs.Guards.{is_clock_value};
 ghost use Rattle.tsp_args.specs.Serves.{IsServe};
-ghost use Rattle.tsp_daemon.specs.Serving.{bad_wall, BoundServes, ServesAs};
+ghost use Rattle.tsp_daemon.specs.Serving.{bad_wall, BoundServesIfTold, ServesIfTold};
 
 use crate::exit::DaemonExit;
 use crate::node::{Unbooted, addrs_of, boot};
@@ -22,9 +21,8 @@ use tsp_lines::output::{Unwritten, write_all};
 fn say_bad_wall<K: Sink>(sink: &mut K) -> DaemonExit
     ensures says { Says bad_wall DaemonExit.BadWall DaemonExit.WriteFault DaemonExit.OutOfMemory
         (K.written sink.old) (K.written sink.new) result }
-    ensures later { K.faults sink.old ≤ K.faults sink.new }
-    ensures write { result ≡ DaemonExit.WriteFault → Rose (K.faults sink.old) (K.faults sink.new) }
-    ensures still { result ≢ DaemonExit.WriteFault → K.faults sink.new ≡ K.faults sink.old }
+    ensures write { Counts (K.faults sink.old) (K.faults sink.new)
+        (result ≡ DaemonExit.WriteFault) }
     ensures link { result ≢ DaemonExit.LinkFault }
 {
     match write_all(sink, b"bad wall\n") {
@@ -38,55 +36,26 @@ fn say_bad_wall<K: Sink>(sink: &mut K) -> DaemonExit
 
 /// Reads the clocks, boots the daemon's node, and takes its turns, over a link that is bound.
 fn serve_bound<K: Sink, L: Link, T: Ticker>(
-    alloc: Global,
-    words: &ServeWords,
-    sink: &mut K,
     link: &mut L,
     ticker: &mut T,
+    sink: &mut K,
+    words: &ServeWords,
+    alloc: Global,
 ) -> DaemonExit
     requires serve { IsServe words.now }
-    ensures serves { (o : Outside) (wall : ℤ) (word : ℕ) (written : List ℕ)
-        → Knows o wall word written
-        (record {
-          arrivals = L.arrivals link.old;
-          tried = L.tried link.old;
-          calls = L.calls link.old;
-          readings = T.readings ticker.old;
-          last = T.last ticker.old;
-          wall = T.wall_is ticker.old;
-          word = T.word_is ticker.old;
-          written = K.written sink.old;
-          binds = L.binds link.old;
-          waits = L.waits link.old;
-          left_at_wall = T.left_at_wall ticker.old;
-        })
-        → BoundServes words.now o wall word written (L.waits link.old)
-        (record {
-          arrivals = L.arrivals link.new;
-          tried = L.tried link.new;
-          calls = L.calls link.new;
-          readings = T.readings ticker.new;
-          last = T.last ticker.new;
-          wall = T.wall_is ticker.new;
-          word = T.word_is ticker.new;
-          written = K.written sink.new;
-          binds = L.binds link.new;
-          waits = L.waits link.new;
-          left_at_wall = T.left_at_wall ticker.new;
-        })
-        result }
-    ensures same { L.binds link.new ≡ L.binds link.old }
-    ensures walled { (readings : List ℕ) → T.readings ticker.old ≡ Some readings
-        → T.left_at_wall ticker.new ≡ Some (Some (rest_of readings)) }
-    ensures later { (L.faults link.old ≤ L.faults link.new)
-        × (L.send_faults link.old ≤ L.send_faults link.new)
-        × (K.faults sink.old ≤ K.faults sink.new) × (T.last ticker.old ≤ T.last ticker.new) }
+    ensures serves { BoundServesIfTold words.now
+        (observed K.Sink L.Link T.Ticker sink.old link.old ticker.old)
+        (observed K.Sink L.Link T.Ticker sink.new link.new ticker.new) result }
     ensures wall { result ≡ DaemonExit.BadWall
         → IfSome (T.wall_is ticker.old) (λ wall. is_clock_value wall ≡ false) }
-    ensures link { result ≡ DaemonExit.LinkFault → Rose (L.faults link.old) (L.faults link.new) }
-    ensures write { result ≡ DaemonExit.WriteFault → Rose (K.faults sink.old) (K.faults sink.new) }
-    ensures still { (result ≢ DaemonExit.LinkFault → L.faults link.new ≡ L.faults link.old)
-        × (result ≢ DaemonExit.WriteFault → K.faults sink.new ≡ K.faults sink.old) }
+    ensures link { Counts (L.faults link.old) (L.faults link.new)
+        (result ≡ DaemonExit.LinkFault) }
+    ensures same { L.binds link.new ≡ L.binds link.old }
+    ensures walled { ReadsWall T.Ticker ticker.old ticker.new }
+    ensures write { Counts (K.faults sink.old) (K.faults sink.new)
+        (result ≡ DaemonExit.WriteFault) }
+    ensures later { (L.send_faults link.old ≤ L.send_faults link.new)
+        × (T.last ticker.old ≤ T.last ticker.new) }
 {
     let tick = ticker.tick();
     let wall = ticker.wall();
@@ -116,64 +85,23 @@ pub fn serve_words<K: Sink, L: Link, T: Ticker>(
     ticker: &mut T,
 ) -> DaemonExit
     requires { IsServe words.now }
-    ensures serves { (o : Outside) (wall : ℤ) (word : ℕ) (written : List ℕ)
-        → Knows o wall word written
-        (record {
-          arrivals = L.arrivals link.old;
-          tried = L.tried link.old;
-          calls = L.calls link.old;
-          readings = T.readings ticker.old;
-          last = T.last ticker.old;
-          wall = T.wall_is ticker.old;
-          word = T.word_is ticker.old;
-          written = K.written sink.old;
-          binds = L.binds link.old;
-          waits = L.waits link.old;
-          left_at_wall = T.left_at_wall ticker.old;
-        })
-        → ServesAs words.now o wall word written
-        (record {
-          arrivals = L.arrivals link.old;
-          tried = L.tried link.old;
-          calls = L.calls link.old;
-          readings = T.readings ticker.old;
-          last = T.last ticker.old;
-          wall = T.wall_is ticker.old;
-          word = T.word_is ticker.old;
-          written = K.written sink.old;
-          binds = L.binds link.old;
-          waits = L.waits link.old;
-          left_at_wall = T.left_at_wall ticker.old;
-        })
-        (record {
-          arrivals = L.arrivals link.new;
-          tried = L.tried link.new;
-          calls = L.calls link.new;
-          readings = T.readings ticker.new;
-          last = T.last ticker.new;
-          wall = T.wall_is ticker.new;
-          word = T.word_is ticker.new;
-          written = K.written sink.new;
-          binds = L.binds link.new;
-          waits = L.waits link.new;
-          left_at_wall = T.left_at_wall ticker.new;
-        })
-        result }
-    ensures later { (L.faults link.old ≤ L.faults link.new)
-        × (L.send_faults link.old ≤ L.send_faults link.new)
-        × (K.faults sink.old ≤ K.faults sink.new) × (T.last ticker.old ≤ T.last ticker.new) }
+    ensures serves { ServesIfTold words.now
+        (observed K.Sink L.Link T.Ticker sink.old link.old ticker.old)
+        (observed K.Sink L.Link T.Ticker sink.new link.new ticker.new) result }
     ensures wall { result ≡ DaemonExit.BadWall
         → IfSome (T.wall_is ticker.old) (λ wall. is_clock_value wall ≡ false) }
-    ensures link { result ≡ DaemonExit.LinkFault → Rose (L.faults link.old) (L.faults link.new) }
-    ensures write { result ≡ DaemonExit.WriteFault → Rose (K.faults sink.old) (K.faults sink.new) }
-    ensures still { (result ≢ DaemonExit.LinkFault → L.faults link.new ≡ L.faults link.old)
-        × (result ≢ DaemonExit.WriteFault → K.faults sink.new ≡ K.faults sink.old) }
+    ensures link { Counts (L.faults link.old) (L.faults link.new)
+        (result ≡ DaemonExit.LinkFault) }
+    ensures write { Counts (K.faults sink.old) (K.faults sink.new)
+        (result ≡ DaemonExit.WriteFault) }
+    ensures later { (L.send_faults link.old ≤ L.send_faults link.new)
+        × (T.last ticker.old ≤ T.last ticker.new) }
 {
     let Ok(addrs) = addrs_of(alloc, words) else {
         return DaemonExit::OutOfMemory;
     };
     match link.bind(words.local, addrs.as_slice()) {
-        Bound::Bound => serve_bound(alloc, words, sink, link, ticker),
+        Bound::Bound => serve_bound(link, ticker, sink, words, alloc),
         Bound::Failed => DaemonExit::LinkFault,
         Bound::OutOfMemory => DaemonExit::OutOfMemory,
     }

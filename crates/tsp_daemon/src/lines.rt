@@ -1,7 +1,7 @@
 //! The lines of a traced step.
-ghost use Rattle.std.specs.Prelude.{◌≡◌, ◌≢◌, ◌≤◌, ◌<◌, ◌+◌, ◌^◌, ◌||◌, length, IfErr, Err, OnOk};
-ghost use Rattle.tsp_io.specs.Counts.{Rose};
+ghost use Rattle.std.specs.Prelude.{◌≡◌, ◌<◌, ◌+◌, ◌^◌, ◌||◌, length, IfErr, Err, OnOk};
 ghost use Rattle.tsp_io.specs.Streams.{Grows};
+ghost use Rattle.tsp_query.specs.Faults.{Counts};
 ghost use Rattle.tsp_daemon.specs.Ends.{TellsUntil};
 ghost use Rattle.tsp_daemon.specs.Posts.{line_of, lines_of};
 
@@ -29,10 +29,8 @@ fn line_of(turn: u64, tick: u64, number: u64, placed: &Placed) -> ArrayVec<u8, 1
 fn tell_line<K: Sink>(sink: &mut K, line: &[u8]) -> Result<(), ServeEnd>
     ensures ok { OnOk result (Grows (K.written sink.old) (K.written sink.new) line.now) }
     ensures err { IfErr result (TellsUntil line.now (K.written sink.old) (K.written sink.new)) }
-    ensures later { K.faults sink.old ≤ K.faults sink.new }
-    ensures cause { result ≡ Err ServeEnd.WriteFault
-        → Rose (K.faults sink.old) (K.faults sink.new) }
-    ensures still { result ≢ Err ServeEnd.WriteFault → K.faults sink.new ≡ K.faults sink.old }
+    ensures write { Counts (K.faults sink.old) (K.faults sink.new)
+        (result ≡ Err ServeEnd.WriteFault) }
 {
     match write_all(sink, line) {
         Ok(()) => Ok(()),
@@ -57,10 +55,8 @@ pub(crate) fn tell<K: Sink>(
         (lines_of turn tick first acts.now)) }
     ensures err { IfErr result (TellsUntil (lines_of turn tick first acts.now) (K.written sink.old)
         (K.written sink.new)) }
-    ensures later { K.faults sink.old ≤ K.faults sink.new }
-    ensures cause { result ≡ Err ServeEnd.WriteFault
-        → Rose (K.faults sink.old) (K.faults sink.new) }
-    ensures still { result ≢ Err ServeEnd.WriteFault → K.faults sink.new ≡ K.faults sink.old }
+    ensures write { Counts (K.faults sink.old) (K.faults sink.new)
+        (result ≡ Err ServeEnd.WriteFault) }
 {
     let mut number = first;
     for placed in acts {

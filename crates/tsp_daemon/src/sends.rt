@@ -1,7 +1,7 @@
 //! The sends of a step.
-ghost use Rattle.std.specs.Prelude.{◌≡◌, ◌≢◌, ◌≤◌, ◌+◌, length, OnOk, OnErr};
+ghost use Rattle.std.specs.Prelude.{◌≡◌, ◌≤◌, ◌+◌, length, OnOk, OnErr};
 ghost use Rattle.tsp_rules.specs.Strangers.{IsKnown};
-ghost use Rattle.tsp_daemon.specs.Ends.{TriesAll, TriesSome};
+ghost use Rattle.tsp_daemon.specs.Ends.{OnlySends, TriesAll, TriesSome};
 ghost use Rattle.tsp_daemon.specs.Posts.{AreKnown, send_of, sends_of};
 
 use std::alloc::AllocError;
@@ -15,11 +15,7 @@ fn send_one<L: Link>(link: &mut L, act: &Act) -> Result<(), AllocError>
     requires known { IsKnown (L.stranger link.old) act.now }
     ensures ok { OnOk result (TriesAll (send_of act.now) (L.tried link.old) (L.tried link.new)) }
     ensures err { OnErr result (L.tried link.new ≡ L.tried link.old) }
-    ensures same { (L.arrivals link.new ≡ L.arrivals link.old)
-        × (L.calls link.new ≡ L.calls link.old) × (L.stranger link.new ≡ L.stranger link.old)
-        × (L.binds link.new ≡ L.binds link.old) × (L.waits link.new ≡ L.waits link.old) }
-    ensures later { (L.faults link.new ≡ L.faults link.old)
-        × (L.send_faults link.old ≤ L.send_faults link.new) }
+    ensures only { OnlySends L.Link link.old link.new }
 {
     match act {
         Act::Post(to, datagram) => match link.send(*to, encode(datagram).as_slice()) {
@@ -38,11 +34,7 @@ pub(crate) fn send_all<L: Link>(link: &mut L, acts: &[Placed]) -> Result<(), All
     ensures ok { OnOk result (TriesAll (sends_of acts.now) (L.tried link.old) (L.tried link.new)) }
     ensures err { OnErr result (TriesSome (sends_of acts.now) (L.tried link.old)
         (L.tried link.new)) }
-    ensures same { (L.arrivals link.new ≡ L.arrivals link.old)
-        × (L.calls link.new ≡ L.calls link.old) × (L.stranger link.new ≡ L.stranger link.old)
-        × (L.binds link.new ≡ L.binds link.old) × (L.waits link.new ≡ L.waits link.old) }
-    ensures later { (L.faults link.new ≡ L.faults link.old)
-        × (L.send_faults link.old ≤ L.send_faults link.new) }
+    ensures only { OnlySends L.Link link.old link.new }
 {
     for placed in acts {
         send_one(link, &placed.act)?;

@@ -1,8 +1,9 @@
 //! The daemon's session.
-ghost use Rattle.std.specs.Prelude.{◌≡◌, ◌≢◌, ◌≤◌, ◌<◌, ◌*◌, ◌^◌};
-ghost use Rattle.tsp_io.specs.Counts.{Rose};
+ghost use Rattle.std.specs.Prelude.{◌≡◌, ◌≤◌, ◌<◌, ◌*◌, ◌^◌};
 ghost use Rattle.tsp_gateway.specs.GatewayStands.{clock_at};
 ghost use Rattle.tsp_gateway.specs.Rooms.{ports_in, room_of_ports};
+ghost use Rattle.tsp_query.specs.Faults.{Counts};
+ghost use Rattle.tsp_query.specs.Told.{HoldsOf, KeepsOn};
 ghost use Rattle.tsp_daemon.specs.Ends.{IsAt, Lives, Serves};
 ghost use Rattle.tsp_daemon.specs.Sessions.{Session};
 
@@ -44,20 +45,15 @@ pub fn serve<K: Sink, L: Link, T: Ticker>(
     requires later { clock_at gateway ≤ T.last ticker.old }
     requires few { turns * room_of_ports (ports_in gateway) < 2 ^ 64 }
     ensures serves { (s : Session)
-        → IsAt s gateway (record { turns = 0; posts = 0 }) (L.arrivals link.old) (L.tried link.old)
-        (L.calls link.old) (T.readings ticker.old) (T.last ticker.old) (K.written sink.old)
-        → Serves turns s (L.arrivals link.new) (L.tried link.new) (L.calls link.new)
-        (T.readings ticker.new) (T.last ticker.new) (K.written sink.new) (L.waits link.old)
-        (L.waits link.new) result }
-    ensures same { (L.binds link.new ≡ L.binds link.old)
-        × (T.left_at_wall ticker.new ≡ T.left_at_wall ticker.old) }
-    ensures later { (L.faults link.old ≤ L.faults link.new)
-        × (L.send_faults link.old ≤ L.send_faults link.new)
-        × (K.faults sink.old ≤ K.faults sink.new) × (T.last ticker.old ≤ T.last ticker.new) }
-    ensures link { result ≡ ServeEnd.LinkFault → Rose (L.faults link.old) (L.faults link.new) }
-    ensures write { result ≡ ServeEnd.WriteFault → Rose (K.faults sink.old) (K.faults sink.new) }
-    ensures still { (result ≢ ServeEnd.LinkFault → L.faults link.new ≡ L.faults link.old)
-        × (result ≢ ServeEnd.WriteFault → K.faults sink.new ≡ K.faults sink.old) }
+        → HoldsOf L.Link T.Ticker (IsAt s gateway (record { turns = 0; posts = 0 })) link.old
+        ticker.old (K.written sink.old)
+        → HoldsOf L.Link T.Ticker (Serves turns s) link.new ticker.new (K.written sink.new)
+        (L.waits link.old) (L.waits link.new) result }
+    ensures keeps { KeepsOn L.Link T.Ticker link.old ticker.old link.new ticker.new }
+    ensures link { Counts (L.faults link.old) (L.faults link.new) (result ≡ ServeEnd.LinkFault) }
+    ensures write { Counts (K.faults sink.old) (K.faults sink.new)
+        (result ≡ ServeEnd.WriteFault) }
+    ensures sends { L.send_faults link.old ≤ L.send_faults link.new }
 {
     let mut pad = Pad::new(alloc);
     let mut course = Counters { turns: 0, posts: 0 };

@@ -1,10 +1,11 @@
 //! A turn of the daemon.
-ghost use Rattle.std.specs.Prelude.{◌≡◌, ◌≢◌, ◌≤◌, ◌<◌, ◌+◌, ◌^◌, length, IfErr, MatchResult, OnOk, Err};
-ghost use Rattle.tsp_io.specs.Counts.{Rose};
+ghost use Rattle.std.specs.Prelude.{◌≡◌, ◌≤◌, ◌<◌, ◌+◌, ◌^◌, length, IfErr, MatchResult, OnOk, Err};
 ghost use Rattle.tsp_io.specs.Streams.{Grows};
 ghost use Rattle.tsp_gateway.specs.GatewayStands.{clock_at};
 ghost use Rattle.tsp_gateway.specs.Rooms.{ports_in, room_of_ports};
-ghost use Rattle.tsp_daemon.specs.Ends.{IsAt, Lives, EndsTurn, FinishesUntil, TriesAll};
+ghost use Rattle.tsp_query.specs.Faults.{Counts};
+ghost use Rattle.tsp_query.specs.Told.{HoldsOf, KeepsOn};
+ghost use Rattle.tsp_daemon.specs.Ends.{IsAt, Lives, EndsTurn, FinishesUntil, OnlySends, TriesAll};
 ghost use Rattle.tsp_daemon.specs.Posts.{AreKnown, sends_of, shown_lines};
 ghost use Rattle.tsp_daemon.specs.Sessions.{Session, turned};
 ghost use Rattle.tsp_daemon.specs.Waits.{NotesTurn, NotesWait};
@@ -41,15 +42,9 @@ fn finish<K: Sink, L: Link>(
     ensures err { IfErr result (FinishesUntil (sends_of acts.now)
         (shown_lines shown (course.now.turns + 1) tick course.now.posts acts.now) (L.tried link.old)
         (L.tried link.new) (K.written sink.old) (K.written sink.new)) }
-    ensures same { (L.arrivals link.new ≡ L.arrivals link.old)
-        × (L.calls link.new ≡ L.calls link.old) × (L.binds link.new ≡ L.binds link.old)
-        × (L.waits link.new ≡ L.waits link.old) }
-    ensures later { (L.faults link.new ≡ L.faults link.old)
-        × (L.send_faults link.old ≤ L.send_faults link.new)
-        × (K.faults sink.old ≤ K.faults sink.new) }
-    ensures cause { result ≡ Err ServeEnd.WriteFault
-        → Rose (K.faults sink.old) (K.faults sink.new) }
-    ensures still { result ≢ Err ServeEnd.WriteFault → K.faults sink.new ≡ K.faults sink.old }
+    ensures only { OnlySends L.Link link.old link.new }
+    ensures write { Counts (K.faults sink.old) (K.faults sink.new)
+        (result ≡ Err ServeEnd.WriteFault) }
 {
     if send_all(link, acts).is_err() {
         return Err(ServeEnd::OutOfMemory);
@@ -76,32 +71,27 @@ pub(crate) fn turn<K: Sink, L: Link, T: Ticker>(
     requires few { course.old.posts + room_of_ports (ports_in node.old) < 2 ^ 64 }
     requires turns { course.old.turns + 1 < 2 ^ 64 }
     ensures turns { (s : Session)
-        → IsAt s node.old course.old (L.arrivals link.old) (L.tried link.old) (L.calls link.old)
-        (T.readings ticker.old) (T.last ticker.old) (K.written sink.old)
-        → MatchResult result (λ _. IsAt (turned s) node.new course.new (L.arrivals link.new)
-        (L.tried link.new) (L.calls link.new) (T.readings ticker.new) (T.last ticker.new)
-        (K.written sink.new)) (EndsTurn s (L.arrivals link.new) (L.tried link.new)
-        (L.calls link.new) (T.readings ticker.new) (T.last ticker.new) (K.written sink.new)) }
+        → HoldsOf L.Link T.Ticker (IsAt s node.old course.old) link.old ticker.old
+        (K.written sink.old)
+        → MatchResult result (λ _. HoldsOf L.Link T.Ticker (IsAt (turned s) node.new course.new)
+        link.new ticker.new (K.written sink.new)) (HoldsOf L.Link T.Ticker (EndsTurn s) link.new
+        ticker.new (K.written sink.new)) }
     ensures waits { (s : Session)
-        → IsAt s node.old course.old (L.arrivals link.old) (L.tried link.old) (L.calls link.old)
-        (T.readings ticker.old) (T.last ticker.old) (K.written sink.old)
+        → HoldsOf L.Link T.Ticker (IsAt s node.old course.old) link.old ticker.old
+        (K.written sink.old)
         → MatchResult result (λ _. NotesWait s (L.waits link.old) (L.waits link.new))
         (NotesTurn s (L.waits link.old) (L.waits link.new)) }
-    ensures same { (L.binds link.new ≡ L.binds link.old)
-        × (T.left_at_wall ticker.new ≡ T.left_at_wall ticker.old) }
+    ensures keeps { KeepsOn L.Link T.Ticker link.old ticker.old link.new ticker.new }
     ensures lives { OnOk result (Lives node.new) }
     ensures clock { OnOk result (clock_at node.new ≤ T.last ticker.new) }
     ensures counts { OnOk result ((course.new.turns ≡ course.old.turns + 1)
         × (course.new.posts ≤ course.old.posts + room_of_ports (ports_in node.old))) }
     ensures ports { OnOk result (ports_in node.new ≡ ports_in node.old) }
-    ensures later { (L.faults link.old ≤ L.faults link.new)
-        × (L.send_faults link.old ≤ L.send_faults link.new)
-        × (K.faults sink.old ≤ K.faults sink.new) × (T.last ticker.old ≤ T.last ticker.new) }
-    ensures link { result ≡ Err ServeEnd.LinkFault → Rose (L.faults link.old) (L.faults link.new) }
-    ensures write { result ≡ Err ServeEnd.WriteFault
-        → Rose (K.faults sink.old) (K.faults sink.new) }
-    ensures still { (result ≢ Err ServeEnd.LinkFault → L.faults link.new ≡ L.faults link.old)
-        × (result ≢ Err ServeEnd.WriteFault → K.faults sink.new ≡ K.faults sink.old) }
+    ensures link { Counts (L.faults link.old) (L.faults link.new)
+        (result ≡ Err ServeEnd.LinkFault) }
+    ensures write { Counts (K.faults sink.old) (K.faults sink.new)
+        (result ≡ Err ServeEnd.WriteFault) }
+    ensures sends { L.send_faults link.old ≤ L.send_faults link.new }
 {
     if make_room(pad, node.room()).is_err() {
         return Err(ServeEnd::OutOfMemory);

@@ -2,6 +2,7 @@
 use Rattle.std.proofs.Common.{◌≡◌, ℕ, ◌<◌, ◌≤◌, ◌+◌, ◌-◌, List, [], ◌∷◌, ◌++◌, zero, suc, refl, ap, ◌∙◌, sym, inr, arith, append_assoc, append-nil, Option, Some, None, IfSome, subst}
 use Rattle.std.proofs.lemmas.List.Elements.{All-nil, All-push}
 use Rattle.tsp_base.specs.declared.datagram.Datagram.{Datagram}
+use Rattle.tsp_io.specs.Clocks.{TakesReading}
 use Rattle.tsp_io.specs.Links.{Arrival, Tried, Notes}
 use Rattle.tsp_query.specs.Arrivals.{answer_in, next_arrival, rest_of, or_later, asked_from}
 use Rattle.tsp_query.specs.Clocks.{reading}
@@ -13,6 +14,19 @@ use Rattle.tsp_query.specs.declared.question.Question.{Question}
 next_reading : (last : ℕ) (rs : List ℕ) (k : ℕ) → reading (reading last rs 0) (rest_of rs) k ≡ reading last rs (suc k)
 next_reading last [] k = refl
 next_reading last (x ∷ rs) k = refl
+
+-- a reading that is told is the next one
+pub reading_taken : (xs : List ℕ) (readings rest : Option (List ℕ)) (last tick : ℕ) → readings ≡ Some xs → TakesReading readings rest last tick → (rest ≡ Some (rest_of xs)) × (tick ≡ reading last xs 0)
+reading_taken [] readings rest last tick is takes = subst (λ r. TakesReading r rest last tick) is takes
+reading_taken (x ∷ xs) readings rest last tick is takes = subst (λ r. TakesReading r rest last tick) is takes
+
+-- two readings, one right after the other
+pub readings_taken : (xs : List ℕ) (readings between then rest : Option (List ℕ)) (last first again sent : ℕ) → readings ≡ Some xs → TakesReading readings between last first → then ≡ between → again ≡ first → TakesReading then rest again sent
+    → (first ≡ reading last xs 0) × (sent ≡ reading last xs 1) × (rest ≡ Some (rest_of (rest_of xs)))
+readings_taken xs readings between then rest last first again sent told takes same stays more =
+    let one = reading_taken xs readings between last first told takes in
+    let two = reading_taken (rest_of xs) then rest again sent (same ∙ one.0) more in
+    (one.1, two.1 ∙ (ap (λ n. reading n (rest_of xs) 0) (stays ∙ one.1) ∙ next_reading last xs 0), two.0)
 
 pub after-reading : (n : ℕ) (o : Outside) (k : ℕ) → reading (heard_times n o).last (heard_times n o).readings k ≡ reading o.last o.readings (n + k)
 after-reading zero o k = ap (λ i. reading o.last o.readings i) (omega arith)

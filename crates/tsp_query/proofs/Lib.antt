@@ -1,4 +1,5 @@
 pub mod AskLemmas
+pub mod FaultLemmas
 pub mod LineLemmas
 pub mod OutsideLemmas
 pub mod QueryLemmas

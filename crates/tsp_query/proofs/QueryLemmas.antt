@@ -1,5 +1,5 @@
 -- Laws of the queries.
-use Rattle.std.proofs.Common.{◌≡◌, ◌∙◌, ap, ℕ, ℤ, ◌%◌, List, subst, Option, Some, refl, Bool, true, false}
+use Rattle.std.proofs.Common.{◌≡◌, ◌≤◌, ◌∙◌, ap, sym, ℕ, ℤ, ◌%◌, List, subst, Option, Some, refl, Bool, true, false, arith}
 use Rattle.std.specs.Prelude.{codes}
 use Rattle.tsp_base.specs.Kinds.{carries_time, carries_hops}
 use Rattle.tsp_base.specs.Messages.{MessageValue, body_fits}
@@ -10,15 +10,21 @@ use Rattle.tsp_base.specs.declared.kind.Kind.TheVariants.{Msite, SetDate, Test}
 use Rattle.tsp_base.specs.declared.message.Body.{Body}
 use Rattle.tsp_base.specs.declared.message.Body.TheVariants.{Nothing, Time}
 use Rattle.tsp_io.specs.Links.{Arrival, Tried}
+use Rattle.tsp_io.specs.declared.link.Link.{Ghosts as LinkOf}
+use Rattle.tsp_io.specs.declared.ticker.Ticker.{Ghosts as TickerOf}
+use Rattle.tsp_query.proofs.FaultLemmas.{LinkCounts-from}
 use Rattle.tsp_query.specs.Arrivals.{rest_of}
 use Rattle.tsp_query.specs.Clocks.{reading}
-use Rattle.tsp_query.specs.Ends.{Outside, Tells, Asks}
+use Rattle.tsp_query.specs.Ends.{Outside, Tells, Asks, WaitsSeconds}
+use Rattle.tsp_query.specs.Faults.{LinkCounts}
 use Rattle.tsp_query.specs.Queries.{read_twice, trace_kind, message_with, question_of, stamp, diff_in, end_of, QueryEnds, master_in, heard_in, date_in}
 use Rattle.tsp_query.specs.declared.ask.AskEnd.{AskEnd}
 use Rattle.tsp_query.specs.declared.ask.AskEnd.TheVariants.{Answer, NoAnswer, LinkFault, OutOfMemory}
 use Rattle.tsp_query.specs.declared.question.Question.{Question}
 use Rattle.tsp_query.specs.declared.question.Question.TheVariants.{OfWord}
 use Rattle.tsp_query.specs.declared.query.QueryEnd.{QueryEnd}
+use Rattle.tsp_query.specs.declared.query.QueryEnd.TheVariants.{LinkFault as Faulty}
+use Rattle.tsp_query.specs.Told.{AsksOnce, KeepsOn, ReadsWall}
 
 -- the messages of queries carry nothing, but for the one that sets the date
 pub fits-msite : body_fits Msite Nothing ≡ true
@@ -94,3 +100,25 @@ diff_in-parts wall wall' f f' s s' d came w g t = rw (w, g, t) refl
 pub ends-diff : (request : Datagram) (q : Question) (wall wall' : ℤ) (f f' s s' : ℕ) (o : Outside) (arrivals : Option (List Arrival)) (tried : Option (List Tried)) (calls : Option ℕ) (readings : Option (List ℕ)) (last sends sends_now : ℕ) (end : QueryEnd) (d : Datagram) (tick : ℕ)
     → end ≡ diff_in wall f s d tick → wall ≡ wall' → f ≡ f' → s ≡ s' → Asks request q (read_twice o) arrivals tried calls readings last sends sends_now (Answer d tick) → QueryEnds request q (diff_in wall' f' s') o arrivals tried calls readings last sends sends_now end
 ends-diff request q wall wall' f f' s s' o arrivals tried calls readings last sends sends_now end d tick e w g t h = rw e (d, tick, h, diff_in-parts wall wall' f f' s s' d tick w g t)
+
+-- a question ends by its link where asking did, if no answer means that
+linked_end : (answer : Datagram → ℕ → QueryEnd) → ((d : Datagram) (tick : ℕ) → answer d tick ≡ Faulty → ⊥) → (asked : AskEnd) → end_of answer asked ≡ Faulty → asked ≡ LinkFault
+linked_end answer never (Answer d tick) e = absurd (never d tick e)
+linked_end answer never NoAnswer e = cc
+linked_end answer never LinkFault e = refl
+linked_end answer never OutOfMemory e = cc
+
+-- so the link's counts are those of asking
+pub counts_end : {L : Type 0} (links : LinkOf L) (before now : L) (answer : Datagram → ℕ → QueryEnd) (asked : AskEnd) (end : QueryEnd) → ((d : Datagram) (tick : ℕ) → answer d tick ≡ Faulty → ⊥) → end ≡ end_of answer asked
+    → LinkCounts links before now (asked ≡ LinkFault) → LinkCounts links before now (end ≡ Faulty)
+counts_end links before now answer asked end never is c = LinkCounts-from links before before now _ _ refl refl (λ e. linked_end answer never asked (sym is ∙ e)) (λ e. is ∙ ap (λ a. end_of answer a) e) c
+
+-- asking, right after the ticker was read for it
+pub once_asked : {L T : Type 0} (links : LinkOf L) (tickers : TickerOf T) (link link_now : L) (before between now : T) → ReadsWall tickers before between → tickers.last before ≤ tickers.last between → WaitsSeconds (links.waits link) (links.waits link_now)
+    → KeepsOn links tickers link between link_now now → AsksOnce links tickers link before link_now now
+once_asked links tickers link link_now before between now walled later waits keeps = record {
+  waits = waits;
+  binds = keeps.binds;
+  walled = λ readings told. keeps.walled ∙ walled readings told;
+  last = omega (arith, later, keeps.last);
+}

@@ -7,7 +7,7 @@ use Rattle.tsp_query.specs.Arrivals.{rest_of}
 use Rattle.tsp_query.specs.Clocks.{reading}
 use Rattle.tsp_query.specs.Ends.{Outside, Tells, WaitsSeconds}
 use Rattle.tsp_query.specs.Queries.{message, stamp, trace_kind, date_message, QueryEnds, master_in, heard_in, date_in, diff_in}
-use Rattle.tsp_query.specs.Outside.{Observed, bound, Says}
+use Rattle.tsp_query.specs.Outside.{Observed, Knows, bound, Says}
 use Rattle.tsp_query.specs.declared.query.QueryEnd.{QueryEnd}
 use Rattle.tsp_query.specs.declared.query.QueryEnd.TheVariants.{Master, Diff, Heard, Date as Dated, NoAnswer as Unanswered, LinkFault as Faulty, OutOfMemory as Refused}
 use Rattle.tsp_query.specs.declared.question.Question.TheVariants.{OfNumber, OfDate, OfWord}
@@ -67,3 +67,8 @@ pub record IsAsked (daemon : Addr) (query : Query) (o : Outside) (wall : ℤ) (w
 -- how a question ends as a command, if this was known of the outside at its beginning
 abbrev pub AsksAs : Addr → Query → Outside → ℤ → ℕ → List ℕ → Observed → Observed → ℕ → ℕ → QueryExit → Type 0
 AsksAs daemon query o wall word written before now sends sends_now asking = IsUnbound o written before now asking ⊎ IsAsked daemon query o wall word written before now sends sends_now asking
+
+-- the same, if all of the outside is told at its beginning
+abbrev pub AsksIfTold : Addr → Query → Observed → Observed → ℕ → ℕ → QueryExit → Type 0
+AsksIfTold daemon query before now sends sends_now asking =
+    (o : Outside) (wall : ℤ) (word : ℕ) (written : List ℕ) → Knows o wall word written before → AsksAs daemon query o wall word written before now sends sends_now asking

@@ -2,6 +2,8 @@ pub mod Arrivals
 pub mod Asks
 pub mod Clocks
 pub mod Ends
+pub mod Faults
 pub mod Lines
 pub mod Outside
 pub mod Queries
+pub mod Told

@@ -3,6 +3,9 @@ use Rattle.std.specs.Prelude.{◌≡◌, ◌⊎◌, ◌<◌, ℕ, ℤ, List, ◌
 use Rattle.tsp_io.specs.Counts.{one_more}
 use Rattle.tsp_io.specs.Links.{Arrival, Binding, Tried}
 use Rattle.tsp_io.specs.Streams.{Grows}
+use Rattle.tsp_io.specs.declared.link.Link.{Ghosts as LinkOf}
+use Rattle.tsp_io.specs.declared.sink.Sink.{Ghosts as SinkOf}
+use Rattle.tsp_io.specs.declared.ticker.Ticker.{Ghosts as TickerOf}
 use Rattle.tsp_query.specs.Ends.{Outside, Tells}
 
 -- what they hold, each part None if it isn't told
@@ -18,6 +21,22 @@ pub record Observed : Type 0 where
   pub binds : Option (List Binding)
   pub waits : Option (List ℕ)
   pub left_at_wall : Option (Option (List ℕ))
+
+-- what a sink, a link and a ticker hold at a moment
+abbrev pub observed : {K L T : Type 0} → SinkOf K → LinkOf L → TickerOf T → K → L → T → Observed
+observed sinks links tickers sink link ticker = record {
+  arrivals = links.arrivals link;
+  tried = links.tried link;
+  calls = links.calls link;
+  readings = tickers.readings ticker;
+  last = tickers.last ticker;
+  wall = tickers.wall_is ticker;
+  word = tickers.word_is ticker;
+  written = sinks.written sink;
+  binds = links.binds link;
+  waits = links.waits link;
+  left_at_wall = tickers.left_at_wall ticker;
+}
 
 -- all of it is told: of the link and the ticker this outside, this wall clock (microseconds since 1970), this word, and
 -- these octets written

@@ -1,5 +1,5 @@
 -- The questions to a daemon, and how each ends.
-use Rattle.std.specs.Prelude.{◌≡◌, ℕ, ℤ, pos, ◌%◌, Bool, true, false, List, [], Option, codes}
+use Rattle.std.specs.Prelude.{◌≡◌, ℕ, ℤ, pos, ◌%◌, Bool, true, false, List, [], Option, Some, codes}
 use Rattle.tsp_base.specs.Samples.{sample_diff, sample_err}
 use Rattle.tsp_base.specs.declared.datagram.Datagram.{Datagram}
 use Rattle.tsp_base.specs.declared.datagram.Datagram.TheVariants.{Message, Stamp as StampOf}
@@ -9,9 +9,12 @@ use Rattle.tsp_base.specs.declared.message.Body.{Body}
 use Rattle.tsp_base.specs.declared.message.Body.TheVariants.{Nothing, Time}
 use Rattle.tsp_base.specs.declared.stamp.Stamp.TheVariants.{Request, Reply}
 use Rattle.tsp_io.specs.Links.{Arrival, Tried}
+use Rattle.tsp_io.specs.declared.link.Link.{Ghosts as LinkOf}
+use Rattle.tsp_io.specs.declared.ticker.Ticker.{Ghosts as TickerOf}
 use Rattle.tsp_query.specs.Arrivals.{rest_of}
 use Rattle.tsp_query.specs.Clocks.{reading, own_clock}
-use Rattle.tsp_query.specs.Ends.{Outside, Asks}
+use Rattle.tsp_query.specs.Ends.{Outside, Tells, Asks}
+use Rattle.tsp_query.specs.Told.{HoldsOf}
 use Rattle.tsp_query.specs.declared.ask.AskEnd.{AskEnd}
 use Rattle.tsp_query.specs.declared.ask.AskEnd.TheVariants.{Answer, NoAnswer as Unanswered, LinkFault as Faulty, OutOfMemory as Refused}
 use Rattle.tsp_query.specs.declared.question.Question.{Question}
@@ -62,6 +65,20 @@ QueryEnds request q answer o arrivals tried calls readings last sends sends_now 
 QueryEnds request q answer o arrivals tried calls readings last sends sends_now LinkFault = Asks request q (read_twice o) arrivals tried calls readings last sends sends_now Faulty
 QueryEnds request q answer o arrivals tried calls readings last sends sends_now OutOfMemory = Asks request q (read_twice o) arrivals tried calls readings last sends sends_now Refused
 QueryEnds request q answer o arrivals tried calls readings last sends sends_now end = (d : Datagram) × (tick : ℕ) × Asks request q (read_twice o) arrivals tried calls readings last sends sends_now (Answer d tick) × (end ≡ answer d tick)
+
+-- the answer to a message that is numbered by this word must repeat its number; so must the answer to a date
+abbrev pub by_number : ℕ → Question
+by_number word = OfNumber (word % 65536)
+
+abbrev pub by_date : ℕ → Question
+by_date word = OfDate (word % 65536)
+
+-- so ends a question over a link and a ticker whose request and whose wanted answer are made from the ticker's word, if
+-- the outside and the word are told
+abbrev pub EndsByWord : {L T : Type 0} → LinkOf L → TickerOf T → (ℕ → Datagram) → (ℕ → Question) → (Datagram → ℕ → QueryEnd) → L → T → L → T → QueryEnd → Type 0
+EndsByWord links tickers request question answer link ticker link_now ticker_now end =
+    (o : Outside) (word : ℕ) → HoldsOf links tickers (Tells o) link ticker → tickers.word_is ticker ≡ Some word
+    → HoldsOf links tickers (QueryEnds (request word) (question word) answer o) link_now ticker_now (links.send_faults link) (links.send_faults link_now) end
 
 -- the name in an answer
 abbrev pub name_in : Datagram → List ℕ

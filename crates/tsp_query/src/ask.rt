@@ -1,12 +1,13 @@
 //! Asks a question: one datagram goes out, and the first answer counts among at most eight
 //! receives.
-ghost use Rattle.std.specs.Prelude.{◌≡◌, ◌≢◌, ◌⊎◌, ◌≤◌, None, true, IfSome, if◌then◌else◌};
+ghost use Rattle.std.specs.Prelude.{◌≡◌, ◌≢◌, None, true, IfSome, if◌then◌else◌};
 ghost use Rattle.tsp_codec.specs.Taken.{taken_of};
-ghost use Rattle.tsp_io.specs.Counts.{Rose};
 ghost use Rattle.tsp_io.specs.Links.{Notes};
 ghost use Rattle.tsp_query.specs.Arrivals.{answers, answer_of, is_daemon};
 ghost use Rattle.tsp_query.specs.Ends.{Outside, Tells, Hears, HearsWell, Listens, WaitsSeconds};
 ghost use Rattle.tsp_query.specs.Ends.{Asks, AsksWell};
+ghost use Rattle.tsp_query.specs.Faults.{Counts, LinkCounts};
+ghost use Rattle.tsp_query.specs.Told.{HoldsOf, KeepsOn};
 
 use crate::question::{Question, answer_of};
 use tsp_base::datagram::Datagram;
@@ -47,20 +48,13 @@ pub(crate) enum Heard {
 
 /// Waits a second at most for a datagram, and reads the tick right after the wait.
 fn hear<L: Link, T: Ticker>(link: &mut L, ticker: &mut T, question: Question) -> Heard
-    ensures hears { (o : Outside)
-        → Tells o (L.arrivals link.old) (L.tried link.old) (L.calls link.old)
-        (T.readings ticker.old) (T.last ticker.old)
-        → Hears question o (L.arrivals link.new) (L.tried link.new) (L.calls link.new)
-        (T.readings ticker.new) (T.last ticker.new) result }
+    ensures hears { (o : Outside) → HoldsOf L.Link T.Ticker (Tells o) link.old ticker.old
+        → HoldsOf L.Link T.Ticker (Hears question o) link.new ticker.new result }
     ensures waits { Notes (L.waits link.old) (L.waits link.new) 1000000 }
-    ensures same { (L.binds link.new ≡ L.binds link.old)
-        × (T.left_at_wall ticker.new ≡ T.left_at_wall ticker.old) }
+    ensures keeps { KeepsOn L.Link T.Ticker link.old ticker.old link.new ticker.new }
     ensures well { HearsWell question (T.last ticker.old) result }
-    ensures later { (L.faults link.old ≤ L.faults link.new)
-        × (L.send_faults link.new ≡ L.send_faults link.old)
-        × (T.last ticker.old ≤ T.last ticker.new) }
-    ensures cause { result ≡ Heard.Failed → Rose (L.faults link.old) (L.faults link.new) }
-    ensures still { result ≢ Heard.Failed → L.faults link.new ≡ L.faults link.old }
+    ensures faults { Counts (L.faults link.old) (L.faults link.new) (result ≡ Heard.Failed) }
+    ensures sends { L.send_faults link.new ≡ L.send_faults link.old }
 {
     let mut buf = [0; 512];
     match link.recv(&mut buf, WAIT) {
@@ -94,21 +88,14 @@ fn answer_from(question: Question, from: Place, octets: &[u8]) -> Option<Datagra
 
 /// Receives at most eight times, until an answer comes or a receive fails.
 fn listen<L: Link, T: Ticker>(link: &mut L, ticker: &mut T, question: Question) -> AskEnd
-    ensures listens { (o : Outside)
-        → Tells o (L.arrivals link.old) (L.tried link.old) (L.calls link.old)
-        (T.readings ticker.old) (T.last ticker.old)
-        → Listens question o (L.arrivals link.new) (L.tried link.new) (L.calls link.new)
-        (T.readings ticker.new) (T.last ticker.new) result }
+    ensures listens { (o : Outside) → HoldsOf L.Link T.Ticker (Tells o) link.old ticker.old
+        → HoldsOf L.Link T.Ticker (Listens question o) link.new ticker.new result }
     ensures waits { WaitsSeconds (L.waits link.old) (L.waits link.new) }
-    ensures same { (L.binds link.new ≡ L.binds link.old)
-        × (T.left_at_wall ticker.new ≡ T.left_at_wall ticker.old) }
+    ensures keeps { KeepsOn L.Link T.Ticker link.old ticker.old link.new ticker.new }
     ensures well { AsksWell question (T.last ticker.old) result }
-    ensures later { (L.faults link.old ≤ L.faults link.new)
-        × (L.send_faults link.new ≡ L.send_faults link.old)
-        × (T.last ticker.old ≤ T.last ticker.new) }
-    ensures cause { result ≡ AskEnd.LinkFault → Rose (L.faults link.old) (L.faults link.new) }
-    ensures still { result ≢ AskEnd.LinkFault → L.faults link.new ≡ L.faults link.old }
     ensures memory { result ≢ AskEnd.OutOfMemory }
+    ensures faults { Counts (L.faults link.old) (L.faults link.new) (result ≡ AskEnd.LinkFault) }
+    ensures sends { L.send_faults link.new ≡ L.send_faults link.old }
 {
     for _ in 0..RECEIVES {
         match hear(link, ticker, question) {
@@ -128,23 +115,13 @@ pub(crate) fn ask<L: Link, T: Ticker>(
     request: &Datagram,
     question: Question,
 ) -> AskEnd
-    ensures asks { (o : Outside)
-        → Tells o (L.arrivals link.old) (L.tried link.old) (L.calls link.old)
-        (T.readings ticker.old) (T.last ticker.old)
-        → Asks request.now question o (L.arrivals link.new) (L.tried link.new) (L.calls link.new)
-        (T.readings ticker.new) (T.last ticker.new) (L.send_faults link.old) (L.send_faults link.new)
-        result }
+    ensures asks { (o : Outside) → HoldsOf L.Link T.Ticker (Tells o) link.old ticker.old
+        → HoldsOf L.Link T.Ticker (Asks request.now question o) link.new ticker.new
+        (L.send_faults link.old) (L.send_faults link.new) result }
     ensures waits { WaitsSeconds (L.waits link.old) (L.waits link.new) }
-    ensures same { (L.binds link.new ≡ L.binds link.old)
-        × (T.left_at_wall ticker.new ≡ T.left_at_wall ticker.old) }
+    ensures keeps { KeepsOn L.Link T.Ticker link.old ticker.old link.new ticker.new }
     ensures well { AsksWell question (T.last ticker.old) result }
-    ensures later { (L.faults link.old ≤ L.faults link.new)
-        × (L.send_faults link.old ≤ L.send_faults link.new)
-        × (T.last ticker.old ≤ T.last ticker.new) }
-    ensures cause { result ≡ AskEnd.LinkFault → Rose (L.faults link.old) (L.faults link.new)
-        ⊎ Rose (L.send_faults link.old) (L.send_faults link.new) }
-    ensures still { result ≢ AskEnd.LinkFault → (L.faults link.new ≡ L.faults link.old)
-        × (L.send_faults link.new ≡ L.send_faults link.old) }
+    ensures faults { LinkCounts L.Link link.old link.new (result ≡ AskEnd.LinkFault) }
 {
     match link.send(Place::Peer(PeerId(0)), encode(request).as_slice()) {
         Sent::Sent => listen(link, ticker, question),

@@ -1,11 +1,11 @@
 //! A question as a command.
-ghost use Rattle.std.specs.Prelude.{◌≡◌, ◌≢◌, ◌⊎◌, ◌≤◌, ℕ, ℤ, List, Some};
-ghost use Rattle.tsp_io.specs.Counts.{Rose};
-ghost use Rattle.tsp_query.specs.Arrivals.{rest_of};
-ghost use Rattle.tsp_query.specs.Ends.{Outside, Tells, WaitsSeconds};
-ghost use Rattle.tsp_query.specs.Outside.{Knows, Says};
-ghost use Rattle.tsp_query.specs.Asks.{asking_of, QueryComes, AsksAs};
+ghost use Rattle.std.specs.Prelude.{◌≡◌, ◌≤◌, ℕ, ℤ, Some};
+ghost use Rattle.tsp_query.specs.Ends.{Outside, Tells};
+ghost use Rattle.tsp_query.specs.Outside.{observed, Says};
+ghost use Rattle.tsp_query.specs.Asks.{asking_of, QueryComes, AsksIfTold};
+ghost use Rattle.tsp_query.specs.Faults.{Counts, LinkCounts};
 ghost use Rattle.tsp_query.specs.Lines.{end_line};
+ghost use Rattle.tsp_query.specs.Told.{AsksOnce, HoldsOf};
 
 use crate::exit::QueryExit;
 use crate::line::line_of;
@@ -26,23 +26,12 @@ const ANYWHERE: Addr = Addr {
 /// Asks the question, over a link that is bound to the daemon.
 fn ask_bound<L: Link, T: Ticker>(query: &Query, link: &mut L, ticker: &mut T) -> QueryEnd
     ensures comes { (o : Outside) (wall : ℤ) (word : ℕ)
-        → Tells o (L.arrivals link.old) (L.tried link.old) (L.calls link.old)
-        (T.readings ticker.old) (T.last ticker.old) → T.wall_is ticker.old ≡ Some wall
+        → HoldsOf L.Link T.Ticker (Tells o) link.old ticker.old → T.wall_is ticker.old ≡ Some wall
         → T.word_is ticker.old ≡ Some word
-        → QueryComes query.now wall word o (L.arrivals link.new) (L.tried link.new)
-        (L.calls link.new) (T.readings ticker.new) (T.last ticker.new) (L.send_faults link.old)
-        (L.send_faults link.new) result }
-    ensures waits { WaitsSeconds (L.waits link.old) (L.waits link.new) }
-    ensures same { L.binds link.new ≡ L.binds link.old }
-    ensures walled { (readings : List ℕ) → T.readings ticker.old ≡ Some readings
-        → T.left_at_wall ticker.new ≡ Some (Some (rest_of readings)) }
-    ensures later { (L.faults link.old ≤ L.faults link.new)
-        × (L.send_faults link.old ≤ L.send_faults link.new)
-        × (T.last ticker.old ≤ T.last ticker.new) }
-    ensures cause { result ≡ QueryEnd.LinkFault → Rose (L.faults link.old) (L.faults link.new)
-        ⊎ Rose (L.send_faults link.old) (L.send_faults link.new) }
-    ensures still { result ≢ QueryEnd.LinkFault → (L.faults link.new ≡ L.faults link.old)
-        × (L.send_faults link.new ≡ L.send_faults link.old) }
+        → HoldsOf L.Link T.Ticker (QueryComes query.now wall word o) link.new ticker.new
+        (L.send_faults link.old) (L.send_faults link.new) result }
+    ensures once { AsksOnce L.Link T.Ticker link.old ticker.old link.new ticker.new }
+    ensures faults { LinkCounts L.Link link.old link.new (result ≡ QueryEnd.LinkFault) }
 {
     match query {
         Query::Msite => msite(link, ticker),
@@ -57,9 +46,8 @@ fn ask_bound<L: Link, T: Ticker>(query: &Query, link: &mut L, ticker: &mut T) ->
 fn tell<K: Sink>(query: &Query, end: &QueryEnd, sink: &mut K) -> QueryExit
     ensures says { Says (end_line query.now end.now) (asking_of end.now) QueryExit.WriteFault
         QueryExit.OutOfMemory (K.written sink.old) (K.written sink.new) result }
-    ensures later { K.faults sink.old ≤ K.faults sink.new }
-    ensures write { result ≡ QueryExit.WriteFault → Rose (K.faults sink.old) (K.faults sink.new) }
-    ensures still { result ≢ QueryExit.WriteFault → K.faults sink.new ≡ K.faults sink.old }
+    ensures write { Counts (K.faults sink.old) (K.faults sink.new)
+        (result ≡ QueryExit.WriteFault) }
     ensures link { result ≡ QueryExit.LinkFault → end.now ≡ QueryEnd.LinkFault }
     ensures linked { end.now ≡ QueryEnd.LinkFault → result ≡ QueryExit.LinkFault }
 {
@@ -86,58 +74,14 @@ pub fn ask<K: Sink, L: Link, T: Ticker>(
     link: &mut L,
     ticker: &mut T,
 ) -> QueryExit
-    ensures asks { (o : Outside) (wall : ℤ) (word : ℕ) (written : List ℕ)
-        → Knows o wall word written
-        (record {
-          arrivals = L.arrivals link.old;
-          tried = L.tried link.old;
-          calls = L.calls link.old;
-          readings = T.readings ticker.old;
-          last = T.last ticker.old;
-          wall = T.wall_is ticker.old;
-          word = T.word_is ticker.old;
-          written = K.written sink.old;
-          binds = L.binds link.old;
-          waits = L.waits link.old;
-          left_at_wall = T.left_at_wall ticker.old;
-        })
-        → AsksAs daemon query.now o wall word written
-        (record {
-          arrivals = L.arrivals link.old;
-          tried = L.tried link.old;
-          calls = L.calls link.old;
-          readings = T.readings ticker.old;
-          last = T.last ticker.old;
-          wall = T.wall_is ticker.old;
-          word = T.word_is ticker.old;
-          written = K.written sink.old;
-          binds = L.binds link.old;
-          waits = L.waits link.old;
-          left_at_wall = T.left_at_wall ticker.old;
-        })
-        (record {
-          arrivals = L.arrivals link.new;
-          tried = L.tried link.new;
-          calls = L.calls link.new;
-          readings = T.readings ticker.new;
-          last = T.last ticker.new;
-          wall = T.wall_is ticker.new;
-          word = T.word_is ticker.new;
-          written = K.written sink.new;
-          binds = L.binds link.new;
-          waits = L.waits link.new;
-          left_at_wall = T.left_at_wall ticker.new;
-        })
+    ensures asks { AsksIfTold daemon query.now
+        (observed K.Sink L.Link T.Ticker sink.old link.old ticker.old)
+        (observed K.Sink L.Link T.Ticker sink.new link.new ticker.new)
         (L.send_faults link.old) (L.send_faults link.new) result }
-    ensures later { (L.faults link.old ≤ L.faults link.new)
-        × (L.send_faults link.old ≤ L.send_faults link.new)
-        × (K.faults sink.old ≤ K.faults sink.new) × (T.last ticker.old ≤ T.last ticker.new) }
-    ensures link { result ≡ QueryExit.LinkFault → Rose (L.faults link.old) (L.faults link.new)
-        ⊎ Rose (L.send_faults link.old) (L.send_faults link.new) }
-    ensures write { result ≡ QueryExit.WriteFault → Rose (K.faults sink.old) (K.faults sink.new) }
-    ensures still { result ≢ QueryExit.WriteFault → K.faults sink.new ≡ K.faults sink.old }
-    ensures linked { result ≢ QueryExit.LinkFault → (L.faults link.new ≡ L.faults link.old)
-        × (L.send_faults link.new ≡ L.send_faults link.old) }
+    ensures faults { LinkCounts L.Link link.old link.new (result ≡ QueryExit.LinkFault) }
+    ensures write { Counts (K.faults sink.old) (K.faults sink.new)
+        (result ≡ QueryExit.WriteFault) }
+    ensures last { T.last ticker.old ≤ T.last ticker.new }
 {
     match link.bind(ANYWHERE, &[daemon]) {
         Bound::Bound => {

@@ -1,18 +1,20 @@
 //! The questions to a running daemon, each of them a function.
-ghost use Rattle.std.specs.Prelude.{◌≡◌, ◌≢◌, ◌⊎◌, ◌≤◌, ◌^◌, ◌%◌, ℕ, ℤ, List, Some, IfSome, codes};
+ghost use Rattle.std.specs.Prelude.{◌≡◌, ◌≤◌, ◌^◌, ◌%◌, ℕ, ℤ, List, Some, IfSome, codes};
 ghost use Rattle.std.specs.Prelude.{true, pos, negsuc, ◌<ℤ◌};
 ghost use Rattle.tsp_base.specs.Messages.{body_fits};
 ghost use Rattle.tsp_base.specs.declared.kind.Kind.{Kind};
 ghost use Rattle.tsp_base.specs.declared.message.Body.{Body};
 ghost use Rattle.tsp_io.specs.Clocks.{IsWall};
-ghost use Rattle.tsp_io.specs.Counts.{Rose};
 ghost use Rattle.tsp_query.specs.Arrivals.{rest_of};
 ghost use Rattle.tsp_query.specs.Clocks.{reading};
-ghost use Rattle.tsp_query.specs.Ends.{Outside, Tells, Asks, WaitsSeconds};
+ghost use Rattle.tsp_query.specs.Ends.{Outside, Tells, Asks};
+ghost use Rattle.tsp_query.specs.Faults.{LinkCounts};
 ghost use Rattle.tsp_query.specs.Queries.{read_twice, message, message_with, date_message};
 ghost use Rattle.tsp_query.specs.Queries.{question_of, stamp, QueryEnds, end_of, trace_kind};
+ghost use Rattle.tsp_query.specs.Queries.{EndsByWord, by_number, by_date};
 ghost use Rattle.tsp_query.specs.Queries.{name_in, master_in, heard_in, says_set, date_in};
 ghost use Rattle.tsp_query.specs.Queries.{reading_in, IsReplied, diff_in};
+ghost use Rattle.tsp_query.specs.Told.{AsksOnce, HoldsOf, ReadsWall};
 
 use crate::ask::{AskEnd, ask};
 use crate::question::Question;
@@ -71,8 +73,7 @@ fn begin<T: Ticker>(ticker: &mut T) -> Start
     ensures climbs { (T.last ticker.old ≤ result.first) × (result.first ≤ result.sent)
         × (result.sent ≤ 2 ^ 61) }
     ensures last { T.last ticker.new ≡ result.sent }
-    ensures walled { (readings : List ℕ) → T.readings ticker.old ≡ Some readings
-        → T.left_at_wall ticker.new ≡ Some (Some (rest_of readings)) }
+    ensures walled { ReadsWall T.Ticker ticker.old ticker.new }
 {
     let first = ticker.tick();
     let wall = ticker.wall();
@@ -119,23 +120,12 @@ fn ask_by_message<L: Link, T: Ticker>(
 ) -> AskEnd
     requires { body_fits kind body ≡ true }
     ensures asks { (o : Outside) (word : ℕ)
-        → Tells o (L.arrivals link.old) (L.tried link.old) (L.calls link.old)
-        (T.readings ticker.old) (T.last ticker.old) → T.word_is ticker.old ≡ Some word
-        → Asks (message_with kind body word) (question_of dates (word % 65536)) (read_twice o)
-        (L.arrivals link.new) (L.tried link.new) (L.calls link.new)
-        (T.readings ticker.new) (T.last ticker.new) (L.send_faults link.old) (L.send_faults link.new)
-        result }
-    ensures waits { WaitsSeconds (L.waits link.old) (L.waits link.new) }
-    ensures same { L.binds link.new ≡ L.binds link.old }
-    ensures walled { (readings : List ℕ) → T.readings ticker.old ≡ Some readings
-        → T.left_at_wall ticker.new ≡ Some (Some (rest_of readings)) }
-    ensures later { (L.faults link.old ≤ L.faults link.new)
-        × (L.send_faults link.old ≤ L.send_faults link.new)
-        × (T.last ticker.old ≤ T.last ticker.new) }
-    ensures cause { result ≡ AskEnd.LinkFault → Rose (L.faults link.old) (L.faults link.new)
-        ⊎ Rose (L.send_faults link.old) (L.send_faults link.new) }
-    ensures still { result ≢ AskEnd.LinkFault → (L.faults link.new ≡ L.faults link.old)
-        × (L.send_faults link.new ≡ L.send_faults link.old) }
+        → HoldsOf L.Link T.Ticker (Tells o) link.old ticker.old → T.word_is ticker.old ≡ Some word
+        → HoldsOf L.Link T.Ticker (Asks (message_with kind body word)
+        (question_of dates (word % 65536)) (read_twice o)) link.new ticker.new
+        (L.send_faults link.old) (L.send_faults link.new) result }
+    ensures once { AsksOnce L.Link T.Ticker link.old ticker.old link.new ticker.new }
+    ensures faults { LinkCounts L.Link link.old link.new (result ≡ AskEnd.LinkFault) }
 {
     let start = begin(ticker);
     let number = (start.word % 65536) as u16;
@@ -173,24 +163,10 @@ fn master_end(asked: AskEnd) -> QueryEnd
 /// Here and in the other questions the link must be bound with the daemon as peer 0. `LinkFault` comes only
 /// if one of the link's counts of faults rose in this call.
 pub fn msite<L: Link, T: Ticker>(link: &mut L, ticker: &mut T) -> QueryEnd
-    ensures asks { (o : Outside) (word : ℕ)
-        → Tells o (L.arrivals link.old) (L.tried link.old) (L.calls link.old)
-        (T.readings ticker.old) (T.last ticker.old) → T.word_is ticker.old ≡ Some word
-        → QueryEnds (message Kind.Msite word) (Question.OfNumber (word % 65536)) master_in o
-        (L.arrivals link.new) (L.tried link.new) (L.calls link.new)
-        (T.readings ticker.new) (T.last ticker.new) (L.send_faults link.old) (L.send_faults link.new)
-        result }
-    ensures waits { WaitsSeconds (L.waits link.old) (L.waits link.new) }
-    ensures same { L.binds link.new ≡ L.binds link.old }
-    ensures walled { (readings : List ℕ) → T.readings ticker.old ≡ Some readings
-        → T.left_at_wall ticker.new ≡ Some (Some (rest_of readings)) }
-    ensures later { (L.faults link.old ≤ L.faults link.new)
-        × (L.send_faults link.old ≤ L.send_faults link.new)
-        × (T.last ticker.old ≤ T.last ticker.new) }
-    ensures cause { result ≡ QueryEnd.LinkFault → Rose (L.faults link.old) (L.faults link.new)
-        ⊎ Rose (L.send_faults link.old) (L.send_faults link.new) }
-    ensures still { result ≢ QueryEnd.LinkFault → (L.faults link.new ≡ L.faults link.old)
-        × (L.send_faults link.new ≡ L.send_faults link.old) }
+    ensures asks { EndsByWord L.Link T.Ticker (message Kind.Msite) by_number master_in link.old
+        ticker.old link.new ticker.new result }
+    ensures once { AsksOnce L.Link T.Ticker link.old ticker.old link.new ticker.new }
+    ensures faults { LinkCounts L.Link link.old link.new (result ≡ QueryEnd.LinkFault) }
 {
     master_end(ask_by_message(link, ticker, Kind::Msite, Body::Nothing, false))
 }
@@ -198,24 +174,10 @@ pub fn msite<L: Link, T: Ticker>(link: &mut L, ticker: &mut T) -> QueryEnd
 /// Asks the daemon to stand for election (TEST). It does so if it may. The answer says only that it
 /// has heard.
 pub fn election<L: Link, T: Ticker>(link: &mut L, ticker: &mut T) -> QueryEnd
-    ensures asks { (o : Outside) (word : ℕ)
-        → Tells o (L.arrivals link.old) (L.tried link.old) (L.calls link.old)
-        (T.readings ticker.old) (T.last ticker.old) → T.word_is ticker.old ≡ Some word
-        → QueryEnds (message Kind.Test word) (Question.OfNumber (word % 65536)) heard_in o
-        (L.arrivals link.new) (L.tried link.new) (L.calls link.new)
-        (T.readings ticker.new) (T.last ticker.new) (L.send_faults link.old) (L.send_faults link.new)
-        result }
-    ensures waits { WaitsSeconds (L.waits link.old) (L.waits link.new) }
-    ensures same { L.binds link.new ≡ L.binds link.old }
-    ensures walled { (readings : List ℕ) → T.readings ticker.old ≡ Some readings
-        → T.left_at_wall ticker.new ≡ Some (Some (rest_of readings)) }
-    ensures later { (L.faults link.old ≤ L.faults link.new)
-        × (L.send_faults link.old ≤ L.send_faults link.new)
-        × (T.last ticker.old ≤ T.last ticker.new) }
-    ensures cause { result ≡ QueryEnd.LinkFault → Rose (L.faults link.old) (L.faults link.new)
-        ⊎ Rose (L.send_faults link.old) (L.send_faults link.new) }
-    ensures still { result ≢ QueryEnd.LinkFault → (L.faults link.new ≡ L.faults link.old)
-        × (L.send_faults link.new ≡ L.send_faults link.old) }
+    ensures asks { EndsByWord L.Link T.Ticker (message Kind.Test) by_number heard_in link.old
+        ticker.old link.new ticker.new result }
+    ensures once { AsksOnce L.Link T.Ticker link.old ticker.old link.new ticker.new }
+    ensures faults { LinkCounts L.Link link.old link.new (result ≡ QueryEnd.LinkFault) }
 {
     heard_end(ask_by_message(link, ticker, Kind::Test, Body::Nothing, false))
 }
@@ -229,24 +191,10 @@ fn trace_kind(on: bool) -> Kind
 
 /// Turns the daemon's trace on or off (TRACEON, TRACEOFF).
 pub fn trace<L: Link, T: Ticker>(on: bool, link: &mut L, ticker: &mut T) -> QueryEnd
-    ensures asks { (o : Outside) (word : ℕ)
-        → Tells o (L.arrivals link.old) (L.tried link.old) (L.calls link.old)
-        (T.readings ticker.old) (T.last ticker.old) → T.word_is ticker.old ≡ Some word
-        → QueryEnds (message (trace_kind on) word) (Question.OfNumber (word % 65536)) heard_in o
-        (L.arrivals link.new) (L.tried link.new) (L.calls link.new)
-        (T.readings ticker.new) (T.last ticker.new) (L.send_faults link.old) (L.send_faults link.new)
-        result }
-    ensures waits { WaitsSeconds (L.waits link.old) (L.waits link.new) }
-    ensures same { L.binds link.new ≡ L.binds link.old }
-    ensures walled { (readings : List ℕ) → T.readings ticker.old ≡ Some readings
-        → T.left_at_wall ticker.new ≡ Some (Some (rest_of readings)) }
-    ensures later { (L.faults link.old ≤ L.faults link.new)
-        × (L.send_faults link.old ≤ L.send_faults link.new)
-        × (T.last ticker.old ≤ T.last ticker.new) }
-    ensures cause { result ≡ QueryEnd.LinkFault → Rose (L.faults link.old) (L.faults link.new)
-        ⊎ Rose (L.send_faults link.old) (L.send_faults link.new) }
-    ensures still { result ≢ QueryEnd.LinkFault → (L.faults link.new ≡ L.faults link.old)
-        × (L.send_faults link.new ≡ L.send_faults link.old) }
+    ensures asks { EndsByWord L.Link T.Ticker (message (trace_kind on)) by_number heard_in link.old
+        ticker.old link.new ticker.new result }
+    ensures once { AsksOnce L.Link T.Ticker link.old ticker.old link.new ticker.new }
+    ensures faults { LinkCounts L.Link link.old link.new (result ≡ QueryEnd.LinkFault) }
 {
     let kind = trace_kind(on);
     heard_end(ask_by_message(link, ticker, kind, Body::Nothing, false))
@@ -270,24 +218,10 @@ fn date_end(asked: AskEnd) -> QueryEnd
 /// Sets the network's date, in microseconds since 1970 (SETDATE). A daemon that is master sets it;
 /// one that follows passes it on to its master.
 pub fn setdate<L: Link, T: Ticker>(time: Micros, link: &mut L, ticker: &mut T) -> QueryEnd
-    ensures asks { (o : Outside) (word : ℕ)
-        → Tells o (L.arrivals link.old) (L.tried link.old) (L.calls link.old)
-        (T.readings ticker.old) (T.last ticker.old) → T.word_is ticker.old ≡ Some word
-        → QueryEnds (date_message time word) (Question.OfDate (word % 65536)) date_in o
-        (L.arrivals link.new) (L.tried link.new) (L.calls link.new)
-        (T.readings ticker.new) (T.last ticker.new) (L.send_faults link.old) (L.send_faults link.new)
-        result }
-    ensures waits { WaitsSeconds (L.waits link.old) (L.waits link.new) }
-    ensures same { L.binds link.new ≡ L.binds link.old }
-    ensures walled { (readings : List ℕ) → T.readings ticker.old ≡ Some readings
-        → T.left_at_wall ticker.new ≡ Some (Some (rest_of readings)) }
-    ensures later { (L.faults link.old ≤ L.faults link.new)
-        × (L.send_faults link.old ≤ L.send_faults link.new)
-        × (T.last ticker.old ≤ T.last ticker.new) }
-    ensures cause { result ≡ QueryEnd.LinkFault → Rose (L.faults link.old) (L.faults link.new)
-        ⊎ Rose (L.send_faults link.old) (L.send_faults link.new) }
-    ensures still { result ≢ QueryEnd.LinkFault → (L.faults link.new ≡ L.faults link.old)
-        × (L.send_faults link.new ≡ L.send_faults link.old) }
+    ensures asks { EndsByWord L.Link T.Ticker (date_message time) by_date date_in link.old
+        ticker.old link.new ticker.new result }
+    ensures once { AsksOnce L.Link T.Ticker link.old ticker.old link.new ticker.new }
+    ensures faults { LinkCounts L.Link link.old link.new (result ≡ QueryEnd.LinkFault) }
 {
     date_end(ask_by_message(link, ticker, Kind::SetDate, Body::Time(time), true))
 }
@@ -327,24 +261,13 @@ fn sample(start: &Start, reply: &Datagram, came: u64) -> QueryEnd
 /// Asks how far the daemon's clock is ahead of this machine's, by a stamp request with counter 0.
 pub fn clockdiff<L: Link, T: Ticker>(link: &mut L, ticker: &mut T) -> QueryEnd
     ensures asks { (o : Outside) (word : ℕ) (wall : ℤ)
-        → Tells o (L.arrivals link.old) (L.tried link.old) (L.calls link.old)
-        (T.readings ticker.old) (T.last ticker.old) → T.word_is ticker.old ≡ Some word
+        → HoldsOf L.Link T.Ticker (Tells o) link.old ticker.old → T.word_is ticker.old ≡ Some word
         → T.wall_is ticker.old ≡ Some wall
-        → QueryEnds (stamp word) (Question.OfWord word) (diff_in wall (reading o.last o.readings 0)
-        (reading o.last o.readings 1)) o (L.arrivals link.new) (L.tried link.new) (L.calls link.new)
-        (T.readings ticker.new) (T.last ticker.new) (L.send_faults link.old) (L.send_faults link.new)
-        result }
-    ensures waits { WaitsSeconds (L.waits link.old) (L.waits link.new) }
-    ensures same { L.binds link.new ≡ L.binds link.old }
-    ensures walled { (readings : List ℕ) → T.readings ticker.old ≡ Some readings
-        → T.left_at_wall ticker.new ≡ Some (Some (rest_of readings)) }
-    ensures later { (L.faults link.old ≤ L.faults link.new)
-        × (L.send_faults link.old ≤ L.send_faults link.new)
-        × (T.last ticker.old ≤ T.last ticker.new) }
-    ensures cause { result ≡ QueryEnd.LinkFault → Rose (L.faults link.old) (L.faults link.new)
-        ⊎ Rose (L.send_faults link.old) (L.send_faults link.new) }
-    ensures still { result ≢ QueryEnd.LinkFault → (L.faults link.new ≡ L.faults link.old)
-        × (L.send_faults link.new ≡ L.send_faults link.old) }
+        → HoldsOf L.Link T.Ticker (QueryEnds (stamp word) (Question.OfWord word)
+        (diff_in wall (reading o.last o.readings 0) (reading o.last o.readings 1)) o) link.new
+        ticker.new (L.send_faults link.old) (L.send_faults link.new) result }
+    ensures once { AsksOnce L.Link T.Ticker link.old ticker.old link.new ticker.new }
+    ensures faults { LinkCounts L.Link link.old link.new (result ≡ QueryEnd.LinkFault) }
 {
     let start = begin(ticker);
     let request = Datagram::Stamp(Stamp::Request {

@@ -1,7 +1,7 @@
 //! Questions, and what answers them.
 ghost use Rattle.std.specs.Prelude.{◌≡◌};
 ghost use Rattle.tsp_codec.specs.Taken.{taken_of};
-ghost use Rattle.tsp_query.specs.Arrivals.{answers, answer_of};
+ghost use Rattle.tsp_query.specs.Arrivals.{is_ack, is_date_answer, answers, answer_of};
 
 use tsp_base::datagram::{Datagram, Taken};
 use tsp_base::kind::Kind;
@@ -19,20 +19,32 @@ pub enum Question {
     OfWord(u64),
 }
 
+/// Whether messages of this kind are ACKs.
+fn is_ack(kind: Kind) -> bool
+    ensures { result ≡ is_ack kind }
+{
+    matches!(kind, Kind::Ack)
+}
+
+/// Whether messages of this kind are ACKs or DATEACKs.
+fn is_date_answer(kind: Kind) -> bool
+    ensures { result ≡ is_date_answer kind }
+{
+    matches!(kind, Kind::Ack | Kind::DateAck)
+}
+
 /// Whether a datagram answers a question.
 fn answers(question: Question, datagram: &Datagram) -> bool
     ensures { result ≡ answers question datagram.now }
 {
     match question {
         Question::OfNumber(number) => match datagram {
-            Datagram::Message(message) => {
-                matches!(message.kind(), Kind::Ack) && message.number() == number
-            }
+            Datagram::Message(message) => is_ack(message.kind()) && message.number() == number,
             Datagram::Stamp(_) => false,
         },
         Question::OfDate(number) => match datagram {
             Datagram::Message(message) => {
-                matches!(message.kind(), Kind::Ack | Kind::DateAck) && message.number() == number
+                is_date_answer(message.kind()) && message.number() == number
             }
             Datagram::Stamp(_) => false,
         },

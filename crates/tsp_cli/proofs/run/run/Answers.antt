@@ -1,6 +1,8 @@
 use Rattle.std.proofs.Common.{inl, inr, refl}
+use Rattle.tsp_query.proofs.FaultLemmas.{Counts-same}
 use Rattle.tsp_args.specs.declared.command.Command.TheVariants.{Replay}
-use Rattle.tsp_cli.proofs.CommandLemmas.{command_same, does_as, untouched_as, command_read, command_none, link_fault, Untouched-same, Says-nothing, Replay_prints, Replay_so_far}
+use Rattle.tsp_cli.proofs.CommandLemmas.{command_same, does_as, untouched_as, command_read, command_none, words_link, said_counts, said_unlinked, said_unread, Untouched-same, Says-nothing, Replay_prints, Replay_so_far}
+use Rattle.tsp_cli.proofs.RunLemmas.{unused_link}
 use Rattle.tsp_cli.proofs.SoFarLemmas.{nothing-so-far}
 use Rattle.tsp_cli.proofs.run.run.Goals as goal
 
@@ -31,7 +33,28 @@ returns-in-Ok-Some-clause-untouched g c = λ command is words.
     untouched_as _ command _ _ _ _ _ _ same c.run_command.ensures.untouched
 
 pub returns-in-Ok-Some-clause-link : goal.returns-in-Ok-Some-clause-link
-returns-in-Ok-Some-clause-link g c = λ e. link_fault _ _ _ _ _ _ (command_read _ _ _ c.in-Ok-Some.field-0-is c.in-Ok-Some.ensures.reads) (c.run_command.ensures.link e)
+returns-in-Ok-Some-clause-link g c = words_link _ _ _ _ _ _ (command_read _ _ _ c.in-Ok-Some.field-0-is c.in-Ok-Some.ensures.reads) c.run_command.ensures.link
+
+pub returns-in-Ok-None-clause-link : goal.returns-in-Ok-None-clause-link
+returns-in-Ok-None-clause-link g c = unused_link _ _ _ _ (said_unlinked _ _ _ c.say.ensures.says)
+
+pub returns-in-Ok-None-clause-read : goal.returns-in-Ok-None-clause-read
+returns-in-Ok-None-clause-read g c = Counts-same _ _ _ refl (said_unread _ _ _ c.say.ensures.says)
+
+pub returns-in-Ok-None-clause-unended : goal.returns-in-Ok-None-clause-unended
+returns-in-Ok-None-clause-unended g c = λ e. absurd (said_unread _ _ _ c.say.ensures.says e)
+
+pub returns-in-Ok-None-clause-write : goal.returns-in-Ok-None-clause-write
+returns-in-Ok-None-clause-write g c = said_counts _ _ _ c.say.ensures.later c.say.ensures.write c.say.ensures.still
+
+pub returns-in-Err-clause-link : goal.returns-in-Err-clause-link
+returns-in-Err-clause-link g c = unused_link _ _ _ _ (λ e. cc)
+
+pub returns-in-Err-clause-read : goal.returns-in-Err-clause-read
+returns-in-Err-clause-read g c = Counts-same _ _ _ refl (λ e. cc)
+
+pub returns-in-Err-clause-write : goal.returns-in-Err-clause-write
+returns-in-Err-clause-write g c = Counts-same _ _ _ refl (λ e. cc)
 
 pub returns-in-Ok-None-clause-does : goal.returns-in-Ok-None-clause-does
 returns-in-Ok-None-clause-does g c = λ command is words. absurd (command_none _ _ c.in-Ok-None.field-0-is c.in-Ok-None.ensures.reads command is words)

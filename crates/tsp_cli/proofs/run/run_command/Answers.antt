@@ -1,7 +1,8 @@
-use Rattle.std.proofs.Common.{◌∙◌, sym, inl, inr, refl}
+use Rattle.std.proofs.Common.{◌∙◌, sym, refl}
+use Rattle.tsp_query.proofs.FaultLemmas.{Counts-same}
 use Rattle.tsp_cli.specs.Lines.{Replay, Show, Pack, Icmp}
 use Rattle.tsp_cli.proofs.AuditLemmas.{RunsAudit-treated}
-use Rattle.tsp_cli.proofs.RunLemmas.{Runs-treated, status_unlinked, status_used}
+use Rattle.tsp_cli.proofs.RunLemmas.{Runs-treated, status_unlinked, status_used, read_counts, read_open, write_counts, unused_link, daemon_link, question_link}
 use Rattle.tsp_cli.proofs.run.run_command.Goals as goal
 
 pub returns-in-Replay-clause-does : goal.returns-in-Replay-clause-does
@@ -12,7 +13,16 @@ pub returns-in-Replay-clause-untouched : goal.returns-in-Replay-clause-untouched
 returns-in-Replay-clause-untouched g c = rw c.in-Replay.is (refl, refl)
 
 pub returns-in-Replay-clause-link : goal.returns-in-Replay-clause-link
-returns-in-Replay-clause-link g c = λ e. absurd (status_unlinked c.replay.result (sym c.of.ensures ∙ e))
+returns-in-Replay-clause-link g c = unused_link _ _ _ _ (λ e. status_unlinked c.replay.result (sym c.of.ensures ∙ e))
+
+pub returns-in-Replay-clause-read : goal.returns-in-Replay-clause-read
+returns-in-Replay-clause-read g c = read_counts c.replay.result c.of.result _ _ _ c.of.ensures c.replay.ensures.later.0 c.replay.ensures.read c.replay.ensures.still.0
+
+pub returns-in-Replay-clause-unended : goal.returns-in-Replay-clause-unended
+returns-in-Replay-clause-unended g c = read_open c.replay.result c.of.result _ _ _ c.of.ensures c.replay.ensures.read
+
+pub returns-in-Replay-clause-write : goal.returns-in-Replay-clause-write
+returns-in-Replay-clause-write g c = write_counts c.replay.result c.of.result _ _ c.of.ensures c.replay.ensures.later.1 c.replay.ensures.write c.replay.ensures.still.1
 
 pub returns-in-Show-clause-does : goal.returns-in-Show-clause-does
 returns-in-Show-clause-does g c = rw c.in-Show.is
@@ -22,7 +32,16 @@ pub returns-in-Show-clause-untouched : goal.returns-in-Show-clause-untouched
 returns-in-Show-clause-untouched g c = rw c.in-Show.is (refl, refl)
 
 pub returns-in-Show-clause-link : goal.returns-in-Show-clause-link
-returns-in-Show-clause-link g c = λ e. absurd (status_unlinked c.show.result (sym c.of-in-Show.ensures ∙ e))
+returns-in-Show-clause-link g c = unused_link _ _ _ _ (λ e. status_unlinked c.show.result (sym c.of-in-Show.ensures ∙ e))
+
+pub returns-in-Show-clause-read : goal.returns-in-Show-clause-read
+returns-in-Show-clause-read g c = read_counts c.show.result c.of-in-Show.result _ _ _ c.of-in-Show.ensures c.show.ensures.later.0 c.show.ensures.read c.show.ensures.still.0
+
+pub returns-in-Show-clause-unended : goal.returns-in-Show-clause-unended
+returns-in-Show-clause-unended g c = read_open c.show.result c.of-in-Show.result _ _ _ c.of-in-Show.ensures c.show.ensures.read
+
+pub returns-in-Show-clause-write : goal.returns-in-Show-clause-write
+returns-in-Show-clause-write g c = write_counts c.show.result c.of-in-Show.result _ _ c.of-in-Show.ensures c.show.ensures.later.1 c.show.ensures.write c.show.ensures.still.1
 
 pub returns-in-Pack-clause-does : goal.returns-in-Pack-clause-does
 returns-in-Pack-clause-does g c = rw c.in-Pack.is
@@ -32,7 +51,16 @@ pub returns-in-Pack-clause-untouched : goal.returns-in-Pack-clause-untouched
 returns-in-Pack-clause-untouched g c = rw c.in-Pack.is (refl, refl)
 
 pub returns-in-Pack-clause-link : goal.returns-in-Pack-clause-link
-returns-in-Pack-clause-link g c = λ e. absurd (status_unlinked c.pack.result (sym c.of-in-Pack.ensures ∙ e))
+returns-in-Pack-clause-link g c = unused_link _ _ _ _ (λ e. status_unlinked c.pack.result (sym c.of-in-Pack.ensures ∙ e))
+
+pub returns-in-Pack-clause-read : goal.returns-in-Pack-clause-read
+returns-in-Pack-clause-read g c = read_counts c.pack.result c.of-in-Pack.result _ _ _ c.of-in-Pack.ensures c.pack.ensures.later.0 c.pack.ensures.read c.pack.ensures.still.0
+
+pub returns-in-Pack-clause-unended : goal.returns-in-Pack-clause-unended
+returns-in-Pack-clause-unended g c = read_open c.pack.result c.of-in-Pack.result _ _ _ c.of-in-Pack.ensures c.pack.ensures.read
+
+pub returns-in-Pack-clause-write : goal.returns-in-Pack-clause-write
+returns-in-Pack-clause-write g c = write_counts c.pack.result c.of-in-Pack.result _ _ c.of-in-Pack.ensures c.pack.ensures.later.1 c.pack.ensures.write c.pack.ensures.still.1
 
 pub returns-in-Icmp-clause-does : goal.returns-in-Icmp-clause-does
 returns-in-Icmp-clause-does g c = rw c.in-Icmp.is
@@ -42,7 +70,16 @@ pub returns-in-Icmp-clause-untouched : goal.returns-in-Icmp-clause-untouched
 returns-in-Icmp-clause-untouched g c = rw c.in-Icmp.is (refl, refl)
 
 pub returns-in-Icmp-clause-link : goal.returns-in-Icmp-clause-link
-returns-in-Icmp-clause-link g c = λ e. absurd (status_unlinked c.average.result (sym c.of-in-Icmp.ensures ∙ e))
+returns-in-Icmp-clause-link g c = unused_link _ _ _ _ (λ e. status_unlinked c.average.result (sym c.of-in-Icmp.ensures ∙ e))
+
+pub returns-in-Icmp-clause-read : goal.returns-in-Icmp-clause-read
+returns-in-Icmp-clause-read g c = read_counts c.average.result c.of-in-Icmp.result _ _ _ c.of-in-Icmp.ensures c.average.ensures.later.0 c.average.ensures.read c.average.ensures.still.0
+
+pub returns-in-Icmp-clause-unended : goal.returns-in-Icmp-clause-unended
+returns-in-Icmp-clause-unended g c = read_open c.average.result c.of-in-Icmp.result _ _ _ c.of-in-Icmp.ensures c.average.ensures.read
+
+pub returns-in-Icmp-clause-write : goal.returns-in-Icmp-clause-write
+returns-in-Icmp-clause-write g c = write_counts c.average.result c.of-in-Icmp.result _ _ c.of-in-Icmp.ensures c.average.ensures.later.1 c.average.ensures.write c.average.ensures.still.1
 
 pub run_daemon-requires : goal.run_daemon-requires
 run_daemon-requires g c = rw c.in-Serve.is at c.requires.command
@@ -60,14 +97,44 @@ pub returns-in-Ask-clause-untouched : goal.returns-in-Ask-clause-untouched
 returns-in-Ask-clause-untouched g c = rw c.in-Ask.is refl
 
 pub returns-in-Ask-clause-link : goal.returns-in-Ask-clause-link
-returns-in-Ask-clause-link g c = λ e. elim (c.run_query.ensures.link e) [ inl r ↦ inl r | inr r ↦ inr (rw c.in-Ask.is tt, r) ]
+returns-in-Ask-clause-link g c = question_link _ _ _ _ _ (rw c.in-Ask.is tt) c.run_query.ensures.faults
+
+pub returns-in-Ask-clause-read : goal.returns-in-Ask-clause-read
+returns-in-Ask-clause-read g c = Counts-same _ _ _ refl c.run_query.ensures.unread
+
+pub returns-in-Ask-clause-unended : goal.returns-in-Ask-clause-unended
+returns-in-Ask-clause-unended g c = λ e. absurd (c.run_query.ensures.unread e)
+
+pub returns-in-Serve-clause-link : goal.returns-in-Serve-clause-link
+returns-in-Serve-clause-link g c = daemon_link _ _ _ _ _ c.run_daemon.ensures.link c.run_daemon.ensures.later.0
+
+pub returns-in-Serve-clause-read : goal.returns-in-Serve-clause-read
+returns-in-Serve-clause-read g c = Counts-same _ _ _ refl c.run_daemon.ensures.unread
+
+pub returns-in-Serve-clause-unended : goal.returns-in-Serve-clause-unended
+returns-in-Serve-clause-unended g c = λ e. absurd (c.run_daemon.ensures.unread e)
+
+pub returns-in-Storm-clause-read : goal.returns-in-Storm-clause-read
+returns-in-Storm-clause-read g c = Counts-same _ _ _ refl c.run_storm.ensures.unread
+
+pub returns-in-Storm-clause-unended : goal.returns-in-Storm-clause-unended
+returns-in-Storm-clause-unended g c = λ e. absurd (c.run_storm.ensures.unread e)
 
 pub returns-in-Audit-clause-does : goal.returns-in-Audit-clause-does
 returns-in-Audit-clause-does g c = rw c.in-Audit.is
     (RunsAudit-treated _ _ _ _ _ _ _ _ _ c.check.result c.of-in-Audit.result c.of-in-Audit.ensures c.check.ensures.comes c.check.ensures.answers c.check.ensures.complete c.check.ensures.gathered (λ e. (c.check.ensures.read e).0) c.check.ensures.write c.check.ensures.ended)
 
 pub returns-in-Audit-clause-link : goal.returns-in-Audit-clause-link
-returns-in-Audit-clause-link g c = λ e. absurd (status_unlinked c.check.result (sym c.of-in-Audit.ensures ∙ e))
+returns-in-Audit-clause-link g c = unused_link _ _ _ _ (λ e. status_unlinked c.check.result (sym c.of-in-Audit.ensures ∙ e))
+
+pub returns-in-Audit-clause-read : goal.returns-in-Audit-clause-read
+returns-in-Audit-clause-read g c = read_counts c.check.result c.of-in-Audit.result _ _ _ c.of-in-Audit.ensures c.check.ensures.later.0 c.check.ensures.read c.check.ensures.still.0
+
+pub returns-in-Audit-clause-unended : goal.returns-in-Audit-clause-unended
+returns-in-Audit-clause-unended g c = read_open c.check.result c.of-in-Audit.result _ _ _ c.of-in-Audit.ensures c.check.ensures.read
+
+pub returns-in-Audit-clause-write : goal.returns-in-Audit-clause-write
+returns-in-Audit-clause-write g c = write_counts c.check.result c.of-in-Audit.result _ _ c.of-in-Audit.ensures c.check.ensures.later.1 c.check.ensures.write c.check.ensures.still.1
 
 pub returns-in-Audit-clause-untouched : goal.returns-in-Audit-clause-untouched
 returns-in-Audit-clause-untouched g c = rw c.in-Audit.is (refl, refl)
@@ -97,4 +164,4 @@ pub returns-in-Storm-clause-untouched : goal.returns-in-Storm-clause-untouched
 returns-in-Storm-clause-untouched g c = rw c.in-Storm.is (refl, refl, refl)
 
 pub returns-in-Storm-clause-link : goal.returns-in-Storm-clause-link
-returns-in-Storm-clause-link g c = λ e. absurd (c.run_storm.ensures.unlinked e)
+returns-in-Storm-clause-link g c = unused_link _ _ _ _ c.run_storm.ensures.unlinked

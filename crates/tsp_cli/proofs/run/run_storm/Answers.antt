@@ -8,10 +8,11 @@ pub returns-clause-runs : goal.returns-clause-runs
 returns-clause-runs g c = RunsStorm-ended _ _ _ _ _ c.storm.result c.of_storm.result c.of_storm.ensures c.storm.ensures.ends c.storm.ensures.answers c.storm.ensures.complete
 
 pub returns-clause-write : goal.returns-clause-write
-returns-clause-write g c = λ e. c.storm.ensures.write (storm_written c.storm.result (sym c.of_storm.ensures ∙ e))
-
-pub returns-clause-still : goal.returns-clause-still
-returns-clause-still g c = λ h. c.storm.ensures.still (λ e. h (c.of_storm.ensures ∙ ap (λ (s : StormEnd). status_of_storm s) e))
+returns-clause-write g c = record {
+  later = c.storm.ensures.later;
+  cause = λ e. c.storm.ensures.write (storm_written c.storm.result (sym c.of_storm.ensures ∙ e));
+  still = λ h. c.storm.ensures.still (λ e. h (c.of_storm.ensures ∙ ap (λ (s : StormEnd). status_of_storm s) e));
+}
 
 pub returns-clause-unread : goal.returns-clause-unread
 returns-clause-unread g c = λ e. storm_unread c.storm.result (sym c.of_storm.ensures ∙ e)

@@ -1,9 +1,10 @@
-use Rattle.std.proofs.Common.{◌≡◌, ◌∙◌, ap, inl, inr, refl, subst, ℤ, ℕ, false, rules, w64, to_z, of_z}
+use Rattle.std.proofs.Common.{◌≡◌, ◌∙◌, ap, sym, inl, inr, refl, subst, ℤ, ℕ, false, rules, w64, to_z, of_z}
 use Rattle.tsp_query.proofs.AskLemmas.{of_some}
+use Rattle.tsp_query.proofs.FaultLemmas.{Counts-from, Counts-same}
 use Rattle.tsp_query.proofs.OutsideLemmas.{Says_from}
 use Rattle.tsp_rules.specs.Guards.{is_clock_value}
 use Rattle.tsp_daemon.proofs.NodeLemmas.{turns_fit}
-use Rattle.tsp_daemon.proofs.ServeLemmas.{Tells_read, IsServed_serves, walled_is}
+use Rattle.tsp_daemon.proofs.ServeLemmas.{Tells_read, IsServed_serves, walled_is, served_linked, served_written, served_in_time}
 use Rattle.tsp_daemon.specs.declared.end.ServeEnd.{ServeEnd}
 use Rattle.tsp_daemon.specs.Nodes.{first_past}
 use Rattle.tsp_daemon.specs.Serving.{served_of}
@@ -27,11 +28,23 @@ returns-in-Ok-clause-serves g c = λ o wall word written k.
     let back : to_z w64 (of_z w64 c.wall-wall.result) ≡ c.wall-wall.result = search rules in
     inr (inr (IsServed_serves _ o wall _ word _ _ written c.in-Ok.node _ _ _ _ _ _ _ _ c.serve.result c.of.result read.1 (back ∙ wall_is) word_is c.in-Ok.ensures.wall c.in-Ok.ensures.stands read.0 k.written_is c.of.ensures c.requires.serve c.serve.ensures.serves))
 
-pub returns-in-Ok-clause-still : goal.returns-in-Ok-clause-still
-returns-in-Ok-clause-still g c = (
-  (λ h. c.serve.ensures.still.0 (λ e. h (c.of.ensures ∙ ap (λ (x : ServeEnd). served_of x) e))),
-  (λ h. c.serve.ensures.still.1 (λ e. h (c.of.ensures ∙ ap (λ (x : ServeEnd). served_of x) e))),
-)
+pub returns-in-Ok-clause-link : goal.returns-in-Ok-clause-link
+returns-in-Ok-clause-link g c = Counts-from _ _ _ _ _ refl (λ e. served_linked c.serve.result (sym c.of.ensures ∙ e)) (λ e. c.of.ensures ∙ ap (λ (x : ServeEnd). served_of x) e) c.serve.ensures.link
+
+pub returns-in-Ok-clause-write : goal.returns-in-Ok-clause-write
+returns-in-Ok-clause-write g c = Counts-from _ _ _ _ _ refl (λ e. served_written c.serve.result (sym c.of.ensures ∙ e)) (λ e. c.of.ensures ∙ ap (λ (x : ServeEnd). served_of x) e) c.serve.ensures.write
+
+pub returns-in-Ok-clause-wall : goal.returns-in-Ok-clause-wall
+returns-in-Ok-clause-wall g c = λ e. absurd (served_in_time c.serve.result (sym c.of.ensures ∙ e))
+
+pub returns-in-Err-BadWall-clause-link : goal.returns-in-Err-BadWall-clause-link
+returns-in-Err-BadWall-clause-link g c = Counts-same _ _ _ refl c.say_bad_wall.ensures.link
+
+pub returns-in-Err-OutOfMemory-clause-link : goal.returns-in-Err-OutOfMemory-clause-link
+returns-in-Err-OutOfMemory-clause-link g c = Counts-same _ _ _ refl (λ e. cc)
+
+pub returns-in-Err-OutOfMemory-clause-write : goal.returns-in-Err-OutOfMemory-clause-write
+returns-in-Err-OutOfMemory-clause-write g c = Counts-same _ _ _ refl (λ e. cc)
 
 pub returns-in-Err-BadWall-clause-serves : goal.returns-in-Err-BadWall-clause-serves
 returns-in-Err-BadWall-clause-serves g c = λ o wall word written k.
@@ -55,7 +68,7 @@ returns-in-Err-OutOfMemory-clause-serves g c = λ o wall word written k.
     inl (record { cause = refl; tells = read.0; written_is = k.written_is; unwaited = refl })
 
 pub returns-in-Ok-clause-walled : goal.returns-in-Ok-clause-walled
-returns-in-Ok-clause-walled g c = λ readings told. c.serve.ensures.same.1 ∙ walled_is _ _ _ _ _ _ readings told c.tick-tick.ensures.takes c.wall-wall.ensures.reads c.word-word.ensures.same.3
+returns-in-Ok-clause-walled g c = λ readings told. c.serve.ensures.keeps.walled ∙ walled_is _ _ _ _ _ _ readings told c.tick-tick.ensures.takes c.wall-wall.ensures.reads c.word-word.ensures.same.3
 
 pub returns-in-Err-BadWall-clause-walled : goal.returns-in-Err-BadWall-clause-walled
 returns-in-Err-BadWall-clause-walled g c = λ readings told. walled_is _ _ _ _ _ _ readings told c.tick-tick.ensures.takes c.wall-wall.ensures.reads c.word-word.ensures.same.3

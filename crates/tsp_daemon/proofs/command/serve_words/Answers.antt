@@ -3,6 +3,7 @@ use Rattle.tsp_args.specs.Ports.{all_peers}
 use Rattle.tsp_io.specs.declared.addr.Addr.{Addr}
 use Rattle.tsp_io.specs.Links.{Notes}
 use Rattle.tsp_query.specs.Outside.{bound}
+use Rattle.tsp_query.proofs.FaultLemmas.{Counts-from, Counts-same}
 use Rattle.tsp_query.proofs.OutsideLemmas.{NotesBind_failed, NotesBind_made, NotesBind_refused, Notes_same, Tells_bound}
 use Rattle.tsp_daemon.proofs.command.serve_words.Goals as goal
 
@@ -44,3 +45,12 @@ returns-clause-serves g c = λ o wall word written k. inl (
 
 pub returns-in_default-clause-serves : goal.returns-in_default-clause-serves
 returns-in_default-clause-serves g c = λ o wall word written k. inl (refl, refl, inl (record { cause = refl; tells = k.tells; written_is = k.written_is; unwaited = refl }))
+
+pub returns-in-Bound-clause-link : goal.returns-in-Bound-clause-link
+returns-in-Bound-clause-link g c = Counts-from _ _ _ _ _ (c.bind.ensures.still (λ e. cc)) (λ e. e) (λ e. e) c.serve_bound.ensures.link
+
+pub returns-in-Failed-clause-link : goal.returns-in-Failed-clause-link
+returns-in-Failed-clause-link g c = record { later = c.bind.ensures.later.0; cause = λ e. c.bind.ensures.cause c.in-Failed.is; still = λ h. absurd (h refl) }
+
+pub returns-clause-link : goal.returns-clause-link
+returns-clause-link g c = Counts-same _ _ _ (c.bind.ensures.still (λ e. cc)) (λ e. cc)

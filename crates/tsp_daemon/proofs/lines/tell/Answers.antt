@@ -22,7 +22,7 @@ loop-placed-preserved g c =
         told.2 ∙ ap (λ xs. told.0 ++ xs) here ∙ sym (append_assoc told.0 c.as_slice.result.now _),
       );
       few = omega (arith, c.loop-placed.invariant.few, c.posts_by-number.ensures.one);
-      still = c.in_default.ensures.still (λ e. cc) ∙ c.loop-placed.invariant.still;
+      still = c.in_default.ensures.write.still (λ e. cc) ∙ c.loop-placed.invariant.still;
     }
 
 pub returns-in-Err-clause-err : goal.returns-in-Err-clause-err

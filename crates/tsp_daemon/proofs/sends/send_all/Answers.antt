@@ -17,11 +17,11 @@ loop-placed-preserved g c =
         TriesAll-trans _ _ _ tried.0 (send_of item.act) tried.1 e.ok,
         tried.2 ∙ ap (λ ps. tried.0 ++ ps) here ∙ sym (append_assoc tried.0 (send_of item.act) _),
       );
-      arrivals = e.same.0 ∙ c.loop-placed.invariant.arrivals;
-      calls = e.same.1 ∙ c.loop-placed.invariant.calls;
-      stranger = e.same.2 ∙ c.loop-placed.invariant.stranger;
-      binds = e.same.3 ∙ c.loop-placed.invariant.binds;
-      waits = e.same.4 ∙ c.loop-placed.invariant.waits;
-      faults = e.later.0 ∙ c.loop-placed.invariant.faults;
-      send_faults = omega (arith, c.loop-placed.invariant.send_faults, e.later.1);
+      arrivals = e.only.arrivals ∙ c.loop-placed.invariant.arrivals;
+      calls = e.only.calls ∙ c.loop-placed.invariant.calls;
+      stranger = e.only.stranger ∙ c.loop-placed.invariant.stranger;
+      binds = e.only.binds ∙ c.loop-placed.invariant.binds;
+      waits = e.only.waits ∙ c.loop-placed.invariant.waits;
+      faults = e.only.faults ∙ c.loop-placed.invariant.faults;
+      send_faults = omega (arith, c.loop-placed.invariant.send_faults, e.only.sends);
     }

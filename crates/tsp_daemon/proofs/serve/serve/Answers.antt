@@ -1,6 +1,7 @@
 use Rattle.std.proofs.Common.{◌≡◌, ◌∙◌, ◌+◌, ◌*◌, ap, arith, refl, List}
 use Rattle.tsp_base.specs.declared.place.PeerId.{PeerId}
 use Rattle.tsp_gateway.specs.Rooms.{ports_in, room_of_ports}
+use Rattle.tsp_query.proofs.FaultLemmas.{Counts-from, Counts-same}
 use Rattle.tsp_daemon.specs.Sessions.{after_turns}
 use Rattle.tsp_daemon.proofs.SessionLemmas.{rises_more, serves_until, turns_more}
 use Rattle.tsp_daemon.proofs.WaitLemmas.{one_more_noted, until_noted}
@@ -20,19 +21,19 @@ loop-preserved g c =
     let more : (c.loop.counter + 1) * room ≡ c.loop.counter * room + room = grind arith in
     record {
       at = λ s at. turns_more c.loop.counter s _ _ _ _ _ _ _ _ (c.in_default.ensures.turns (after_turns c.loop.counter s) (c.loop.invariant.at s at));
-      rises = λ s at. rises_more c.loop.counter s _ _ _ _ _ _ _ _ _ _ _ _ _ _ _ _ (c.loop.invariant.rises s at) (c.loop.invariant.at s at) (c.in_default.ensures.turns (after_turns c.loop.counter s) (c.loop.invariant.at s at)) c.turn.ensures.later.3;
+      rises = λ s at. rises_more c.loop.counter s _ _ _ _ _ _ _ _ _ _ _ _ _ _ _ _ (c.loop.invariant.rises s at) (c.loop.invariant.at s at) (c.in_default.ensures.turns (after_turns c.loop.counter s) (c.loop.invariant.at s at)) c.turn.ensures.keeps.last;
       waits = λ s at. one_more_noted s c.loop.counter _ _ _ (c.loop.invariant.waits s at) (c.in_default.ensures.waits (after_turns c.loop.counter s) (c.loop.invariant.at s at));
-      binds = c.turn.ensures.same.0 ∙ c.loop.invariant.binds;
-      walled = c.turn.ensures.same.1 ∙ c.loop.invariant.walled;
+      binds = c.turn.ensures.keeps.binds ∙ c.loop.invariant.binds;
+      walled = c.turn.ensures.keeps.walled ∙ c.loop.invariant.walled;
       lives = c.in_default.ensures.lives;
       clock = c.in_default.ensures.clock;
       turns = c.in_default.ensures.counts.0 ∙ ap (λ n. n + 1) c.loop.invariant.turns;
       posts = (let posts = c.in_default.ensures.counts.1 in omega (arith, posts, c.loop.invariant.posts, same, more));
       ports = c.in_default.ensures.ports ∙ c.loop.invariant.ports;
-      faults = c.in_default.ensures.still.0 (λ e. cc) ∙ c.loop.invariant.faults;
-      send_faults = omega (arith, c.loop.invariant.send_faults, c.turn.ensures.later.1);
-      writes = c.in_default.ensures.still.1 (λ e. cc) ∙ c.loop.invariant.writes;
-      last = omega (arith, c.loop.invariant.last, c.turn.ensures.later.3);
+      faults = c.in_default.ensures.link.still (λ e. cc) ∙ c.loop.invariant.faults;
+      send_faults = omega (arith, c.loop.invariant.send_faults, c.turn.ensures.sends);
+      writes = c.in_default.ensures.write.still (λ e. cc) ∙ c.loop.invariant.writes;
+      last = omega (arith, c.loop.invariant.last, c.turn.ensures.keeps.last);
     }
 
 pub returns-clause-serves : goal.returns-clause-serves
@@ -40,3 +41,31 @@ returns-clause-serves g c s at =
     let all : c.loop.counter ≡ c.args.turns = search arith in
     let end = c.loop.invariant.at s at in
     (c.loop.counter, c.loop.counter, (all, end.tells, end.written_is), c.loop.invariant.rises s at, refl, c.loop.invariant.waits s at)
+
+pub returns-in-Err-clause-keeps : goal.returns-in-Err-clause-keeps
+returns-in-Err-clause-keeps g c = record {
+  binds = c.turn.ensures.keeps.binds ∙ c.loop.invariant.binds;
+  walled = c.turn.ensures.keeps.walled ∙ c.loop.invariant.walled;
+  last = omega (arith, c.loop.invariant.last, c.turn.ensures.keeps.last);
+}
+
+pub returns-in-Err-clause-link : goal.returns-in-Err-clause-link
+returns-in-Err-clause-link g c = Counts-from _ _ _ _ _ c.loop.invariant.faults (λ e. cc) (λ e. cc) c.in-Err.ensures.link
+
+pub returns-in-Err-clause-write : goal.returns-in-Err-clause-write
+returns-in-Err-clause-write g c = Counts-from _ _ _ _ _ c.loop.invariant.writes (λ e. cc) (λ e. cc) c.in-Err.ensures.write
+
+pub returns-in-Err-clause-sends : goal.returns-in-Err-clause-sends
+returns-in-Err-clause-sends g c = omega (arith, c.loop.invariant.send_faults, c.turn.ensures.sends)
+
+pub returns-clause-keeps : goal.returns-clause-keeps
+returns-clause-keeps g c = record { binds = c.loop.invariant.binds; walled = c.loop.invariant.walled; last = c.loop.invariant.last }
+
+pub returns-clause-link : goal.returns-clause-link
+returns-clause-link g c = Counts-same _ _ _ c.loop.invariant.faults (λ e. cc)
+
+pub returns-clause-write : goal.returns-clause-write
+returns-clause-write g c = Counts-same _ _ _ c.loop.invariant.writes (λ e. cc)
+
+pub returns-clause-sends : goal.returns-clause-sends
+returns-clause-sends g c = c.loop.invariant.send_faults

@@ -1,13 +1,15 @@
-use Rattle.std.proofs.Common.{rules, ◌≡◌, ◌+◌, List, [], ap, sym, subst, refl}
+use Rattle.std.proofs.Common.{rules, ◌≡◌, ◌∙◌, ◌+◌, List, [], ap, arith, inl, length, sym, subst, refl}
 use Rattle.tsp_base.specs.declared.act.Placed.{Placed}
+use Rattle.tsp_daemon.specs.declared.end.ServeEnd.TheVariants.{LinkFault}
 use Rattle.tsp_io.specs.declared.link.Recv.TheVariants.{Failed}
+use Rattle.tsp_query.proofs.FaultLemmas.{Counts-same}
 use Rattle.tsp_gateway.specs.GatewayStands.{GatewayStands, GatewayBegun}
 use Rattle.tsp_gateway.specs.PortOf.{setups_in}
 use Rattle.tsp_rules.specs.GateRows.{answers_all}
 use Rattle.tsp_rules.specs.NodePerforms.{PerformsAll}
 use Rattle.tsp_daemon.specs.Ends.{given_by}
 use Rattle.tsp_daemon.specs.Posts.{AreKnown}
-use Rattle.tsp_daemon.proofs.SessionLemmas.{waits_is, steps_is, turned_is, ends_is, lives_on, acts_known}
+use Rattle.tsp_daemon.proofs.SessionLemmas.{waits_is, steps_is, turned_is, ends_is, lives_on, acts_known, unheard_is, finish_unlinked}
 use Rattle.tsp_query.proofs.OutsideLemmas.{Notes_same}
 use Rattle.tsp_daemon.proofs.WaitLemmas.{first_reading, turn_noted, wait_noted}
 use Rattle.tsp_daemon.proofs.turn.turn.Goals as goal
@@ -22,7 +24,7 @@ returns-in-Err-clause-turns g c s at =
     let w = waits_is s.past.ports s.outside _ _ _ _ _ _ _ _ _ _ _ _ _ _ _ _ _ _ at.tells c.tick-first.ensures.takes c.tick-first.ensures.last c.recv-received.ensures.receives ok c.recv-received.ensures.same.0 c.recv-received.ensures.counted c.tick-tick.ensures.takes c.tick-tick.ensures.last in
     let row = subst (λ (ps : List Placed). PerformsAll GatewayBegun GatewayStands (answers_all (given_by (setups_in c.args.node.now) c.recv-received.result c.recv-received.new.buf)) c.tick-tick.result c.args.node.now c.step.new.node [] ps) (sym c.acts-acts.ensures) c.step.ensures.row in
     let steps = steps_is s _ _ c.args.course.now _ _ _ _ _ _ _ _ _ _ _ _ at.stands at.turns_is at.posts_is w row (c.tracing-before.ensures.past s.past at.stands) c.tracing.ensures.past c.is_shown-shown.ensures in
-    ends_is s _ c.args.course.now _ _ _ _ _ _ _ _ _ _ _ _ _ _ _ c.in-Err.end at.written_is w steps c.finish.ensures.same.0 c.finish.ensures.same.1 c.in-Err.ensures.err
+    ends_is s _ c.args.course.now _ _ _ _ _ _ _ _ _ _ _ _ _ _ _ c.in-Err.end at.written_is w steps c.finish.ensures.only.arrivals c.finish.ensures.only.calls c.in-Err.ensures.err
 
 pub returns-clause-turns : goal.returns-clause-turns
 returns-clause-turns g c s at =
@@ -31,14 +33,109 @@ returns-clause-turns g c s at =
     let row = subst (λ (ps : List Placed). PerformsAll GatewayBegun GatewayStands (answers_all (given_by (setups_in c.args.node.now) c.recv-received.result c.recv-received.new.buf)) c.tick-tick.result c.args.node.now c.step.new.node [] ps) (sym c.acts-acts.ensures) c.step.ensures.row in
     let steps = steps_is s _ _ c.args.course.now _ _ _ _ _ _ _ _ _ _ _ _ at.stands at.turns_is at.posts_is w row (c.tracing-before.ensures.past s.past at.stands) c.tracing.ensures.past c.is_shown-shown.ensures in
     let sent = c.in_default.ensures.ok in
-    turned_is s _ c.args.course.now _ _ _ _ _ _ _ _ _ _ _ _ _ _ _ _ _ at.turns_is at.posts_is at.written_is w steps c.finish.ensures.same.0 c.finish.ensures.same.1 sent.0 sent.1 refl
+    turned_is s _ c.args.course.now _ _ _ _ _ _ _ _ _ _ _ _ _ _ _ _ _ at.turns_is at.posts_is at.written_is w steps c.finish.ensures.only.arrivals c.finish.ensures.only.calls sent.0 sent.1 refl
     (ap (λ n. c.args.course.now.posts + n) c.posts_in.ensures.count)
 
 pub returns-clause-lives : goal.returns-clause-lives
 returns-clause-lives g c = lives_on _ _ _ _ _ c.requires.lives c.step.ensures.row
 
 pub returns-in-Err-clause-waits : goal.returns-in-Err-clause-waits
-returns-in-Err-clause-waits g c s at = turn_noted s _ _ c.in-Err.end (wait_noted s _ c.due.result c.tick-first.result c.wait_until.result _ _ at.stands c.due.ensures.past (first_reading s.outside _ _ _ _ _ _ _ at.tells c.tick-first.ensures.takes) c.wait_until.ensures (Notes_same _ _ _ _ c.finish.ensures.same.3 c.recv-received.ensures.waits))
+returns-in-Err-clause-waits g c s at = turn_noted s _ _ c.in-Err.end (wait_noted s _ c.due.result c.tick-first.result c.wait_until.result _ _ at.stands c.due.ensures.past (first_reading s.outside _ _ _ _ _ _ _ at.tells c.tick-first.ensures.takes) c.wait_until.ensures (Notes_same _ _ _ _ c.finish.ensures.only.waits c.recv-received.ensures.waits))
 
 pub returns-clause-waits : goal.returns-clause-waits
-returns-clause-waits g c s at = wait_noted s _ c.due.result c.tick-first.result c.wait_until.result _ _ at.stands c.due.ensures.past (first_reading s.outside _ _ _ _ _ _ _ at.tells c.tick-first.ensures.takes) c.wait_until.ensures (Notes_same _ _ _ _ c.finish.ensures.same.3 c.recv-received.ensures.waits)
+returns-clause-waits g c s at = wait_noted s _ c.due.result c.tick-first.result c.wait_until.result _ _ at.stands c.due.ensures.past (first_reading s.outside _ _ _ _ _ _ _ at.tells c.tick-first.ensures.takes) c.wait_until.ensures (Notes_same _ _ _ _ c.finish.ensures.only.waits c.recv-received.ensures.waits)
+
+-- out of memory before the turn did anything
+pub returns-then-is_err-clause-turns : goal.returns-then-is_err-clause-turns
+returns-then-is_err-clause-turns g c s at = inl (at.tells, at.written_is)
+
+pub returns-then-is_err-clause-waits : goal.returns-then-is_err-clause-waits
+returns-then-is_err-clause-waits g c s at = inl refl
+
+pub returns-then-is_err-clause-keeps : goal.returns-then-is_err-clause-keeps
+returns-then-is_err-clause-keeps g c = record { binds = refl; walled = refl; last = omega arith }
+
+pub returns-then-is_err-clause-link : goal.returns-then-is_err-clause-link
+returns-then-is_err-clause-link g c = Counts-same _ _ _ refl (λ e. cc)
+
+pub returns-then-is_err-clause-write : goal.returns-then-is_err-clause-write
+returns-then-is_err-clause-write g c = Counts-same _ _ _ refl (λ e. cc)
+
+pub returns-then-is_err-clause-sends : goal.returns-then-is_err-clause-sends
+returns-then-is_err-clause-sends g c = omega arith
+
+-- the receive failed
+pub returns-then-eq-clause-turns : goal.returns-then-eq-clause-turns
+returns-then-eq-clause-turns g c s at =
+    let failed : c.recv-received.result ≡ Failed = search rules in (
+      unheard_is s.outside _ _ _ _ _ _ _ _ _ _ _ _ _ _ _ at.tells c.tick-first.ensures.takes c.tick-first.ensures.last c.recv-received.ensures.receives failed c.recv-received.ensures.same.0 c.recv-received.ensures.counted,
+      at.written_is,
+    )
+
+pub returns-then-eq-clause-waits : goal.returns-then-eq-clause-waits
+returns-then-eq-clause-waits g c s at = wait_noted s _ c.due.result c.tick-first.result c.wait_until.result _ _ at.stands c.due.ensures.past (first_reading s.outside _ _ _ _ _ _ _ at.tells c.tick-first.ensures.takes) c.wait_until.ensures c.recv-received.ensures.waits
+
+pub returns-then-eq-clause-keeps : goal.returns-then-eq-clause-keeps
+returns-then-eq-clause-keeps g c = record {
+  binds = c.recv-received.ensures.same.1;
+  walled = c.tick-first.ensures.same.2;
+  last = omega (arith, c.tick-first.ensures.low, c.tick-first.ensures.last);
+}
+
+pub returns-then-eq-clause-link : goal.returns-then-eq-clause-link
+returns-then-eq-clause-link g c =
+    let failed : c.recv-received.result ≡ Failed = search rules in
+    record { later = c.recv-received.ensures.later.0; cause = λ e. c.recv-received.ensures.cause failed; still = λ h. absurd (h refl) }
+
+pub returns-then-eq-clause-write : goal.returns-then-eq-clause-write
+returns-then-eq-clause-write g c = Counts-same _ _ _ refl (λ e. cc)
+
+pub returns-then-eq-clause-sends : goal.returns-then-eq-clause-sends
+returns-then-eq-clause-sends g c = omega (arith, c.recv-received.ensures.later.1)
+
+-- a send or a line ended it
+pub returns-in-Err-clause-keeps : goal.returns-in-Err-clause-keeps
+returns-in-Err-clause-keeps g c = record {
+  binds = c.finish.ensures.only.binds ∙ c.recv-received.ensures.same.1;
+  walled = c.tick-tick.ensures.same.2 ∙ c.tick-first.ensures.same.2;
+  last = omega (arith, c.tick-first.ensures.low, c.tick-first.ensures.last, c.tick-tick.ensures.low, c.tick-tick.ensures.last);
+}
+
+pub returns-in-Err-clause-link : goal.returns-in-Err-clause-link
+returns-in-Err-clause-link g c =
+    let ok : c.recv-received.result ≡ Failed → ⊥ = search rules in
+    Counts-same _ _ _ (c.finish.ensures.only.faults ∙ c.recv-received.ensures.still ok) (λ e. let is : c.in-Err.end ≡ LinkFault = cc in finish_unlinked _ _ _ _ _ _ c.in-Err.end c.in-Err.ensures.err is)
+
+pub returns-in-Err-clause-write : goal.returns-in-Err-clause-write
+returns-in-Err-clause-write g c = c.in-Err.ensures.write
+
+pub returns-in-Err-clause-sends : goal.returns-in-Err-clause-sends
+returns-in-Err-clause-sends g c = omega (arith, c.recv-received.ensures.later.1, c.finish.ensures.only.sends)
+
+-- the turn was taken
+pub returns-clause-keeps : goal.returns-clause-keeps
+returns-clause-keeps g c = record {
+  binds = c.finish.ensures.only.binds ∙ c.recv-received.ensures.same.1;
+  walled = c.tick-tick.ensures.same.2 ∙ c.tick-first.ensures.same.2;
+  last = omega (arith, c.tick-first.ensures.low, c.tick-first.ensures.last, c.tick-tick.ensures.low, c.tick-tick.ensures.last);
+}
+
+pub returns-clause-clock : goal.returns-clause-clock
+returns-clause-clock g c = omega (arith, c.step.ensures.clock, c.tick-tick.ensures.last)
+
+pub returns-clause-counts : goal.returns-clause-counts
+returns-clause-counts g c = (refl, omega (arith, c.posts_in.ensures.few, c.step.ensures.few, ap (λ (ps : List Placed). length ps) c.acts-acts.ensures))
+
+pub returns-clause-ports : goal.returns-clause-ports
+returns-clause-ports g c = c.step.ensures.ports
+
+pub returns-clause-link : goal.returns-clause-link
+returns-clause-link g c =
+    let ok : c.recv-received.result ≡ Failed → ⊥ = search rules in
+    Counts-same _ _ _ (c.finish.ensures.only.faults ∙ c.recv-received.ensures.still ok) (λ e. cc)
+
+pub returns-clause-write : goal.returns-clause-write
+returns-clause-write g c = c.in_default.ensures.write
+
+pub returns-clause-sends : goal.returns-clause-sends
+returns-clause-sends g c = omega (arith, c.recv-received.ensures.later.1, c.finish.ensures.only.sends)

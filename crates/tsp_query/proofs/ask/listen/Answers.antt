@@ -39,12 +39,12 @@ loop-preserved g c = (
       let before = c.loop.invariant.0 o t in
       let here = c.in-Other.ensures.hears (heard_times i o) before.0 in
       rw (after-next i o) (here.0, before.1 ∙ asked-step c.args.question i (heard_times i o).arrivals c.loop-test.true here.1)),
-  c.in-Other.ensures.still (λ e. cc) ∙ c.loop.invariant.1,
-  c.in-Other.ensures.later.1 ∙ c.loop.invariant.2,
+  c.in-Other.ensures.faults.still (λ e. cc) ∙ c.loop.invariant.1,
+  c.in-Other.ensures.sends ∙ c.loop.invariant.2,
   omega arith,
   one-wait _ _ _ c.loop.invariant.4 c.in-Other.ensures.waits,
-  c.in-Other.ensures.same.0 ∙ c.loop.invariant.5,
-  c.in-Other.ensures.same.1 ∙ c.loop.invariant.6,
+  c.in-Other.ensures.keeps.binds ∙ c.loop.invariant.5,
+  c.in-Other.ensures.keeps.walled ∙ c.loop.invariant.6,
 )
 
 pub returns-clause-listens : goal.returns-clause-listens

@@ -1,5 +1,6 @@
-use Rattle.std.proofs.Common.{◌∙◌, inl, inr, refl}
+use Rattle.std.proofs.Common.{inl, inr, refl}
 use Rattle.tsp_query.specs.Outside.{bound}
+use Rattle.tsp_query.proofs.FaultLemmas.{LinkCounts-from}
 use Rattle.tsp_query.proofs.OutsideLemmas.{NotesBind_failed, NotesBind_made, NotesBind_refused, Notes_same, Tells_bound, Says_from}
 use Rattle.tsp_query.proofs.command.ask.Goals as goal
 
@@ -10,9 +11,9 @@ returns-in-Bound-clause-asks g c = λ o wall word written k.
       end = c.ask_bound-end.result;
       comes = rw (← c.bind.ensures.later.1) (c.ask_bound-end.ensures.comes (bound o) wall word tells k.wall_is k.word_is);
       says = Says_from _ _ _ _ _ _ _ written k.written_is c.tell.ensures.says;
-      bound_to = Notes_same _ _ _ _ c.ask_bound-end.ensures.same (NotesBind_made _ _ _ _ c.in-Bound.is c.bind.ensures.binds);
-      waits = rw (← c.bind.ensures.same.2) c.ask_bound-end.ensures.waits;
-      walled = c.ask_bound-end.ensures.walled o.readings k.tells.readings_are;
+      bound_to = Notes_same _ _ _ _ c.ask_bound-end.ensures.once.binds (NotesBind_made _ _ _ _ c.in-Bound.is c.bind.ensures.binds);
+      waits = rw (← c.bind.ensures.same.2) c.ask_bound-end.ensures.once.waits;
+      walled = c.ask_bound-end.ensures.once.walled o.readings k.tells.readings_are;
     })
 
 pub returns-in-Failed-clause-asks : goal.returns-in-Failed-clause-asks
@@ -35,8 +36,5 @@ returns-in-OutOfMemory-clause-asks g c = λ o wall word written k. inl (record {
   unread = refl;
 })
 
-pub returns-in-Bound-clause-linked : goal.returns-in-Bound-clause-linked
-returns-in-Bound-clause-linked g c = λ h.
-    let bound = c.bind.ensures.still (λ e. cc) in
-    let asked = c.ask_bound-end.ensures.still (λ e. h (c.tell.ensures.linked e)) in
-    (asked.0 ∙ bound, asked.1 ∙ c.bind.ensures.later.1)
+pub returns-in-Bound-clause-faults : goal.returns-in-Bound-clause-faults
+returns-in-Bound-clause-faults g c = LinkCounts-from _ _ _ _ _ _ (c.bind.ensures.still (λ e. cc)) c.bind.ensures.later.1 c.tell.ensures.link c.tell.ensures.linked c.ask_bound-end.ensures.faults

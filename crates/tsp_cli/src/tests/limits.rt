@@ -1,13 +1,7 @@
 //! Runs of the program over memory at the limits, whose answers were worked out by hand.
 use crate::status::Status;
-use crate::tests::replayed;
+use crate::tests::replay_ends;
 use std::alloc::{AllocError, Global};
-
-/// Whether a replay of this input ends with this status, and what it writes with these words.
-fn ends(alloc: Global, input: &[u8], status: Status, last: &str) -> Result<bool, AllocError> {
-    let (got, sink) = replayed(alloc, input)?;
-    Ok(got == status && sink.written().ends_with(last.as_bytes()))
-}
 
 /// A header with so many nodes.
 fn header(alloc: Global, nodes: u32) -> Result<String, AllocError> {
@@ -21,11 +15,16 @@ fn header(alloc: Global, nodes: u32) -> Result<String, AllocError> {
 /// A header has at most 64 nodes.
 #[test]
 fn a_65th_node_is_refused(rt: HostRuntime) -> Result<(), AllocError> {
-    let alloc = rt.alloc();
-    let mut most = header(alloc, 64)?;
+    let more = header(rt.alloc(), 65)?;
+    assert!(rt; replay_ends(rt.alloc(), more.as_bytes(), Status::Bad, "bad 67 header\n")?);
+    Ok(())
+}
+
+/// And it may have 64.
+#[test]
+fn sixty_four_nodes_are_taken(rt: HostRuntime) -> Result<(), AllocError> {
+    let mut most = header(rt.alloc(), 64)?;
     most.push_str("end\n")?;
-    assert!(rt; ends(alloc, most.as_bytes(), Status::Ok, "")?);
-    let more = header(alloc, 65)?;
-    assert!(rt; ends(alloc, more.as_bytes(), Status::Bad, "bad 67 header\n")?);
+    assert!(rt; replay_ends(rt.alloc(), most.as_bytes(), Status::Ok, "")?);
     Ok(())
 }

@@ -1,7 +1,10 @@
 //! A replay in which each read and each write fails once.
+ghost use Rattle.std.specs.Prelude.{◌≡◌, false};
+
 use std::alloc::{AllocError, Global};
 use std::process::Abort;
 use tsp_io::memory::{MemorySink, MemorySource};
+use tsp_io::source::Source;
 use tsp_lines::treat::Outcome;
 use tsp_replay::run::replay;
 
@@ -33,9 +36,23 @@ const TRACE: &str = "\
 3 0 0 20 post 0 - reply 5 1 2 1020
 ";
 
-/// Whether a replay in reads of at most 40 octets, where these reads and writes fail, has this outcome and
-/// text.
-fn comes(
+/// Whether a replay of this source, where these writes fail, has this outcome and text.
+fn comes<S: Source>(
+    alloc: Global,
+    source: &mut S,
+    writes: &[u32],
+    outcome: Outcome,
+    written: &str,
+) -> Result<bool, AllocError>
+    requires { S.ended source.old ≡ false }
+{
+    let mut sink = MemorySink::new(alloc, writes)?;
+    let came = replay(alloc, source, &mut sink);
+    Ok(came == outcome && sink.written() == written.as_bytes())
+}
+
+/// The same of the schedule, in reads of at most 40 octets, where these reads fail.
+fn replays(
     alloc: Global,
     reads: &[u32],
     writes: &[u32],
@@ -43,9 +60,7 @@ fn comes(
     written: &str,
 ) -> Result<bool, AllocError> {
     let mut source = MemorySource::new(alloc, SCHEDULE.as_bytes(), reads)?.in_pieces(40);
-    let mut sink = MemorySink::new(alloc, writes)?;
-    let came = replay(alloc, &mut source, &mut sink);
-    Ok(came == outcome && sink.written() == written.as_bytes())
+    comes(alloc, &mut source, writes, outcome, written)
 }
 
 /// The reads give 40, 40, 40 and 23 octets, and then the end. The output of the lines that were read is
@@ -60,7 +75,7 @@ fn each_read_fails(rt: HostRuntime) {
         (4, Outcome::ReadFault, TRACE),
         (5, Outcome::Ok, TRACE),
     ] {
-        let right = comes(rt.alloc(), &[failing], &[], outcome, written);
+        let right = replays(rt.alloc(), &[failing], &[], outcome, written);
         assert!(rt; right == Ok(true), "read {failing}");
     }
 }
@@ -73,7 +88,7 @@ fn each_write_fails(rt: HostRuntime) {
         (1, Outcome::WriteFault, BOOTED),
         (2, Outcome::Ok, TRACE),
     ] {
-        let right = comes(rt.alloc(), &[], &[failing], outcome, written);
+        let right = replays(rt.alloc(), &[], &[failing], outcome, written);
         assert!(rt; right == Ok(true), "write {failing}");
     }
 }

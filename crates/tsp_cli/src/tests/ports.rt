@@ -1,12 +1,11 @@
 //! Runs of a daemon on two networks over a link and a ticker in memory, whose traces and datagrams
 //! were worked out by hand.
-use crate::run::run;
 use crate::status::Status;
-use crate::tests::words_of;
+use crate::tests::run_unread;
 use std::alloc::{AllocError, Global};
 use std::process::Abort;
 use tsp_base::place::{PeerId, Place};
-use tsp_io::memory::{MemorySink, MemorySource};
+use tsp_io::memory::MemorySink;
 use tsp_io::memory_link::MemoryLink;
 use tsp_io::memory_ticker::MemoryTicker;
 
@@ -89,16 +88,15 @@ const SENT: &[(Place, &[u8])] = &[
     (A, &[2, 1, 0, 7, 0, 0, 0, 0, 0, 0, 0, 0, b'g', 0]),
 ];
 
-/// A link over which this comes, one turn after the other.
-fn link_of(alloc: Global, comes: &[Option<(Place, &[u8])>]) -> Result<MemoryLink, AllocError> {
-    let mut link = MemoryLink::new(alloc, &[])?;
+/// Lets this come over the link, one turn after the other.
+fn arrive(link: &mut MemoryLink, comes: &[Option<(Place, &[u8])>]) -> Result<(), AllocError> {
     for one in comes {
         match one {
             Some((from, octets)) => link.arrive(*from, octets)?,
             None => link.nothing()?,
         }
     }
-    Ok(link)
+    Ok(())
 }
 
 /// Whether octets are those of a message whose spelling begins so: zeros follow, up to 76.
@@ -121,29 +119,48 @@ fn has_sent(link: &MemoryLink, sent: &[(Place, &[u8])]) -> bool {
     link.tried() == sent.len()
 }
 
-/// Whether a daemon of these words ends with this status, has shown and sent this, and has used up its ticks.
-fn is_right(
+/// Whether a daemon of two networks over these ends well, and shows what it is to show.
+fn tells(
     alloc: Global,
-    words: &[&str],
-    status: Status,
-    shown: &str,
-    sent: &[(Place, &[u8])],
-    left: usize,
+    sink: &mut MemorySink,
+    link: &mut MemoryLink,
+    ticker: &mut MemoryTicker,
 ) -> Result<bool, AllocError> {
-    let words = words_of(alloc, words)?;
-    let mut source = MemorySource::new(alloc, b"", &[0])?;
+    let status = run_unread(alloc, WORDS, sink, link, ticker)?;
+    Ok(status == Status::Ok && sink.written() == SHOWN.as_bytes())
+}
+
+/// The same, with a sink of its own; it also uses up the ticks.
+fn is_shown(
+    alloc: Global,
+    link: &mut MemoryLink,
+    ticker: &mut MemoryTicker,
+) -> Result<bool, AllocError> {
     let mut sink = MemorySink::new(alloc, &[])?;
-    let mut link = link_of(alloc, COMES)?;
+    Ok(tells(alloc, &mut sink, link, ticker)? && ticker.left() == 0)
+}
+
+/// The same, with a ticker of its own.
+fn is_served(alloc: Global, link: &mut MemoryLink) -> Result<bool, AllocError> {
     let mut ticker = MemoryTicker::new(alloc, TICKS, 1000, 7)?;
-    let words = words.as_slice();
-    let came = run(alloc, words, &mut source, &mut sink, &mut link, &mut ticker);
-    let text = sink.written() == shown.as_bytes();
-    Ok(came == status && text && has_sent(&link, sent) && ticker.left() == left)
+    is_shown(alloc, link, &mut ticker)
+}
+
+/// Whether it is served and sends over this link what it is to.
+fn goes(alloc: Global, link: &mut MemoryLink) -> Result<bool, AllocError> {
+    arrive(link, COMES)?;
+    Ok(is_served(alloc, link)? && has_sent(link, SENT))
+}
+
+/// The same, with a link of its own.
+fn is_right(alloc: Global) -> Result<bool, AllocError> {
+    let mut link = MemoryLink::new(alloc, &[])?;
+    goes(alloc, &mut link)
 }
 
 /// Each peer's datagrams come on the network that has it, and each port's acts are shown with its
 /// number: the lowest port that follows steers the clock.
 #[test]
 fn two_networks_are_served(rt: HostRuntime) {
-    assert!(rt; is_right(rt.alloc(), WORDS, Status::Ok, SHOWN, SENT, 0) == Ok(true));
+    assert!(rt; is_right(rt.alloc()) == Ok(true));
 }

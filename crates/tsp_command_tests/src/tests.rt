@@ -1,0 +1,8 @@
+//! The tests, by what they try.
+mod failing_daemons;
+mod failing_replays;
+mod handlers;
+mod icmp;
+mod queries;
+mod questions;
+mod records;

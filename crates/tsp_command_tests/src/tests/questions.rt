@@ -1,0 +1,203 @@
+//! Questions over links in memory: what is sent, and what is written for the answer.
+
+use std::alloc::{AllocError, Global};
+use std::process::Abort;
+use tsp_args::query::Query;
+use tsp_base::micros::Micros;
+use tsp_base::place::{PeerId, Place};
+use tsp_io::addr::Addr;
+use tsp_io::memory::MemorySink;
+use tsp_io::memory_link::MemoryLink;
+use tsp_io::memory_ticker::MemoryTicker;
+use tsp_query::command::ask;
+use tsp_query::exit::QueryExit;
+
+/// The daemon that is asked.
+const DAEMON: Place = Place::Peer(PeerId(0));
+
+/// An ACK with number 2 and the name `a`.
+const ACK: &[u8] = &[2, 1, 0, 2, 0, 0, 0, 0, 0, 0, 0, 0, b'a', 0];
+
+/// An ACK with number 3 and the name `a`.
+const NAMED: &[u8] = &[2, 1, 0, 3, 0, 0, 0, 0, 0, 0, 0, 0, b'a', 0];
+
+/// An ACK with number 3 and the empty name.
+const NAMELESS: &[u8] = &[2, 1, 0, 3, 0, 0, 0, 0, 0, 0, 0, 0, 0];
+
+/// An ACK with number 5 and the name `b`.
+const FORWARDED: &[u8] = &[2, 1, 0, 5, 0, 0, 0, 0, 0, 0, 0, 0, b'b', 0];
+
+/// A DATEACK with number 5 and the name `b`.
+const DATED: &[u8] = &[16, 1, 0, 5, 0, 0, 0, 0, 0, 0, 0, 0, b'b', 0];
+
+/// The reply with ticket 5, word 9, counter 0 and reading 1,000,500.
+const REPLY: &[u8] = &[
+    0x81, 1, 0, 5, 0, 0, 0, 0, 0, 0, 0, 9, 0, 0, 0, 0, 0, 0, 0, 0, 0, 0, 0, 0, 0, 0x0f, 0x44, 0x34,
+];
+
+/// A question by the type of its datagram, with the ticker's word, the calls of the link and the
+/// writes that fail, and the datagram that comes. A run of it gives its end, how many sends were
+/// tried, and the text that was written.
+#[derive(Clone, Copy)]
+struct Row {
+    kind: u8,
+    word: u64,
+    calls: &'static [u32],
+    writes: &'static [u32],
+    from: Place,
+    comes: &'static [u8],
+    end: QueryExit,
+    tried: usize,
+    text: &'static str,
+}
+
+/// A question for the master that an ACK answers from the daemon, where no call fails.
+const ASKED: Row = Row {
+    kind: 19,
+    word: 2,
+    calls: &[],
+    writes: &[],
+    from: DAEMON,
+    comes: ACK,
+    end: QueryExit::LinkFault,
+    tried: 1,
+    text: "",
+};
+
+/// Each question has its line, and the empty name means that there is no master.
+const ANSWERED: &[(u8, u64, &[u8], QueryExit, &str)] = &[
+    (19, 3, NAMED, QueryExit::Answered, "master a\n"),
+    (19, 3, NAMELESS, QueryExit::Answered, "no master\n"),
+    (19, 3, &[], QueryExit::NoAnswer, "no answer\n"),
+    (128, 9, REPLY, QueryExit::Answered, "clockdiff 100 401\n"),
+    (17, 2, ACK, QueryExit::Answered, "trace on\n"),
+    (18, 2, ACK, QueryExit::Answered, "trace off\n"),
+    (21, 2, ACK, QueryExit::Answered, "election heard\n"),
+    (22, 5, FORWARDED, QueryExit::Answered, "date forwarded\n"),
+    (22, 5, DATED, QueryExit::Answered, "date set\n"),
+];
+
+/// The question that sends a datagram of this type; a date is 100 seconds.
+pub fn query_of(kind: u8) -> Query {
+    match kind {
+        17 => Query::Trace(true),
+        18 => Query::Trace(false),
+        19 => Query::Msite,
+        21 => Query::Election,
+        22 => match Micros::of(100_000_000) {
+            Some(time) => Query::Date(time),
+            None => Query::Election,
+        },
+        _ => Query::ClockDiff,
+    }
+}
+
+/// Whether so many sends were tried, each of a datagram of this type to the daemon.
+fn is_sent(link: &MemoryLink, tried: usize, kind: u8) -> bool {
+    if link.tried() != tried {
+        return false;
+    }
+    if tried == 0 {
+        return true;
+    }
+    link.tried_to(0) == DAEMON && link.tried_octets(0).first() == Some(&kind)
+}
+
+/// How a question over this link ends.
+fn end_of(
+    alloc: Global,
+    row: &Row,
+    link: &mut MemoryLink,
+    sink: &mut MemorySink,
+) -> Result<QueryExit, AllocError> {
+    let mut ticker = MemoryTicker::new(alloc, &[0, 1_000_000, 1_000_801], 0, row.word)?;
+    let daemon = Addr {
+        ip: [127, 0, 0, 1],
+        port: 525,
+    };
+    Ok(ask(daemon, &query_of(row.kind), sink, link, &mut ticker))
+}
+
+/// Whether a question over this link ends as its row says, with the row's text written to this sink.
+fn tells(
+    alloc: Global,
+    row: &Row,
+    link: &mut MemoryLink,
+    sink: &mut MemorySink,
+) -> Result<bool, AllocError> {
+    let end = end_of(alloc, row, link, sink)?;
+    Ok(end == row.end && sink.written() == row.text.as_bytes())
+}
+
+/// The same with a sink whose writes fail as the row says.
+fn is_told(alloc: Global, row: &Row, link: &mut MemoryLink) -> Result<bool, AllocError> {
+    let mut sink = MemorySink::new(alloc, row.writes)?;
+    tells(alloc, row, link, &mut sink)
+}
+
+/// Whether a question over this link ends as its row says.
+fn asks(alloc: Global, row: &Row, link: &mut MemoryLink) -> Result<bool, AllocError> {
+    if !row.comes.is_empty() {
+        link.arrive(row.from, row.comes)?;
+    }
+    Ok(is_told(alloc, row, link)? && is_sent(link, row.tried, row.kind))
+}
+
+/// The same over a link whose calls fail as the row says.
+fn is_right(alloc: Global, row: &Row) -> Result<bool, AllocError> {
+    let mut link = MemoryLink::new(alloc, row.calls)?;
+    asks(alloc, row, &mut link)
+}
+
+/// Each question has its line.
+#[test]
+fn lines_say_what_came(rt: HostRuntime) {
+    for (kind, word, comes, end, text) in ANSWERED {
+        let row = Row {
+            kind: *kind,
+            word: *word,
+            comes,
+            end: *end,
+            text,
+            ..ASKED
+        };
+        assert!(rt; is_right(rt.alloc(), &row) == Ok(true), "{text}");
+    }
+}
+
+/// A stranger's datagram is no answer. A bind, a send, a receive or a write that fails ends the
+/// question without a line.
+const FAILING: &[Row] = &[
+    Row {
+        from: Place::Stranger,
+        end: QueryExit::NoAnswer,
+        text: "no answer\n",
+        ..ASKED
+    },
+    Row {
+        calls: &[0],
+        tried: 0,
+        ..ASKED
+    },
+    Row {
+        calls: &[1],
+        ..ASKED
+    },
+    Row {
+        calls: &[2],
+        ..ASKED
+    },
+    Row {
+        writes: &[0],
+        end: QueryExit::WriteFault,
+        ..ASKED
+    },
+];
+
+/// Each call fails.
+#[test]
+fn questions_fail(rt: HostRuntime) {
+    for row in FAILING {
+        assert!(rt; is_right(rt.alloc(), row) == Ok(true), "{}", row.text);
+    }
+}
