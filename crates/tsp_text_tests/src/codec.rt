@@ -142,50 +142,51 @@ fn have_fault(octets: &[u8], fault: Option<DecodeFault>) -> bool {
     found == fault && fault_of(octets) == fault
 }
 
-/// A first octet, a version, and how many octets of 0 follow.
-const HEADS: &[(u8, u8, usize, Option<DecodeFault>)] = &[
-    (1, 1, 10, Some(DecodeFault::Short)),
-    (1, 2, 10, Some(DecodeFault::Short)),
-    (0, 2, 11, Some(DecodeFault::Version)),
-    (0, 1, 11, Some(DecodeFault::Kind)),
-    (0x19, 1, 11, Some(DecodeFault::Kind)),
-    (0x82, 1, 11, Some(DecodeFault::Kind)),
-    (0x80, 1, 25, Some(DecodeFault::StampLength)),
-    (0x81, 1, 27, Some(DecodeFault::StampLength)),
-    (0x80, 1, 26, None),
-    (0x81, 1, 26, None),
-    (2, 1, 11, None),
-    (2, 2, 267, Some(DecodeFault::Long)),
-];
+/// Whether the octets of a head, so many octets of fill, and an end have this fault.
+fn are_refused(
+    head: &[u8],
+    fill: u8,
+    count: usize,
+    end: &[u8],
+    fault: Option<DecodeFault>,
+) -> bool {
+    let mut octets = octets_of(head, b"", fill, count);
+    let _ = octets.try_extend_from_slice(end);
+    have_fault(octets.as_slice(), fault)
+}
 
-/// How many letters the name of an ACK has, and whether it ends with NUL.
-const NAMES: &[(usize, &[u8], Option<DecodeFault>)] = &[
-    (63, b"\0", None),
-    (63, b"", Some(DecodeFault::NoEnd)),
-    (64, b"", Some(DecodeFault::NoEnd)),
-    (255, b"\0", None),
-    (255, b"", Some(DecodeFault::NoEnd)),
-    (256, b"", Some(DecodeFault::NameTooLong)),
-];
+/// An ACK up to its name.
+const ACK: &[u8] = &[2, 1, 0, 0, 0, 0, 0, 0, 0, 0, 0, 0];
 
-/// Stamps whose third and fourth octets are these, with 24 octets of 0 behind them.
-const STAMPS: &[&[u8]] = &[&[0x80, 1, 0, 1], &[0x81, 1, 0x80, 0]];
+/// A head, what fills the octets behind it, how many of it are there, and an end.
+const OCTETS: &[(&[u8], u8, usize, &[u8], Option<DecodeFault>)] = &[
+    (&[1, 1], 0, 10, b"", Some(DecodeFault::Short)),
+    (&[1, 2], 0, 10, b"", Some(DecodeFault::Short)),
+    (&[0, 2], 0, 11, b"", Some(DecodeFault::Version)),
+    (&[0, 1], 0, 11, b"", Some(DecodeFault::Kind)),
+    (&[0x19, 1], 0, 11, b"", Some(DecodeFault::Kind)),
+    (&[0x82, 1], 0, 11, b"", Some(DecodeFault::Kind)),
+    (&[0x80, 1], 0, 25, b"", Some(DecodeFault::StampLength)),
+    (&[0x81, 1], 0, 27, b"", Some(DecodeFault::StampLength)),
+    (&[0x80, 1], 0, 26, b"", None),
+    (&[0x81, 1], 0, 26, b"", None),
+    (&[2, 1], 0, 11, b"", None),
+    (&[2, 2], 0, 267, b"", Some(DecodeFault::Long)),
+    (ACK, b'a', 63, b"\0", None),
+    (ACK, b'a', 63, b"", Some(DecodeFault::NoEnd)),
+    (ACK, b'a', 64, b"", Some(DecodeFault::NoEnd)),
+    (ACK, b'a', 255, b"\0", None),
+    (ACK, b'a', 255, b"", Some(DecodeFault::NoEnd)),
+    (ACK, b'a', 256, b"", Some(DecodeFault::NameTooLong)),
+    (&[0x80, 1, 0, 1], 0, 24, b"", Some(DecodeFault::Reserved)),
+    (&[0x81, 1, 0x80, 0], 0, 24, b"", Some(DecodeFault::Reserved)),
+];
 
 /// Each fault, and octets that just don't have it.
 #[test]
 fn refuses_by_the_first_fault(rt: HostRuntime) {
-    for (first, version, rest, fault) in HEADS {
-        let octets = octets_of(&[*first, *version], b"", 0, *rest);
-        assert!(rt; have_fault(octets.as_slice(), *fault));
-    }
-    for (count, end, fault) in NAMES {
-        let mut octets = octets_of(&[2, 1, 0, 0, 0, 0, 0, 0, 0, 0, 0, 0], b"", b'a', *count);
-        let _ = octets.try_extend_from_slice(end);
-        assert!(rt; have_fault(octets.as_slice(), *fault));
-    }
-    for head in STAMPS {
-        let octets = octets_of(head, b"", 0, 24);
-        assert!(rt; have_fault(octets.as_slice(), Some(DecodeFault::Reserved)));
+    for (head, fill, count, end, fault) in OCTETS {
+        assert!(rt; are_refused(head, *fill, *count, end, *fault));
     }
 }
 

@@ -3,7 +3,6 @@ use std::alloc::{AllocError, Global};
 use tsp_args::command::{Command, command_of};
 use tsp_args::query::Query;
 use tsp_args::serve::{Candidacy, ServeWords};
-use tsp_base::micros::Micros;
 use tsp_io::addr::Addr;
 
 /// What some words ask for.
@@ -15,47 +14,6 @@ fn read(alloc: Global, words: &[&str]) -> Result<Option<Command>, AllocError> {
     command_of(alloc, owned.as_slice())
 }
 
-/// The word of a command that has no other word.
-fn lone_word(command: &Option<Command>) -> &'static str {
-    match command {
-        Some(Command::Replay) => "replay",
-        Some(Command::Show) => "show",
-        Some(Command::Pack) => "pack",
-        Some(Command::Icmp) => "icmp",
-        Some(Command::Audit) => "audit",
-        _ => "",
-    }
-}
-
-/// Whether a word alone is its command.
-fn is_lone(alloc: Global, word: &str) -> Result<bool, AllocError> {
-    let command = read(alloc, &[word])?;
-    Ok(lone_word(&command) == word)
-}
-
-/// A storm's seed, nodes and events.
-fn storm(command: &Option<Command>) -> Option<(u64, u32, u32)> {
-    match command {
-        Some(Command::Storm(storm)) => Some((storm.seed, storm.nodes, storm.events)),
-        _ => None,
-    }
-}
-
-/// Whether words ask for the storm with the greatest numbers.
-fn is_storm(alloc: Global) -> Result<bool, AllocError> {
-    let command = read(alloc, &["storm", "18446744073709551615", "64", "200000"])?;
-    Ok(storm(&command) == Some((u64::MAX, 64, 200_000)))
-}
-
-/// Commands of one word, and the generator's numbers.
-#[test]
-fn words_are_commands(rt: HostRuntime) {
-    for word in &["replay", "show", "pack", "icmp", "audit"] {
-        assert!(rt; is_lone(rt.alloc(), word) == Ok(true));
-    }
-    assert!(rt; is_storm(rt.alloc()) == Ok(true));
-}
-
 /// This machine's address, with a port.
 fn here(port: u16) -> Addr {
     Addr {
@@ -64,37 +22,81 @@ fn here(port: u16) -> Addr {
     }
 }
 
-/// The question and its address.
-fn asked(command: &Option<Command>) -> Option<(Addr, Query)> {
-    match command {
-        Some(Command::Ask(addr, query)) => Some((*addr, *query)),
-        _ => None,
+/// A question's word, and a date's microseconds.
+fn asked(query: &Query) -> (&'static str, i64) {
+    match query {
+        Query::Msite => ("msite", 0),
+        Query::ClockDiff => ("clockdiff", 0),
+        Query::Trace(true) => ("trace on", 0),
+        Query::Trace(false) => ("trace off", 0),
+        Query::Election => ("election", 0),
+        Query::Date(time) => ("date", time.get()),
     }
 }
 
-/// Whether words ask this of the daemon at port 525 of this machine.
-fn asks(alloc: Global, words: &[&str], query: Query) -> Result<bool, AllocError> {
+/// A command's word, or what it asks of the daemon at port 525 of this machine; a storm's word is empty where
+/// its numbers aren't the greatest ones.
+fn said(command: &Option<Command>) -> (&'static str, i64) {
+    match command {
+        Some(Command::Replay) => ("replay", 0),
+        Some(Command::Show) => ("show", 0),
+        Some(Command::Pack) => ("pack", 0),
+        Some(Command::Icmp) => ("icmp", 0),
+        Some(Command::Audit) => ("audit", 0),
+        Some(Command::Serve(_)) => ("serve", 0),
+        Some(Command::Ask(addr, query)) if *addr == here(525) => asked(query),
+        Some(Command::Storm(storm))
+            if storm.seed == u64::MAX && storm.nodes == 64 && storm.events == 200_000 => {
+            ("storm", 0)
+        }
+        Some(_) => ("", 0),
+        None => ("nothing", 0),
+    }
+}
+
+/// Whether words ask for this.
+fn ask(alloc: Global, words: &[&str], wanted: (&str, i64)) -> Result<bool, AllocError> {
     let command = read(alloc, words)?;
-    Ok(asked(&command) == Some((here(525), query)))
+    Ok(said(&command) == wanted)
+}
+
+/// Commands of one word, and the generator's numbers.
+const COMMANDS: &[(&[&str], (&str, i64))] = &[
+    (&["replay"], ("replay", 0)),
+    (&["show"], ("show", 0)),
+    (&["pack"], ("pack", 0)),
+    (&["icmp"], ("icmp", 0)),
+    (&["audit"], ("audit", 0)),
+    (
+        &["storm", "18446744073709551615", "64", "200000"],
+        ("storm", 0),
+    ),
+];
+
+#[test]
+fn words_are_commands(rt: HostRuntime) {
+    for (words, wanted) in COMMANDS {
+        assert!(rt; ask(rt.alloc(), words, *wanted) == Ok(true));
+    }
 }
 
 /// Questions to a daemon.
+const QUESTIONS: &[(&[&str], (&str, i64))] = &[
+    (&["msite", "127.0.0.1:525"], ("msite", 0)),
+    (&["clockdiff", "127.0.0.1:525"], ("clockdiff", 0)),
+    (&["election", "127.0.0.1:525"], ("election", 0)),
+    (&["trace", "127.0.0.1:525", "on"], ("trace on", 0)),
+    (&["trace", "127.0.0.1:525", "off"], ("trace off", 0)),
+    (
+        &["date", "127.0.0.1:525", "-2147483647999999"],
+        ("date", -2147483647999999),
+    ),
+];
+
 #[test]
 fn words_are_questions(rt: HostRuntime) {
-    let questions: [(&[&str], Query); 5] = [
-        (&["msite", "127.0.0.1:525"], Query::Msite),
-        (&["clockdiff", "127.0.0.1:525"], Query::ClockDiff),
-        (&["election", "127.0.0.1:525"], Query::Election),
-        (&["trace", "127.0.0.1:525", "on"], Query::Trace(true)),
-        (&["trace", "127.0.0.1:525", "off"], Query::Trace(false)),
-    ];
-    for (words, query) in &questions {
-        assert!(rt; asks(rt.alloc(), words, *query) == Ok(true));
-    }
-    let words = ["date", "127.0.0.1:525", "-2147483647999999"];
-    match Micros::of(-2147483647999999) {
-        Some(time) => assert!(rt; asks(rt.alloc(), &words, Query::Date(time)) == Ok(true)),
-        None => panic!(rt; "no time"),
+    for (words, wanted) in QUESTIONS {
+        assert!(rt; ask(rt.alloc(), words, *wanted) == Ok(true));
     }
 }
 
@@ -208,14 +210,9 @@ const OTHERS: &[&[&str]] = &[
     ],
 ];
 
-/// Whether words ask for nothing.
-fn is_none(alloc: Global, words: &[&str]) -> Result<bool, AllocError> {
-    Ok(read(alloc, words)?.is_none())
-}
-
 #[test]
 fn other_words_are_none(rt: HostRuntime) {
     for words in OTHERS {
-        assert!(rt; is_none(rt.alloc(), words) == Ok(true));
+        assert!(rt; ask(rt.alloc(), words, ("nothing", 0)) == Ok(true));
     }
 }

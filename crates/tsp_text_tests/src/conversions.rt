@@ -187,6 +187,18 @@ const PACKED: &[(&str, Outcome, &str)] = &[
     ),
 ];
 
+/// Whether `pack` refuses a long line.
+fn packs_long(alloc: Global) -> bool {
+    let long = filled("ack 1 a", "aa", 520);
+    packs(alloc, long.as_slice(), Outcome::Bad, b"bad 1 message\n")
+}
+
+/// Whether `pack` writes a message without a name as 76 octets.
+fn packs_empty(alloc: Global) -> bool {
+    let octets = filled("13010003", "00", 76);
+    octets.len() == 153 && packs(alloc, b"msite 3 %", Outcome::Ok, octets.as_slice())
+}
+
 /// Inputs without a line, with lines that aren't a message's, and with more than one line.
 #[test]
 fn packs_lines_in_turn(rt: HostRuntime) {
@@ -196,18 +208,7 @@ fn packs_lines_in_turn(rt: HostRuntime) {
             "{written}"
         );
     }
-    let long = filled("ack 1 a", "aa", 520);
-    assert!(rt;
-        packs(
-            rt.alloc(),
-            long.as_slice(),
-            Outcome::Bad,
-            b"bad 1 message\n"
-        )
-    );
-    let empty_name = filled("13010003", "00", 76);
-    assert!(rt; empty_name.len() == 153);
-    assert!(rt; packs(rt.alloc(), b"msite 3 %", Outcome::Ok, empty_name.as_slice()));
+    assert!(rt; packs_long(rt.alloc()) && packs_empty(rt.alloc()));
 }
 
 /// Whether `show` makes this line of these octets, and `pack` the octets of the line.

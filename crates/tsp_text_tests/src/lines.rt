@@ -230,8 +230,11 @@ fn full_treatments_take_no_octet(rt: HostRuntime) {
 
 /// How a line of so many octets ends.
 fn outcome_of(alloc: Global, count: usize) -> Result<Outcome, AllocError> {
-    let mut input = vec![in alloc; b'x'; count]?;
-    input.push(b'\n')?;
+    let mut input = ArrayVec::<u8, 2048>::new();
+    for _ in 0..count {
+        let _ = input.try_push(b'x');
+    }
+    let _ = input.try_push(b'\n');
     let mut source = MemorySource::new(alloc, input.as_slice(), &[])?;
     let mut sink = MemorySink::new(alloc, &[])?;
     let mut echo = Echo { lines: 0 };

@@ -49,26 +49,30 @@ fn bounds_values(rt: HostRuntime) {
     assert!(rt; fit(&[7; 300]) && !fit(&[7; 301]));
 }
 
-/// Why octets are no name.
-fn fault_of(octets: &[u8]) -> Option<NameFault> {
-    Name::of(octets).err()
-}
+/// Octets that are names, and why other ones aren't.
+const NAMES: &[(&[u8], Option<NameFault>)] = &[
+    (b"", None),
+    (b"alpha", None),
+    (&[b'a'; 255], None),
+    (&[b'a'; 256], Some(NameFault::TooLong)),
+    (&[0; 256], Some(NameFault::TooLong)),
+    (&[0; 255], Some(NameFault::HasNul)),
+    (b"a\0b", Some(NameFault::HasNul)),
+];
 
-/// Whether octets are a name, of which a copy has them.
-fn is_name(octets: &[u8]) -> bool {
+/// Whether octets are a name, of which a copy has them, or aren't for this fault.
+fn is_name(octets: &[u8], fault: Option<NameFault>) -> bool {
     match Name::of(octets) {
-        Ok(name) => name.copy().octets() == octets,
-        Err(_) => false,
+        Ok(name) => fault.is_none() && name.copy().octets() == octets,
+        Err(found) => fault == Some(found),
     }
 }
 
 #[test]
 fn bounds_names(rt: HostRuntime) {
-    assert!(rt; is_name(&[b'a'; 255]) && is_name(b"") && is_name(b"alpha"));
-    assert!(rt; fault_of(&[b'a'; 256]) == Some(NameFault::TooLong));
-    assert!(rt; fault_of(&[0; 256]) == Some(NameFault::TooLong));
-    assert!(rt; fault_of(&[0; 255]) == Some(NameFault::HasNul));
-    assert!(rt; fault_of(b"a\0b") == Some(NameFault::HasNul));
+    for (octets, fault) in NAMES {
+        assert!(rt; is_name(octets, *fault));
+    }
     assert!(rt; Name::empty().octets().is_empty());
 }
 
@@ -85,25 +89,37 @@ fn is_kind(number: u8, word: &[u8], kind: Kind) -> bool {
         && kind.word() == word
 }
 
-/// Whether a time fits an ADJTIME alone of these.
-fn time_fits(value: i64) -> bool {
-    match Micros::of(value) {
-        Some(time) => {
-            can_have(Kind::AdjTime, Body::Time(time)) && !can_have(Kind::Loop, Body::Time(time))
-        }
-        None => false,
-    }
+/// Whether a time is in an ADJTIME and not in a LOOP.
+fn time_fits(time: Micros) -> bool {
+    can_have(Kind::AdjTime, Body::Time(time)) && !can_have(Kind::Loop, Body::Time(time))
 }
+
+/// Whether hops are in a LOOP and not in an ACK, and nothing is in an ACK and not in an ADJTIME.
+fn others_fit() -> bool {
+    can_have(Kind::Loop, Body::Hops(3))
+        && !can_have(Kind::Ack, Body::Hops(0))
+        && can_have(Kind::Ack, Body::Nothing)
+        && !can_have(Kind::AdjTime, Body::Nothing)
+}
+
+/// Numbers, words, and their kinds.
+const KINDS: &[(u8, &[u8], Kind)] = &[
+    (1, b"adjtime", Kind::AdjTime),
+    (13, b"quit", Kind::Quit),
+    (24, b"loop", Kind::Loop),
+];
 
 #[test]
 fn matches_bodies_to_kinds(rt: HostRuntime) {
-    assert!(rt; time_fits(1234) && !can_have(Kind::AdjTime, Body::Nothing));
-    assert!(rt; can_have(Kind::Loop, Body::Hops(3)));
-    assert!(rt; can_have(Kind::Ack, Body::Nothing) && !can_have(Kind::Ack, Body::Hops(0)));
-    assert!(rt; is_kind(1, b"adjtime", Kind::AdjTime));
-    assert!(rt; is_kind(13, b"quit", Kind::Quit) && is_kind(24, b"loop", Kind::Loop));
-    assert!(rt; Kind::of(0).is_none() && Kind::of(25).is_none());
-    assert!(rt; Kind::of_word(b"quits").is_none());
+    let Some(time) = Micros::of(1234) else {
+        panic!(rt; "the time is in range");
+    };
+    assert!(rt; time_fits(time) && others_fit());
+    for (number, word, kind) in KINDS {
+        assert!(rt; is_kind(*number, word, *kind));
+    }
+    let none = Kind::of(0).is_none() && Kind::of(25).is_none();
+    assert!(rt; none && Kind::of_word(b"quits").is_none());
 }
 
 /// Whether a peer may be backed from this tick on, and not one tick sooner.
