@@ -66,12 +66,8 @@ fn writes_roles(rt: HostRuntime) {
 /// The texts of the other acts.
 #[test]
 fn writes_acts(rt: HostRuntime) {
-    assert!(rt;
-        is_written(
-            Act::Arm(Alarm::Probe, 1957464717),
-            b"186 2 1 637975324 arm probe 1957464717"
-        )
-    );
+    let arm = Act::Arm(Alarm::Probe, 1957464717);
+    assert!(rt; is_written(arm, b"186 2 1 637975324 arm probe 1957464717"));
     assert!(rt; is_written(Act::Ring(Alarm::Elect), b"186 2 1 637975324 ring elect"));
     assert!(rt; is_written(Act::Late(Alarm::Close), b"186 2 1 637975324 late close"));
     assert!(rt; is_written(Act::Abandon, b"186 2 1 637975324 abandon"));
@@ -95,12 +91,8 @@ fn writes_acts(rt: HostRuntime) {
         err: 2634852,
         ticket: 32333,
     };
-    assert!(rt;
-        is_written(
-            sample,
-            b"186 2 1 637975324 sample 2 23 -1528614 2634852 32333"
-        )
-    );
+    let text = b"186 2 1 637975324 sample 2 23 -1528614 2634852 32333";
+    assert!(rt; is_written(sample, text));
     let request = Stamp::Request {
         word: 17392,
         counter: 4,
